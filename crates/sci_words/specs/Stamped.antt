@@ -1,0 +1,24 @@
+-- What a stamped line becomes by an operation.
+use Rattle.std.specs.Prelude.{ℕ, ◌+◌, List, if◌then◌else◌, slice_index, slice_set, replicate}
+use Rattle.sci_words.specs.declared.limits.TheConstants.{WORDS_PER_LINE}
+use Rattle.sci_words.specs.declared.operation.Op.{Op}
+use Rattle.sci_words.specs.declared.stamped.Stamped.{Stamped}
+use Rattle.sci_words.specs.Operation.{effect, is_maker}
+
+-- the operation's word becomes the effect's new word, and every other word stays
+abbrev pub line_after : List ℕ → Op → List ℕ
+line_after words op = slice_set words op.word (effect op (slice_index words op.word)).0
+
+-- the line by the effect, with the next version for a maker and the same version for a load
+abbrev pub after : Stamped → Op → Stamped
+after stamped op = record {
+  line = line_after stamped.line op;
+  version = if is_maker op then stamped.version + 1 else stamped.version;
+}
+
+-- eight zero words at version 0
+abbrev pub zero_line : List ℕ
+zero_line = replicate WORDS_PER_LINE 0
+
+abbrev pub zero_stamped : Stamped
+zero_stamped = record { line = zero_line; version = 0 }

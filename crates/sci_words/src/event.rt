@@ -1,0 +1,45 @@
+//! What can happen next in a machine.
+
+use crate::operation::Op;
+
+/// What a cache asks of a home or of another cache.
+#[derive(Clone, Copy, Debug, PartialEq, Eq)]
+pub enum AskKind {
+    /// A coherent read of the home, with the wish to write (mread64).
+    Mread,
+    /// A coherent read of the home, with the wish to read alone.
+    Fread,
+    /// A coherent read of the old head (cread64).
+    Cread,
+    /// The wish of the head of a fresh list to write.
+    Claim,
+    /// The wish of a fresh list's only entry to leave.
+    Clear,
+    /// The head's order to the next entry to leave.
+    Purge,
+    /// An entry's wish to leave (rollout).
+    Roll,
+    /// The wish of a list's only entry to leave and write back.
+    Wback,
+    /// What a leaver tells the entry behind it: its new backward identifier.
+    Setback,
+}
+
+/// An atomic step of the machine. Nodes and lines count from 0.
+#[derive(Clone, Copy, Debug, PartialEq, Eq)]
+pub enum Event {
+    /// The processor of `node` issues an operation.
+    Issue { node: u8, op: Op },
+    /// The pending operation of `node` on `line` is performed.
+    Perform { node: u8, line: u8 },
+    /// The cache of `node` sends a request about `line`.
+    Ask { node: u8, line: u8, kind: AskKind },
+    /// `node` serves the oldest request from `from`.
+    Serve { from: u8, node: u8 },
+    /// `node` answers the oldest request from `from` as busy.
+    Refuse { from: u8, node: u8 },
+    /// `node` sends the answer that waits.
+    Reply { node: u8 },
+    /// `node` accepts the oldest answer from `from`.
+    Accept { from: u8, node: u8 },
+}

@@ -1,0 +1,43 @@
+//! Lines with their versions.
+
+use crate::limits::WORDS_PER_LINE;
+use crate::line::Line;
+use crate::operation::{Op, Reply, effect};
+
+/// A line's contents with the number of their version: how many operations have made a new version of the
+/// line so far.
+#[derive(Clone, Copy, Debug, PartialEq, Eq)]
+pub struct Stamped {
+    pub line: Line,
+    pub version: u64,
+}
+
+impl Stamped {
+    ghost use Rattle.std.specs.Prelude.{◌≡◌, ◌+◌, ◌^◌, ◌<◌, slice_index};
+    ghost use Rattle.sci_words.specs.Operation.{effect as effect_of, IsMaker};
+    ghost use Rattle.sci_words.specs.Stamped.{after as stamped_after};
+
+    /// What the line becomes by an operation, and the reply: the operation's word by its effect, and the
+    /// version one more for a maker. The caller sees to it that the word's place is below eight and, for a
+    /// maker, that the version is below the greatest u64.
+    pub fn after(self, op: Op) -> (Stamped, Reply)
+        requires word { op.word < WORDS_PER_LINE }
+        requires room { IsMaker op → self.version < u64.MAX }
+        ensures after { result.0 ≡ stamped_after self op }
+        ensures reply { result.1 ≡ (effect_of op (slice_index self.line op.word)).1 }
+    {
+        let (word, reply) = effect(op, self.line.word(op.word));
+        let version = if op.is_maker() {
+            self.version + 1
+        } else {
+            self.version
+        };
+        (
+            Stamped {
+                line: self.line.with(op.word, word),
+                version,
+            },
+            reply,
+        )
+    }
+}
