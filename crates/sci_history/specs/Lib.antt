@@ -1,0 +1,4 @@
+pub mod Memory
+pub mod Placed
+pub mod Lawful
+pub mod Oracle

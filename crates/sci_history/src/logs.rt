@@ -1,0 +1,103 @@
+//! The logs of all nodes.
+
+ghost use Rattle.std.specs.Prelude.{◌≡◌, ◌≢◌, ◌≤◌, ◌<◌, ◌++◌, ◌∷◌, [], ◌↔◌, List, ℕ, length, replicate, slice_set, OnOk, OnErr, IsErrOf};
+ghost use Rattle.sci_words.specs.declared.limits.TheConstants.{MAX_NODES, MAX_OPERATIONS};
+ghost use Rattle.sci_history.specs.Placed.{log_of};
+
+use crate::entry::Entry;
+use sci_words::{MAX_NODES, MAX_OPERATIONS};
+use std::alloc::{AllocError, Global};
+use std::marker::Model;
+
+const NODES: usize = MAX_NODES as usize;
+
+/// Why an entry was not logged.
+#[derive(Debug, Drop, PartialEq, Eq)]
+pub enum PushFault {
+    /// The node's log has 65,536 entries already.
+    Full,
+    /// There was no memory for one entry more.
+    Memory(AllocError),
+}
+
+/// One log for each of sixteen nodes: its entries in the order in which they were performed. Contracts see
+/// the list of the sixteen logs.
+#[derive(Drop)]
+pub struct Logs {
+    lists: [Vec<Entry>; NODES],
+}
+
+impl Model for Logs {
+    ghost use Rattle.std.specs.Prelude.{◌≡◌, List, length, map};
+    ghost use Rattle.sci_words.specs.declared.limits.TheConstants.{MAX_NODES};
+    ghost use Rattle.sci_history.specs.declared.entry.Entry.{Entry};
+
+    ghost Value = { List (List Entry) };
+
+    ghost view = { λ logs. map (λ log. log.items) logs.lists };
+
+    ghost invariant = { λ logs. length logs.lists ≡ MAX_NODES };
+}
+
+impl Logs {
+    /// Sixteen empty logs.
+    pub fn new(alloc: Global) -> Logs
+        ensures { result ≡ replicate MAX_NODES [] }
+    {
+        Logs {
+            lists: [
+                Vec::new(alloc),
+                Vec::new(alloc),
+                Vec::new(alloc),
+                Vec::new(alloc),
+                Vec::new(alloc),
+                Vec::new(alloc),
+                Vec::new(alloc),
+                Vec::new(alloc),
+                Vec::new(alloc),
+                Vec::new(alloc),
+                Vec::new(alloc),
+                Vec::new(alloc),
+                Vec::new(alloc),
+                Vec::new(alloc),
+                Vec::new(alloc),
+                Vec::new(alloc),
+            ],
+        }
+    }
+
+    /// Ends the log of the entry's node with the entry; an error leaves all logs as they were. The caller sees
+    /// to it that the node is below 16.
+    pub fn push(&mut self, entry: Entry) -> Result<(), PushFault>
+        requires { entry.node < MAX_NODES }
+        ensures ok { OnOk result (self.new ≡ slice_set self.old entry.node (log_of self.old entry.node ++ entry ∷ [])) }
+        ensures err { OnErr result (self.new ≡ self.old) }
+        ensures full { IsErrOf result PushFault.Full ↔ (MAX_OPERATIONS ≤ length (log_of self.old entry.node)) }
+        ensures nodes { length self.new ≡ MAX_NODES }
+    {
+        let log = &mut self.lists[entry.node as usize];
+        push_entry(log, entry)
+    }
+
+    /// The log of a node, in the order in which its operations were performed. The caller sees to it that the
+    /// node is below 16.
+    pub fn of(&self, node: u8) -> &[Entry]
+        requires { node < MAX_NODES }
+        ensures log { result.now ≡ log_of self.now node }
+        ensures nodes { length self.now ≡ MAX_NODES }
+    {
+        self.lists[node as usize].as_slice()
+    }
+}
+
+fn push_entry(log: &mut Vec<Entry>, entry: Entry) -> Result<(), PushFault>
+    ensures ok { OnOk result (log.new.items ≡ log.old.items ++ entry ∷ []) }
+    ensures err { OnErr result (log.new.items ≡ log.old.items) }
+    ensures full { IsErrOf result PushFault.Full ↔ (MAX_OPERATIONS ≤ length log.old.items) }
+{
+    if log.len() >= MAX_OPERATIONS as usize {
+        return Err(PushFault::Full);
+    }
+    log.push(entry)
+        .map_err(|_| PushFault::Memory(AllocError))
+}
