@@ -1,0 +1,4 @@
+pub mod Bodies
+pub mod Fields
+pub mod Headers
+pub mod Packets

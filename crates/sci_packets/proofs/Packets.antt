@@ -1,0 +1,290 @@
+-- Packets and their spellings.
+use Rattle.std.proofs.Common.{◌≡◌, ℕ, ◌+◌, ◌*◌, ◌%◌, ◌^◌, ◌<◌, ◌≤◌, Bool, true, false, not, cond, eqb, ltb, ◌&&◌, ◌||◌, List, [], ◌∷◌, ◌++◌, length, take, drop, Option, Some, None, Result, Ok, Err, refl, sym, ap, subst, ◌∙◌, arith}
+use Rattle.std.specs.Prelude.{IfSome, IfOk, IsErr, ◌↔◌}
+use Rattle.std.specs.Option.{is_some}
+use Rattle.std.specs.Result.{result_err}
+use Rattle.std.proofs.lemmas.Bool.{le-ltb, ltb-false}
+use Rattle.std.proofs.lemmas.Bool.Decides.{nat_tests}
+use Rattle.std.proofs.lemmas.List.{append-nil, take_at, drop_all, take-append-drop, length-append, length-take-le}
+use mathlib.Core.HLevel.{Σ_prop_path}
+use Rattle.std.proofs.Props.{props}
+use Rattle.sci_packets.specs.declared.body.Body.{Body}
+use Rattle.sci_words.specs.declared.stamped.Stamped.{Stamped}
+use Rattle.sci_packets.specs.declared.fault.PacketFault.{PacketFault}
+use Rattle.sci_packets.specs.declared.fault.PacketFault.TheVariants.{Short, UnknownCommand, BadOffset, BadIdentifier}
+use Rattle.sci_packets.specs.declared.header.Header.{Header}
+use Rattle.sci_packets.specs.declared.node_id.TheConstants.{NO_NODE}
+use Rattle.sci_packets.specs.declared.packet.Packet.{Packet}
+use Rattle.sci_packets.specs.declared.table.Parts.{Parts}
+use Rattle.sci_packets.specs.Fault.{header_fault, fault_of}
+use Rattle.sci_packets.specs.Fields.{spelled, header_in, word_bytes, contents_words, contents_in, contents_for}
+use Rattle.sci_packets.specs.Spelling.{IsContents, IsPacket, header_of, spelling, Spells, NoneSpells}
+use Rattle.sci_packets.specs.Table.{parts_of, number_of, identifier_of, is_command, is_misnamed, body_fault, takes_contents}
+use Rattle.sci_packets.proofs.Bodies.{is_known, same_body, same_identifier, number_of-lt, contents_cancel}
+use Rattle.sci_packets.proofs.Fields.{IsBytes, length-word_bytes, length-words_at, words_takes, words_at-lt, field_at-lt}
+use Rattle.sci_packets.proofs.Headers.{IsHeader, length-spelled, spelled-append, header_takes, header_cancel, header_in-fits, same_header}
+
+pub header_fits : (p : Packet) → IsPacket p → IsHeader (header_of p)
+header_fits p h =
+    let k = is_known p.body in
+    record {
+      target = omega (arith, h.target);
+      command = k.below;
+      source = omega (arith, h.source);
+      control = h.control;
+      offset = omega (arith, p.low_line);
+      identifier = number_of-lt (parts_of p.body).identifier h.identifier;
+    }
+
+-- a line's number with its bound
+abbrev Line : Type 0
+Line = (line : ℕ) × (line < 2 ^ 42)
+
+same_lines : (a b : Line) → a.0 ≡ b.0 → a ≡ b
+same_lines a b e = Σ_prop_path (λ line. hlevel props) e
+
+joined : (made : ℕ → ℕ → ℕ → Line → Body → Packet) (t t' s s' c c' : ℕ) (l l' : Line) (b b' : Body) → t ≡ t' → s ≡ s' → c ≡ c' → l ≡ l' → b ≡ b' → made t s c l b ≡ made t' s' c' l' b'
+joined made t t' s s' c c' l l' b b' p q r u v = cc
+
+-- packets are the same where their fields are
+same_fields : (p q : Packet) → p.target ≡ q.target → p.source ≡ q.source → p.control ≡ q.control → p.line ≡ q.line → p.body ≡ q.body → p ≡ q
+same_fields p q a b c d e =
+    joined (λ target source control line body. record { target = target; source = source; control = control; line = line.0; body = body; low_line = line.1 }) p.target q.target p.source q.source p.control q.control (p.line, p.low_line) (q.line, q.low_line) p.body q.body a b c (same_lines (p.line, p.low_line) (q.line, q.low_line) d) e
+
+-- a packet by its header and its contents
+pub same_packet : (p q : Packet) → IsPacket p → IsPacket q → header_of p ≡ header_of q → (parts_of p.body).contents ≡ (parts_of q.body).contents → p ≡ q
+same_packet p q h k e s =
+    let target : p.target ≡ q.target = ap (λ (x : Header). x.target) e in
+    let source : p.source ≡ q.source = ap (λ (x : Header). x.source) e in
+    let control : p.control ≡ q.control = ap (λ (x : Header). x.control) e in
+    let offset : p.line * 64 ≡ q.line * 64 = ap (λ (x : Header). x.offset) e in
+    let line : p.line ≡ q.line = omega arith in
+    let command : (parts_of p.body).command ≡ (parts_of q.body).command = ap (λ (x : Header). x.command) e in
+    let number : number_of (parts_of p.body).identifier ≡ number_of (parts_of q.body).identifier = ap (λ (x : Header). x.identifier) e in
+    let identifier = same_identifier (parts_of p.body).identifier (parts_of q.body).identifier h.identifier k.identifier number in
+    same_fields p q target source control line (same_body p.body q.body command identifier s)
+
+-- spellings that agree as far as both go are of one packet
+pub spelling_cancel : (p q : Packet) (r s : List ℕ) → IsPacket p → IsPacket q → spelling p ++ r ≡ spelling q ++ s → (p ≡ q) × (r ≡ s)
+unfolding spelling
+spelling_cancel p q r s h k e =
+    let a = parts_of p.body in
+    let b = parts_of q.body in
+    let shown = sym (spelled-append (header_of p) (word_bytes (contents_words a.contents)) r) ∙ e ∙ spelled-append (header_of q) (word_bytes (contents_words b.contents)) s in
+    let headers = header_cancel (header_of p) (header_of q) _ _ (header_fits p h) (header_fits q k) shown in
+    let command : a.command ≡ b.command = ap (λ (x : Header). x.command) headers.0 in
+    let both : is_some a.contents ≡ is_some b.contents = sym (is_known p.body).contents ∙ ap (λ (c : ℕ). takes_contents c) command ∙ (is_known q.body).contents in
+    let contents = contents_cancel a.contents b.contents r s h.contents k.contents both headers.1 in
+    (same_packet p q h k headers.0 contents.0, contents.1)
+
+-- ---- what is spelled so is read
+
+-- the header and the contents of what a packet begins
+pub header_again : (p : Packet) (rest bytes : List ℕ) → IsPacket p → IsBytes bytes → bytes ≡ spelling p ++ rest → header_in bytes ≡ header_of p
+unfolding spelling
+header_again p rest bytes h fits e =
+    let text = word_bytes (contents_words (parts_of p.body).contents) in
+    let shown : bytes ≡ spelled (header_of p) (text ++ rest) = e ∙ spelled-append (header_of p) text rest in
+    let long : 16 ≤ length bytes = omega (arith, ap (λ (b : List ℕ). length b) shown, length-spelled (header_of p) (text ++ rest)) in
+    (header_cancel (header_in bytes) (header_of p) _ _ (header_in-fits bytes fits) (header_fits p h) (sym (header_takes bytes fits long) ∙ shown)).0
+
+eqb-below : (a : ℕ) → a < NO_NODE → eqb a NO_NODE ≡ false
+eqb-below a h = grind (arith, nat_tests)
+
+identifier_again : (a : Option ℕ) → IfSome a (λ id. id < NO_NODE) → identifier_of (number_of a) ≡ a
+identifier_again None h = refl
+identifier_again (Some id) h = rw (eqb-below id h) refl
+
+at_least : (b : Bool) → 16 ≤ cond b 88 16
+at_least true = omega arith
+at_least false = omega arith
+
+sixteen : (b : Bool) → 16 + cond b 72 0 ≡ cond b 88 16
+sixteen true = refl
+sixteen false = refl
+
+-- the length of a packet
+pub length-contents : (a : Option Stamped) → IfSome a IsContents → length (word_bytes (contents_words a)) ≡ cond (is_some a) 72 0
+length-contents None h = refl
+length-contents (Some s) h = omega (arith, length-word_bytes (s.version ∷ s.line), h.width)
+
+pub length-spelling : (p : Packet) → IsPacket p → length (spelling p) ≡ cond (is_some (parts_of p.body).contents) 88 16
+unfolding spelling
+length-spelling p h =
+    let a = (parts_of p.body).contents in
+    length-spelled (header_of p) (word_bytes (contents_words a)) ∙ ap (λ (n : ℕ). 16 + n) (length-contents a h.contents) ∙ sixteen (is_some a)
+
+-- a packet that begins bytes has no fault there
+pub body_known : (p : Packet) (length : ℕ) → IsPacket p → cond (is_some (parts_of p.body).contents) 88 16 ≤ length → body_fault (parts_of p.body).command (parts_of p.body).identifier length ≡ None
+unfolding body_fault
+body_known p length h long =
+    let k = is_known p.body in
+    rw (k.identifier, k.contents) (elim (is_some (parts_of p.body).contents) as (λ b. cond b 88 16 ≤ length → cond (b && ltb length 88) (Some Short) None ≡ None) [
+      | true ↦ λ le. rw (le-ltb length 88 le) refl
+      | false ↦ λ le. refl
+    ] long)
+
+pub header_known : (p : Packet) (length : ℕ) → IsPacket p → cond (is_some (parts_of p.body).contents) 88 16 ≤ length → header_fault (header_of p) length ≡ None
+unfolding header_fault
+header_known p length h long =
+    let k = is_known p.body in
+    let multiple : p.line * 64 % 64 ≡ 0 = omega arith in
+    rw (k.command, multiple, eqb-below p.target h.target, eqb-below p.source h.source, identifier_again (parts_of p.body).identifier h.identifier) (body_known p length h long)
+
+pub none_wrong : (p : Packet) (rest bytes : List ℕ) → IsPacket p → IsBytes bytes → bytes ≡ spelling p ++ rest → fault_of bytes ≡ None
+unfolding fault_of
+none_wrong p rest bytes h fits e =
+    let size = length-spelling p h in
+    let long : cond (is_some (parts_of p.body).contents) 88 16 ≤ length bytes = omega (arith, ap (λ (b : List ℕ). length b) e, length-append (spelling p) rest, size) in
+    let least : 16 ≤ length bytes = omega (arith, long, at_least (is_some (parts_of p.body).contents)) in
+    rw (le-ltb (length bytes) 16 least, header_again p rest bytes h fits e) (header_known p (length bytes) h long)
+
+-- ---- what is read is spelled so
+
+contents_in-fits : (bytes : List ℕ) → IsBytes bytes → IsContents (contents_in bytes)
+unfolding contents_in
+contents_in-fits bytes fits = record { version = omega (arith, field_at-lt 16 8 bytes fits); width = length-words_at 24 8 bytes; words = words_at-lt 24 8 bytes fits }
+
+contents_take : (bytes : List ℕ) → IsBytes bytes → 88 ≤ length bytes → drop 16 bytes ≡ word_bytes (contents_words (Some (contents_in bytes))) ++ drop 88 bytes
+unfolding contents_in
+contents_take bytes fits long = words_takes 16 9 88 bytes fits refl long
+
+pub contents_for-fits : (command : ℕ) (bytes : List ℕ) → IsBytes bytes → IfSome (contents_for command bytes) IsContents
+contents_for-fits command bytes fits = elim (takes_contents command) as (λ b. IfSome (cond b (Some (contents_in bytes)) None) IsContents) [ true ↦ contents_in-fits bytes fits | false ↦ tt ]
+
+taken : (b : Bool) (s t : Stamped) → Some s ≡ cond b (Some t) None → s ≡ t
+taken true s t e = cc
+taken false s t e = absurd cc
+
+tail_takes : (a : Option Stamped) (command : ℕ) (bytes : List ℕ) → IsBytes bytes → a ≡ contents_for command bytes → cond (is_some a) 88 16 ≤ length bytes → drop 16 bytes ≡ word_bytes (contents_words a) ++ drop (cond (is_some a) 88 16) bytes
+tail_takes None command bytes fits e long = refl
+tail_takes (Some s) command bytes fits e long =
+    let same : s ≡ contents_in bytes = taken (takes_contents command) s (contents_in bytes) e in
+    contents_take bytes fits long ∙ ap (λ (t : Stamped). word_bytes (contents_words (Some t)) ++ drop 88 bytes) (sym same)
+
+-- the bytes of a packet with the header and the contents that are read
+pub packet_takes : (p : Packet) (bytes : List ℕ) → IsBytes bytes → header_of p ≡ header_in bytes → (parts_of p.body).contents ≡ contents_for (header_in bytes).command bytes → cond (is_some (parts_of p.body).contents) 88 16 ≤ length bytes
+    → bytes ≡ spelling p ++ drop (cond (is_some (parts_of p.body).contents) 88 16) bytes
+unfolding spelling
+packet_takes p bytes fits e s long =
+    let a = (parts_of p.body).contents in
+    let rest = drop (cond (is_some a) 88 16) bytes in
+    let least : 16 ≤ length bytes = omega (arith, long, at_least (is_some a)) in
+    header_takes bytes fits least
+    ∙ ap (λ (h : Header). spelled h (drop 16 bytes)) (sym e)
+    ∙ ap (λ (r : List ℕ). spelled (header_of p) r) (tail_takes a (header_in bytes).command bytes fits s long)
+    ∙ sym (spelled-append (header_of p) (word_bytes (contents_words a)) rest)
+
+-- ---- how many bytes there are where nothing is wrong
+
+passed : (b : Bool) (e : PacketFault) (r : Option PacketFault) → cond b (Some e) r ≡ None → (b ≡ false) × (r ≡ None)
+passed true e r h = absurd cc
+passed false e r h = (refl, h)
+
+not_short : (b : Bool) (n : ℕ) → 16 ≤ n → (b && ltb n 88) ≡ false → cond b 88 16 ≤ n
+not_short true n le h = ltb-false n 88 h
+not_short false n le h = le
+
+pub none_long : (bytes : List ℕ) → fault_of bytes ≡ None → cond (takes_contents (header_in bytes).command) 88 16 ≤ length bytes
+unfolding fault_of header_fault body_fault
+none_long bytes none =
+    let n = length bytes in
+    let h = header_in bytes in
+    let a = passed (ltb n 16) Short (header_fault h n) none in
+    let b = passed (not (is_command h.command)) UnknownCommand _ a.1 in
+    let c = passed (not (eqb (h.offset % 64) 0)) BadOffset _ b.1 in
+    let d = passed (eqb h.target NO_NODE || eqb h.source NO_NODE) BadIdentifier (body_fault h.command (identifier_of h.identifier) n) c.1 in
+    let e = passed (is_misnamed h.command (identifier_of h.identifier)) BadIdentifier _ d.1 in
+    let f = passed (takes_contents h.command && ltb n 88) Short None e.1 in
+    not_short (takes_contents h.command) n (ltb-false n 16 a.0) f.0
+
+-- ---- the clauses of a decoder
+
+pub is_packet : (p : Packet) (bytes : List ℕ) → IsBytes bytes → header_of p ≡ header_in bytes → (parts_of p.body).contents ≡ contents_for (header_in bytes).command bytes → (p.target < NO_NODE) × (p.source < NO_NODE) → IfSome (parts_of p.body).identifier (λ id. id < NO_NODE) → IsPacket p
+is_packet p bytes fits e s nodes identifier = record {
+  target = nodes.0;
+  source = nodes.1;
+  control = subst (λ (h : Header). h.control < 2 ^ 16) (sym e) (header_in-fits bytes fits).control;
+  identifier = identifier;
+  contents = subst (λ (a : Option Stamped). IfSome a IsContents) (sym s) (contents_for-fits (header_in bytes).command bytes fits);
+}
+
+pub record Found (p : Packet) (k : ℕ) (bytes : List ℕ) : Type 0 where
+  pub spells : Spells p (take k bytes)
+  pub within : k ≤ length bytes
+
+pub is_found : (p : Packet) (k : ℕ) (bytes : List ℕ) → IsBytes bytes → header_of p ≡ header_in bytes → (parts_of p.body).contents ≡ contents_for (header_in bytes).command bytes → IsPacket p → fault_of bytes ≡ None
+    → k ≡ cond (is_some (parts_of p.body).contents) 88 16 → Found p k bytes
+is_found p k bytes fits e s h none size =
+    let command : (parts_of p.body).command ≡ (header_in bytes).command = ap (λ (x : Header). x.command) e in
+    let which : takes_contents (header_in bytes).command ≡ is_some (parts_of p.body).contents = ap (λ (c : ℕ). takes_contents c) (sym command) ∙ (is_known p.body).contents in
+    let long : cond (is_some (parts_of p.body).contents) 88 16 ≤ length bytes = subst (λ (b : Bool). cond b 88 16 ≤ length bytes) which (none_long bytes none) in
+    let text = packet_takes p bytes fits e s long in
+    let front : take k bytes ≡ spelling p = ap (λ (b : List ℕ). take k b) text ∙ take_at (spelling p) _ k (length-spelling p h ∙ sym size) in
+    record { spells = record { packet = h; spelled_so = front }; within = omega (arith, size, long) }
+
+some_not_none : (e : PacketFault) → Some e ≡ None → ⊥
+some_not_none e h = cc
+
+-- what a decoder that answers the fault and a front of the bytes must say of a packet that begins them
+pub only_found : (bytes : List ℕ) (r : Result (Packet × ℕ) PacketFault) → IsBytes bytes → IfOk r (λ found. Spells found.0 (take found.1 bytes)) → IfOk r (λ found. found.1 ≤ length bytes) → result_err r ≡ fault_of bytes
+    → (p : Packet) (k : ℕ) → k ≤ length bytes → Spells p (take k bytes) → r ≡ Ok (p, k)
+only_found bytes (Ok found) fits spells within fault p k le h =
+    let e : spelling found.0 ++ drop found.1 bytes ≡ spelling p ++ drop k bytes = ap (λ (t : List ℕ). t ++ drop found.1 bytes) (sym spells.spelled_so) ∙ take-append-drop found.1 bytes ∙ sym (take-append-drop k bytes) ∙ ap (λ (t : List ℕ). t ++ drop k bytes) h.spelled_so in
+    let same = spelling_cancel found.0 p _ _ spells.packet h.packet e in
+    let size : found.1 ≡ k = sym (length-take-le found.1 bytes within) ∙ ap (λ (t : List ℕ). length t) (spells.spelled_so ∙ ap spelling same.0 ∙ sym h.spelled_so) ∙ length-take-le k bytes le in
+    ap (λ (x : Packet). Ok (x, found.1)) same.0 ∙ ap (λ (n : ℕ). Ok (p, n)) size
+only_found bytes (Err e) fits spells within fault p k le h =
+    let none = none_wrong p (drop k bytes) bytes h.packet fits (sym (take-append-drop k bytes) ∙ ap (λ (t : List ℕ). t ++ drop k bytes) h.spelled_so) in
+    absurd (some_not_none e (fault ∙ none))
+
+err_not_ok : (e : PacketFault) (x : Packet × ℕ) → Err e ≡ Ok x → ⊥
+err_not_ok e x h = cc
+
+pub none_found : (bytes : List ℕ) (r : Result (Packet × ℕ) PacketFault) → IsBytes bytes → IfOk r (λ found. Spells found.0 (take found.1 bytes)) → IfOk r (λ found. found.1 ≤ length bytes) → result_err r ≡ fault_of bytes → IsErr r ↔ NoneSpells bytes
+none_found bytes (Ok found) fits spells within fault = (λ err. absurd cc, λ none. absurd (none found.0 found.1 within spells))
+none_found bytes (Err e) fits spells within fault = (λ err p k le h. absurd (err_not_ok e (p, k) (only_found bytes (Err e) fits spells within fault p k le h)), λ none. refl)
+
+pub none_refused : (bytes : List ℕ) (r : Result (Packet × ℕ) PacketFault) (e e' : PacketFault) → r ≡ Err e → e ≡ e' → IsBytes bytes → Some e' ≡ fault_of bytes → IsErr r ↔ NoneSpells bytes
+none_refused bytes r e e' p q fits fault =
+    subst (λ (x : Result (Packet × ℕ) PacketFault). IsErr x ↔ NoneSpells bytes) (sym (p ∙ ap (λ (x : PacketFault). Err x) q)) (none_found bytes (Err e') fits tt tt fault)
+
+-- ---- the clauses of an encoder
+
+pub header_made : (p : Packet) (parts : Parts) (t s i : ℕ) → parts ≡ parts_of p.body → t ≡ p.target → s ≡ p.source → i ≡ number_of parts.identifier
+    → (let h : Header = record { target = t; command = parts.command; source = s; control = p.control; offset = p.line * 64; identifier = i } in h ≡ header_of p)
+header_made p parts t s i e f g k =
+    same_header _ (header_of p) f (ap (λ (x : Parts). x.command) e) g refl refl (k ∙ ap (λ (x : Parts). number_of x.identifier) e)
+
+pub packet_made : (p : Packet) (parts : Parts) → parts ≡ parts_of p.body → p.target < NO_NODE → p.source < NO_NODE → p.control < 2 ^ 16 → IfSome parts.identifier (λ id. id < NO_NODE) → IfSome parts.contents IsContents → IsPacket p
+packet_made p parts e target source control identifier contents = record {
+  target = target;
+  source = source;
+  control = control;
+  identifier = subst (λ (x : Parts). IfSome x.identifier (λ id. id < NO_NODE)) e identifier;
+  contents = subst (λ (x : Parts). IfSome x.contents IsContents) e contents;
+}
+
+-- the header and nothing more
+pub short_written : (p : Packet) (h : Header) (old new : List ℕ) → h ≡ header_of p → (parts_of p.body).contents ≡ None → new ≡ spelled h (drop 16 old) → new ≡ spelling p ++ drop 16 old
+unfolding spelling
+short_written p h old new e none written =
+    let text : spelling p ≡ spelled (header_of p) [] = ap (λ (a : Option Stamped). spelled (header_of p) (word_bytes (contents_words a))) none in
+    written ∙ ap (λ (x : Header). spelled x (drop 16 old)) e ∙ sym (spelled-append (header_of p) [] (drop 16 old)) ∙ ap (λ (t : List ℕ). t ++ drop 16 old) (sym text)
+
+-- the header and the contents
+pub long_written : (p : Packet) (h : Header) (stamped : Stamped) (old mid new : List ℕ) → h ≡ header_of p → (parts_of p.body).contents ≡ Some stamped → length old ≡ 88 → mid ≡ spelled h (drop 16 old) → new ≡ take 16 mid ++ word_bytes (stamped.version ∷ stamped.line)
+    → new ≡ spelling p ++ drop 88 old
+unfolding spelling
+long_written p h stamped old mid new e some len written after =
+    let words = word_bytes (stamped.version ∷ stamped.line) in
+    let text : spelling p ≡ spelled (header_of p) words = ap (λ (a : Option Stamped). spelled (header_of p) (word_bytes (contents_words a))) some in
+    let rest : drop 88 old ≡ [] = drop_all 88 old (omega arith) in
+    let front : take 16 mid ≡ spelled h [] = ap (λ (t : List ℕ). take 16 t) (written ∙ sym (spelled-append h [] (drop 16 old))) ∙ take_at (spelled h []) (drop 16 old) 16 (length-spelled h []) in
+    after
+    ∙ ap (λ (t : List ℕ). t ++ words) front
+    ∙ spelled-append h [] words
+    ∙ ap (λ (x : Header). spelled x words) e
+    ∙ sym (append-nil (spelled (header_of p) words))
+    ∙ ap (λ (t : List ℕ). t ++ []) (sym text)
+    ∙ ap (λ (t : List ℕ). spelling p ++ t) (sym rest)

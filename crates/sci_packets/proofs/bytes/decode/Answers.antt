@@ -1,0 +1,38 @@
+use Rattle.std.proofs.Common.{arith, Err, Ok, sym}
+use Rattle.std.proofs.lemmas.Result.{err_from_is_err_and}
+use Rattle.sci_packets.proofs.Fields.{IsBytes}
+use Rattle.sci_packets.proofs.Packets.{Found, only_found, none_found, none_refused, is_packet, is_found}
+use Rattle.sci_packets.proofs.bytes.decode.Goals as goal
+use Rattle.sci_packets.proofs.bytes.decode.Goals.{After-size_of-len}
+
+found : (c : After-size_of-len) → Found c.in_ok-packet.packet c.size_of-len.result c.args.bytes.now
+found c =
+    let bytes = c.args.bytes.now in
+    let p = c.in_ok-packet.packet in
+    let known = c.in_ok-packet.ensures in
+    let fits : IsBytes bytes = λ i. omega (arith, c.type_inv.bytes i) in
+    is_found p c.size_of-len.result bytes fits known.header known.contents (is_packet p bytes fits known.header known.contents known.nodes known.identifier) (sym known.fault) c.size_of-len.ensures
+
+pub returns-in_err-packet-clause-only : goal.returns-in_err-packet-clause-only
+returns-in_err-packet-clause-only c =
+    let e = err_from_is_err_and c.from_residual.result c.from_residual.ensures.1 in
+    rw (e.1, e.2) (only_found c.args.bytes.now (Err c.in_err-packet.field-0.0) (λ i. omega (arith, c.type_inv.bytes i)) tt tt c.in_err-packet.ensures.fault)
+
+pub returns-in_err-packet-clause-none : goal.returns-in_err-packet-clause-none
+returns-in_err-packet-clause-none c =
+    let e = err_from_is_err_and c.from_residual.result c.from_residual.ensures.1 in
+    none_refused c.args.bytes.now c.from_residual.result e.0 c.in_err-packet.field-0.0 e.1 e.2 (λ i. omega (arith, c.type_inv.bytes i)) c.in_err-packet.ensures.fault
+
+pub returns-clause-found : goal.returns-clause-found
+returns-clause-found c = (found c).spells
+
+pub returns-clause-length : goal.returns-clause-length
+returns-clause-length c = (found c).within
+
+pub returns-clause-only : goal.returns-clause-only
+returns-clause-only c =
+    only_found c.args.bytes.now (Ok (c.in_ok-packet.packet, c.size_of-len.result)) (λ i. omega (arith, c.type_inv.bytes i)) (found c).spells (found c).within c.in_ok-packet.ensures.fault
+
+pub returns-clause-none : goal.returns-clause-none
+returns-clause-none c =
+    none_found c.args.bytes.now (Ok (c.in_ok-packet.packet, c.size_of-len.result)) (λ i. omega (arith, c.type_inv.bytes i)) (found c).spells (found c).within c.in_ok-packet.ensures.fault

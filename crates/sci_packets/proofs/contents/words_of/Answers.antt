@@ -1,0 +1,11 @@
+use Rattle.std.proofs.Common.{arith, inl, inr}
+use Rattle.std.proofs.lemmas.Bool.{cases_lt}
+use Rattle.std.proofs.lemmas.List.{get_or_past}
+use Rattle.sci_packets.proofs.contents.words_of.Goals as goal
+
+pub returns-clause-fits : goal.returns-clause-fits
+returns-clause-fits c = λ i.
+    elim (cases_lt i 8) [
+      | inl lt ↦ c.loop-i.invariant.fits i (omega arith)
+      | inr le ↦ rw (get_or_past c.args.line.now i 0 (omega (arith, c.loop-i.invariant.width (omega arith)))) (omega arith)
+    ]

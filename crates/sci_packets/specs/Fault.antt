@@ -1,0 +1,20 @@
+-- What is wrong with bytes that begin with no packet.
+use Rattle.std.specs.Prelude.{ℕ, ◌%◌, not, ◌||◌, nat_lt, ◌==◌, if◌then◌else◌, List, length, Option, Some}
+use Rattle.sci_packets.specs.declared.fault.PacketFault.{PacketFault}
+use Rattle.sci_packets.specs.declared.fault.PacketFault.TheVariants.{Short, UnknownCommand, BadOffset, BadIdentifier}
+use Rattle.sci_packets.specs.declared.header.Header.{Header}
+use Rattle.sci_packets.specs.declared.node_id.TheConstants.{NO_NODE}
+use Rattle.sci_packets.specs.Fields.{header_in}
+use Rattle.sci_packets.specs.Table.{identifier_of, is_command, body_fault}
+
+-- the first fault of a header whose packet has so many bytes
+unfoldable pub header_fault : Header → ℕ → Option PacketFault
+header_fault h length =
+    if not (is_command h.command) then Some UnknownCommand
+    else (if not (h.offset % 64 == 0) then Some BadOffset
+    else (if h.target == NO_NODE || h.source == NO_NODE then Some BadIdentifier
+    else body_fault h.command (identifier_of h.identifier) length))
+
+-- the first fault of bytes, None where a packet begins them
+unfoldable pub fault_of : List ℕ → Option PacketFault
+fault_of bytes = if nat_lt (length bytes) 16 then Some Short else header_fault (header_in bytes) (length bytes)

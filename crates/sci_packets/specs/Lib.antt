@@ -1,0 +1,4 @@
+pub mod Fault
+pub mod Fields
+pub mod Spelling
+pub mod Table

@@ -1,0 +1,77 @@
+-- The table of packets: command numbers, identifiers and contents. The numbers are this project's own.
+use Rattle.std.specs.Prelude.{ℕ, ◌<◌, Bool, false, ◌&&◌, ◌||◌, nat_le, nat_lt, ◌==◌, if◌then◌else◌, Option, Some, None}
+use Rattle.std.specs.Option.{is_some, is_none}
+use Rattle.sci_words.specs.declared.stamped.Stamped.{Stamped}
+use Rattle.sci_packets.specs.declared.command.TheConstants.{MREAD, CREAD, PURGE, ROLL, WBACK, SETBACK, FREAD, CLAIM, CLEAR, MDATA, MGONE, CDATA, PURGED, ROLLED, WBOK, WBNO, TOLD, BUSY, FDATA, FIRST_ANSWER}
+use Rattle.sci_packets.specs.declared.node_id.TheConstants.{NO_NODE}
+use Rattle.sci_packets.specs.declared.fault.PacketFault.{PacketFault}
+use Rattle.sci_packets.specs.declared.fault.PacketFault.TheVariants.{Short, BadIdentifier}
+use Rattle.sci_packets.specs.declared.body.Body.{Body}
+use Rattle.sci_packets.specs.declared.body.Body.TheVariants.{Mread, Cread, Purge, Roll, Wback, Setback, Fread, Claim, Clear, Mdata, Mgone, Cdata, Purged, Rolled, Wbok, Wbno, Told, Busy, Fdata}
+use Rattle.sci_packets.specs.declared.table.Parts.{Parts}
+
+abbrev pub parts : ℕ → Option ℕ → Option Stamped → Parts
+parts command identifier contents = record { command = command; identifier = identifier; contents = contents }
+
+-- what each body puts into its packet: the command, the identifier, None where it is none or unused, and the
+-- contents
+unfoldable pub parts_of : Body → Parts
+parts_of Mread = parts MREAD None None
+parts_of Cread = parts CREAD None None
+parts_of Purge = parts PURGE None None
+parts_of (Roll forward) = parts ROLL forward None
+parts_of (Wback contents) = parts WBACK None (Some contents)
+parts_of (Setback backward) = parts SETBACK (Some backward) None
+parts_of Fread = parts FREAD None None
+parts_of Claim = parts CLAIM None None
+parts_of Clear = parts CLEAR None None
+parts_of (Mdata contents) = parts MDATA None (Some contents)
+parts_of (Mgone old_head) = parts MGONE (Some old_head) None
+parts_of (Cdata contents) = parts CDATA None (Some contents)
+parts_of (Purged forward) = parts PURGED forward None
+parts_of Rolled = parts ROLLED None None
+parts_of Wbok = parts WBOK None None
+parts_of Wbno = parts WBNO None None
+parts_of Told = parts TOLD None None
+parts_of Busy = parts BUSY None None
+parts_of (Fdata old_head contents) = parts FDATA old_head (Some contents)
+
+-- the commands below 0x0100 are requests, the others answers
+abbrev pub IsRequest : Body → Type 0
+IsRequest body = (parts_of body).command < FIRST_ANSWER
+
+-- the number of an identifier: 0xFFFF for none
+abbrev pub number_of : Option ℕ → ℕ
+number_of None = NO_NODE
+number_of (Some id) = id
+
+-- the identifier of a number
+abbrev pub identifier_of : ℕ → Option ℕ
+identifier_of number = if number == NO_NODE then None else Some number
+
+-- whether a number is in the table: the requests are 0x0001 to 0x0009, the answers 0x0101 to 0x010A
+abbrev pub is_command : ℕ → Bool
+is_command command = (nat_le MREAD command && nat_le command CLEAR) || (nat_le MDATA command && nat_le command FDATA)
+
+-- the commands with contents
+abbrev pub takes_contents : ℕ → Bool
+takes_contents command = command == WBACK || command == MDATA || command == CDATA || command == FDATA
+
+-- the commands whose identifier is never none
+abbrev pub must_name : ℕ → Bool
+must_name command = command == SETBACK || command == MGONE
+
+-- the commands whose identifier may be none
+abbrev pub may_name : ℕ → Bool
+may_name command = command == ROLL || command == PURGED || command == FDATA
+
+-- whether an identifier is none where it must be there, or there where it is unused
+unfoldable pub is_misnamed : ℕ → Option ℕ → Bool
+is_misnamed command identifier =
+    if must_name command then is_none identifier else (if may_name command then false else is_some identifier)
+
+-- what is wrong with the identifier of a packet of so many bytes or, where the command takes them, with its contents
+unfoldable pub body_fault : ℕ → Option ℕ → ℕ → Option PacketFault
+body_fault command identifier length =
+    if is_misnamed command identifier then Some BadIdentifier
+    else (if takes_contents command && nat_lt length 88 then Some Short else None)

@@ -1,0 +1,135 @@
+//! Packets as bytes.
+
+ghost use Rattle.std.specs.Prelude.{◌≡◌, ◌≤◌, ◌<◌, ◌↔◌, ℕ, IfOk, IfErr, IsOk, IsErr, IfSome, Ok, length, take, drop, ◌++◌, ◌⊎◌, if◌then◌else◌};
+ghost use Rattle.std.specs.Result.{result_err};
+ghost use Rattle.std.specs.Option.{is_some};
+ghost use Rattle.sci_packets.specs.declared.packet.Packet.{Packet};
+ghost use Rattle.sci_packets.specs.declared.node_id.TheConstants.{NO_NODE};
+ghost use Rattle.sci_packets.specs.Fault.{fault_of};
+ghost use Rattle.sci_packets.specs.Fields.{header_in, contents_for};
+ghost use Rattle.sci_packets.specs.Spelling.{IsPacket, Spells, NoneSpells, header_of, spelling};
+ghost use Rattle.sci_packets.specs.Table.{number_of, parts_of};
+
+use crate::body::Body;
+use crate::contents::{LONG, write_contents};
+use crate::fault::PacketFault;
+use crate::header::Header;
+use crate::node_id::{NO_NODE, NodeId};
+use crate::packet::Packet;
+use crate::table::{body_of, is_command, parts_in};
+use sci_words::LINE_BYTES;
+
+/// The bytes of a packet without contents.
+const SHORT: usize = 16;
+
+/// Writes the packet over the first bytes, and answers how many: 16, or 88 with contents. The bytes after
+/// the packet stay.
+pub fn encode(p: &Packet, to: &mut [u8; 88]) -> usize
+    ensures bytes { to.new ≡ spelling p.now ++ drop result to.old }
+    ensures length { result ≡ length (spelling p.now) }
+    ensures sizes { (result ≡ 16) ⊎ (result ≡ 88) }
+    ensures packet { IsPacket p.now }
+{
+    let parts = parts_in(&p.body);
+    let header = Header {
+        target: p.target.get(),
+        command: parts.command,
+        source: p.source.get(),
+        control: p.control,
+        offset: p.line * LINE_BYTES as u64,
+        identifier: number_in(parts.identifier),
+    };
+    header.write(to);
+    match parts.contents {
+        None => SHORT,
+        Some(contents) => {
+            write_contents(&contents, to);
+            LONG
+        }
+    }
+}
+
+/// The bytes of a packet with this body.
+#[tactic(auto, unfolding(crate::specs::Table::parts_of))]
+fn size_of(body: &Body) -> usize
+    ensures { result ≡ (if is_some (parts_of body.now).contents then 88 else 16) }
+{
+    match body {
+        Body::Wback(_) | Body::Mdata(_) | Body::Cdata(_) | Body::Fdata { .. } => LONG,
+        _ => SHORT,
+    }
+}
+
+/// The number of an identifier, 0xFFFF for none.
+fn number_in(identifier: Option<NodeId>) -> u16
+    ensures number { result ≡ number_of identifier }
+    ensures below { IfSome identifier (λ id. id < NO_NODE) }
+{
+    match identifier {
+        None => NO_NODE,
+        Some(id) => id.get(),
+    }
+}
+
+/// The identifier of a node that must be there.
+fn node(number: u16) -> Result<NodeId, PacketFault>
+    ensures node { IfOk result (λ id. id ≡ number) }
+    ensures below { IsOk result ↔ (number < NO_NODE) }
+    ensures fault { IfErr result (λ e. e ≡ PacketFault.BadIdentifier) }
+{
+    NodeId::new(number).ok_or(PacketFault::BadIdentifier)
+}
+
+/// The packet at the beginning of the bytes, wherever it ends.
+#[tactic(auto, unfolding(crate::specs::Fault::fault_of, crate::specs::Fault::header_fault))]
+fn packet_at(bytes: &[u8]) -> Result<Packet, PacketFault>
+    ensures header { IfOk result (λ p. header_of p ≡ header_in bytes.now) }
+    ensures contents { IfOk result (λ p. (parts_of p.body).contents ≡ contents_for (header_in bytes.now).command bytes.now) }
+    ensures nodes { IfOk result (λ p. (p.target < NO_NODE) × (p.source < NO_NODE)) }
+    ensures identifier { IfOk result (λ p. IfSome (parts_of p.body).identifier (λ id. id < NO_NODE)) }
+    ensures fault { result_err result ≡ fault_of bytes.now }
+{
+    if bytes.len() < SHORT {
+        return Err(PacketFault::Short);
+    }
+    let header = Header::read(bytes);
+    if !is_command(header.command) {
+        return Err(PacketFault::UnknownCommand);
+    }
+    if header.offset % LINE_BYTES as u64 != 0 {
+        return Err(PacketFault::BadOffset);
+    }
+    let target = node(header.target)?;
+    let source = node(header.source)?;
+    let body = body_of(header.command, NodeId::new(header.identifier), bytes)?;
+    Ok(Packet {
+        target,
+        source,
+        control: header.control,
+        line: header.offset / LINE_BYTES as u64,
+        body,
+    })
+}
+
+/// The packet at the beginning of the bytes, and how many they are: 16, or 88 with contents. Bytes after it
+/// are not looked at.
+///
+/// Refusals, in this order: `Short` below 16 bytes, `UnknownCommand`, `BadOffset` where the offset is no
+/// multiple of 64, `BadIdentifier` where target or source is 0xFFFF, an unused identifier isn't, or that of
+/// Mgone or Setback is, and `Short` where contents are wanted and there are fewer than 88 bytes.
+pub fn decode(bytes: &[u8]) -> Result<(Packet, usize), PacketFault>
+    // The first bytes spell the packet.
+    ensures found { IfOk result (λ found. Spells found.0 (take found.1 bytes.now)) }
+    ensures length { IfOk result (λ found. found.1 ≤ length bytes.now) }
+
+    // Where the first bytes spell a packet, that is the answer.
+    ensures only { (p : Packet) (k : ℕ) → k ≤ length bytes.now → Spells p (take k bytes.now) → result ≡ Ok (p, k) }
+
+    // It is refused exactly where they spell none, with the first fault.
+    ensures none { IsErr result ↔ NoneSpells bytes.now }
+    ensures fault { result_err result ≡ fault_of bytes.now }
+{
+    let packet = packet_at(bytes)?;
+    let len = size_of(&packet.body);
+    Ok((packet, len))
+}

@@ -1,0 +1,18 @@
+//! The packets that nodes exchange, with one spelling each, over bytes and over words.
+#![tactic(auto)]
+
+mod body;
+mod bytes;
+mod command;
+mod contents;
+mod fault;
+mod header;
+mod node_id;
+mod packet;
+mod table;
+
+pub use body::Body;
+pub use bytes::{decode, encode};
+pub use fault::PacketFault;
+pub use node_id::NodeId;
+pub use packet::Packet;
