@@ -1,2 +1,9 @@
+pub mod Histories
+pub mod LawLemmas
+pub mod Lawfulness
+pub mod LineRuns
+pub mod Oracles
+pub mod Order
+pub mod Placement
 pub mod Pushes
 pub mod Runs

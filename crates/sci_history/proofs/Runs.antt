@@ -1,9 +1,8 @@
 -- Runs on a memory, and on the words of a memory whose lines have versions.
-use Rattle.std.proofs.Common.{◌≡◌, ℕ, zero, suc, List, [], ◌∷◌, map, refl, sym, ap, ◌∙◌}
+use Rattle.std.proofs.Common.{◌≡◌, ℕ, zero, suc, List, [], ◌∷◌, refl, ap, ◌∙◌}
 use Rattle.std.proofs.lemmas.List.{map-set}
 use Rattle.sci_words.specs.declared.operation.Op.{Op}
 use Rattle.sci_words.specs.declared.stamped.Stamped.{Stamped}
-use Rattle.sci_words.specs.Stamped.{line_after, after}
 use Rattle.sci_history.specs.Memory.{line_at, stamped_at, words_of, memory_after, contents_after}
 
 pub line_at-words_of : (contents : List Stamped) (line : ℕ) → line_at (words_of contents) line ≡ (stamped_at contents line).line
@@ -13,3 +12,9 @@ line_at-words_of (s ∷ contents) (suc line) = line_at-words_of contents line
 
 pub words_of-contents_after : (contents : List Stamped) (op : Op) → words_of (contents_after contents op) ≡ memory_after (words_of contents) op
 words_of-contents_after contents op = rw (map-set, line_at-words_of contents op.line) refl
+
+pub same_stamped : (a b : Stamped) → a.line ≡ b.line → a.version ≡ b.version → a ≡ b
+same_stamped a b lines versions =
+    let with_line : List ℕ → Stamped = λ line. record { line = line; version = a.version } in
+    let with_version : ℕ → Stamped = λ version. record { line = b.line; version = version } in
+    ap with_line lines ∙ ap with_version versions

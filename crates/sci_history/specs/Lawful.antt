@@ -1,5 +1,5 @@
 -- What makes logs lawful: for each line, a memory of one thread explains them.
-use Rattle.std.specs.Prelude.{◌≡◌, ℕ, ◌<◌, ◌≤◌, IsTrue, List, [], ◌∷◌, ◌++◌, filter, count_by, map, AllPairs}
+use Rattle.std.specs.Prelude.{◌≡◌, ℕ, ◌<◌, ◌≤◌, IsTrue, List, filter, count_by, map, AllPairs}
 use Rattle.std.specs.List.{AllByRecursion}
 use Rattle.sci_words.specs.declared.limits.TheConstants.{MAX_NODES}
 use Rattle.sci_words.specs.declared.stamped.Stamped.{Stamped}

@@ -1,4 +1,5 @@
 pub mod Memory
 pub mod Placed
+pub mod History
 pub mod Lawful
 pub mod Oracle

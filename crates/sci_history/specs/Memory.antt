@@ -1,5 +1,5 @@
 -- A memory of one thread, and the runs of operations on it.
-use Rattle.std.specs.Prelude.{◌≡◌, ℕ, ◌<◌, List, [], ◌∷◌, map, replicate, length, slice_index, slice_index_or, slice_set}
+use Rattle.std.specs.Prelude.{◌≡◌, ℕ, List, [], ◌∷◌, map, replicate, slice_index, slice_index_or, slice_set}
 use Rattle.sci_words.specs.declared.operation.Op.{Op}
 use Rattle.sci_words.specs.declared.operation.Reply.{Reply}
 use Rattle.sci_words.specs.declared.stamped.Stamped.{Stamped}

@@ -3,10 +3,18 @@
 
 mod entry;
 mod last;
+mod laws;
 mod logs;
 mod memory;
 
 pub use entry::Entry;
 pub use last::Last;
+pub use laws::{
+    history_is_lawful, no_stale_read, one_lawful_end, oracle_is_lawful, runs_are_functions,
+    runs_compose,
+};
 pub use logs::{Logs, PushFault};
 pub use memory::Memory;
+
+#[cfg(test)]
+mod tests;

@@ -98,6 +98,5 @@ fn push_entry(log: &mut Vec<Entry>, entry: Entry) -> Result<(), PushFault>
     if log.len() >= MAX_OPERATIONS as usize {
         return Err(PushFault::Full);
     }
-    log.push(entry)
-        .map_err(|_| PushFault::Memory(AllocError))
+    log.push(entry).map_err(|_| PushFault::Memory(AllocError))
 }

@@ -82,22 +82,13 @@ impl LockOp {
     {
         match self {
             LockOp::MaskSwap { arg, datum } => (datum & arg) | (old & !arg),
-            LockOp::CompareSwap { arg, datum } => { if old == arg { datum } else { old } }
+            LockOp::CompareSwap { arg, datum } if old == arg => datum,
+            LockOp::CompareSwap { .. } => old,
             LockOp::FetchAdd { datum } => old.wrapping_add(datum),
-            LockOp::BoundedAdd { arg, datum } => {
-                if old == arg {
-                    old
-                } else {
-                    old.wrapping_add(datum)
-                }
-            }
-            LockOp::WrapAdd { arg, datum } => {
-                if old == arg {
-                    datum
-                } else {
-                    old.wrapping_add(datum)
-                }
-            }
+            LockOp::BoundedAdd { arg, .. } if old == arg => old,
+            LockOp::BoundedAdd { datum, .. } => old.wrapping_add(datum),
+            LockOp::WrapAdd { arg, datum } if old == arg => datum,
+            LockOp::WrapAdd { datum, .. } => old.wrapping_add(datum),
         }
     }
 }

@@ -101,7 +101,10 @@ fn a_load_makes_none(rt: HostRuntime) {
         word: 1,
         act: Act::Load,
     };
-    assert_eq!(rt; before.after(load), (before, Reply::Got(0)));
+    let (after, reply) = before.after(load);
+    assert_eq!(rt; after.version, 4);
+    assert_eq!(rt; after.line, before.line);
+    assert_eq!(rt; reply, Reply::Got(0));
 }
 
 #[test]

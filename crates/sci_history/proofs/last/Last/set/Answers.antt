@@ -8,5 +8,5 @@ pub returns : goal.returns
 returns c =
     let fits : length c.args.self.now ≡ length (take c.self.inside.lines c.self.inside.contents) = ap length (sym c.self.view_is) in
     let below : c.args.line < c.self.inside.lines =
-      omega (arith, fits, length-take c.self.inside.lines c.self.inside.contents) in
+    omega (arith, fits, length-take c.self.inside.lines c.self.inside.contents) in
     rw (← c.self.view_is) (take-set-lt c.self.inside.lines c.self.inside.contents c.args.line c.args.stamped below)

@@ -10,8 +10,10 @@ returns-clause-run c =
     let old = c.args.self.now in
     let op = c.args.op in
     let was : c.get-before.result ≡ stamped_at old op.line =
-      c.get-before.ensures ∙ ap (λ m. stamped_at m op.line) c.self.view_is in
-    let left : c.set.new.self ≡ contents_after old op = cc in
-    (c.after-after.ensures.reply
-    ∙ ap (λ words. reply_of words op) (ap (λ (s : Stamped). s.line) was ∙ sym (line_at-words_of old op.line)), ap words_of left
-    ∙ words_of-contents_after old op)
+    c.get-before.ensures ∙ ap (λ m. stamped_at m op.line) c.self.view_is in
+    let left : c.set.new.self ≡ contents_after old op = cc in (
+      c.after-after.ensures.reply
+          ∙ ap (λ words. reply_of words op) (ap (λ (s : Stamped). s.line) was ∙ sym (line_at-words_of old op.line)),
+      ap words_of left
+          ∙ words_of-contents_after old op,
+    )

@@ -1,0 +1,25 @@
+-- Operations that took effect on one line one after another.
+use Rattle.std.specs.Prelude.{◌≡◌, ℕ, ◌<◌, List, [], ◌∷◌, filter, AllPairs}
+use Rattle.std.specs.List.{AllByRecursion}
+use Rattle.sci_words.specs.declared.limits.TheConstants.{MAX_NODES}
+use Rattle.sci_words.specs.declared.stamped.Stamped.{Stamped}
+use Rattle.sci_words.specs.Stamped.{after, zero_stamped}
+use Rattle.sci_history.specs.declared.entry.Entry.{Entry}
+use Rattle.sci_history.specs.Memory.{reply_of}
+use Rattle.sci_history.specs.Placed.{log_of, is_of_node, is_on_line}
+
+-- Entries are a line's history from one stamped line to another: each reply is that of the line so far, and each
+-- version is the one that the line has after the operation.
+abbrev pub IsHistory : List Entry → Stamped → Stamped → Type 0
+IsHistory [] old new = new ≡ old
+IsHistory (entry ∷ entries) old new =
+    (entry.reply ≡ reply_of old.line entry.op) × (entry.version ≡ (after old entry.op).version) × IsHistory entries (after old entry.op) new
+
+-- A line has a history: entries in some order, which is each node's own, lead from zero words to the last contents,
+-- and each node's serials rise.
+pub record HasHistory (logs : List (List Entry)) (line : ℕ) (last : Stamped) : Type 0 where
+  pub entries : List Entry
+  pub history : IsHistory entries zero_stamped last
+  pub nodes : AllByRecursion (λ entry. entry.node < MAX_NODES) entries
+  pub logged : (node : ℕ) → node < MAX_NODES → filter (is_on_line line) (log_of logs node) ≡ filter (is_of_node node) entries
+  pub serials : (node : ℕ) → node < MAX_NODES → AllPairs (λ x y. x.serial < y.serial) (filter (is_on_line line) (log_of logs node))

@@ -1,0 +1,59 @@
+//! Laws of the definitions that contracts cite: each is the contract of a function that does nothing, so that
+//! whoever reads the definitions sees that they say what they mean.
+
+ghost use Rattle.std.specs.Prelude.{◌≡◌, ◌≤◌, ◌<◌, ◌↔◌, ◌∷◌, ◌++◌, [], List, ℕ, map, filter, length};
+ghost use Rattle.std.specs.List.{AllByRecursion};
+ghost use Rattle.sci_words.specs.declared.limits.TheConstants.{MAX_NODES};
+ghost use Rattle.sci_words.specs.declared.operation.Op.{Op};
+ghost use Rattle.sci_words.specs.declared.operation.Reply.{Reply};
+ghost use Rattle.sci_words.specs.declared.stamped.Stamped.{Stamped};
+ghost use Rattle.sci_words.specs.Stamped.{zero_stamped};
+ghost use Rattle.sci_history.specs.declared.entry.Entry.{Entry};
+ghost use Rattle.sci_history.specs.History.{HasHistory};
+ghost use Rattle.sci_history.specs.Lawful.{IsLawfulLine, Lawful};
+ghost use Rattle.sci_history.specs.Memory.{IsRun, stamped_at};
+ghost use Rattle.sci_history.specs.Oracle.{IsInRange, Issue, oracle_last, oracle_logs};
+ghost use Rattle.sci_history.specs.Placed.{is_on_line, log_of, on_line};
+
+/// A script's logs and last contents on one memory of one thread are lawful, whatever operations it has within
+/// the limits.
+pub fn oracle_is_lawful()
+    ensures { (lines : ℕ) (script : List Issue) → AllByRecursion (IsInRange lines) script →
+        Lawful (oracle_logs lines script) (oracle_last lines script) }
+{}
+
+/// Logs of which a line has a history are lawful on that line: it is enough to know some order in which the
+/// operations took effect.
+pub fn history_is_lawful()
+    ensures { (logs : List (List Entry)) (line : ℕ) (last : Stamped) → length logs ≡ MAX_NODES →
+        HasHistory logs line last → IsLawfulLine logs line last }
+{}
+
+/// Logs have one lawful end. A line without entries has zero words at version 0 there.
+pub fn one_lawful_end()
+    ensures same { (logs : List (List Entry)) (a b : List Stamped) → Lawful logs a → Lawful logs b →
+        (line : ℕ) → stamped_at a line ≡ stamped_at b line }
+    ensures zero { (logs : List (List Entry)) (last : List Stamped) → Lawful logs last →
+        (line : ℕ) → on_line line logs ≡ [] → stamped_at last line ≡ zero_stamped }
+{}
+
+/// A run of operations and of those after them goes through the memory where the first run ends.
+pub fn runs_compose()
+    ensures { (xs ys : List (Op × Reply)) (old new : List (List ℕ)) →
+        IsRun (xs ++ ys) old new ↔ ((middle : List (List ℕ)) × IsRun xs old middle × IsRun ys middle new) }
+{}
+
+/// A run is a function of the memory that it begins with: the same operations get the same replies and come to the
+/// same end.
+pub fn runs_are_functions()
+    ensures { (xs ys : List (Op × Reply)) (old new other : List (List ℕ)) → map (λ x. x.0) xs ≡ map (λ y. y.0) ys →
+        IsRun xs old new → IsRun ys old other → (xs ≡ ys) × (new ≡ other) }
+{}
+
+/// No read is stale: what a node did on a line before one of its operations there, a load too, has no version
+/// above that operation's.
+pub fn no_stale_read()
+    ensures { (logs : List (List Entry)) (last : List Stamped) (line node : ℕ) (before after : List Entry) (entry : Entry) →
+        Lawful logs last → node < MAX_NODES → filter (is_on_line line) (log_of logs node) ≡ before ++ entry ∷ after →
+        AllByRecursion (λ earlier. earlier.version ≤ entry.version) before }
+{}
