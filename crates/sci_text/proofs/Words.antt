@@ -1,0 +1,31 @@
+-- A word at the front of bytes.
+use Rattle.std.proofs.Common.{◌≡◌, ◌≢◌, ℕ, Bool, true, false, cond, eqb, List, [], ◌∷◌, ◌++◌, Option, Some, None, refl, ap, ◌∙◌}
+use Rattle.std.specs.Prelude.{MatchOption}
+use denote.Ref.{Bor}
+use Rattle.std.proofs.lemmas.Bool.{eqb-true, eq-eqb}
+use Rattle.sci_text.specs.Reading.{Gives, after}
+
+pub after_again : (word rest : List ℕ) → after word (word ++ rest) ≡ Some rest
+unfolding after
+after_again [] rest = refl
+after_again (c ∷ word) rest = rw (eq-eqb c c refl) (after_again word rest)
+
+cond_some_else : {A : Type 0} (b : Bool) (o : Option A) (x : A) → cond b o None ≡ Some x → (b ≡ true) × (o ≡ Some x)
+cond_some_else true o x e = (refl, e)
+cond_some_else false o x e = absurd cc
+
+pub after_found : (word bytes rest : List ℕ) → after word bytes ≡ Some rest → bytes ≡ word ++ rest
+unfolding after
+after_found [] bytes rest e = cc
+after_found (c ∷ word) [] rest e = absurd cc
+after_found (c ∷ word) (b ∷ bytes) rest e =
+    let s = cond_some_else (eqb b c) (after word bytes) rest e in
+    ap (λ (x : ℕ). x ∷ bytes) (eqb-true b c s.0) ∙ ap (λ (l : List ℕ). c ∷ l) (after_found word bytes rest s.1)
+
+strips_none : (read : Option (List ℕ)) (word bytes : List ℕ) → after word bytes ≡ read → ((rest : List ℕ) → bytes ≢ word ++ rest) → read ≡ None
+strips_none None word bytes e h = refl
+strips_none (Some rest) word bytes e h = absurd (h rest (after_found word bytes rest e))
+
+pub strips : (word bytes : List ℕ) (r : Option (Bor (List ℕ))) → MatchOption r ((rest : List ℕ) → bytes ≢ word ++ rest) (λ x. bytes ≡ word ++ x.now) → Gives (λ x. x.now) r (after word bytes)
+strips word bytes None h = strips_none (after word bytes) word bytes refl h
+strips word bytes (Some x) h = ap (after word) h ∙ after_again word x.now

@@ -1,0 +1,6 @@
+pub mod Fault
+pub mod Number
+pub mod Operation
+pub mod Reading
+pub mod Script
+pub mod Tap

@@ -1,0 +1,86 @@
+-- Scripts: what they say, and the one text of each.
+use Rattle.std.specs.Prelude.{◌≡◌, ℕ, ◌+◌, ◌<◌, ◌≤◌, ◌==◌, List, [], ◌∷◌, ◌++◌, length, codes, All, count_by, slice_index}
+use Rattle.std.specs.List.{flat_map}
+use Rattle.sci_words.specs.declared.limits.TheConstants.{MAX_NODES, MAX_OPERATIONS, MAX_TEXT_LINE_BYTES, WORDS_PER_LINE}
+use Rattle.sci_words.specs.declared.operation.Op.{Op}
+use Rattle.sci_words.specs.Extent.{AreWithinLimits}
+use Rattle.sci_text.specs.declared.script.PushFault.{PushFault}
+use Rattle.sci_text.specs.declared.script.PushFault.TheVariants as push
+use Rattle.sci_text.specs.declared.fault.TextFaultKind.{TextFaultKind}
+use Rattle.sci_text.specs.declared.fault.TextFaultKind.TheVariants as kinds
+use Rattle.sci_text.specs.Number.{field}
+use Rattle.sci_text.specs.Operation.{operation, ActFits}
+
+-- a machine's size, and operations with their nodes, in text order
+pub record ScriptValue : Type 0 where
+  pub nodes : ℕ
+  pub lines : ℕ
+  pub slots : ℕ
+  pub operations : List (ℕ × Op)
+
+-- the node is one of the machine's, the line and the word are in range, and the operands are words
+pub record IsWithin (nodes lines node : ℕ) (op : Op) : Type 0 where
+  pub known_node : node < nodes
+  pub known_line : op.line < lines
+  pub known_word : op.word < WORDS_PER_LINE
+  pub words : ActFits op.act
+
+abbrev pub AreWithin : ℕ → ℕ → List (ℕ × Op) → Type 0
+AreWithin nodes lines operations = All (λ p. IsWithin nodes lines p.0 p.1) operations
+
+-- how many of the operations are the node's
+abbrev pub count_of : ℕ → List (ℕ × Op) → ℕ
+count_of node operations = count_by (λ p. p.0 == node) operations
+
+-- each number is within its limits, and no node has too many operations
+pub record IsScript (s : ScriptValue) : Type 0 where
+  pub size : AreWithinLimits s.nodes s.lines s.slots
+  pub within : AreWithin s.nodes s.lines s.operations
+  pub counts : (node : ℕ) → node < s.nodes → count_of node s.operations ≤ MAX_OPERATIONS
+
+-- the script with one more operation at its end
+abbrev pub with_operation : ScriptValue → ℕ → Op → ScriptValue
+with_operation s node op = record s { operations = s.operations ++ (node, op) ∷ [] }
+
+-- why an operation is not added
+abbrev pub PushRefusal : ScriptValue → ℕ → Op → PushFault → Type 0
+PushRefusal s node op push.Range = IsWithin s.nodes s.lines node op → ⊥
+PushRefusal s node op push.TooMany = IsWithin s.nodes s.lines node op × (MAX_OPERATIONS ≤ count_of node s.operations)
+PushRefusal s node op push.Memory = IsWithin s.nodes s.lines node op × (count_of node s.operations < MAX_OPERATIONS)
+
+-- the fault of a text that such a refusal is
+abbrev pub kind_of : PushFault → TextFaultKind
+kind_of push.Range = kinds.Range
+kind_of push.TooMany = kinds.TooMany
+kind_of push.Memory = kinds.Memory
+
+-- the counts of each node's operations, none above the limit
+pub record AreCounts (counts : List ℕ) (operations : List (ℕ × Op)) : Type 0 where
+  pub len : length counts ≡ MAX_NODES
+  pub each : (node : ℕ) → node < MAX_NODES → slice_index counts node ≡ count_of node operations
+  pub few : (node : ℕ) → node < MAX_NODES → slice_index counts node ≤ MAX_OPERATIONS
+
+-- ---- the text
+
+-- `machine N M C`, and the line feed
+unfoldable pub machine_line : ℕ → ℕ → ℕ → List ℕ
+machine_line nodes lines slots = codes "machine" ++ (field nodes ++ (field lines ++ (field slots ++ 10 ∷ [])))
+
+-- `p n OP`, and the line feed
+unfoldable pub operation_line : ℕ → Op → List ℕ
+operation_line node op = codes "p" ++ (field node ++ (codes " " ++ (operation op ++ 10 ∷ [])))
+
+-- the line of the size, then a line for each operation
+abbrev pub script_text : ScriptValue → List ℕ
+script_text s = machine_line s.nodes s.lines s.slots ++ flat_map (λ p. operation_line p.0 p.1) s.operations
+
+-- a line, of which the line feed isn't counted, has at most 256 bytes
+abbrev pub IsShort : List ℕ → Type 0
+IsShort line = length line ≤ MAX_TEXT_LINE_BYTES + 1
+
+-- the bytes are a line and the rest, and the new script is the old one with the operation that the line says
+pub record AddsLine (old new : ScriptValue) (bytes rest : List ℕ) : Type 0 where
+  pub node : ℕ
+  pub op : Op
+  pub parts : bytes ≡ operation_line node op ++ rest
+  pub added : new ≡ with_operation old node op

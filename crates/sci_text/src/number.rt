@@ -1,0 +1,57 @@
+//! Numbers in decimal digits.
+
+ghost use Rattle.std.specs.Prelude.{◌≡◌, ◌≤◌};
+ghost use Rattle.sci_text.specs.Reading.{Gives, with_digit, digits_read, number_read, field_read};
+
+/// A number of a text, or None where it is 2^64 or more.
+pub type Number = Option<u64>;
+
+/// The number with one more digit at its end.
+#[tactic(auto, unfolding(crate::specs::Reading::with_digit))]
+fn with_digit(number: Number, digit: u8) -> Number
+    requires { 48 ≤ digit }
+    ensures { result ≡ with_digit number digit }
+{
+    number?
+        .checked_mul(10)?
+        .checked_add(u64::from(digit - b'0'))
+}
+
+/// The number whose first digits are those of `front` and whose others stand at the front of `bytes`, and
+/// the bytes after it.
+#[tactic(auto, unfolding(crate::specs::Reading::digits_read))]
+fn with_digits(front: Number, bytes: &[u8]) -> (Number, &[u8])
+    ensures { (result.0, result.1.now) ≡ digits_read front bytes.now }
+{
+    let mut number = front;
+    let mut rest = bytes;
+    while let [digit @ b'0'..=b'9', more @ ..] = rest {
+        number = with_digit(number, *digit);
+        rest = more;
+    }
+    (number, rest)
+}
+
+/// The number at the front of `bytes`, and the bytes after it. It has no leading zero, and any number of
+/// digits.
+#[tactic(auto, unfolding(crate::specs::Reading::number_read))]
+pub fn number(bytes: &[u8]) -> Option<(Number, &[u8])>
+    ensures { Gives (λ x. (x.0, x.1.now)) result (number_read bytes.now) }
+{
+    match bytes {
+        [b'0', rest @ ..] => Some((Some(0), rest)),
+        [digit @ b'1'..=b'9', rest @ ..] => Some(with_digits(Some(u64::from(*digit - b'0')), rest)),
+        _ => None,
+    }
+}
+
+/// The number behind one space at the front of `bytes`, and the bytes after it.
+#[tactic(auto, unfolding(crate::specs::Reading::field_read))]
+pub fn field(bytes: &[u8]) -> Option<(Number, &[u8])>
+    ensures { Gives (λ x. (x.0, x.1.now)) result (field_read bytes.now) }
+{
+    match bytes {
+        [b' ', rest @ ..] => number(rest),
+        _ => None,
+    }
+}
