@@ -4,7 +4,7 @@ use Rattle.sci_packets.specs.declared.fault.PacketFault.{PacketFault}
 use Rattle.sci_packets.specs.declared.fault.PacketFault.TheVariants.{Short, UnknownCommand, BadOffset, BadIdentifier}
 use Rattle.sci_packets.specs.declared.header.Header.{Header}
 use Rattle.sci_packets.specs.declared.node_id.TheConstants.{NO_NODE}
-use Rattle.sci_packets.specs.Fields.{header_in}
+use Rattle.sci_packets.specs.Fields.{header_in, word_bytes}
 use Rattle.sci_packets.specs.Table.{identifier_of, is_command, body_fault}
 
 -- the first fault of a header whose packet has so many bytes
@@ -18,3 +18,7 @@ header_fault h length =
 -- the first fault of bytes, None where a packet begins them
 unfoldable pub fault_of : List ℕ → Option PacketFault
 fault_of bytes = if nat_lt (length bytes) 16 then Some Short else header_fault (header_in bytes) (length bytes)
+
+-- the first fault of words: that of their bytes, of which two words have 16 and eleven have 88
+unfoldable pub fault_of_words : List ℕ → Option PacketFault
+fault_of_words words = fault_of (word_bytes words)

@@ -1,8 +1,8 @@
 -- The table of packets: command numbers, identifiers and contents. The numbers are this project's own.
-use Rattle.std.specs.Prelude.{ℕ, ◌<◌, Bool, false, ◌&&◌, ◌||◌, nat_le, nat_lt, ◌==◌, if◌then◌else◌, Option, Some, None}
+use Rattle.std.specs.Prelude.{ℕ, Bool, false, ◌&&◌, ◌||◌, nat_le, nat_lt, ◌==◌, if◌then◌else◌, Option, Some, None, true, IsTrue}
 use Rattle.std.specs.Option.{is_some, is_none}
 use Rattle.sci_words.specs.declared.stamped.Stamped.{Stamped}
-use Rattle.sci_packets.specs.declared.command.TheConstants.{MREAD, CREAD, PURGE, ROLL, WBACK, SETBACK, FREAD, CLAIM, CLEAR, MDATA, MGONE, CDATA, PURGED, ROLLED, WBOK, WBNO, TOLD, BUSY, FDATA, FIRST_ANSWER}
+use Rattle.sci_packets.specs.declared.command.TheConstants.{MREAD, CREAD, PURGE, ROLL, WBACK, SETBACK, FREAD, CLAIM, CLEAR, MDATA, MGONE, CDATA, PURGED, ROLLED, WBOK, WBNO, TOLD, BUSY, FDATA}
 use Rattle.sci_packets.specs.declared.node_id.TheConstants.{NO_NODE}
 use Rattle.sci_packets.specs.declared.fault.PacketFault.{PacketFault}
 use Rattle.sci_packets.specs.declared.fault.PacketFault.TheVariants.{Short, BadIdentifier}
@@ -36,9 +36,21 @@ parts_of Told = parts TOLD None None
 parts_of Busy = parts BUSY None None
 parts_of (Fdata old_head contents) = parts FDATA old_head (Some contents)
 
--- the commands below 0x0100 are requests, the others answers
+-- whether a body asks; the others answer
+abbrev pub is_request : Body → Bool
+is_request Mread = true
+is_request Cread = true
+is_request Purge = true
+is_request (Roll forward) = true
+is_request (Wback contents) = true
+is_request (Setback backward) = true
+is_request Fread = true
+is_request Claim = true
+is_request Clear = true
+is_request _ = false
+
 abbrev pub IsRequest : Body → Type 0
-IsRequest body = (parts_of body).command < FIRST_ANSWER
+IsRequest body = IsTrue (is_request body)
 
 -- the number of an identifier: 0xFFFF for none
 abbrev pub number_of : Option ℕ → ℕ

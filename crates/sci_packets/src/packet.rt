@@ -24,7 +24,15 @@ pub struct Packet {
 }
 
 impl Packet {
-    ghost use Rattle.std.specs.Prelude.{◌≡◌};
+    ghost use Rattle.std.specs.Prelude.{◌≡◌, ◌↔◌, IsTrue};
+    ghost use Rattle.sci_packets.specs.Table.{IsRequest};
+
+    /// Whether the packet asks something. Each other packet answers.
+    pub fn is_request(&self) -> bool
+        ensures { IsTrue result ↔ IsRequest self.now.body }
+    {
+        self.body.is_request()
+    }
 
     /// The packet with `body` that answers this one: from its target to its source, with its control and
     /// line.

@@ -120,3 +120,29 @@ pub fn body_of(command: u16, identifier: Option<NodeId>, bytes: &[u8]) -> Result
     };
     Ok(body)
 }
+
+impl Body {
+    ghost use Rattle.std.specs.Prelude.{◌<◌, ◌↔◌};
+    ghost use Rattle.sci_packets.specs.Table.{IsRequest};
+
+    /// Whether the packet asks something. Each other packet answers.
+    #[tactic(auto, unfolding(crate::specs::Table::parts_of))]
+    pub fn is_request(&self) -> bool
+        ensures request { IsTrue result ↔ IsRequest self.now }
+        // The requests are the commands below 0x0100.
+        ensures number { IsTrue result ↔ ((parts_of self.now).command < FIRST_ANSWER) }
+    {
+        matches!(
+            self,
+            Body::Mread
+                | Body::Cread
+                | Body::Purge
+                | Body::Roll { .. }
+                | Body::Wback(_)
+                | Body::Setback { .. }
+                | Body::Fread
+                | Body::Claim
+                | Body::Clear
+        )
+    }
+}
