@@ -5,3 +5,5 @@ pub mod Scripts
 pub mod LineLaws
 pub mod LineFaults
 pub mod ScriptText
+pub mod Unique
+pub mod Told

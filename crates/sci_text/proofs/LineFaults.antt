@@ -48,7 +48,7 @@ machine_range bytes a b c rest e short outside =
       λ limits. outside f.0 f.1 f.2 (f.4 ∙ fitting_below f.0 (omega (arith, limits.few_nodes))) (f.5 ∙ fitting_below f.1 (omega (arith, limits.few_lines))) (f.6 ∙ fitting_below f.2 (omega (arith, limits.few_slots))) limits,
     )
 
-fitting_some : (n m : ℕ) → fitting n ≡ Some m → n ≡ m
+pub fitting_some : (n m : ℕ) → fitting n ≡ Some m → n ≡ m
 fitting_some n m e = (cond_some (ltb n (2 ^ 64)) n m e).1
 
 pub machine_ok : (bytes : List ℕ) (a b c : Option ℕ) (rest : List ℕ) (n m k : ℕ) → machine_line_read bytes ≡ Some ((a, b, c), rest) → a ≡ Some n → b ≡ Some m → c ≡ Some k

@@ -20,7 +20,7 @@ text_grows s node op rest =
     let more : flat_map line_of (s.operations ++ (node, op) ∷ []) ≡ front ++ operation_line node op = flat_map-append line_of s.operations ((node, op) ∷ []) ∙ ap (λ (l : List ℕ). front ++ l) (append-nil (operation_line node op)) in
     ap (λ (l : List ℕ). (first ++ l) ++ rest) more ∙ simp append_assoc
 
-line_nonempty : (node : ℕ) (op : Op) → 0 < length (operation_line node op)
+pub line_nonempty : (node : ℕ) (op : Op) → 0 < length (operation_line node op)
 unfolding operation_line
 line_nonempty node op = omega arith
 

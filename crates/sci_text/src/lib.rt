@@ -2,12 +2,16 @@
 #![tactic(auto)]
 
 mod fault;
+mod laws;
 mod lines;
 mod number;
 mod operation;
+mod reading;
 mod script;
 mod tap;
 
 pub use fault::{TextFault, TextFaultKind};
+pub use laws::{no_fault, one_script};
+pub use reading::read_script;
 pub use script::{PushFault, Script};
 pub use tap::Tap;

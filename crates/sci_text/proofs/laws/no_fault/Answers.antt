@@ -1,0 +1,5 @@
+use Rattle.sci_text.proofs.Unique.{no_fault}
+use Rattle.sci_text.proofs.laws.no_fault.Goals as goal
+
+pub returns : goal.returns
+returns c = no_fault

@@ -1,0 +1,16 @@
+//! Laws of the definitions, each the contract of a function that does nothing.
+
+ghost use Rattle.std.specs.Prelude.{◌≡◌, ℕ};
+ghost use Rattle.sci_text.specs.declared.fault.TextFaultKind.{TextFaultKind};
+ghost use Rattle.sci_text.specs.Script.{ScriptValue, IsScript, script_text};
+ghost use Rattle.sci_text.specs.Fault.{IsLineFault};
+
+/// The text of a script determines the script.
+pub fn one_script()
+    ensures { (a b : ScriptValue) → IsScript a → IsScript b → script_text a ≡ script_text b → a ≡ b }
+{}
+
+/// The text of a script has no line with a fault.
+pub fn no_fault()
+    ensures { (s : ScriptValue) (line : ℕ) (kind : TextFaultKind) → IsScript s → IsLineFault (script_text s) line kind → ⊥ }
+{}

@@ -1,0 +1,72 @@
+//! Reading a script to its end, and judging it then.
+
+ghost use Rattle.std.specs.Prelude.{◌≡◌, ◌≤◌, false, length, IfOk, OnOk, IfErr, IfSome, Some};
+ghost use Rattle.std.specs.Io.KnownBytes.{IsAtEnd};
+ghost use Rattle.sci_words.specs.declared.limits.TheConstants.{MAX_INPUT_BYTES};
+ghost use Rattle.sci_text.specs.Tap.{tapped, has_failed};
+ghost use Rattle.sci_text.specs.Script.{ScriptValue, IsScript, script_text};
+ghost use Rattle.sci_text.specs.Fault.{IsInputFault, IsTold, IsReadAs};
+
+use crate::fault::{TextFault, TextFaultKind};
+use crate::lines;
+use crate::script::Script;
+use crate::tap::Tap;
+use sci_words::MAX_INPUT_BYTES;
+use std::alloc::Global;
+use std::io::Read;
+
+/// Bytes that are asked for in one read.
+const BLOCK_BYTES: usize = 65_536;
+
+/// All bytes that the reader has.
+fn read_input<R: Read>(alloc: Global, reader: &mut Tap<R>) -> Result<Vec<u8>, TextFault>
+    requires { has_failed reader.old ≡ false }
+    ensures bytes { IfOk result (λ bytes. IfSome (R.remaining (tapped reader.old)) (λ input. bytes.items ≡ input)) }
+    ensures few { IfOk result (λ bytes. length bytes.items ≤ MAX_INPUT_BYTES) }
+    ensures end { OnOk result (IsAtEnd (R.remaining (tapped reader.new))) }
+    ensures unfailed { OnOk result (has_failed reader.new ≡ false) }
+    ensures line { IfErr result (λ fault. fault.line ≡ 0) }
+    ensures fault { IfErr result (λ fault. IsInputFault fault.kind (R.remaining (tapped reader.old)) (has_failed reader.new)) }
+{
+    let mut input = Vec::new(alloc);
+    let mut block = [0u8; BLOCK_BYTES];
+    'reads: loop {
+        let Ok(count) = reader.read(&mut block) else {
+            return Err(TextFault::of_input(TextFaultKind::Read));
+        };
+        if count == 0 {
+            return Ok(input);
+        }
+        if count > MAX_INPUT_BYTES - input.len() {
+            return Err(TextFault::of_input(TextFaultKind::TooMany));
+        }
+        let Ok(()) = input.extend_from_slice(&block[..count]) else {
+            return Err(TextFault::of_input(TextFaultKind::Memory));
+        };
+    }
+}
+
+/// The script that the reader gives, read to its end. A refusal names the first fault and its line: Read where
+/// the reader failed, TooMany for an input above 134,217,728 bytes and Memory, all for the whole input; else
+/// the first faulty line, with Syntax before Range before TooMany. Memory is answered only where a growth was
+/// refused. The caller sees to it that the tap has not failed before.
+pub fn read_script<R: Read>(alloc: Global, reader: &mut Tap<R>) -> Result<Script, TextFault>
+    requires { has_failed reader.old ≡ false }
+
+    // The input is the text of the script.
+    ensures text { IfOk result (λ script. IfSome (R.remaining (tapped reader.old)) (λ input. input ≡ script_text script)) }
+    ensures few { IfOk result (λ script. length (script_text script) ≤ MAX_INPUT_BYTES) }
+    ensures good { IfOk result IsScript }
+    ensures end { OnOk result (IsAtEnd (R.remaining (tapped reader.new))) }
+    ensures unfailed { OnOk result (has_failed reader.new ≡ false) }
+
+    // Where it is the text of a script, that script is read.
+    ensures only { (script : ScriptValue) → IsScript script → length (script_text script) ≤ MAX_INPUT_BYTES
+        → R.remaining (tapped reader.old) ≡ Some (script_text script) → IsReadAs script result }
+
+    // Else the first fault is told.
+    ensures fault { IfErr result (λ fault. IsTold fault.kind (R.remaining (tapped reader.old)) (has_failed reader.new) fault.line) }
+{
+    let input = read_input(alloc, reader)?;
+    lines::script(alloc, &input)
+}
