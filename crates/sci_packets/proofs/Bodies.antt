@@ -4,10 +4,8 @@ use Rattle.std.specs.Prelude.{◌==◌, if◌then◌else◌, IfSome, unwrap_or}
 use Rattle.std.specs.Option.{is_some}
 use Rattle.sci_words.specs.declared.stamped.Stamped.{Stamped}
 use Rattle.sci_words.specs.Stamped.{zero_stamped}
-use Rattle.sci_packets.specs.declared.command.TheConstants.{MREAD, CREAD, PURGE, ROLL, WBACK, SETBACK, FREAD, CLAIM, CLEAR, MDATA, MGONE, CDATA, PURGED, ROLLED, WBOK, WBNO, TOLD, BUSY}
 use Rattle.sci_packets.specs.declared.body.Body.{Body}
 use Rattle.sci_packets.specs.declared.body.Body.TheVariants.{Mread, Cread, Purge, Roll, Wback, Setback, Fread, Claim, Clear, Mdata, Mgone, Cdata, Purged, Rolled, Wbok, Wbno, Told, Busy, Fdata}
-use Rattle.sci_packets.specs.declared.node_id.TheConstants.{NO_NODE}
 use Rattle.sci_packets.specs.declared.table.Parts.{Parts}
 use Rattle.sci_packets.specs.Fields.{word_bytes, contents_words}
 use Rattle.sci_packets.specs.Spelling.{IsContents}
@@ -20,24 +18,24 @@ body_from p =
     let c = p.command in
     let id = unwrap_or p.identifier 0 in
     let stamped = unwrap_or p.contents zero_stamped in
-    if c == MREAD then Mread
-    else (if c == CREAD then Cread
-    else (if c == PURGE then Purge
-    else (if c == ROLL then Roll p.identifier
-    else (if c == WBACK then Wback stamped
-    else (if c == SETBACK then Setback id
-    else (if c == FREAD then Fread
-    else (if c == CLAIM then Claim
-    else (if c == CLEAR then Clear
-    else (if c == MDATA then Mdata stamped
-    else (if c == MGONE then Mgone id
-    else (if c == CDATA then Cdata stamped
-    else (if c == PURGED then Purged p.identifier
-    else (if c == ROLLED then Rolled
-    else (if c == WBOK then Wbok
-    else (if c == WBNO then Wbno
-    else (if c == TOLD then Told
-    else (if c == BUSY then Busy
+    if c == 0x0001 then Mread
+    else (if c == 0x0002 then Cread
+    else (if c == 0x0003 then Purge
+    else (if c == 0x0004 then Roll p.identifier
+    else (if c == 0x0005 then Wback stamped
+    else (if c == 0x0006 then Setback id
+    else (if c == 0x0007 then Fread
+    else (if c == 0x0008 then Claim
+    else (if c == 0x0009 then Clear
+    else (if c == 0x0101 then Mdata stamped
+    else (if c == 0x0102 then Mgone id
+    else (if c == 0x0103 then Cdata stamped
+    else (if c == 0x0104 then Purged p.identifier
+    else (if c == 0x0105 then Rolled
+    else (if c == 0x0106 then Wbok
+    else (if c == 0x0107 then Wbno
+    else (if c == 0x0108 then Told
+    else (if c == 0x0109 then Busy
     else Fdata p.identifier stamped)))))))))))))))))
 
 body_from-parts_of : (body : Body) → body_from (parts_of body) ≡ body
@@ -104,11 +102,11 @@ is_known Busy = known _ refl refl refl (omega arith) (omega arith)
 is_known (Fdata old_head contents) = known _ refl refl refl (omega arith) (omega arith)
 
 -- identifiers by their numbers
-pub number_of-lt : (a : Option ℕ) → IfSome a (λ id. id < NO_NODE) → number_of a < 2 ^ 16
+pub number_of-lt : (a : Option ℕ) → IfSome a (λ id. id < 0xFFFF) → number_of a < 2 ^ 16
 number_of-lt None h = omega arith
 number_of-lt (Some id) h = omega (arith, h)
 
-pub same_identifier : (a b : Option ℕ) → IfSome a (λ id. id < NO_NODE) → IfSome b (λ id. id < NO_NODE) → number_of a ≡ number_of b → a ≡ b
+pub same_identifier : (a b : Option ℕ) → IfSome a (λ id. id < 0xFFFF) → IfSome b (λ id. id < 0xFFFF) → number_of a ≡ number_of b → a ≡ b
 same_identifier None None h k e = refl
 same_identifier None (Some b) h k e = absurd (omega (arith, k, e))
 same_identifier (Some a) None h k e = absurd (omega (arith, h, e))

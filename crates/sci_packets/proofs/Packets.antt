@@ -13,7 +13,6 @@ use Rattle.sci_words.specs.declared.stamped.Stamped.{Stamped}
 use Rattle.sci_packets.specs.declared.fault.PacketFault.{PacketFault}
 use Rattle.sci_packets.specs.declared.fault.PacketFault.TheVariants.{Short, UnknownCommand, BadOffset, BadIdentifier}
 use Rattle.sci_packets.specs.declared.header.Header.{Header}
-use Rattle.sci_packets.specs.declared.node_id.TheConstants.{NO_NODE}
 use Rattle.sci_packets.specs.declared.packet.Packet.{Packet}
 use Rattle.sci_packets.specs.declared.table.Parts.{Parts}
 use Rattle.sci_packets.specs.Fault.{header_fault, fault_of}
@@ -88,10 +87,10 @@ header_again p rest bytes h fits e =
     let long : 16 ≤ length bytes = omega (arith, ap (λ (b : List ℕ). length b) shown, length-spelled (header_of p) (text ++ rest)) in
     (header_cancel (header_in bytes) (header_of p) _ _ (header_in-fits bytes fits) (header_fits p h) (sym (header_takes bytes fits long) ∙ shown)).0
 
-eqb-below : (a : ℕ) → a < NO_NODE → eqb a NO_NODE ≡ false
+eqb-below : (a : ℕ) → a < 0xFFFF → eqb a 0xFFFF ≡ false
 eqb-below a h = grind (arith, nat_tests)
 
-identifier_again : (a : Option ℕ) → IfSome a (λ id. id < NO_NODE) → identifier_of (number_of a) ≡ a
+identifier_again : (a : Option ℕ) → IfSome a (λ id. id < 0xFFFF) → identifier_of (number_of a) ≡ a
 identifier_again None h = refl
 identifier_again (Some id) h = rw (eqb-below id h) refl
 
@@ -193,14 +192,14 @@ none_long bytes none =
     let a = passed (ltb n 16) Short (header_fault h n) none in
     let b = passed (not (is_command h.command)) UnknownCommand _ a.1 in
     let c = passed (not (eqb (h.offset % 64) 0)) BadOffset _ b.1 in
-    let d = passed (eqb h.target NO_NODE || eqb h.source NO_NODE) BadIdentifier (body_fault h.command (identifier_of h.identifier) n) c.1 in
+    let d = passed (eqb h.target 0xFFFF || eqb h.source 0xFFFF) BadIdentifier (body_fault h.command (identifier_of h.identifier) n) c.1 in
     let e = passed (is_misnamed h.command (identifier_of h.identifier)) BadIdentifier _ d.1 in
     let f = passed (takes_contents h.command && ltb n 88) Short None e.1 in
     not_short (takes_contents h.command) n (ltb-false n 16 a.0) f.0
 
 -- ---- the clauses of a decoder
 
-pub is_packet : (p : Packet) (bytes : List ℕ) → IsBytes bytes → header_of p ≡ header_in bytes → (parts_of p.body).contents ≡ contents_for (header_in bytes).command bytes → (p.target < NO_NODE) × (p.source < NO_NODE) → IfSome (parts_of p.body).identifier (λ id. id < NO_NODE) → IsPacket p
+pub is_packet : (p : Packet) (bytes : List ℕ) → IsBytes bytes → header_of p ≡ header_in bytes → (parts_of p.body).contents ≡ contents_for (header_in bytes).command bytes → (p.target < 0xFFFF) × (p.source < 0xFFFF) → IfSome (parts_of p.body).identifier (λ id. id < 0xFFFF) → IsPacket p
 is_packet p bytes fits e s nodes identifier = record {
   target = nodes.0;
   source = nodes.1;
@@ -256,12 +255,12 @@ pub header_made : (p : Packet) (parts : Parts) (t s i : ℕ) → parts ≡ parts
 header_made p parts t s i e f g k =
     same_header _ (header_of p) f (ap (λ (x : Parts). x.command) e) g refl refl (k ∙ ap (λ (x : Parts). number_of x.identifier) e)
 
-pub packet_made : (p : Packet) (parts : Parts) → parts ≡ parts_of p.body → p.target < NO_NODE → p.source < NO_NODE → p.control < 2 ^ 16 → IfSome parts.identifier (λ id. id < NO_NODE) → IfSome parts.contents IsContents → IsPacket p
+pub packet_made : (p : Packet) (parts : Parts) → parts ≡ parts_of p.body → p.target < 0xFFFF → p.source < 0xFFFF → p.control < 2 ^ 16 → IfSome parts.identifier (λ id. id < 0xFFFF) → IfSome parts.contents IsContents → IsPacket p
 packet_made p parts e target source control identifier contents = record {
   target = target;
   source = source;
   control = control;
-  identifier = subst (λ (x : Parts). IfSome x.identifier (λ id. id < NO_NODE)) e identifier;
+  identifier = subst (λ (x : Parts). IfSome x.identifier (λ id. id < 0xFFFF)) e identifier;
   contents = subst (λ (x : Parts). IfSome x.contents IsContents) e contents;
 }
 

@@ -3,7 +3,6 @@ use Rattle.std.specs.Prelude.{ℕ, ◌%◌, not, ◌||◌, nat_lt, ◌==◌, if�
 use Rattle.sci_packets.specs.declared.fault.PacketFault.{PacketFault}
 use Rattle.sci_packets.specs.declared.fault.PacketFault.TheVariants.{Short, UnknownCommand, BadOffset, BadIdentifier}
 use Rattle.sci_packets.specs.declared.header.Header.{Header}
-use Rattle.sci_packets.specs.declared.node_id.TheConstants.{NO_NODE}
 use Rattle.sci_packets.specs.Fields.{header_in, word_bytes}
 use Rattle.sci_packets.specs.Table.{identifier_of, is_command, body_fault}
 
@@ -12,7 +11,7 @@ unfoldable pub header_fault : Header → ℕ → Option PacketFault
 header_fault h length =
     if not (is_command h.command) then Some UnknownCommand
     else (if not (h.offset % 64 == 0) then Some BadOffset
-    else (if h.target == NO_NODE || h.source == NO_NODE then Some BadIdentifier
+    else (if h.target == 0xFFFF || h.source == 0xFFFF then Some BadIdentifier
     else body_fault h.command (identifier_of h.identifier) length))
 
 -- the first fault of bytes, None where a packet begins them

@@ -3,7 +3,6 @@ use Rattle.std.specs.Prelude.{ℕ, ◌≡◌, ◌<◌, ◌≤◌, ◌+◌, ◌*�
 use Rattle.sci_words.specs.declared.limits.TheConstants.{WORDS_PER_LINE}
 use Rattle.sci_words.specs.declared.stamped.Stamped.{Stamped}
 use Rattle.sci_packets.specs.declared.header.Header.{Header}
-use Rattle.sci_packets.specs.declared.node_id.TheConstants.{NO_NODE}
 use Rattle.sci_packets.specs.declared.packet.Packet.{Packet}
 use Rattle.sci_packets.specs.Fields.{spelled, word_bytes, contents_words}
 use Rattle.sci_packets.specs.Table.{parts_of, number_of}
@@ -15,10 +14,10 @@ pub record IsContents (stamped : Stamped) : Type 0 where
   pub words : (i : ℕ) → slice_index stamped.line i < 2 ^ 64
 
 pub record IsPacket (p : Packet) : Type 0 where
-  pub target : p.target < NO_NODE
-  pub source : p.source < NO_NODE
+  pub target : p.target < 0xFFFF
+  pub source : p.source < 0xFFFF
   pub control : p.control < 2 ^ 16
-  pub identifier : IfSome (parts_of p.body).identifier (λ id. id < NO_NODE)
+  pub identifier : IfSome (parts_of p.body).identifier (λ id. id < 0xFFFF)
   pub contents : IfSome (parts_of p.body).contents IsContents
 
 -- the header of a packet: the offset is the line's number times 64

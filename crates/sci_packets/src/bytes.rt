@@ -4,7 +4,6 @@ ghost use Rattle.std.specs.Prelude.{◌≡◌, ◌≤◌, ◌<◌, ◌↔◌, �
 ghost use Rattle.std.specs.Result.{result_err};
 ghost use Rattle.std.specs.Option.{is_some};
 ghost use Rattle.sci_packets.specs.declared.packet.Packet.{Packet};
-ghost use Rattle.sci_packets.specs.declared.node_id.TheConstants.{NO_NODE};
 ghost use Rattle.sci_packets.specs.Fault.{fault_of};
 ghost use Rattle.sci_packets.specs.Fields.{header_in, contents_for};
 ghost use Rattle.sci_packets.specs.Spelling.{IsPacket, Spells, NoneSpells, header_of, spelling};
@@ -63,7 +62,7 @@ fn size_of(body: &Body) -> usize
 /// The number of an identifier, 0xFFFF for none.
 fn number_in(identifier: Option<NodeId>) -> u16
     ensures number { result ≡ number_of identifier }
-    ensures below { IfSome identifier (λ id. id < NO_NODE) }
+    ensures below { IfSome identifier (λ id. id < 0xFFFF) }
 {
     match identifier {
         None => NO_NODE,
@@ -74,7 +73,7 @@ fn number_in(identifier: Option<NodeId>) -> u16
 /// The identifier of a node that must be there.
 fn node(number: u16) -> Result<NodeId, PacketFault>
     ensures node { IfOk result (λ id. id ≡ number) }
-    ensures below { IsOk result ↔ (number < NO_NODE) }
+    ensures below { IsOk result ↔ (number < 0xFFFF) }
     ensures fault { IfErr result (λ e. e ≡ PacketFault.BadIdentifier) }
 {
     NodeId::new(number).ok_or(PacketFault::BadIdentifier)
@@ -85,8 +84,8 @@ fn node(number: u16) -> Result<NodeId, PacketFault>
 fn packet_at(bytes: &[u8]) -> Result<Packet, PacketFault>
     ensures header { IfOk result (λ p. header_of p ≡ header_in bytes.now) }
     ensures contents { IfOk result (λ p. (parts_of p.body).contents ≡ contents_for (header_in bytes.now).command bytes.now) }
-    ensures nodes { IfOk result (λ p. (p.target < NO_NODE) × (p.source < NO_NODE)) }
-    ensures identifier { IfOk result (λ p. IfSome (parts_of p.body).identifier (λ id. id < NO_NODE)) }
+    ensures nodes { IfOk result (λ p. (p.target < 0xFFFF) × (p.source < 0xFFFF)) }
+    ensures identifier { IfOk result (λ p. IfSome (parts_of p.body).identifier (λ id. id < 0xFFFF)) }
     ensures fault { result_err result ≡ fault_of bytes.now }
 {
     if bytes.len() < SHORT {

@@ -1,4 +1,4 @@
-//! The numbers of the commands.
+//! The numbers of the commands: the requests are below 0x0100, the answers above. They are this project's own.
 
 pub const MREAD: u16 = 0x0001;
 
@@ -37,6 +37,3 @@ pub const TOLD: u16 = 0x0108;
 pub const BUSY: u16 = 0x0109;
 
 pub const FDATA: u16 = 0x010A;
-
-/// Commands below this are requests, the others answers.
-pub const FIRST_ANSWER: u16 = 0x0100;

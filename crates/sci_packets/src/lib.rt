@@ -19,3 +19,6 @@ pub use fault::PacketFault;
 pub use node_id::NodeId;
 pub use packet::Packet;
 pub use words::{from_words, to_words};
+
+#[cfg(test)]
+mod tests;

@@ -1,11 +1,10 @@
 //! Identifiers of nodes.
 
 ghost use Rattle.std.specs.Prelude.{◌≡◌, ◌<◌, ◌↔◌, IsSome, IfSome};
-ghost use Rattle.sci_packets.specs.declared.node_id.TheConstants.{NO_NODE};
 
 use std::marker::Model;
 
-/// The number that means no node where an identifier may be absent.
+/// The number that stands for no node.
 pub const NO_NODE: u16 = 0xFFFF;
 
 /// The identifier of a node, below 0xFFFF (IEEE Std 1596-1992: node identifiers have 16 bits). Contracts
@@ -17,13 +16,12 @@ pub struct NodeId {
 
 impl Model for NodeId {
     ghost use Rattle.std.specs.Prelude.{ℕ, ◌<◌};
-    ghost use Rattle.sci_packets.specs.declared.node_id.TheConstants.{NO_NODE};
 
     ghost Value = { ℕ };
 
     ghost view = { λ id. id.number };
 
-    ghost invariant = { λ id. id.number < NO_NODE };
+    ghost invariant = { λ id. id.number < 0xFFFF };
 
     ghost inverse = { λ number. record { number = number } };
 }
@@ -31,7 +29,7 @@ impl Model for NodeId {
 impl NodeId {
     /// The identifier with this number, or None where the number is 0xFFFF.
     pub fn new(number: u16) -> Option<NodeId>
-        ensures below { IsSome result ↔ (number < NO_NODE) }
+        ensures below { IsSome result ↔ (number < 0xFFFF) }
         ensures number { IfSome result (λ id. id ≡ number) }
     {
         if number == NO_NODE {
@@ -44,7 +42,7 @@ impl NodeId {
     /// The number of the identifier, below 0xFFFF.
     pub fn get(self) -> u16
         ensures number { result ≡ self }
-        ensures below { result < NO_NODE }
+        ensures below { result < 0xFFFF }
     {
         self.number
     }

@@ -130,7 +130,7 @@ impl Body {
     pub fn is_request(&self) -> bool
         ensures request { IsTrue result ↔ IsRequest self.now }
         // The requests are the commands below 0x0100.
-        ensures number { IsTrue result ↔ ((parts_of self.now).command < FIRST_ANSWER) }
+        ensures number { IsTrue result ↔ ((parts_of self.now).command < 0x0100) }
     {
         matches!(
             self,
