@@ -7,3 +7,4 @@ pub mod LineFaults
 pub mod ScriptText
 pub mod Unique
 pub mod Told
+pub mod OneFault

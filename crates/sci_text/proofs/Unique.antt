@@ -38,7 +38,7 @@ machine_fits n m c rest limits =
     machine_line_again n m c rest ∙ rw (a, b, d) refl
 
 -- two sizes, of which one is within its limits, have one line only if they are the same
-same_size : (n m c n' m' c' : ℕ) (rest rest' : List ℕ) → AreWithinLimits n m c → machine_line n m c ++ rest ≡ machine_line n' m' c' ++ rest'
+pub same_size : (n m c n' m' c' : ℕ) (rest rest' : List ℕ) → AreWithinLimits n m c → machine_line n m c ++ rest ≡ machine_line n' m' c' ++ rest'
     → (Some n ≡ fitting n') × (Some m ≡ fitting m') × (Some c ≡ fitting c') × (rest ≡ rest')
 same_size n m c n' m' c' rest rest' limits e =
     let read = sym (machine_fits n m c rest limits) ∙ ap machine_line_read e ∙ machine_line_again n' m' c' rest' in
@@ -47,16 +47,16 @@ same_size n m c n' m' c' rest rest' limits e =
 
 -- ---- the line of an operation
 
-abbrev LineFits : ℕ × Op → Type 0
+abbrev pub LineFits : ℕ × Op → Type 0
 LineFits p = (p.0 < 256) × OpFits p.1
 
-both_are : (o o' : Option (ℕ × Op)) (p q : ℕ × Op) (Q : Type 0) → LineFits p → SomeIff o (LineFits p) p → SomeIff o' Q q → o ≡ o' → p ≡ q
+pub both_are : (o o' : Option (ℕ × Op)) (p q : ℕ × Op) (Q : Type 0) → LineFits p → SomeIff o (LineFits p) p → SomeIff o' Q q → o ≡ o' → p ≡ q
 both_are None o' p q Q fits h k e = absurd (h fits)
 both_are (Some x) None p q Q fits h k e = absurd cc
 both_are (Some x) (Some y) p q Q fits h k e = sym h.1 ∙ same_Some x y e ∙ k.1
 
 -- what reads as an operation that fits is that operation
-same_operation : (p : ℕ × Op) (node : ℕ) (op : Op) (rest rest' : List ℕ) → LineFits p → line_of p ++ rest ≡ operation_line node op ++ rest' → (p ≡ (node, op)) × (rest ≡ rest')
+pub same_operation : (p : ℕ × Op) (node : ℕ) (op : Op) (rest rest' : List ℕ) → LineFits p → line_of p ++ rest ≡ operation_line node op ++ rest' → (p ≡ (node, op)) × (rest ≡ rest')
 same_operation p node op rest rest' fits e =
     let one = operation_line_again p.0 p.1 rest in
     let two = operation_line_again node op rest' in
@@ -83,11 +83,11 @@ shares P fits (a ∷ all) (b ∷ front) rest each e =
     let later = shares P fits all front rest each.1 one.1 in
     record { more = later.more; parts = ap (λ (x : ℕ × Op). x ∷ all) one.0 ∙ ap (λ (l : List (ℕ × Op)). b ∷ l) later.parts; left = later.left; each = later.each }
 
-within_fits : (s : ScriptValue) → IsScript s → (p : ℕ × Op) → IsWithin s.nodes s.lines p.0 p.1 → LineFits p
+pub within_fits : (s : ScriptValue) → IsScript s → (p : ℕ × Op) → IsWithin s.nodes s.lines p.0 p.1 → LineFits p
 within_fits s good p within =
     (omega (arith, within.known_node, good.size.few_nodes), (omega (arith, within.known_line, good.size.few_lines), omega (arith, within.known_word), within.words))
 
-abbrev Within : ScriptValue → ℕ × Op → Type 0
+abbrev pub Within : ScriptValue → ℕ × Op → Type 0
 Within s p = IsWithin s.nodes s.lines p.0 p.1
 
 -- a script whose text begins with the text of another, of the same machine
@@ -97,7 +97,7 @@ pub record Extends (s b : ScriptValue) (rest : List ℕ) : Type 0 where
   pub slots : s.slots ≡ b.slots
   pub shared : Shares (Within s) s.operations b.operations rest
 
-fitting_same : (n m : ℕ) → m < 2 ^ 64 → Some n ≡ fitting m → n ≡ m
+pub fitting_same : (n m : ℕ) → m < 2 ^ 64 → Some n ≡ fitting m → n ≡ m
 fitting_same n m below e = same_Some n m (e ∙ fitting_below m below)
 
 extends : (s b : ScriptValue) (rest : List ℕ) → IsScript s → IsScript b → script_text s ≡ script_text b ++ rest → Extends s b rest
@@ -118,13 +118,16 @@ none_left (p ∷ more) e = absurd (omega (arith, ap length e, length-append (lin
 value_of : ℕ → ℕ → ℕ → List (ℕ × Op) → ScriptValue
 value_of nodes lines slots operations = record { nodes = nodes; lines = lines; slots = slots; operations = operations }
 
-pub one_script : (a b : ScriptValue) → IsScript a → IsScript b → script_text a ≡ script_text b → a ≡ b
+pub same_value : (a b : ScriptValue) → a.nodes ≡ b.nodes → a.lines ≡ b.lines → a.slots ≡ b.slots → a.operations ≡ b.operations → a ≡ b
 unfolding value_of
+same_value a b nodes lines slots operations =
+    ap (λ (n : ℕ). value_of n a.lines a.slots a.operations) nodes ∙ ap (λ (n : ℕ). value_of b.nodes n a.slots a.operations) lines
+    ∙ ap (λ (n : ℕ). value_of b.nodes b.lines n a.operations) slots ∙ ap (λ (l : List (ℕ × Op)). value_of b.nodes b.lines b.slots l) operations
+
+pub one_script : (a b : ScriptValue) → IsScript a → IsScript b → script_text a ≡ script_text b → a ≡ b
 one_script a b good other e =
     let x = extends a b [] good other (e ∙ sym (append-nil (script_text b))) in
-    let operations : a.operations ≡ b.operations = x.shared.parts ∙ ap (λ (l : List (ℕ × Op)). b.operations ++ l) (none_left x.shared.more x.shared.left) ∙ append-nil b.operations in
-    ap (λ (n : ℕ). value_of n a.lines a.slots a.operations) x.nodes ∙ ap (λ (n : ℕ). value_of b.nodes n a.slots a.operations) x.lines
-    ∙ ap (λ (n : ℕ). value_of b.nodes b.lines n a.operations) x.slots ∙ ap (λ (l : List (ℕ × Op)). value_of b.nodes b.lines b.slots l) operations
+    same_value a b x.nodes x.lines x.slots (x.shared.parts ∙ ap (λ (l : List (ℕ × Op)). b.operations ++ l) (none_left x.shared.more x.shared.left) ∙ append-nil b.operations)
 
 -- ---- lines of scripts are short
 
@@ -193,18 +196,19 @@ line_is_short p fits =
 
 -- ---- no fault
 
-machine_faultless : (s : ScriptValue) (kind : TextFaultKind) → IsScript s → MachineFault (script_text s) kind → ⊥
-machine_faultless s Syntax good fault = fault s.nodes s.lines s.slots (record { rest = flat_map line_of s.operations; parts = refl; short = machine_short s.nodes s.lines s.slots good.size })
-machine_faultless s Range good fault =
-    let same = same_size s.nodes s.lines s.slots fault.0 fault.1 fault.2 (flat_map line_of s.operations) fault.3.rest good.size fault.3.parts in
-    let nodes = fitting_some fault.0 s.nodes (sym same.0) in
-    let lines = fitting_some fault.1 s.lines (sym same.1) in
-    let slots = fitting_some fault.2 s.slots (sym same.2) in
-    fault.4 (rw (nodes, lines, slots) good.size)
-machine_faultless s TooMany good fault = fault
-machine_faultless s Read good fault = fault
-machine_faultless s Write good fault = fault
-machine_faultless s Memory good fault = fault
+-- bytes that begin with the line of a size within its limits have no fault there
+pub machine_faultless : (n m c : ℕ) (tail bytes : List ℕ) (kind : TextFaultKind) → AreWithinLimits n m c → bytes ≡ machine_line n m c ++ tail → MachineFault bytes kind → ⊥
+machine_faultless n m c tail bytes Syntax limits parts fault = fault n m c (record { rest = tail; parts = parts; short = machine_short n m c limits })
+machine_faultless n m c tail bytes Range limits parts fault =
+    let same = same_size n m c fault.0 fault.1 fault.2 tail fault.3.rest limits (sym parts ∙ fault.3.parts) in
+    let nodes = fitting_some fault.0 n (sym same.0) in
+    let lines = fitting_some fault.1 m (sym same.1) in
+    let slots = fitting_some fault.2 c (sym same.2) in
+    fault.4 (rw (nodes, lines, slots) limits)
+machine_faultless n m c tail bytes TooMany limits parts fault = fault
+machine_faultless n m c tail bytes Read limits parts fault = fault
+machine_faultless n m c tail bytes Write limits parts fault = fault
+machine_faultless n m c tail bytes Memory limits parts fault = fault
 
 count_front : (m : ℕ) (front more : List (ℕ × Op)) (p : ℕ × Op) → p.0 ≡ m → count_of m front < count_of m (front ++ p ∷ more)
 count_front m front more p same =
@@ -212,29 +216,30 @@ count_front m front more p same =
     let one : f p ≡ 1 = ap (λ b. cond b 1 0) (eq-eqb p.0 m same) in
     omega (arith, sum_by-append f front (p ∷ more), sum_by-append f (p ∷ []) more, one)
 
-goes_on_faultless : (s b : ScriptValue) (p : ℕ × Op) (more : List (ℕ × Op)) (rest : List ℕ) (kind : TextFaultKind) → IsScript s → s.nodes ≡ b.nodes → s.lines ≡ b.lines
-    → s.operations ≡ b.operations ++ p ∷ more → rest ≡ line_of p ++ flat_map line_of more → Within s p → OperationFault b rest kind → ⊥
-goes_on_faultless s b p more rest Syntax good en em parts left within fault = fault p.0 p.1 (record { rest = flat_map line_of more; parts = left; short = line_is_short p (within_fits s good p within) })
-goes_on_faultless s b p more rest Range good en em parts left within fault =
-    let same = same_operation p fault.0 fault.1 (flat_map line_of more) fault.2.rest (within_fits s good p within) (sym left ∙ fault.2.parts) in
+-- where a script goes on with an operation, its line has no fault
+pub goes_on_faultless : (s b : ScriptValue) (p : ℕ × Op) (more : List (ℕ × Op)) (tail rest : List ℕ) (kind : TextFaultKind) → IsScript s → s.nodes ≡ b.nodes → s.lines ≡ b.lines
+    → s.operations ≡ b.operations ++ p ∷ more → rest ≡ line_of p ++ tail → Within s p → OperationFault b rest kind → ⊥
+goes_on_faultless s b p more tail rest Syntax good en em parts left within fault = fault p.0 p.1 (record { rest = tail; parts = left; short = line_is_short p (within_fits s good p within) })
+goes_on_faultless s b p more tail rest Range good en em parts left within fault =
+    let same = same_operation p fault.0 fault.1 tail fault.2.rest (within_fits s good p within) (sym left ∙ fault.2.parts) in
     fault.3 (subst (λ (q : ℕ × Op). IsWithin b.nodes b.lines q.0 q.1) same.0 (rw (← en, ← em) within))
-goes_on_faultless s b p more rest TooMany good en em parts left within fault =
-    let same = same_operation p fault.0 fault.1 (flat_map line_of more) fault.2.rest (within_fits s good p within) (sym left ∙ fault.2.parts) in
+goes_on_faultless s b p more tail rest TooMany good en em parts left within fault =
+    let same = same_operation p fault.0 fault.1 tail fault.2.rest (within_fits s good p within) (sym left ∙ fault.2.parts) in
     let node : p.0 ≡ fault.0 = ap (λ (q : ℕ × Op). q.0) same.0 in
     let fewer : count_of fault.0 b.operations < count_of fault.0 s.operations = rw parts (count_front fault.0 b.operations more p node) in
     let known : fault.0 < s.nodes = rw (← node) within.known_node in
     absurd (omega (arith, good.counts fault.0 known, fewer, fault.4))
-goes_on_faultless s b p more rest Read good en em parts left within fault = fault
-goes_on_faultless s b p more rest Write good en em parts left within fault = fault
-goes_on_faultless s b p more rest Memory good en em parts left within fault = fault
+goes_on_faultless s b p more tail rest Read good en em parts left within fault = fault
+goes_on_faultless s b p more tail rest Write good en em parts left within fault = fault
+goes_on_faultless s b p more tail rest Memory good en em parts left within fault = fault
 
 after_faultless : (s b : ScriptValue) (more : List (ℕ × Op)) (rest : List ℕ) (kind : TextFaultKind) → IsScript s → s.nodes ≡ b.nodes → s.lines ≡ b.lines
     → s.operations ≡ b.operations ++ more → rest ≡ flat_map line_of more → AllByRecursion (Within s) more → 0 < length rest → OperationFault b rest kind → ⊥
 after_faultless s b [] rest kind good en em parts left each goes_on fault = absurd (omega (arith, ap length left))
-after_faultless s b (p ∷ more) rest kind good en em parts left each goes_on fault = goes_on_faultless s b p more rest kind good en em parts left each.0 fault
+after_faultless s b (p ∷ more) rest kind good en em parts left each goes_on fault = goes_on_faultless s b p more (flat_map line_of more) rest kind good en em parts left each.0 fault
 
 pub no_fault : (s : ScriptValue) (line : ℕ) (kind : TextFaultKind) → IsScript s → IsLineFault (script_text s) line kind → ⊥
-no_fault s line kind good (inl first) = machine_faultless s kind good first.1
+no_fault s line kind good (inl first) = machine_faultless s.nodes s.lines s.slots (flat_map line_of s.operations) (script_text s) kind good.size refl first.1
 no_fault s line kind good (inr f) =
     let x = extends s f.before f.rest good f.good f.parts in
     after_faultless s f.before x.shared.more f.rest kind good x.nodes x.lines x.shared.parts x.shared.left x.shared.each f.goes_on f.fault

@@ -1,6 +1,6 @@
 //! Laws of the definitions, each the contract of a function that does nothing.
 
-ghost use Rattle.std.specs.Prelude.{◌≡◌, ℕ};
+ghost use Rattle.std.specs.Prelude.{◌≡◌, ℕ, List};
 ghost use Rattle.sci_text.specs.declared.fault.TextFaultKind.{TextFaultKind};
 ghost use Rattle.sci_text.specs.Script.{ScriptValue, IsScript, script_text};
 ghost use Rattle.sci_text.specs.Fault.{IsLineFault};
@@ -13,4 +13,9 @@ pub fn one_script()
 /// The text of a script has no line with a fault.
 pub fn no_fault()
     ensures { (s : ScriptValue) (line : ℕ) (kind : TextFaultKind) → IsScript s → IsLineFault (script_text s) line kind → ⊥ }
+{}
+
+/// Bytes have at most one first faulty line, and one fault there.
+pub fn one_fault()
+    ensures { (input : List ℕ) (l m : ℕ) (k j : TextFaultKind) → IsLineFault input l k → IsLineFault input m j → (l ≡ m) × (k ≡ j) }
 {}

@@ -11,7 +11,10 @@ mod script;
 mod tap;
 
 pub use fault::{TextFault, TextFaultKind};
-pub use laws::{no_fault, one_script};
+pub use laws::{no_fault, one_fault, one_script};
 pub use reading::read_script;
 pub use script::{PushFault, Script};
 pub use tap::Tap;
+
+#[cfg(test)]
+mod tests;

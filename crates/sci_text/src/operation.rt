@@ -84,38 +84,28 @@ fn operands(command: Command, bytes: &[u8]) -> Option<(Option<Act>, &[u8])>
         }
         Command::FetchAdd => {
             let (datum, rest) = field(bytes)?;
-            Some((
-                datum.map(|datum| Act::Lock(LockOp::FetchAdd { datum })),
-                rest,
-            ))
+            let act = datum.map(|datum| Act::Lock(LockOp::FetchAdd { datum }));
+            Some((act, rest))
         }
         Command::MaskSwap => {
             let (numbers, rest) = pair(bytes)?;
-            Some((
-                numbers.map(|(arg, datum)| Act::Lock(LockOp::MaskSwap { arg, datum })),
-                rest,
-            ))
+            let act = numbers.map(|(arg, datum)| Act::Lock(LockOp::MaskSwap { arg, datum }));
+            Some((act, rest))
         }
         Command::CompareSwap => {
             let (numbers, rest) = pair(bytes)?;
-            Some((
-                numbers.map(|(arg, datum)| Act::Lock(LockOp::CompareSwap { arg, datum })),
-                rest,
-            ))
+            let act = numbers.map(|(arg, datum)| Act::Lock(LockOp::CompareSwap { arg, datum }));
+            Some((act, rest))
         }
         Command::BoundedAdd => {
             let (numbers, rest) = pair(bytes)?;
-            Some((
-                numbers.map(|(arg, datum)| Act::Lock(LockOp::BoundedAdd { arg, datum })),
-                rest,
-            ))
+            let act = numbers.map(|(arg, datum)| Act::Lock(LockOp::BoundedAdd { arg, datum }));
+            Some((act, rest))
         }
         Command::WrapAdd => {
             let (numbers, rest) = pair(bytes)?;
-            Some((
-                numbers.map(|(arg, datum)| Act::Lock(LockOp::WrapAdd { arg, datum })),
-                rest,
-            ))
+            let act = numbers.map(|(arg, datum)| Act::Lock(LockOp::WrapAdd { arg, datum }));
+            Some((act, rest))
         }
     }
 }

@@ -1,0 +1,5 @@
+use Rattle.sci_text.proofs.OneFault.{one_fault}
+use Rattle.sci_text.proofs.laws.one_fault.Goals as goal
+
+pub returns : goal.returns
+returns c = one_fault
