@@ -79,6 +79,15 @@ impl Logs {
         push_entry(log, entry)
     }
 
+    /// The number of logs, which is 16.
+    pub fn nodes(&self) -> u8
+        ensures nodes { result ≡ length self.now }
+        ensures sixteen { result ≡ MAX_NODES }
+    {
+        let _ = &self.lists;
+        MAX_NODES
+    }
+
     /// The log of a node, in the order in which its operations were performed. The caller sees to it that the
     /// node is below 16.
     pub fn of(&self, node: u8) -> &[Entry]

@@ -8,3 +8,5 @@ pub mod ScriptText
 pub mod Unique
 pub mod Told
 pub mod OneFault
+pub mod Digits
+pub mod LogLines

@@ -28,16 +28,16 @@ with_digit-fitting n b =
 is_digit-add : (d : ℕ) → d < 10 → is_digit (48 + d) ≡ true
 is_digit-add d h = grind (arith, nat_tests)
 
-abbrev glyph : ℕ → ℕ
+abbrev pub glyph : ℕ → ℕ
 glyph d = 48 + d
 
-number_pos : (n : ℕ) → 0 < n → number n ≡ map glyph (digits_of 10 n)
+pub number_pos : (n : ℕ) → 0 < n → number n ≡ map glyph (digits_of 10 n)
 unfolding number
 number_pos zero h = absurd (omega arith)
 number_pos (suc n) h = refl
 
 -- one more digit at the end
-number_step : (n d : ℕ) → 0 < n → d < 10 → number (n * 10 + d) ≡ number n ++ glyph d ∷ []
+pub number_step : (n d : ℕ) → 0 < n → d < 10 → number (n * 10 + d) ≡ number n ++ glyph d ∷ []
 number_step n d pos small =
     let cut : digits_of 10 (n * 10 + d) ≡ digits_of 10 n ++ d ∷ [] =
     digits_of_step 10 (n * 10 + d) (omega arith) (omega arith)

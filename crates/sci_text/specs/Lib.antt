@@ -4,3 +4,4 @@ pub mod Operation
 pub mod Reading
 pub mod Script
 pub mod Tap
+pub mod Log

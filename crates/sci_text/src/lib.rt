@@ -6,15 +6,18 @@ mod laws;
 mod lines;
 mod number;
 mod operation;
+mod printing;
 mod reading;
 mod script;
 mod tap;
+mod writing;
 
 pub use fault::{TextFault, TextFaultKind};
 pub use laws::{no_fault, one_fault, one_script};
 pub use reading::read_script;
 pub use script::{PushFault, Script};
 pub use tap::Tap;
+pub use writing::{write_logs, write_text};
 
 #[cfg(test)]
 mod tests;

@@ -35,6 +35,14 @@ impl Line {
         }
     }
 
+    /// The eight words.
+    pub fn words(&self) -> &[Word]
+        ensures words { result.now ≡ self.now }
+        ensures width { length self.now ≡ WORDS_PER_LINE }
+    {
+        &self.words
+    }
+
     /// The word at place `i`, counted from 0. The caller sees to it that `i` is below eight.
     pub fn word(&self, i: u8) -> Word
         requires { i < WORDS_PER_LINE }

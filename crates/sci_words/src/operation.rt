@@ -1,7 +1,7 @@
 //! Operations on one word of a line, and the table of what each does.
 
-ghost use Rattle.std.specs.Prelude.{◌≡◌, ◌↔◌, IsTrue};
-ghost use Rattle.sci_words.specs.Operation.{effect as effect_of, IsMaker};
+ghost use Rattle.std.specs.Prelude.{◌≡◌};
+ghost use Rattle.sci_words.specs.Operation.{effect as effect_of, is_maker as is_maker_of};
 
 use crate::line::Word;
 
@@ -56,7 +56,7 @@ impl Op {
     /// Whether the operation makes a new version of its line: a store or a lock operation, also where the
     /// word keeps its value.
     pub fn is_maker(&self) -> bool
-        ensures { IsTrue result ↔ IsMaker self.now }
+        ensures { result ≡ is_maker_of self.now }
     {
         !matches!(self.act, Act::Load)
     }

@@ -1,0 +1,30 @@
+# The targets need Rattle's command `rt` (README.md, "What you need").
+
+NEED_RT = command -v rt > /dev/null || { echo "rt is missing: put the bin folder of a Rattle kit (rattle-kit-13b or later) on your PATH"; exit 1; }
+
+.PHONY: run test check fmt clean
+
+# Builds the program and runs its stored example.
+run:
+	@$(NEED_RT)
+	@if [ -f crates/scimem/src/main.rt ]; then cd crates/scimem && rt run < stdin; else echo "scimem isn't built yet: there is nothing to run"; fi
+
+# The gate: every proof from nothing, the edits that must fail, the tests and the program.
+test:
+	@$(NEED_RT)
+	@rt ci
+
+# Every crate, over what earlier checks kept.
+check:
+	@$(NEED_RT)
+	@rt all check
+
+# Lays out every crate's files.
+fmt:
+	@$(NEED_RT)
+	@for crate in crates/*/; do (cd "$$crate" && rt fmt) || exit 1; done
+
+# Removes what checks and builds made.
+clean:
+	@$(NEED_RT)
+	@rm -rf crates/*/out
