@@ -1,0 +1,5 @@
+pub mod Answered
+pub mod Numbers
+pub mod OneDecoding
+pub mod Runs
+pub mod Written

@@ -1,0 +1,8 @@
+-- The words of a command line.
+use Rattle.std.specs.Prelude.{ℕ, List, [], ◌∷◌, codes}
+use Rattle.scimem.specs.declared.choice.Command.{Command}
+use Rattle.scimem.specs.declared.choice.Command.TheVariants.{Decode}
+
+-- the words that choose a command
+abbrev pub words_of : Command → List (List ℕ)
+words_of Decode = codes "decode" ∷ []

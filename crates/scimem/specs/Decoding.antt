@@ -1,0 +1,92 @@
+-- What is written for bytes that may be a run of packets.
+use Rattle.std.specs.Prelude.{◌≡◌, ℕ, ◌<◌, ◌≤◌, ◌⊎◌, Bool, true, false, List, [], ◌∷◌, ◌++◌, length, codes, All, Option, Some, IfSome}
+use Rattle.std.specs.List.{flat_map}
+use Rattle.sci_words.specs.declared.limits.TheConstants.{MAX_INPUT_BYTES}
+use Rattle.sci_text.specs.Number.{field}
+use Rattle.sci_packets.specs.declared.fault.PacketFault.{PacketFault}
+use Rattle.sci_packets.specs.declared.fault.PacketFault.TheVariants.{Short, UnknownCommand, BadOffset, BadIdentifier}
+use Rattle.sci_packets.specs.declared.packet.Packet.{Packet}
+use Rattle.sci_packets.specs.Fault.{fault_of}
+use Rattle.sci_packets.specs.Spelling.{IsPacket, NoneSpells, spelling}
+use Rattle.scimem.specs.declared.outcome.Outcome.{Outcome}
+use Rattle.scimem.specs.declared.outcome.Outcome.TheVariants.{Done, Refused}
+use Rattle.scimem.specs.declared.reading.InputFault.{InputFault}
+use Rattle.scimem.specs.declared.reading.InputFault.TheVariants as inputs
+use Rattle.scimem.specs.PacketLine.{packet_line}
+
+-- the word for what is wrong with a packet
+unfoldable pub fault_word : PacketFault → List ℕ
+fault_word Short = codes "short"
+fault_word UnknownCommand = codes "unknown-command"
+fault_word BadOffset = codes "bad-offset"
+fault_word BadIdentifier = codes "bad-identifier"
+
+-- `refused at byte K: WORD`, and the line feed
+unfoldable pub refusal : ℕ → List ℕ → List ℕ
+refusal place word = codes "refused at byte" ++ (field place ++ (codes ": " ++ (word ++ 10 ∷ [])))
+
+-- the bytes of packets, one after another
+abbrev pub spellings : List Packet → List ℕ
+spellings packets = flat_map spelling packets
+
+-- the lines of packets, one after another
+abbrev pub packet_lines : List Packet → List ℕ
+packet_lines packets = flat_map packet_line packets
+
+-- bytes begin with packets and go on with the rest
+pub record RunThen (input : List ℕ) (packets : List Packet) (rest : List ℕ) : Type 0 where
+  pub each : All IsPacket packets
+  pub parts : input ≡ spellings packets ++ rest
+
+-- the bytes are a run of packets, of which the text has the lines
+pub record IsRun (input text : List ℕ) : Type 0 where
+  pub packets : List Packet
+  pub run : RunThen input packets []
+  pub lines : text ≡ packet_lines packets
+
+-- Behind packets the bytes go on with what is no packet. The text has the packets' lines, and then the refusal
+-- at the place where the rest begins.
+pub record IsRunThenFault (input text : List ℕ) : Type 0 where
+  pub packets : List Packet
+  pub rest : List ℕ
+  pub fault : PacketFault
+  pub run : RunThen input packets rest
+  pub goes_on : 0 < length rest
+  pub none : NoneSpells rest
+  pub found : fault_of rest ≡ Some fault
+  pub lines : text ≡ packet_lines packets ++ refusal (length (spellings packets)) (fault_word fault)
+
+-- the text for bytes, and how the command ends: Done for a run of packets, else Refused
+abbrev pub IsDecoded : List ℕ → List ℕ → Outcome → Type 0
+IsDecoded input text outcome = (IsRun input text × (outcome ≡ Done)) ⊎ (IsRunThenFault input text × (outcome ≡ Refused))
+
+-- the word for why an input can't be read
+unfoldable pub input_fault_word : InputFault → List ℕ
+input_fault_word inputs.Read = codes "read"
+input_fault_word inputs.TooMany = codes "too-many"
+input_fault_word inputs.Memory = codes "memory"
+
+-- why an input can't be read: the reader failed, it gives too many bytes, or memory was refused
+abbrev pub IsInputFault : InputFault → Option (List ℕ) → Bool → Type 0
+IsInputFault inputs.Read known failed = failed ≡ true
+IsInputFault inputs.TooMany known failed = (failed ≡ false) × IfSome known (λ input. MAX_INPUT_BYTES < length input)
+IsInputFault inputs.Memory known failed = failed ≡ false
+
+-- the text is the refusal of an input that can't be read
+pub record IsInputRefusal (known : Option (List ℕ)) (failed : Bool) (text : List ℕ) : Type 0 where
+  pub fault : InputFault
+  pub why : IsInputFault fault known failed
+  pub line : text ≡ refusal 0 (input_fault_word fault)
+
+-- the text is that of the input, which isn't too long, and the input is the one that is known, where it is
+pub record IsInputDecoded (known : Option (List ℕ)) (text : List ℕ) (outcome : Outcome) : Type 0 where
+  pub input : List ℕ
+  pub same : IfSome known (λ bytes. input ≡ bytes)
+  pub few : length input ≤ MAX_INPUT_BYTES
+  pub decoded : IsDecoded input text outcome
+
+-- The text that is written, and how the command ends, for an input that is known or not, by a reader that then
+-- has failed or not.
+abbrev pub IsAnswer : Option (List ℕ) → Bool → List ℕ → Outcome → Type 0
+IsAnswer known failed text outcome =
+    ((failed ≡ false) × IsInputDecoded known text outcome) ⊎ (IsInputRefusal known failed text × (outcome ≡ Refused))

@@ -1,0 +1,5 @@
+pub mod Choice
+pub mod Decoding
+pub mod PacketLine
+pub mod Status
+pub mod Writing

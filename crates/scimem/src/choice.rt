@@ -1,0 +1,36 @@
+//! The words of the command line.
+
+ghost use Rattle.std.specs.Prelude.{◌≡◌, ◌↔◌, Some, map};
+ghost use Rattle.scimem.specs.declared.choice.Command.{Command};
+ghost use Rattle.scimem.specs.Choice.{words_of};
+
+use std::rt::Env;
+use std::{env, io};
+
+/// The words that the program knows.
+pub const USAGE: &str = "usage: scimem decode";
+
+/// What the program is asked to do.
+#[derive(Clone, Copy, Debug, PartialEq, Eq)]
+pub enum Command {
+    /// Write a line for each packet of the input.
+    Decode,
+}
+
+/// The command that the words of the command line choose, the program's own name left out.
+pub fn chosen(words: &[&str]) -> Option<Command>
+    ensures { (command : Command) → (result ≡ Some command) ↔ (map (λ word. word.now) words.now ≡ words_of command) }
+{
+    match words {
+        ["decode"] => Some(Command::Decode),
+        _ => None,
+    }
+}
+
+/// The command that the program was asked to do, or None where the command line chooses none. It fails where
+/// the command line can't be read.
+pub fn asked(rt: &(impl Env + AllocGlobal)) -> io::Result<Option<Command>> {
+    let words: Vec<String> = env::args(rt)?.skip(1).collect(rt.alloc())?;
+    let texts: Vec<&str> = words.iter().map(|word| word.as_str()).collect(rt.alloc())?;
+    Ok(chosen(&texts))
+}

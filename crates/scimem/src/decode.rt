@@ -1,0 +1,124 @@
+//! The command `decode`: a line for each packet.
+
+ghost use Rattle.std.specs.Prelude.{◌≡◌, ◌++◌, ℕ, List, false, true, OnOk, IfOk, IfErr};
+ghost use Rattle.std.specs.Io.KnownBytes.{Appends};
+ghost use Rattle.sci_text.specs.Tap.{tapped, has_failed};
+ghost use Rattle.scimem.specs.declared.outcome.Outcome.{Outcome};
+ghost use Rattle.scimem.specs.Writing.{WritesFront};
+ghost use Rattle.scimem.specs.Decoding.{IsDecoded, IsInputDecoded, IsInputFault, IsAnswer, refusal, fault_word, input_fault_word};
+
+use crate::outcome::Outcome;
+use crate::packet_line::push_packet;
+use crate::printing::push_labelled;
+use crate::reading::{InputFault, read_all};
+use crate::writing::write_answer;
+use sci_packets::{PacketFault, decode};
+use sci_text::Tap;
+use std::alloc::{AllocError, Global};
+use std::io::{Read, Write};
+
+/// The word for what is wrong with a packet.
+#[tactic(auto, unfolding(crate::specs::Decoding::fault_word))]
+fn word_of(fault: PacketFault) -> &'static [u8]
+    ensures { result.now ≡ fault_word fault }
+{
+    match fault {
+        PacketFault::Short => b"short",
+        PacketFault::UnknownCommand => b"unknown-command",
+        PacketFault::BadOffset => b"bad-offset",
+        PacketFault::BadIdentifier => b"bad-identifier",
+    }
+}
+
+/// Writes the refusal of a packet that begins at `place`.
+#[tactic(auto, unfolding(crate::specs::Decoding::refusal))]
+fn push_refusal(out: &mut Vec<u8>, place: u64, fault: PacketFault) -> Result<(), AllocError>
+    ensures { OnOk result (out.new.items ≡ out.old.items ++ refusal place (fault_word fault)) }
+{
+    push_labelled(out, b"refused at byte", place)?;
+    out.extend_from_slice(b": ")?;
+    out.extend_from_slice(word_of(fault))?;
+    out.push(b'\n')?;
+    Ok(())
+}
+
+/// The refusal of an input that couldn't be read.
+#[tactic(auto, unfolding(crate::specs::Decoding::refusal, crate::specs::Decoding::input_fault_word, sci_text::specs::Number::number, sci_text::specs::Number::field))]
+fn input_refusal(fault: InputFault) -> &'static [u8]
+    ensures { result.now ≡ refusal 0 (input_fault_word fault) }
+{
+    match fault {
+        InputFault::Read => b"refused at byte 0: read\n",
+        InputFault::TooMany => b"refused at byte 0: too-many\n",
+        InputFault::Memory => b"refused at byte 0: memory\n",
+    }
+}
+
+/// The text for bytes, and how the command ends.
+fn text_of(alloc: Global, input: &[u8]) -> Result<(Vec<u8>, Outcome), AllocError>
+    ensures { IfOk result (λ x. IsDecoded input.now x.0.items x.1) }
+{
+    let mut out = Vec::new(alloc);
+    let mut rest = input;
+    while !rest.is_empty() {
+        match decode(rest) {
+            Ok((packet, len)) => {
+                push_packet(&mut out, &packet)?;
+                rest = &rest[len..];
+            }
+            Err(fault) => {
+                push_refusal(&mut out, (input.len() - rest.len()) as u64, fault)?;
+                return Ok((out, Outcome::Refused));
+            }
+        }
+    }
+    Ok((out, Outcome::Done))
+}
+
+/// The text for the input that the reader gives, read to its end, and how the command ends.
+fn answer<R: Read>(alloc: Global, reader: &mut Tap<R>) -> Result<(Vec<u8>, Outcome), InputFault>
+    requires { has_failed reader.old ≡ false }
+    ensures text { IfOk result (λ x. IsInputDecoded (R.remaining (tapped reader.old)) x.0.items x.1) }
+    ensures unfailed { OnOk result (has_failed reader.new ≡ false) }
+    ensures fault { IfErr result (λ fault. IsInputFault fault (R.remaining (tapped reader.old)) (has_failed reader.new)) }
+{
+    let input = read_all(alloc, reader)?;
+    match text_of(alloc, &input) {
+        Ok(answer) => Ok(answer),
+        Err(_) => Err(InputFault::Memory),
+    }
+}
+
+/// Reads the input to its end, and writes a line for each packet: `NAME to T from S control K line L`, then
+/// ` id I` or ` id none` where the command uses its identifier, and ` @V w0 w1 w2 w3 w4 w5 w6 w7` where it
+/// carries contents, all in decimal. A run of packets is Done.
+///
+/// Refused, with one more line: `refused at byte K: KIND` at the first byte of what is no packet, where KIND is
+/// `short`, `unknown-command`, `bad-offset` or `bad-identifier`; and, with no line before it, `refused at byte
+/// 0: KIND` where the reader fails (`read`), for an input of more than 134,217,728 bytes (`too-many`), and where
+/// memory is refused (`memory`). After a failed write nothing more is written, and it is Refused. The caller
+/// sees to it that neither tap has failed before.
+pub fn decode_bytes<R: Read, W: Write>(
+    alloc: Global,
+    reader: &mut Tap<R>,
+    writer: &mut Tap<W>,
+) -> Outcome
+    requires reader { has_failed reader.old ≡ false }
+    requires writer { has_failed writer.old ≡ false }
+
+    // The answer to the input is written, and nothing else.
+    ensures written { has_failed writer.new ≡ false → (text : List ℕ)
+        × Appends (W.contents (tapped writer.old)) (W.contents (tapped writer.new)) text
+        × IsAnswer (R.remaining (tapped reader.old)) (has_failed reader.new) text result }
+
+    // Where a write fails, a front of it is.
+    ensures front { (text : List ℕ) × (outcome : Outcome)
+        × WritesFront (W.contents (tapped writer.old)) (W.contents (tapped writer.new)) text
+        × IsAnswer (R.remaining (tapped reader.old)) (has_failed reader.new) text outcome }
+    ensures failed { has_failed writer.new ≡ true → result ≡ Outcome.Refused }
+{
+    match answer(alloc, reader) {
+        Ok((text, outcome)) => write_answer(writer, &text, outcome),
+        Err(fault) => write_answer(writer, input_refusal(fault), Outcome::Refused),
+    }
+}

@@ -1,0 +1,32 @@
+//! The program `scimem`: it reads standard input, and writes standard output.
+#![tactic(auto)]
+
+mod choice;
+mod decode;
+mod laws;
+mod outcome;
+mod packet_line;
+mod printing;
+mod reading;
+mod writing;
+
+use choice::{Command, USAGE, asked};
+use decode::decode_bytes;
+use sci_text::Tap;
+use std::process::ExitCode;
+
+#[cfg(test)]
+mod tests;
+
+fn main(rt: HostRuntime) -> ExitCode {
+    let Ok(Some(command)) = asked(&rt) else {
+        let _ = eprintln!(rt; "{USAGE}");
+        return ExitCode::from(2);
+    };
+    let mut reader = Tap::new(rt.stdin());
+    let mut writer = Tap::new(rt.stdout());
+    let outcome = match command {
+        Command::Decode => decode_bytes(rt.alloc(), &mut reader, &mut writer),
+    };
+    ExitCode::from(outcome.status())
+}

@@ -1,0 +1,96 @@
+//! The lines that packets are printed as.
+
+ghost use Rattle.std.specs.Prelude.{◌≡◌, ◌++◌, OnOk};
+ghost use Rattle.scimem.specs.PacketLine.{name_of, identifier_text, contents_text, said_text, packet_line};
+
+use crate::printing::{push_labelled, push_number};
+use sci_packets::{Body, NodeId, Packet};
+use sci_words::Stamped;
+use std::alloc::AllocError;
+
+/// The name of a command.
+#[tactic(auto, unfolding(crate::specs::PacketLine::name_of))]
+fn name(body: &Body) -> &'static [u8]
+    ensures { result.now ≡ name_of body.now }
+{
+    match body {
+        Body::Mread => b"mread",
+        Body::Cread => b"cread",
+        Body::Purge => b"purge",
+        Body::Roll { .. } => b"roll",
+        Body::Wback(_) => b"wback",
+        Body::Setback { .. } => b"setback",
+        Body::Fread => b"fread",
+        Body::Claim => b"claim",
+        Body::Clear => b"clear",
+        Body::Mdata(_) => b"mdata",
+        Body::Mgone { .. } => b"mgone",
+        Body::Cdata(_) => b"cdata",
+        Body::Purged { .. } => b"purged",
+        Body::Rolled => b"rolled",
+        Body::Wbok => b"wbok",
+        Body::Wbno => b"wbno",
+        Body::Told => b"told",
+        Body::Busy => b"busy",
+        Body::Fdata { .. } => b"fdata",
+    }
+}
+
+/// Writes an identifier, or that there is none.
+#[tactic(auto, unfolding(crate::specs::PacketLine::identifier_text))]
+fn push_identifier(out: &mut Vec<u8>, identifier: Option<NodeId>) -> Result<(), AllocError>
+    ensures { OnOk result (out.new.items ≡ out.old.items ++ identifier_text identifier) }
+{
+    match identifier {
+        None => out.extend_from_slice(b" id none"),
+        Some(id) => push_labelled(out, b" id", u64::from(id.get())),
+    }
+}
+
+/// Writes the version and the words of contents.
+#[tactic(auto, unfolding(crate::specs::PacketLine::contents_text))]
+fn push_contents(out: &mut Vec<u8>, contents: &Stamped) -> Result<(), AllocError>
+    ensures { OnOk result (out.new.items ≡ out.old.items ++ contents_text contents.now) }
+{
+    out.extend_from_slice(b" @")?;
+    push_number(out, contents.version)?;
+    for place in 0..8 {
+        push_labelled(out, b"", contents.line.word(place))?;
+    }
+    Ok(())
+}
+
+/// Writes what a command says behind its header.
+#[tactic(auto, unfolding(crate::specs::PacketLine::said_text))]
+fn push_said(out: &mut Vec<u8>, body: &Body) -> Result<(), AllocError>
+    ensures { OnOk result (out.new.items ≡ out.old.items ++ said_text body.now) }
+{
+    match body {
+        Body::Roll { forward } | Body::Purged { forward } => push_identifier(out, *forward),
+        Body::Setback { backward } => push_identifier(out, Some(*backward)),
+        Body::Mgone { old_head } => push_identifier(out, Some(*old_head)),
+        Body::Wback(contents) | Body::Mdata(contents) | Body::Cdata(contents) => {
+            push_contents(out, contents)
+        }
+        Body::Fdata { old_head, contents } => {
+            push_identifier(out, *old_head)?;
+            push_contents(out, contents)
+        }
+        _ => Ok(()),
+    }
+}
+
+/// Writes the line of a packet behind what was written.
+#[tactic(auto, unfolding(crate::specs::PacketLine::packet_line))]
+pub fn push_packet(out: &mut Vec<u8>, packet: &Packet) -> Result<(), AllocError>
+    ensures { OnOk result (out.new.items ≡ out.old.items ++ packet_line packet.now) }
+{
+    out.extend_from_slice(name(&packet.body))?;
+    push_labelled(out, b" to", u64::from(packet.target.get()))?;
+    push_labelled(out, b" from", u64::from(packet.source.get()))?;
+    push_labelled(out, b" control", u64::from(packet.control))?;
+    push_labelled(out, b" line", packet.line)?;
+    push_said(out, &packet.body)?;
+    out.push(b'\n')?;
+    Ok(())
+}

@@ -1,0 +1,40 @@
+//! Writing a text.
+
+ghost use Rattle.std.specs.Prelude.{◌≡◌, false, true};
+ghost use Rattle.std.specs.Io.KnownBytes.{Appends};
+ghost use Rattle.scimem.specs.Writing.{WritesFront};
+ghost use Rattle.sci_text.specs.Tap.{tapped, has_failed};
+
+use crate::outcome::Outcome;
+use sci_text::Tap;
+use std::io::Write;
+
+/// Writes the answer of a command that ends so, and tells how it ends then: it is Refused where a write failed.
+pub fn write_answer<W: Write>(writer: &mut Tap<W>, text: &[u8], outcome: Outcome) -> Outcome
+    ensures front { WritesFront (W.contents (tapped writer.old)) (W.contents (tapped writer.new)) text.now }
+    ensures whole { has_failed writer.new ≡ false → Appends (W.contents (tapped writer.old)) (W.contents (tapped writer.new)) text.now }
+    ensures unfailed { has_failed writer.new ≡ false → result ≡ outcome }
+    ensures failed { has_failed writer.new ≡ true → result ≡ Outcome.Refused }
+{
+    write_text(writer, text);
+    if writer.failed() {
+        Outcome::Refused
+    } else {
+        outcome
+    }
+}
+
+/// Writes the text. After a failed write nothing more is written, and the tap has failed.
+fn write_text<W: Write>(writer: &mut Tap<W>, text: &[u8])
+    ensures front { WritesFront (W.contents (tapped writer.old)) (W.contents (tapped writer.new)) text.now }
+    ensures whole { has_failed writer.new ≡ false → Appends (W.contents (tapped writer.old)) (W.contents (tapped writer.new)) text.now }
+{
+    let mut rest = text;
+    while !rest.is_empty() {
+        match writer.write(rest) {
+            Ok(count) if count > 0 => rest = &rest[count..],
+            _ => return,
+        }
+    }
+    let _ = writer.flush();
+}
