@@ -2,6 +2,7 @@ pub mod Histories
 pub mod LawLemmas
 pub mod Lawfulness
 pub mod LineRuns
+pub mod OracleSteps
 pub mod Oracles
 pub mod Order
 pub mod Placement

@@ -26,13 +26,13 @@ use Rattle.sci_history.proofs.Runs.{same_stamped}
 
 -- ---- one entry more
 
-filter_push_yes : (p : Entry → Bool) (done : List Entry) (entry : Entry) → p entry ≡ true → filter p (done ++ entry ∷ []) ≡ filter p done ++ entry ∷ []
+pub filter_push_yes : (p : Entry → Bool) (done : List Entry) (entry : Entry) → p entry ≡ true → filter p (done ++ entry ∷ []) ≡ filter p done ++ entry ∷ []
 filter_push_yes p done entry e = filter-append p done (entry ∷ []) ∙ ap (λ (es : List Entry). filter p done ++ es) (filter_yes p entry [] e)
 
-filter_push_no : (p : Entry → Bool) (done : List Entry) (entry : Entry) → p entry ≡ false → filter p (done ++ entry ∷ []) ≡ filter p done
+pub filter_push_no : (p : Entry → Bool) (done : List Entry) (entry : Entry) → p entry ≡ false → filter p (done ++ entry ∷ []) ≡ filter p done
 filter_push_no p done entry e = filter-append p done (entry ∷ []) ∙ ap (λ (es : List Entry). filter p done ++ es) (filter_no p entry [] e) ∙ append-nil (filter p done)
 
-count_push : (p : Entry → Bool) (done : List Entry) (entry : Entry) → count_by p (done ++ entry ∷ []) ≡ count_by p done + cond (p entry) 1 0
+pub count_push : (p : Entry → Bool) (done : List Entry) (entry : Entry) → count_by p (done ++ entry ∷ []) ≡ count_by p done + cond (p entry) 1 0
 count_push p done entry = sum_by_push (λ e. cond (p e) 1 0) done entry
 
 history_push : (entries : List Entry) (entry : Entry) (old mid : Stamped) → IsHistory entries old mid → entry.reply ≡ reply_of mid.line entry.op → entry.version ≡ (after mid entry.op).version → IsHistory (entries ++ entry ∷ []) old (after mid entry.op)
@@ -46,7 +46,7 @@ memory_after_all-push : (memory : List (List ℕ)) (ops : List Op) (op : Op) →
 memory_after_all-push memory [] op = refl
 memory_after_all-push memory (first ∷ ops) op = memory_after_all-push (memory_after memory first) ops op
 
-memory_of-push : (lines : ℕ) (done : List Entry) (entry : Entry) → memory_of lines (done ++ entry ∷ []) ≡ memory_after (memory_of lines done) entry.op
+pub memory_of-push : (lines : ℕ) (done : List Entry) (entry : Entry) → memory_of lines (done ++ entry ∷ []) ≡ memory_after (memory_of lines done) entry.op
 memory_of-push lines done entry =
     ap (memory_after_all (zero_memory lines)) (map-append (λ e. e.op) done (entry ∷ []))
     ∙ memory_after_all-push (zero_memory lines) (map (λ e. e.op) done) entry.op
@@ -54,22 +54,22 @@ memory_of-push lines done entry =
 -- ---- what holds after each entry
 
 -- a line's words, with the number of its makers
-abbrev stamped_of : ℕ → List Entry → ℕ → Stamped
+abbrev pub stamped_of : ℕ → List Entry → ℕ → Stamped
 stamped_of lines done line = record { line = line_at (memory_of lines done) line; version = count_by (makes_on line) done }
 
-record Traced (lines : ℕ) (done : List Entry) : Type 0 where
+pub record Traced (lines : ℕ) (done : List Entry) : Type 0 where
   pub in_range : AllByRecursion (λ e. (e.node < MAX_NODES) × (e.op.line < lines)) done
   pub long : length (memory_of lines done) ≡ lines
   pub histories : (line : ℕ) → line < lines → IsHistory (filter (is_on_line line) done) zero_stamped (stamped_of lines done line)
   pub rising : (node : ℕ) → AllPairs (λ x y. x.serial < y.serial) (filter (is_of_node node) done)
   pub counted : (node : ℕ) → AllByRecursion (λ e. e.serial < count_by (is_of_node node) done) (filter (is_of_node node) done)
 
-line_at-zero : (lines line : ℕ) → line_at (zero_memory lines) line ≡ zero_line
+pub line_at-zero : (lines line : ℕ) → line_at (zero_memory lines) line ≡ zero_line
 line_at-zero zero line = refl
 line_at-zero (suc lines) zero = refl
 line_at-zero (suc lines) (suc line) = line_at-zero lines line
 
-traced_none : (lines : ℕ) → Traced lines []
+pub traced_none : (lines : ℕ) → Traced lines []
 traced_none lines = record {
   in_range = tt;
   long = length-replicate lines zero_line;
@@ -79,22 +79,22 @@ traced_none lines = record {
 }
 
 -- what the entry of an issue says
-record IsNext (lines : ℕ) (done : List Entry) (entry : Entry) : Type 0 where
+pub record IsNext (lines : ℕ) (done : List Entry) (entry : Entry) : Type 0 where
   pub reply : entry.reply ≡ reply_of (line_at (memory_of lines done) entry.op.line) entry.op
   pub version : entry.version ≡ count_by (makes_on entry.op.line) done + cond (is_maker entry.op) 1 0
   pub serial : entry.serial ≡ count_by (is_of_node entry.node) done
 
-line_at-same : (memory : List (List ℕ)) (op : Op) → op.line < length memory → line_at (memory_after memory op) op.line ≡ line_after (line_at memory op.line) op
+pub line_at-same : (memory : List (List ℕ)) (op : Op) → op.line < length memory → line_at (memory_after memory op) op.line ≡ line_after (line_at memory op.line) op
 line_at-same memory op lt = get_or-set_same memory op.line (line_after (line_at memory op.line) op) zero_line lt
 
-line_at-other : (memory : List (List ℕ)) (op : Op) (line : ℕ) → line ≢ op.line → line_at (memory_after memory op) line ≡ line_at memory line
+pub line_at-other : (memory : List (List ℕ)) (op : Op) (line : ℕ) → line ≢ op.line → line_at (memory_after memory op) line ≡ line_at memory line
 line_at-other memory op line ne = get_or-set_other memory op.line line (line_after (line_at memory op.line) op) zero_line ne
 
-version_push : (done : List Entry) (entry : Entry) → count_by (makes_on entry.op.line) (done ++ entry ∷ []) ≡ count_by (makes_on entry.op.line) done + cond (is_maker entry.op) 1 0
+pub version_push : (done : List Entry) (entry : Entry) → count_by (makes_on entry.op.line) (done ++ entry ∷ []) ≡ count_by (makes_on entry.op.line) done + cond (is_maker entry.op) 1 0
 version_push done entry = count_push (makes_on entry.op.line) done entry ∙ rw (eq-eqb entry.op.line entry.op.line refl) refl
 
-own_line : (lines : ℕ) (done : List Entry) (entry : Entry) → Traced lines done → IsNext lines done entry → entry.op.line < lines → IsHistory (filter (is_on_line entry.op.line) (done ++ entry ∷ [])) zero_stamped (stamped_of lines (done ++ entry ∷ []) entry.op.line)
-own_line lines done entry h next lt =
+pub own_stamped : (lines : ℕ) (done : List Entry) (entry : Entry) → Traced lines done → IsNext lines done entry → entry.op.line < lines → stamped_of lines (done ++ entry ∷ []) entry.op.line ≡ after (stamped_of lines done entry.op.line) entry.op
+own_stamped lines done entry h next lt =
     let line = entry.op.line in
     let mid = stamped_of lines done line in
     let version : entry.version ≡ (after mid entry.op).version =
@@ -102,18 +102,28 @@ own_line lines done entry h next lt =
     let new_line : line_at (memory_of lines (done ++ entry ∷ [])) line ≡ (after mid entry.op).line =
     ap (λ (m : List (List ℕ)). line_at m line) (memory_of-push lines done entry) ∙ line_at-same (memory_of lines done) entry.op (let long = h.long in omega arith) in
     let new_version : count_by (makes_on line) (done ++ entry ∷ []) ≡ (after mid entry.op).version = version_push done entry ∙ sym next.version ∙ version in
-    let end : stamped_of lines (done ++ entry ∷ []) line ≡ after mid entry.op = same_stamped (stamped_of lines (done ++ entry ∷ []) line) (after mid entry.op) new_line new_version in
-    let longer : filter (is_on_line line) (done ++ entry ∷ []) ≡ filter (is_on_line line) done ++ entry ∷ [] = filter_push_yes (is_on_line line) done entry (eq-eqb line line refl) in
-    rw (longer, end) (history_push (filter (is_on_line line) done) entry zero_stamped mid (h.histories line lt) next.reply version)
+    same_stamped (stamped_of lines (done ++ entry ∷ []) line) (after mid entry.op) new_line new_version
 
-other_line : (lines : ℕ) (done : List Entry) (entry : Entry) (line : ℕ) → Traced lines done → line < lines → (line ≢ entry.op.line) → IsHistory (filter (is_on_line line) (done ++ entry ∷ [])) zero_stamped (stamped_of lines (done ++ entry ∷ []) line)
-other_line lines done entry line h lt ne =
+own_line : (lines : ℕ) (done : List Entry) (entry : Entry) → Traced lines done → IsNext lines done entry → entry.op.line < lines → IsHistory (filter (is_on_line entry.op.line) (done ++ entry ∷ [])) zero_stamped (stamped_of lines (done ++ entry ∷ []) entry.op.line)
+own_line lines done entry h next lt =
+    let line = entry.op.line in
+    let mid = stamped_of lines done line in
+    let version : entry.version ≡ (after mid entry.op).version =
+    next.version ∙ elim (cases_Bool (is_maker entry.op)) [ inl maker ↦ rw maker refl | inr load ↦ rw load (omega arith) ] in
+    let longer : filter (is_on_line line) (done ++ entry ∷ []) ≡ filter (is_on_line line) done ++ entry ∷ [] = filter_push_yes (is_on_line line) done entry (eq-eqb line line refl) in
+    rw (longer, own_stamped lines done entry h next lt) (history_push (filter (is_on_line line) done) entry zero_stamped mid (h.histories line lt) next.reply version)
+
+pub other_stamped : (lines : ℕ) (done : List Entry) (entry : Entry) (line : ℕ) → (line ≢ entry.op.line) → stamped_of lines (done ++ entry ∷ []) line ≡ stamped_of lines done line
+other_stamped lines done entry line ne =
     let off : eqb entry.op.line line ≡ false = ne_eqb entry.op.line line (λ e. ne (sym e)) in
     let same_line : line_at (memory_of lines (done ++ entry ∷ [])) line ≡ line_at (memory_of lines done) line =
     ap (λ (m : List (List ℕ)). line_at m line) (memory_of-push lines done entry) ∙ line_at-other (memory_of lines done) entry.op line ne in
     let same_version : count_by (makes_on line) (done ++ entry ∷ []) ≡ count_by (makes_on line) done = count_push (makes_on line) done entry ∙ rw off (omega arith) in
-    let end : stamped_of lines (done ++ entry ∷ []) line ≡ stamped_of lines done line = same_stamped (stamped_of lines (done ++ entry ∷ []) line) (stamped_of lines done line) same_line same_version in
-    rw (filter_push_no (is_on_line line) done entry off, end) (h.histories line lt)
+    same_stamped (stamped_of lines (done ++ entry ∷ []) line) (stamped_of lines done line) same_line same_version
+
+other_line : (lines : ℕ) (done : List Entry) (entry : Entry) (line : ℕ) → Traced lines done → line < lines → (line ≢ entry.op.line) → IsHistory (filter (is_on_line line) (done ++ entry ∷ [])) zero_stamped (stamped_of lines (done ++ entry ∷ []) line)
+other_line lines done entry line h lt ne =
+    rw (filter_push_no (is_on_line line) done entry (ne_eqb entry.op.line line (λ e. ne (sym e))), other_stamped lines done entry line ne) (h.histories line lt)
 
 step_history : (lines : ℕ) (done : List Entry) (entry : Entry) (line : ℕ) → Traced lines done → IsNext lines done entry → line < lines → IsHistory (filter (is_on_line line) (done ++ entry ∷ [])) zero_stamped (stamped_of lines (done ++ entry ∷ []) line)
 step_history lines done entry line h next lt =
@@ -151,7 +161,7 @@ step_counted lines done entry node h next =
           subst (λ (es : List Entry). AllByRecursion (λ x. x.serial < count) es) (sym (filter_push_no (is_of_node node) done entry (ne_eqb entry.node node ne))) old
     ]
 
-traced_push : (lines : ℕ) (done : List Entry) (entry : Entry) → Traced lines done → IsNext lines done entry → entry.node < MAX_NODES → entry.op.line < lines → Traced lines (done ++ entry ∷ [])
+pub traced_push : (lines : ℕ) (done : List Entry) (entry : Entry) → Traced lines done → IsNext lines done entry → entry.node < MAX_NODES → entry.op.line < lines → Traced lines (done ++ entry ∷ [])
 traced_push lines done entry h next node line = record {
   in_range = all-append (λ e. (e.node < MAX_NODES) × (e.op.line < lines)) done (entry ∷ []) h.in_range ((node, line), tt);
   long = ap length (memory_of-push lines done entry) ∙ length-set (memory_of lines done) entry.op.line (line_after (line_at (memory_of lines done) entry.op.line) entry.op) ∙ h.long;
@@ -164,7 +174,7 @@ traced_step : (lines : ℕ) (done : List Entry) (issue : Issue) → IsInRange li
 traced_step lines done issue range h =
     traced_push lines done (entry_after lines done issue) h (record { reply = refl; version = refl; serial = refl }) range.node range.line
 
-traced_all : (lines : ℕ) (script : List Issue) (done : List Entry) → AllByRecursion (IsInRange lines) script → Traced lines done → Traced lines (done_after lines done script)
+pub traced_all : (lines : ℕ) (script : List Issue) (done : List Entry) → AllByRecursion (IsInRange lines) script → Traced lines done → Traced lines (done_after lines done script)
 unfolding done_after
 traced_all lines [] done range h = h
 traced_all lines (issue ∷ script) done range h =
@@ -172,21 +182,21 @@ traced_all lines (issue ∷ script) done range h =
 
 -- ---- the law
 
-log_of-logs_of : (done : List Entry) (node : ℕ) → node < MAX_NODES → log_of (logs_of done) node ≡ filter (is_of_node node) done
+pub log_of-logs_of : (done : List Entry) (node : ℕ) → node < MAX_NODES → log_of (logs_of done) node ≡ filter (is_of_node node) done
 log_of-logs_of done node lt = get_or-map-range_with_len (λ n. filter (is_of_node n) done) 0 MAX_NODES node node [] lt (omega arith)
 
-off_line : (lines : ℕ) (done : List Entry) (line : ℕ) → Traced lines done → lines ≤ line → AllByRecursion (λ e. is_on_line line e ≡ false) done
+pub off_line : (lines : ℕ) (done : List Entry) (line : ℕ) → Traced lines done → lines ≤ line → AllByRecursion (λ e. is_on_line line e ≡ false) done
 off_line lines done line h past =
     all_weaker (λ e. (e.node < MAX_NODES) × (e.op.line < lines)) (λ e. is_on_line line e ≡ false) (λ e range. let lt = range.1 in ne_eqb e.op.line line (λ is. absurd (omega arith))) done h.in_range
 
-past_line : (lines : ℕ) (done : List Entry) (line : ℕ) → Traced lines done → lines ≤ line → stamped_of lines done line ≡ zero_stamped
+pub past_line : (lines : ℕ) (done : List Entry) (line : ℕ) → Traced lines done → lines ≤ line → stamped_of lines done line ≡ zero_stamped
 past_line lines done line h past =
     let words : line_at (memory_of lines done) line ≡ zero_line = get_or_past (memory_of lines done) line zero_line (let long = h.long in omega arith) in
     let none : AllByRecursion (λ e. makes_on line e ≡ false) done = all_weaker (λ e. is_on_line line e ≡ false) (λ e. makes_on line e ≡ false) (λ e off. and_left (is_on_line line e) (is_making e) off) done (off_line lines done line h past) in
     let count : count_by (makes_on line) done ≡ 0 = sym (length-filter (makes_on line) done) ∙ ap length (filter_none (makes_on line) done none) in
     same_stamped (stamped_of lines done line) zero_stamped words count
 
-stamped_at-contents_of : (lines : ℕ) (done : List Entry) (line : ℕ) → Traced lines done → stamped_at (contents_of lines done) line ≡ stamped_of lines done line
+pub stamped_at-contents_of : (lines : ℕ) (done : List Entry) (line : ℕ) → Traced lines done → stamped_at (contents_of lines done) line ≡ stamped_of lines done line
 stamped_at-contents_of lines done line h =
     elim (cases_lt line lines) [
       | inl lt ↦ get_or-map-range_with_len (λ l. stamped_of lines done l) 0 lines line line zero_stamped lt (omega arith)

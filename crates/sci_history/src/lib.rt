@@ -6,6 +6,7 @@ mod last;
 mod laws;
 mod logs;
 mod memory;
+mod oracle;
 
 pub use entry::Entry;
 pub use last::Last;
@@ -15,6 +16,7 @@ pub use laws::{
 };
 pub use logs::{Logs, PushFault};
 pub use memory::Memory;
+pub use oracle::run_oracle;
 
 #[cfg(test)]
 mod tests;

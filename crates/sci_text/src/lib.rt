@@ -14,10 +14,11 @@ mod writing;
 
 pub use fault::{TextFault, TextFaultKind};
 pub use laws::{no_fault, one_fault, one_script};
+pub use printing::{push_field, push_number, push_text};
 pub use reading::read_script;
 pub use script::{PushFault, Script};
 pub use tap::Tap;
-pub use writing::{write_logs, write_text};
+pub use writing::{logs_text, write_logs, write_text};
 
 #[cfg(test)]
 mod tests;

@@ -50,7 +50,8 @@ fn push_logs(out: &mut Vec<u8>, logs: &Logs) -> Result<(), AllocError>
     Ok(())
 }
 
-fn text_of(alloc: Global, nodes: u8, logs: &Logs, last: &Last) -> Result<Vec<u8>, AllocError>
+/// The text of logs with last contents in format 2, for a machine of that many nodes.
+pub fn logs_text(alloc: Global, nodes: u8, logs: &Logs, last: &Last) -> Result<Vec<u8>, AllocError>
     ensures { IfOk result (λ text. text.items ≡ log_text nodes logs.now last.now) }
 {
     let mut text = Vec::new(alloc);
@@ -97,7 +98,7 @@ pub fn write_logs<W: Write>(
     ensures line { IfErr result (λ fault. fault.line ≡ 0) }
     ensures fault { IfErr result (λ fault. IsWriteFault fault.kind (W.contents (tapped writer.old)) (W.contents (tapped writer.new)) (has_failed writer.new) (log_text nodes logs.now last.now)) }
 {
-    let Ok(text) = text_of(alloc, nodes, logs, last) else {
+    let Ok(text) = logs_text(alloc, nodes, logs, last) else {
         return Err(TextFault::of_input(TextFaultKind::Memory));
     };
     write_text(writer, &text)

@@ -1,5 +1,4 @@
-use Rattle.std.proofs.Common.{◌≡◌, ◌<◌, ◌≤◌, ◌++◌, ◌∷◌, [], ap, sym, ◌∙◌, append_assoc, arith, rules}
-use Rattle.sci_text.specs.Number.{number}
+use Rattle.std.proofs.Common.{append_assoc, rules}
 use Rattle.sci_text.proofs.Digits.{number_small, number_large}
 use Rattle.sci_text.proofs.printing.+push_number.Goals as goal
 

@@ -1,6 +1,5 @@
-use Rattle.std.proofs.Common.{◌≡◌, ◌+◌, ◌++◌, ◌<◌, length, ap, sym, ◌∙◌, append_assoc, arith, rules}
+use Rattle.std.proofs.Common.{◌<◌, length, append_assoc, arith, rules}
 use Rattle.sci_words.specs.Stamped.{zero_stamped}
-use Rattle.sci_text.specs.Log.{last_line, last_lines}
 use Rattle.sci_text.proofs.LogLines.{last_lines_more}
 use Rattle.sci_text.proofs.writing.push_last.Goals as goal
 
