@@ -1,0 +1,70 @@
+-- The home of a line: what it does with each request that comes. The three states are after the memory's
+-- states of IEEE Std 1596-1992; the cases are this project's own profile.
+use Rattle.std.specs.Prelude.{ℕ, Bool, true, false, IsTrue, ◌==◌, if◌then◌else◌, Option, Some, None}
+use Rattle.sci_words.specs.declared.stamped.Stamped.{Stamped}
+use Rattle.sci_words.specs.Stamped.{zero_stamped}
+use Rattle.sci_packets.specs.declared.body.Body.{Body}
+use Rattle.sci_packets.specs.declared.body.Body.TheVariants.{Mread, Fread, Claim, Clear, Wback, Mdata, Mgone, Fdata, Wbok, Wbno}
+use Rattle.sci_home.specs.declared.state.HomeState.{HomeState}
+use Rattle.sci_home.specs.declared.state.HomeState.TheVariants.{Home, Fresh, Gone}
+
+-- the home of a line that nobody has touched
+abbrev pub opening_home : HomeState
+opening_home = Home zero_stamped
+
+-- the requests that a home serves
+abbrev pub is_for_home : Body → Bool
+is_for_home Mread = true
+is_for_home Fread = true
+is_for_home Claim = true
+is_for_home Clear = true
+is_for_home (Wback contents) = true
+is_for_home _ = false
+
+abbrev pub IsForHome : Body → Type 0
+IsForHome body = IsTrue (is_for_home body)
+
+-- a wish to write: the contents go to node n, or n is told who has them
+abbrev pub serving_mread : HomeState → ℕ → HomeState × Body
+serving_mread (Home c) n = (Gone n, Mdata c)
+serving_mread (Fresh p c) n = (Gone n, Mgone p)
+serving_mread (Gone p) n = (Gone n, Mgone p)
+
+-- a wish to read: the home keeps its contents where it has them
+abbrev pub serving_fread : HomeState → ℕ → HomeState × Body
+serving_fread (Home c) n = (Fresh n c, Fdata None c)
+serving_fread (Fresh p c) n = (Fresh n c, Fdata (Some p) c)
+serving_fread (Gone p) n = (Gone n, Mgone p)
+
+-- only the head of a fresh list may come to write
+abbrev pub serving_claim : HomeState → ℕ → HomeState × Body
+serving_claim (Home c) n = (Home c, Wbno)
+serving_claim (Fresh p c) n = if p == n then (Gone n, Wbok) else (Fresh p c, Wbno)
+serving_claim (Gone p) n = (Gone p, Wbno)
+
+-- only the head of a fresh list may leave it
+abbrev pub serving_clear : HomeState → ℕ → HomeState × Body
+serving_clear (Home c) n = (Home c, Wbno)
+serving_clear (Fresh p c) n = if p == n then (Home c, Wbok) else (Fresh p c, Wbno)
+serving_clear (Gone p) n = (Gone p, Wbno)
+
+-- only the head of a list that may write gives contents back
+abbrev pub serving_wback : HomeState → ℕ → Stamped → HomeState × Body
+serving_wback (Home c) n back = (Home c, Wbno)
+serving_wback (Fresh p c) n back = (Fresh p c, Wbno)
+serving_wback (Gone p) n back = if p == n then (Home back, Wbok) else (Gone p, Wbno)
+
+-- the next state of a home and its answer to a request from node n, or none where no home serves such a packet
+abbrev pub serving : HomeState → ℕ → Body → Option (HomeState × Body)
+serving state n Mread = Some (serving_mread state n)
+serving state n Fread = Some (serving_fread state n)
+serving state n Claim = Some (serving_claim state n)
+serving state n Clear = Some (serving_clear state n)
+serving state n (Wback c) = Some (serving_wback state n c)
+serving state n _ = None
+
+-- the contents of a line where its home has them: nobody may have written since
+abbrev pub current_of : HomeState → Option Stamped
+current_of (Home c) = Some c
+current_of (Fresh head c) = Some c
+current_of (Gone head) = None

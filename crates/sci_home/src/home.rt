@@ -1,0 +1,79 @@
+//! The home part of a node's controller, for one line.
+
+use crate::state::HomeState;
+use sci_packets::{Body, Packet};
+use sci_words::{Line, Stamped};
+use std::marker::Model;
+
+/// The home of a line. Contracts see it as its state.
+#[derive(Debug, PartialEq, Eq, Drop)]
+pub struct Home {
+    state: HomeState,
+}
+
+impl Model for Home {
+    ghost use Rattle.sci_home.specs.declared.state.HomeState.{HomeState};
+
+    ghost Value = { HomeState };
+
+    ghost view = { λ home. home.state };
+
+    ghost inverse = { λ state. record { state = state } };
+}
+
+impl Home {
+    ghost use Rattle.std.specs.Prelude.{◌≡◌, Some};
+    ghost use Rattle.sci_home.specs.Serving.{opening_home, IsForHome, serving, current_of};
+
+    /// The home of a line that nobody has touched: HOME with zero words at version 0.
+    pub fn new() -> Home
+        ensures { result ≡ opening_home }
+    {
+        Home {
+            state: HomeState::Home(Stamped {
+                line: Line::zero(),
+                version: 0,
+            }),
+        }
+    }
+
+    #[cfg(test)]
+    pub(crate) fn in_state(state: HomeState) -> Home
+        ensures { result ≡ state }
+    {
+        Home { state }
+    }
+
+    /// Serves a request for the line and gives the answer, which goes back to the request's sender. The caller
+    /// sees to it that the request is an Mread, Fread, Claim, Clear or Wback.
+    pub fn serve(&mut self, request: &Packet) -> Packet
+        requires { IsForHome request.now.body }
+        ensures case { serving self.old request.now.source request.now.body ≡ Some (self.new, result.body) }
+        ensures target { result.target ≡ request.now.source }
+        ensures source { result.source ≡ request.now.target }
+        ensures control { result.control ≡ request.now.control }
+        ensures line { result.line ≡ request.now.line }
+    {
+        let sender = request.source;
+        let (next, answer) = match request.body {
+            Body::Mread => self.state.read_to_write(sender),
+            Body::Fread => self.state.read(sender),
+            Body::Claim => self.state.claim(sender),
+            Body::Clear => self.state.clear(sender),
+            Body::Wback(contents) => self.state.write_back(sender, contents),
+            _ => unreachable!(),
+        };
+        self.state = next;
+        request.answer(answer)
+    }
+
+    /// The contents of the line where the home has them (HOME or FRESH), and else None.
+    pub fn current(&self) -> Option<Stamped>
+        ensures { result ≡ current_of self.now }
+    {
+        match self.state {
+            HomeState::Home(contents) | HomeState::Fresh { contents, .. } => Some(contents),
+            HomeState::Gone { .. } => None,
+        }
+    }
+}

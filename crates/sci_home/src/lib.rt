@@ -1,0 +1,12 @@
+//! The home of a line: who heads the list of the caches that share it, and its contents while nobody may
+//! write.
+#![tactic(auto)]
+
+mod home;
+mod state;
+
+pub use home::Home;
+pub use state::HomeState;
+
+#[cfg(test)]
+mod tests;
