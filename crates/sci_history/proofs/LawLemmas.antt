@@ -63,7 +63,7 @@ run-function (x ∷ xs) (y ∷ ys) old new other e h k =
 
 -- ---- no stale read
 
-IsInOrder-append : {X : Type 0} (key : X → ℕ) (bound : ℕ) (xs ys : List X) → IsInOrder key xs → IsInOrder key ys → AllByRecursion (λ x. key x < bound) xs → AllByRecursion (λ y. bound ≤ key y) ys → IsInOrder key (xs ++ ys)
+pub IsInOrder-append : {X : Type 0} (key : X → ℕ) (bound : ℕ) (xs ys : List X) → IsInOrder key xs → IsInOrder key ys → AllByRecursion (λ x. key x < bound) xs → AllByRecursion (λ y. bound ≤ key y) ys → IsInOrder key (xs ++ ys)
 IsInOrder-append key bound [] ys h k low high = k
 IsInOrder-append key bound (x ∷ xs) ys h k low high =
     let lt : key x < bound = low.0 in

@@ -8,3 +8,8 @@ pub mod Order
 pub mod Placement
 pub mod Pushes
 pub mod Runs
+pub mod AuditOrders
+pub mod AuditRuns
+pub mod AuditVersions
+pub mod Audits
+pub mod PlacedOrder

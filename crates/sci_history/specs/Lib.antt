@@ -3,3 +3,4 @@ pub mod Placed
 pub mod History
 pub mod Lawful
 pub mod Oracle
+pub mod Audit

@@ -1,6 +1,6 @@
 -- Entries in the order of their versions.
-use Rattle.std.specs.Prelude.{ℕ, zero, suc, ◌+◌, ◌==◌, ◌&&◌, not, Bool, List, [], ◌∷◌, ◌++◌, filter, count_by, max}
-use Rattle.std.specs.List.{flat_map}
+use Rattle.std.specs.Prelude.{◌≡◌, ℕ, zero, suc, ◌+◌, ◌==◌, ◌&&◌, not, Bool, List, [], ◌∷◌, ◌++◌, filter, count_by, max}
+use Rattle.std.specs.List.{flat_map, All}
 use Rattle.std.specs.Prelude.{slice_index_or}
 use Rattle.sci_words.specs.declared.limits.TheConstants.{MAX_NODES}
 use Rattle.sci_words.specs.declared.operation.Op.{Op}
@@ -11,6 +11,10 @@ use Rattle.sci_history.specs.declared.entry.Entry.{Entry}
 -- the log of a node
 abbrev pub log_of : List (List Entry) → ℕ → List Entry
 log_of logs node = slice_index_or logs node []
+
+-- each log has its own node's entries
+abbrev pub AreOwn : List (List Entry) → Type 0
+AreOwn logs = (node : ℕ) → All (λ entry. entry.node ≡ node) (log_of logs node)
 
 abbrev pub is_of_node : ℕ → Entry → Bool
 is_of_node node entry = entry.node == node
@@ -57,9 +61,13 @@ by_version zero entries = []
 by_version (suc version) entries =
     by_version version entries ++ (by_node_and_serial (filter (makes version) entries) ++ by_node_and_serial (filter (reads version) entries))
 
--- the entries on a line in the order of their versions, from 0 to the number of makers
+-- a line's entries in the order of their versions, from 0 to the number of makers
+abbrev pub placed_entries : List Entry → List Entry
+placed_entries entries = by_version (suc (maker_count entries)) entries
+
+-- the entries on a line in the order of their versions
 abbrev pub placed : List (List Entry) → ℕ → List Entry
-placed logs line = by_version (suc (maker_count (on_line line logs))) (on_line line logs)
+placed logs line = placed_entries (on_line line logs)
 
 -- an entry's operation with its reply
 abbrev pub pair_of : Entry → Op × Reply

@@ -1,7 +1,7 @@
 //! Laws of the definitions that contracts cite: each is the contract of a function that does nothing, so that
 //! whoever reads the definitions sees that they say what they mean.
 
-ghost use Rattle.std.specs.Prelude.{◌≡◌, ◌≤◌, ◌<◌, ◌↔◌, ◌∷◌, ◌++◌, [], List, ℕ, map, filter, length};
+ghost use Rattle.std.specs.Prelude.{◌≡◌, ◌≤◌, ◌<◌, ◌↔◌, ◌∷◌, ◌++◌, [], List, ℕ, Option, map, filter, length};
 ghost use Rattle.std.specs.List.{AllByRecursion};
 ghost use Rattle.sci_words.specs.declared.limits.TheConstants.{MAX_NODES};
 ghost use Rattle.sci_words.specs.declared.operation.Op.{Op};
@@ -9,11 +9,13 @@ ghost use Rattle.sci_words.specs.declared.operation.Reply.{Reply};
 ghost use Rattle.sci_words.specs.declared.stamped.Stamped.{Stamped};
 ghost use Rattle.sci_words.specs.Stamped.{zero_stamped};
 ghost use Rattle.sci_history.specs.declared.entry.Entry.{Entry};
+ghost use Rattle.sci_history.specs.declared.audit.FaultKind.{FaultKind};
+ghost use Rattle.sci_history.specs.Audit.{HasNoFault, IsLineFault};
 ghost use Rattle.sci_history.specs.History.{HasHistory};
 ghost use Rattle.sci_history.specs.Lawful.{IsLawfulLine, Lawful};
 ghost use Rattle.sci_history.specs.Memory.{IsRun, stamped_at};
 ghost use Rattle.sci_history.specs.Oracle.{IsInRange, Issue, oracle_last, oracle_logs};
-ghost use Rattle.sci_history.specs.Placed.{is_on_line, log_of, on_line};
+ghost use Rattle.sci_history.specs.Placed.{AreOwn, is_on_line, log_of, on_line};
 
 /// A script's logs and last contents on one memory of one thread are lawful, whatever operations it has within
 /// the limits.
@@ -56,4 +58,13 @@ pub fn no_stale_read()
     ensures { (logs : List (List Entry)) (last : List Stamped) (line node : ℕ) (before after : List Entry) (entry : Entry) →
         Lawful logs last → node < MAX_NODES → filter (is_on_line line) (log_of logs node) ≡ before ++ entry ∷ after →
         AllByRecursion (λ earlier. earlier.version ≤ entry.version) before }
+{}
+
+/// An audit's five kinds of fault are what lawfulness rules out: a line of logs is lawful exactly where no kind fails
+/// on it, in logs that each have their own node's entries.
+pub fn lawful_is_faultless()
+    ensures lawful { (logs : List (List Entry)) (line : ℕ) (last : Stamped) → AreOwn logs → length logs ≡ MAX_NODES →
+        IsLawfulLine logs line last ↔ HasNoFault (on_line line logs) last }
+    ensures faulty { (entries : List Entry) (last : Stamped) (kind : FaultKind) (named : Option (ℕ × ℕ)) →
+        IsLineFault entries last kind named → HasNoFault entries last → ⊥ }
 {}

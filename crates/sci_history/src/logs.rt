@@ -2,7 +2,7 @@
 
 ghost use Rattle.std.specs.Prelude.{◌≡◌, ◌≢◌, ◌≤◌, ◌<◌, ◌++◌, ◌∷◌, [], ◌↔◌, List, ℕ, length, replicate, slice_set, OnOk, OnErr, IsErrOf};
 ghost use Rattle.sci_words.specs.declared.limits.TheConstants.{MAX_NODES, MAX_OPERATIONS};
-ghost use Rattle.sci_history.specs.Placed.{log_of};
+ghost use Rattle.sci_history.specs.Placed.{AreOwn, log_of};
 
 use crate::entry::Entry;
 use sci_words::{MAX_NODES, MAX_OPERATIONS};
@@ -31,12 +31,13 @@ impl Model for Logs {
     ghost use Rattle.std.specs.Prelude.{◌≡◌, List, length, map};
     ghost use Rattle.sci_words.specs.declared.limits.TheConstants.{MAX_NODES};
     ghost use Rattle.sci_history.specs.declared.entry.Entry.{Entry};
+    ghost use Rattle.sci_history.specs.Placed.{AreOwn};
 
     ghost Value = { List (List Entry) };
 
     ghost view = { λ logs. map (λ log. log.items) logs.lists };
 
-    ghost invariant = { λ logs. length logs.lists ≡ MAX_NODES };
+    ghost invariant = { λ logs. (length logs.lists ≡ MAX_NODES) × AreOwn (map (λ log. log.items) logs.lists) };
 }
 
 impl Logs {
@@ -94,6 +95,7 @@ impl Logs {
         requires { node < MAX_NODES }
         ensures log { result.now ≡ log_of self.now node }
         ensures nodes { length self.now ≡ MAX_NODES }
+        ensures own { AreOwn self.now }
     {
         self.lists[node as usize].as_slice()
     }
