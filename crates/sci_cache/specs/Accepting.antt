@@ -1,0 +1,34 @@
+-- What a cache does with each answer that comes.
+use Rattle.std.specs.Prelude.{true, false, Option, Some, None}
+use Rattle.sci_packets.specs.declared.body.Body.{Body}
+use Rattle.sci_packets.specs.declared.body.Body.TheVariants.{Mdata, Mgone, Cdata, Purged, Rolled, Wbok, Wbno, Told, Busy, Fdata}
+use Rattle.sci_cache.specs.State.{CacheState, Out, Asking, Joining, FreshJoining, Head, FreshHead, Below, Purging, Claiming, Clearing, Returning, Rolling, Telling, Fading}
+
+-- the next state of a cache that takes an answer, or none where the state doesn't list the answer
+abbrev pub accepting : CacheState → Body → Option CacheState
+accepting Asking (Mdata c) = Some (Head None c)
+accepting Asking (Mgone p) = Some (Joining p false)
+accepting Asking (Fdata None c) = Some (FreshHead None c)
+accepting Asking (Fdata (Some p) c) = Some (FreshJoining p false c)
+accepting Asking Busy = Some Out
+accepting (Joining p true) (Cdata c) = Some (Head (Some p) c)
+accepting (Joining p true) Busy = Some (Joining p false)
+accepting (FreshJoining p true c) (Cdata sent) = Some (FreshHead (Some p) c)
+accepting (FreshJoining p true c) Busy = Some (FreshJoining p false c)
+accepting (Purging q c) (Purged x) = Some (Head x c)
+accepting (Purging q c) Busy = Some (Head (Some q) c)
+accepting (Claiming f c) Wbok = Some (Head f c)
+accepting (Claiming f c) Wbno = Some (FreshHead f c)
+accepting (Claiming f c) Busy = Some (FreshHead f c)
+accepting (Clearing c) Wbok = Some Out
+accepting (Clearing c) Wbno = Some (FreshHead None c)
+accepting (Clearing c) Busy = Some (FreshHead None c)
+accepting (Returning c) Wbok = Some Out
+accepting (Returning c) Wbno = Some (Head None c)
+accepting (Returning c) Busy = Some (Head None c)
+accepting (Rolling None b c) Rolled = Some Out
+accepting (Rolling (Some r) b c) Rolled = Some (Telling r b false)
+accepting (Rolling f b c) Busy = Some (Below f b c)
+accepting (Telling r w true) Told = Some Out
+accepting Fading Busy = Some Out
+accepting _ _ = None

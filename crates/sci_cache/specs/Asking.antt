@@ -1,0 +1,30 @@
+-- What a cache asks in each state.
+use Rattle.std.specs.Prelude.{ℕ, true, false, Option, Some, None}
+use Rattle.sci_words.specs.declared.event.AskKind.{AskKind}
+use Rattle.sci_words.specs.declared.event.AskKind.TheVariants as kind
+use Rattle.sci_packets.specs.declared.body.Body.{Body}
+use Rattle.sci_packets.specs.declared.body.Body.TheVariants as body
+use Rattle.sci_cache.specs.State.{CacheState, Out, Asking, Joining, FreshJoining, Head, FreshHead, Below, Purging, Claiming, Clearing, Returning, Rolling, Telling}
+
+-- an ask: to whom, None for the home of the line, what, and the state that the cache then is in
+pub record Asked : Type 0 where
+  pub to : Option ℕ
+  pub request : Body
+  pub next : CacheState
+
+abbrev asks : Option ℕ → Body → CacheState → Option Asked
+asks to request next = Some (record { to = to; request = request; next = next })
+
+-- what a state asks of this kind, or none
+abbrev pub asking : CacheState → AskKind → Option Asked
+asking Out kind.Mread = asks None body.Mread Asking
+asking Out kind.Fread = asks None body.Fread Asking
+asking (Joining p false) kind.Cread = asks (Some p) body.Cread (Joining p true)
+asking (FreshJoining p false c) kind.Cread = asks (Some p) body.Cread (FreshJoining p true c)
+asking (Head (Some q) c) kind.Purge = asks (Some q) body.Purge (Purging q c)
+asking (Head None c) kind.Wback = asks None (body.Wback c) (Returning c)
+asking (FreshHead f c) kind.Claim = asks None body.Claim (Claiming f c)
+asking (FreshHead None c) kind.Clear = asks None body.Clear (Clearing c)
+asking (Below f b c) kind.Roll = asks (Some b) (body.Roll f) (Rolling f b c)
+asking (Telling r w false) kind.Setback = asks (Some r) (body.Setback w) (Telling r w true)
+asking _ _ = None

@@ -1,0 +1,6 @@
+pub mod State
+pub mod Asking
+pub mod Serving
+pub mod Accepting
+pub mod Performing
+pub mod Held

@@ -1,0 +1,73 @@
+-- The states of a node's cache for one line. The names in brackets are those of IEEE Std 1596-1992 for its stable
+-- states; the others, and all cases, are this project's own profile.
+use Rattle.std.specs.Prelude.{ℕ, Bool, true, false, IsTrue, Option, Some, None}
+use Rattle.sci_words.specs.declared.stamped.Stamped.{Stamped}
+
+-- f is the forward identifier, b the backward identifier, c the contents, p the old head, q the next in the list
+pub data CacheState : Type 0 where
+  -- no entry
+  Out : CacheState
+  -- Mread or Fread is sent to the home
+  Asking : CacheState
+  -- told that p is the old head; Cread is sent to p, or not yet
+  Joining : (p : ℕ) (sent : Bool) → CacheState
+  -- told the contents, and that p is the old head; Cread is sent to p, or not yet
+  FreshJoining : (p : ℕ) (sent : Bool) (c : Stamped) → CacheState
+  -- head of a list that may write [ONLY_DIRTY where f is none, else HEAD_DIRTY]
+  Head : (f : Option ℕ) (c : Stamped) → CacheState
+  -- head of a list under a fresh home [ONLY_FRESH where f is none, else HEAD_FRESH]
+  FreshHead : (f : Option ℕ) (c : Stamped) → CacheState
+  -- an entry behind another [TAIL_VALID where f is none, else MID_VALID]
+  Below : (f : Option ℕ) (b : ℕ) (c : Stamped) → CacheState
+  -- Purge is sent to q
+  Purging : (q : ℕ) (c : Stamped) → CacheState
+  -- Claim is sent to the home
+  Claiming : (f : Option ℕ) (c : Stamped) → CacheState
+  -- Clear is sent to the home
+  Clearing : (c : Stamped) → CacheState
+  -- Wback is sent to the home
+  Returning : (c : Stamped) → CacheState
+  -- Roll is sent to the entry before
+  Rolling : (f : Option ℕ) (b : ℕ) (c : Stamped) → CacheState
+  -- must tell r that w is before it; Setback is sent to r, or not yet
+  Telling : (r : ℕ) (w : ℕ) (sent : Bool) → CacheState
+  -- purged while its Roll was unanswered
+  Fading : CacheState
+
+-- whether a line waits for an answer
+abbrev pub waits : CacheState → Bool
+waits Asking = true
+waits (Joining p sent) = sent
+waits (FreshJoining p sent c) = sent
+waits (Purging q c) = true
+waits (Claiming f c) = true
+waits (Clearing c) = true
+waits (Returning c) = true
+waits (Rolling f b c) = true
+waits (Telling r w sent) = sent
+waits Fading = true
+waits _ = false
+
+abbrev pub Waits : CacheState → Type 0
+Waits state = IsTrue (waits state)
+
+-- whether a line has an entry, and so takes one of the node's version slots
+abbrev pub is_out : CacheState → Bool
+is_out Out = true
+is_out _ = false
+
+abbrev pub IsOut : CacheState → Type 0
+IsOut state = IsTrue (is_out state)
+
+-- the contents that a state has
+abbrev pub contents_of : CacheState → Option Stamped
+contents_of (FreshJoining p sent c) = Some c
+contents_of (Head f c) = Some c
+contents_of (FreshHead f c) = Some c
+contents_of (Below f b c) = Some c
+contents_of (Purging q c) = Some c
+contents_of (Claiming f c) = Some c
+contents_of (Clearing c) = Some c
+contents_of (Returning c) = Some c
+contents_of (Rolling f b c) = Some c
+contents_of _ = None
