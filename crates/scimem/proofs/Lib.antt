@@ -3,3 +3,4 @@ pub mod Numbers
 pub mod OneDecoding
 pub mod Runs
 pub mod Written
+pub mod Counts

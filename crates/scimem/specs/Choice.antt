@@ -1,8 +1,9 @@
 -- The words of a command line.
 use Rattle.std.specs.Prelude.{ℕ, List, [], ◌∷◌, codes}
 use Rattle.scimem.specs.declared.choice.Command.{Command}
-use Rattle.scimem.specs.declared.choice.Command.TheVariants.{Decode}
+use Rattle.scimem.specs.declared.choice.Command.TheVariants.{Oracle, Decode}
 
 -- the words that choose a command
 abbrev pub words_of : Command → List (List ℕ)
+words_of Oracle = codes "oracle" ∷ []
 words_of Decode = codes "decode" ∷ []

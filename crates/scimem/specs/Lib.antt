@@ -3,3 +3,4 @@ pub mod Decoding
 pub mod PacketLine
 pub mod Status
 pub mod Writing
+pub mod OracleAnswer

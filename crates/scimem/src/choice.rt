@@ -8,11 +8,13 @@ use std::rt::Env;
 use std::{env, io};
 
 /// The words that the program knows.
-pub const USAGE: &str = "usage: scimem decode";
+pub const USAGE: &str = "usage: scimem oracle | decode";
 
 /// What the program is asked to do.
 #[derive(Clone, Copy, Debug, PartialEq, Eq)]
 pub enum Command {
+    /// Write the log of one memory that does a script's operations.
+    Oracle,
     /// Write a line for each packet of the input.
     Decode,
 }
@@ -22,6 +24,7 @@ pub fn chosen(words: &[&str]) -> Option<Command>
     ensures { (command : Command) → (result ≡ Some command) ↔ (map (λ word. word.now) words.now ≡ words_of command) }
 {
     match words {
+        ["oracle"] => Some(Command::Oracle),
         ["decode"] => Some(Command::Decode),
         _ => None,
     }

@@ -4,6 +4,7 @@
 mod choice;
 mod decode;
 mod laws;
+mod oracle;
 mod outcome;
 mod packet_line;
 mod printing;
@@ -12,9 +13,14 @@ mod writing;
 
 use choice::{Command, USAGE, asked};
 use decode::decode_bytes;
+use oracle::oracle as oracle_of;
 use sci_text::Tap;
 use std::process::ExitCode;
 
+#[cfg(test)]
+mod devices;
+#[cfg(test)]
+mod oracle_tests;
 #[cfg(test)]
 mod tests;
 
@@ -26,6 +32,7 @@ fn main(rt: HostRuntime) -> ExitCode {
     let mut reader = Tap::new(rt.stdin());
     let mut writer = Tap::new(rt.stdout());
     let outcome = match command {
+        Command::Oracle => oracle_of(rt.alloc(), &mut reader, &mut writer),
         Command::Decode => decode_bytes(rt.alloc(), &mut reader, &mut writer),
     };
     ExitCode::from(outcome.status())

@@ -2,11 +2,11 @@
 
 use crate::choice::{Command, chosen};
 use crate::decode::decode_bytes;
+use crate::devices::{Dripping, Failing, Many};
 use crate::outcome::Outcome;
 use sci_text::Tap;
 use std::alloc::{AllocError, Global};
-use std::io;
-use std::io::{ErrorKind, Read, Write};
+use std::io::ErrorKind;
 use std::process::Abort;
 use std::test::*;
 
@@ -224,18 +224,6 @@ fn greatest_numbers(rt: HostRuntime) -> Result<(), Fail> {
     Ok(())
 }
 
-/// Gives so many zero bytes, as far as the buffer has them.
-#[derive(Drop)]
-struct Many(usize);
-
-impl Read for Many {
-    fn read(&mut self, buf: &mut [u8]) -> io::Result<usize> {
-        let count = buf.len().min(self.0);
-        self.0 -= count;
-        Ok(count)
-    }
-}
-
 #[test]
 fn too_long(rt: HostRuntime) {
     let table = [
@@ -248,33 +236,6 @@ fn too_long(rt: HostRuntime) {
         let outcome = decode_bytes(rt.alloc(), &mut reader, &mut Tap::new(&mut written));
         assert_eq!(rt; written.as_slice(), text.as_bytes());
         assert_eq!(rt; outcome, Outcome::Refused);
-    }
-}
-
-/// Gives one byte at a time, and fails at the read of this number.
-#[derive(Drop)]
-struct Dripping<'a> {
-    rest: &'a [u8],
-    reads: usize,
-    fails_at: usize,
-    with: ErrorKind,
-}
-
-impl Read for Dripping<'_> {
-    fn read(&mut self, buf: &mut [u8]) -> io::Result<usize> {
-        if self.reads == self.fails_at {
-            return Err(io::Error::from(self.with));
-        }
-        self.reads = self.reads.saturating_add(1);
-        let Some((first, rest)) = self.rest.split_first() else {
-            return Ok(0);
-        };
-        if buf.is_empty() {
-            return Ok(0);
-        }
-        buf[0] = *first;
-        self.rest = rest;
-        Ok(1)
     }
 }
 
@@ -302,45 +263,6 @@ fn a_reader_of_one_byte_at_a_time(rt: HostRuntime) -> Result<(), Fail> {
         }
     }
     Ok(())
-}
-
-/// Takes up to ten bytes of a write, and at the call of this number fails or takes nothing.
-#[derive(Drop)]
-struct Failing {
-    written: Vec<u8>,
-    calls: usize,
-    fails_at: usize,
-    takes_nothing: bool,
-}
-
-impl Failing {
-    /// Whether the next call fails, as an error or by taking nothing.
-    fn fails(&mut self) -> bool {
-        let fails = self.calls == self.fails_at;
-        self.calls = self.calls.saturating_add(1);
-        fails
-    }
-}
-
-impl Write for Failing {
-    fn write(&mut self, buf: &[u8]) -> io::Result<usize> {
-        if self.fails() {
-            if self.takes_nothing {
-                return Ok(0);
-            }
-            return Err(io::Error::from(ErrorKind::Interrupted));
-        }
-        let count = buf.len().min(10);
-        self.written.extend_from_slice(&buf[..count])?;
-        Ok(count)
-    }
-
-    fn flush(&mut self) -> io::Result<()> {
-        if self.fails() {
-            return Err(io::Error::from(ErrorKind::Other));
-        }
-        Ok(())
-    }
 }
 
 #[test]
@@ -377,7 +299,10 @@ fn each_write_fails_in_turn(rt: HostRuntime) -> Result<(), Fail> {
 #[test]
 fn words_of_the_command_line(rt: HostRuntime) {
     assert_eq!(rt; chosen(&["decode"]), Some(Command::Decode));
-    let others: [&[&str]; 8] = [
+    assert_eq!(rt; chosen(&["oracle"]), Some(Command::Oracle));
+    let others: [&[&str]; 10] = [
+        &["oracle", "x"],
+        &["threads", "--turns", "0"],
         &[],
         &[""],
         &["decode", "decode"],
