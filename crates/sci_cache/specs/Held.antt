@@ -5,6 +5,8 @@ use Rattle.sci_cache.specs.declared.held.Held.TheVariants as held
 use Rattle.sci_packets.specs.declared.body.Body.{Body}
 use Rattle.sci_cache.specs.declared.held.Performed.{Performed}
 use Rattle.sci_cache.specs.Performing.{Performed as Done}
+use Rattle.sci_cache.specs.declared.line.Question.{Question}
+use Rattle.sci_cache.specs.Line.{LineState}
 use Rattle.sci_cache.specs.declared.held.Ask.{Ask}
 use Rattle.sci_cache.specs.Asking.{Asked}
 use Rattle.sci_cache.specs.State.{CacheState, Out, Asking, Joining, FreshJoining, Head, FreshHead, Below, Purging, Claiming, Clearing, Returning, Rolling, Telling, Fading}
@@ -48,3 +50,7 @@ performed_of done = record { reply = done.reply; version = done.version; next = 
 abbrev pub performed_in : {E : Type 0} → Result Performed E → Option Done
 performed_in (Ok done) = Some (performed_of done)
 performed_in (Err same) = None
+
+-- what a line asked, by the program's question and the line after it
+abbrev pub asked_by : Question → LineState → Asked
+asked_by question line = record { to = question.to; request = question.request; next = line.state }

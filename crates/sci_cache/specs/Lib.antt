@@ -4,3 +4,5 @@ pub mod Serving
 pub mod Accepting
 pub mod Performing
 pub mod Held
+pub mod Line
+pub mod Cache

@@ -3,11 +3,16 @@
 
 mod accept;
 mod ask;
+mod cache;
+mod fault;
 mod held;
+mod line;
 mod perform;
 mod serve;
 mod states;
 
+pub use cache::Cache;
+pub use fault::{AskFault, NotAwaited};
 pub use held::Held;
 pub use states::{
     Asking, Below, Claiming, Clearing, Fading, FreshHead, FreshJoining, HeadState, Joining,

@@ -1,0 +1,139 @@
+//! The cache part of a node's controller.
+
+ghost use Rattle.std.specs.Prelude.{◌≡◌};
+ghost use Rattle.sci_cache.specs.Cache.{slots_taken as slots_taken_of};
+
+use crate::fault::{AskFault, NotAwaited};
+use crate::held::Held;
+use crate::line::CachedLine;
+use sci_packets::{NodeId, Packet};
+use sci_words::{AskKind, Extent, Op, Reply};
+use std::alloc::{AllocError, Global};
+use std::marker::Model;
+
+/// The cache of a node: its state for each line, and how often it has asked. Contracts see it as a record of
+/// the node's number, the sizes of the machine, and a list of its lines.
+#[derive(Drop)]
+pub struct Cache {
+    me: u8,
+    extent: Extent,
+    lines: Vec<CachedLine>,
+}
+
+impl Model for Cache {
+    ghost use Rattle.sci_cache.specs.Cache.{CacheOf};
+    ghost use Rattle.std.specs.Prelude.{◌≤◌};
+
+    ghost Value = { CacheOf };
+
+    ghost view = { λ cache. record { me = cache.me; nodes = cache.extent.nodes; slots = cache.extent.slots; lines = cache.lines.items } };
+}
+
+/// The identifier of a node by its number.
+fn node(number: u8) -> NodeId
+    ensures { result ≡ number }
+{
+    NodeId::new(u16::from(number)).unwrap()
+}
+
+/// How many lines have an entry.
+fn slots_taken(lines: &[CachedLine]) -> usize
+    ensures { result ≡ slots_taken_of lines.now }
+{
+    lines.iter().filter(|line| !line.is_out()).count()
+}
+
+impl Cache {
+    ghost use Rattle.std.specs.Prelude.{◌≡◌, ◌<◌, Some, None, Ok, Err, IfOk, IfErr, IfSome, IsErr, length, replicate};
+    ghost use Rattle.sci_words.specs.declared.limits.TheConstants.{WORDS_PER_LINE};
+    ghost use Rattle.sci_cache.specs.Serving.{IsForCache};
+    ghost use Rattle.sci_cache.specs.Line.{untouched};
+    ghost use Rattle.sci_cache.specs.Held.{state_of};
+    ghost use Rattle.sci_cache.specs.Cache.{line_of, letter_of, cache_asking, cache_serving, cache_accepting, cache_performing};
+
+    /// The cache of node `me` in a machine of this size, with no entry for any line. The caller sees to it that
+    /// there is such a node. Refused where memory is.
+    pub fn new(alloc: Global, me: u8, extent: Extent) -> Result<Cache, AllocError>
+        requires { me < extent.nodes }
+        ensures { IfOk result (λ cache. cache ≡ record { me = me; nodes = extent.nodes; slots = extent.slots; lines = replicate extent.lines untouched }) }
+    {
+        let mut lines = Vec::with_capacity(alloc, usize::from(extent.lines))?;
+        for _place in 0..extent.lines {
+            lines.push(CachedLine::new())?;
+        }
+        Ok(Cache { me, extent, lines })
+    }
+
+    /// The state of a line. The caller sees to it that there is such a line.
+    pub fn held(&self, line: u8) -> &Held
+        requires { line < length self.now.lines }
+        ensures { state_of result.now ≡ (line_of self.now line).state }
+    {
+        let part = &self.lines[usize::from(line)];
+        part.held()
+    }
+
+    /// Makes a request of this kind about a line. The caller sees to it that there is such a line. Refused,
+    /// unchanged, with NotNow where the line's state doesn't ask this kind, and else with NoSlot where the line
+    /// has no entry and as many lines have one as there are version slots.
+    pub fn ask(&mut self, line: u8, kind: AskKind) -> Result<Packet, AskFault>
+        requires { line < length self.old.lines }
+        ensures asked { IfOk result (λ packet. cache_asking self.old line kind ≡ Ok (self.new, letter_of packet)) }
+        ensures refused { IfErr result (λ fault. cache_asking self.old line kind ≡ Err fault) }
+        ensures same { IsErr result → self.new ≡ self.old }
+    {
+        let free = slots_taken(&self.lines) < usize::from(self.extent.slots);
+        let part = &mut self.lines[usize::from(line)];
+        let question = part.ask(kind, free)?;
+        let home = node(line % self.extent.nodes);
+        Ok(Packet {
+            target: question.to.unwrap_or(home),
+            source: node(self.me),
+            control: question.control,
+            line: u64::from(line),
+            body: question.request,
+        })
+    }
+
+    /// Serves a Cread, Purge, Roll or Setback about a line, and gives the answer, which goes back to the
+    /// request's sender. The caller sees to it that it is one of those and that there is such a line.
+    pub fn serve(&mut self, request: &Packet) -> Packet
+        requires line { request.now.line < length self.old.lines }
+        requires body { IsForCache request.now.body }
+        ensures case { cache_serving self.old request.now.line request.now.source request.now.body ≡ Some (self.new, result.body) }
+        ensures target { result.target ≡ request.now.source }
+        ensures source { result.source ≡ request.now.target }
+        ensures control { result.control ≡ request.now.control }
+        ensures line { result.line ≡ request.now.line }
+    {
+        let part = &mut self.lines[request.line as usize];
+        let answer = part.serve(request.source, &request.body);
+        request.answer(answer)
+    }
+
+    /// Takes an answer about a line. The caller sees to it that there is such a line. Refused, unchanged, where
+    /// the line's state doesn't list the answer or its control number isn't that of the line's last ask.
+    pub fn accept(&mut self, answer: &Packet) -> Result<(), NotAwaited>
+        requires { answer.now.line < length self.old.lines }
+        ensures taken { IfOk result (λ _. cache_accepting self.old answer.now.line answer.now.control answer.now.body ≡ Some self.new) }
+        ensures refused { IsErr result → cache_accepting self.old answer.now.line answer.now.control answer.now.body ≡ None }
+        ensures same { IsErr result → self.new ≡ self.old }
+    {
+        let part = &mut self.lines[answer.line as usize];
+        part.accept(answer.control, &answer.body)
+    }
+
+    /// Performs an operation, and gives its reply and the version that it read or made. The caller sees to it
+    /// that there is such a line, and that the word's place is below eight. None, unchanged, where the line's
+    /// state doesn't allow it.
+    pub fn perform(&mut self, op: Op) -> Option<(Reply, u64)>
+        requires line { op.line < length self.old.lines }
+        requires word { op.word < WORDS_PER_LINE }
+        ensures done { IfSome result (λ answer. cache_performing self.old op ≡ Some (self.new, answer.0, answer.1)) }
+        ensures refused { result ≡ None → cache_performing self.old op ≡ None }
+        ensures same { result ≡ None → self.new ≡ self.old }
+    {
+        let part = &mut self.lines[usize::from(op.line)];
+        part.perform(op)
+    }
+}
