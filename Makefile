@@ -7,7 +7,7 @@ NEED_RT = command -v rt > /dev/null || { echo "rt is missing: put the bin folder
 # Builds the program and runs its stored example.
 run:
 	@$(NEED_RT)
-	@if [ -f crates/scimem/src/main.rt ]; then cd crates/scimem && rt run < stdin; else echo "scimem isn't built yet: there is nothing to run"; fi
+	@if [ -f crates/scimem/src/main.rt ]; then cd crates/scimem && rt run -- $$(cat args) < stdin; else echo "scimem isn't built yet: there is nothing to run"; fi
 
 # The gate: every proof from nothing, the edits that must fail, the tests and the program.
 test:
