@@ -18,3 +18,8 @@ pub use states::{
     Asking, Below, Claiming, Clearing, Fading, FreshHead, FreshJoining, HeadState, Joining,
     OutState, Purging, Returning, Rolling, Telling,
 };
+
+#[cfg(test)]
+mod table_tests;
+#[cfg(test)]
+mod tests;
