@@ -49,7 +49,7 @@ impl Cache {
     ghost use Rattle.sci_cache.specs.Serving.{IsForCache};
     ghost use Rattle.sci_cache.specs.Line.{untouched};
     ghost use Rattle.sci_cache.specs.Held.{state_of};
-    ghost use Rattle.sci_cache.specs.Cache.{line_of, letter_of, cache_asking, cache_serving, cache_accepting, cache_performing};
+    ghost use Rattle.sci_cache.specs.Cache.{CacheOf, line_of, letter_of, cache_asking, cache_serving, cache_accepting, cache_performing};
 
     /// The cache of node `me` in a machine of this size, with no entry for any line. The caller sees to it that
     /// there is such a node. Refused where memory is.
@@ -95,6 +95,26 @@ impl Cache {
         let question = part.ask(kind, free)?;
         let home = node(line % self.extent.nodes);
         Ok(Packet {
+            target: question.to.unwrap_or(home),
+            source: node(self.me),
+            control: question.control,
+            line: u64::from(line),
+            body: question.request,
+        })
+    }
+
+    /// The packet that an ask of this kind about a line would send now, or None where the ask would be refused.
+    /// The caller sees to it that there is such a line.
+    pub fn asked(&self, line: u8, kind: AskKind) -> Option<Packet>
+        requires { line < length self.now.lines }
+        ensures asked { IfSome result (λ packet. (next : CacheOf) × (cache_asking self.now line kind ≡ Ok (next, letter_of packet))) }
+        ensures refused { result ≡ None → IsErr (cache_asking self.now line kind) }
+    {
+        let free = slots_taken(&self.lines) < usize::from(self.extent.slots);
+        let part = &self.lines[usize::from(line)];
+        let question = part.question(kind, free)?;
+        let home = node(line % self.extent.nodes);
+        Some(Packet {
             target: question.to.unwrap_or(home),
             source: node(self.me),
             control: question.control,
