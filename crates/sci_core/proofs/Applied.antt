@@ -1,18 +1,17 @@
 -- What the calls of an event do, one after another, is the step.
-use Rattle.std.proofs.Common.{◌≡◌, ℕ, ◌<◌, ◌≤◌, ◌%◌, List, [], ◌∷◌, ◌++◌, Option, Some, None, IsTrue, refl, sym, ap, subst, ◌∙◌, drop, option_map}
+use Rattle.std.proofs.Common.{◌≡◌, ℕ, ◌<◌, ◌%◌, List, [], ◌∷◌, ◌++◌, Option, Some, None, refl, sym, ap, subst, ◌∙◌, drop}
 use Rattle.std.specs.Prelude.{slice_get, IfSome, IsSome}
 use Rattle.std.specs.List.{All}
 use Rattle.std.proofs.lemmas.List.Elements.{All-head}
 use Rattle.sci_words.specs.declared.event.Event.{Event}
-use Rattle.sci_words.specs.declared.event.Event.TheVariants as event
 use Rattle.sci_words.specs.declared.event.AskKind.{AskKind}
 use Rattle.sci_packets.specs.declared.packet.Packet.{Packet}
 use Rattle.sci_cache.specs.Cache.{Letter, letter_of}
 use Rattle.sci_core.specs.declared.lane.LaneKind.{LaneKind}
 use Rattle.sci_core.specs.declared.lane.LaneKind.TheVariants.{Requests, Answers}
-use Rattle.sci_core.specs.Node.{NodeOf, lines_of, IsForNode, IsServable, node_asking, replied_by, node_replying}
-use Rattle.sci_core.specs.Core.{Core, node_at, with_node, lane_place, lane_of, with_lane, Side, Sends, Takes, sends, side, node_of, sent_by, stepping}
-use Rattle.sci_core.specs.WellFormed.{IsInLane, IsPart, IsWellFormed}
+use Rattle.sci_core.specs.Node.{NodeOf, IsForNode, IsServable, node_asking, replied_by, node_replying}
+use Rattle.sci_core.specs.Core.{Core, node_at, with_node, lane_place, lane_of, with_lane, Takes, sends, side, node_of, stepping}
+use Rattle.sci_core.specs.WellFormed.{IsInLane, IsWellFormed}
 use Rattle.sci_core.proofs.Parts.{SendsWell, part_asking}
 use Rattle.sci_core.proofs.WellFormedSteps.{Comes, comes_from_lane}
 use Rattle.sci_core.proofs.Stepping.{stepping_sent, stepping_taken}
@@ -58,7 +57,7 @@ taken_done core mid new e kind from taking letter lt f is front done same =
 pub target_below : (core : Core) (n line : ℕ) (kind : AskKind) (next : NodeOf) (letter : Letter) → IsWellFormed core → n < core.nodes → node_asking (node_at core n) line kind ≡ Some (next, letter) → letter.target < core.nodes
 target_below core n line kind next letter well lt e =
     let sent = subst (λ (o : Option (NodeOf × Letter)). IfSome o (SendsWell core.nodes core.lines core.slots core.limit n)) e
-        (part_asking core.nodes core.lines core.slots core.limit n (node_at core n) line kind well.some_node lt (well.each_part n lt)) in
+    (part_asking core.nodes core.lines core.slots core.limit n (node_at core n) line kind well.some_node lt (well.each_part n lt)) in
     sent.request.letter_ok.target
 
 sent_into : (core new : Core) (e : Event) (kind : LaneKind) (sending : NodeOf → Option (NodeOf × Letter)) (request : Letter) (result : Option Packet) → node_of e < core.nodes

@@ -20,7 +20,7 @@ pub record SameSizes (old new : CacheOf) : Type 0 where
   pub slots : new.slots ≡ old.slots
   pub lines : length new.lines ≡ length old.lines
 
-same_line : (cache : CacheOf) (line : ℕ) (part : LineState) → SameSizes cache (with_line cache line part)
+pub same_line : (cache : CacheOf) (line : ℕ) (part : LineState) → SameSizes cache (with_line cache line part)
 same_line cache line part = record { me = refl; nodes = refl; slots = refl; lines = length-set cache.lines line part }
 
 accepted_same : (cache : CacheOf) (line : ℕ) (state : Option CacheState) (new : CacheOf)

@@ -1,5 +1,5 @@
 -- Each row of the tables makes identifiers of nodes from identifiers of nodes.
-use Rattle.std.proofs.Common.{◌≡◌, ℕ, ◌<◌, ◌-◌, ◌^◌, nat_lt, Bool, true, false, if◌then◌else◌, Option, Some, None, refl}
+use Rattle.std.proofs.Common.{◌≡◌, ℕ, ◌<◌, ◌-◌, ◌^◌, nat_lt, Bool, true, false, if◌then◌else◌, Some, None, refl}
 use Rattle.std.specs.Prelude.{IfSome}
 use Rattle.sci_words.specs.declared.stamped.Stamped.{Stamped}
 use Rattle.sci_words.specs.declared.event.AskKind.{AskKind}

@@ -9,3 +9,4 @@ pub mod WellFormedSteps
 pub mod Stepping
 pub mod States
 pub mod Applied
+pub mod Stops

@@ -1,6 +1,6 @@
 -- Each side of an event leaves a node's part well formed, and makes packets that are.
-use Rattle.std.proofs.Common.{◌≡◌, ℕ, ◌<◌, ◌≤◌, ◌%◌, ◌&&◌, not, nat_lt, Bool, true, false, if◌then◌else◌, List, [], ◌∷◌, ◌++◌, length, get_or, set, Option, Some, None, Result, Ok, Err, refl, sym, ap, subst, ◌∙◌, mod-lt, arith}
-use Rattle.std.specs.Prelude.{◌==◌, IfSome, IfOk, IsSome, is_some, is_none, IsTrue}
+use Rattle.std.proofs.Common.{◌≡◌, ℕ, ◌<◌, ◌%◌, ◌&&◌, not, nat_lt, Bool, true, false, if◌then◌else◌, set, Option, Some, None, Result, Ok, Err, refl, sym, subst, ◌∙◌, mod-lt, arith}
+use Rattle.std.specs.Prelude.{◌==◌, IfSome, is_some}
 use Rattle.std.proofs.lemmas.Bool.{cases_Bool, ltb-true}
 use Rattle.std.proofs.Common.{inl, inr}
 use Rattle.std.proofs.lemmas.List.{length-set}
@@ -12,7 +12,7 @@ use Rattle.sci_packets.specs.declared.body.Body.TheVariants.{Busy}
 use Rattle.sci_packets.specs.Table.{is_request}
 use Rattle.sci_history.specs.declared.entry.Entry.{Entry}
 use Rattle.sci_home.specs.declared.state.HomeState.{HomeState}
-use Rattle.sci_home.specs.Serving.{opening_home, is_for_home, IsForHome, serving as serving_at_home_of}
+use Rattle.sci_home.specs.Serving.{opening_home, is_for_home, serving as serving_at_home_of}
 use Rattle.sci_cache.specs.declared.fault.AskFault.{AskFault}
 use Rattle.sci_cache.specs.declared.fault.AskFault.TheVariants.{NoSlot, NotNow}
 use Rattle.sci_cache.specs.State.{CacheState, is_out}
@@ -20,12 +20,15 @@ use Rattle.sci_cache.specs.Asking.{Asked, asking}
 use Rattle.sci_cache.specs.Serving.{serving}
 use Rattle.sci_cache.specs.Accepting.{accepting}
 use Rattle.sci_cache.specs.Performing.{Performed, performing}
-use Rattle.sci_cache.specs.Line.{LineState, untouched, line_in, line_asked, line_asking, line_accepting, last_control}
-use Rattle.sci_cache.specs.Cache.{CacheOf, Letter, line_of, with_line, has_slot, target_of, letter_asking, cache_asking, cache_serving, cache_accepting, cache_performing}
+use Rattle.sci_cache.specs.Line.{LineState, untouched, line_in, line_asked, last_control}
+use Rattle.sci_cache.specs.Cache.{CacheOf, Letter, line_of, with_line, has_slot, target_of, letter_asking, cache_asking}
 use Rattle.sci_core.specs.declared.pending.Pending.{Pending}
 use Rattle.sci_core.specs.Node.{NodeOf, lines_of, home_of, home_place, pending_on, may_issue, node_issued, node_issuing, node_logged, entry_of, performed_by, performing_pending, node_performing, asked_by, node_asking, answer_to, with_answer, served_at_home, served_in_cache, serving_at_home, serving_in_cache, serving_request, answered_by, node_serving, is_setback, node_refusing, replied_by, node_replying, accepted_by, node_accepting}
-use Rattle.sci_core.specs.WellFormed.{IsBelow, NamesNodes, HomeNamesNodes, BodyNamesNodes, IsLetter, IsRequestLetter, IsAnswerLetter, IsPart}
+use Rattle.sci_core.specs.WellFormed.{IsBelow, NamesNodes, HomeNamesNodes, BodyNamesNodes, IsRequestLetter, IsAnswerLetter, IsPart}
 use Rattle.sci_core.proofs.Lists.{at_set, if_either}
+use Rattle.std.proofs.lemmas.List.Elements.{All-push}
+use Rattle.sci_core.proofs.Caches.{same_line}
+use Rattle.sci_core.proofs.Nodes.{node_with_cache, node_with_homes, node_with_waiting, node_with_issue, node_with_entry}
 use Rattle.sci_core.proofs.Identifiers.{AsksWell, asking_names, ServesWell, serving_names, HomeServesWell, home_names, accepting_names, performing_names}
 
 -- ---- parts in which one thing is another
@@ -41,27 +44,38 @@ part_with_line nodes lines slots limit n part line state names is = record {
   states = at_set (λ (l : LineState). NamesNodes nodes l.state) part.cache.lines line state untouched is.states names;
   homes = is.homes;
   answer = is.answer;
+  fits = node_with_cache part (with_line part.cache line state) (same_line part.cache line state) is.fits;
+  own = is.own;
 }
 
 pub part_with_home : (nodes lines slots limit n : ℕ) (part : NodeOf) (place : ℕ) (home : HomeState) → HomeNamesNodes nodes home → IsPart nodes lines slots limit n part
     → IsPart nodes lines slots limit n (record part { homes = set part.homes place home })
 part_with_home nodes lines slots limit n part place home names is = record {
-  me = is.me; all = is.all; room = is.room; each = is.each; most = is.most; states = is.states; answer = is.answer;
+  me = is.me;
+  all = is.all;
+  room = is.room;
+  each = is.each;
+  most = is.most;
+  states = is.states;
+  answer = is.answer;
+  own = is.own;
+  fits = node_with_homes part (set part.homes place home) (length-set part.homes place home) is.fits;
   homes = at_set (HomeNamesNodes nodes) part.homes place home opening_home is.homes names;
 }
 
 pub part_with_waiting : (nodes lines slots limit n : ℕ) (part : NodeOf) (waiting : Option Letter) → IfSome waiting (λ (letter : Letter). IsAnswerLetter nodes lines letter × (letter.source ≡ n)) → IsPart nodes lines slots limit n part
     → IsPart nodes lines slots limit n (record part { waiting = waiting })
 part_with_waiting nodes lines slots limit n part waiting answer is = record {
-  me = is.me; all = is.all; room = is.room; each = is.each; most = is.most; states = is.states; homes = is.homes;
+  me = is.me;
+  all = is.all;
+  room = is.room;
+  each = is.each;
+  most = is.most;
+  states = is.states;
+  homes = is.homes;
+  own = is.own;
+  fits = node_with_waiting part waiting is.fits;
   answer = answer;
-}
-
--- what else a node has
-part_with_pending : (nodes lines slots limit n : ℕ) (part : NodeOf) (pending : List (Option Pending)) (issued : ℕ) (log : List Entry) → IsPart nodes lines slots limit n part
-    → IsPart nodes lines slots limit n (record part { pending = pending; issued = issued; log = log })
-part_with_pending nodes lines slots limit n part pending issued log is = record {
-  me = is.me; all = is.all; room = is.room; each = is.each; most = is.most; states = is.states; homes = is.homes; answer = is.answer;
 }
 
 -- ---- the answer to a request
@@ -73,31 +87,63 @@ answer_letter nodes lines n request answer asks to names not_asks =
 
 -- ---- Issue
 
+issued_part : (nodes lines slots limit n : ℕ) (part : NodeOf) (op : Op) → may_issue part op ≡ true → IsPart nodes lines slots limit n part → IsPart nodes lines slots limit n (node_issued part op)
+issued_part nodes lines slots limit n part op may is = record {
+  me = is.me;
+  all = is.all;
+  room = is.room;
+  each = is.each;
+  most = is.most;
+  states = is.states;
+  homes = is.homes;
+  answer = is.answer;
+  own = is.own;
+  fits = node_with_issue part op may is.fits;
+}
+
+issuing_if : (nodes lines slots limit n : ℕ) (part : NodeOf) (op : Op) (may : Bool) → may_issue part op ≡ may → IsPart nodes lines slots limit n part → IfSome (if may then Some (node_issued part op) else None) (IsPart nodes lines slots limit n)
+issuing_if nodes lines slots limit n part op true e is = issued_part nodes lines slots limit n part op e is
+issuing_if nodes lines slots limit n part op false e is = tt
+
 pub part_issuing : (nodes lines slots limit n : ℕ) (part : NodeOf) (op : Op) → IsPart nodes lines slots limit n part → IfSome (node_issuing part op) (IsPart nodes lines slots limit n)
-part_issuing nodes lines slots limit n part op is =
-    if_either (λ (o : Option NodeOf). IfSome o (IsPart nodes lines slots limit n)) (may_issue part op) (Some (node_issued part op)) None
-    (part_with_pending nodes lines slots limit n part _ _ part.log is) tt
+part_issuing nodes lines slots limit n part op is = issuing_if nodes lines slots limit n part op (may_issue part op) refl is
 
 -- ---- Perform
 
-performed_part : (nodes lines slots limit n : ℕ) (part : NodeOf) (line : ℕ) (pending : Pending) (done : Option Performed) → IsPart nodes lines slots limit n part → IfSome done (λ (d : Performed). NamesNodes nodes d.next)
-    → IfSome (performed_by part line pending (elim done as (λ _. Option (CacheOf × Reply × ℕ)) [ | None ↦ None | Some d ↦ Some (with_line part.cache pending.op.line (line_in (line_of part.cache pending.op.line) d.next), d.reply, d.version) ]))
-      (λ (x : NodeOf × Entry). IsPart nodes lines slots limit n x.0)
-performed_part nodes lines slots limit n part line pending None is names = tt
-performed_part nodes lines slots limit n part line pending (Some d) is names =
-    part_with_pending nodes lines slots limit n (record part { cache = with_line part.cache pending.op.line (line_in (line_of part.cache pending.op.line) d.next) }) _ part.issued _
-    (part_with_line nodes lines slots limit n part pending.op.line (line_in (line_of part.cache pending.op.line) d.next) names is)
+logged_part : (nodes lines slots limit n : ℕ) (part : NodeOf) (line : ℕ) (pending : Pending) (place : ℕ) (state : LineState) (entry : Entry) → pending_on part line ≡ Some pending → NamesNodes nodes state.state → entry.node ≡ n → IsPart nodes lines slots limit n part
+    → IsPart nodes lines slots limit n (node_logged part line (with_line part.cache place state) entry)
+logged_part nodes lines slots limit n part line pending place state entry at names mine is =
+    let changed = part_with_line nodes lines slots limit n part place state names is in
+    record {
+      me = is.me;
+      all = is.all;
+      room = is.room;
+      each = changed.each;
+      most = is.most;
+      states = changed.states;
+      homes = is.homes;
+      answer = is.answer;
+      fits = node_with_entry part line pending (with_line part.cache place state) entry (same_line part.cache place state) at is.fits;
+      own = All-push (λ (e : Entry). e.node ≡ n) part.log entry is.own mine;
+    }
 
-pending_part : (nodes lines slots limit n : ℕ) (part : NodeOf) (line : ℕ) (pending : Option Pending) → IsPart nodes lines slots limit n part
+performed_part : (nodes lines slots limit n : ℕ) (part : NodeOf) (line : ℕ) (pending : Pending) (done : Option Performed) → pending_on part line ≡ Some pending → IsPart nodes lines slots limit n part → IfSome done (λ (d : Performed). NamesNodes nodes d.next)
+    → IfSome (performed_by part line pending (elim done as (λ _. Option (CacheOf × Reply × ℕ)) [ None ↦ None | Some d ↦ Some (with_line part.cache pending.op.line (line_in (line_of part.cache pending.op.line) d.next), d.reply, d.version) ]))
+    (λ (x : NodeOf × Entry). IsPart nodes lines slots limit n x.0)
+performed_part nodes lines slots limit n part line pending None at is names = tt
+performed_part nodes lines slots limit n part line pending (Some d) at is names =
+    logged_part nodes lines slots limit n part line pending pending.op.line (line_in (line_of part.cache pending.op.line) d.next) (entry_of part pending d.reply d.version) at names is.me is
+
+pending_part : (nodes lines slots limit n : ℕ) (part : NodeOf) (line : ℕ) (pending : Option Pending) → pending_on part line ≡ pending → IsPart nodes lines slots limit n part
     → IfSome (performing_pending part line pending) (λ (x : NodeOf × Entry). IsPart nodes lines slots limit n x.0)
-pending_part nodes lines slots limit n part line None is = tt
-pending_part nodes lines slots limit n part line (Some pending) is =
-    performed_part nodes lines slots limit n part line pending (performing (line_of part.cache pending.op.line).state pending.op) is
+pending_part nodes lines slots limit n part line None at is = tt
+pending_part nodes lines slots limit n part line (Some pending) at is =
+    performed_part nodes lines slots limit n part line pending (performing (line_of part.cache pending.op.line).state pending.op) at is
     (performing_names nodes (line_of part.cache pending.op.line).state pending.op (is.states pending.op.line))
 
 pub part_performing : (nodes lines slots limit n : ℕ) (part : NodeOf) (line : ℕ) → IsPart nodes lines slots limit n part
     → IfSome (node_performing part line) (λ (x : NodeOf × Entry). IsPart nodes lines slots limit n x.0)
-part_performing nodes lines slots limit n part line is = pending_part nodes lines slots limit n part line (pending_on part line) is
+part_performing nodes lines slots limit n part line is = pending_part nodes lines slots limit n part line (pending_on part line) refl is
 
 -- ---- Ask
 
@@ -132,10 +178,10 @@ asked_part nodes lines slots limit n part line asked some lt below asks is = rec
 }
 
 made_part : (nodes lines slots limit n : ℕ) (part : NodeOf) (line : ℕ) (lacks : Bool) (made : Option Asked) → 0 < nodes → n < nodes → line < lines → IfSome made (AsksWell nodes) → IsPart nodes lines slots limit n part
-    → IfSome (asked_by part (elim (elim made as (λ _. Result Asked AskFault) [ | None ↦ Err NotNow | Some a ↦ if lacks then Err NoSlot else Ok a ]) as (λ _. Result (CacheOf × Letter) AskFault) [
-        | Err fault ↦ Err fault
-        | Ok a ↦ Ok (with_line part.cache line (line_asked (line_of part.cache line) a), letter_asking part.cache line a)
-      ])) (SendsWell nodes lines slots limit n)
+    → IfSome (asked_by part (elim (elim made as (λ _. Result Asked AskFault) [ None ↦ Err NotNow | Some a ↦ if lacks then Err NoSlot else Ok a ]) as (λ _. Result (CacheOf × Letter) AskFault) [
+      | Err fault ↦ Err fault
+      | Ok a ↦ Ok (with_line part.cache line (line_asked (line_of part.cache line) a), letter_asking part.cache line a)
+    ])) (SendsWell nodes lines slots limit n)
 made_part nodes lines slots limit n part line lacks None some lt below asks is = tt
 made_part nodes lines slots limit n part line true (Some asked) some lt below asks is = tt
 made_part nodes lines slots limit n part line false (Some asked) some lt below asks is = asked_part nodes lines slots limit n part line asked some lt below asks is
@@ -152,9 +198,9 @@ pub part_asking : (nodes lines slots limit n : ℕ) (part : NodeOf) (line : ℕ)
     → IfSome (node_asking part line kind) (SendsWell nodes lines slots limit n)
 part_asking nodes lines slots limit n part line kind some lt is =
     asking_if nodes lines slots limit n part line (asked_by part (cache_asking part.cache line kind)) (λ below.
-      let all = is.each in
-      made_part nodes lines slots limit n part line (is_out (line_of part.cache line).state && not (has_slot part.cache)) (asking (line_of part.cache line).state kind) some lt (omega arith)
-      (asking_names nodes (line_of part.cache line).state kind (is.states line)) is)
+    let all = is.each in
+    made_part nodes lines slots limit n part line (is_out (line_of part.cache line).state && not (has_slot part.cache)) (asking (line_of part.cache line).state kind) some lt (omega arith)
+    (asking_names nodes (line_of part.cache line).state kind (is.states line)) is)
 
 -- ---- Serve
 
@@ -171,7 +217,7 @@ home_served_part nodes lines slots limit n part request (Some served) asks to we
 }
 
 cache_served_part : (nodes lines slots limit n : ℕ) (part : NodeOf) (request : Letter) (served : Option (CacheState × Body)) → IsRequestLetter nodes lines request → request.target ≡ n → IfSome served (ServesWell nodes) → IsPart nodes lines slots limit n part
-    → IfSome (served_in_cache part (elim served as (λ _. Option (CacheOf × Body)) [ | None ↦ None | Some s ↦ Some (with_line part.cache request.line (line_in (line_of part.cache request.line) s.0), s.1) ])) (ServedWell nodes lines slots limit n request)
+    → IfSome (served_in_cache part (elim served as (λ _. Option (CacheOf × Body)) [ None ↦ None | Some s ↦ Some (with_line part.cache request.line (line_in (line_of part.cache request.line) s.0), s.1) ])) (ServedWell nodes lines slots limit n request)
 cache_served_part nodes lines slots limit n part request None asks to well is = tt
 cache_served_part nodes lines slots limit n part request (Some served) asks to well is = record {
   next = part_with_line nodes lines slots limit n part request.line (line_in (line_of part.cache request.line) served.0) well.next is;
@@ -183,9 +229,9 @@ request_part : (nodes lines slots limit n : ℕ) (part : NodeOf) (request : Lett
 request_part nodes lines slots limit n part request asks to is =
     if_either (λ (o : Option (NodeOf × Body)). IfSome o (ServedWell nodes lines slots limit n request)) (is_for_home request.body) (serving_at_home part request) (serving_in_cache part request)
     (home_served_part nodes lines slots limit n part request (serving_at_home_of (home_of part request.line) request.source request.body) asks to
-      (home_names nodes (home_of part request.line) request.source request.body asks.letter_ok.source (is.homes (home_place part request.line))) is)
+    (home_names nodes (home_of part request.line) request.source request.body asks.letter_ok.source (is.homes (home_place part request.line))) is)
     (cache_served_part nodes lines slots limit n part request (serving (line_of part.cache request.line).state request.source request.body) asks to
-      (serving_names nodes (line_of part.cache request.line).state request.source request.body asks.letter_ok.source (is.states request.line) asks.letter_ok.names) is)
+    (serving_names nodes (line_of part.cache request.line).state request.source request.body asks.letter_ok.source (is.states request.line) asks.letter_ok.names) is)
 
 answered_part : (nodes lines slots limit n : ℕ) (request : Letter) (served : Option (NodeOf × Body)) → IfSome served (ServedWell nodes lines slots limit n request)
     → IfSome (answered_by request served) (IsPart nodes lines slots limit n)
@@ -205,7 +251,7 @@ pub part_refusing : (nodes lines slots limit n : ℕ) (part : NodeOf) (request :
 part_refusing nodes lines slots limit n part request asks to is =
     if_either (λ (o : Option NodeOf). IfSome o (IsPart nodes lines slots limit n)) (is_some part.waiting) None (if is_setback request.body then None else Some (with_answer part request Busy)) tt
     (if_either (λ (o : Option NodeOf). IfSome o (IsPart nodes lines slots limit n)) (is_setback request.body) None (Some (with_answer part request Busy)) tt
-      (part_with_waiting nodes lines slots limit n part (Some (answer_to request Busy)) (answer_letter nodes lines n request Busy asks to tt refl) is))
+    (part_with_waiting nodes lines slots limit n part (Some (answer_to request Busy)) (answer_letter nodes lines n request Busy asks to tt refl) is))
 
 -- ---- Reply
 
@@ -225,7 +271,7 @@ part_replying nodes lines slots limit n part is = replied_part nodes lines slots
 -- ---- Accept
 
 accepted_part : (nodes lines slots limit n : ℕ) (part : NodeOf) (line : ℕ) (awaited : Bool) (state : Option CacheState) → IfSome state (NamesNodes nodes) → IsPart nodes lines slots limit n part
-    → IfSome (accepted_by part (elim (if awaited then state else None) as (λ _. Option CacheOf) [ | None ↦ None | Some s ↦ Some (with_line part.cache line (line_in (line_of part.cache line) s)) ])) (IsPart nodes lines slots limit n)
+    → IfSome (accepted_by part (elim (if awaited then state else None) as (λ _. Option CacheOf) [ None ↦ None | Some s ↦ Some (with_line part.cache line (line_in (line_of part.cache line) s)) ])) (IsPart nodes lines slots limit n)
 accepted_part nodes lines slots limit n part line false state names is = tt
 accepted_part nodes lines slots limit n part line true None names is = tt
 accepted_part nodes lines slots limit n part line true (Some s) names is = part_with_line nodes lines slots limit n part line (line_in (line_of part.cache line) s) names is

@@ -1,5 +1,5 @@
 -- Where lanes stand, and what their places tell.
-use Rattle.std.proofs.Common.{◌≡◌, ℕ, ◌+◌, ◌*◌, ◌/◌, ◌%◌, ◌<◌, ◌≤◌, refl, sym, ap, subst, ◌∙◌, mul_comm, zero-mul, zero-add, one-mul, mul-le-mul_right, arith}
+use Rattle.std.proofs.Common.{◌≡◌, ℕ, ◌+◌, ◌*◌, ◌/◌, ◌%◌, ◌<◌, ◌≤◌, ap, subst, ◌∙◌, mul_comm, zero-mul, zero-add, one-mul, mul-le-mul_right, arith}
 use Rattle.std.proofs.lemmas.Nat.{mul-add-lt, mod-mul-add, div-mul-add}
 use Rattle.sci_core.specs.declared.lane.LaneKind.{LaneKind}
 use Rattle.sci_core.specs.declared.lane.LaneKind.TheVariants.{Requests, Answers}
@@ -25,7 +25,7 @@ pub place_requests : (nodes from to : ℕ) → from < nodes → to < nodes → l
 place_requests nodes from to f t = rw zero-mul (rw zero-add (mul-add-lt from nodes to nodes f t))
 
 pub place_answers : (nodes from to : ℕ) → nodes * nodes ≤ lane_place nodes Answers from to
-place_answers nodes from to = 
+place_answers nodes from to =
     let one = one-mul nodes in
     let rows : nodes * nodes ≤ (1 * nodes + from) * nodes = mul-le-mul_right nodes (omega arith) in
     omega arith

@@ -1,5 +1,5 @@
 -- A node that is read at its place, changes, and is written back, is the node with that number.
-use Rattle.std.proofs.Common.{◌≡◌, ℕ, ◌<◌, List, length, get_or, set, Option, Some, None, IsTrue, Bool, refl, sym, ap, subst, ◌∙◌}
+use Rattle.std.proofs.Common.{◌≡◌, ℕ, ◌<◌, length, get_or, set, Option, Some, None, IsTrue, Bool, ap, subst}
 use Rattle.std.specs.Prelude.{IfSome}
 use Rattle.std.proofs.lemmas.List.{get_or_read}
 use Rattle.sci_core.specs.Node.{NodeOf, opening_node}

@@ -1,9 +1,10 @@
 -- Every step leaves a state well formed, and keeps the machine's sizes. So every reached state is.
-use Rattle.std.proofs.Common.{◌≡◌, ℕ, ◌+◌, ◌*◌, ◌/◌, ◌%◌, ◌<◌, ◌≤◌, nat_lt, Bool, true, false, if◌then◌else◌, List, [], ◌∷◌, ◌++◌, length, map, replicate, get_or, set, Option, Some, None, refl, sym, ap, subst, ◌∙◌, inl, inr, arith}
-use Rattle.std.specs.Prelude.{IfSome, unwrap_or}
-use Rattle.std.specs.List.{All, fold, range_with_len}
+use Rattle.std.proofs.Common.{◌≡◌, ℕ, ◌+◌, ◌*◌, ◌/◌, ◌<◌, ◌≤◌, nat_lt, Bool, if◌then◌else◌, List, [], ◌∷◌, ◌++◌, replicate, Option, Some, None, refl, sym, ap, subst, ◌∙◌, inl, inr, arith}
+use Rattle.std.specs.Prelude.{IfSome, unwrap_or, Result, Ok, Err, IfOk, IsErr}
+use Rattle.std.specs.List.{All}
 use Rattle.std.proofs.lemmas.Bool.{cases_Bool, cases_lt, ltb-true}
 use Rattle.std.proofs.lemmas.List.{length-set, length-replicate, get_or-replicate, get_or_past}
+use Rattle.std.proofs.lemmas.List.Sums.{fold-append}
 use Rattle.std.proofs.lemmas.List.Elements.{All-nil, All-head, All-tail, All-push}
 use Rattle.std.proofs.lemmas.List.FromFn.{length-map-range_with_len, get_or-map-range_with_len}
 use Rattle.sci_words.specs.declared.event.Event.{Event}
@@ -14,11 +15,13 @@ use Rattle.sci_cache.specs.Line.{LineState, untouched}
 use Rattle.sci_cache.specs.Cache.{Letter}
 use Rattle.sci_core.specs.declared.lane.LaneKind.{LaneKind}
 use Rattle.sci_core.specs.declared.lane.LaneKind.TheVariants.{Requests, Answers}
-use Rattle.sci_core.specs.Node.{NodeOf, opening_node, node_issuing, node_performing, node_asking, node_replying, node_serving, node_refusing, node_accepting}
-use Rattle.sci_core.specs.Core.{Core, node_at, with_node, lane_place, lane_at, lane_of, with_lane, Side, Idle, Changes, Sends, Takes, changes, performs, sends, side, node_of, sent_by, taken_as, taken_from, step_by, stepping, step, opening, run_from}
+use Rattle.sci_core.specs.Node.{NodeOf, opening_node, node_issuing, node_performing, node_asking, node_replying}
+use Rattle.sci_core.specs.Core.{Core, node_at, with_node, lane_place, lane_of, with_lane, Side, Idle, Changes, Sends, Takes, changes, performs, sends, side, node_of, sent_by, taken_as, taken_from, step_by, stepping, step, opening, run_from, run}
 use Rattle.sci_core.specs.Reached.{IsReached, AreSizes}
-use Rattle.sci_core.specs.WellFormed.{NamesNodes, HomeNamesNodes, IsLetter, IsRequestLetter, IsAnswerLetter, IsInLane, IsPart, IsWellFormed}
-use Rattle.sci_core.proofs.Lists.{at_place_set, if_either}
+use Rattle.sci_core.specs.WellFormed.{NamesNodes, HomeNamesNodes, IsRequestLetter, IsAnswerLetter, IsInLane, IsPart, IsWellFormed}
+use Rattle.sci_words.specs.declared.limits.TheConstants.{MAX_OPERATIONS}
+use Rattle.sci_core.proofs.Nodes.{opening_is_node}
+use Rattle.sci_core.proofs.Lists.{at_place_set}
 use Rattle.sci_core.proofs.Places.{place_to, place_from, place_requests, place_answers}
 use Rattle.sci_core.proofs.Parts.{SendsWell, RepliesWell, part_issuing, part_performing, part_asking, part_serving, part_refusing, part_replying, part_accepting}
 
@@ -129,8 +132,8 @@ step_by_well core n (Changes next) lt is well = record { well = well_with_node c
 step_by_well core n (Sends kind next letter) lt is well = record { well = sent_well core n kind next letter lt is.0 is.1 well; same = record { nodes = refl; lines = refl; slots = refl; limit = refl } }
 step_by_well core n (Takes kind from taking) lt is well =
     if_below from core.nodes (StepsWell core) (taken_from core n (lane_place core.nodes kind from n) taking (lane_of core kind from n)) (λ f.
-      taken_from_well core n (lane_place core.nodes kind from n) taking (lane_of core kind from n) (well.each_lane (lane_place core.nodes kind from n))
-      (λ letter h. is letter (comes_from_lane core from n kind letter f lt h)) well)
+    taken_from_well core n (lane_place core.nodes kind from n) taking (lane_of core kind from n) (well.each_lane (lane_place core.nodes kind from n))
+    (λ letter h. is letter (comes_from_lane core from n kind letter f lt h)) well)
 
 -- ---- each event's side is well
 
@@ -163,7 +166,7 @@ pub stepping_well : (core : Core) (e : Event) → IsWellFormed core → IfSome (
 unfolding stepping
 stepping_well core e well =
     if_below (node_of e) core.nodes (StepsWell core) (step_by core (node_of e) (side (node_at core (node_of e)) e)) (λ lt.
-      step_by_well core (node_of e) (side (node_at core (node_of e)) e) lt (side_well core (node_at core (node_of e)) e well.some_node lt (well.each_part (node_of e) lt)) well)
+    step_by_well core (node_of e) (side (node_at core (node_of e)) e) lt (side_well core (node_at core (node_of e)) e well.some_node lt (well.each_part (node_of e) lt)) well)
 
 -- ---- runs
 
@@ -186,37 +189,66 @@ run_well core (e ∷ events) well =
 
 -- ---- the opening
 
-opening_part : (me nodes lines slots limit : ℕ) → IsPart nodes lines slots limit me (opening_node me nodes lines slots limit)
-opening_part me nodes lines slots limit = record {
+opening_part : (me nodes lines slots limit : ℕ) → 0 < nodes → limit ≤ MAX_OPERATIONS → IsPart nodes lines slots limit me (opening_node me nodes lines slots limit)
+opening_part me nodes lines slots limit some few = record {
+  fits = opening_is_node me nodes lines slots limit some few;
+  own = All-nil (λ (e : Entry). e.node ≡ me);
   me = refl;
   all = refl;
   room = refl;
   each = length-replicate lines untouched;
   most = refl;
   states = λ line. elim (cases_lt line lines) [
-      | inl below ↦ subst (λ (l : LineState). NamesNodes nodes l.state) (sym (get_or-replicate lines line untouched untouched below)) tt
-      | inr past ↦ subst (λ (l : LineState). NamesNodes nodes l.state) (sym (get_or_past (replicate lines untouched) line untouched (rw length-replicate past))) tt
-    ];
+    | inl below ↦ subst (λ (l : LineState). NamesNodes nodes l.state) (sym (get_or-replicate lines line untouched untouched below)) tt
+    | inr past ↦ subst (λ (l : LineState). NamesNodes nodes l.state) (sym (get_or_past (replicate lines untouched) line untouched (rw length-replicate past))) tt
+  ];
   homes = λ place. elim (cases_lt place (lines / nodes + 1)) [
-      | inl below ↦ subst (HomeNamesNodes nodes) (sym (get_or-replicate (lines / nodes + 1) place opening_home opening_home below)) tt
-      | inr past ↦ subst (HomeNamesNodes nodes) (sym (get_or_past (replicate (lines / nodes + 1) opening_home) place opening_home (rw length-replicate past))) tt
-    ];
+    | inl below ↦ subst (HomeNamesNodes nodes) (sym (get_or-replicate (lines / nodes + 1) place opening_home opening_home below)) tt
+    | inr past ↦ subst (HomeNamesNodes nodes) (sym (get_or_past (replicate (lines / nodes + 1) opening_home) place opening_home (rw length-replicate past))) tt
+  ];
   answer = tt;
 }
 
-pub opening_well : (nodes lines slots limit : ℕ) → 0 < nodes → IsWellFormed (opening nodes lines slots limit)
-opening_well nodes lines slots limit some = record {
+pub opening_well : (nodes lines slots limit : ℕ) → 0 < nodes → limit ≤ MAX_OPERATIONS → IsWellFormed (opening nodes lines slots limit)
+opening_well nodes lines slots limit some few = record {
   some_node = some;
   parts_long = length-map-range_with_len (λ (n : ℕ). opening_node n nodes lines slots limit) 0 nodes;
   lanes_long = length-replicate (2 * nodes * nodes) [];
-  each_part = λ n lt. subst (IsPart nodes lines slots limit n) (sym (get_or-map-range_with_len (λ (m : ℕ). opening_node m nodes lines slots limit) 0 nodes n n (opening_node 0 1 0 0 0) lt (omega arith))) (opening_part n nodes lines slots limit);
+  each_part = λ n lt. subst (IsPart nodes lines slots limit n) (sym (get_or-map-range_with_len (λ (m : ℕ). opening_node m nodes lines slots limit) 0 nodes n n (opening_node 0 1 0 0 0) lt (omega arith))) (opening_part n nodes lines slots limit some few);
   each_lane = λ place. elim (cases_lt place (2 * nodes * nodes)) [
-      | inl below ↦ subst (All (IsInLane nodes lines place)) (sym (get_or-replicate (2 * nodes * nodes) place [] [] below)) (All-nil (IsInLane nodes lines place))
-      | inr past ↦ subst (All (IsInLane nodes lines place)) (sym (get_or_past (replicate (2 * nodes * nodes) []) place [] (rw length-replicate past))) (All-nil (IsInLane nodes lines place))
-    ];
+    | inl below ↦ subst (All (IsInLane nodes lines place)) (sym (get_or-replicate (2 * nodes * nodes) place [] [] below)) (All-nil (IsInLane nodes lines place))
+    | inr past ↦ subst (All (IsInLane nodes lines place)) (sym (get_or_past (replicate (2 * nodes * nodes) []) place [] (rw length-replicate past))) (All-nil (IsInLane nodes lines place))
+  ];
 }
 
 pub reached_well : (core : Core) → IsReached core → IsWellFormed core
 reached_well core reached =
     let some = reached.sizes.extent.has_node in
-    subst IsWellFormed reached.leads (run_well (opening core.nodes core.lines core.slots core.limit) reached.schedule (opening_well core.nodes core.lines core.slots core.limit (omega arith))).well
+    subst IsWellFormed reached.leads (run_well (opening core.nodes core.lines core.slots core.limit) reached.schedule (opening_well core.nodes core.lines core.slots core.limit (omega arith) reached.sizes.few_operations)).well
+
+pub reached_opening : (nodes lines slots limit : ℕ) → AreSizes nodes lines slots limit → IsReached (opening nodes lines slots limit)
+reached_opening nodes lines slots limit sizes = record { sizes = sizes; schedule = []; leads = refl }
+
+-- one event more
+pub reached_stepping : (core next : Core) (e : Event) → IsReached core → stepping core e ≡ Some next → IsReached next
+reached_stepping core next e reached steps =
+    let well = reached_well core reached in
+    let kept = subst (λ (o : Option Core). IfSome o (StepsWell core)) steps (stepping_well core e well) in
+    let machine = kept.same in
+    let sizes : AreSizes next.nodes next.lines next.slots next.limit = rw (machine.nodes, machine.lines, machine.slots, machine.limit) reached.sizes in
+    let leads : run core.nodes core.lines core.slots core.limit (reached.schedule ++ e ∷ []) ≡ next =
+    fold-append step (opening core.nodes core.lines core.slots core.limit) reached.schedule (e ∷ []) ∙ (ap (λ (k : Core). step k e) reached.leads ∙ ap (λ (o : Option Core). unwrap_or o core) steps) in
+    let all = reached.schedule ++ e ∷ [] in
+    let a = subst (λ (k : ℕ). run k core.lines core.slots core.limit all ≡ next) (sym machine.nodes) leads in
+    let b = subst (λ (k : ℕ). run next.nodes k core.slots core.limit all ≡ next) (sym machine.lines) a in
+    let d = subst (λ (k : ℕ). run next.nodes next.lines k core.limit all ≡ next) (sym machine.slots) b in
+    record {
+      sizes = sizes;
+      schedule = all;
+      leads = subst (λ (k : ℕ). run next.nodes next.lines next.slots k all ≡ next) (sym machine.limit) d;
+    }
+
+-- a call that steps, or leaves the state as it was
+pub reached_either : {T E : Type 0} (result : Result T E) (old new : Core) (e : Event) → IsReached old → IfOk result (λ _. stepping old e ≡ Some new) → (IsErr result → new ≡ old) → IsReached new
+reached_either (Ok x) old new e reached done same = reached_stepping old new e reached done
+reached_either (Err f) old new e reached done same = subst IsReached (sym (same refl)) reached

@@ -5,3 +5,4 @@ pub mod Reached
 pub mod WellFormed
 pub mod Fault
 pub mod Sizes
+pub mod Stopped

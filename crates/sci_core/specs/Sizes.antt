@@ -1,5 +1,5 @@
 -- How many nodes and lanes a state has.
-use Rattle.std.specs.Prelude.{◌≡◌, ◌*◌, ◌≤◌, ℕ, length}
+use Rattle.std.specs.Prelude.{◌≡◌, ◌*◌, ◌≤◌, length}
 use Rattle.sci_core.specs.Core.{Core}
 
 pub record HasSizes (core : Core) : Type 0 where

@@ -1,5 +1,5 @@
 -- Plain facts of a machine's state: sizes, senders and receivers, and numbers in range.
-use Rattle.std.specs.Prelude.{◌≡◌, ℕ, ◌+◌, ◌*◌, ◌/◌, ◌%◌, ◌<◌, ◌≤◌, false, List, length, slice_index_or, Option, Some, None, IfSome}
+use Rattle.std.specs.Prelude.{◌≡◌, ℕ, ◌*◌, ◌/◌, ◌%◌, ◌<◌, ◌≤◌, false, length, slice_index_or, Option, IfSome}
 use Rattle.std.specs.List.{All}
 use Rattle.sci_packets.specs.declared.body.Body.{Body}
 use Rattle.sci_packets.specs.declared.body.Body.TheVariants.{Roll, Setback, Mgone, Purged, Fdata}
@@ -7,9 +7,9 @@ use Rattle.sci_packets.specs.Table.{is_request, IsRequest}
 use Rattle.sci_home.specs.declared.state.HomeState.{HomeState}
 use Rattle.sci_home.specs.declared.state.HomeState.TheVariants as home
 use Rattle.sci_home.specs.Serving.{opening_home, IsForHome}
-use Rattle.sci_cache.specs.State.{CacheState, Out, Asking, Joining, FreshJoining, Head, FreshHead, Below, Purging, Claiming, Clearing, Returning, Rolling, Telling, Fading}
+use Rattle.sci_cache.specs.State.{CacheState, Joining, FreshJoining, Head, FreshHead, Below, Purging, Claiming, Rolling, Telling}
 use Rattle.sci_cache.specs.Cache.{Letter, line_of}
-use Rattle.sci_core.specs.Node.{NodeOf, lines_of}
+use Rattle.sci_core.specs.Node.{NodeOf, lines_of, IsNode}
 use Rattle.sci_core.specs.Core.{Core, node_at, lane_at}
 
 -- ---- every identifier names a node
@@ -78,6 +78,8 @@ pub record IsPart (nodes lines slots limit n : ℕ) (part : NodeOf) : Type 0 whe
   pub states : (line : ℕ) → NamesNodes nodes (line_of part.cache line).state
   pub homes : (place : ℕ) → HomeNamesNodes nodes (slice_index_or part.homes place opening_home)
   pub answer : IfSome part.waiting (λ letter. IsAnswerLetter nodes lines letter × (letter.source ≡ n))
+  pub fits : IsNode part
+  pub own : All (λ entry. entry.node ≡ n) part.log
 
 pub record IsWellFormed (core : Core) : Type 0 where
   pub some_node : 0 < core.nodes

@@ -5,11 +5,13 @@
 mod apply;
 mod fault;
 mod lane;
+mod machine;
 mod node;
 mod pending;
 mod state;
 
 pub use fault::ApplyFault;
 pub use lane::LaneKind;
+pub use machine::Machine;
 pub use node::Node;
 pub use pending::Pending;

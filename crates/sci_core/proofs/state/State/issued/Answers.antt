@@ -1,7 +1,7 @@
 -- What the node does is the step.
-use Rattle.std.proofs.Common.{◌≡◌, ◌<◌, None, Some, Option, refl, ap, arith}
+use Rattle.std.proofs.Common.{ap, arith}
 use Rattle.sci_words.specs.declared.event.Event.TheVariants as event
-use Rattle.sci_core.specs.Core.{changes, performs}
+use Rattle.sci_core.specs.Core.{changes}
 use Rattle.sci_core.proofs.Stepping.{stepping_nobody, stepping_idle, stepping_changed}
 use Rattle.sci_core.proofs.state.State.issued.Goals as goal
 

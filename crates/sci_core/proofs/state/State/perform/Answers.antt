@@ -1,9 +1,9 @@
 -- The node's call, told of the whole state.
-use Rattle.std.proofs.Common.{◌≡◌, ℕ, ◌<◌, Bool, IsTrue, Some, length, set, ap, subst, arith}
+use Rattle.std.proofs.Common.{◌≡◌, ◌<◌, Some, length, set, ap, subst, arith}
 use Rattle.std.specs.Prelude.{IfSome}
 use Rattle.sci_history.specs.declared.entry.Entry.{Entry}
 use Rattle.sci_core.specs.Node.{NodeOf, node_performing}
-use Rattle.sci_core.specs.Core.{Core, node_at}
+use Rattle.sci_core.specs.Core.{Core}
 use Rattle.sci_core.specs.contracts.state.State.{the_view}
 use Rattle.sci_core.proofs.States.{Gives, gives_some}
 use Rattle.sci_core.proofs.state.State.perform.Goals as goal

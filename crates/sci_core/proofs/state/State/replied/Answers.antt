@@ -1,5 +1,5 @@
 -- The packet that is sent is the answer that waits.
-use Rattle.std.proofs.Common.{◌≡◌, ℕ, ◌<◌, None, Some, Option, option_map, refl, ap, sym, subst, ◌∙◌, arith}
+use Rattle.std.proofs.Common.{◌≡◌, None, Some, Option, option_map, refl, ap, sym, ◌∙◌, arith}
 use Rattle.sci_words.specs.declared.event.Event.TheVariants as event
 use Rattle.sci_cache.specs.Cache.{Letter, letter_of}
 use Rattle.sci_core.specs.declared.lane.LaneKind.TheVariants.{Answers}

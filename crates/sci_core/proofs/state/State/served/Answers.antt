@@ -1,10 +1,10 @@
 -- What the node does with the oldest packet is the step.
-use Rattle.std.proofs.Common.{◌≡◌, ◌<◌, ◌≤◌, true, None, Some, Option, IsTrue, refl, ap, sym, ◌∙◌, arith}
+use Rattle.std.proofs.Common.{refl, arith}
 use Rattle.sci_words.specs.declared.event.Event.TheVariants as event
 use Rattle.sci_cache.specs.Cache.{letter_of}
-use Rattle.sci_core.specs.declared.lane.LaneKind.TheVariants.{Requests, Answers}
+use Rattle.sci_core.specs.declared.lane.LaneKind.TheVariants.{Requests}
 use Rattle.sci_core.specs.Node.{node_serving}
-use Rattle.sci_core.specs.Core.{Core, node_at}
+use Rattle.sci_core.specs.Core.{node_at}
 use Rattle.sci_core.proofs.Stepping.{stepping_nobody, stepping_from_nobody, stepping_empty, stepping_untaken}
 use Rattle.sci_core.proofs.Applied.{servable, taken_done}
 use Rattle.sci_core.proofs.state.State.served.Goals as goal

@@ -1,10 +1,10 @@
 -- The node's call, told of the whole state.
-use Rattle.std.proofs.Common.{◌≡◌, ℕ, ◌<◌, Bool, IsTrue, Some, length, set, ap, subst, arith}
+use Rattle.std.proofs.Common.{◌≡◌, ◌<◌, Some, length, set, ap, subst, arith}
 use Rattle.std.specs.Prelude.{IfSome}
 use Rattle.sci_packets.specs.declared.packet.Packet.{Packet}
 use Rattle.sci_cache.specs.Cache.{letter_of}
 use Rattle.sci_core.specs.Node.{NodeOf, node_replying}
-use Rattle.sci_core.specs.Core.{Core, node_at}
+use Rattle.sci_core.specs.Core.{Core}
 use Rattle.sci_core.specs.contracts.state.State.{the_view}
 use Rattle.sci_core.proofs.States.{Gives, gives_some}
 use Rattle.sci_core.proofs.state.State.take_answer.Goals as goal

@@ -1,0 +1,107 @@
+//! The machine: any list of single events, applied one after another.
+
+use crate::fault::ApplyFault;
+use crate::lane::LaneKind;
+use crate::node::Node;
+use crate::state::State;
+use sci_packets::Packet;
+use sci_words::{Event, Extent};
+use std::alloc::{AllocError, Global};
+use std::marker::Model;
+
+/// A machine of nodes, homes and lanes, in a state that some list of events leads to. Contracts see it as that
+/// state.
+#[derive(Drop)]
+pub struct Machine {
+    state: State,
+}
+
+impl Model for Machine {
+    ghost use Rattle.sci_core.specs.Core.{Core};
+    ghost use Rattle.sci_core.specs.Reached.{IsReached};
+
+    ghost Value = { Core };
+
+    ghost view = { λ machine. machine.state };
+
+    ghost invariant = { λ machine. IsReached machine.state };
+}
+
+impl Machine {
+    ghost use Rattle.std.specs.Prelude.{◌≡◌, ◌<◌, ◌≤◌, Some, IfOk, IfErr, IsErr, OnOk, OnErr, option_map, option_copied, slice_get, length};
+    ghost use Rattle.sci_words.specs.declared.limits.TheConstants.{MAX_OPERATIONS};
+    ghost use Rattle.sci_cache.specs.Cache.{letter_of};
+    ghost use Rattle.sci_core.specs.Core.{lane_of, node_at, opening, stepping, run_from};
+    ghost use Rattle.sci_core.specs.Fault.{IsFaultOf};
+    ghost use Rattle.sci_core.specs.Reached.{IsReached};
+    ghost use Rattle.sci_core.specs.Stopped.{IsStoppedAt};
+
+    /// A machine of this size in which no line was touched: all lines are HOME with zero words at version 0, and
+    /// all else is empty. Each node may issue `limit` operations; the caller sees to it that this is 1 to
+    /// 65,536. Refused where memory is.
+    pub fn new(alloc: Global, extent: Extent, limit: u32) -> Result<Machine, AllocError>
+        requires some { 1 ≤ limit }
+        requires few { limit ≤ MAX_OPERATIONS }
+        ensures opening { IfOk result (λ machine. machine ≡ opening extent.nodes extent.lines extent.slots limit) }
+        ensures reached { IfOk result IsReached }
+    {
+        Ok(Machine {
+            state: State::new(alloc, extent, limit)?,
+        })
+    }
+
+    /// Applies an event. Unchanged on refusal: NotEnabled exactly where the event is not enabled, and Memory
+    /// only for an Ask or a Reply that is enabled, where its lane could not grow.
+    pub fn apply(&mut self, event: &Event) -> Result<(), ApplyFault>
+        ensures done { IfOk result (λ _. stepping self.old event.now ≡ Some self.new) }
+        ensures refused { IfErr result (IsFaultOf (stepping self.old event.now) event.now) }
+        ensures same { IsErr result → self.new ≡ self.old }
+        ensures reached { IsReached self.new }
+    {
+        self.state.apply(event)
+    }
+
+    /// Applies events in their order; those that are not enabled change nothing. Where memory is refused, the
+    /// machine stands where the events before the refused one lead.
+    pub fn run(&mut self, events: &[Event]) -> Result<(), AllocError>
+        ensures ok { OnOk result (self.new ≡ run_from self.old events.now) }
+        ensures err { IsErr result → IsStoppedAt self.old self.new events.now }
+        ensures reached { IsReached self.new }
+    {
+        for event in events {
+            match self.apply(event) {
+                Ok(()) | Err(ApplyFault::NotEnabled) => {}
+                Err(ApplyFault::Memory(refused)) => return Err(refused),
+            }
+        }
+        let _reached = &self.state;
+        Ok(())
+    }
+
+    /// A node. The caller sees to it that there is such a node.
+    pub fn node(&self, n: u8) -> &Node
+        requires { n < self.now.nodes }
+        ensures node { result.now ≡ node_at self.now n }
+        ensures reached { IsReached self.now }
+    {
+        self.state.node(n)
+    }
+
+    /// The oldest packet of a lane, or None where it has none. The caller sees to it that there are such nodes.
+    pub fn front(&self, kind: LaneKind, from: u8, to: u8) -> Option<&Packet>
+        requires from { from < self.now.nodes }
+        requires to { to < self.now.nodes }
+        ensures front { option_map letter_of (option_copied result) ≡ slice_get (lane_of self.now kind from to) 0 }
+    {
+        self.state.front(kind, from, to)
+    }
+
+    /// How many packets a lane has. The caller sees to it that there are such nodes.
+    pub fn count(&self, kind: LaneKind, from: u8, to: u8) -> usize
+        requires from { from < self.now.nodes }
+        requires to { to < self.now.nodes }
+        ensures { result ≡ length (lane_of self.now kind from to) }
+    {
+        self.state.count(kind, from, to)
+    }
+}
