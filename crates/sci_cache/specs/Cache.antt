@@ -6,10 +6,10 @@ use Rattle.sci_words.specs.declared.operation.Reply.{Reply}
 use Rattle.sci_packets.specs.declared.body.Body.{Body}
 use Rattle.sci_packets.specs.declared.packet.Packet.{Packet}
 use Rattle.sci_cache.specs.declared.fault.AskFault.{AskFault}
-use Rattle.sci_cache.specs.State.{CacheState, is_out}
+use Rattle.sci_cache.specs.State.{is_out}
 use Rattle.sci_cache.specs.Asking.{Asked}
 use Rattle.sci_cache.specs.Serving.{serving}
-use Rattle.sci_cache.specs.Performing.{Performed, performing}
+use Rattle.sci_cache.specs.Performing.{performing}
 use Rattle.sci_cache.specs.Line.{LineState, untouched, line_asking, line_asked, line_in, line_accepting}
 
 pub record CacheOf : Type 0 where

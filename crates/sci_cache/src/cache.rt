@@ -89,6 +89,7 @@ impl Cache {
         ensures asked { IfOk result (λ packet. cache_asking self.old line kind ≡ Ok (self.new, letter_of packet)) }
         ensures refused { IfErr result (λ fault. cache_asking self.old line kind ≡ Err fault) }
         ensures same { IsErr result → self.new ≡ self.old }
+        ensures lines { length self.new.lines ≡ length self.old.lines }
     {
         let free = slots_taken(&self.lines) < usize::from(self.extent.slots);
         let part = &mut self.lines[usize::from(line)];
@@ -113,6 +114,7 @@ impl Cache {
         ensures source { result.source ≡ request.now.target }
         ensures control { result.control ≡ request.now.control }
         ensures line { result.line ≡ request.now.line }
+        ensures lines { length self.new.lines ≡ length self.old.lines }
     {
         let part = &mut self.lines[request.line as usize];
         let answer = part.serve(request.source, &request.body);
@@ -126,6 +128,7 @@ impl Cache {
         ensures taken { IfOk result (λ _. cache_accepting self.old answer.now.line answer.now.control answer.now.body ≡ Some self.new) }
         ensures refused { IsErr result → cache_accepting self.old answer.now.line answer.now.control answer.now.body ≡ None }
         ensures same { IsErr result → self.new ≡ self.old }
+        ensures lines { length self.new.lines ≡ length self.old.lines }
     {
         let part = &mut self.lines[answer.line as usize];
         part.accept(answer.control, &answer.body)
@@ -140,6 +143,7 @@ impl Cache {
         ensures done { IfSome result (λ answer. cache_performing self.old op ≡ Some (self.new, answer.0, answer.1)) }
         ensures refused { result ≡ None → cache_performing self.old op ≡ None }
         ensures same { result ≡ None → self.new ≡ self.old }
+        ensures lines { length self.new.lines ≡ length self.old.lines }
     {
         let part = &mut self.lines[usize::from(op.line)];
         part.perform(op)
