@@ -20,6 +20,8 @@ pub use states::{
 };
 
 #[cfg(test)]
+mod perform_tests;
+#[cfg(test)]
 mod table_tests;
 #[cfg(test)]
 mod tests;
