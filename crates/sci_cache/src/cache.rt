@@ -1,7 +1,6 @@
 //! The cache part of a node's controller.
 
-ghost use Rattle.std.specs.Prelude.{◌≡◌};
-ghost use Rattle.sci_cache.specs.Cache.{slots_taken as slots_taken_of};
+ghost use Rattle.std.specs.Prelude.{◌≡◌, ◌+◌, ◌<◌, true, false, cond, not};
 
 use crate::fault::{AskFault, NotAwaited};
 use crate::held::Held;
@@ -18,15 +17,19 @@ pub struct Cache {
     me: u8,
     extent: Extent,
     lines: Vec<CachedLine>,
+    /// How many lines have an entry: each takes a version slot.
+    taken: usize,
 }
 
 impl Model for Cache {
-    ghost use Rattle.sci_cache.specs.Cache.{CacheOf};
-    ghost use Rattle.std.specs.Prelude.{◌≤◌};
+    ghost use Rattle.std.specs.Prelude.{◌≡◌};
+    ghost use Rattle.sci_cache.specs.Cache.{CacheOf, slots_taken};
 
     ghost Value = { CacheOf };
 
     ghost view = { λ cache. record { me = cache.me; nodes = cache.extent.nodes; slots = cache.extent.slots; lines = cache.lines.items } };
+
+    ghost invariant = { λ cache. cache.taken ≡ slots_taken cache.lines.items };
 }
 
 /// The identifier of a node by its number.
@@ -36,11 +39,17 @@ fn node(number: u8) -> NodeId
     NodeId::new(u16::from(number)).unwrap()
 }
 
-/// How many lines have an entry.
-fn slots_taken(lines: &[CachedLine]) -> usize
-    ensures { result ≡ slots_taken_of lines.now }
+/// The number of slots taken, of which there were `taken`, after a line had an entry or not and has one or not.
+fn taken_after(taken: usize, was_out: bool, is_out: bool) -> usize
+    requires room { was_out ≡ true → is_out ≡ false → taken < usize.MAX }
+    requires some { was_out ≡ false → is_out ≡ true → 0 < taken }
+    ensures { result + cond (not was_out) 1 0 ≡ taken + cond (not is_out) 1 0 }
 {
-    lines.iter().filter(|line| !line.is_out()).count()
+    match (was_out, is_out) {
+        (true, false) => taken + 1,
+        (false, true) => taken - 1,
+        _ => taken,
+    }
 }
 
 impl Cache {
@@ -61,7 +70,12 @@ impl Cache {
         for _place in 0..extent.lines {
             lines.push(CachedLine::new())?;
         }
-        Ok(Cache { me, extent, lines })
+        Ok(Cache {
+            me,
+            extent,
+            lines,
+            taken: 0,
+        })
     }
 
     /// The number of lines.
@@ -91,9 +105,11 @@ impl Cache {
         ensures same { IsErr result → self.new ≡ self.old }
         ensures lines { length self.new.lines ≡ length self.old.lines }
     {
-        let free = slots_taken(&self.lines) < usize::from(self.extent.slots);
+        let free = self.taken < usize::from(self.extent.slots);
         let part = &mut self.lines[usize::from(line)];
+        let was_out = part.is_out();
         let question = part.ask(kind, free)?;
+        self.taken = taken_after(self.taken, was_out, part.is_out());
         let home = node(line % self.extent.nodes);
         Ok(Packet {
             target: question.to.unwrap_or(home),
@@ -117,7 +133,9 @@ impl Cache {
         ensures lines { length self.new.lines ≡ length self.old.lines }
     {
         let part = &mut self.lines[request.line as usize];
+        let was_out = part.is_out();
         let answer = part.serve(request.source, &request.body);
+        self.taken = taken_after(self.taken, was_out, part.is_out());
         request.answer(answer)
     }
 
@@ -131,7 +149,10 @@ impl Cache {
         ensures lines { length self.new.lines ≡ length self.old.lines }
     {
         let part = &mut self.lines[answer.line as usize];
-        part.accept(answer.control, &answer.body)
+        let was_out = part.is_out();
+        part.accept(answer.control, &answer.body)?;
+        self.taken = taken_after(self.taken, was_out, part.is_out());
+        Ok(())
     }
 
     /// Performs an operation, and gives its reply and the version that it read or made. The caller sees to it
