@@ -53,12 +53,12 @@ fn taken_after(taken: usize, was_out: bool, is_out: bool) -> usize
 }
 
 impl Cache {
-    ghost use Rattle.std.specs.Prelude.{◌≡◌, ◌<◌, Some, None, Ok, Err, IfOk, IfErr, IfSome, IsErr, length, replicate};
+    ghost use Rattle.std.specs.Prelude.{◌≡◌, ◌<◌, ◌%◌, Some, None, Ok, Err, IfOk, IfErr, IfSome, IsErr, length, replicate};
     ghost use Rattle.sci_words.specs.declared.limits.TheConstants.{WORDS_PER_LINE};
     ghost use Rattle.sci_cache.specs.Serving.{IsForCache};
     ghost use Rattle.sci_cache.specs.Line.{untouched};
     ghost use Rattle.sci_cache.specs.Held.{state_of};
-    ghost use Rattle.sci_cache.specs.Cache.{line_of, letter_of, cache_asking, cache_serving, cache_accepting, cache_performing};
+    ghost use Rattle.sci_cache.specs.Cache.{CacheOf, line_of, has_slot, letter_of, cache_asking, cache_serving, cache_accepting, cache_performing};
 
     /// The cache of node `me` in a machine of this size, with no entry for any line. The caller sees to it that
     /// there is such a node. Refused where memory is.
@@ -95,6 +95,20 @@ impl Cache {
         part.held()
     }
 
+    /// Whether a version slot is free.
+    fn has_slot(&self) -> bool
+        ensures { result ≡ has_slot self.now }
+    {
+        self.taken < usize::from(self.extent.slots)
+    }
+
+    /// The node that has the home of a line.
+    fn home_of(&self, line: u8) -> NodeId
+        ensures { result ≡ line % self.now.nodes }
+    {
+        node(line % self.extent.nodes)
+    }
+
     /// Makes a request of this kind about a line. The caller sees to it that there is such a line. Refused,
     /// unchanged, with NotNow where the line's state doesn't ask this kind, and else with NoSlot where the line
     /// has no entry and as many lines have one as there are version slots.
@@ -105,13 +119,33 @@ impl Cache {
         ensures same { IsErr result → self.new ≡ self.old }
         ensures lines { length self.new.lines ≡ length self.old.lines }
     {
-        let free = self.taken < usize::from(self.extent.slots);
+        let free = self.has_slot();
+        let home = self.home_of(line);
         let part = &mut self.lines[usize::from(line)];
         let was_out = part.is_out();
         let question = part.ask(kind, free)?;
         self.taken = taken_after(self.taken, was_out, part.is_out());
-        let home = node(line % self.extent.nodes);
         Ok(Packet {
+            target: question.to.unwrap_or(home),
+            source: node(self.me),
+            control: question.control,
+            line: u64::from(line),
+            body: question.request,
+        })
+    }
+
+    /// The packet that an ask of this kind about a line would send now, or None where the ask would be refused.
+    /// The caller sees to it that there is such a line.
+    pub fn asked(&self, line: u8, kind: AskKind) -> Option<Packet>
+        requires { line < length self.now.lines }
+        ensures asked { IfSome result (λ packet. (next : CacheOf) × (cache_asking self.now line kind ≡ Ok (next, letter_of packet))) }
+        ensures refused { result ≡ None → IsErr (cache_asking self.now line kind) }
+    {
+        let free = self.has_slot();
+        let home = self.home_of(line);
+        let part = &self.lines[usize::from(line)];
+        let question = part.question(kind, free)?;
+        Some(Packet {
             target: question.to.unwrap_or(home),
             source: node(self.me),
             control: question.control,

@@ -3,6 +3,7 @@
 
 mod accept;
 mod ask;
+mod asked;
 mod cache;
 mod fault;
 mod held;

@@ -35,13 +35,13 @@ pub(crate) struct Question {
 }
 
 impl CachedLine {
-    ghost use Rattle.std.specs.Prelude.{◌≡◌, ◌<◌, ◌==◌, Some, Err, IfOk, IfErr, IfSome, IsErr, IsNone};
+    ghost use Rattle.std.specs.Prelude.{◌≡◌, ◌<◌, ◌==◌, ◌&&◌, not, Some, Err, IfOk, IfErr, IfSome, IsErr, IsNone, Ok, None};
     ghost use Rattle.sci_words.specs.declared.limits.TheConstants.{WORDS_PER_LINE};
-    ghost use Rattle.sci_cache.specs.State.{is_out};
+    ghost use Rattle.sci_cache.specs.State.{CacheState, is_out};
     ghost use Rattle.sci_cache.specs.Asking.{Asked};
     ghost use Rattle.sci_cache.specs.Serving.{IsForCache, serving};
     ghost use Rattle.sci_cache.specs.Performing.{performing};
-    ghost use Rattle.sci_cache.specs.Line.{untouched, line_asking, line_asked, line_in, line_accepting};
+    ghost use Rattle.sci_cache.specs.Line.{untouched, line_asking, line_asked, line_in, line_accepting, next_control};
     ghost use Rattle.sci_cache.specs.Held.{state_of, asked_by};
 
     /// A line that was never asked for.
@@ -59,6 +59,30 @@ impl CachedLine {
         ensures { state_of result.now ≡ self.now.state }
     {
         &self.held
+    }
+
+    /// Whether the line has no entry and, where no version slot is free, can get none.
+    fn lacks_slot(&self, free: bool) -> bool
+        ensures { result ≡ (is_out self.now.state && not free) }
+    {
+        self.held.is_out() && !free
+    }
+
+    /// The request of this kind that `ask` would make, or None where it would refuse.
+    pub(crate) fn question(&self, kind: AskKind, free: bool) -> Option<Question>
+        ensures made { IfSome result (λ question. (next : CacheState) × (line_asking self.now kind free ≡ Ok (record { to = question.to; request = question.request; next = next }))) }
+        ensures refused { result ≡ None → IsErr (line_asking self.now kind free) }
+        ensures control { IfSome result (λ question. question.control ≡ next_control self.now) }
+    {
+        let (to, request) = self.held.request(kind)?;
+        if self.lacks_slot(free) {
+            return None;
+        }
+        Some(Question {
+            to,
+            request,
+            control: self.asks,
+        })
     }
 
     /// Whether the line has no entry.

@@ -1,0 +1,31 @@
+-- What a node asks is what its cache asks, and what it serves at a home is what that home serves.
+use Rattle.std.proofs.Common.{◌≡◌, ℕ, ◌<◌, Bool, true, false, if◌then◌else◌, Some, None, Ok, Option, set, refl, ap, ◌∙◌, sym}
+use Rattle.std.specs.Prelude.{IfSome}
+use Rattle.std.proofs.lemmas.Bool.{lt-ltb}
+use Rattle.sci_words.specs.declared.event.AskKind.{AskKind}
+use Rattle.sci_packets.specs.declared.body.Body.{Body}
+use Rattle.sci_packets.specs.declared.packet.Packet.{Packet}
+use Rattle.sci_home.specs.declared.state.HomeState.{HomeState}
+use Rattle.sci_home.specs.Serving.{serving}
+use Rattle.sci_cache.specs.Cache.{CacheOf, Letter, letter_of, cache_asking}
+use Rattle.sci_core.specs.Node.{NodeOf, lines_of, home_of, home_place, asked_by, node_asking, served_at_home, serving_at_home}
+
+pub if_true : {X : Type 0} (b : Bool) (x y : X) → b ≡ true → (if b then x else y) ≡ x
+if_true true x y e = refl
+if_true false x y e = cc
+
+pub asked_node : (node : NodeOf) (line : ℕ) (kind : AskKind) (next : CacheOf) (letter : Letter) → line < lines_of node → cache_asking node.cache line kind ≡ Ok (next, letter)
+    → node_asking node line kind ≡ Some (record node { cache = next }, letter)
+asked_node node line kind next letter below e =
+    if_true _ (asked_by node (cache_asking node.cache line kind)) None (lt-ltb line (lines_of node) below) ∙ ap (asked_by node) e
+
+pub asked_some : (node : NodeOf) (line : ℕ) (kind : AskKind) (result : Option Packet) → line < lines_of node
+    → IfSome result (λ packet. (next : CacheOf) × (cache_asking node.cache line kind ≡ Ok (next, letter_of packet)))
+    → IfSome result (λ packet. (next : NodeOf) × (node_asking node line kind ≡ Some (next, letter_of packet)))
+asked_some node line kind None below h = h
+asked_some node line kind (Some packet) below h = (record node { cache = h.0 }, asked_node node line kind h.0 (letter_of packet) below h.1)
+
+pub home_served : (node : NodeOf) (request : Letter) (home next : HomeState) (answer : Body) → home ≡ home_of node request.line → serving home request.source request.body ≡ Some (next, answer)
+    → serving_at_home node request ≡ Some (record node { homes = set node.homes (home_place node request.line) next }, answer)
+home_served node request home next answer is e =
+    ap (served_at_home node request.line) (ap (λ (h : HomeState). serving h request.source request.body) (sym is) ∙ e)

@@ -1,0 +1,76 @@
+-- What a cache's calls leave as it was: its number, its sizes, and how many lines it has.
+use Rattle.std.proofs.Common.{◌≡◌, ℕ, Some, None, Ok, Err, Option, Result, length, refl, sym, subst}
+use Rattle.std.specs.Prelude.{IfOk, IsErr}
+use Rattle.std.proofs.lemmas.List.{length-set}
+use Rattle.sci_words.specs.declared.event.AskKind.{AskKind}
+use Rattle.sci_words.specs.declared.operation.Op.{Op}
+use Rattle.sci_words.specs.declared.operation.Reply.{Reply}
+use Rattle.sci_packets.specs.declared.body.Body.{Body}
+use Rattle.sci_cache.specs.declared.fault.AskFault.{AskFault}
+use Rattle.sci_cache.specs.State.{CacheState}
+use Rattle.sci_cache.specs.Asking.{Asked}
+use Rattle.sci_cache.specs.Serving.{serving}
+use Rattle.sci_cache.specs.Performing.{Performed, performing}
+use Rattle.sci_cache.specs.Line.{LineState, line_in, line_asked, line_asking, line_accepting}
+use Rattle.sci_cache.specs.Cache.{CacheOf, Letter, line_of, with_line, has_slot, letter_asking, cache_asking, cache_serving, cache_accepting, cache_performing}
+
+pub record SameSizes (old new : CacheOf) : Type 0 where
+  pub me : new.me ≡ old.me
+  pub nodes : new.nodes ≡ old.nodes
+  pub slots : new.slots ≡ old.slots
+  pub lines : length new.lines ≡ length old.lines
+
+same_line : (cache : CacheOf) (line : ℕ) (part : LineState) → SameSizes cache (with_line cache line part)
+same_line cache line part = record { me = refl; nodes = refl; slots = refl; lines = length-set cache.lines line part }
+
+accepted_same : (cache : CacheOf) (line : ℕ) (state : Option CacheState) (new : CacheOf)
+    → (elim state as (λ _. Option CacheOf) [ None ↦ None | Some s ↦ Some (with_line cache line (line_in (line_of cache line) s)) ]) ≡ Some new
+    → SameSizes cache new
+accepted_same cache line None new e = cc
+accepted_same cache line (Some s) new e =
+    let same : with_line cache line (line_in (line_of cache line) s) ≡ new = cc in
+    subst (SameSizes cache) same (same_line cache line _)
+
+pub same_accepting : (cache : CacheOf) (line control : ℕ) (body : Body) (new : CacheOf) → cache_accepting cache line control body ≡ Some new → SameSizes cache new
+same_accepting cache line control body = accepted_same cache line (line_accepting (line_of cache line) control body)
+
+served_same : (cache : CacheOf) (line : ℕ) (served : Option (CacheState × Body)) (new : CacheOf) (answer : Body)
+    → (elim served as (λ _. Option (CacheOf × Body)) [ None ↦ None | Some s ↦ Some (with_line cache line (line_in (line_of cache line) s.0), s.1) ]) ≡ Some (new, answer)
+    → SameSizes cache new
+served_same cache line None new answer e = cc
+served_same cache line (Some s) new answer e =
+    let same : ◌≡◌ {A = CacheOf × Body} (with_line cache line (line_in (line_of cache line) s.0), s.1) (new, answer) = cc in
+    subst (λ (p : CacheOf × Body). SameSizes cache p.0) same (same_line cache line _)
+
+pub same_serving : (cache : CacheOf) (line n : ℕ) (body : Body) (new : CacheOf) (answer : Body) → cache_serving cache line n body ≡ Some (new, answer) → SameSizes cache new
+same_serving cache line n body = served_same cache line (serving (line_of cache line).state n body)
+
+performed_same : (cache : CacheOf) (line : ℕ) (done : Option Performed) (new : CacheOf) (reply : Reply) (version : ℕ)
+    → (elim done as (λ _. Option (CacheOf × Reply × ℕ)) [ None ↦ None | Some d ↦ Some (with_line cache line (line_in (line_of cache line) d.next), d.reply, d.version) ]) ≡ Some (new, reply, version)
+    → SameSizes cache new
+performed_same cache line None new reply version e = cc
+performed_same cache line (Some d) new reply version e =
+    let same : ◌≡◌ {A = CacheOf × Reply × ℕ} (with_line cache line (line_in (line_of cache line) d.next), d.reply, d.version) (new, reply, version) = cc in
+    subst (λ (p : CacheOf × Reply × ℕ). SameSizes cache p.0) same (same_line cache line _)
+
+pub same_performing : (cache : CacheOf) (op : Op) (new : CacheOf) (reply : Reply) (version : ℕ) → cache_performing cache op ≡ Some (new, reply, version) → SameSizes cache new
+same_performing cache op = performed_same cache op.line (performing (line_of cache op.line).state op)
+
+asked_same : (cache : CacheOf) (line : ℕ) (made : Result Asked AskFault) (new : CacheOf) (letter : Letter)
+    → (elim made as (λ _. Result (CacheOf × Letter) AskFault) [ Err fault ↦ Err fault | Ok a ↦ Ok (with_line cache line (line_asked (line_of cache line) a), letter_asking cache line a) ]) ≡ Ok (new, letter)
+    → SameSizes cache new
+asked_same cache line (Err fault) new letter e = cc
+asked_same cache line (Ok a) new letter e =
+    let same : ◌≡◌ {A = CacheOf × Letter} (with_line cache line (line_asked (line_of cache line) a), letter_asking cache line a) (new, letter) = cc in
+    subst (λ (p : CacheOf × Letter). SameSizes cache p.0) same (same_line cache line _)
+
+pub same_asking : (cache : CacheOf) (line : ℕ) (kind : AskKind) (new : CacheOf) (letter : Letter) → cache_asking cache line kind ≡ Ok (new, letter) → SameSizes cache new
+same_asking cache line kind = asked_same cache line (line_asking (line_of cache line) kind (has_slot cache))
+
+pub same_itself : (cache : CacheOf) → SameSizes cache cache
+same_itself cache = record { me = refl; nodes = refl; slots = refl; lines = refl }
+
+-- a call that keeps the sizes where it succeeds, and leaves the cache as it was where it doesn't
+pub same_either : {T E : Type 0} (result : Result T E) (Q : T → Type 0) (old new : CacheOf) → IfOk result Q → ((x : T) → Q x → SameSizes old new) → (IsErr result → new ≡ old) → SameSizes old new
+same_either (Ok x) Q old new taken keeps same = keeps x taken
+same_either (Err e) Q old new taken keeps same = subst (SameSizes old) (sym (same refl)) (same_itself old)

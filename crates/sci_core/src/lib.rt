@@ -1,0 +1,9 @@
+//! A machine of nodes whose caches share lines of memory: each node's part, the single events that can happen,
+//! and what any list of them leads to.
+#![tactic(auto)]
+
+mod node;
+mod pending;
+
+pub use node::Node;
+pub use pending::Pending;

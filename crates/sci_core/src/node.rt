@@ -1,0 +1,303 @@
+//! A node: the homes that are here, the cache, the operations of the processor, and its log.
+
+ghost use Rattle.std.specs.Prelude.{◌≡◌};
+ghost use Rattle.sci_home.specs.Serving.{is_for_home as is_for_home_of};
+
+use crate::pending::Pending;
+use sci_cache::{Cache, Held};
+use sci_history::Entry;
+use sci_home::Home;
+use sci_packets::{Body, Packet};
+use sci_words::{AskKind, Extent, Op, WORDS_PER_LINE};
+use std::alloc::{AllocError, Global};
+use std::marker::Model;
+
+/// A node of the machine. Contracts see it as its part of the machine's state: its cache, its homes, the pending
+/// operation of each line, the count of issues and its limit, the log, and the answer that waits.
+#[derive(Drop)]
+pub struct Node {
+    me: u8,
+    extent: Extent,
+    limit: u32,
+    cache: Cache,
+    homes: Vec<Home>,
+    pending: Vec<Option<Pending>>,
+    issued: u32,
+    log: Vec<Entry>,
+    waiting: Option<Packet>,
+}
+
+impl Model for Node {
+    ghost use Rattle.std.specs.Prelude.{◌≡◌, ◌≤◌, length, option_map, vec_capacity};
+    ghost use Rattle.sci_cache.specs.Cache.{letter_of};
+    ghost use Rattle.sci_core.specs.Node.{NodeOf, IsNode};
+    ghost use Rattle.sci_core.specs.Inside.{FitsInside};
+
+    ghost Value = { NodeOf };
+
+    ghost view = { λ node. record { cache = node.cache; homes = node.homes.items; pending = node.pending.items; issued = node.issued; limit = node.limit; log = node.log.items; waiting = option_map letter_of node.waiting } };
+
+    ghost invariant = { λ node. FitsInside node.me node.extent node.cache (vec_capacity node.log) node.limit × IsNode (record { cache = node.cache; homes = node.homes.items; pending = node.pending.items; issued = node.issued; limit = node.limit; log = node.log.items; waiting = option_map letter_of node.waiting }) };
+}
+
+/// Whether a request is for the home of its line, and not for a cache.
+fn is_for_home(request: &Body) -> bool
+    ensures { result ≡ is_for_home_of request.now }
+{
+    matches!(
+        request,
+        Body::Mread | Body::Fread | Body::Claim | Body::Clear | Body::Wback(_)
+    )
+}
+
+impl Node {
+    ghost use Rattle.std.specs.Prelude.{◌≡◌, ◌≢◌, ◌<◌, ◌≤◌, ◌%◌, length, Some, None, Ok, Err, true, false, IfOk, IfSome, IsErr, MatchOption, MatchBool, is_some, IsTrue, option_map, option_copied};
+    ghost use Rattle.sci_words.specs.declared.limits.TheConstants.{MAX_OPERATIONS};
+    ghost use Rattle.sci_home.specs.Serving.{is_for_home, IsForHome};
+    ghost use Rattle.sci_cache.specs.Held.{state_of};
+    ghost use Rattle.sci_cache.specs.Cache.{letter_of, line_of};
+    ghost use Rattle.sci_core.specs.Node.{NodeOf, opening_node, lines_of, home_of, pending_on, IsForNode, IsServable, node_issuing, node_performing, node_asking, node_serving, node_refusing, node_replying, node_accepting, may_issue as may_issue_of, serving_at_home, serving_in_cache, answer_to};
+
+    /// The node with the number `me` in a machine of this size, whose processor may issue `limit` operations.
+    /// The caller sees to it that there is such a node, and that `limit` is 1 to 65,536. Refused where memory
+    /// is; no later call takes memory.
+    pub fn new(alloc: Global, me: u8, extent: Extent, limit: u32) -> Result<Node, AllocError>
+        requires me { me < extent.nodes }
+        requires some { 1 ≤ limit }
+        requires few { limit ≤ MAX_OPERATIONS }
+        ensures { IfOk result (λ node. node ≡ opening_node me extent.nodes extent.lines extent.slots limit) }
+    {
+        let homes_here = extent.lines / extent.nodes + 1;
+        let mut homes = Vec::with_capacity(alloc, usize::from(homes_here))?;
+        for _place in 0..homes_here {
+            homes.push(Home::new())?;
+        }
+        let mut pending = Vec::with_capacity(alloc, usize::from(extent.lines))?;
+        for _line in 0..extent.lines {
+            pending.push(None)?;
+        }
+        let log = Vec::with_capacity(alloc, limit as usize)?;
+        let cache = Cache::new(alloc, me, extent)?;
+        Ok(Node {
+            me,
+            extent,
+            limit,
+            cache,
+            homes,
+            pending,
+            issued: 0,
+            log,
+            waiting: None,
+        })
+    }
+
+    /// Takes the answer that waits, to be sent to its target. None, unchanged, where none waits.
+    pub fn take_answer(&mut self) -> Option<Packet>
+        ensures taken { IfSome result (λ answer. node_replying self.old ≡ Some (self.new, letter_of answer)) }
+        ensures none { result ≡ None → node_replying self.old ≡ None }
+        ensures same { result ≡ None → self.new ≡ self.old }
+    {
+        self.waiting.take()
+    }
+
+    /// Issues an operation, and gives its serial: the count of operations issued before. None, unchanged, where
+    /// its line or its word is out of range, an operation on the line is pending, or `limit` operations were
+    /// issued.
+    pub fn issue(&mut self, op: Op) -> Option<u32>
+        ensures issued { IfSome result (λ serial. node_issuing self.old op ≡ Some self.new) }
+        ensures serial { IfSome result (λ serial. serial ≡ self.old.issued) }
+        ensures none { result ≡ None → node_issuing self.old op ≡ None }
+        ensures same { result ≡ None → self.new ≡ self.old }
+    {
+        if !self.may_issue(&op) {
+            return None;
+        }
+        let serial = self.issued;
+        self.pending[usize::from(op.line)] = Some(Pending { serial, op });
+        self.issued += 1;
+        Some(serial)
+    }
+
+    fn may_issue(&self, op: &Op) -> bool
+        ensures { result ≡ may_issue_of self.now op.now }
+    {
+        op.line < self.extent.lines
+            && usize::from(op.word) < WORDS_PER_LINE
+            && self.pending[usize::from(op.line)].is_none()
+            && self.issued < self.limit
+    }
+
+    /// Performs the operation that is pending on a line, and gives its entry, which now ends the log. None,
+    /// unchanged, where none is pending there or the line's state doesn't allow it.
+    pub fn perform(&mut self, line: u8) -> Option<Entry>
+        ensures performed { IfSome result (λ entry. node_performing self.old line ≡ Some (self.new, entry)) }
+        ensures none { result ≡ None → node_performing self.old line ≡ None }
+        ensures same { result ≡ None → self.new ≡ self.old }
+    {
+        let pending = self.pending(line)?;
+        let (reply, version) = self.cache.perform(pending.op)?;
+        let entry = Entry {
+            node: self.me,
+            serial: pending.serial,
+            op: pending.op,
+            reply,
+            version,
+        };
+        self.pending[usize::from(line)] = None;
+        match self.log.push(entry) {
+            Ok(()) => Some(entry),
+            Err(_) => unreachable!(),
+        }
+    }
+
+    /// Makes a request of this kind about a line. None, unchanged, where there is no such line, its state
+    /// doesn't ask this kind, or it has no entry and no version slot is free.
+    pub fn ask(&mut self, line: u8, kind: AskKind) -> Option<Packet>
+        ensures asked { IfSome result (λ packet. node_asking self.old line kind ≡ Some (self.new, letter_of packet)) }
+        ensures none { result ≡ None → node_asking self.old line kind ≡ None }
+        ensures same { result ≡ None → self.new ≡ self.old }
+    {
+        if line >= self.extent.lines {
+            return None;
+        }
+        match self.cache.ask(line, kind) {
+            Ok(packet) => Some(packet),
+            Err(_) => None,
+        }
+    }
+
+    /// The packet that `ask` would give, or None where it would give none.
+    pub fn asked(&self, line: u8, kind: AskKind) -> Option<Packet>
+        ensures asked { IfSome result (λ packet. (next : NodeOf) × (node_asking self.now line kind ≡ Some (next, letter_of packet))) }
+        ensures none { result ≡ None → node_asking self.now line kind ≡ None }
+    {
+        if line >= self.extent.lines {
+            return None;
+        }
+        self.cache.asked(line, kind)
+    }
+
+    /// Serves a request: its answer waits then. False, unchanged, where an answer waits already. The caller
+    /// sees to it that the request is for this node and about a line of the machine, and that the home of the
+    /// line is here where it is an Mread, Fread, Claim, Clear or Wback.
+    pub fn serve(&mut self, request: &Packet) -> bool
+        requires { IsServable self.old (letter_of request.now) }
+        ensures served { IsTrue result → node_serving self.old (letter_of request.now) ≡ Some self.new }
+        ensures not { result ≡ false → node_serving self.old (letter_of request.now) ≡ None }
+        ensures same { result ≡ false → self.new ≡ self.old }
+    {
+        if self.waiting.is_some() {
+            return false;
+        }
+        let answer = if is_for_home(&request.body) {
+            self.serve_at_home(request)
+        } else {
+            self.serve_in_cache(request)
+        };
+        self.waiting = Some(answer);
+        true
+    }
+
+    fn serve_at_home(&mut self, request: &Packet) -> Packet
+        requires servable { IsServable self.old (letter_of request.now) }
+        requires home { IsForHome request.now.body }
+        ensures served { serving_at_home self.old (letter_of request.now) ≡ Some (self.new, result.body) }
+        ensures answer { letter_of result ≡ answer_to (letter_of request.now) result.body }
+        ensures waiting { self.new.waiting ≡ self.old.waiting }
+    {
+        let place = request.line as usize / usize::from(self.extent.nodes);
+        self.homes[place].serve(request)
+    }
+
+    fn serve_in_cache(&mut self, request: &Packet) -> Packet
+        requires servable { IsServable self.old (letter_of request.now) }
+        requires cache { is_for_home request.now.body ≡ false }
+        ensures served { serving_in_cache self.old (letter_of request.now) ≡ Some (self.new, result.body) }
+        ensures answer { letter_of result ≡ answer_to (letter_of request.now) result.body }
+        ensures waiting { self.new.waiting ≡ self.old.waiting }
+    {
+        self.cache.serve(request)
+    }
+
+    /// Answers a request as busy, which changes nothing else. False, unchanged, where an answer waits already
+    /// or the request is a Setback. The caller sees to it that the request is for this node.
+    pub fn refuse(&mut self, request: &Packet) -> bool
+        requires { IsServable self.old (letter_of request.now) }
+        ensures refused { IsTrue result → node_refusing self.old (letter_of request.now) ≡ Some self.new }
+        ensures not { result ≡ false → node_refusing self.old (letter_of request.now) ≡ None }
+        ensures same { result ≡ false → self.new ≡ self.old }
+    {
+        if self.waiting.is_some() || matches!(request.body, Body::Setback { .. }) {
+            return false;
+        }
+        self.waiting = Some(request.answer(Body::Busy));
+        true
+    }
+
+    /// Takes an answer. False, unchanged, where it isn't awaited. The caller sees to it that the answer is for
+    /// this node and about a line of the machine.
+    pub fn accept(&mut self, answer: &Packet) -> bool
+        requires { IsForNode self.old (letter_of answer.now) }
+        ensures accepted { IsTrue result → node_accepting self.old (letter_of answer.now) ≡ Some self.new }
+        ensures not { result ≡ false → node_accepting self.old (letter_of answer.now) ≡ None }
+        ensures same { result ≡ false → self.new ≡ self.old }
+    {
+        match self.cache.accept(answer) {
+            Ok(()) => true,
+            Err(_) => false,
+        }
+    }
+
+    /// The size of the machine.
+    pub fn extent(&self) -> Extent
+        ensures nodes { result.nodes ≡ self.now.cache.nodes }
+        ensures lines { result.lines ≡ lines_of self.now }
+        ensures slots { result.slots ≡ self.now.cache.slots }
+    {
+        self.extent
+    }
+
+    /// The cache's state for a line. The caller sees to it that there is such a line.
+    pub fn held(&self, line: u8) -> &Held
+        requires { line < lines_of self.now }
+        ensures { state_of result.now ≡ (line_of self.now.cache line).state }
+    {
+        self.cache.held(line)
+    }
+
+    /// The operation that is pending on a line, or None where there is none.
+    pub fn pending(&self, line: u8) -> Option<Pending>
+        ensures { result ≡ pending_on self.now line }
+    {
+        if line >= self.extent.lines {
+            return None;
+        }
+        self.pending[usize::from(line)]
+    }
+
+    /// The answer that waits to be sent, if one does.
+    pub fn waiting(&self) -> Option<&Packet>
+        ensures { option_map letter_of (option_copied result) ≡ self.now.waiting }
+    {
+        self.waiting.as_ref()
+    }
+
+    /// The entries of the operations performed so far, in their order.
+    pub fn log(&self) -> &[Entry]
+        ensures { result.now ≡ self.now.log }
+    {
+        &self.log
+    }
+
+    /// The home of a line, or None where it is at another node. The caller sees to it that there is such a line.
+    pub fn home(&self, line: u8) -> Option<&Home>
+        requires { line < lines_of self.now }
+        ensures here { IfSome result (λ home. (home.now ≡ home_of self.now line) × (line % self.now.cache.nodes ≡ self.now.cache.me)) }
+        ensures elsewhere { result ≡ None → line % self.now.cache.nodes ≢ self.now.cache.me }
+    {
+        if line % self.extent.nodes != self.me {
+            return None;
+        }
+        self.homes.get(usize::from(line / self.extent.nodes))
+    }
+}
