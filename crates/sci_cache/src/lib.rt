@@ -7,6 +7,7 @@ mod asked;
 mod cache;
 mod fault;
 mod held;
+pub mod laws;
 mod line;
 mod perform;
 mod serve;
