@@ -39,17 +39,22 @@ impl Sharer {
         packet.target.get() == u16::from(self.me) && packet.line < u64::from(self.lines)
     }
 
-    /// The request of this kind about a line.
+    /// The request of this kind about a line, which is the one that was told before.
     pub fn ask(&mut self, line: u8, kind: AskKind) -> Result<Packet, Fail> {
         if line >= self.lines {
             return Err(Fail::from("no such line"));
         }
-        Ok(self.cache.ask(line, kind)?)
+        let told = self.cache.asked(line, kind);
+        let request = self.cache.ask(line, kind)?;
+        match told {
+            Some(packet) if packet == request => Ok(request),
+            _ => Err(Fail::from("another request was told")),
+        }
     }
 
-    /// Why this kind isn't asked about a line.
+    /// Why this kind isn't asked about a line, nor told that it would be.
     pub fn refusal(&mut self, line: u8, kind: AskKind) -> Option<AskFault> {
-        if line >= self.lines {
+        if line >= self.lines || self.cache.asked(line, kind).is_some() {
             return None;
         }
         match self.cache.ask(line, kind) {
