@@ -1,14 +1,14 @@
 //! Laws of the tables, each the contract of a function that does nothing.
 
-ghost use Rattle.std.specs.Prelude.{◌≡◌, ℕ, true, false, Some, None, IfSome};
+ghost use Rattle.std.specs.Prelude.{◌≡◌, ℕ, true, false, Option, Some, None, IfSome};
 ghost use Rattle.sci_words.specs.declared.event.AskKind.{AskKind};
 ghost use Rattle.sci_words.specs.declared.operation.Op.{Op};
 ghost use Rattle.sci_packets.specs.declared.body.Body.{Body};
-ghost use Rattle.sci_packets.specs.declared.body.Body.TheVariants.{Busy};
+ghost use Rattle.sci_packets.specs.declared.body.Body.TheVariants.{Busy, Purged, Rolled};
 ghost use Rattle.sci_cache.specs.State.{CacheState, waits};
 ghost use Rattle.sci_cache.specs.Asking.{asking};
 ghost use Rattle.sci_cache.specs.Accepting.{accepting};
-ghost use Rattle.sci_cache.specs.Serving.{serving};
+ghost use Rattle.sci_cache.specs.Serving.{serving, serving_cread, serving_purge, serving_roll, serving_setback};
 ghost use Rattle.sci_cache.specs.Performing.{performing};
 ghost use Rattle.sci_cache.specs.Member.{link_of};
 
@@ -25,6 +25,28 @@ pub fn accepting_keeps_link()
 /// An operation changes no link.
 pub fn performing_keeps_link()
     ensures { (state : CacheState) (op : Op) → IfSome (performing state op) (λ done. link_of done.next None ≡ link_of state None) }
+{}
+
+/// A node that joins before an entry leaves the entry's link as it was.
+pub fn joining_keeps_link()
+    ensures { (state : CacheState) (n : ℕ) (answer : Option Body) → link_of (serving_cread state n).0 answer ≡ link_of state answer }
+{}
+
+/// A purged line tells its link, and is no member from then on.
+pub fn purging_ends_a_membership()
+    ensures told { (state : CacheState) (link : Option ℕ) → (serving_purge state).1 ≡ Purged link → link_of state None ≡ Some link }
+    ensures gone { (state : CacheState) (link : Option ℕ) (answer : Option Body) → (serving_purge state).1 ≡ Purged link → link_of (serving_purge state).0 answer ≡ None }
+{}
+
+/// An entry that lets node n leave linked to n, and links to the entry behind n from then on.
+pub fn rolling_passes_a_link_on()
+    ensures before { (state : CacheState) (n : ℕ) (link : Option ℕ) → (serving_roll state n link).1 ≡ Rolled → link_of state None ≡ Some (Some n) }
+    ensures after { (state : CacheState) (n : ℕ) (link : Option ℕ) → (serving_roll state n link).1 ≡ Rolled → link_of (serving_roll state n link).0 None ≡ Some link }
+{}
+
+/// What an entry is told of the one before it changes no link.
+pub fn telling_keeps_link()
+    ensures { (state : CacheState) (n before : ℕ) (answer : Option Body) → link_of (serving_setback state n before).0 answer ≡ link_of state answer }
 {}
 
 /// An ask is made only where no answer is awaited, and awaits one.
