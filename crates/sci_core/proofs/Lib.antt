@@ -1,3 +1,10 @@
 pub mod Caches
 pub mod Nodes
 pub mod Asks
+pub mod Lists
+pub mod Identifiers
+pub mod Parts
+pub mod Places
+pub mod WellFormedSteps
+pub mod Stepping
+pub mod States

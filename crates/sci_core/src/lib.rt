@@ -2,8 +2,13 @@
 //! and what any list of them leads to.
 #![tactic(auto)]
 
+mod fault;
+mod lane;
 mod node;
 mod pending;
+mod state;
 
+pub use fault::ApplyFault;
+pub use lane::LaneKind;
 pub use node::Node;
 pub use pending::Pending;

@@ -1,0 +1,237 @@
+-- Each side of an event leaves a node's part well formed, and makes packets that are.
+use Rattle.std.proofs.Common.{◌≡◌, ℕ, ◌<◌, ◌≤◌, ◌%◌, ◌&&◌, not, nat_lt, Bool, true, false, if◌then◌else◌, List, [], ◌∷◌, ◌++◌, length, get_or, set, Option, Some, None, Result, Ok, Err, refl, sym, ap, subst, ◌∙◌, mod-lt, arith}
+use Rattle.std.specs.Prelude.{◌==◌, IfSome, IfOk, IsSome, is_some, is_none, IsTrue}
+use Rattle.std.proofs.lemmas.Bool.{cases_Bool, ltb-true}
+use Rattle.std.proofs.Common.{inl, inr}
+use Rattle.std.proofs.lemmas.List.{length-set}
+use Rattle.sci_words.specs.declared.event.AskKind.{AskKind}
+use Rattle.sci_words.specs.declared.operation.Op.{Op}
+use Rattle.sci_words.specs.declared.operation.Reply.{Reply}
+use Rattle.sci_packets.specs.declared.body.Body.{Body}
+use Rattle.sci_packets.specs.declared.body.Body.TheVariants.{Busy}
+use Rattle.sci_packets.specs.Table.{is_request}
+use Rattle.sci_history.specs.declared.entry.Entry.{Entry}
+use Rattle.sci_home.specs.declared.state.HomeState.{HomeState}
+use Rattle.sci_home.specs.Serving.{opening_home, is_for_home, IsForHome, serving as serving_at_home_of}
+use Rattle.sci_cache.specs.declared.fault.AskFault.{AskFault}
+use Rattle.sci_cache.specs.declared.fault.AskFault.TheVariants.{NoSlot, NotNow}
+use Rattle.sci_cache.specs.State.{CacheState, is_out}
+use Rattle.sci_cache.specs.Asking.{Asked, asking}
+use Rattle.sci_cache.specs.Serving.{serving}
+use Rattle.sci_cache.specs.Accepting.{accepting}
+use Rattle.sci_cache.specs.Performing.{Performed, performing}
+use Rattle.sci_cache.specs.Line.{LineState, untouched, line_in, line_asked, line_asking, line_accepting, last_control}
+use Rattle.sci_cache.specs.Cache.{CacheOf, Letter, line_of, with_line, has_slot, target_of, letter_asking, cache_asking, cache_serving, cache_accepting, cache_performing}
+use Rattle.sci_core.specs.declared.pending.Pending.{Pending}
+use Rattle.sci_core.specs.Node.{NodeOf, lines_of, home_of, home_place, pending_on, may_issue, node_issued, node_issuing, node_logged, entry_of, performed_by, performing_pending, node_performing, asked_by, node_asking, answer_to, with_answer, served_at_home, served_in_cache, serving_at_home, serving_in_cache, serving_request, answered_by, node_serving, is_setback, node_refusing, replied_by, node_replying, accepted_by, node_accepting}
+use Rattle.sci_core.specs.WellFormed.{IsBelow, NamesNodes, HomeNamesNodes, BodyNamesNodes, IsLetter, IsRequestLetter, IsAnswerLetter, IsPart}
+use Rattle.sci_core.proofs.Lists.{at_set, if_either}
+use Rattle.sci_core.proofs.Identifiers.{AsksWell, asking_names, ServesWell, serving_names, HomeServesWell, home_names, accepting_names, performing_names}
+
+-- ---- parts in which one thing is another
+
+pub part_with_line : (nodes lines slots limit n : ℕ) (part : NodeOf) (line : ℕ) (state : LineState) → NamesNodes nodes state.state → IsPart nodes lines slots limit n part
+    → IsPart nodes lines slots limit n (record part { cache = with_line part.cache line state })
+part_with_line nodes lines slots limit n part line state names is = record {
+  me = is.me;
+  all = is.all;
+  room = is.room;
+  each = length-set part.cache.lines line state ∙ is.each;
+  most = is.most;
+  states = at_set (λ (l : LineState). NamesNodes nodes l.state) part.cache.lines line state untouched is.states names;
+  homes = is.homes;
+  answer = is.answer;
+}
+
+pub part_with_home : (nodes lines slots limit n : ℕ) (part : NodeOf) (place : ℕ) (home : HomeState) → HomeNamesNodes nodes home → IsPart nodes lines slots limit n part
+    → IsPart nodes lines slots limit n (record part { homes = set part.homes place home })
+part_with_home nodes lines slots limit n part place home names is = record {
+  me = is.me; all = is.all; room = is.room; each = is.each; most = is.most; states = is.states; answer = is.answer;
+  homes = at_set (HomeNamesNodes nodes) part.homes place home opening_home is.homes names;
+}
+
+pub part_with_waiting : (nodes lines slots limit n : ℕ) (part : NodeOf) (waiting : Option Letter) → IfSome waiting (λ (letter : Letter). IsAnswerLetter nodes lines letter × (letter.source ≡ n)) → IsPart nodes lines slots limit n part
+    → IsPart nodes lines slots limit n (record part { waiting = waiting })
+part_with_waiting nodes lines slots limit n part waiting answer is = record {
+  me = is.me; all = is.all; room = is.room; each = is.each; most = is.most; states = is.states; homes = is.homes;
+  answer = answer;
+}
+
+-- what else a node has
+part_with_pending : (nodes lines slots limit n : ℕ) (part : NodeOf) (pending : List (Option Pending)) (issued : ℕ) (log : List Entry) → IsPart nodes lines slots limit n part
+    → IsPart nodes lines slots limit n (record part { pending = pending; issued = issued; log = log })
+part_with_pending nodes lines slots limit n part pending issued log is = record {
+  me = is.me; all = is.all; room = is.room; each = is.each; most = is.most; states = is.states; homes = is.homes; answer = is.answer;
+}
+
+-- ---- the answer to a request
+
+pub answer_letter : (nodes lines n : ℕ) (request : Letter) (answer : Body) → IsRequestLetter nodes lines request → request.target ≡ n → BodyNamesNodes nodes answer → is_request answer ≡ false
+    → IsAnswerLetter nodes lines (answer_to request answer) × ((answer_to request answer).source ≡ n)
+answer_letter nodes lines n request answer asks to names not_asks =
+    (record { letter_ok = record { target = asks.letter_ok.source; source = asks.letter_ok.target; about = asks.letter_ok.about; names = names }; answers = not_asks }, to)
+
+-- ---- Issue
+
+pub part_issuing : (nodes lines slots limit n : ℕ) (part : NodeOf) (op : Op) → IsPart nodes lines slots limit n part → IfSome (node_issuing part op) (IsPart nodes lines slots limit n)
+part_issuing nodes lines slots limit n part op is =
+    if_either (λ (o : Option NodeOf). IfSome o (IsPart nodes lines slots limit n)) (may_issue part op) (Some (node_issued part op)) None
+    (part_with_pending nodes lines slots limit n part _ _ part.log is) tt
+
+-- ---- Perform
+
+performed_part : (nodes lines slots limit n : ℕ) (part : NodeOf) (line : ℕ) (pending : Pending) (done : Option Performed) → IsPart nodes lines slots limit n part → IfSome done (λ (d : Performed). NamesNodes nodes d.next)
+    → IfSome (performed_by part line pending (elim done as (λ _. Option (CacheOf × Reply × ℕ)) [ | None ↦ None | Some d ↦ Some (with_line part.cache pending.op.line (line_in (line_of part.cache pending.op.line) d.next), d.reply, d.version) ]))
+      (λ (x : NodeOf × Entry). IsPart nodes lines slots limit n x.0)
+performed_part nodes lines slots limit n part line pending None is names = tt
+performed_part nodes lines slots limit n part line pending (Some d) is names =
+    part_with_pending nodes lines slots limit n (record part { cache = with_line part.cache pending.op.line (line_in (line_of part.cache pending.op.line) d.next) }) _ part.issued _
+    (part_with_line nodes lines slots limit n part pending.op.line (line_in (line_of part.cache pending.op.line) d.next) names is)
+
+pending_part : (nodes lines slots limit n : ℕ) (part : NodeOf) (line : ℕ) (pending : Option Pending) → IsPart nodes lines slots limit n part
+    → IfSome (performing_pending part line pending) (λ (x : NodeOf × Entry). IsPart nodes lines slots limit n x.0)
+pending_part nodes lines slots limit n part line None is = tt
+pending_part nodes lines slots limit n part line (Some pending) is =
+    performed_part nodes lines slots limit n part line pending (performing (line_of part.cache pending.op.line).state pending.op) is
+    (performing_names nodes (line_of part.cache pending.op.line).state pending.op (is.states pending.op.line))
+
+pub part_performing : (nodes lines slots limit n : ℕ) (part : NodeOf) (line : ℕ) → IsPart nodes lines slots limit n part
+    → IfSome (node_performing part line) (λ (x : NodeOf × Entry). IsPart nodes lines slots limit n x.0)
+part_performing nodes lines slots limit n part line is = pending_part nodes lines slots limit n part line (pending_on part line) is
+
+-- ---- Ask
+
+pub record SendsWell (nodes lines slots limit n : ℕ) (sent : NodeOf × Letter) : Type 0 where
+  pub next : IsPart nodes lines slots limit n sent.0
+  pub request : IsRequestLetter nodes lines sent.1
+  pub from : sent.1.source ≡ n
+
+target_below : (nodes line : ℕ) (cache : CacheOf) (to : Option ℕ) → 0 < nodes → cache.nodes ≡ nodes → IsBelow nodes to → target_of cache line to < nodes
+target_below nodes line cache None some all below = rw all (mod-lt line some)
+target_below nodes line cache (Some q) some all below = below
+
+home_target : (nodes line : ℕ) (cache : CacheOf) (to : Option ℕ) → cache.nodes ≡ nodes → to ≡ None → line % nodes ≡ target_of cache line to
+home_target nodes line cache None all e = rw all refl
+home_target nodes line cache (Some q) all e = cc
+
+asked_part : (nodes lines slots limit n : ℕ) (part : NodeOf) (line : ℕ) (asked : Asked) → 0 < nodes → n < nodes → line < lines → AsksWell nodes asked → IsPart nodes lines slots limit n part
+    → SendsWell nodes lines slots limit n (record part { cache = with_line part.cache line (line_asked (line_of part.cache line) asked) }, letter_asking part.cache line asked)
+asked_part nodes lines slots limit n part line asked some lt below asks is = record {
+  next = part_with_line nodes lines slots limit n part line (line_asked (line_of part.cache line) asked) asks.next is;
+  request = record {
+    letter_ok = record {
+      target = target_below nodes line part.cache asked.to some is.all asks.to;
+      source = rw is.me lt;
+      about = below;
+      names = asks.names;
+    };
+    asks = asks.asks;
+    home = λ for_home. home_target nodes line part.cache asked.to is.all (asks.home for_home);
+  };
+  from = is.me;
+}
+
+made_part : (nodes lines slots limit n : ℕ) (part : NodeOf) (line : ℕ) (lacks : Bool) (made : Option Asked) → 0 < nodes → n < nodes → line < lines → IfSome made (AsksWell nodes) → IsPart nodes lines slots limit n part
+    → IfSome (asked_by part (elim (elim made as (λ _. Result Asked AskFault) [ | None ↦ Err NotNow | Some a ↦ if lacks then Err NoSlot else Ok a ]) as (λ _. Result (CacheOf × Letter) AskFault) [
+        | Err fault ↦ Err fault
+        | Ok a ↦ Ok (with_line part.cache line (line_asked (line_of part.cache line) a), letter_asking part.cache line a)
+      ])) (SendsWell nodes lines slots limit n)
+made_part nodes lines slots limit n part line lacks None some lt below asks is = tt
+made_part nodes lines slots limit n part line true (Some asked) some lt below asks is = tt
+made_part nodes lines slots limit n part line false (Some asked) some lt below asks is = asked_part nodes lines slots limit n part line asked some lt below asks is
+
+asking_if : (nodes lines slots limit n : ℕ) (part : NodeOf) (line : ℕ) (sent : Option (NodeOf × Letter)) → (line < lines_of part → IfSome sent (SendsWell nodes lines slots limit n))
+    → IfSome (if nat_lt line (lines_of part) then sent else None) (SendsWell nodes lines slots limit n)
+asking_if nodes lines slots limit n part line sent h =
+    elim (cases_Bool (nat_lt line (lines_of part))) [
+      | inl within ↦ subst (λ (b : Bool). IfSome (if b then sent else None) (SendsWell nodes lines slots limit n)) (sym within) (h (ltb-true line (lines_of part) within))
+      | inr beyond ↦ subst (λ (b : Bool). IfSome (if b then sent else None) (SendsWell nodes lines slots limit n)) (sym beyond) tt
+    ]
+
+pub part_asking : (nodes lines slots limit n : ℕ) (part : NodeOf) (line : ℕ) (kind : AskKind) → 0 < nodes → n < nodes → IsPart nodes lines slots limit n part
+    → IfSome (node_asking part line kind) (SendsWell nodes lines slots limit n)
+part_asking nodes lines slots limit n part line kind some lt is =
+    asking_if nodes lines slots limit n part line (asked_by part (cache_asking part.cache line kind)) (λ below.
+      let all = is.each in
+      made_part nodes lines slots limit n part line (is_out (line_of part.cache line).state && not (has_slot part.cache)) (asking (line_of part.cache line).state kind) some lt (omega arith)
+      (asking_names nodes (line_of part.cache line).state kind (is.states line)) is)
+
+-- ---- Serve
+
+pub record ServedWell (nodes lines slots limit n : ℕ) (request : Letter) (served : NodeOf × Body) : Type 0 where
+  pub next : IsPart nodes lines slots limit n served.0
+  pub answer : IsAnswerLetter nodes lines (answer_to request served.1) × ((answer_to request served.1).source ≡ n)
+
+home_served_part : (nodes lines slots limit n : ℕ) (part : NodeOf) (request : Letter) (served : Option (HomeState × Body)) → IsRequestLetter nodes lines request → request.target ≡ n → IfSome served (HomeServesWell nodes) → IsPart nodes lines slots limit n part
+    → IfSome (served_at_home part request.line served) (ServedWell nodes lines slots limit n request)
+home_served_part nodes lines slots limit n part request None asks to well is = tt
+home_served_part nodes lines slots limit n part request (Some served) asks to well is = record {
+  next = part_with_home nodes lines slots limit n part (home_place part request.line) served.0 well.next is;
+  answer = answer_letter nodes lines n request served.1 asks to well.names well.answers;
+}
+
+cache_served_part : (nodes lines slots limit n : ℕ) (part : NodeOf) (request : Letter) (served : Option (CacheState × Body)) → IsRequestLetter nodes lines request → request.target ≡ n → IfSome served (ServesWell nodes) → IsPart nodes lines slots limit n part
+    → IfSome (served_in_cache part (elim served as (λ _. Option (CacheOf × Body)) [ | None ↦ None | Some s ↦ Some (with_line part.cache request.line (line_in (line_of part.cache request.line) s.0), s.1) ])) (ServedWell nodes lines slots limit n request)
+cache_served_part nodes lines slots limit n part request None asks to well is = tt
+cache_served_part nodes lines slots limit n part request (Some served) asks to well is = record {
+  next = part_with_line nodes lines slots limit n part request.line (line_in (line_of part.cache request.line) served.0) well.next is;
+  answer = answer_letter nodes lines n request served.1 asks to well.names well.answers;
+}
+
+request_part : (nodes lines slots limit n : ℕ) (part : NodeOf) (request : Letter) → IsRequestLetter nodes lines request → request.target ≡ n → IsPart nodes lines slots limit n part
+    → IfSome (serving_request part request) (ServedWell nodes lines slots limit n request)
+request_part nodes lines slots limit n part request asks to is =
+    if_either (λ (o : Option (NodeOf × Body)). IfSome o (ServedWell nodes lines slots limit n request)) (is_for_home request.body) (serving_at_home part request) (serving_in_cache part request)
+    (home_served_part nodes lines slots limit n part request (serving_at_home_of (home_of part request.line) request.source request.body) asks to
+      (home_names nodes (home_of part request.line) request.source request.body asks.letter_ok.source (is.homes (home_place part request.line))) is)
+    (cache_served_part nodes lines slots limit n part request (serving (line_of part.cache request.line).state request.source request.body) asks to
+      (serving_names nodes (line_of part.cache request.line).state request.source request.body asks.letter_ok.source (is.states request.line) asks.letter_ok.names) is)
+
+answered_part : (nodes lines slots limit n : ℕ) (request : Letter) (served : Option (NodeOf × Body)) → IfSome served (ServedWell nodes lines slots limit n request)
+    → IfSome (answered_by request served) (IsPart nodes lines slots limit n)
+answered_part nodes lines slots limit n request None well = tt
+answered_part nodes lines slots limit n request (Some served) well = part_with_waiting nodes lines slots limit n served.0 (Some (answer_to request served.1)) well.answer well.next
+
+pub part_serving : (nodes lines slots limit n : ℕ) (part : NodeOf) (request : Letter) → IsRequestLetter nodes lines request → request.target ≡ n → IsPart nodes lines slots limit n part
+    → IfSome (node_serving part request) (IsPart nodes lines slots limit n)
+part_serving nodes lines slots limit n part request asks to is =
+    if_either (λ (o : Option NodeOf). IfSome o (IsPart nodes lines slots limit n)) (is_some part.waiting) None (answered_by request (serving_request part request)) tt
+    (answered_part nodes lines slots limit n request (serving_request part request) (request_part nodes lines slots limit n part request asks to is))
+
+-- ---- Refuse
+
+pub part_refusing : (nodes lines slots limit n : ℕ) (part : NodeOf) (request : Letter) → IsRequestLetter nodes lines request → request.target ≡ n → IsPart nodes lines slots limit n part
+    → IfSome (node_refusing part request) (IsPart nodes lines slots limit n)
+part_refusing nodes lines slots limit n part request asks to is =
+    if_either (λ (o : Option NodeOf). IfSome o (IsPart nodes lines slots limit n)) (is_some part.waiting) None (if is_setback request.body then None else Some (with_answer part request Busy)) tt
+    (if_either (λ (o : Option NodeOf). IfSome o (IsPart nodes lines slots limit n)) (is_setback request.body) None (Some (with_answer part request Busy)) tt
+      (part_with_waiting nodes lines slots limit n part (Some (answer_to request Busy)) (answer_letter nodes lines n request Busy asks to tt refl) is))
+
+-- ---- Reply
+
+pub record RepliesWell (nodes lines slots limit n : ℕ) (sent : NodeOf × Letter) : Type 0 where
+  pub next : IsPart nodes lines slots limit n sent.0
+  pub answer : IsAnswerLetter nodes lines sent.1
+  pub from : sent.1.source ≡ n
+
+replied_part : (nodes lines slots limit n : ℕ) (part : NodeOf) (waiting : Option Letter) → IfSome waiting (λ (letter : Letter). IsAnswerLetter nodes lines letter × (letter.source ≡ n)) → IsPart nodes lines slots limit n part
+    → IfSome (replied_by part waiting) (RepliesWell nodes lines slots limit n)
+replied_part nodes lines slots limit n part None h is = tt
+replied_part nodes lines slots limit n part (Some letter) h is = record { next = part_with_waiting nodes lines slots limit n part None tt is; answer = h.0; from = h.1 }
+
+pub part_replying : (nodes lines slots limit n : ℕ) (part : NodeOf) → IsPart nodes lines slots limit n part → IfSome (node_replying part) (RepliesWell nodes lines slots limit n)
+part_replying nodes lines slots limit n part is = replied_part nodes lines slots limit n part part.waiting is.answer is
+
+-- ---- Accept
+
+accepted_part : (nodes lines slots limit n : ℕ) (part : NodeOf) (line : ℕ) (awaited : Bool) (state : Option CacheState) → IfSome state (NamesNodes nodes) → IsPart nodes lines slots limit n part
+    → IfSome (accepted_by part (elim (if awaited then state else None) as (λ _. Option CacheOf) [ | None ↦ None | Some s ↦ Some (with_line part.cache line (line_in (line_of part.cache line) s)) ])) (IsPart nodes lines slots limit n)
+accepted_part nodes lines slots limit n part line false state names is = tt
+accepted_part nodes lines slots limit n part line true None names is = tt
+accepted_part nodes lines slots limit n part line true (Some s) names is = part_with_line nodes lines slots limit n part line (line_in (line_of part.cache line) s) names is
+
+pub part_accepting : (nodes lines slots limit n : ℕ) (part : NodeOf) (answer : Letter) → IsAnswerLetter nodes lines answer → IsPart nodes lines slots limit n part
+    → IfSome (node_accepting part answer) (IsPart nodes lines slots limit n)
+part_accepting nodes lines slots limit n part answer answers is =
+    accepted_part nodes lines slots limit n part answer.line (answer.control == last_control (line_of part.cache answer.line)) (accepting (line_of part.cache answer.line).state answer.body)
+    (accepting_names nodes (line_of part.cache answer.line).state answer.body (is.states answer.line) answers.letter_ok.names) is

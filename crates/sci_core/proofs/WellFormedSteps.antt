@@ -1,0 +1,222 @@
+-- Every step leaves a state well formed, and keeps the machine's sizes. So every reached state is.
+use Rattle.std.proofs.Common.{◌≡◌, ℕ, ◌+◌, ◌*◌, ◌/◌, ◌%◌, ◌<◌, ◌≤◌, nat_lt, Bool, true, false, if◌then◌else◌, List, [], ◌∷◌, ◌++◌, length, map, replicate, get_or, set, Option, Some, None, refl, sym, ap, subst, ◌∙◌, inl, inr, arith}
+use Rattle.std.specs.Prelude.{IfSome, unwrap_or}
+use Rattle.std.specs.List.{All, fold, range_with_len}
+use Rattle.std.proofs.lemmas.Bool.{cases_Bool, cases_lt, ltb-true}
+use Rattle.std.proofs.lemmas.List.{length-set, length-replicate, get_or-replicate, get_or_past}
+use Rattle.std.proofs.lemmas.List.Elements.{All-nil, All-head, All-tail, All-push}
+use Rattle.std.proofs.lemmas.List.FromFn.{length-map-range_with_len, get_or-map-range_with_len}
+use Rattle.sci_words.specs.declared.event.Event.{Event}
+use Rattle.sci_words.specs.declared.event.Event.TheVariants as event
+use Rattle.sci_history.specs.declared.entry.Entry.{Entry}
+use Rattle.sci_home.specs.Serving.{opening_home}
+use Rattle.sci_cache.specs.Line.{LineState, untouched}
+use Rattle.sci_cache.specs.Cache.{Letter}
+use Rattle.sci_core.specs.declared.lane.LaneKind.{LaneKind}
+use Rattle.sci_core.specs.declared.lane.LaneKind.TheVariants.{Requests, Answers}
+use Rattle.sci_core.specs.Node.{NodeOf, opening_node, node_issuing, node_performing, node_asking, node_replying, node_serving, node_refusing, node_accepting}
+use Rattle.sci_core.specs.Core.{Core, node_at, with_node, lane_place, lane_at, lane_of, with_lane, Side, Idle, Changes, Sends, Takes, changes, performs, sends, side, node_of, sent_by, taken_as, taken_from, step_by, stepping, step, opening, run_from}
+use Rattle.sci_core.specs.Reached.{IsReached, AreSizes}
+use Rattle.sci_core.specs.WellFormed.{NamesNodes, HomeNamesNodes, IsLetter, IsRequestLetter, IsAnswerLetter, IsInLane, IsPart, IsWellFormed}
+use Rattle.sci_core.proofs.Lists.{at_place_set, if_either}
+use Rattle.sci_core.proofs.Places.{place_to, place_from, place_requests, place_answers}
+use Rattle.sci_core.proofs.Parts.{SendsWell, RepliesWell, part_issuing, part_performing, part_asking, part_serving, part_refusing, part_replying, part_accepting}
+
+-- the same machine
+pub record SameMachine (old new : Core) : Type 0 where
+  pub nodes : new.nodes ≡ old.nodes
+  pub lines : new.lines ≡ old.lines
+  pub slots : new.slots ≡ old.slots
+  pub limit : new.limit ≡ old.limit
+
+pub record StepsWell (old new : Core) : Type 0 where
+  pub well : IsWellFormed new
+  pub same : SameMachine old new
+
+-- ---- one node, one lane
+
+well_with_node : (core : Core) (n : ℕ) (next : NodeOf) → IsPart core.nodes core.lines core.slots core.limit n next → IsWellFormed core → IsWellFormed (with_node core n next)
+well_with_node core n next is well = record {
+  some_node = well.some_node;
+  parts_long = length-set core.parts n next ∙ well.parts_long;
+  lanes_long = well.lanes_long;
+  each_part = at_place_set (λ (m : ℕ) (part : NodeOf). m < core.nodes → IsPart core.nodes core.lines core.slots core.limit m part) core.parts n next (opening_node 0 1 0 0 0) well.each_part (λ _. is);
+  each_lane = well.each_lane;
+}
+
+well_with_lane : (core : Core) (place : ℕ) (lane : List Letter) → All (IsInLane core.nodes core.lines place) lane → IsWellFormed core → IsWellFormed (with_lane core place lane)
+well_with_lane core place lane all well = record {
+  some_node = well.some_node;
+  parts_long = well.parts_long;
+  lanes_long = length-set core.lanes place lane ∙ well.lanes_long;
+  each_part = well.each_part;
+  each_lane = at_place_set (λ (p : ℕ) (l : List Letter). All (IsInLane core.nodes core.lines p) l) core.lanes place lane [] well.each_lane all;
+}
+
+-- ---- the four kinds of side
+
+-- a packet of this node that it may send into a lane of this kind
+abbrev pub IsSent : Core → ℕ → LaneKind → Letter → Type 0
+IsSent core n Requests letter = IsRequestLetter core.nodes core.lines letter × (letter.source ≡ n)
+IsSent core n Answers letter = IsAnswerLetter core.nodes core.lines letter × (letter.source ≡ n)
+
+-- a packet that comes by a lane of this kind
+abbrev pub Comes : Core → ℕ → LaneKind → Letter → Type 0
+Comes core n Requests letter = IsRequestLetter core.nodes core.lines letter × (letter.target ≡ n)
+Comes core n Answers letter = IsAnswerLetter core.nodes core.lines letter × (letter.target ≡ n)
+
+abbrev IsPartOf : Core → ℕ → NodeOf → Type 0
+IsPartOf core n part = IsPart core.nodes core.lines core.slots core.limit n part
+
+abbrev pub IsWellSide : Core → ℕ → Side → Type 0
+IsWellSide core n Idle = Unit {0}
+IsWellSide core n (Changes next) = IsPartOf core n next
+IsWellSide core n (Sends kind next letter) = IsPartOf core n next × IsSent core n kind letter
+IsWellSide core n (Takes kind from taking) = (letter : Letter) → Comes core n kind letter → IfSome (taking letter) (IsPartOf core n)
+
+in_lane_sent : (core : Core) (n : ℕ) (kind : LaneKind) (letter : Letter) → n < core.nodes → IsSent core n kind letter → IsInLane core.nodes core.lines (lane_place core.nodes kind n letter.target) letter
+in_lane_sent core n Requests letter lt sent = record {
+  from = sent.1 ∙ sym (place_from core.nodes Requests n letter.target lt sent.0.letter_ok.target);
+  to = sym (place_to core.nodes Requests n letter.target sent.0.letter_ok.target);
+  request = λ _. sent.0;
+  answer = λ above. absurd (let below = place_requests core.nodes n letter.target lt sent.0.letter_ok.target in omega arith);
+}
+in_lane_sent core n Answers letter lt sent = record {
+  from = sent.1 ∙ sym (place_from core.nodes Answers n letter.target lt sent.0.letter_ok.target);
+  to = sym (place_to core.nodes Answers n letter.target sent.0.letter_ok.target);
+  request = λ below. absurd (let above = place_answers core.nodes n letter.target in omega arith);
+  answer = λ _. sent.0;
+}
+
+comes_from_lane : (core : Core) (from n : ℕ) (kind : LaneKind) (letter : Letter) → from < core.nodes → n < core.nodes → IsInLane core.nodes core.lines (lane_place core.nodes kind from n) letter → Comes core n kind letter
+comes_from_lane core from n Requests letter f lt is = (is.request (place_requests core.nodes from n f lt), is.to ∙ place_to core.nodes Requests from n lt)
+comes_from_lane core from n Answers letter f lt is = (is.answer (place_answers core.nodes from n), is.to ∙ place_to core.nodes Answers from n lt)
+
+sent_well : (core : Core) (n : ℕ) (kind : LaneKind) (next : NodeOf) (letter : Letter) → n < core.nodes → IsPartOf core n next → IsSent core n kind letter → IsWellFormed core → IsWellFormed (sent_by core n kind next letter)
+sent_well core n kind next letter lt is sent well =
+    well_with_lane (with_node core n next) (lane_place core.nodes kind n letter.target) (lane_of core kind n letter.target ++ letter ∷ [])
+    (All-push (IsInLane core.nodes core.lines (lane_place core.nodes kind n letter.target)) (lane_of core kind n letter.target) letter (well.each_lane (lane_place core.nodes kind n letter.target)) (in_lane_sent core n kind letter lt sent))
+    (well_with_node core n next is well)
+
+same : (core : Core) → SameMachine core core
+same core = record { nodes = refl; lines = refl; slots = refl; limit = refl }
+
+taken_as_well : (core : Core) (n place : ℕ) (rest : List Letter) (taken : Option NodeOf) → IfSome taken (IsPartOf core n) → All (IsInLane core.nodes core.lines place) rest → IsWellFormed core
+    → IfSome (taken_as core n place rest taken) (StepsWell core)
+taken_as_well core n place rest None is all well = tt
+taken_as_well core n place rest (Some next) is all well = record {
+  well = well_with_lane (with_node core n next) place rest all (well_with_node core n next is well);
+  same = record { nodes = refl; lines = refl; slots = refl; limit = refl };
+}
+
+taken_from_well : (core : Core) (n place : ℕ) (taking : Letter → Option NodeOf) (lane : List Letter) → All (IsInLane core.nodes core.lines place) lane
+    → ((letter : Letter) → IsInLane core.nodes core.lines place letter → IfSome (taking letter) (IsPartOf core n)) → IsWellFormed core
+    → IfSome (taken_from core n place taking lane) (StepsWell core)
+taken_from_well core n place taking [] all takes well = tt
+taken_from_well core n place taking (letter ∷ rest) all takes well =
+    taken_as_well core n place rest (taking letter) (takes letter (All-head (IsInLane core.nodes core.lines place) letter rest all)) (All-tail (IsInLane core.nodes core.lines place) letter rest all) well
+
+if_below : (a b : ℕ) (P : Core → Type 0) (then_ : Option Core) → (a < b → IfSome then_ P) → IfSome (if nat_lt a b then then_ else None) P
+if_below a b P then_ h =
+    elim (cases_Bool (nat_lt a b)) [
+      | inl within ↦ subst (λ (t : Bool). IfSome (if t then then_ else None) P) (sym within) (h (ltb-true a b within))
+      | inr beyond ↦ subst (λ (t : Bool). IfSome (if t then then_ else None) P) (sym beyond) tt
+    ]
+
+step_by_well : (core : Core) (n : ℕ) (s : Side) → n < core.nodes → IsWellSide core n s → IsWellFormed core → IfSome (step_by core n s) (StepsWell core)
+step_by_well core n Idle lt is well = tt
+step_by_well core n (Changes next) lt is well = record { well = well_with_node core n next is well; same = record { nodes = refl; lines = refl; slots = refl; limit = refl } }
+step_by_well core n (Sends kind next letter) lt is well = record { well = sent_well core n kind next letter lt is.0 is.1 well; same = record { nodes = refl; lines = refl; slots = refl; limit = refl } }
+step_by_well core n (Takes kind from taking) lt is well =
+    if_below from core.nodes (StepsWell core) (taken_from core n (lane_place core.nodes kind from n) taking (lane_of core kind from n)) (λ f.
+      taken_from_well core n (lane_place core.nodes kind from n) taking (lane_of core kind from n) (well.each_lane (lane_place core.nodes kind from n))
+      (λ letter h. is letter (comes_from_lane core from n kind letter f lt h)) well)
+
+-- ---- each event's side is well
+
+changes_well : (core : Core) (n : ℕ) (next : Option NodeOf) → IfSome next (IsPartOf core n) → IsWellSide core n (changes next)
+changes_well core n None is = tt
+changes_well core n (Some next) is = is
+
+performs_well : (core : Core) (n : ℕ) (done : Option (NodeOf × Entry)) → IfSome done (λ (x : NodeOf × Entry). IsPartOf core n x.0) → IsWellSide core n (performs done)
+performs_well core n None is = tt
+performs_well core n (Some done) is = is
+
+asks_well : (core : Core) (n : ℕ) (sent : Option (NodeOf × Letter)) → IfSome sent (SendsWell core.nodes core.lines core.slots core.limit n) → IsWellSide core n (sends Requests sent)
+asks_well core n None is = tt
+asks_well core n (Some sent) is = (is.next, (is.request, is.from))
+
+replies_well : (core : Core) (n : ℕ) (sent : Option (NodeOf × Letter)) → IfSome sent (RepliesWell core.nodes core.lines core.slots core.limit n) → IsWellSide core n (sends Answers sent)
+replies_well core n None is = tt
+replies_well core n (Some sent) is = (is.next, (is.answer, is.from))
+
+pub side_well : (core : Core) (part : NodeOf) (e : Event) → 0 < core.nodes → node_of e < core.nodes → IsPartOf core (node_of e) part → IsWellSide core (node_of e) (side part e)
+side_well core part (event.Issue n op) some lt is = changes_well core n (node_issuing part op) (part_issuing core.nodes core.lines core.slots core.limit n part op is)
+side_well core part (event.Perform n line) some lt is = performs_well core n (node_performing part line) (part_performing core.nodes core.lines core.slots core.limit n part line is)
+side_well core part (event.Ask n line kind) some lt is = asks_well core n (node_asking part line kind) (part_asking core.nodes core.lines core.slots core.limit n part line kind some lt is)
+side_well core part (event.Serve from n) some lt is = λ letter comes. part_serving core.nodes core.lines core.slots core.limit n part letter comes.0 comes.1 is
+side_well core part (event.Refuse from n) some lt is = λ letter comes. part_refusing core.nodes core.lines core.slots core.limit n part letter comes.0 comes.1 is
+side_well core part (event.Reply n) some lt is = replies_well core n (node_replying part) (part_replying core.nodes core.lines core.slots core.limit n part is)
+side_well core part (event.Accept from n) some lt is = λ letter comes. part_accepting core.nodes core.lines core.slots core.limit n part letter comes.0 is
+
+pub stepping_well : (core : Core) (e : Event) → IsWellFormed core → IfSome (stepping core e) (StepsWell core)
+unfolding stepping
+stepping_well core e well =
+    if_below (node_of e) core.nodes (StepsWell core) (step_by core (node_of e) (side (node_at core (node_of e)) e)) (λ lt.
+      step_by_well core (node_of e) (side (node_at core (node_of e)) e) lt (side_well core (node_at core (node_of e)) e well.some_node lt (well.each_part (node_of e) lt)) well)
+
+-- ---- runs
+
+stays : (core : Core) (next : Option Core) → IfSome next (StepsWell core) → IsWellFormed core → StepsWell core (unwrap_or next core)
+stays core None h well = record { well = well; same = same core }
+stays core (Some next) h well = h
+
+pub step_well : (core : Core) (e : Event) → IsWellFormed core → StepsWell core (step core e)
+step_well core e well = stays core (stepping core e) (stepping_well core e well) well
+
+pub run_well : (core : Core) (events : List Event) → IsWellFormed core → StepsWell core (run_from core events)
+run_well core [] well = record { well = well; same = same core }
+run_well core (e ∷ events) well =
+    let one = step_well core e well in
+    let rest = run_well (step core e) events one.well in
+    record {
+      well = rest.well;
+      same = record { nodes = rest.same.nodes ∙ one.same.nodes; lines = rest.same.lines ∙ one.same.lines; slots = rest.same.slots ∙ one.same.slots; limit = rest.same.limit ∙ one.same.limit };
+    }
+
+-- ---- the opening
+
+opening_part : (me nodes lines slots limit : ℕ) → IsPart nodes lines slots limit me (opening_node me nodes lines slots limit)
+opening_part me nodes lines slots limit = record {
+  me = refl;
+  all = refl;
+  room = refl;
+  each = length-replicate lines untouched;
+  most = refl;
+  states = λ line. elim (cases_lt line lines) [
+      | inl below ↦ subst (λ (l : LineState). NamesNodes nodes l.state) (sym (get_or-replicate lines line untouched untouched below)) tt
+      | inr past ↦ subst (λ (l : LineState). NamesNodes nodes l.state) (sym (get_or_past (replicate lines untouched) line untouched (rw length-replicate past))) tt
+    ];
+  homes = λ place. elim (cases_lt place (lines / nodes + 1)) [
+      | inl below ↦ subst (HomeNamesNodes nodes) (sym (get_or-replicate (lines / nodes + 1) place opening_home opening_home below)) tt
+      | inr past ↦ subst (HomeNamesNodes nodes) (sym (get_or_past (replicate (lines / nodes + 1) opening_home) place opening_home (rw length-replicate past))) tt
+    ];
+  answer = tt;
+}
+
+pub opening_well : (nodes lines slots limit : ℕ) → 0 < nodes → IsWellFormed (opening nodes lines slots limit)
+opening_well nodes lines slots limit some = record {
+  some_node = some;
+  parts_long = length-map-range_with_len (λ (n : ℕ). opening_node n nodes lines slots limit) 0 nodes;
+  lanes_long = length-replicate (2 * nodes * nodes) [];
+  each_part = λ n lt. subst (IsPart nodes lines slots limit n) (sym (get_or-map-range_with_len (λ (m : ℕ). opening_node m nodes lines slots limit) 0 nodes n n (opening_node 0 1 0 0 0) lt (omega arith))) (opening_part n nodes lines slots limit);
+  each_lane = λ place. elim (cases_lt place (2 * nodes * nodes)) [
+      | inl below ↦ subst (All (IsInLane nodes lines place)) (sym (get_or-replicate (2 * nodes * nodes) place [] [] below)) (All-nil (IsInLane nodes lines place))
+      | inr past ↦ subst (All (IsInLane nodes lines place)) (sym (get_or_past (replicate (2 * nodes * nodes) []) place [] (rw length-replicate past))) (All-nil (IsInLane nodes lines place))
+    ];
+}
+
+pub reached_well : (core : Core) → IsReached core → IsWellFormed core
+reached_well core reached =
+    let some = reached.sizes.extent.has_node in
+    subst IsWellFormed reached.leads (run_well (opening core.nodes core.lines core.slots core.limit) reached.schedule (opening_well core.nodes core.lines core.slots core.limit (omega arith))).well

@@ -1,0 +1,22 @@
+-- The node's call, told of the whole state.
+use Rattle.std.proofs.Common.{◌≡◌, ℕ, ◌<◌, Bool, IsTrue, Some, length, set, ap, subst, arith}
+use Rattle.std.specs.Prelude.{IfSome}
+use Rattle.sci_packets.specs.declared.packet.Packet.{Packet}
+use Rattle.sci_cache.specs.Cache.{letter_of}
+use Rattle.sci_core.specs.Node.{NodeOf, node_asking}
+use Rattle.sci_core.specs.Core.{Core, node_at}
+use Rattle.sci_core.specs.contracts.state.State.{the_view}
+use Rattle.sci_core.proofs.States.{Gives, gives_some}
+use Rattle.sci_core.proofs.state.State.ask.Goals as goal
+
+pub returns-clause-done : goal.returns-clause-done
+returns-clause-done c =
+    let side : NodeOf → Packet → NodeOf → Type 0 = λ old x next. node_asking old c.args.line c.args.kind ≡ Some (next, letter_of x) in
+    let long = c.self.invariant.parts_long in
+    let view = ap (λ (core : Core). core.nodes) c.self.view_is in
+    let given = c.requires in
+    let below : c.args.n < length c.self.inside.nodes.items = omega arith in
+    let core = the_view c.self.inside in
+    let after : Core = record core { parts = set core.parts c.from.result c.ask.new.self } in
+    subst (λ (k : Core). IfSome c.ask.result (Gives side k after c.args.n)) c.self.view_is
+    (gives_some side core c.from.result c.args.n c.index_mut.result.now c.ask.new.self c.ask.result c.from.ensures below c.index_mut.ensures.value c.ask.ensures.asked)

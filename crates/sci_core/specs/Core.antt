@@ -1,0 +1,145 @@
+-- The state of the whole machine, and its steps. A step is a node's side of an event together with the one packet
+-- that is sent or taken.
+use Rattle.std.specs.Prelude.{◌≡◌, ℕ, ◌+◌, ◌*◌, nat_lt, if◌then◌else◌, List, [], ◌∷◌, ◌++◌, map, replicate, slice_index_or, slice_set, Option, Some, None, unwrap_or, IsSome}
+use Rattle.std.specs.List.{fold, range_with_len}
+use Rattle.sci_words.specs.declared.event.Event.{Event}
+use Rattle.sci_words.specs.declared.event.Event.TheVariants as event
+use Rattle.sci_history.specs.declared.entry.Entry.{Entry}
+use Rattle.sci_cache.specs.Cache.{Letter}
+use Rattle.sci_core.specs.declared.lane.LaneKind.{LaneKind}
+use Rattle.sci_core.specs.declared.lane.LaneKind.TheVariants.{Requests, Answers}
+use Rattle.sci_core.specs.Node.{NodeOf, opening_node, node_issuing, node_performing, node_asking, node_serving, node_refusing, node_replying, node_accepting}
+
+pub record Core : Type 0 where
+  pub nodes : ℕ
+  pub lines : ℕ
+  pub slots : ℕ
+  pub limit : ℕ
+  -- each node's part
+  pub parts : List NodeOf
+  -- the packets that are under way from each node to each, oldest first
+  pub lanes : List (List Letter)
+
+-- ---- nodes and lanes
+
+abbrev pub node_at : Core → ℕ → NodeOf
+node_at core n = slice_index_or core.parts n (opening_node 0 1 0 0 0)
+
+abbrev pub with_node : Core → ℕ → NodeOf → Core
+with_node core n node = record core { parts = slice_set core.parts n node }
+
+abbrev pub kind_number : LaneKind → ℕ
+kind_number Requests = 0
+kind_number Answers = 1
+
+-- where the lane of a kind from one node to another stands among all
+abbrev pub lane_place : ℕ → LaneKind → ℕ → ℕ → ℕ
+lane_place nodes kind from to = (kind_number kind * nodes + from) * nodes + to
+
+abbrev pub lane_at : Core → ℕ → List Letter
+lane_at core place = slice_index_or core.lanes place []
+
+abbrev pub lane_of : Core → LaneKind → ℕ → ℕ → List Letter
+lane_of core kind from to = lane_at core (lane_place core.nodes kind from to)
+
+abbrev pub with_lane : Core → ℕ → List Letter → Core
+with_lane core place lane = record core { lanes = slice_set core.lanes place lane }
+
+-- ---- a node's side of an event
+
+pub data Side : Type 0 where
+  -- the event is not enabled
+  Idle : Side
+  -- the node changes, and no packet moves
+  Changes : (next : NodeOf) → Side
+  -- the node changes and sends a packet
+  Sends : (kind : LaneKind) (next : NodeOf) (letter : Letter) → Side
+  -- the node takes the oldest packet from another: what becomes of it for each, or none
+  Takes : (kind : LaneKind) (from : ℕ) (taking : Letter → Option NodeOf) → Side
+
+abbrev pub changes : Option NodeOf → Side
+changes None = Idle
+changes (Some next) = Changes next
+
+abbrev pub performs : Option (NodeOf × Entry) → Side
+performs None = Idle
+performs (Some done) = Changes done.0
+
+abbrev pub sends : LaneKind → Option (NodeOf × Letter) → Side
+sends kind None = Idle
+sends kind (Some sent) = Sends kind sent.0 sent.1
+
+abbrev pub side : NodeOf → Event → Side
+side node (event.Issue n op) = changes (node_issuing node op)
+side node (event.Perform n line) = performs (node_performing node line)
+side node (event.Ask n line kind) = sends Requests (node_asking node line kind)
+side node (event.Serve from n) = Takes Requests from (node_serving node)
+side node (event.Refuse from n) = Takes Requests from (node_refusing node)
+side node (event.Reply n) = sends Answers (node_replying node)
+side node (event.Accept from n) = Takes Answers from (node_accepting node)
+
+-- the node whose event it is
+abbrev pub node_of : Event → ℕ
+node_of (event.Issue n op) = n
+node_of (event.Perform n line) = n
+node_of (event.Ask n line kind) = n
+node_of (event.Serve from n) = n
+node_of (event.Refuse from n) = n
+node_of (event.Reply n) = n
+node_of (event.Accept from n) = n
+
+-- ---- steps
+
+-- the node changes, and the packet ends the lane to its target
+abbrev pub sent_by : Core → ℕ → LaneKind → NodeOf → Letter → Core
+sent_by core n kind next letter =
+    with_lane (with_node core n next) (lane_place core.nodes kind n letter.target) (lane_of core kind n letter.target ++ letter ∷ [])
+
+abbrev pub taken_as : Core → ℕ → ℕ → List Letter → Option NodeOf → Option Core
+taken_as core n place rest None = None
+taken_as core n place rest (Some next) = Some (with_lane (with_node core n next) place rest)
+
+-- the front of a lane is taken, where the node takes it
+abbrev pub taken_from : Core → ℕ → ℕ → (Letter → Option NodeOf) → List Letter → Option Core
+taken_from core n place taking [] = None
+taken_from core n place taking (letter ∷ rest) = taken_as core n place rest (taking letter)
+
+abbrev pub step_by : Core → ℕ → Side → Option Core
+step_by core n Idle = None
+step_by core n (Changes next) = Some (with_node core n next)
+step_by core n (Sends kind next letter) = Some (sent_by core n kind next letter)
+step_by core n (Takes kind from taking) =
+    if nat_lt from core.nodes
+    then taken_from core n (lane_place core.nodes kind from n) taking (lane_of core kind from n)
+    else None
+
+-- the state after an event, or none where it is not enabled
+unfoldable pub stepping : Core → Event → Option Core
+stepping core event = if nat_lt (node_of event) core.nodes then step_by core (node_of event) (side (node_at core (node_of event)) event) else None
+
+abbrev pub IsEnabled : Core → Event → Type 0
+IsEnabled core event = IsSome (stepping core event)
+
+-- an event that is not enabled changes nothing
+abbrev pub step : Core → Event → Core
+step core event = unwrap_or (stepping core event) core
+
+-- ---- runs
+
+-- all lines Out and HOME with zero words at version 0, all else empty
+abbrev pub opening : ℕ → ℕ → ℕ → ℕ → Core
+opening nodes lines slots limit = record {
+  nodes = nodes;
+  lines = lines;
+  slots = slots;
+  limit = limit;
+  parts = map (λ n. opening_node n nodes lines slots limit) (range_with_len 0 nodes);
+  lanes = replicate (2 * nodes * nodes) [];
+}
+
+-- the state where the events, one after another, lead
+abbrev pub run_from : Core → List Event → Core
+run_from core events = fold step core events
+
+abbrev pub run : ℕ → ℕ → ℕ → ℕ → List Event → Core
+run nodes lines slots limit events = run_from (opening nodes lines slots limit) events

@@ -1,0 +1,87 @@
+-- Plain facts of a machine's state: sizes, senders and receivers, and numbers in range.
+use Rattle.std.specs.Prelude.{◌≡◌, ℕ, ◌+◌, ◌*◌, ◌/◌, ◌%◌, ◌<◌, ◌≤◌, false, List, length, slice_index_or, Option, Some, None, IfSome}
+use Rattle.std.specs.List.{All}
+use Rattle.sci_packets.specs.declared.body.Body.{Body}
+use Rattle.sci_packets.specs.declared.body.Body.TheVariants.{Roll, Setback, Mgone, Purged, Fdata}
+use Rattle.sci_packets.specs.Table.{is_request, IsRequest}
+use Rattle.sci_home.specs.declared.state.HomeState.{HomeState}
+use Rattle.sci_home.specs.declared.state.HomeState.TheVariants as home
+use Rattle.sci_home.specs.Serving.{opening_home, IsForHome}
+use Rattle.sci_cache.specs.State.{CacheState, Out, Asking, Joining, FreshJoining, Head, FreshHead, Below, Purging, Claiming, Clearing, Returning, Rolling, Telling, Fading}
+use Rattle.sci_cache.specs.Cache.{Letter, line_of}
+use Rattle.sci_core.specs.Node.{NodeOf, lines_of}
+use Rattle.sci_core.specs.Core.{Core, node_at, lane_at}
+
+-- ---- every identifier names a node
+
+abbrev pub IsBelow : ℕ → Option ℕ → Type 0
+IsBelow nodes identifier = IfSome identifier (λ i. i < nodes)
+
+abbrev pub NamesNodes : ℕ → CacheState → Type 0
+NamesNodes nodes (Joining p sent) = p < nodes
+NamesNodes nodes (FreshJoining p sent c) = p < nodes
+NamesNodes nodes (Head f c) = IsBelow nodes f
+NamesNodes nodes (FreshHead f c) = IsBelow nodes f
+NamesNodes nodes (Below f b c) = IsBelow nodes f × (b < nodes)
+NamesNodes nodes (Purging q c) = q < nodes
+NamesNodes nodes (Claiming f c) = IsBelow nodes f
+NamesNodes nodes (Rolling f b c) = IsBelow nodes f × (b < nodes)
+NamesNodes nodes (Telling r w sent) = (r < nodes) × (w < nodes)
+NamesNodes nodes _ = Unit {0}
+
+abbrev pub HomeNamesNodes : ℕ → HomeState → Type 0
+HomeNamesNodes nodes (home.Home c) = Unit {0}
+HomeNamesNodes nodes (home.Fresh p c) = p < nodes
+HomeNamesNodes nodes (home.Gone p) = p < nodes
+
+abbrev pub BodyNamesNodes : ℕ → Body → Type 0
+BodyNamesNodes nodes (Roll forward) = IsBelow nodes forward
+BodyNamesNodes nodes (Setback backward) = backward < nodes
+BodyNamesNodes nodes (Mgone old) = old < nodes
+BodyNamesNodes nodes (Purged forward) = IsBelow nodes forward
+BodyNamesNodes nodes (Fdata old c) = IsBelow nodes old
+BodyNamesNodes nodes _ = Unit {0}
+
+-- ---- nodes and lanes
+
+-- a packet between two nodes of the machine, about one of its lines
+pub record IsLetter (nodes lines : ℕ) (letter : Letter) : Type 0 where
+  pub target : letter.target < nodes
+  pub source : letter.source < nodes
+  pub about : letter.line < lines
+  pub names : BodyNamesNodes nodes letter.body
+
+-- a request; one that a home serves goes to the line's home
+pub record IsRequestLetter (nodes lines : ℕ) (letter : Letter) : Type 0 where
+  pub letter_ok : IsLetter nodes lines letter
+  pub asks : IsRequest letter.body
+  pub home : IsForHome letter.body → letter.line % nodes ≡ letter.target
+
+pub record IsAnswerLetter (nodes lines : ℕ) (letter : Letter) : Type 0 where
+  pub letter_ok : IsLetter nodes lines letter
+  pub answers : is_request letter.body ≡ false
+
+-- a lane's packets go from its sender to its receiver; the lanes of requests stand before those of answers
+pub record IsInLane (nodes lines place : ℕ) (letter : Letter) : Type 0 where
+  pub from : letter.source ≡ place / nodes % nodes
+  pub to : letter.target ≡ place % nodes
+  pub request : place < nodes * nodes → IsRequestLetter nodes lines letter
+  pub answer : nodes * nodes ≤ place → IsAnswerLetter nodes lines letter
+
+-- the part of node n
+pub record IsPart (nodes lines slots limit n : ℕ) (part : NodeOf) : Type 0 where
+  pub me : part.cache.me ≡ n
+  pub all : part.cache.nodes ≡ nodes
+  pub room : part.cache.slots ≡ slots
+  pub each : lines_of part ≡ lines
+  pub most : part.limit ≡ limit
+  pub states : (line : ℕ) → NamesNodes nodes (line_of part.cache line).state
+  pub homes : (place : ℕ) → HomeNamesNodes nodes (slice_index_or part.homes place opening_home)
+  pub answer : IfSome part.waiting (λ letter. IsAnswerLetter nodes lines letter × (letter.source ≡ n))
+
+pub record IsWellFormed (core : Core) : Type 0 where
+  pub some_node : 0 < core.nodes
+  pub parts_long : length core.parts ≡ core.nodes
+  pub lanes_long : length core.lanes ≡ 2 * core.nodes * core.nodes
+  pub each_part : (n : ℕ) → n < core.nodes → IsPart core.nodes core.lines core.slots core.limit n (node_at core n)
+  pub each_lane : (place : ℕ) → All (IsInLane core.nodes core.lines place) (lane_at core place)

@@ -1,0 +1,88 @@
+//! Lanes: the packets that are under way from one node to another.
+
+ghost use Rattle.std.specs.Prelude.{◌≡◌, ◌∷◌, [], ◌++◌, IfSome, IsErr, OnOk, OnErr, IfOk, option_map, option_copied, slice_get, length, drop, None, Some};
+ghost use Rattle.sci_cache.specs.Cache.{letter_of};
+
+use sci_packets::Packet;
+use std::alloc::{AllocError, Global};
+use std::collections::VecDeque;
+use std::marker::Model;
+
+/// What a lane carries.
+#[derive(Clone, Copy, Debug, PartialEq, Eq)]
+pub enum LaneKind {
+    Requests,
+    Answers,
+}
+
+/// The packets of one kind that are under way from one node to another, oldest first. Contracts see the list of
+/// them.
+#[derive(Drop)]
+pub(crate) struct Lane {
+    packets: VecDeque<Packet>,
+}
+
+impl Model for Lane {
+    ghost use Rattle.std.specs.Prelude.{List, map};
+    ghost use Rattle.sci_cache.specs.Cache.{Letter, letter_of};
+
+    ghost Value = { List Letter };
+
+    ghost view = { λ lane. map letter_of lane.packets.items };
+}
+
+impl Lane {
+    /// A lane with no packet.
+    pub(crate) fn new(alloc: Global) -> Lane
+        ensures { result ≡ [] }
+    {
+        Lane {
+            packets: VecDeque::new(alloc),
+        }
+    }
+
+    /// Sends a packet: it ends the lane. Unchanged where memory is refused.
+    pub(crate) fn send(&mut self, packet: &Packet) -> Result<(), AllocError>
+        ensures ok { OnOk result (self.new ≡ self.old ++ letter_of packet.now ∷ []) }
+        ensures err { OnErr result (self.new ≡ self.old) }
+    {
+        // As an option, so that the prover is told of the types inside a packet.
+        let packet: Option<Packet> = Some(*packet);
+        match packet {
+            Some(packet) => push(&mut self.packets, packet),
+            None => Ok(()),
+        }
+    }
+
+    /// Takes the oldest packet away, if there is one.
+    pub(crate) fn take(&mut self) -> Option<Packet>
+        ensures some { IfSome result (λ packet. self.old ≡ letter_of packet ∷ self.new) }
+        ensures none { result ≡ None → self.old ≡ [] }
+        ensures same { result ≡ None → self.new ≡ self.old }
+    {
+        self.packets.pop_front()
+    }
+
+    /// The oldest packet, if there is one.
+    pub(crate) fn front(&self) -> Option<&Packet>
+        ensures { option_map letter_of (option_copied result) ≡ slice_get self.now 0 }
+    {
+        self.packets.front()
+    }
+
+    /// How many packets there are.
+    pub(crate) fn count(&self) -> usize
+        ensures { result ≡ length self.now }
+    {
+        self.packets.len()
+    }
+}
+
+/// Ends a queue with an item. Unchanged where memory is refused.
+fn push<T: Drop>(queue: &mut VecDeque<T>, item: T) -> Result<(), AllocError>
+    ensures ok { OnOk result (queue.new.items ≡ queue.old.items ++ item ∷ []) }
+    ensures err { OnErr result (queue.new.items ≡ queue.old.items) }
+{
+    queue.push_back(item)?;
+    Ok(())
+}
