@@ -8,3 +8,4 @@ pub mod Places
 pub mod WellFormedSteps
 pub mod Stepping
 pub mod States
+pub mod Applied

@@ -1,5 +1,6 @@
 -- A step, from its node's side.
-use Rattle.std.proofs.Common.{◌≡◌, ℕ, ◌<◌, ◌≤◌, nat_lt, Bool, true, false, if◌then◌else◌, List, [], ◌∷◌, ◌++◌, Option, Some, None, refl, sym, ap, ◌∙◌, subst, length, get_or}
+use Rattle.std.proofs.Common.{◌≡◌, ℕ, ◌<◌, ◌≤◌, nat_lt, Bool, true, false, if◌then◌else◌, List, [], ◌∷◌, ◌++◌, Option, Some, None, refl, sym, ap, ◌∙◌, subst, length, get_or, drop}
+use Rattle.std.specs.Prelude.{slice_get}
 use Rattle.std.proofs.lemmas.List.{get_or_read}
 use Rattle.std.proofs.lemmas.Bool.{lt-ltb, le-ltb}
 use Rattle.sci_words.specs.declared.event.Event.{Event}
@@ -30,11 +31,49 @@ pub stepping_nobody : (core : Core) (e : Event) → core.nodes ≤ node_of e →
 unfolding stepping
 stepping_nobody core e le = if_false (nat_lt (node_of e) core.nodes) _ None (le-ltb (node_of e) core.nodes le)
 
--- ---- Issue and Perform
+-- ---- the four kinds of side, of the state before and after
 
-pub issues : (core : Core) (n : ℕ) (op : Op) (node : NodeOf) (next : Option NodeOf) → n < core.nodes → node ≡ node_at core n → node_issuing node op ≡ next → stepping core (event.Issue n op) ≡ step_by core n (changes next)
-issues core n op node next lt at is = stepping_side core (event.Issue n op) (changes next) lt (ap changes (ap (λ (m : NodeOf). node_issuing m op) (sym at) ∙ is))
+pub stepping_idle : (core : Core) (e : Event) → node_of e < core.nodes → side (node_at core (node_of e)) e ≡ Idle → stepping core e ≡ None
+stepping_idle core e lt is = stepping_side core e Idle lt is
 
--- what was read at a place of the nodes is the node with that number
-pub read_node : (nodes : List NodeOf) (i n : ℕ) (x : NodeOf) → i ≡ n → n < length nodes → x ≡ get_or nodes i x → x ≡ get_or nodes n (opening_node 0 1 0 0 0)
-read_node nodes i n x is below e = get_or_read nodes n x below (subst (λ (k : ℕ). x ≡ get_or nodes k x) is e) (opening_node 0 1 0 0 0)
+pub stepping_changed : (core new : Core) (e : Event) (next : NodeOf) → node_of e < core.nodes → side (node_at core (node_of e)) e ≡ Changes next → new ≡ with_node core (node_of e) next → stepping core e ≡ Some new
+stepping_changed core new e next lt is same = stepping_side core e (Changes next) lt is ∙ ap Some (sym same)
+
+pub stepping_sent : (core new : Core) (e : Event) (kind : LaneKind) (next : NodeOf) (letter : Letter) → node_of e < core.nodes → side (node_at core (node_of e)) e ≡ Sends kind next letter
+    → new ≡ sent_by core (node_of e) kind next letter → stepping core e ≡ Some new
+stepping_sent core new e kind next letter lt is same = stepping_side core e (Sends kind next letter) lt is ∙ ap Some (sym same)
+
+-- a step that takes, from its lane
+pub stepping_takes : (core : Core) (e : Event) (kind : LaneKind) (from : ℕ) (taking : Letter → Option NodeOf) → node_of e < core.nodes → from < core.nodes → side (node_at core (node_of e)) e ≡ Takes kind from taking
+    → stepping core e ≡ taken_from core (node_of e) (lane_place core.nodes kind from (node_of e)) taking (lane_of core kind from (node_of e))
+stepping_takes core e kind from taking lt f is = stepping_side core e (Takes kind from taking) lt is ∙ if_true (nat_lt from core.nodes) _ None (lt-ltb from core.nodes f)
+
+pub stepping_from_nobody : (core : Core) (e : Event) (kind : LaneKind) (from : ℕ) (taking : Letter → Option NodeOf) → node_of e < core.nodes → core.nodes ≤ from → side (node_at core (node_of e)) e ≡ Takes kind from taking
+    → stepping core e ≡ None
+stepping_from_nobody core e kind from taking lt f is = stepping_side core e (Takes kind from taking) lt is ∙ if_false (nat_lt from core.nodes) _ None (le-ltb from core.nodes f)
+
+empty_lane : (core : Core) (n place : ℕ) (taking : Letter → Option NodeOf) (lane : List Letter) → slice_get lane 0 ≡ None → taken_from core n place taking lane ≡ None
+empty_lane core n place taking [] e = refl
+empty_lane core n place taking (letter ∷ rest) e = cc
+
+front_taken : (core : Core) (n place : ℕ) (taking : Letter → Option NodeOf) (lane : List Letter) (letter : Letter) (next : Option NodeOf) → slice_get lane 0 ≡ Some letter → taking letter ≡ next
+    → taken_from core n place taking lane ≡ taken_as core n place (drop 1 lane) next
+front_taken core n place taking [] letter next e takes = cc
+front_taken core n place taking (first ∷ rest) letter next e takes =
+    let same : first ≡ letter = cc in
+    ap (taken_as core n place rest) (ap taking same ∙ takes)
+
+pub stepping_empty : (core : Core) (e : Event) (kind : LaneKind) (from : ℕ) (taking : Letter → Option NodeOf) → node_of e < core.nodes → from < core.nodes → side (node_at core (node_of e)) e ≡ Takes kind from taking
+    → slice_get (lane_of core kind from (node_of e)) 0 ≡ None → stepping core e ≡ None
+stepping_empty core e kind from taking lt f is none = stepping_takes core e kind from taking lt f is ∙ empty_lane core (node_of e) _ taking (lane_of core kind from (node_of e)) none
+
+pub stepping_untaken : (core : Core) (e : Event) (kind : LaneKind) (from : ℕ) (taking : Letter → Option NodeOf) (letter : Letter) → node_of e < core.nodes → from < core.nodes → side (node_at core (node_of e)) e ≡ Takes kind from taking
+    → slice_get (lane_of core kind from (node_of e)) 0 ≡ Some letter → taking letter ≡ None → stepping core e ≡ None
+stepping_untaken core e kind from taking letter lt f is front takes =
+    stepping_takes core e kind from taking lt f is ∙ front_taken core (node_of e) _ taking (lane_of core kind from (node_of e)) letter None front takes
+
+pub stepping_taken : (core new : Core) (e : Event) (kind : LaneKind) (from : ℕ) (taking : Letter → Option NodeOf) (letter : Letter) (next : NodeOf) → node_of e < core.nodes → from < core.nodes → side (node_at core (node_of e)) e ≡ Takes kind from taking
+    → slice_get (lane_of core kind from (node_of e)) 0 ≡ Some letter → taking letter ≡ Some next
+    → new ≡ with_lane (with_node core (node_of e) next) (lane_place core.nodes kind from (node_of e)) (drop 1 (lane_of core kind from (node_of e))) → stepping core e ≡ Some new
+stepping_taken core new e kind from taking letter next lt f is front takes same =
+    stepping_takes core e kind from taking lt f is ∙ (front_taken core (node_of e) _ taking (lane_of core kind from (node_of e)) letter (Some next) front takes ∙ ap Some (sym same))

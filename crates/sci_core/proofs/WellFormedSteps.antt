@@ -88,7 +88,7 @@ in_lane_sent core n Answers letter lt sent = record {
   answer = λ _. sent.0;
 }
 
-comes_from_lane : (core : Core) (from n : ℕ) (kind : LaneKind) (letter : Letter) → from < core.nodes → n < core.nodes → IsInLane core.nodes core.lines (lane_place core.nodes kind from n) letter → Comes core n kind letter
+pub comes_from_lane : (core : Core) (from n : ℕ) (kind : LaneKind) (letter : Letter) → from < core.nodes → n < core.nodes → IsInLane core.nodes core.lines (lane_place core.nodes kind from n) letter → Comes core n kind letter
 comes_from_lane core from n Requests letter f lt is = (is.request (place_requests core.nodes from n f lt), is.to ∙ place_to core.nodes Requests from n lt)
 comes_from_lane core from n Answers letter f lt is = (is.answer (place_answers core.nodes from n), is.to ∙ place_to core.nodes Answers from n lt)
 

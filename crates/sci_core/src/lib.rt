@@ -2,6 +2,7 @@
 //! and what any list of them leads to.
 #![tactic(auto)]
 
+mod apply;
 mod fault;
 mod lane;
 mod node;
