@@ -6,3 +6,4 @@ pub mod Performing
 pub mod Held
 pub mod Line
 pub mod Cache
+pub mod Member

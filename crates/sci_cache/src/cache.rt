@@ -1,7 +1,6 @@
 //! The cache part of a node's controller.
 
-ghost use Rattle.std.specs.Prelude.{◌≡◌};
-ghost use Rattle.sci_cache.specs.Cache.{slots_taken as slots_taken_of};
+ghost use Rattle.std.specs.Prelude.{◌≡◌, ◌+◌, ◌<◌, true, false, cond, not};
 
 use crate::fault::{AskFault, NotAwaited};
 use crate::held::Held;
@@ -18,15 +17,19 @@ pub struct Cache {
     me: u8,
     extent: Extent,
     lines: Vec<CachedLine>,
+    /// How many lines have an entry: each takes a version slot.
+    taken: usize,
 }
 
 impl Model for Cache {
-    ghost use Rattle.sci_cache.specs.Cache.{CacheOf};
-    ghost use Rattle.std.specs.Prelude.{◌≤◌};
+    ghost use Rattle.std.specs.Prelude.{◌≡◌};
+    ghost use Rattle.sci_cache.specs.Cache.{CacheOf, slots_taken};
 
     ghost Value = { CacheOf };
 
     ghost view = { λ cache. record { me = cache.me; nodes = cache.extent.nodes; slots = cache.extent.slots; lines = cache.lines.items } };
+
+    ghost invariant = { λ cache. cache.taken ≡ slots_taken cache.lines.items };
 }
 
 /// The identifier of a node by its number.
@@ -36,20 +39,26 @@ fn node(number: u8) -> NodeId
     NodeId::new(u16::from(number)).unwrap()
 }
 
-/// How many lines have an entry.
-fn slots_taken(lines: &[CachedLine]) -> usize
-    ensures { result ≡ slots_taken_of lines.now }
+/// The number of slots taken, of which there were `taken`, after a line had an entry or not and has one or not.
+fn taken_after(taken: usize, was_out: bool, is_out: bool) -> usize
+    requires room { was_out ≡ true → is_out ≡ false → taken < usize.MAX }
+    requires some { was_out ≡ false → is_out ≡ true → 0 < taken }
+    ensures { result + cond (not was_out) 1 0 ≡ taken + cond (not is_out) 1 0 }
 {
-    lines.iter().filter(|line| !line.is_out()).count()
+    match (was_out, is_out) {
+        (true, false) => taken + 1,
+        (false, true) => taken - 1,
+        _ => taken,
+    }
 }
 
 impl Cache {
-    ghost use Rattle.std.specs.Prelude.{◌≡◌, ◌<◌, Some, None, Ok, Err, IfOk, IfErr, IfSome, IsErr, length, replicate};
+    ghost use Rattle.std.specs.Prelude.{◌≡◌, ◌<◌, ◌%◌, Some, None, Ok, Err, IfOk, IfErr, IfSome, IsErr, length, replicate};
     ghost use Rattle.sci_words.specs.declared.limits.TheConstants.{WORDS_PER_LINE};
     ghost use Rattle.sci_cache.specs.Serving.{IsForCache};
     ghost use Rattle.sci_cache.specs.Line.{untouched};
     ghost use Rattle.sci_cache.specs.Held.{state_of};
-    ghost use Rattle.sci_cache.specs.Cache.{CacheOf, line_of, letter_of, cache_asking, cache_serving, cache_accepting, cache_performing};
+    ghost use Rattle.sci_cache.specs.Cache.{CacheOf, line_of, has_slot, letter_of, cache_asking, cache_serving, cache_accepting, cache_performing};
 
     /// The cache of node `me` in a machine of this size, with no entry for any line. The caller sees to it that
     /// there is such a node. Refused where memory is.
@@ -61,7 +70,12 @@ impl Cache {
         for _place in 0..extent.lines {
             lines.push(CachedLine::new())?;
         }
-        Ok(Cache { me, extent, lines })
+        Ok(Cache {
+            me,
+            extent,
+            lines,
+            taken: 0,
+        })
     }
 
     /// The number of lines.
@@ -81,6 +95,20 @@ impl Cache {
         part.held()
     }
 
+    /// Whether a version slot is free.
+    fn has_slot(&self) -> bool
+        ensures { result ≡ has_slot self.now }
+    {
+        self.taken < usize::from(self.extent.slots)
+    }
+
+    /// The node that has the home of a line.
+    fn home_of(&self, line: u8) -> NodeId
+        ensures { result ≡ line % self.now.nodes }
+    {
+        node(line % self.extent.nodes)
+    }
+
     /// Makes a request of this kind about a line. The caller sees to it that there is such a line. Refused,
     /// unchanged, with NotNow where the line's state doesn't ask this kind, and else with NoSlot where the line
     /// has no entry and as many lines have one as there are version slots.
@@ -89,11 +117,14 @@ impl Cache {
         ensures asked { IfOk result (λ packet. cache_asking self.old line kind ≡ Ok (self.new, letter_of packet)) }
         ensures refused { IfErr result (λ fault. cache_asking self.old line kind ≡ Err fault) }
         ensures same { IsErr result → self.new ≡ self.old }
+        ensures lines { length self.new.lines ≡ length self.old.lines }
     {
-        let free = slots_taken(&self.lines) < usize::from(self.extent.slots);
+        let free = self.has_slot();
+        let home = self.home_of(line);
         let part = &mut self.lines[usize::from(line)];
+        let was_out = part.is_out();
         let question = part.ask(kind, free)?;
-        let home = node(line % self.extent.nodes);
+        self.taken = taken_after(self.taken, was_out, part.is_out());
         Ok(Packet {
             target: question.to.unwrap_or(home),
             source: node(self.me),
@@ -110,10 +141,10 @@ impl Cache {
         ensures asked { IfSome result (λ packet. (next : CacheOf) × (cache_asking self.now line kind ≡ Ok (next, letter_of packet))) }
         ensures refused { result ≡ None → IsErr (cache_asking self.now line kind) }
     {
-        let free = slots_taken(&self.lines) < usize::from(self.extent.slots);
+        let free = self.has_slot();
+        let home = self.home_of(line);
         let part = &self.lines[usize::from(line)];
         let question = part.question(kind, free)?;
-        let home = node(line % self.extent.nodes);
         Some(Packet {
             target: question.to.unwrap_or(home),
             source: node(self.me),
@@ -133,9 +164,12 @@ impl Cache {
         ensures source { result.source ≡ request.now.target }
         ensures control { result.control ≡ request.now.control }
         ensures line { result.line ≡ request.now.line }
+        ensures lines { length self.new.lines ≡ length self.old.lines }
     {
         let part = &mut self.lines[request.line as usize];
+        let was_out = part.is_out();
         let answer = part.serve(request.source, &request.body);
+        self.taken = taken_after(self.taken, was_out, part.is_out());
         request.answer(answer)
     }
 
@@ -146,9 +180,13 @@ impl Cache {
         ensures taken { IfOk result (λ _. cache_accepting self.old answer.now.line answer.now.control answer.now.body ≡ Some self.new) }
         ensures refused { IsErr result → cache_accepting self.old answer.now.line answer.now.control answer.now.body ≡ None }
         ensures same { IsErr result → self.new ≡ self.old }
+        ensures lines { length self.new.lines ≡ length self.old.lines }
     {
         let part = &mut self.lines[answer.line as usize];
-        part.accept(answer.control, &answer.body)
+        let was_out = part.is_out();
+        part.accept(answer.control, &answer.body)?;
+        self.taken = taken_after(self.taken, was_out, part.is_out());
+        Ok(())
     }
 
     /// Performs an operation, and gives its reply and the version that it read or made. The caller sees to it
@@ -160,6 +198,7 @@ impl Cache {
         ensures done { IfSome result (λ answer. cache_performing self.old op ≡ Some (self.new, answer.0, answer.1)) }
         ensures refused { result ≡ None → cache_performing self.old op ≡ None }
         ensures same { result ≡ None → self.new ≡ self.old }
+        ensures lines { length self.new.lines ≡ length self.old.lines }
     {
         let part = &mut self.lines[usize::from(op.line)];
         part.perform(op)

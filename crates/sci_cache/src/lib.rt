@@ -7,6 +7,7 @@ mod asked;
 mod cache;
 mod fault;
 mod held;
+pub mod laws;
 mod line;
 mod perform;
 mod serve;
@@ -20,6 +21,8 @@ pub use states::{
     OutState, Purging, Returning, Rolling, Telling,
 };
 
+#[cfg(test)]
+mod perform_tests;
 #[cfg(test)]
 mod table_tests;
 #[cfg(test)]

@@ -6,7 +6,7 @@ use sci_words::{AskKind, Line, Stamped};
 use std::process::Abort;
 use std::test::*;
 
-fn node(number: u16) -> Result<NodeId, Fail> {
+pub(crate) fn node(number: u16) -> Result<NodeId, Fail> {
     Ok(NodeId::new(number).ok_or("the number of a node")?)
 }
 
@@ -18,21 +18,21 @@ fn contents(version: u64) -> Stamped {
     }
 }
 
-fn head(forward: Option<NodeId>) -> Held {
+pub(crate) fn head(forward: Option<NodeId>) -> Held {
     Held::Head(HeadState {
         forward,
         contents: contents(4),
     })
 }
 
-fn fresh_head(forward: Option<NodeId>) -> Held {
+pub(crate) fn fresh_head(forward: Option<NodeId>) -> Held {
     Held::FreshHead(FreshHead {
         forward,
         contents: contents(4),
     })
 }
 
-fn below(forward: Option<NodeId>, backward: NodeId) -> Held {
+pub(crate) fn below(forward: Option<NodeId>, backward: NodeId) -> Held {
     Held::Below(Below {
         forward,
         backward,
@@ -40,7 +40,7 @@ fn below(forward: Option<NodeId>, backward: NodeId) -> Held {
     })
 }
 
-fn rolling(forward: Option<NodeId>, backward: NodeId) -> Held {
+pub(crate) fn rolling(forward: Option<NodeId>, backward: NodeId) -> Held {
     Held::Rolling(Rolling {
         forward,
         backward,
@@ -48,11 +48,11 @@ fn rolling(forward: Option<NodeId>, backward: NodeId) -> Held {
     })
 }
 
-fn joining(old_head: NodeId, sent: bool) -> Held {
+pub(crate) fn joining(old_head: NodeId, sent: bool) -> Held {
     Held::Joining(Joining { old_head, sent })
 }
 
-fn fresh_joining(old_head: NodeId, sent: bool) -> Held {
+pub(crate) fn fresh_joining(old_head: NodeId, sent: bool) -> Held {
     Held::FreshJoining(FreshJoining {
         old_head,
         sent,
@@ -60,33 +60,33 @@ fn fresh_joining(old_head: NodeId, sent: bool) -> Held {
     })
 }
 
-fn purging(next: NodeId) -> Held {
+pub(crate) fn purging(next: NodeId) -> Held {
     Held::Purging(Purging {
         next,
         contents: contents(4),
     })
 }
 
-fn claiming(forward: Option<NodeId>) -> Held {
+pub(crate) fn claiming(forward: Option<NodeId>) -> Held {
     Held::Claiming(Claiming {
         forward,
         contents: contents(4),
     })
 }
 
-fn clearing() -> Held {
+pub(crate) fn clearing() -> Held {
     Held::Clearing(Clearing {
         contents: contents(4),
     })
 }
 
-fn returning() -> Held {
+pub(crate) fn returning() -> Held {
     Held::Returning(Returning {
         contents: contents(4),
     })
 }
 
-fn telling(behind: NodeId, before: NodeId, sent: bool) -> Held {
+pub(crate) fn telling(behind: NodeId, before: NodeId, sent: bool) -> Held {
     Held::Telling(Telling {
         behind,
         before,
@@ -94,7 +94,7 @@ fn telling(behind: NodeId, before: NodeId, sent: bool) -> Held {
     })
 }
 
-fn out() -> Held {
+pub(crate) fn out() -> Held {
     Held::Out(OutState)
 }
 

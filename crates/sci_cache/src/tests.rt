@@ -3,7 +3,7 @@
 use crate::*;
 use sci_packets::{Body, NodeId, Packet};
 use sci_words::{AskKind, Extent, Line, Stamped};
-use std::alloc::Global;
+use std::alloc::{AllocError, Global};
 use std::process::Abort;
 use std::test::*;
 
@@ -26,12 +26,51 @@ fn cache(alloc: Global, me: u8) -> Result<Cache, Fail> {
     Ok(Cache::new(alloc, me, extent).ok().ok_or("no memory")?)
 }
 
+/// The cache of a node alone, with two lines and one version slot.
+fn one_slot(alloc: Global) -> Result<Cache, Fail> {
+    let extent = Extent::new(1, 2, 1).ok_or("an extent")?;
+    Ok(Cache::new(alloc, 0, extent).ok().ok_or("no memory")?)
+}
+
 /// What a cache asks about line 0.
 fn asked(cache: &mut Cache, kind: AskKind) -> Result<Packet, Fail> {
     if cache.lines() == 0 {
         return Err(Fail::from("no such line"));
     }
     Ok(cache.ask(0, kind).ok().ok_or("it is refused")?)
+}
+
+/// What a cache asks about line 1.
+fn asked_other(cache: &mut Cache, kind: AskKind) -> Result<Result<Packet, AskFault>, Fail> {
+    if cache.lines() < 2 {
+        return Err(Fail::from("no such line"));
+    }
+    Ok(cache.ask(1, kind))
+}
+
+/// Why a cache asks no Mread about line 0.
+fn refusal(cache: &mut Cache) -> Option<AskFault> {
+    if cache.lines() == 0 {
+        return None;
+    }
+    match cache.ask(0, AskKind::Mread) {
+        Ok(_) => None,
+        Err(fault) => Some(fault),
+    }
+}
+
+/// The control number of an Mread about line 0 that the home answers as busy, or None where it isn't sent.
+fn busy_control(cache: &mut Cache) -> Option<u16> {
+    if cache.lines() == 0 {
+        return None;
+    }
+    match cache.ask(0, AskKind::Mread) {
+        Ok(mread) => {
+            let busy = mread.answer(Body::Busy);
+            accepted(cache, &busy).then_some(mread.control)
+        }
+        Err(_) => None,
+    }
 }
 
 /// What a cache answers.
@@ -94,5 +133,52 @@ fn controllers_refuse(rt: HostRuntime) -> Result<(), Fail> {
     let mut second = cache(rt.alloc(), 1)?;
     assert_eq!(rt; served(&mut second, &roll)?.body, Body::Busy);
     assert!(rt; is_held(&second, &Held::Out(OutState)));
+    Ok(())
+}
+
+#[test]
+fn a_slot_for_each_line_with_an_entry(rt: HostRuntime) -> Result<(), Fail> {
+    let mut alone = one_slot(rt.alloc())?;
+    let mread = asked(&mut alone, AskKind::Mread)?;
+    assert_eq!(rt; mread.control, 0);
+    let refused = asked_other(&mut alone, AskKind::Cread)?.err();
+    assert_eq!(rt; refused, Some(AskFault::NotNow));
+    let refused = asked_other(&mut alone, AskKind::Mread)?.err();
+    assert_eq!(rt; refused, Some(AskFault::NoSlot));
+    let refused = asked_other(&mut alone, AskKind::Fread)?.err();
+    assert_eq!(rt; refused, Some(AskFault::NoSlot));
+    assert!(rt; accepted(&mut alone, &mread.answer(Body::Busy)));
+    assert!(rt; is_held(&alone, &Held::Out(OutState)));
+
+    // No refusal was counted.
+    let other = asked_other(&mut alone, AskKind::Mread)?
+        .ok()
+        .ok_or("it is refused")?;
+    assert_eq!(rt; other.control, 0);
+    assert_eq!(rt; other.line, 1);
+    assert_eq!(rt; refusal(&mut alone), Some(AskFault::NoSlot));
+    Ok(())
+}
+
+#[test]
+fn control_numbers_come_round(rt: HostRuntime) -> Result<(), Fail> {
+    let mut alone = one_slot(rt.alloc())?;
+    for control in 0..=u16::MAX {
+        assert_eq!(rt; busy_control(&mut alone), Some(control));
+    }
+    assert_eq!(rt; busy_control(&mut alone), Some(0));
+    Ok(())
+}
+
+#[test]
+fn a_refused_cache_is_none(rt: HostRuntime) -> Result<(), Fail> {
+    let extent = Extent::new(1, 64, 1).ok_or("an extent")?;
+    match Cache::new(rt.alloc(), 0, extent) {
+        Ok(cache) => {
+            assert_eq!(rt; cache.lines(), 64);
+            assert!(rt; is_held(&cache, &Held::Out(OutState)));
+        }
+        Err(fault) => assert_eq!(rt; fault, AllocError),
+    }
     Ok(())
 }

@@ -68,3 +68,9 @@ abbrev pub current_of : HomeState → Option Stamped
 current_of (Home c) = Some c
 current_of (Fresh head c) = Some c
 current_of (Gone head) = None
+
+-- the head of the line's list, or none where nobody has the line
+abbrev pub head_of : HomeState → Option ℕ
+head_of (Home c) = None
+head_of (Fresh head c) = Some head
+head_of (Gone head) = Some head

@@ -3,6 +3,7 @@
 #![tactic(auto)]
 
 mod home;
+pub mod laws;
 mod state;
 
 pub use home::Home;

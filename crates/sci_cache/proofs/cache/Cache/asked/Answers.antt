@@ -1,5 +1,5 @@
 -- What a line would ask is what the cache would ask.
-use Rattle.std.proofs.Common.{◌≡◌, ℕ, ◌<◌, ◌%◌, Bool, ltb, List, length, get_or, Some, None, Ok, Err, Option, Result, refl, ap, subst, ◌∙◌}
+use Rattle.std.proofs.Common.{◌≡◌, ℕ, ◌<◌, ◌%◌, Bool, List, length, get_or, Some, None, Ok, Err, Option, Result, refl, ap, subst, ◌∙◌}
 use Rattle.std.specs.Prelude.{unwrap_or}
 use Rattle.std.proofs.lemmas.List.{get_or_read}
 use Rattle.sci_words.specs.declared.event.AskKind.{AskKind}
@@ -7,7 +7,7 @@ use Rattle.sci_cache.specs.declared.fault.AskFault.{AskFault}
 use Rattle.sci_cache.specs.Asking.{Asked}
 use Rattle.sci_cache.specs.Line.{LineState}
 use Rattle.sci_cache.specs.Line.{line_asking, line_asked, untouched}
-use Rattle.sci_cache.specs.Cache.{CacheOf, Letter, line_of, has_slot, slots_taken, with_line, letter_asking, target_of, cache_asking}
+use Rattle.sci_cache.specs.Cache.{CacheOf, Letter, line_of, has_slot, with_line, letter_asking, target_of, cache_asking}
 use Rattle.sci_cache.proofs.cache.Cache.asked.Goals as goal
 
 asks_by : (cache : CacheOf) (line : ℕ) (made : Result Asked AskFault) (asked : Asked) → made ≡ Ok asked
@@ -35,9 +35,6 @@ made_by cache line part kind free asked e f h =
 at_same : (xs ys : List LineState) (i j : ℕ) (x : LineState) → xs ≡ ys → i ≡ j → j < length ys → x ≡ get_or xs i x → x ≡ get_or ys j untouched
 at_same xs ys i j x e f h is = get_or_read ys j x h (subst (λ (l : List LineState). x ≡ get_or l j x) e (subst (λ (k : ℕ). x ≡ get_or xs k x) f is)) untouched
 
-room_same : (xs ys zs : List LineState) (taken slots all : ℕ) → taken ≡ slots_taken zs → zs ≡ xs → xs ≡ ys → slots ≡ all → ltb taken slots ≡ ltb (slots_taken ys) all
-room_same xs ys zs taken slots all d e f g = rw (d, e, f, g) refl
-
 -- the target that the program takes is the one that is meant
 target_same : (cache : CacheOf) (line nodes home : ℕ) (to : Option ℕ) → nodes ≡ cache.nodes → home ≡ line % nodes → unwrap_or to home ≡ target_of cache line to
 target_same cache line nodes home None b f = f ∙ ap (λ (n : ℕ). line % n) b
@@ -54,12 +51,10 @@ pub returns-clause-asked : goal.returns-clause-asked
 returns-clause-asked c =
     let h = c.in_ok-question.ensures.made in
     let lines = ap (λ (cache : CacheOf). cache.lines) c.self.view_is in
-    let slots = ap (λ (cache : CacheOf). cache.slots) c.self.view_is in
     let long = ap length lines in
     let asked : Asked = record { to = c.in_ok-question.question.to; request = c.in_ok-question.question.request; next = h.0 } in
-    let here : c.index-part.result.now ≡ line_of c.args.self.now c.args.line = at_same _ _ _ _ _ lines c.from-2.ensures c.requires c.index-part.ensures in
-    let room : ltb c.slots_taken.result c.from.result ≡ has_slot c.args.self.now = room_same _ _ _ _ _ _ c.slots_taken.ensures c.deref.ensures.value lines (c.from.ensures ∙ slots) in
-    asks_so c.args.self.now c.args.line c.args.kind _ (made_by c.args.self.now c.args.line _ c.args.kind _ _ here room h.1) _
-    (letter_same c.args.self.now c.self.inside.me c.self.inside.extent.nodes c.args.line c.index-part.result.now asked _ _ _ _ _
-    (ap (λ (cache : CacheOf). cache.me) c.self.view_is) (ap (λ (cache : CacheOf). cache.nodes) c.self.view_is) here
-    c.unwrap_or.ensures c.node-home.ensures c.node.ensures c.in_ok-question.ensures.control c.from-3.ensures)
+    let here : c.index-part.result.now ≡ line_of c.args.self.now c.args.line = at_same _ _ _ _ _ lines c.from.ensures c.requires c.index-part.ensures in
+    asks_so c.args.self.now c.args.line c.args.kind _ (made_by c.args.self.now c.args.line _ c.args.kind _ _ here c.has_slot-free.ensures h.1) _
+    (letter_same c.args.self.now c.self.inside.me c.args.self.now.nodes c.args.line c.index-part.result.now asked _ _ _ _ _
+    (ap (λ (cache : CacheOf). cache.me) c.self.view_is) refl here
+    c.unwrap_or.ensures c.home_of-home.ensures c.node.ensures c.in_ok-question.ensures.control c.from-2.ensures)

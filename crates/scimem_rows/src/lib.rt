@@ -1,0 +1,16 @@
+//! Worked rows that cross crates: caches and homes between which packets are carried by hand. The order of the
+//! packets is each row's own, and the states and packets that it passes through are written out.
+#![tactic(auto)]
+
+#[cfg(test)]
+mod carried;
+#[cfg(test)]
+mod fresh_lists;
+#[cfg(test)]
+mod lists;
+#[cfg(test)]
+mod pairs;
+#[cfg(test)]
+mod sharer;
+#[cfg(test)]
+mod states;

@@ -1,0 +1,99 @@
+//! Caches and homes that a row carries packets between.
+
+ghost use Rattle.std.specs.Prelude.{IsTrue, length, ◌<◌, ◌≤◌};
+
+use sci_cache::{AskFault, Cache, Held};
+use sci_home::Home;
+use sci_packets::{Body, Packet};
+use sci_words::{AskKind, Extent, Op, Reply};
+use std::alloc::Global;
+use std::test::*;
+
+/// The cache of a node, which looks at each packet's target and line before it takes it.
+#[derive(Drop)]
+pub struct Sharer {
+    me: u8,
+    lines: u8,
+    cache: Cache,
+    ghost has_lines: { lines ≤ length cache.lines },
+}
+
+impl Sharer {
+    /// The cache of node `me`, with no entry for any line.
+    pub fn new(alloc: Global, me: u8, extent: Extent) -> Result<Sharer, Fail> {
+        if me >= extent.nodes {
+            return Err(Fail::from("no such node"));
+        }
+        let cache = Cache::new(alloc, me, extent)?;
+        Ok(Sharer {
+            me,
+            lines: extent.lines,
+            cache,
+        })
+    }
+
+    /// Whether the packet is for this node, about one of its lines.
+    fn is_mine(&self, packet: &Packet) -> bool
+        ensures { IsTrue result → packet.now.line < length self.now.cache.lines }
+    {
+        packet.target.get() == u16::from(self.me) && packet.line < u64::from(self.lines)
+    }
+
+    /// The request of this kind about a line, which is the one that was told before.
+    pub fn ask(&mut self, line: u8, kind: AskKind) -> Result<Packet, Fail> {
+        if line >= self.lines {
+            return Err(Fail::from("no such line"));
+        }
+        let told = self.cache.asked(line, kind);
+        let request = self.cache.ask(line, kind)?;
+        match told {
+            Some(packet) if packet == request => Ok(request),
+            _ => Err(Fail::from("another request was told")),
+        }
+    }
+
+    /// Why this kind isn't asked about a line, nor told that it would be.
+    pub fn refusal(&mut self, line: u8, kind: AskKind) -> Option<AskFault> {
+        if line >= self.lines || self.cache.asked(line, kind).is_some() {
+            return None;
+        }
+        match self.cache.ask(line, kind) {
+            Ok(_) => None,
+            Err(fault) => Some(fault),
+        }
+    }
+
+    /// The answer to a request of another cache.
+    pub fn serve(&mut self, request: &Packet) -> Result<Packet, Fail> {
+        if !self.is_mine(request) {
+            return Err(Fail::from("the request is for another node"));
+        }
+        match request.body {
+            Body::Cread | Body::Purge | Body::Roll { .. } | Body::Setback { .. } => {
+                Ok(self.cache.serve(request))
+            }
+            _ => Err(Fail::from("no request of a cache")),
+        }
+    }
+
+    /// Takes an answer.
+    pub fn accept(&mut self, answer: &Packet) -> Result<(), Fail> {
+        if !self.is_mine(answer) {
+            return Err(Fail::from("the answer is for another node"));
+        }
+        Ok(self.cache.accept(answer)?)
+    }
+
+    /// The reply and the version of an operation, or None where it isn't allowed.
+    pub fn perform(&mut self, op: Op) -> Option<(Reply, u64)> {
+        if op.line >= self.lines || op.word >= 8 {
+            return None;
+        }
+        self.cache.perform(op)
+    }
+
+    /// Whether this is the state of the line.
+    pub fn holds(&self, line: u8, held: &Held) -> bool {
+        line < self.lines && self.cache.held(line) == held
+    }
+}
