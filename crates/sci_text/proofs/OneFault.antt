@@ -42,7 +42,7 @@ each_within s good = recursion_from_All (Within s) s.operations good.within
 
 -- ---- one fault of a line
 
-one_machine_fault : (bytes : List ℕ) (k j : TextFaultKind) → MachineFault bytes k → MachineFault bytes j → k ≡ j
+pub one_machine_fault : (bytes : List ℕ) (k j : TextFaultKind) → MachineFault bytes k → MachineFault bytes j → k ≡ j
 one_machine_fault bytes Syntax Syntax f g = refl
 one_machine_fault bytes Syntax Range f g = absurd (f g.0 g.1 g.2 g.3)
 one_machine_fault bytes Range Syntax f g = absurd (g f.0 f.1 f.2 f.3)

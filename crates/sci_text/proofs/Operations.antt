@@ -26,7 +26,7 @@ fitting_is n =
       | inr above ↦ rw (fitting_above n above) (λ below. absurd (omega arith))
     ]
 
-mapped : {A B : Type 0} (P : Type 0) (f : A → B) (o : Option A) (x : A) → SomeIff o P x → SomeIff (option_map f o) P (f x)
+pub mapped : {A B : Type 0} (P : Type 0) (f : A → B) (o : Option A) (x : A) → SomeIff o P x → SomeIff (option_map f o) P (f x)
 mapped P f None x h = h
 mapped P f (Some y) x h = (h.0, ap f h.1)
 

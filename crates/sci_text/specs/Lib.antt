@@ -5,3 +5,6 @@ pub mod Reading
 pub mod Script
 pub mod Tap
 pub mod Log
+pub mod Schedule
+pub mod ScheduleFault
+pub mod EventReading

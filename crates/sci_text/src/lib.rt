@@ -1,6 +1,7 @@
 //! Texts of scripts: their grammar, and a reader that tells the first fault.
 #![tactic(auto)]
 
+mod event;
 mod fault;
 mod laws;
 mod lines;
@@ -8,6 +9,10 @@ mod number;
 mod operation;
 mod printing;
 mod reading;
+mod schedule;
+mod schedule_laws;
+mod schedule_lines;
+mod schedule_reading;
 mod script;
 mod tap;
 mod writing;
@@ -16,6 +21,9 @@ pub use fault::{TextFault, TextFaultKind};
 pub use laws::{no_fault, one_fault, one_script};
 pub use printing::{push_field, push_number, push_text};
 pub use reading::read_script;
+pub use schedule::Schedule;
+pub use schedule_laws::{no_schedule_fault, one_schedule, one_schedule_fault};
+pub use schedule_reading::read_schedule;
 pub use script::{PushFault, Script};
 pub use tap::Tap;
 pub use writing::{logs_text, write_logs, write_text};

@@ -52,7 +52,7 @@ fn size(nodes: Number, lines: Number, slots: Number) -> Option<Extent>
 }
 
 /// The size that the first line of a script says, and the bytes after the line.
-fn machine(bytes: &[u8]) -> Result<(Extent, &[u8]), TextFaultKind>
+pub fn machine(bytes: &[u8]) -> Result<(Extent, &[u8]), TextFaultKind>
     ensures ok { IfOk result (λ x. bytes.now ≡ machine_line x.0.nodes x.0.lines x.0.slots ++ x.1.now) }
     ensures short { IfOk result (λ x. IsShort (machine_line x.0.nodes x.0.lines x.0.slots)) }
     ensures fault { IfErr result (MachineFault bytes.now) }

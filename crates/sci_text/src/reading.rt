@@ -19,7 +19,7 @@ use std::io::Read;
 const BLOCK_BYTES: usize = 65_536;
 
 /// All bytes that the reader has.
-fn read_input<R: Read>(alloc: Global, reader: &mut Tap<R>) -> Result<Vec<u8>, TextFault>
+pub(crate) fn read_input<R: Read>(alloc: Global, reader: &mut Tap<R>) -> Result<Vec<u8>, TextFault>
     requires { has_failed reader.old ≡ false }
     ensures bytes { IfOk result (λ bytes. IfSome (R.remaining (tapped reader.old)) (λ input. bytes.items ≡ input)) }
     ensures few { IfOk result (λ bytes. length bytes.items ≤ MAX_INPUT_BYTES) }

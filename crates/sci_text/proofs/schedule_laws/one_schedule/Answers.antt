@@ -1,0 +1,5 @@
+use Rattle.sci_text.proofs.Schedules.{one_schedule}
+use Rattle.sci_text.proofs.schedule_laws.one_schedule.Goals as goal
+
+pub returns : goal.returns
+returns c = one_schedule

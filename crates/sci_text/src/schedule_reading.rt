@@ -1,0 +1,41 @@
+//! Reading a schedule to its end, and judging it then.
+
+ghost use Rattle.std.specs.Prelude.{◌≡◌, ◌≤◌, false, length, IfOk, OnOk, IfErr, IfSome, Some};
+ghost use Rattle.std.specs.Io.KnownBytes.{IsAtEnd};
+ghost use Rattle.sci_words.specs.declared.limits.TheConstants.{MAX_INPUT_BYTES};
+ghost use Rattle.sci_text.specs.Tap.{tapped, has_failed};
+ghost use Rattle.sci_text.specs.Schedule.{ScheduleValue, IsSchedule, schedule_text};
+ghost use Rattle.sci_text.specs.ScheduleFault.{IsToldOfSchedule, IsScheduleReadAs};
+
+use crate::fault::TextFault;
+use crate::reading::read_input;
+use crate::schedule::Schedule;
+use crate::schedule_lines::schedule;
+use crate::tap::Tap;
+use std::alloc::Global;
+use std::io::Read;
+
+/// The schedule that the reader gives, read to its end. A refusal names the first fault and its line: Read where
+/// the reader failed, TooMany for an input above 134,217,728 bytes and Memory, all for the whole input; else
+/// the first faulty line, with Syntax before Range before TooMany. Memory is answered only where a growth was
+/// refused. The caller sees to it that the tap has not failed before.
+pub fn read_schedule<R: Read>(alloc: Global, reader: &mut Tap<R>) -> Result<Schedule, TextFault>
+    requires { has_failed reader.old ≡ false }
+
+    // The input is the text of the schedule.
+    ensures text { IfOk result (λ schedule. IfSome (R.remaining (tapped reader.old)) (λ input. input ≡ schedule_text schedule)) }
+    ensures few { IfOk result (λ schedule. length (schedule_text schedule) ≤ MAX_INPUT_BYTES) }
+    ensures good { IfOk result IsSchedule }
+    ensures end { OnOk result (IsAtEnd (R.remaining (tapped reader.new))) }
+    ensures unfailed { OnOk result (has_failed reader.new ≡ false) }
+
+    // Where it is the text of a schedule, that schedule is read.
+    ensures only { (schedule : ScheduleValue) → IsSchedule schedule → length (schedule_text schedule) ≤ MAX_INPUT_BYTES
+        → R.remaining (tapped reader.old) ≡ Some (schedule_text schedule) → IsScheduleReadAs schedule result }
+
+    // Else the first fault is told.
+    ensures fault { IfErr result (λ fault. IsToldOfSchedule fault.kind (R.remaining (tapped reader.old)) (has_failed reader.new) fault.line) }
+{
+    let input = read_input(alloc, reader)?;
+    schedule(alloc, &input)
+}
