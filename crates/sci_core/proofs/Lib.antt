@@ -10,3 +10,4 @@ pub mod Stepping
 pub mod States
 pub mod Applied
 pub mod Stops
+pub mod Logs

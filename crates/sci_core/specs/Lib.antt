@@ -6,3 +6,4 @@ pub mod WellFormed
 pub mod Fault
 pub mod Sizes
 pub mod Stopped
+pub mod Outcome

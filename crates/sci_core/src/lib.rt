@@ -7,6 +7,7 @@ mod fault;
 mod lane;
 mod machine;
 mod node;
+mod outcome;
 mod pending;
 mod state;
 
