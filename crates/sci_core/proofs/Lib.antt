@@ -11,3 +11,5 @@ pub mod States
 pub mod Applied
 pub mod Stops
 pub mod Logs
+pub mod Seeking
+pub mod LastContents

@@ -7,3 +7,4 @@ pub mod Fault
 pub mod Sizes
 pub mod Stopped
 pub mod Outcome
+pub mod Sharing

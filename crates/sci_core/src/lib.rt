@@ -5,6 +5,7 @@
 mod apply;
 mod fault;
 mod lane;
+mod last;
 mod machine;
 mod node;
 mod outcome;

@@ -5,7 +5,7 @@ use crate::lane::LaneKind;
 use crate::node::Node;
 use crate::outcome::push_log;
 use crate::state::State;
-use sci_history::Logs;
+use sci_history::{Last, Logs};
 use sci_packets::Packet;
 use sci_words::{Event, Extent};
 use std::alloc::{AllocError, Global};
@@ -38,6 +38,7 @@ impl Machine {
     ghost use Rattle.sci_core.specs.Reached.{IsReached};
     ghost use Rattle.sci_core.specs.Stopped.{IsStoppedAt};
     ghost use Rattle.sci_core.specs.Outcome.{logs_of};
+    ghost use Rattle.sci_core.specs.Sharing.{last_of};
 
     /// A machine of this size in which no line was touched: all lines are HOME with zero words at version 0, and
     /// all else is empty. Each node may issue `limit` operations; the caller sees to it that this is 1 to
@@ -118,5 +119,19 @@ impl Machine {
             push_log(&mut logs, n, self.state.node(n).log())?;
         }
         Ok(logs)
+    }
+
+    /// The last contents of each line: its home's where nobody may have written since, and else those of the one
+    /// node that may change the line or is about to.
+    pub fn last(&self) -> Last
+        ensures last { result ≡ last_of self.now }
+        ensures reached { IsReached self.now }
+    {
+        let lines = self.state.lines();
+        let mut last = Last::zero(lines);
+        for line in 0..lines {
+            last.set(line, self.state.last_at(line));
+        }
+        last
     }
 }
