@@ -10,3 +10,6 @@ pub mod Stepping
 pub mod States
 pub mod Applied
 pub mod Stops
+pub mod Logs
+pub mod Seeking
+pub mod LastContents

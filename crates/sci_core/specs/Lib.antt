@@ -6,3 +6,5 @@ pub mod WellFormed
 pub mod Fault
 pub mod Sizes
 pub mod Stopped
+pub mod Outcome
+pub mod Sharing

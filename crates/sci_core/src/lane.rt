@@ -1,6 +1,6 @@
 //! Lanes: the packets that are under way from one node to another.
 
-ghost use Rattle.std.specs.Prelude.{◌≡◌, ◌∷◌, [], ◌++◌, IfSome, IsErr, OnOk, OnErr, IfOk, option_map, option_copied, slice_get, length, drop, None, Some};
+ghost use Rattle.std.specs.Prelude.{◌≡◌, ◌∷◌, [], ◌++◌, IfSome, IsErr, OnOk, OnErr, IfOk, option_map, option_copied, slice_get, length, drop, map, None, Some};
 ghost use Rattle.sci_cache.specs.Cache.{letter_of};
 
 use sci_packets::Packet;
@@ -68,6 +68,13 @@ impl Lane {
         ensures { option_map letter_of (option_copied result) ≡ slice_get self.now 0 }
     {
         self.packets.front()
+    }
+
+    /// The packets, as two slices one after the other.
+    pub(crate) fn slices(&self) -> (&[Packet], &[Packet])
+        ensures { map letter_of result.0.now ++ map letter_of result.1.now ≡ self.now }
+    {
+        self.packets.as_slices()
     }
 
     /// How many packets there are.

@@ -5,8 +5,10 @@
 mod apply;
 mod fault;
 mod lane;
+mod last;
 mod machine;
 mod node;
+mod outcome;
 mod pending;
 mod state;
 

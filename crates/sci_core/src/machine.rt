@@ -3,7 +3,9 @@
 use crate::fault::ApplyFault;
 use crate::lane::LaneKind;
 use crate::node::Node;
+use crate::outcome::push_log;
 use crate::state::State;
+use sci_history::{Last, Logs};
 use sci_packets::Packet;
 use sci_words::{Event, Extent};
 use std::alloc::{AllocError, Global};
@@ -35,6 +37,8 @@ impl Machine {
     ghost use Rattle.sci_core.specs.Fault.{IsFaultOf};
     ghost use Rattle.sci_core.specs.Reached.{IsReached};
     ghost use Rattle.sci_core.specs.Stopped.{IsStoppedAt};
+    ghost use Rattle.sci_core.specs.Outcome.{logs_of};
+    ghost use Rattle.sci_core.specs.Sharing.{last_of};
 
     /// A machine of this size in which no line was touched: all lines are HOME with zero words at version 0, and
     /// all else is empty. Each node may issue `limit` operations; the caller sees to it that this is 1 to
@@ -103,5 +107,31 @@ impl Machine {
         ensures { result ≡ length (lane_of self.now kind from to) }
     {
         self.state.count(kind, from, to)
+    }
+
+    /// The logs of all nodes; those beyond the machine's are empty. Refused where memory is.
+    pub fn logs(&self, alloc: Global) -> Result<Logs, AllocError>
+        ensures logs { IfOk result (λ logs. logs ≡ logs_of self.now) }
+        ensures reached { IsReached self.now }
+    {
+        let mut logs = Logs::new(alloc);
+        for n in 0..self.state.nodes() {
+            push_log(&mut logs, n, self.state.node(n).log())?;
+        }
+        Ok(logs)
+    }
+
+    /// The last contents of each line: its home's where nobody may have written since, and else those of the one
+    /// node that may change the line or is about to.
+    pub fn last(&self) -> Last
+        ensures last { result ≡ last_of self.now }
+        ensures reached { IsReached self.now }
+    {
+        let lines = self.state.lines();
+        let mut last = Last::zero(lines);
+        for line in 0..lines {
+            last.set(line, self.state.last_at(line));
+        }
+        last
     }
 }

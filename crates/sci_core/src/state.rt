@@ -1,9 +1,10 @@
 //! The state of a machine: its nodes and its lanes, and how one of them changes.
 
 use crate::lane::{Lane, LaneKind};
+use crate::last::{carried_among, waiting_among};
 use crate::node::Node;
 use sci_history::Entry;
-use sci_packets::Packet;
+use sci_packets::{Body, Packet};
 use sci_words::{AskKind, Extent, Op};
 use std::alloc::{AllocError, Global};
 use std::marker::Model;
@@ -30,11 +31,12 @@ impl Model for State {
 
 impl State {
     ghost use Rattle.std.specs.Prelude.{◌≡◌, ◌<◌, ◌≤◌, ◌*◌, ◌++◌, ◌∷◌, [], Some, None, true, false, IfOk, IfSome, OnOk, OnErr, IsTrue, option_map, option_copied, slice_get, length, drop};
-    ghost use Rattle.sci_words.specs.declared.limits.TheConstants.{MAX_OPERATIONS};
+    ghost use Rattle.sci_words.specs.declared.limits.TheConstants.{MAX_LINES, MAX_OPERATIONS};
     ghost use Rattle.sci_cache.specs.Cache.{letter_of};
     ghost use Rattle.sci_core.specs.Node.{NodeOf, IsForNode, IsServable, node_issuing, node_performing, node_asking, node_serving, node_refusing, node_replying, node_accepting};
     ghost use Rattle.sci_core.specs.Core.{lane_place, lane_of, with_lane, node_at, with_node, opening};
     ghost use Rattle.sci_core.specs.Sizes.{HasSizes};
+    ghost use Rattle.sci_core.specs.Sharing.{answer_to as answer_to_of};
 
     /// Where a lane stands among all: in the order of kinds, then of senders, then of receivers.
     fn place(&self, kind: LaneKind, from: u8, to: u8) -> usize
@@ -85,6 +87,8 @@ impl State {
     /// How many lines there are.
     pub(crate) fn lines(&self) -> u8
         ensures lines { result ≡ self.now.lines }
+        ensures some { 1 ≤ result }
+        ensures few { result ≤ MAX_LINES }
     {
         self.extent.lines
     }
@@ -213,5 +217,15 @@ impl State {
         ensures same { result ≡ false → self.new ≡ self.old }
     {
         self.nodes[usize::from(n)].accept(answer)
+    }
+
+    /// The answer that is under way to node `n` about a line: one that waits to be sent, or one in a lane.
+    pub(crate) fn answer_to(&self, n: u8, line: u8) -> Option<Body>
+        ensures { result ≡ answer_to_of self.now n line }
+    {
+        match waiting_among(&self.nodes, n, line) {
+            Some(body) => Some(body),
+            None => carried_among(&self.lanes, n, line),
+        }
     }
 }

@@ -1,0 +1,88 @@
+-- The last contents of a line, found step by step.
+use Rattle.std.proofs.Common.{◌≡◌, ℕ, ◌+◌, ◌<◌, List, [], ◌∷◌, ◌++◌, length, get_or, take, drop, Option, Some, None, refl, sym, ap, ◌∙◌, arith}
+use Rattle.std.specs.Prelude.{option_to_list, unwrap_or}
+use Rattle.std.specs.Option.{option_or}
+use Rattle.std.specs.List.{flat_map}
+use Rattle.std.proofs.lemmas.List.{take_more, take_all, take-append-drop}
+use Rattle.std.proofs.lemmas.List.FromFn.{length-map-range_with_len, get_or-map-range_with_len}
+use Rattle.sci_words.specs.declared.stamped.Stamped.{Stamped}
+use Rattle.sci_words.specs.Stamped.{zero_stamped}
+use Rattle.sci_packets.specs.declared.body.Body.{Body}
+use Rattle.sci_home.specs.Serving.{current_of}
+use Rattle.sci_cache.specs.Cache.{Letter}
+use Rattle.sci_core.specs.Node.{NodeOf}
+use Rattle.sci_core.specs.Core.{Core}
+use Rattle.sci_core.specs.Sharing.{answer_to, Sharer, sharer_of, sharers, home_at, authority_contents, first_authority, last_at}
+use Rattle.sci_core.proofs.Seeking.{seek, seek_first, seek_second}
+
+-- ---- the answer that is under way
+
+abbrev waiting : List NodeOf → List Letter
+waiting parts = flat_map (λ (part : NodeOf). option_to_list part.waiting) parts
+
+abbrev carried : List (List Letter) → List Letter
+carried lanes = flat_map (λ (lane : List Letter). lane) lanes
+
+pub found_waiting : (core : Core) (n line : ℕ) (parts : List NodeOf) (found : Option Body) (b : Body) → parts ≡ core.parts → found ≡ seek n line (flat_map (λ (part : NodeOf). option_to_list part.waiting) parts) → found ≡ Some b → Some b ≡ answer_to core n line
+found_waiting core n line parts found b same is some =
+    let here : seek n line (waiting core.parts) ≡ Some b = ap (λ (ps : List NodeOf). seek n line (waiting ps)) (sym same) ∙ (sym is ∙ some) in
+    sym (seek_first n line (waiting core.parts) (carried core.lanes) b here)
+
+pub found_carried : (core : Core) (n line : ℕ) (parts : List NodeOf) (lanes : List (List Letter)) (first second : Option Body) → parts ≡ core.parts → lanes ≡ core.lanes
+    → first ≡ seek n line (flat_map (λ (part : NodeOf). option_to_list part.waiting) parts) → first ≡ None → second ≡ seek n line (flat_map (λ (lane : List Letter). lane) lanes) → second ≡ answer_to core n line
+found_carried core n line parts lanes first second same along is none found =
+    let here : seek n line (waiting core.parts) ≡ None = ap (λ (ps : List NodeOf). seek n line (waiting ps)) (sym same) ∙ (sym is ∙ none) in
+    found ∙ (ap (λ (ls : List (List Letter)). seek n line (carried ls)) along ∙ sym (seek_second n line (waiting core.parts) (carried core.lanes) here))
+
+-- ---- the authority
+
+or_assoc : (x y z : Option Stamped) → option_or x (option_or y z) ≡ option_or (option_or x y) z
+or_assoc None y z = refl
+or_assoc (Some x) y z = refl
+
+authority_append : (xs ys : List Sharer) → first_authority (xs ++ ys) ≡ option_or (first_authority xs) (first_authority ys)
+authority_append [] ys = refl
+authority_append (x ∷ xs) ys = ap (option_or (authority_contents x)) (authority_append xs ys) ∙ or_assoc (authority_contents x) (first_authority xs) (first_authority ys)
+
+after_none : (xs ys : Option Stamped) → xs ≡ None → option_or xs ys ≡ ys
+after_none None ys e = refl
+after_none (Some x) ys e = cc
+
+found_first : (xs ys : Option Stamped) (c : Stamped) → xs ≡ Some c → option_or xs ys ≡ Some c
+found_first None ys c e = cc
+found_first (Some x) ys c e = e
+
+or_none : (x : Option Stamped) → option_or x None ≡ x
+or_none None = refl
+or_none (Some x) = refl
+
+pub authority_more : (core : Core) (line i : ℕ) → i < core.nodes → first_authority (take i (sharers core line)) ≡ None → first_authority (take (i + 1) (sharers core line)) ≡ authority_contents (sharer_of core line i)
+authority_more core line i below none =
+    let d = sharer_of core line i in
+    let long : i < length (sharers core line) = let all = length-map-range_with_len (sharer_of core line) 0 core.nodes in omega arith in
+    let at : get_or (sharers core line) i d ≡ sharer_of core line i = get_or-map-range_with_len (sharer_of core line) 0 core.nodes i i d below (omega arith) in
+    ap first_authority (take_more (sharers core line) i d long) ∙
+    (authority_append (take i (sharers core line)) (get_or (sharers core line) i d ∷ []) ∙
+    (after_none (first_authority (take i (sharers core line))) _ none ∙
+    (or_none (authority_contents (get_or (sharers core line) i d)) ∙ ap authority_contents at)))
+
+authority_whole : (core : Core) (line i : ℕ) (c : Stamped) → first_authority (take i (sharers core line)) ≡ Some c → first_authority (sharers core line) ≡ Some c
+authority_whole core line i c e =
+    ap first_authority (sym (take-append-drop i (sharers core line))) ∙
+    (authority_append (take i (sharers core line)) (drop i (sharers core line)) ∙ found_first (first_authority (take i (sharers core line))) _ c e)
+
+-- ---- the last contents
+
+pub last_home : (core : Core) (line : ℕ) (c : Stamped) → current_of (home_at core line) ≡ Some c → c ≡ last_at core line
+last_home core line c e = ap (λ (o : Option Stamped). unwrap_or (option_or o (first_authority (sharers core line))) zero_stamped) (sym e)
+
+pub last_authority : (core : Core) (line i : ℕ) (c : Stamped) → i < core.nodes → current_of (home_at core line) ≡ None → first_authority (take i (sharers core line)) ≡ None → authority_contents (sharer_of core line i) ≡ Some c → c ≡ last_at core line
+last_authority core line i c below home none here =
+    let found = authority_whole core line (i + 1) c (authority_more core line i below none ∙ here) in
+    sym (ap (λ (o : Option Stamped). unwrap_or (option_or o (first_authority (sharers core line))) zero_stamped) home ∙ ap (λ (o : Option Stamped). unwrap_or o zero_stamped) found)
+
+pub last_nowhere : (core : Core) (line i : ℕ) → i ≡ core.nodes → current_of (home_at core line) ≡ None → first_authority (take i (sharers core line)) ≡ None → zero_stamped ≡ last_at core line
+last_nowhere core line i all home none =
+    let long = length-map-range_with_len (sharer_of core line) 0 core.nodes in
+    let whole : take i (sharers core line) ≡ sharers core line = take_all i (sharers core line) (omega arith) in
+    sym (ap (λ (o : Option Stamped). unwrap_or (option_or o (first_authority (sharers core line))) zero_stamped) home ∙ ap (λ (o : Option Stamped). unwrap_or o zero_stamped) (ap first_authority (sym whole) ∙ none))

@@ -1,0 +1,179 @@
+//! The last contents of each line, wherever they are.
+
+ghost use Rattle.std.specs.Prelude.{◌≡◌, ◌&&◌, not, ◌<◌, ◌≤◌, ◌%◌, filter, map, option_to_list, Some, None};
+ghost use Rattle.std.specs.List.{flat_map};
+ghost use Rattle.sci_packets.specs.Table.{is_request};
+ghost use Rattle.sci_cache.specs.Held.{state_of};
+ghost use Rattle.sci_cache.specs.Cache.{letter_of};
+ghost use Rattle.sci_core.specs.Sharing.{is_about, answer_in, contents_held};
+
+use crate::lane::Lane;
+use crate::node::Node;
+use crate::state::State;
+use sci_cache::Held;
+use sci_packets::{Body, Packet};
+use sci_words::{Line, Stamped};
+
+/// Whether a packet is an answer to node `n` about a line.
+fn answers(packet: &Packet, n: u8, line: u8) -> bool
+    ensures { result ≡ (is_about n line (letter_of packet.now) && not (is_request packet.now.body)) }
+{
+    !packet.is_request() && packet.line == u64::from(line) && packet.target.get() == u16::from(n)
+}
+
+/// The first answer to node `n` about a line among packets.
+fn answer_among(packets: &[Packet], n: u8, line: u8) -> Option<Body>
+    ensures { result ≡ answer_in (filter (is_about n line) (map letter_of packets.now)) }
+{
+    for packet in packets {
+        if answers(packet, n, line) {
+            return Some(packet.body);
+        }
+    }
+    None
+}
+
+/// The contents of a line in a node that may change it or is about to, by the node's state and the answer that is
+/// under way to it.
+fn authority(held: &Held, answer: &Option<Body>) -> Option<Stamped>
+    ensures { result ≡ contents_held (state_of held.now) answer.now }
+{
+    match held {
+        Held::Head(state) if answer.is_none() => Some(state.contents),
+        Held::FreshHead(state) if answer.is_none() => Some(state.contents),
+        Held::Purging(state) => match answer {
+            None | Some(Body::Busy | Body::Purged { .. }) => Some(state.contents),
+            _ => None,
+        },
+        Held::Claiming(state) => match answer {
+            None | Some(Body::Busy | Body::Wbok | Body::Wbno) => Some(state.contents),
+            _ => None,
+        },
+        Held::Clearing(state) => match answer {
+            None | Some(Body::Busy | Body::Wbno) => Some(state.contents),
+            _ => None,
+        },
+        Held::Returning(state) => match answer {
+            None | Some(Body::Busy | Body::Wbno) => Some(state.contents),
+            _ => None,
+        },
+        Held::Asking(_) => match answer {
+            Some(Body::Mdata(contents)) => Some(*contents),
+            Some(
+                Body::Fdata {
+                    old_head: None,
+                    contents,
+                },
+            ) => Some(*contents),
+            _ => None,
+        },
+        Held::Joining(_) | Held::FreshJoining(_) => match answer {
+            Some(Body::Cdata(contents)) => Some(*contents),
+            _ => None,
+        },
+        _ => None,
+    }
+}
+
+/// The answer that waits at a node, where it is for node `n` about a line.
+fn waiting_answer(node: &Node, n: u8, line: u8) -> Option<Body>
+    ensures { result ≡ answer_in (filter (is_about n line) (option_to_list node.now.waiting)) }
+{
+    match node.waiting() {
+        Some(letter) if answers(letter, n, line) => Some(letter.body),
+        _ => None,
+    }
+}
+
+/// The first answer to node `n` about a line that waits at one of these nodes.
+pub(crate) fn waiting_among(nodes: &[Node], n: u8, line: u8) -> Option<Body>
+    ensures { result ≡ answer_in (filter (is_about n line) (flat_map (λ part. option_to_list part.waiting) nodes.now)) }
+{
+    for node in nodes {
+        if let Some(body) = waiting_answer(node, n, line) {
+            return Some(body);
+        }
+    }
+    None
+}
+
+/// The first answer to node `n` about a line that is in one of these lanes.
+pub(crate) fn carried_among(lanes: &[Lane], n: u8, line: u8) -> Option<Body>
+    ensures { result ≡ answer_in (filter (is_about n line) (flat_map (λ lane. lane) lanes.now)) }
+{
+    for lane in lanes {
+        if let Some(body) = lane.answer_to(n, line) {
+            return Some(body);
+        }
+    }
+    None
+}
+
+impl Lane {
+    ghost use Rattle.std.specs.Prelude.{◌≡◌, filter};
+    ghost use Rattle.sci_core.specs.Sharing.{is_about, answer_in};
+
+    /// The first answer to node `n` about a line in this lane.
+    pub(crate) fn answer_to(&self, n: u8, line: u8) -> Option<Body>
+        ensures { result ≡ answer_in (filter (is_about n line) self.now) }
+    {
+        let (older, newer) = self.slices();
+        match answer_among(older, n, line) {
+            Some(body) => Some(body),
+            None => answer_among(newer, n, line),
+        }
+    }
+}
+
+impl State {
+    ghost use Rattle.std.specs.Prelude.{◌≡◌, ◌<◌};
+    ghost use Rattle.sci_core.specs.WellFormed.{IsWellFormed};
+    ghost use Rattle.sci_core.specs.Sharing.{authority_contents, sharer_of, home_at, last_at as last_at_of};
+    ghost use Rattle.sci_home.specs.Serving.{current_of};
+
+    /// The contents of a line in node `n`, where it is the one that may change the line or is about to. The
+    /// caller sees to it that there are such a node and such a line.
+    fn authority(&self, line: u8, n: u8) -> Option<Stamped>
+        requires well { IsWellFormed self.now }
+        requires n { n < self.now.nodes }
+        requires line { line < self.now.lines }
+        ensures { result ≡ authority_contents (sharer_of self.now line n) }
+    {
+        let answer = self.answer_to(n, line);
+        authority(self.node(n).held(line), &answer)
+    }
+
+    /// The contents of a line at its home, where nobody may have written since. The caller sees to it that there
+    /// is such a line.
+    fn home_contents(&self, line: u8) -> Option<Stamped>
+        requires well { IsWellFormed self.now }
+        requires line { line < self.now.lines }
+        ensures { result ≡ current_of (home_at self.now line) }
+    {
+        match self.node(line % self.nodes()).home(line) {
+            Some(home) => home.current(),
+            None => unreachable!(),
+        }
+    }
+
+    /// The last contents of a line: its home's where nobody may have written since, else the authority's. The
+    /// caller sees to it that there is such a line.
+    pub(crate) fn last_at(&self, line: u8) -> Stamped
+        requires well { IsWellFormed self.now }
+        requires line { line < self.now.lines }
+        ensures { result ≡ last_at_of self.now line }
+    {
+        if let Some(contents) = self.home_contents(line) {
+            return contents;
+        }
+        for n in 0..self.nodes() {
+            if let Some(contents) = self.authority(line, n) {
+                return contents;
+            }
+        }
+        Stamped {
+            line: Line::zero(),
+            version: 0,
+        }
+    }
+}
