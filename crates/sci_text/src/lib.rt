@@ -29,4 +29,6 @@ pub use tap::Tap;
 pub use writing::{logs_text, write_logs, write_text};
 
 #[cfg(test)]
+mod schedule_tests;
+#[cfg(test)]
 mod tests;

@@ -8,13 +8,15 @@ use std::rt::Env;
 use std::{env, io};
 
 /// The words that the program knows.
-pub const USAGE: &str = "usage: scimem oracle | decode";
+pub const USAGE: &str = "usage: scimem oracle | replay | decode";
 
 /// What the program is asked to do.
 #[derive(Clone, Copy, Debug, PartialEq, Eq)]
 pub enum Command {
     /// Write the log of one memory that does a script's operations.
     Oracle,
+    /// Write the log of the machine after a schedule.
+    Replay,
     /// Write a line for each packet of the input.
     Decode,
 }
@@ -25,6 +27,7 @@ pub fn chosen(words: &[&str]) -> Option<Command>
 {
     match words {
         ["oracle"] => Some(Command::Oracle),
+        ["replay"] => Some(Command::Replay),
         ["decode"] => Some(Command::Decode),
         _ => None,
     }

@@ -9,11 +9,14 @@ mod outcome;
 mod packet_line;
 mod printing;
 mod reading;
+mod refusal;
+mod replay;
 mod writing;
 
 use choice::{Command, USAGE, asked};
 use decode::decode_bytes;
 use oracle::oracle as oracle_of;
+use replay::replay as replay_of;
 use sci_text::Tap;
 use std::process::ExitCode;
 
@@ -21,6 +24,8 @@ use std::process::ExitCode;
 mod devices;
 #[cfg(test)]
 mod oracle_tests;
+#[cfg(test)]
+mod replay_tests;
 #[cfg(test)]
 mod tests;
 
@@ -33,6 +38,7 @@ fn main(rt: HostRuntime) -> ExitCode {
     let mut writer = Tap::new(rt.stdout());
     let outcome = match command {
         Command::Oracle => oracle_of(rt.alloc(), &mut reader, &mut writer),
+        Command::Replay => replay_of(rt.alloc(), &mut reader, &mut writer),
         Command::Decode => decode_bytes(rt.alloc(), &mut reader, &mut writer),
     };
     ExitCode::from(outcome.status())

@@ -1,0 +1,18 @@
+-- The line that refuses a text.
+use Rattle.std.specs.Prelude.{ℕ, List, [], ◌∷◌, ◌++◌, codes}
+use Rattle.sci_text.specs.declared.fault.TextFaultKind.{TextFaultKind}
+use Rattle.sci_text.specs.declared.fault.TextFaultKind.TheVariants.{Syntax, Range, TooMany, Read, Write, Memory}
+use Rattle.sci_text.specs.Number.{field}
+
+-- the word for what is wrong with a text
+unfoldable pub kind_word : TextFaultKind → List ℕ
+kind_word Syntax = codes "syntax"
+kind_word Range = codes "range"
+kind_word TooMany = codes "too-many"
+kind_word Read = codes "read"
+kind_word Write = codes "write"
+kind_word Memory = codes "memory"
+
+-- `refused at line K: KIND`, and the line feed
+unfoldable pub line_refusal : ℕ → TextFaultKind → List ℕ
+line_refusal line kind = codes "refused at line" ++ (field line ++ (codes ": " ++ (kind_word kind ++ 10 ∷ [])))

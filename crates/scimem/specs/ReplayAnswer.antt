@@ -1,0 +1,41 @@
+-- What `replay` writes for its input.
+use Rattle.std.specs.Prelude.{◌≡◌, ℕ, Bool, List, Option, IfSome}
+use Rattle.sci_words.specs.declared.limits.TheConstants.{MAX_OPERATIONS}
+use Rattle.sci_core.specs.Core.{Core, run}
+use Rattle.sci_core.specs.Outcome.{logs_of}
+use Rattle.sci_core.specs.Sharing.{last_of}
+use Rattle.sci_text.specs.declared.fault.TextFaultKind.{TextFaultKind}
+use Rattle.sci_text.specs.Schedule.{ScheduleValue, IsSchedule, schedule_text}
+use Rattle.sci_text.specs.ScheduleFault.{IsToldOfSchedule}
+use Rattle.sci_text.specs.Log.{log_text}
+use Rattle.scimem.specs.Refusal.{line_refusal}
+use Rattle.scimem.specs.declared.outcome.Outcome.{Outcome}
+use Rattle.scimem.specs.declared.outcome.Outcome.TheVariants.{Done, Unlawful, Refused}
+
+-- where a schedule leads a machine of its size, whose nodes may each issue 65,536 operations
+abbrev pub replayed : ScheduleValue → Core
+replayed s = run s.nodes s.lines s.slots MAX_OPERATIONS s.events
+
+-- the text of the logs and the last contents there
+abbrev pub replay_text : ScheduleValue → List ℕ
+replay_text s = log_text s.nodes (logs_of (replayed s)) (last_of (replayed s))
+
+-- the input is the text of a schedule, and the text of where it leads is written
+pub record IsReplayOf (input text : List ℕ) : Type 0 where
+  pub schedule : ScheduleValue
+  pub good : IsSchedule schedule
+  pub read : input ≡ schedule_text schedule
+  pub written : text ≡ replay_text schedule
+
+-- the refusal of the fault that is told of the input
+pub record IsReplayRefusal (input : Option (List ℕ)) (failed : Bool) (text : List ℕ) : Type 0 where
+  pub line : ℕ
+  pub kind : TextFaultKind
+  pub told : IsToldOfSchedule kind input failed line
+  pub written : text ≡ line_refusal line kind
+
+-- what is written, and how the command ends, for the bytes of a reader, which has failed or not
+abbrev pub IsReplayAnswer : Option (List ℕ) → Bool → List ℕ → Outcome → Type 0
+IsReplayAnswer input failed text Done = IfSome input (λ bytes. IsReplayOf bytes text)
+IsReplayAnswer input failed text Refused = IsReplayRefusal input failed text
+IsReplayAnswer input failed text Unlawful = ⊥

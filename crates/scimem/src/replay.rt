@@ -1,0 +1,73 @@
+//! The command `replay`: the log of the machine where a schedule leads.
+
+ghost use Rattle.std.specs.Prelude.{◌≡◌, ℕ, List, false, true, IfOk, IfErr, IfSome};
+ghost use Rattle.std.specs.Io.KnownBytes.{Appends};
+ghost use Rattle.sci_text.specs.ScheduleFault.{IsToldOfSchedule};
+ghost use Rattle.sci_text.specs.Tap.{has_failed, tapped};
+ghost use Rattle.scimem.specs.ReplayAnswer.{IsReplayAnswer, IsReplayOf};
+
+use crate::outcome::Outcome;
+use crate::refusal::{refuse, refused_for_memory};
+use sci_core::Machine;
+use sci_text::{Tap, TextFault, logs_text, read_schedule, write_text};
+use sci_words::MAX_OPERATIONS;
+use std::alloc::Global;
+use std::io::{Read, Write};
+
+/// The text of the log of where the schedule that the reader gives leads, or its fault.
+fn answer<R: Read>(alloc: Global, reader: &mut Tap<R>) -> Result<Vec<u8>, TextFault>
+    requires { has_failed reader.old ≡ false }
+    ensures text { IfOk result (λ text. IfSome (R.remaining (tapped reader.old)) (λ input. IsReplayOf input text.items)) }
+    ensures fault { IfErr result (λ fault. IsToldOfSchedule fault.kind (R.remaining (tapped reader.old)) (has_failed reader.new) fault.line) }
+{
+    let schedule = match read_schedule(alloc, reader) {
+        Ok(schedule) => schedule,
+        Err(fault) => return Err(fault),
+    };
+    let extent = schedule.extent();
+    let Ok(mut machine) = Machine::new(alloc, extent, MAX_OPERATIONS) else {
+        return Err(refused_for_memory());
+    };
+    let Ok(()) = machine.run(schedule.events()) else {
+        return Err(refused_for_memory());
+    };
+    drop(schedule);
+    let Ok(logs) = machine.logs(alloc) else {
+        return Err(refused_for_memory());
+    };
+    let last = machine.last();
+    drop(machine);
+    let Ok(text) = logs_text(alloc, extent.nodes, &logs, &last) else {
+        return Err(refused_for_memory());
+    };
+    Ok(text)
+}
+
+/// Reads a schedule to its end, applies its events in text order to a new machine whose nodes may each issue
+/// 65,536 operations (events that are not enabled change nothing), and writes the machine's logs and last contents
+/// in format 2: Done. A schedule with a fault is Refused, with the line `refused at line K: KIND` alone, where KIND
+/// is `syntax`, `range` or `too-many`; and, with K = 0, where the reader fails (`read`), for an input of more than
+/// 134,217,728 bytes (`too-many`), and where memory is refused (`memory`). The whole text is made before its first
+/// byte is written. After a failed write nothing more is written, and it is Refused. The caller sees to it that
+/// neither tap has failed before.
+pub fn replay<R: Read, W: Write>(alloc: Global, reader: &mut Tap<R>, writer: &mut Tap<W>) -> Outcome
+    requires reader { has_failed reader.old ≡ false }
+    requires writer { has_failed writer.old ≡ false }
+
+    // The answer to the input is written, and nothing else.
+    ensures written { has_failed writer.new ≡ false → (text : List ℕ)
+        × Appends (W.contents (tapped writer.old)) (W.contents (tapped writer.new)) text
+        × IsReplayAnswer (R.remaining (tapped reader.old)) (has_failed reader.new) text result }
+    ensures failed { has_failed writer.new ≡ true → result ≡ Outcome.Refused }
+{
+    match answer(alloc, reader) {
+        Ok(text) => match write_text(writer, &text) {
+            Ok(()) => Outcome::Done,
+            Err(_) => Outcome::Refused,
+        },
+        Err(fault) => {
+            refuse(alloc, writer, fault);
+            Outcome::Refused
+        }
+    }
+}
