@@ -11,6 +11,12 @@ mod lists;
 #[cfg(test)]
 mod pairs;
 #[cfg(test)]
+mod schedules;
+#[cfg(test)]
 mod sharer;
 #[cfg(test)]
+mod short_schedules;
+#[cfg(test)]
 mod states;
+#[cfg(test)]
+mod stepped;
