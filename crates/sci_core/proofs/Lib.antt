@@ -13,3 +13,8 @@ pub mod Stops
 pub mod Logs
 pub mod Seeking
 pub mod LastContents
+pub mod FlatMaps
+pub mod Packets
+pub mod Waits
+pub mod WaitingNodes
+pub mod TidySteps

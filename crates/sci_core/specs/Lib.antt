@@ -8,3 +8,4 @@ pub mod Sizes
 pub mod Stopped
 pub mod Outcome
 pub mod Sharing
+pub mod Tidy
