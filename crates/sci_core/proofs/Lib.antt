@@ -18,3 +18,5 @@ pub mod Packets
 pub mod Waits
 pub mod WaitingNodes
 pub mod TidySteps
+pub mod TidyRuns
+pub mod Transactions

@@ -168,9 +168,9 @@ packets_served core n next place request answer x rest m k below within front fr
     let here : waits_in q next ≡ answer ∷ [] = ap (λ (w : Option Letter). filter q (option_to_list w)) waits ∙ kept q answer [] about_answer in
     record {
       then_ =
-        packets_are (moved core n next place rest) m k ∙
-        (ap (λ ys. ys ++ flat_map (filter q) (set core.lanes place rest)) (flat_from_none (waits_in q) core.parts n (opening_node 0 1 0 0 0) next below alone.waits ∙ here) ∙
-        ap (λ ys. (answer ∷ []) ++ ys) (alone.lanes_then ∙ alone.rest));
+          packets_are (moved core n next place rest) m k ∙
+          (ap (λ ys. ys ++ flat_map (filter q) (set core.lanes place rest)) (flat_from_none (waits_in q) core.parts n (opening_node 0 1 0 0 0) next below alone.waits ∙ here) ∙
+          ap (λ ys. (answer ∷ []) ++ ys) (alone.lanes_then ∙ alone.rest));
       same = alone.same;
     }
 
@@ -187,9 +187,9 @@ packets_accepted core n next place answer x rest m k below within front same abo
     let alone = lane_alone q core.parts core.lanes place rest x answer (filter q rest) within (sym (packets_are core m k) ∙ one) this in
     record {
       then_ =
-        packets_are (moved core n next place rest) m k ∙
-        (ap (λ ys. ys ++ flat_map (filter q) (set core.lanes place rest)) (flat_same (waits_in q) core.parts n (opening_node 0 1 0 0 0) next below (ap (λ (w : Option Letter). filter q (option_to_list w)) same) ∙ alone.waits) ∙
-        (alone.lanes_then ∙ alone.rest));
+          packets_are (moved core n next place rest) m k ∙
+          (ap (λ ys. ys ++ flat_map (filter q) (set core.lanes place rest)) (flat_same (waits_in q) core.parts n (opening_node 0 1 0 0 0) next below (ap (λ (w : Option Letter). filter q (option_to_list w)) same) ∙ alone.waits) ∙
+          (alone.lanes_then ∙ alone.rest));
       same = alone.same;
     }
 

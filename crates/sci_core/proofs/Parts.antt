@@ -60,7 +60,8 @@ part_with_home nodes lines slots limit n part place home names is = record {
   most = is.most;
   states = is.states;
   answer = is.answer;
-  own = is.own; asks = is.asks;
+  own = is.own;
+  asks = is.asks;
   fits = node_with_homes part (set part.homes place home) (length-set part.homes place home) is.fits;
   homes = at_set (HomeNamesNodes nodes) part.homes place home opening_home is.homes names;
 }
@@ -75,7 +76,8 @@ part_with_waiting nodes lines slots limit n part waiting answer is = record {
   most = is.most;
   states = is.states;
   homes = is.homes;
-  own = is.own; asks = is.asks;
+  own = is.own;
+  asks = is.asks;
   fits = node_with_waiting part waiting is.fits;
   answer = answer;
 }
@@ -99,7 +101,8 @@ issued_part nodes lines slots limit n part op may is = record {
   states = is.states;
   homes = is.homes;
   answer = is.answer;
-  own = is.own; asks = is.asks;
+  own = is.own;
+  asks = is.asks;
   fits = node_with_issue part op may is.fits;
 }
 
@@ -124,7 +127,8 @@ logged_part nodes lines slots limit n part line pending place state entry at nam
       most = is.most;
       states = changed.states;
       homes = is.homes;
-      answer = is.answer; asks = changed.asks;
+      answer = is.answer;
+      asks = changed.asks;
       fits = node_with_entry part line pending (with_line part.cache place state) entry (same_line part.cache place state) at is.fits;
       own = All-push (λ (e : Entry). e.node ≡ n) part.log entry is.own mine;
     }

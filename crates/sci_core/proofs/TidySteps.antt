@@ -34,20 +34,20 @@ keeps_node core n next keeps m k =
 about_from : (m k : ℕ) (letter : Letter) → letter.line ≡ k → asker_of letter ≡ m → is_about m k letter ≡ true
 about_from m k letter line asker = and_from (letter.line == k) (asker_of letter == m) (eq-eqb letter.line k line) (eq-eqb (asker_of letter) m asker)
 
-about_line : (m k : ℕ) (letter : Letter) → is_about m k letter ≡ true → letter.line ≡ k
+pub about_line : (m k : ℕ) (letter : Letter) → is_about m k letter ≡ true → letter.line ≡ k
 about_line m k letter e = eqb-true letter.line k (and_parts (letter.line == k) (asker_of letter == m) e).0
 
-about_asker : (m k : ℕ) (letter : Letter) → is_about m k letter ≡ true → asker_of letter ≡ m
+pub about_asker : (m k : ℕ) (letter : Letter) → is_about m k letter ≡ true → asker_of letter ≡ m
 about_asker m k letter e = eqb-true (asker_of letter) m (and_parts (letter.line == k) (asker_of letter == m) e).1
 
-request_asker : (letter : Letter) → is_request letter.body ≡ true → asker_of letter ≡ letter.source
+pub request_asker : (letter : Letter) → is_request letter.body ≡ true → asker_of letter ≡ letter.source
 request_asker letter e = ap (λ (b : Bool). if b then letter.source else letter.target) e
 
 answer_asker : (letter : Letter) → is_request letter.body ≡ false → asker_of letter ≡ letter.target
 answer_asker letter e = ap (λ (b : Bool). if b then letter.source else letter.target) e
 
 -- an answer is about what its request is about
-about_answer : (m k : ℕ) (request : Letter) (body : Body) → is_request request.body ≡ true → is_request body ≡ false → is_about m k (answer_to request body) ≡ is_about m k request
+pub about_answer : (m k : ℕ) (request : Letter) (body : Body) → is_request request.body ≡ true → is_request body ≡ false → is_about m k (answer_to request body) ≡ is_about m k request
 about_answer m k request body asks answers =
     ap (λ (a : ℕ). (request.line == k) && (a == m)) (answer_asker (answer_to request body) answers ∙ sym (request_asker request asks))
 
@@ -115,7 +115,7 @@ replied_tidy core n place next letter below within replies tidy m k mb kb =
           subst (HasItsPackets (k % core.nodes) line) (sym then_) (keeps_packets (k % core.nodes) old line (one.letter ∷ []) keeps one.awaited)
       | inr other ↦
           let waits : filter (is_about m k) (option_to_list next.waiting) ≡ filter (is_about m k) (option_to_list (node_at core n).waiting) =
-            ap (λ (w : Option Letter). filter (is_about m k) (option_to_list w)) replies.gone ∙ (sym (filter_one m k letter other) ∙ ap (λ (w : Option Letter). filter (is_about m k) (option_to_list w)) (sym replies.waited)) in
+          ap (λ (w : Option Letter). filter (is_about m k) (option_to_list w)) replies.gone ∙ (sym (filter_one m k letter other) ∙ ap (λ (w : Option Letter). filter (is_about m k) (option_to_list w)) (sym replies.waited)) in
           let packets = packets_same core n next place (lane_at core place ++ letter ∷ []) m k below within waits (filter_joined m k (lane_at core place) letter other) in
           subst (HasItsPackets (k % core.nodes) line) (sym packets) (keeps_packets (k % core.nodes) old line (packets_of core m k) keeps (tidy m k mb kb))
     ]
@@ -143,7 +143,7 @@ served_tidy core n place next request rest below within front asks answers is_an
       | inr other ↦
           let answer_other : is_about m k answer ≡ false = about_answer m k request answers.body asks is_answer ∙ other in
           let waits : filter (is_about m k) (option_to_list next.waiting) ≡ filter (is_about m k) (option_to_list (node_at core n).waiting) =
-            ap (λ (w : Option Letter). filter (is_about m k) (option_to_list w)) answers.waiting ∙ (filter_one m k answer answer_other ∙ ap (λ (w : Option Letter). filter (is_about m k) (option_to_list w)) (sym answers.free)) in
+          ap (λ (w : Option Letter). filter (is_about m k) (option_to_list w)) answers.waiting ∙ (filter_one m k answer answer_other ∙ ap (λ (w : Option Letter). filter (is_about m k) (option_to_list w)) (sym answers.free)) in
           let packets = packets_same core n next place rest m k below within waits (filter_left m k (lane_at core place) rest request front other) in
           subst (HasItsPackets (k % core.nodes) line) (sym packets) (keeps_packets (k % core.nodes) old line (packets_of core m k) keeps (tidy m k mb kb))
     ]

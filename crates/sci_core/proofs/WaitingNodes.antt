@@ -50,8 +50,8 @@ issue_stays nodes part op =
     if_either (λ (o : Option NodeOf). IfSome o (Stays nodes part)) (may_issue part op) (Some (node_issued part op)) None (record { lines = keeps_all nodes part.cache; waiting = refl }) tt
 
 performed_stays : (nodes : ℕ) (part : NodeOf) (line : ℕ) (pending : Pending) (done : Option Performed) → IfSome done (λ (d : Performed). KeepsWait (line_of part.cache pending.op.line).state d.next)
-    → IfSome (performed_by part line pending (elim done as (λ _. Option (CacheOf × Reply × ℕ)) [ | None ↦ None | Some d ↦ Some (with_line part.cache pending.op.line (line_in (line_of part.cache pending.op.line) d.next), d.reply, d.version) ]))
-      (λ (x : NodeOf × Entry). Stays nodes part x.0)
+    → IfSome (performed_by part line pending (elim done as (λ _. Option (CacheOf × Reply × ℕ)) [ None ↦ None | Some d ↦ Some (with_line part.cache pending.op.line (line_in (line_of part.cache pending.op.line) d.next), d.reply, d.version) ]))
+    (λ (x : NodeOf × Entry). Stays nodes part x.0)
 performed_stays nodes part line pending None wait = tt
 performed_stays nodes part line pending (Some d) wait = record { lines = keeps_line nodes part.cache pending.op.line d.next wait; waiting = refl }
 
@@ -101,10 +101,10 @@ asked_once nodes line part asked below all small begins =
     }
 
 made_once : (nodes line : ℕ) (part : NodeOf) (lacks : Bool) (made : Option Asked) → line < lines_of part → part.cache.nodes ≡ nodes → (line_of part.cache line).asks < CONTROLS → IfSome made (BeginsToWait (line_of part.cache line).state)
-    → IfSome (asked_by part (elim (elim made as (λ _. Result Asked AskFault) [ | None ↦ Err NotNow | Some a ↦ if lacks then Err NoSlot else Ok a ]) as (λ _. Result (CacheOf × Letter) AskFault) [
-        | Err fault ↦ Err fault
-        | Ok a ↦ Ok (with_line part.cache line (line_asked (line_of part.cache line) a), letter_asking part.cache line a)
-      ])) (AsksOnce nodes line part)
+    → IfSome (asked_by part (elim (elim made as (λ _. Result Asked AskFault) [ None ↦ Err NotNow | Some a ↦ if lacks then Err NoSlot else Ok a ]) as (λ _. Result (CacheOf × Letter) AskFault) [
+      | Err fault ↦ Err fault
+      | Ok a ↦ Ok (with_line part.cache line (line_asked (line_of part.cache line) a), letter_asking part.cache line a)
+    ])) (AsksOnce nodes line part)
 made_once nodes line part lacks None below all small begins = tt
 made_once nodes line part true (Some asked) below all small begins = tt
 made_once nodes line part false (Some asked) below all small begins = asked_once nodes line part asked below all small begins
@@ -119,7 +119,7 @@ if_below nodes line part sent h =
 pub ask_once : (nodes : ℕ) (part : NodeOf) (line : ℕ) (kind : AskKind) → part.cache.nodes ≡ nodes → (line_of part.cache line).asks < CONTROLS → IfSome (node_asking part line kind) (AsksOnce nodes line part)
 ask_once nodes part line kind all small =
     if_below nodes line part (asked_by part (cache_asking part.cache line kind)) (λ below.
-      made_once nodes line part (is_out (line_of part.cache line).state && not (has_slot part.cache)) (asking (line_of part.cache line).state kind) below all small (asking_waits (line_of part.cache line).state kind))
+    made_once nodes line part (is_out (line_of part.cache line).state && not (has_slot part.cache)) (asking (line_of part.cache line).state kind) below all small (asking_waits (line_of part.cache line).state kind))
 
 -- ---- Serve and Refuse
 
@@ -137,7 +137,7 @@ home_serves nodes part line None = tt
 home_serves nodes part line (Some served) = record { lines = keeps_all nodes part.cache }
 
 cache_serves : (nodes : ℕ) (part : NodeOf) (line : ℕ) (served : Option (CacheState × Body)) → IfSome served (λ (s : CacheState × Body). KeepsWait (line_of part.cache line).state s.0)
-    → IfSome (served_in_cache part (elim served as (λ _. Option (CacheOf × Body)) [ | None ↦ None | Some s ↦ Some (with_line part.cache line (line_in (line_of part.cache line) s.0), s.1) ])) (ServesLines nodes part)
+    → IfSome (served_in_cache part (elim served as (λ _. Option (CacheOf × Body)) [ None ↦ None | Some s ↦ Some (with_line part.cache line (line_in (line_of part.cache line) s.0), s.1) ])) (ServesLines nodes part)
 cache_serves nodes part line None wait = tt
 cache_serves nodes part line (Some served) wait = record { lines = keeps_line nodes part.cache line served.0 wait }
 
@@ -161,7 +161,7 @@ serve_answers nodes part request = free_first nodes part request part.waiting (a
 pub refuse_answers : (nodes : ℕ) (part : NodeOf) (request : Letter) → IfSome (node_refusing part request) (Answers nodes request part)
 refuse_answers nodes part request =
     free_first nodes part request part.waiting (if is_setback request.body then None else Some (with_answer part request Busy)) refl (λ free.
-      if_either (λ (o : Option NodeOf). IfSome o (Answers nodes request part)) (is_setback request.body) None (Some (with_answer part request Busy)) tt (record { lines = keeps_all nodes part.cache; free = free; body = Busy; waiting = refl }))
+    if_either (λ (o : Option NodeOf). IfSome o (Answers nodes request part)) (is_setback request.body) None (Some (with_answer part request Busy)) tt (record { lines = keeps_all nodes part.cache; free = free; body = Busy; waiting = refl }))
 
 -- ---- Reply
 
@@ -186,7 +186,7 @@ pub record Accepts (line : ℕ) (old new : NodeOf) : Type 0 where
   pub waiting : new.waiting ≡ old.waiting
 
 accepted : (part : NodeOf) (line : ℕ) (awaits : Bool) (state : Option CacheState) → IfSome state (EndsToWait (line_of part.cache line).state)
-    → IfSome (accepted_by part (elim (if awaits then state else None) as (λ _. Option CacheOf) [ | None ↦ None | Some s ↦ Some (with_line part.cache line (line_in (line_of part.cache line) s)) ])) (Accepts line part)
+    → IfSome (accepted_by part (elim (if awaits then state else None) as (λ _. Option CacheOf) [ None ↦ None | Some s ↦ Some (with_line part.cache line (line_in (line_of part.cache line) s)) ])) (Accepts line part)
 accepted part line false state ends = tt
 accepted part line true None ends = tt
 accepted part line true (Some s) ends = record {

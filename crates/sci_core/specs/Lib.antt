@@ -9,3 +9,4 @@ pub mod Stopped
 pub mod Outcome
 pub mod Sharing
 pub mod Tidy
+pub mod Alternates
