@@ -13,3 +13,4 @@ pub mod LogLines
 pub mod LogReads
 pub mod LogFaults
 pub mod LogFronts
+pub mod LogLaws

@@ -1,13 +1,13 @@
 -- The faults of a log's lines, from what was read of them.
-use Rattle.std.proofs.Common.{◌≡◌, ℕ, zero, suc, ◌+◌, ◌-◌, ◌^◌, ◌<◌, ◌≤◌, List, [], ◌∷◌, ◌++◌, length, Option, Some, None, ltb, refl, sym, ap, subst, ◌∙◌, append_assoc, arith, inl, inr, ◌⊎◌}
-use Rattle.std.specs.Prelude.{codes, Bool, true, false}
+use Rattle.std.proofs.Common.{◌≡◌, ℕ, ◌+◌, ◌-◌, ◌^◌, ◌<◌, ◌≤◌, List, [], ◌∷◌, ◌++◌, length, Option, Some, None, refl, sym, ap, subst, ◌∙◌, append_assoc, arith, inl, inr, ◌⊎◌}
+use Rattle.std.specs.Prelude.{codes, true, false}
 use Rattle.std.specs.Option.{is_some}
 use denote.Ref.{Bor}
 use Rattle.std.proofs.Math.ListN.{set}
 use Rattle.std.proofs.lemmas.Bool.{cases_lt}
 use Rattle.sci_history.specs.Placed.{log_of}
 use Rattle.std.specs.Option.{SomeIff}
-use Rattle.std.proofs.lemmas.Option.{none-some, cond_some, some_pair_parts, same_Some}
+use Rattle.std.proofs.lemmas.Option.{none-some, some_pair_parts}
 use Rattle.sci_words.specs.declared.limits.TheConstants.{MAX_TEXT_LINE_BYTES, MAX_LINES, WORDS_PER_LINE}
 use Rattle.sci_words.specs.declared.stamped.Stamped.{Stamped}
 use Rattle.sci_history.specs.declared.entry.Entry.{Entry}
@@ -17,7 +17,7 @@ use Rattle.sci_text.specs.Fault.{Says}
 use Rattle.sci_text.specs.Number.{number, field}
 use Rattle.sci_text.specs.Operation.{operation}
 use Rattle.sci_text.specs.Log.{log_line, last_line, entry_line, issue_text, outcome_text}
-use Rattle.sci_text.specs.LogValue.{IsSize, SizeFault, BeginsLog, BeginsLast, Front, HasRoom, StampedFits, SaysLast, SaysEntry, NoLast, NoEntry, LogLineFault, AddsLast, AddsEntry, Answers, IsForm, HasAllLines, EntryFits, AreNumbersWithin, IsLatest, entry_count}
+use Rattle.sci_text.specs.LogValue.{IsSize, SizeFault, BeginsLog, BeginsLast, Front, HasRoom, StampedFits, SaysEntry, NoLast, NoEntry, LogLineFault, AddsLast, AddsEntry, Answers, IsForm, HasAllLines, EntryFits, AreNumbersWithin, IsLatest, entry_count}
 use Rattle.sci_text.specs.Reading.{Gives, fitting, after, number_read, log_line_read, last_line_read, entry_line_read}
 use Rattle.sci_text.proofs.Numbers.{fitting_below, Ends, number_again, ends_field}
 use Rattle.sci_text.proofs.Words.{after_again, after_found}
@@ -41,9 +41,12 @@ pub size_none : (bytes : List ℕ) → (after (codes "log ") bytes ≡ None → 
 size_none bytes begins e = (begins_found bytes (after (codes "log ") bytes) refl begins, λ n m says. none-some ((fitting n, fitting m), says.rest) (sym e ∙ said_size bytes n m says))
 
 pub size_long : (bytes : List ℕ) (sizes : SizeSaid) (rest : List ℕ) → (after (codes "log ") bytes ≡ None → ⊥) → log_line_read bytes ≡ Some (sizes, rest) → MAX_TEXT_LINE_BYTES + 1 < length bytes - length rest → SizeFault bytes Syntax
-size_long bytes sizes rest begins e long = (begins_found bytes (after (codes "log ") bytes) refl begins, λ n m says.
-    let same = some_pair_parts (fitting n, fitting m) sizes says.rest rest (sym (said_size bytes n m says) ∙ e) in
-    line_long bytes (log_line n m) rest (says.parts ∙ ap (λ (l : List ℕ). log_line n m ++ l) same.1) long says.short)
+size_long bytes sizes rest begins e long = (
+  begins_found bytes (after (codes "log ") bytes) refl begins,
+  λ n m says.
+      let same = some_pair_parts (fitting n, fitting m) sizes says.rest rest (sym (said_size bytes n m says) ∙ e) in
+      line_long bytes (log_line n m) rest (says.parts ∙ ap (λ (l : List ℕ). log_line n m ++ l) same.1) long says.short,
+)
 
 pub size_le : (bytes : List ℕ) (a b : Option ℕ) (rest : List ℕ) → log_line_read bytes ≡ Some ((a, b), rest) → length rest ≤ length bytes
 size_le bytes a b rest e = let f = log_line_found bytes a b rest e in line_le bytes (log_line f.0 f.1) rest f.2

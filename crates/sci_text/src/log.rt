@@ -148,12 +148,7 @@ fn push_entry<'a>(
 }
 
 /// The logs whose lines the bytes are, after the `last` lines.
-fn entries(
-    alloc: Global,
-    form: &Form,
-    last: &[Stamped],
-    bytes: &[u8],
-) -> Result<Logs, TextFault>
+fn entries(alloc: Global, form: &Form, last: &[Stamped], bytes: &[u8]) -> Result<Logs, TextFault>
     requires good { IsFront (front_of form.now last.now no_logs) }
     requires whole { HasAllLines form.now.lines (length last.now) }
     requires no_more { BeginsLast bytes.now → ⊥ }

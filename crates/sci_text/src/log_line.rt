@@ -28,7 +28,11 @@ fn line_of(first: Words, second: Words, third: Words, fourth: Words) -> Option<L
     let b = second?;
     let c = third?;
     let d = fourth?;
-    let front = Line::zero().with(0, a.0).with(1, a.1).with(2, b.0).with(3, b.1);
+    let front = Line::zero()
+        .with(0, a.0)
+        .with(1, a.1)
+        .with(2, b.0)
+        .with(3, b.1);
     Some(front.with(4, c.0).with(5, c.1).with(6, d.0).with(7, d.1))
 }
 

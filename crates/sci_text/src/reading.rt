@@ -9,10 +9,9 @@ ghost use Rattle.sci_text.specs.LogValue.{AreLogs, IsLogs, IsLogTold};
 ghost use Rattle.sci_text.specs.Fault.{IsInputFault, IsTold, IsReadAs};
 
 use crate::fault::{TextFault, TextFaultKind};
-use crate::lines;
-use crate::log;
 use crate::script::Script;
 use crate::tap::Tap;
+use crate::{lines, log};
 use sci_history::{Last, Logs};
 use sci_words::MAX_INPUT_BYTES;
 use std::alloc::Global;
@@ -77,10 +76,7 @@ pub fn read_script<R: Read>(alloc: Global, reader: &mut Tap<R>) -> Result<Script
 /// The logs and last contents whose text the reader gives, read to its end, with the number of nodes: in format 2 where
 /// the first line begins with `log `, else in format 1, which has 8 nodes. A refusal names the first fault and its line,
 /// as `read_script` does. The caller sees to it that the tap has not failed before.
-pub fn read_logs<R: Read>(
-    alloc: Global,
-    reader: &mut Tap<R>,
-) -> Result<(u8, Logs, Last), TextFault>
+pub fn read_logs<R: Read>(alloc: Global, reader: &mut Tap<R>) -> Result<(u8, Logs, Last), TextFault>
     requires { has_failed reader.old ≡ false }
 
     // The input is a text of the logs, and each number is within the limits.

@@ -1,7 +1,7 @@
-use Rattle.std.proofs.Common.{◌≡◌, ℕ, ◌+◌, refl, ap, sym, subst, ◌∙◌, inl, inr, arith, length}
+use Rattle.std.proofs.Common.{◌≡◌, ℕ, ◌+◌, ap, sym, subst, arith, length}
 use Rattle.std.specs.Prelude.{codes}
 use Rattle.sci_text.specs.declared.fault.TextFaultKind.TheVariants.{Syntax}
-use Rattle.sci_text.specs.LogValue.{HasAllLines, first_lines, front_of, no_logs}
+use Rattle.sci_text.specs.LogValue.{HasAllLines}
 use Rattle.sci_text.proofs.LogFaults.{gives_front, gives_no_front}
 use Rattle.sci_text.proofs.LogFronts.{last_shrinks, last_goes_on, last_front_more, last_refused, few_refused, IsAt}
 use Rattle.sci_text.proofs.log.contents.Goals as goal

@@ -1,6 +1,6 @@
-use Rattle.std.proofs.Common.{◌≡◌, ℕ, ◌+◌, ◌<◌, refl, ap, sym, subst, ◌∙◌, inl, inr, arith, length}
+use Rattle.std.proofs.Common.{◌<◌, arith, length}
 use Rattle.std.proofs.lemmas.Bool.Decides.{nat_tests}
-use Rattle.sci_text.specs.LogValue.{entry_count, first_lines, front_of}
+use Rattle.sci_text.specs.LogValue.{entry_count, front_of}
 use Rattle.sci_text.proofs.LogFronts.{IsAt, started, no_last_after, entry_shrinks, front_more, latest_more, entries_go_on, count_more, entry_refused}
 use Rattle.sci_text.proofs.log.entries.Goals as goal
 

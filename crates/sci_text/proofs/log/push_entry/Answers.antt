@@ -1,7 +1,7 @@
 -- Each refusal is the fault of the line that was read.
-use Rattle.std.proofs.Common.{◌≡◌, ℕ, ◌^◌, ◌<◌, ◌≤◌, ◌++◌, ◌∷◌, [], List, length, Option, Some, None, refl, ap, sym, subst, ◌∙◌, inl, inr, arith}
+use Rattle.std.proofs.Common.{◌≡◌, ◌^◌, ◌<◌, length, Option, Some, ap, ◌∙◌, inr, arith}
 use Rattle.sci_history.specs.declared.entry.Entry.{Entry}
-use Rattle.sci_text.specs.LogValue.{AddsEntry, AreNumbersWithin, front_of}
+use Rattle.sci_text.specs.LogValue.{front_of}
 use Rattle.sci_text.specs.Reading.{entry_line_read}
 use Rattle.sci_text.proofs.LogFaults.{entry_none, entry_long, entry_le, entry_lower, entry_unfit, entry_outside, entry_too_many, entry_ok}
 use Rattle.sci_text.proofs.log.push_entry.Goals as goal

@@ -1,5 +1,5 @@
 -- Each refusal is the fault of the line that was read.
-use Rattle.std.proofs.Common.{◌≡◌, ℕ, ◌^◌, ◌<◌, ◌++◌, ◌∷◌, [], List, length, Option, Some, None, refl, ap, sym, subst, ◌∙◌, inl, inr, arith}
+use Rattle.std.proofs.Common.{◌≡◌, ℕ, ◌^◌, ◌<◌, ◌++◌, ◌∷◌, [], List, length, Option, Some, refl, ap, sym, subst, ◌∙◌, inl, inr, arith}
 use Rattle.sci_words.specs.declared.stamped.Stamped.{Stamped}
 use Rattle.sci_text.specs.LogValue.{AddsLast, HasRoom, front_of, no_logs}
 use Rattle.sci_text.specs.Reading.{last_line_read}
