@@ -9,7 +9,7 @@ ghost use Rattle.sci_words.specs.declared.operation.Reply.{Reply};
 ghost use Rattle.sci_words.specs.declared.stamped.Stamped.{Stamped};
 ghost use Rattle.sci_words.specs.Stamped.{zero_stamped};
 ghost use Rattle.sci_history.specs.declared.entry.Entry.{Entry};
-ghost use Rattle.sci_history.specs.declared.audit.FaultKind.{FaultKind};
+ghost use Rattle.sci_history.specs.declared.verdict.FaultKind.{FaultKind};
 ghost use Rattle.sci_history.specs.Audit.{HasNoFault, IsLineFault};
 ghost use Rattle.sci_history.specs.History.{HasHistory};
 ghost use Rattle.sci_history.specs.Lawful.{IsLawfulLine, Lawful};

@@ -10,3 +10,7 @@ pub mod Told
 pub mod OneFault
 pub mod Digits
 pub mod LogLines
+pub mod LogReads
+pub mod LogFaults
+pub mod LogFronts
+pub mod LogLaws

@@ -5,3 +5,4 @@ pub mod Reading
 pub mod Script
 pub mod Tap
 pub mod Log
+pub mod LogValue

@@ -1,6 +1,10 @@
 //! Laws of the definitions, each the contract of a function that does nothing.
 
 ghost use Rattle.std.specs.Prelude.{◌≡◌, ℕ, List};
+ghost use Rattle.sci_words.specs.declared.stamped.Stamped.{Stamped};
+ghost use Rattle.sci_history.specs.declared.entry.Entry.{Entry};
+ghost use Rattle.sci_text.specs.Log.{log_text};
+ghost use Rattle.sci_text.specs.LogValue.{AreLogs, IsLogs};
 ghost use Rattle.sci_text.specs.declared.fault.TextFaultKind.{TextFaultKind};
 ghost use Rattle.sci_text.specs.Script.{ScriptValue, IsScript, script_text};
 ghost use Rattle.sci_text.specs.Fault.{IsLineFault};
@@ -18,4 +22,9 @@ pub fn no_fault()
 /// Bytes have at most one first faulty line, and one fault there.
 pub fn one_fault()
     ensures { (input : List ℕ) (l m : ℕ) (k j : TextFaultKind) → IsLineFault input l k → IsLineFault input m j → (l ≡ m) × (k ≡ j) }
+{}
+
+/// Logs and last contents that a text in either format says are those of their text in format 2.
+pub fn written_again()
+    ensures { (nodes : ℕ) (logs : List (List Entry)) (last : List Stamped) → AreLogs nodes logs last → IsLogs (log_text nodes logs last) nodes logs last }
 {}

@@ -1,9 +1,12 @@
-//! Texts of scripts: their grammar, and a reader that tells the first fault.
+//! Texts of scripts and logs: their grammar, and a reader that tells the first fault.
 #![tactic(auto)]
 
 mod fault;
+mod form;
 mod laws;
 mod lines;
+mod log;
+mod log_line;
 mod number;
 mod operation;
 mod printing;
@@ -13,9 +16,9 @@ mod tap;
 mod writing;
 
 pub use fault::{TextFault, TextFaultKind};
-pub use laws::{no_fault, one_fault, one_script};
+pub use laws::{no_fault, one_fault, one_script, written_again};
 pub use printing::{push_field, push_number, push_text};
-pub use reading::read_script;
+pub use reading::{read_logs, read_script};
 pub use script::{PushFault, Script};
 pub use tap::Tap;
 pub use writing::{logs_text, write_logs, write_text};

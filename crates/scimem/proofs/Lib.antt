@@ -4,3 +4,4 @@ pub mod OneDecoding
 pub mod Runs
 pub mod Written
 pub mod Counts
+pub mod Refusals

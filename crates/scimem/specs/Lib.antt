@@ -4,3 +4,5 @@ pub mod PacketLine
 pub mod Status
 pub mod Writing
 pub mod OracleAnswer
+pub mod Refusal
+pub mod LogAnswer

@@ -1,28 +1,13 @@
 -- What `oracle` writes for its input.
-use Rattle.std.specs.Prelude.{◌≡◌, ℕ, Bool, List, [], ◌∷◌, ◌++◌, codes, Option, IfSome}
+use Rattle.std.specs.Prelude.{◌≡◌, ℕ, Bool, List, Option, IfSome}
 use Rattle.sci_history.specs.Lawful.{Lawful}
 use Rattle.sci_history.specs.Oracle.{oracle_logs, oracle_last}
-use Rattle.sci_text.specs.declared.fault.TextFaultKind.{TextFaultKind}
-use Rattle.sci_text.specs.declared.fault.TextFaultKind.TheVariants.{Syntax, Range, TooMany, Read, Write, Memory}
-use Rattle.sci_text.specs.Number.{field}
 use Rattle.sci_text.specs.Script.{ScriptValue, IsScript, script_text}
 use Rattle.sci_text.specs.Fault.{IsTold}
 use Rattle.sci_text.specs.Log.{log_text}
+use Rattle.scimem.specs.Refusal.{IsRefusalBy}
 use Rattle.scimem.specs.declared.outcome.Outcome.{Outcome}
 use Rattle.scimem.specs.declared.outcome.Outcome.TheVariants.{Done, Unlawful, Refused}
-
--- the word for what is wrong with a text
-unfoldable pub kind_word : TextFaultKind → List ℕ
-kind_word Syntax = codes "syntax"
-kind_word Range = codes "range"
-kind_word TooMany = codes "too-many"
-kind_word Read = codes "read"
-kind_word Write = codes "write"
-kind_word Memory = codes "memory"
-
--- `refused at line K: KIND`, and the line feed
-unfoldable pub line_refusal : ℕ → TextFaultKind → List ℕ
-line_refusal line kind = codes "refused at line" ++ (field line ++ (codes ": " ++ (kind_word kind ++ 10 ∷ [])))
 
 -- the text of the oracle's logs and last contents
 abbrev pub oracle_text : ScriptValue → List ℕ
@@ -36,15 +21,8 @@ pub record IsOracleOf (input text : List ℕ) : Type 0 where
   pub written : text ≡ oracle_text script
   pub lawful : Lawful (oracle_logs script.lines script.operations) (oracle_last script.lines script.operations)
 
--- the refusal of the fault that is told of the input
-pub record IsRefusalOf (input : Option (List ℕ)) (failed : Bool) (text : List ℕ) : Type 0 where
-  pub line : ℕ
-  pub kind : TextFaultKind
-  pub told : IsTold kind input failed line
-  pub written : text ≡ line_refusal line kind
-
 -- what is written, and how the command ends, for the bytes of a reader, which has failed or not
 abbrev pub IsOracleAnswer : Option (List ℕ) → Bool → List ℕ → Outcome → Type 0
 IsOracleAnswer input failed text Done = IfSome input (λ bytes. IsOracleOf bytes text)
-IsOracleAnswer input failed text Refused = IsRefusalOf input failed text
+IsOracleAnswer input failed text Refused = IsRefusalBy (λ kind line. IsTold kind input failed line) text
 IsOracleAnswer input failed text Unlawful = ⊥

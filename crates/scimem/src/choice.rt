@@ -8,7 +8,7 @@ use std::rt::Env;
 use std::{env, io};
 
 /// The words that the program knows.
-pub const USAGE: &str = "usage: scimem oracle | decode";
+pub const USAGE: &str = "usage: scimem oracle | audit | decode | upgrade";
 
 /// What the program is asked to do.
 #[derive(Clone, Copy, Debug, PartialEq, Eq)]
@@ -17,6 +17,10 @@ pub enum Command {
     Oracle,
     /// Write a line for each packet of the input.
     Decode,
+    /// Write whether a log is lawful, or the first rule that it breaks.
+    Audit,
+    /// Write a log in format 2.
+    Upgrade,
 }
 
 /// The command that the words of the command line choose, the program's own name left out.
@@ -26,6 +30,8 @@ pub fn chosen(words: &[&str]) -> Option<Command>
     match words {
         ["oracle"] => Some(Command::Oracle),
         ["decode"] => Some(Command::Decode),
+        ["audit"] => Some(Command::Audit),
+        ["upgrade"] => Some(Command::Upgrade),
         _ => None,
     }
 }

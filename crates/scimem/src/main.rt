@@ -1,6 +1,7 @@
 //! The program `scimem`: it reads standard input, and writes standard output.
 #![tactic(auto)]
 
+mod audit;
 mod choice;
 mod decode;
 mod laws;
@@ -9,16 +10,22 @@ mod outcome;
 mod packet_line;
 mod printing;
 mod reading;
+mod refusal;
+mod upgrade;
 mod writing;
 
+use audit::audit_text;
 use choice::{Command, USAGE, asked};
 use decode::decode_bytes;
 use oracle::oracle as oracle_of;
 use sci_text::Tap;
 use std::process::ExitCode;
+use upgrade::upgrade as upgrade_of;
 
 #[cfg(test)]
 mod devices;
+#[cfg(test)]
+mod log_tests;
 #[cfg(test)]
 mod oracle_tests;
 #[cfg(test)]
@@ -34,6 +41,8 @@ fn main(rt: HostRuntime) -> ExitCode {
     let outcome = match command {
         Command::Oracle => oracle_of(rt.alloc(), &mut reader, &mut writer),
         Command::Decode => decode_bytes(rt.alloc(), &mut reader, &mut writer),
+        Command::Audit => audit_text(rt.alloc(), &mut reader, &mut writer),
+        Command::Upgrade => upgrade_of(rt.alloc(), &mut reader, &mut writer),
     };
     ExitCode::from(outcome.status())
 }
