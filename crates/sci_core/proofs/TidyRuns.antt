@@ -1,8 +1,8 @@
 -- Every reached state is tidy.
-use Rattle.std.proofs.Common.{◌≡◌, ℕ, zero, suc, ◌+◌, ◌*◌, ◌%◌, ◌<◌, nat_lt, Bool, true, false, if◌then◌else◌, List, [], ◌∷◌, ◌++◌, length, map, filter, replicate, get_or, Option, Some, None, refl, sym, ap, subst, ◌∙◌, inl, inr, arith}
+use Rattle.std.proofs.Common.{◌≡◌, ℕ, zero, suc, ◌+◌, ◌*◌, ◌%◌, ◌<◌, nat_lt, Bool, false, if◌then◌else◌, List, [], ◌∷◌, ◌++◌, length, map, filter, replicate, Option, Some, None, refl, sym, ap, subst, ◌∙◌, inl, inr, arith}
 use Rattle.std.specs.Prelude.{IfSome, unwrap_or, option_to_list}
 use Rattle.std.specs.List.{flat_map, range_with_len, All}
-use Rattle.std.proofs.lemmas.Bool.{cases_Bool, cases_lt, ltb-true}
+use Rattle.std.proofs.lemmas.Bool.{cases_Bool, ltb-true}
 use Rattle.std.proofs.lemmas.List.{get_or-replicate}
 use Rattle.std.proofs.lemmas.List.Elements.{All-head}
 use Rattle.std.proofs.lemmas.List.FromFn.{get_or-map-range_with_len}
@@ -23,7 +23,7 @@ use Rattle.sci_core.specs.Tidy.{HasItsPackets, IsTidy}
 use Rattle.sci_core.specs.WellFormed.{IsAnswerLetter, IsInLane, IsPart, IsWellFormed}
 use Rattle.sci_core.proofs.Places.{place_below}
 use Rattle.sci_core.proofs.Parts.{SendsWell, RepliesWell, part_asking, part_serving, part_refusing, part_replying}
-use Rattle.sci_core.proofs.WellFormedSteps.{Comes, comes_from_lane, stepping_well, step_well, run_well, opening_well}
+use Rattle.sci_core.proofs.WellFormedSteps.{Comes, comes_from_lane, step_well, run_well, opening_well}
 use Rattle.sci_core.proofs.WaitingNodes.{Stays, AsksOnce, Answers, Replies, Accepts, issue_stays, perform_stays, ask_once, serve_answers, refuse_answers, reply_replies, accept_accepts}
 use Rattle.sci_core.proofs.TidySteps.{changed_tidy, asked_tidy, replied_tidy, served_tidy, accepted_tidy}
 

@@ -1,22 +1,19 @@
 -- Every step leaves a state tidy.
-use Rattle.std.proofs.Common.{◌≡◌, ℕ, ◌+◌, ◌*◌, ◌%◌, ◌<◌, ◌≤◌, ◌≢◌, ◌&&◌, nat_lt, Bool, true, false, if◌then◌else◌, List, [], ◌∷◌, ◌++◌, length, get_or, set, filter, Option, Some, None, refl, sym, ap, subst, ◌∙◌, inl, inr, arith}
-use Rattle.std.specs.Prelude.{◌==◌, IfSome, option_to_list, unwrap_or}
-use Rattle.std.proofs.lemmas.Bool.{cases_Bool, cases_eq, and_parts, and_from, eqb-true, eq-eqb, ltb-true}
+use Rattle.std.proofs.Common.{◌≡◌, ℕ, ◌+◌, ◌%◌, ◌<◌, ◌≢◌, ◌&&◌, Bool, true, false, if◌then◌else◌, List, [], ◌∷◌, ◌++◌, length, filter, Option, refl, sym, ap, subst, ◌∙◌, inl, inr, arith}
+use Rattle.std.specs.Prelude.{◌==◌, option_to_list}
+use Rattle.std.proofs.lemmas.Bool.{cases_Bool, cases_eq, and_parts, and_from, eqb-true, eq-eqb}
 use Rattle.std.proofs.lemmas.List.{get_or-set_same, get_or-set_other}
 use Rattle.sci_packets.specs.declared.body.Body.{Body}
 use Rattle.sci_packets.specs.Table.{is_request}
 use Rattle.sci_cache.specs.State.{waits}
 use Rattle.sci_cache.specs.Line.{LineState}
 use Rattle.sci_cache.specs.Cache.{Letter, line_of}
-use Rattle.sci_core.specs.declared.lane.LaneKind.{LaneKind}
-use Rattle.sci_core.specs.declared.lane.LaneKind.TheVariants.{Requests, Answers as AnswerLane}
 use Rattle.sci_core.specs.Node.{NodeOf, opening_node, lines_of, answer_to}
-use Rattle.sci_core.specs.Core.{Core, node_at, with_node, lane_place, lane_at, lane_of, with_lane, sent_by}
+use Rattle.sci_core.specs.Core.{Core, node_at, with_node, lane_at, with_lane}
 use Rattle.sci_core.specs.Sharing.{asker_of, is_about, packets_of}
 use Rattle.sci_core.specs.Tidy.{IsAwaited, HasItsPackets, IsTidy}
 use Rattle.sci_core.specs.WellFormed.{IsWellFormed}
 use Rattle.sci_core.proofs.Lists.{at_place_set}
-use Rattle.sci_core.proofs.Places.{place_below}
 use Rattle.sci_core.proofs.Packets.{packets_changed, packets_same, packets_asked, packets_replied, packets_served, packets_accepted, filter_joined, filter_left, filter_one, lane_has, node_has}
 use Rattle.sci_core.proofs.Waits.{Keeps, keeps_itself, keeps_packets, idle_has_none, some_has_one}
 use Rattle.sci_core.proofs.WaitingNodes.{KeepsLines, Stays, AsksOnce, Answers, Replies, Accepts}

@@ -1,29 +1,24 @@
 -- Each row of the tables, as far as it tells who waits and for which request.
-use Rattle.std.proofs.Common.{◌≡◌, ℕ, ◌+◌, ◌%◌, ◌<◌, ◌≢◌, ◌&&◌, not, nat_lt, Bool, true, false, if◌then◌else◌, List, [], ◌∷◌, length, get_or, set, Option, Some, None, Result, Ok, Err, refl, sym, ap, subst, ◌∙◌, inl, inr, arith}
-use Rattle.std.specs.Prelude.{◌==◌, IfSome, is_some}
-use Rattle.std.proofs.lemmas.Bool.{cases_Bool, ltb-true, eqb-true}
-use Rattle.std.proofs.lemmas.List.{get_or-set_same, get_or-set_other}
+use Rattle.std.proofs.Common.{◌≡◌, ℕ, ◌+◌, ◌%◌, ◌<◌, nat_lt, Bool, true, false, if◌then◌else◌, List, [], ◌∷◌, Some, None, refl, sym, ap, ◌∙◌, inl, inr, arith}
+use Rattle.std.specs.Prelude.{◌==◌, IfSome}
 use Rattle.sci_words.specs.declared.limits.TheConstants.{CONTROLS}
 use Rattle.sci_words.specs.declared.event.AskKind.{AskKind}
 use Rattle.sci_words.specs.declared.event.AskKind.TheVariants as kind
 use Rattle.sci_words.specs.declared.operation.Op.{Op}
-use Rattle.sci_words.specs.declared.operation.Reply.{Reply}
 use Rattle.std.proofs.Common.{◌-◌, ◌^◌}
 use Rattle.sci_words.specs.Operation.{is_maker}
 use Rattle.sci_words.specs.Stamped.{after}
 use Rattle.sci_packets.specs.declared.body.Body.{Body}
 use Rattle.sci_packets.specs.declared.body.Body.TheVariants as body
-use Rattle.sci_packets.specs.Table.{is_request}
-use Rattle.sci_history.specs.declared.entry.Entry.{Entry}
-use Rattle.sci_cache.specs.State.{CacheState, Out, Asking, Joining, FreshJoining, Head, FreshHead, Below, Purging, Claiming, Clearing, Returning, Rolling, Telling, Fading, waits, is_out}
+use Rattle.sci_cache.specs.State.{CacheState, Out, Asking, Joining, FreshJoining, Head, FreshHead, Below, Purging, Claiming, Clearing, Returning, Rolling, Telling, Fading, waits}
 use Rattle.sci_cache.specs.Asking.{Asked, asking}
 use Rattle.sci_cache.specs.Serving.{serving, is_next}
 use Rattle.sci_cache.specs.Accepting.{accepting}
 use Rattle.sci_cache.specs.Performing.{Performed, performing, reply_on}
-use Rattle.sci_cache.specs.Line.{LineState, untouched, last_control, line_in, line_asked}
-use Rattle.sci_cache.specs.Cache.{CacheOf, Letter, line_of, with_line, has_slot, target_of, letter_asking}
+use Rattle.sci_cache.specs.Line.{LineState}
+use Rattle.sci_cache.specs.Cache.{Letter}
 use Rattle.sci_core.specs.Tidy.{IsSentIn, IsAwaited, HasItsPackets}
-use Rattle.sci_core.proofs.Lists.{if_either, at_place_set}
+use Rattle.sci_core.proofs.Lists.{if_either}
 
 -- ---- asking
 

@@ -1,6 +1,5 @@
 -- Who waits has one packet under way, and nobody else has one.
 use Rattle.std.specs.Prelude.{◌≡◌, ◌<◌, ◌%◌, ◌⊎◌, ℕ, true, false, List, [], ◌∷◌, Option}
-use Rattle.sci_packets.specs.declared.body.Body.{Body}
 use Rattle.sci_packets.specs.declared.body.Body.TheVariants.{Mread, Fread, Cread, Purge, Roll, Wback, Setback, Claim, Clear}
 use Rattle.sci_packets.specs.Table.{is_request}
 use Rattle.sci_cache.specs.State.{CacheState, Asking, Joining, FreshJoining, Purging, Claiming, Clearing, Returning, Rolling, Telling, Fading, waits}

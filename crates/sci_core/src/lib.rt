@@ -22,3 +22,6 @@ pub use laws::{
 pub use machine::Machine;
 pub use node::Node;
 pub use pending::Pending;
+
+#[cfg(test)]
+mod tests;
