@@ -2,7 +2,7 @@
 //! whoever reads the definitions sees that they say what they mean.
 
 ghost use Rattle.std.specs.Prelude.{◌≡◌, ◌≤◌, ◌<◌, ◌↔◌, ◌∷◌, ◌++◌, [], List, ℕ, Option, map, filter, length};
-ghost use Rattle.std.specs.List.{AllByRecursion};
+ghost use Rattle.std.specs.List.{AllByRecursion, flat_map};
 ghost use Rattle.sci_words.specs.declared.limits.TheConstants.{MAX_NODES};
 ghost use Rattle.sci_words.specs.declared.operation.Op.{Op};
 ghost use Rattle.sci_words.specs.declared.operation.Reply.{Reply};
@@ -67,4 +67,10 @@ pub fn lawful_is_faultless()
         IsLawfulLine logs line last ↔ HasNoFault (on_line line logs) last }
     ensures faulty { (entries : List Entry) (last : Stamped) (kind : FaultKind) (named : Option (ℕ × ℕ)) →
         IsLineFault entries last kind named → HasNoFault entries last → ⊥ }
+{}
+
+/// Logs that each have their own node's entries are known by all entries in reading order.
+pub fn one_partition()
+    ensures { (a b : List (List Entry)) → AreOwn a → AreOwn b → length a ≡ MAX_NODES → length b ≡ MAX_NODES →
+        flat_map (λ log. log) a ≡ flat_map (λ log. log) b → a ≡ b }
 {}

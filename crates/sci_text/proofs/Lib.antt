@@ -14,3 +14,4 @@ pub mod LogReads
 pub mod LogFaults
 pub mod LogFronts
 pub mod LogLaws
+pub mod LogUnique

@@ -9,6 +9,8 @@ ghost use Rattle.sci_text.specs.declared.fault.TextFaultKind.{TextFaultKind};
 ghost use Rattle.sci_text.specs.Script.{ScriptValue, IsScript, script_text};
 ghost use Rattle.sci_text.specs.Fault.{IsLineFault};
 
+use sci_history::one_partition;
+
 /// The text of a script determines the script.
 pub fn one_script()
     ensures { (a b : ScriptValue) → IsScript a → IsScript b → script_text a ≡ script_text b → a ≡ b }
@@ -28,3 +30,10 @@ pub fn one_fault()
 pub fn written_again()
     ensures { (nodes : ℕ) (logs : List (List Entry)) (last : List Stamped) → AreLogs nodes logs last → IsLogs (log_text nodes logs last) nodes logs last }
 {}
+
+/// A text is of one log: it determines the number of nodes, the logs and the last contents.
+pub fn one_log()
+    ensures { (input : List ℕ) (n m : ℕ) (a b : List (List Entry)) (x y : List Stamped) → IsLogs input n a x → IsLogs input m b y → (n ≡ m) × (a ≡ b) × (x ≡ y) }
+{
+    one_partition();
+}
