@@ -137,7 +137,7 @@ fault_or_none entries last LastDiffers named h k = h.5 (k.words, k.version)
 
 -- ---- logs, from all their entries
 
-own_entries : (logs : List (List Entry)) (node : ℕ) → AreOwn logs → length logs ≡ MAX_NODES → node < MAX_NODES → filter (is_of_node node) (flat_map same_log logs) ≡ log_of logs node
+pub own_entries : (logs : List (List Entry)) (node : ℕ) → AreOwn logs → length logs ≡ MAX_NODES → node < MAX_NODES → filter (is_of_node node) (flat_map same_log logs) ≡ log_of logs node
 own_entries logs node own sixteen lt =
     let whole : take MAX_NODES logs ≡ logs = take_all MAX_NODES logs (omega arith) in
     ap (λ (ls : List (List Entry)). filter (is_of_node node) (flat_map same_log ls)) (sym whole) ∙ whole_of logs node MAX_NODES own (omega arith) lt

@@ -15,7 +15,7 @@ ghost use Rattle.sci_history.specs.History.{HasHistory};
 ghost use Rattle.sci_history.specs.Lawful.{IsLawfulLine, Lawful};
 ghost use Rattle.sci_history.specs.Memory.{IsRun, stamped_at};
 ghost use Rattle.sci_history.specs.Oracle.{IsInRange, Issue, oracle_last, oracle_logs};
-ghost use Rattle.sci_history.specs.Placed.{AreOwn, is_on_line, log_of, on_line};
+ghost use Rattle.sci_history.specs.Placed.{AreOwn, is_of_node, is_on_line, log_of, on_line};
 
 /// A script's logs and last contents on one memory of one thread are lawful, whatever operations it has within
 /// the limits.
@@ -69,8 +69,11 @@ pub fn lawful_is_faultless()
         IsLineFault entries last kind named → HasNoFault entries last → ⊥ }
 {}
 
-/// Logs that each have their own node's entries are known by all entries in reading order.
+/// Logs that each have their own node's entries are known by all entries in reading order: a node's log is its own
+/// among them.
 pub fn one_partition()
-    ensures { (a b : List (List Entry)) → AreOwn a → AreOwn b → length a ≡ MAX_NODES → length b ≡ MAX_NODES →
+    ensures one { (a b : List (List Entry)) → AreOwn a → AreOwn b → length a ≡ MAX_NODES → length b ≡ MAX_NODES →
         flat_map (λ log. log) a ≡ flat_map (λ log. log) b → a ≡ b }
+    ensures own { (logs : List (List Entry)) (node : ℕ) → AreOwn logs → length logs ≡ MAX_NODES → node < MAX_NODES →
+        filter (is_of_node node) (flat_map (λ log. log) logs) ≡ log_of logs node }
 {}

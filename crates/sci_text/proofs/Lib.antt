@@ -15,3 +15,6 @@ pub mod LogFaults
 pub mod LogFronts
 pub mod LogLaws
 pub mod LogUnique
+pub mod LogShort
+pub mod LogNoFault
+pub mod LogTold

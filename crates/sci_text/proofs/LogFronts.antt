@@ -173,7 +173,7 @@ entry_shrinks form lines old new latest now bytes rest h = omega (arith, ap leng
 pub front_none : (form : Form) (last : List Stamped) → IsFront (front_of form last no_logs) → IsLatest no_logs 0
 front_none form last h = record { none_above = λ other lt. no_log other; some = λ lt. absurd (omega arith) }
 
-node_below : (form : Form) → IsForm form → form.nodes ≤ MAX_NODES
+pub node_below : (form : Form) → IsForm form → form.nodes ≤ MAX_NODES
 node_below form (inl e) = rw e (omega arith)
 node_below form (inr h) = h.2.few_nodes
 

@@ -21,14 +21,14 @@ use Rattle.sci_text.proofs.LogFaults.{fits_reads, entry_not_last}
 use Rattle.sci_text.proofs.LogFronts.{GoodLast, last_begins, entry_nonempty}
 
 -- two values that fit, where the same was read of them
-both_same : {A : Type 0} (o p : Option A) (P Q : Type 0) (x y : A) → P → Q → SomeIff o P x → SomeIff p Q y → o ≡ p → x ≡ y
+pub both_same : {A : Type 0} (o p : Option A) (P Q : Type 0) (x y : A) → P → Q → SomeIff o P x → SomeIff p Q y → o ≡ p → x ≡ y
 both_same None p P Q x y h k a b e = absurd (a h)
 both_same (Some w) None P Q x y h k a b e = absurd (b k)
 both_same (Some w) (Some z) P Q x y h k a b e = sym a.1 ∙ same_Some w z e ∙ b.1
 
 -- ---- the last contents
 
-same_last : (line : ℕ) (s t : Stamped) (r u : List ℕ) → GoodLast s → GoodLast t → last_line line s ++ r ≡ last_line line t ++ u → (s ≡ t) × (r ≡ u)
+pub same_last : (line : ℕ) (s t : Stamped) (r u : List ℕ) → GoodLast s → GoodLast t → last_line line s ++ r ≡ last_line line t ++ u → (s ≡ t) × (r ≡ u)
 same_last line s t r u good other e =
     let a = last_line_again line s r good.0 in
     let b = last_line_again line t u other.0 in
@@ -49,13 +49,13 @@ same_lasts line (x ∷ xs) (y ∷ ys) r u good other n m e =
 
 -- ---- the entries
 
-abbrev same_log : List Entry → List Entry
+abbrev pub same_log : List Entry → List Entry
 same_log log = log
 
-abbrev GoodEntry : Entry → Type 0
+abbrev pub GoodEntry : Entry → Type 0
 GoodEntry entry = Answers entry.op.act entry.reply × EntryReads entry
 
-all_in : (P : Entry → Type 0) (logs : List (List Entry)) → ((node : ℕ) → All P (log_of logs node)) → AllByRecursion P (flat_map same_log logs)
+pub all_in : (P : Entry → Type 0) (logs : List (List Entry)) → ((node : ℕ) → All P (log_of logs node)) → AllByRecursion P (flat_map same_log logs)
 all_in P [] h = tt
 all_in P (log ∷ logs) h = joined log (flat_map same_log logs) (recursion_from_All P log (h 0)) (all_in P logs (λ node. h (suc node)))
   where
@@ -63,11 +63,11 @@ all_in P (log ∷ logs) h = joined log (flat_map same_log logs) (recursion_from_
     joined [] ys a b = b
     joined (x ∷ xs) ys a b = (a.0, joined xs ys a.1 b)
 
-all_lines : (logs : List (List Entry)) → entry_lines logs ≡ flat_map entry_line (flat_map same_log logs)
+pub all_lines : (logs : List (List Entry)) → entry_lines logs ≡ flat_map entry_line (flat_map same_log logs)
 all_lines [] = refl
 all_lines (log ∷ logs) = ap (λ (t : List ℕ). flat_map entry_line log ++ t) (all_lines logs) ∙ sym (flat_map-append entry_line log (flat_map same_log logs))
 
-same_entries : (xs ys : List Entry) → AllByRecursion GoodEntry xs → AllByRecursion GoodEntry ys → flat_map entry_line xs ≡ flat_map entry_line ys → xs ≡ ys
+pub same_entries : (xs ys : List Entry) → AllByRecursion GoodEntry xs → AllByRecursion GoodEntry ys → flat_map entry_line xs ≡ flat_map entry_line ys → xs ≡ ys
 same_entries [] [] good other e = refl
 same_entries [] (y ∷ ys) good other e = absurd (omega (arith, ap length e, length-append (entry_line y) (flat_map entry_line ys), entry_nonempty y))
 same_entries (x ∷ xs) [] good other e = absurd (omega (arith, ap length e, length-append (entry_line x) (flat_map entry_line xs), entry_nonempty x))
@@ -78,18 +78,18 @@ same_entries (x ∷ xs) (y ∷ ys) good other e =
     let first = both_same a.0 b.0 (EntryReads x) (EntryReads y) x y good.0.1 other.0.1 a.2 b.2 (ap (λ (t : EntrySaid). t.1) parts.0) in
     ap (λ (s : Entry). s ∷ xs) first ∙ ap (λ (l : List Entry). y ∷ l) (same_entries xs ys good.1 other.1 parts.1)
 
-no_last_first : (es : List Entry) → BeginsLast (flat_map entry_line es) → ⊥
+pub no_last_first : (es : List Entry) → BeginsLast (flat_map entry_line es) → ⊥
 no_last_first [] begins = absurd (omega (arith, ap length begins.1, length-append (codes "last") begins.0))
 no_last_first (e ∷ es) begins = entry_not_last e (flat_map entry_line es) begins
 
-entries_after : (logs : List (List Entry)) → BeginsLast (entry_lines logs) → ⊥
+pub entries_after : (logs : List (List Entry)) → BeginsLast (entry_lines logs) → ⊥
 entries_after logs begins = no_last_first (flat_map same_log logs) (subst BeginsLast (all_lines logs) begins)
 
-weaker : (P Q : Entry → Type 0) → ((e : Entry) → P e → Q e) → (es : List Entry) → AllByRecursion P es → AllByRecursion Q es
+pub weaker : (P Q : Entry → Type 0) → ((e : Entry) → P e → Q e) → (es : List Entry) → AllByRecursion P es → AllByRecursion Q es
 weaker P Q f [] h = tt
 weaker P Q f (e ∷ es) h = (f e h.0, weaker P Q f es h.1)
 
-good_entries : (form : Form) (logs : List (List Entry)) (last : List Stamped) → IsFront (front_of form last logs) → AllByRecursion GoodEntry (flat_map same_log logs)
+pub good_entries : (form : Form) (logs : List (List Entry)) (last : List Stamped) → IsFront (front_of form last logs) → AllByRecursion GoodEntry (flat_map same_log logs)
 good_entries form logs last h =
     weaker (EntryFits form (length last)) GoodEntry (λ e fits. (fits.answers, fits_reads (front_of form last logs) e h.form h.few_lines fits)) (flat_map same_log logs) (all_in (EntryFits form (length last)) logs h.entries)
 
@@ -105,25 +105,25 @@ same_rest one f g a b x y good other e =
 
 -- ---- the first line
 
-begins_last : (x : List Stamped) (r : List ℕ) → 1 ≤ length x → BeginsLast (last_lines 0 x ++ r)
+pub begins_last : (x : List Stamped) (r : List ℕ) → 1 ≤ length x → BeginsLast (last_lines 0 x ++ r)
 begins_last [] r some = absurd (omega arith)
 begins_last (s ∷ x) r some = subst BeginsLast (sym (append_assoc (last_line 0 s) (last_lines 1 x) r)) (last_begins 0 s (last_lines 1 x ++ r))
 
-apart : (n m : ℕ) → n ≡ m → m < n → ⊥
+pub apart : (n m : ℕ) → n ≡ m → m < n → ⊥
 apart n m e lt = absurd (omega arith)
 
-log_not_last : (n m : ℕ) (r : List ℕ) → BeginsLast (log_line n m ++ r) → ⊥
+pub log_not_last : (n m : ℕ) (r : List ℕ) → BeginsLast (log_line n m ++ r) → ⊥
 unfolding log_line
 log_not_last n m r begins = apart 111 97 (ap (λ (l : List ℕ). get_or l 1 0) begins.1) (omega arith)
 
-same_size : (n m k l : ℕ) (r u : List ℕ) → IsSize n m → IsSize k l → log_line n m ++ r ≡ log_line k l ++ u → (n ≡ k) × (r ≡ u)
+pub same_size : (n m k l : ℕ) (r u : List ℕ) → IsSize n m → IsSize k l → log_line n m ++ r ≡ log_line k l ++ u → (n ≡ k) × (r ≡ u)
 same_size n m k l r u size other e =
     let parts = some_pair_parts {A = SizeSaid} (fitting n, fitting m) (fitting k, fitting l) r u (sym (log_line_again n m r) ∙ (ap log_line_read e ∙ log_line_again k l u)) in
     let low : n < 2 ^ 64 = omega (arith, size.few_nodes) in
     let high : k < 2 ^ 64 = omega (arith, other.few_nodes) in
     (same_Some n k (sym (fitting_below n low) ∙ (ap (λ (t : SizeSaid). t.0) parts.0 ∙ fitting_below k high)), parts.1)
 
-abbrev text_of : Form → List Stamped → List (List Entry) → List ℕ
+abbrev pub text_of : Form → List Stamped → List (List Entry) → List ℕ
 text_of form last logs = front_text (front_of form last logs)
 
 same_front : OnePartition → (f g : Form) (a b : List (List Entry)) (x y : List Stamped) → IsFront (front_of f x a) → IsFront (front_of g y b) → HasAllLines f.lines (length x) → HasAllLines g.lines (length y) → IsForm f → IsForm g
