@@ -3,7 +3,7 @@ use Rattle.std.proofs.Common.{◌≡◌, ℕ, zero, suc, ◌<◌, ◌≤◌, tru
 use Rattle.std.specs.Prelude.{AllPairs}
 use Rattle.std.specs.List.{filter, flat_map, AllByRecursion}
 use Rattle.std.proofs.lemmas.Bool.{cases_lt, cases_eq, eq-eqb, ne_eqb}
-use Rattle.std.proofs.lemmas.List.{append-nil, take_all}
+use Rattle.std.proofs.lemmas.List.{append-nil, take_all, ext_get_or}
 use Rattle.std.proofs.lemmas.List.Concat.{flat_map-append}
 use Rattle.std.proofs.lemmas.List.Elements.{filter-append, recursion_from_All}
 use Rattle.std.proofs.Math.Seq.{take-suc}
@@ -134,3 +134,16 @@ fault_or_none entries last VersionMissing named h k = named_none (first_missing 
 fault_or_none entries last WrongReply named h k = named_none (first_wrong entries) named h.2 k.wrong
 fault_or_none entries last OutOfOrder named h k = named_none (first_disordered entries) named h.3 k.disordered
 fault_or_none entries last LastDiffers named h k = h.5 (k.words, k.version)
+
+-- ---- logs, from all their entries
+
+pub own_entries : (logs : List (List Entry)) (node : ℕ) → AreOwn logs → length logs ≡ MAX_NODES → node < MAX_NODES → filter (is_of_node node) (flat_map same_log logs) ≡ log_of logs node
+own_entries logs node own sixteen lt =
+    let whole : take MAX_NODES logs ≡ logs = take_all MAX_NODES logs (omega arith) in
+    ap (λ (ls : List (List Entry)). filter (is_of_node node) (flat_map same_log ls)) (sym whole) ∙ whole_of logs node MAX_NODES own (omega arith) lt
+
+pub same_logs : (a b : List (List Entry)) → AreOwn a → AreOwn b → length a ≡ MAX_NODES → length b ≡ MAX_NODES → flat_map same_log a ≡ flat_map same_log b → a ≡ b
+same_logs a b own other long sixteen e =
+    ext_get_or [] a b (long ∙ sym sixteen) (λ node lt.
+    let low : node < MAX_NODES = omega arith in
+    sym (own_entries a node own long low) ∙ ap (filter (is_of_node node)) e ∙ own_entries b node other sixteen low)

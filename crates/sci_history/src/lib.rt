@@ -16,8 +16,8 @@ pub use auditing::audit;
 pub use entry::Entry;
 pub use last::Last;
 pub use laws::{
-    history_is_lawful, lawful_is_faultless, no_stale_read, one_lawful_end, oracle_is_lawful,
-    runs_are_functions, runs_compose,
+    history_is_lawful, lawful_is_faultless, no_stale_read, one_lawful_end, one_partition,
+    oracle_is_lawful, runs_are_functions, runs_compose,
 };
 pub use logs::{Logs, PushFault};
 pub use memory::Memory;

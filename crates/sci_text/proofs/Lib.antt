@@ -14,3 +14,7 @@ pub mod LogReads
 pub mod LogFaults
 pub mod LogFronts
 pub mod LogLaws
+pub mod LogUnique
+pub mod LogShort
+pub mod LogNoFault
+pub mod LogTold

@@ -213,7 +213,7 @@ form_small : (form : Form) → IsForm form → (form.nodes ≤ 16) × (form.seri
 form_small form (inl e) = (rw e (omega arith), rw e (omega arith))
 form_small form (inr h) = let few = h.2.few_nodes in (omega arith, rw h.1 (omega arith))
 
-fits_reads : (front : Front) (entry : Entry) → IsForm front.form → length front.last ≤ MAX_LINES → EntryFits front.form (length front.last) entry → EntryReads entry
+pub fits_reads : (front : Front) (entry : Entry) → IsForm front.form → length front.last ≤ MAX_LINES → EntryFits front.form (length front.last) entry → EntryReads entry
 fits_reads front entry good few h =
     let small = form_small front.form good in
     let nodes = small.0 in
@@ -278,3 +278,9 @@ gives_front word bytes r h e = found_by word bytes (after word bytes) refl (give
 
 pub gives_no_front : (word bytes : List ℕ) (r : Option (Bor (List ℕ))) → Gives (λ x. x.now) r (after word bytes) → is_some r ≡ false → (rest : List ℕ) × (bytes ≡ word ++ rest) → ⊥
 gives_no_front word bytes r h e begins = none-some begins.0 (sym (gives_none r (after word bytes) h e) ∙ ap (after word) begins.1 ∙ after_again word begins.0)
+
+-- bytes that begin with an entry don't begin with `last`
+pub entry_not_last : (entry : Entry) (rest : List ℕ) → BeginsLast (entry_line entry ++ rest) → ⊥
+entry_not_last entry rest begins =
+    let first = entry_begins entry rest in
+    none-some (fitting entry.node, first.0) (sym (last_is_no_number begins.0) ∙ ap number_read (sym begins.1 ∙ first.1) ∙ number_again entry.node first.0 first.2)

@@ -42,7 +42,7 @@ last_goes_on form all old new bytes rest so_far h =
     so_far ∙ ap (λ (t : List ℕ). last_lines 0 old ++ t) h.parts ∙ sym (append_assoc (last_lines 0 old) (last_line (length old) h.stamped) rest)
     ∙ ap (λ (t : List ℕ). t ++ rest) (ap (λ (n : ℕ). last_lines 0 old ++ last_line n h.stamped) (sym same) ∙ sym (last_lines-push 0 old h.stamped) ∙ ap (last_lines 0) (sym h.added))
 
-abbrev GoodLast : Stamped → Type 0
+abbrev pub GoodLast : Stamped → Type 0
 GoodLast stamped = (length stamped.line ≡ WORDS_PER_LINE) × StampedFits stamped
 
 -- a form with no entries
@@ -115,7 +115,7 @@ last_refused form last bytes rest kind line fault good h parts begins at faulty 
     let whole : input ≡ front_text front ++ rest = is ∙ ap (λ (t : List ℕ). first_line form ++ t) parts ∙ simp (append_assoc, append-nil) in
     refusal_at kind input fault line front rest at (front_of_last form last good h) whole first (inl some) (omega (arith, place)) faulty
 
-last_begins : (line : ℕ) (stamped : Stamped) (rest : List ℕ) → BeginsLast (last_line line stamped ++ rest)
+pub last_begins : (line : ℕ) (stamped : Stamped) (rest : List ℕ) → BeginsLast (last_line line stamped ++ rest)
 unfolding last_line
 last_begins line stamped rest = (_, append_assoc (codes "last") _ rest)
 
@@ -163,7 +163,7 @@ entry_count-push (log ∷ logs) (suc node) entry lt =
 some_between : (a b c : List ℕ) (x : ℕ) → 1 ≤ length ((a ++ x ∷ b) ++ c)
 some_between a b c x = omega (arith, length-append (a ++ x ∷ b) c, length-append a (x ∷ b))
 
-entry_nonempty : (entry : Entry) → 1 ≤ length (entry_line entry)
+pub entry_nonempty : (entry : Entry) → 1 ≤ length (entry_line entry)
 unfolding entry_line issue_text field
 entry_nonempty entry = some_between (number entry.node) _ _ 32
 
@@ -173,7 +173,7 @@ entry_shrinks form lines old new latest now bytes rest h = omega (arith, ap leng
 pub front_none : (form : Form) (last : List Stamped) → IsFront (front_of form last no_logs) → IsLatest no_logs 0
 front_none form last h = record { none_above = λ other lt. no_log other; some = λ lt. absurd (omega arith) }
 
-node_below : (form : Form) → IsForm form → form.nodes ≤ MAX_NODES
+pub node_below : (form : Form) → IsForm form → form.nodes ≤ MAX_NODES
 node_below form (inl e) = rw e (omega arith)
 node_below form (inr h) = h.2.few_nodes
 

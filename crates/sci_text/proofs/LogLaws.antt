@@ -1,14 +1,13 @@
 -- Laws of the texts of logs.
-use Rattle.std.proofs.Common.{◌≡◌, ℕ, ◌<◌, ◌≤◌, List, length, Option, Some, None, refl, sym, ap, subst, ◌∙◌, arith, inl, inr, ◌⊎◌}
-use Rattle.std.specs.Prelude.{All}
+use Rattle.std.proofs.Common.{◌≡◌, ℕ, ◌≤◌, List, length, refl, sym, ap, arith, inl, inr}
 use Rattle.std.proofs.lemmas.List.Elements.{All-weaker}
-use Rattle.sci_words.specs.declared.limits.TheConstants.{MAX_NODES, MAX_LINES, MAX_OPERATIONS}
+use Rattle.sci_words.specs.declared.limits.TheConstants.{MAX_LINES, MAX_OPERATIONS}
 use Rattle.sci_words.specs.declared.stamped.Stamped.{Stamped}
 use Rattle.sci_history.specs.declared.entry.Entry.{Entry}
 use Rattle.sci_history.specs.Placed.{log_of}
 use Rattle.sci_text.specs.declared.form.Form.{Form}
 use Rattle.sci_text.specs.Log.{log_text}
-use Rattle.sci_text.specs.LogValue.{format_1, format_2, IsSize, IsForm, EntryFits, front_of, IsFront, HasAllLines, AreLogsOf, AreLogs, IsLogs}
+use Rattle.sci_text.specs.LogValue.{format_2, IsSize, IsForm, EntryFits, HasAllLines, AreLogsOf, AreLogs, IsLogs}
 
 -- what a form says of its limits
 record IsLimited (form : Form) (count : ℕ) : Type 0 where

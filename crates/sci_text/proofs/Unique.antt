@@ -131,12 +131,12 @@ one_script a b good other e =
 
 -- ---- lines of scripts are short
 
-number_short : (n : ℕ) → n < 2 ^ 64 → length (number n) ≤ 20
+pub number_short : (n : ℕ) → n < 2 ^ 64 → length (number n) ≤ 20
 unfolding number
 number_short zero h = omega arith
 number_short (suc n) h = omega (arith, length-map (digits_of 10 (suc n)) (λ digit. 48 + digit), length-digits_of-le 10 20 (suc n) (omega arith) (omega arith))
 
-field_short : (n : ℕ) → n < 2 ^ 64 → length (field n) ≤ 21
+pub field_short : (n : ℕ) → n < 2 ^ 64 → length (field n) ≤ 21
 unfolding field
 field_short n h = omega (arith, number_short n h)
 
@@ -175,7 +175,7 @@ operands_short (Lock (FetchAdd datum)) fits = omega (arith, field_short datum fi
 operands_short (Lock (BoundedAdd arg datum)) fits = two_short arg datum fits
 operands_short (Lock (WrapAdd arg datum)) fits = two_short arg datum fits
 
-operation_short : (op : Op) → OpFits op → length (operation op) ≤ 96
+pub operation_short : (op : Op) → OpFits op → length (operation op) ≤ 96
 unfolding operation
 operation_short op fits =
     omega (

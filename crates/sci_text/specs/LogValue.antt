@@ -1,5 +1,5 @@
 -- Logs that are read from a text, in both formats, and the lines that say them.
-use Rattle.std.specs.Prelude.{◌≡◌, ℕ, ◌+◌, ◌<◌, ◌≤◌, ◌^◌, ◌⊎◌, List, [], ◌∷◌, ◌++◌, length, codes, All, Option, Some, None, IfSome, Bool, true, false, replicate, slice_set}
+use Rattle.std.specs.Prelude.{◌≡◌, ℕ, ◌+◌, ◌<◌, ◌≤◌, ◌^◌, ◌⊎◌, List, [], ◌∷◌, ◌++◌, length, codes, All, Option, Some, None, IfSome, Bool, true, false, Result, Ok, Err, replicate, slice_set}
 use Rattle.std.specs.List.{flat_map}
 use Rattle.sci_words.specs.declared.limits.TheConstants.{MAX_NODES, MAX_LINES, MAX_OPERATIONS, MAX_INPUT_BYTES, WORDS_PER_LINE, FORMAT_1_NODES, FORMAT_1_SERIALS, FORMAT_1_ENTRIES}
 use Rattle.sci_words.specs.declared.operation.Act.{Act}
@@ -236,6 +236,11 @@ IsLogTold Range known failed line = (failed ≡ false) × IfSome known (λ input
 IsLogTold TooMany known failed line =
     (failed ≡ false) × IfSome known (λ input. ((MAX_INPUT_BYTES < length input) × (line ≡ 0)) ⊎ IsFaultyLogLine input line TooMany)
 IsLogTold Write known failed line = ⊥
+
+-- the logs are read, unless the reader failed or memory was refused
+abbrev pub IsLogsReadAs : ℕ → List (List Entry) → List Stamped → Result (ℕ × List (List Entry) × List Stamped) TextFault → Type 0
+IsLogsReadAs nodes logs last (Ok read) = (read.0 ≡ nodes) × (read.1 ≡ logs) × (read.2 ≡ last)
+IsLogsReadAs nodes logs last (Err fault) = (fault.kind ≡ Read) ⊎ (fault.kind ≡ Memory)
 
 -- ---- what the readers of lines do
 

@@ -1,14 +1,17 @@
 //! Reading a text to its end, and judging it then.
 
-ghost use Rattle.std.specs.Prelude.{◌≡◌, ◌≤◌, false, length, IfOk, OnOk, IfErr, IfSome, Some};
+ghost use Rattle.sci_words.specs.declared.stamped.Stamped.{Stamped};
+ghost use Rattle.sci_history.specs.declared.entry.Entry.{Entry};
+ghost use Rattle.std.specs.Prelude.{ℕ, List, ◌≡◌, ◌≤◌, false, length, IfOk, OnOk, IfErr, IfSome, Some};
 ghost use Rattle.std.specs.Io.KnownBytes.{IsAtEnd};
 ghost use Rattle.sci_words.specs.declared.limits.TheConstants.{MAX_INPUT_BYTES};
 ghost use Rattle.sci_text.specs.Tap.{tapped, has_failed};
 ghost use Rattle.sci_text.specs.Script.{ScriptValue, IsScript, script_text};
-ghost use Rattle.sci_text.specs.LogValue.{AreLogs, IsLogs, IsLogTold};
+ghost use Rattle.sci_text.specs.LogValue.{AreLogs, IsLogs, IsLogsReadAs, IsLogTold};
 ghost use Rattle.sci_text.specs.Fault.{IsInputFault, IsTold, IsReadAs};
 
 use crate::fault::{TextFault, TextFaultKind};
+use crate::laws::{no_log_fault, one_log};
 use crate::script::Script;
 use crate::tap::Tap;
 use crate::{lines, log};
@@ -85,9 +88,15 @@ pub fn read_logs<R: Read>(alloc: Global, reader: &mut Tap<R>) -> Result<(u8, Log
     ensures end { OnOk result (IsAtEnd (R.remaining (tapped reader.new))) }
     ensures unfailed { OnOk result (has_failed reader.new ≡ false) }
 
+    // Where it is a text of logs, those are read.
+    ensures only { (input : List ℕ) (nodes : ℕ) (logs : List (List Entry)) (last : List Stamped) → IsLogs input nodes logs last
+        → length input ≤ MAX_INPUT_BYTES → R.remaining (tapped reader.old) ≡ Some input → IsLogsReadAs nodes logs last result }
+
     // Else the first fault is told.
     ensures fault { IfErr result (λ fault. IsLogTold fault.kind (R.remaining (tapped reader.old)) (has_failed reader.new) fault.line) }
 {
+    one_log();
+    no_log_fault();
     let bytes = read_input(alloc, reader)?;
     log::logs(alloc, &bytes)
 }
