@@ -13,3 +13,10 @@ pub mod Stops
 pub mod Logs
 pub mod Seeking
 pub mod LastContents
+pub mod FlatMaps
+pub mod Packets
+pub mod Waits
+pub mod WaitingNodes
+pub mod TidySteps
+pub mod TidyRuns
+pub mod Transactions

@@ -1,5 +1,5 @@
 -- Each side of an event leaves a node's part well formed, and makes packets that are.
-use Rattle.std.proofs.Common.{◌≡◌, ℕ, ◌<◌, ◌%◌, ◌&&◌, not, nat_lt, Bool, true, false, if◌then◌else◌, set, Option, Some, None, Result, Ok, Err, refl, sym, subst, ◌∙◌, mod-lt, arith}
+use Rattle.std.proofs.Common.{◌≡◌, ℕ, ◌+◌, ◌<◌, ◌%◌, ◌&&◌, not, nat_lt, Bool, true, false, if◌then◌else◌, set, Option, Some, None, Result, Ok, Err, refl, sym, subst, ◌∙◌, mod-lt, arith}
 use Rattle.std.specs.Prelude.{◌==◌, IfSome, is_some}
 use Rattle.std.proofs.lemmas.Bool.{cases_Bool, ltb-true}
 use Rattle.std.proofs.Common.{inl, inr}
@@ -7,6 +7,7 @@ use Rattle.std.proofs.lemmas.List.{length-set}
 use Rattle.sci_words.specs.declared.event.AskKind.{AskKind}
 use Rattle.sci_words.specs.declared.operation.Op.{Op}
 use Rattle.sci_words.specs.declared.operation.Reply.{Reply}
+use Rattle.sci_words.specs.declared.limits.TheConstants.{CONTROLS}
 use Rattle.sci_packets.specs.declared.body.Body.{Body}
 use Rattle.sci_packets.specs.declared.body.Body.TheVariants.{Busy}
 use Rattle.sci_packets.specs.Table.{is_request}
@@ -33,9 +34,10 @@ use Rattle.sci_core.proofs.Identifiers.{AsksWell, asking_names, ServesWell, serv
 
 -- ---- parts in which one thing is another
 
-pub part_with_line : (nodes lines slots limit n : ℕ) (part : NodeOf) (line : ℕ) (state : LineState) → NamesNodes nodes state.state → IsPart nodes lines slots limit n part
+pub part_with_line : (nodes lines slots limit n : ℕ) (part : NodeOf) (line : ℕ) (state : LineState) → NamesNodes nodes state.state → state.asks < CONTROLS → IsPart nodes lines slots limit n part
     → IsPart nodes lines slots limit n (record part { cache = with_line part.cache line state })
-part_with_line nodes lines slots limit n part line state names is = record {
+part_with_line nodes lines slots limit n part line state names small is = record {
+  asks = at_set (λ (l : LineState). l.asks < CONTROLS) part.cache.lines line state untouched is.asks small;
   me = is.me;
   all = is.all;
   room = is.room;
@@ -59,6 +61,7 @@ part_with_home nodes lines slots limit n part place home names is = record {
   states = is.states;
   answer = is.answer;
   own = is.own;
+  asks = is.asks;
   fits = node_with_homes part (set part.homes place home) (length-set part.homes place home) is.fits;
   homes = at_set (HomeNamesNodes nodes) part.homes place home opening_home is.homes names;
 }
@@ -74,6 +77,7 @@ part_with_waiting nodes lines slots limit n part waiting answer is = record {
   states = is.states;
   homes = is.homes;
   own = is.own;
+  asks = is.asks;
   fits = node_with_waiting part waiting is.fits;
   answer = answer;
 }
@@ -98,6 +102,7 @@ issued_part nodes lines slots limit n part op may is = record {
   homes = is.homes;
   answer = is.answer;
   own = is.own;
+  asks = is.asks;
   fits = node_with_issue part op may is.fits;
 }
 
@@ -110,10 +115,10 @@ part_issuing nodes lines slots limit n part op is = issuing_if nodes lines slots
 
 -- ---- Perform
 
-logged_part : (nodes lines slots limit n : ℕ) (part : NodeOf) (line : ℕ) (pending : Pending) (place : ℕ) (state : LineState) (entry : Entry) → pending_on part line ≡ Some pending → NamesNodes nodes state.state → entry.node ≡ n → IsPart nodes lines slots limit n part
+logged_part : (nodes lines slots limit n : ℕ) (part : NodeOf) (line : ℕ) (pending : Pending) (place : ℕ) (state : LineState) (entry : Entry) → pending_on part line ≡ Some pending → NamesNodes nodes state.state → state.asks < CONTROLS → entry.node ≡ n → IsPart nodes lines slots limit n part
     → IsPart nodes lines slots limit n (node_logged part line (with_line part.cache place state) entry)
-logged_part nodes lines slots limit n part line pending place state entry at names mine is =
-    let changed = part_with_line nodes lines slots limit n part place state names is in
+logged_part nodes lines slots limit n part line pending place state entry at names small mine is =
+    let changed = part_with_line nodes lines slots limit n part place state names small is in
     record {
       me = is.me;
       all = is.all;
@@ -123,6 +128,7 @@ logged_part nodes lines slots limit n part line pending place state entry at nam
       states = changed.states;
       homes = is.homes;
       answer = is.answer;
+      asks = changed.asks;
       fits = node_with_entry part line pending (with_line part.cache place state) entry (same_line part.cache place state) at is.fits;
       own = All-push (λ (e : Entry). e.node ≡ n) part.log entry is.own mine;
     }
@@ -132,7 +138,7 @@ performed_part : (nodes lines slots limit n : ℕ) (part : NodeOf) (line : ℕ) 
     (λ (x : NodeOf × Entry). IsPart nodes lines slots limit n x.0)
 performed_part nodes lines slots limit n part line pending None at is names = tt
 performed_part nodes lines slots limit n part line pending (Some d) at is names =
-    logged_part nodes lines slots limit n part line pending pending.op.line (line_in (line_of part.cache pending.op.line) d.next) (entry_of part pending d.reply d.version) at names is.me is
+    logged_part nodes lines slots limit n part line pending pending.op.line (line_in (line_of part.cache pending.op.line) d.next) (entry_of part pending d.reply d.version) at names (is.asks pending.op.line) is.me is
 
 pending_part : (nodes lines slots limit n : ℕ) (part : NodeOf) (line : ℕ) (pending : Option Pending) → pending_on part line ≡ pending → IsPart nodes lines slots limit n part
     → IfSome (performing_pending part line pending) (λ (x : NodeOf × Entry). IsPart nodes lines slots limit n x.0)
@@ -163,7 +169,7 @@ home_target nodes line cache (Some q) all e = cc
 asked_part : (nodes lines slots limit n : ℕ) (part : NodeOf) (line : ℕ) (asked : Asked) → 0 < nodes → n < nodes → line < lines → AsksWell nodes asked → IsPart nodes lines slots limit n part
     → SendsWell nodes lines slots limit n (record part { cache = with_line part.cache line (line_asked (line_of part.cache line) asked) }, letter_asking part.cache line asked)
 asked_part nodes lines slots limit n part line asked some lt below asks is = record {
-  next = part_with_line nodes lines slots limit n part line (line_asked (line_of part.cache line) asked) asks.next is;
+  next = part_with_line nodes lines slots limit n part line (line_asked (line_of part.cache line) asked) asks.next (mod-lt ((line_of part.cache line).asks + 1) (omega arith)) is;
   request = record {
     letter_ok = record {
       target = target_below nodes line part.cache asked.to some is.all asks.to;
@@ -220,7 +226,7 @@ cache_served_part : (nodes lines slots limit n : ℕ) (part : NodeOf) (request :
     → IfSome (served_in_cache part (elim served as (λ _. Option (CacheOf × Body)) [ None ↦ None | Some s ↦ Some (with_line part.cache request.line (line_in (line_of part.cache request.line) s.0), s.1) ])) (ServedWell nodes lines slots limit n request)
 cache_served_part nodes lines slots limit n part request None asks to well is = tt
 cache_served_part nodes lines slots limit n part request (Some served) asks to well is = record {
-  next = part_with_line nodes lines slots limit n part request.line (line_in (line_of part.cache request.line) served.0) well.next is;
+  next = part_with_line nodes lines slots limit n part request.line (line_in (line_of part.cache request.line) served.0) well.next (is.asks request.line) is;
   answer = answer_letter nodes lines n request served.1 asks to well.names well.answers;
 }
 
@@ -274,7 +280,7 @@ accepted_part : (nodes lines slots limit n : ℕ) (part : NodeOf) (line : ℕ) (
     → IfSome (accepted_by part (elim (if awaited then state else None) as (λ _. Option CacheOf) [ None ↦ None | Some s ↦ Some (with_line part.cache line (line_in (line_of part.cache line) s)) ])) (IsPart nodes lines slots limit n)
 accepted_part nodes lines slots limit n part line false state names is = tt
 accepted_part nodes lines slots limit n part line true None names is = tt
-accepted_part nodes lines slots limit n part line true (Some s) names is = part_with_line nodes lines slots limit n part line (line_in (line_of part.cache line) s) names is
+accepted_part nodes lines slots limit n part line true (Some s) names is = part_with_line nodes lines slots limit n part line (line_in (line_of part.cache line) s) names (is.asks line) is
 
 pub part_accepting : (nodes lines slots limit n : ℕ) (part : NodeOf) (answer : Letter) → IsAnswerLetter nodes lines answer → IsPart nodes lines slots limit n part
     → IfSome (node_accepting part answer) (IsPart nodes lines slots limit n)

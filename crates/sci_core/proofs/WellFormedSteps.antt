@@ -19,7 +19,7 @@ use Rattle.sci_core.specs.Node.{NodeOf, opening_node, node_issuing, node_perform
 use Rattle.sci_core.specs.Core.{Core, node_at, with_node, lane_place, lane_of, with_lane, Side, Idle, Changes, Sends, Takes, changes, performs, sends, side, node_of, sent_by, taken_as, taken_from, step_by, stepping, step, opening, run_from, run}
 use Rattle.sci_core.specs.Reached.{IsReached, AreSizes}
 use Rattle.sci_core.specs.WellFormed.{NamesNodes, HomeNamesNodes, IsRequestLetter, IsAnswerLetter, IsInLane, IsPart, IsWellFormed}
-use Rattle.sci_words.specs.declared.limits.TheConstants.{MAX_OPERATIONS}
+use Rattle.sci_words.specs.declared.limits.TheConstants.{CONTROLS, MAX_OPERATIONS}
 use Rattle.sci_core.proofs.Nodes.{opening_is_node}
 use Rattle.sci_core.proofs.Lists.{at_place_set}
 use Rattle.sci_core.proofs.Places.{place_to, place_from, place_requests, place_answers}
@@ -201,6 +201,10 @@ opening_part me nodes lines slots limit some few = record {
   states = λ line. elim (cases_lt line lines) [
     | inl below ↦ subst (λ (l : LineState). NamesNodes nodes l.state) (sym (get_or-replicate lines line untouched untouched below)) tt
     | inr past ↦ subst (λ (l : LineState). NamesNodes nodes l.state) (sym (get_or_past (replicate lines untouched) line untouched (rw length-replicate past))) tt
+  ];
+  asks = λ line. elim (cases_lt line lines) [
+    | inl below ↦ subst (λ (l : LineState). l.asks < CONTROLS) (sym (get_or-replicate lines line untouched untouched below)) (omega arith)
+    | inr past ↦ subst (λ (l : LineState). l.asks < CONTROLS) (sym (get_or_past (replicate lines untouched) line untouched (rw length-replicate past))) (omega arith)
   ];
   homes = λ place. elim (cases_lt place (lines / nodes + 1)) [
     | inl below ↦ subst (HomeNamesNodes nodes) (sym (get_or-replicate (lines / nodes + 1) place opening_home opening_home below)) tt

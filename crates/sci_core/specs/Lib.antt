@@ -8,3 +8,5 @@ pub mod Sizes
 pub mod Stopped
 pub mod Outcome
 pub mod Sharing
+pub mod Tidy
+pub mod Alternates

@@ -1,6 +1,7 @@
 -- Plain facts of a machine's state: sizes, senders and receivers, and numbers in range.
 use Rattle.std.specs.Prelude.{◌≡◌, ℕ, ◌*◌, ◌/◌, ◌%◌, ◌<◌, ◌≤◌, false, length, slice_index_or, Option, IfSome}
 use Rattle.std.specs.List.{All}
+use Rattle.sci_words.specs.declared.limits.TheConstants.{CONTROLS}
 use Rattle.sci_packets.specs.declared.body.Body.{Body}
 use Rattle.sci_packets.specs.declared.body.Body.TheVariants.{Roll, Setback, Mgone, Purged, Fdata}
 use Rattle.sci_packets.specs.Table.{is_request, IsRequest}
@@ -78,6 +79,7 @@ pub record IsPart (nodes lines slots limit n : ℕ) (part : NodeOf) : Type 0 whe
   pub states : (line : ℕ) → NamesNodes nodes (line_of part.cache line).state
   pub homes : (place : ℕ) → HomeNamesNodes nodes (slice_index_or part.homes place opening_home)
   pub answer : IfSome part.waiting (λ letter. IsAnswerLetter nodes lines letter × (letter.source ≡ n))
+  pub asks : (line : ℕ) → (line_of part.cache line).asks < CONTROLS
   pub fits : IsNode part
   pub own : All (λ entry. entry.node ≡ n) part.log
 

@@ -6,6 +6,7 @@ mod apply;
 mod fault;
 mod lane;
 mod last;
+mod laws;
 mod machine;
 mod node;
 mod outcome;
@@ -14,6 +15,13 @@ mod state;
 
 pub use fault::ApplyFault;
 pub use lane::LaneKind;
+pub use laws::{
+    reached_states_are_tidy, reached_states_are_well_formed, schedules_reach,
+    transactions_alternate,
+};
 pub use machine::Machine;
 pub use node::Node;
 pub use pending::Pending;
+
+#[cfg(test)]
+mod tests;

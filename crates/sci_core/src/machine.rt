@@ -37,6 +37,7 @@ impl Machine {
     ghost use Rattle.sci_core.specs.Fault.{IsFaultOf};
     ghost use Rattle.sci_core.specs.Reached.{IsReached};
     ghost use Rattle.sci_core.specs.Stopped.{IsStoppedAt};
+    ghost use Rattle.sci_core.specs.Tidy.{IsTidy};
     ghost use Rattle.sci_core.specs.Outcome.{logs_of};
     ghost use Rattle.sci_core.specs.Sharing.{last_of};
 
@@ -48,6 +49,7 @@ impl Machine {
         requires few { limit ≤ MAX_OPERATIONS }
         ensures opening { IfOk result (λ machine. machine ≡ opening extent.nodes extent.lines extent.slots limit) }
         ensures reached { IfOk result IsReached }
+        ensures tidy { IfOk result IsTidy }
     {
         Ok(Machine {
             state: State::new(alloc, extent, limit)?,
@@ -61,6 +63,7 @@ impl Machine {
         ensures refused { IfErr result (IsFaultOf (stepping self.old event.now) event.now) }
         ensures same { IsErr result → self.new ≡ self.old }
         ensures reached { IsReached self.new }
+        ensures tidy { IsTidy self.new }
     {
         self.state.apply(event)
     }
@@ -71,6 +74,7 @@ impl Machine {
         ensures ok { OnOk result (self.new ≡ run_from self.old events.now) }
         ensures err { IsErr result → IsStoppedAt self.old self.new events.now }
         ensures reached { IsReached self.new }
+        ensures tidy { IsTidy self.new }
     {
         for event in events {
             match self.apply(event) {

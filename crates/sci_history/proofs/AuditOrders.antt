@@ -1,15 +1,15 @@
 -- What an audit's fourth kind says: each node's entries stand in order.
-use Rattle.std.proofs.Common.{◌≡◌, ℕ, zero, suc, ◌+◌, ◌<◌, ◌≤◌, Bool, true, false, cond, eqb, ltb, leb, ◌&&◌, ◌||◌, not, List, [], ◌∷◌, ◌++◌, length, get_or, Option, Some, None, refl, sym, ap, ◌∙◌, subst, append_assoc, arith, inl, inr}
-use Rattle.std.specs.Prelude.{IsTrue, AllPairs, IfSome}
+use Rattle.std.proofs.Common.{◌≡◌, ℕ, zero, suc, ◌+◌, ◌<◌, ◌≤◌, true, false, ltb, ◌&&◌, not, List, [], ◌∷◌, ◌++◌, length, get_or, Option, Some, None, refl, sym, ap, ◌∙◌, subst, append_assoc, arith, inl, inr}
+use Rattle.std.specs.Prelude.{AllPairs, IfSome}
 use Rattle.std.specs.List.{filter, AllByRecursion}
-use Rattle.std.proofs.lemmas.Bool.{cases_Bool, cases_eq, cases_lt, cases_order, eqb-true, eq-eqb, ne_eqb, ltb-true, ltb-false, lt-ltb, le-ltb, leb-true, le-leb, lt-leb, and_parts, and_from, not-true, not-false, both_ways}
+use Rattle.std.proofs.lemmas.Bool.{cases_Bool, cases_eq, cases_order, eq-eqb, ne_eqb, ltb-true, lt-ltb, le-ltb, le-leb, and_parts, and_from, not-false, both_ways}
 use Rattle.std.proofs.lemmas.List.{append-nil}
 use Rattle.std.proofs.lemmas.List.Elements.{filter-append, All-from_recursion}
 use Rattle.sci_history.specs.declared.entry.Entry.{Entry}
-use Rattle.sci_history.specs.Placed.{is_of_node, is_making, makes, reads, by_node_and_serial, by_version}
+use Rattle.sci_history.specs.Placed.{is_of_node, is_making}
 use Rattle.sci_history.specs.Audit.{last_of, is_placed_before, breaks_order, is_out_of_order, first_disordered}
-use Rattle.sci_history.proofs.Order.{IsInOrder, filter_yes, filter_no, all_weaker, all-append, all-passes}
-use Rattle.sci_history.proofs.Placement.{place, pairs-head, pairs-tail, all-by_node_and_serial}
+use Rattle.sci_history.proofs.Order.{IsInOrder, filter_yes, filter_no, all_weaker}
+use Rattle.sci_history.proofs.Placement.{place, pairs-head, pairs-tail}
 use Rattle.sci_history.proofs.AuditVersions.{NoneFail, none_fail, from_none_fail}
 
 -- ---- two entries
@@ -94,7 +94,7 @@ abbrev Linked : Option Entry → List Entry → Type 0
 Linked previous [] = Unit {0}
 Linked previous (entry ∷ entries) = (breaks_order previous entry ≡ false) × Linked (Some entry) entries
 
-last_of-push : (found : Option Entry) (before : List Entry) (entry : Entry) → last_of found (before ++ entry ∷ []) ≡ Some entry
+pub last_of-push : (found : Option Entry) (before : List Entry) (entry : Entry) → last_of found (before ++ entry ∷ []) ≡ Some entry
 last_of-push found [] entry = refl
 last_of-push found (first ∷ before) entry = last_of-push (Some first) before entry
 

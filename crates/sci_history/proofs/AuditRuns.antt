@@ -1,9 +1,9 @@
 -- What an audit's third kind says: placed entries are a history, once their versions are whole.
-use Rattle.std.proofs.Common.{◌≡◌, ℕ, zero, suc, ◌+◌, ◌<◌, ◌≤◌, Bool, true, false, cond, eqb, ◌&&◌, not, List, [], ◌∷◌, ◌++◌, length, map, Option, Some, None, refl, sym, ap, ◌∙◌, subst, append_assoc, arith, inl, inr}
-use Rattle.std.specs.Prelude.{IsTrue, count_by}
+use Rattle.std.proofs.Common.{◌≡◌, ℕ, zero, suc, ◌+◌, ◌<◌, ◌≤◌, true, false, cond, eqb, not, List, [], ◌∷◌, ◌++◌, length, map, None, refl, sym, ap, ◌∙◌, subst, arith, inl, inr}
+use Rattle.std.specs.Prelude.{IsTrue}
 use Rattle.std.specs.List.{filter, AllByRecursion}
-use Rattle.std.proofs.lemmas.Bool.{cases_Bool, eqb-true, eq-eqb, and_parts, not-true, not-false, both_ways, not_from_true}
-use Rattle.std.proofs.lemmas.List.{append-nil, map-append}
+use Rattle.std.proofs.lemmas.Bool.{cases_Bool, eqb-true, eq-eqb, and_parts, not-true, not-false}
+use Rattle.std.proofs.lemmas.List.{map-append}
 use Rattle.std.proofs.lemmas.List.Sums.{length-filter}
 use Rattle.sci_words.specs.declared.limits.TheConstants.{MAX_NODES}
 use Rattle.sci_words.specs.declared.operation.Op.{Op}
@@ -18,7 +18,7 @@ use Rattle.sci_history.specs.Placed.{is_making, makes, reads, maker_count, by_no
 use Rattle.sci_history.specs.Lawful.{HasWholeVersions}
 use Rattle.sci_history.specs.History.{IsHistory}
 use Rattle.sci_history.specs.Audit.{same_reply, line_after_all, words_after, is_reply_wrong, first_wrong}
-use Rattle.sci_history.proofs.Order.{filter_none, all_weaker, all_both, all-append, all-filter, all-passes}
+use Rattle.sci_history.proofs.Order.{filter_none, all_weaker, all-filter, all-passes}
 use Rattle.sci_history.proofs.Placement.{all-by_node_and_serial, by_node_and_serial-one, by_node_and_serial-none}
 use Rattle.sci_history.proofs.AuditVersions.{NoneFail, none_fail, from_none_fail}
 use Rattle.sci_history.proofs.Runs.{same_stamped}

@@ -1,21 +1,21 @@
 -- A line's audit finds no fault exactly where the line is lawful.
-use Rattle.std.proofs.Common.{◌≡◌, ℕ, zero, suc, ◌+◌, ◌<◌, ◌≤◌, Bool, true, false, eqb, List, [], ◌∷◌, ◌++◌, length, take, Option, Some, None, refl, sym, ap, ◌∙◌, subst, arith, inl, inr}
+use Rattle.std.proofs.Common.{◌≡◌, ℕ, zero, suc, ◌<◌, ◌≤◌, true, false, List, [], ◌∷◌, ◌++◌, length, take, Option, Some, None, refl, sym, ap, ◌∙◌, subst, arith, inl, inr}
 use Rattle.std.specs.Prelude.{AllPairs}
 use Rattle.std.specs.List.{filter, flat_map, AllByRecursion}
 use Rattle.std.proofs.lemmas.Bool.{cases_lt, cases_eq, eq-eqb, ne_eqb}
-use Rattle.std.proofs.lemmas.List.{append-nil, take_all}
+use Rattle.std.proofs.lemmas.List.{append-nil, take_all, ext_get_or}
 use Rattle.std.proofs.lemmas.List.Concat.{flat_map-append}
 use Rattle.std.proofs.lemmas.List.Elements.{filter-append, recursion_from_All}
 use Rattle.std.proofs.Math.Seq.{take-suc}
 use Rattle.sci_words.specs.declared.limits.TheConstants.{MAX_NODES}
 use Rattle.sci_words.specs.declared.stamped.Stamped.{Stamped}
 use Rattle.sci_history.specs.declared.entry.Entry.{Entry}
-use Rattle.sci_history.specs.declared.audit.FaultKind.{FaultKind}
-use Rattle.sci_history.specs.declared.audit.FaultKind.TheVariants.{VersionTwice, VersionMissing, WrongReply, OutOfOrder, LastDiffers}
+use Rattle.sci_history.specs.declared.verdict.FaultKind.{FaultKind}
+use Rattle.sci_history.specs.declared.verdict.FaultKind.TheVariants.{VersionTwice, VersionMissing, WrongReply, OutOfOrder, LastDiffers}
 use Rattle.sci_history.specs.Placed.{log_of, AreOwn, is_of_node, is_on_line, maker_count, on_line, makes, reads, by_node_and_serial, by_version, placed_entries}
 use Rattle.sci_history.specs.Lawful.{IsLawfulLine}
 use Rattle.sci_history.specs.Audit.{first_twice, first_missing, first_wrong, first_disordered, words_after, HasNoFault, IsLineFault, Names}
-use Rattle.sci_history.proofs.Order.{IsInOrder, IsInOrder-filter, filter_all, filter_none, filter-filter, all_weaker, all-append, all-filter, all-passes}
+use Rattle.sci_history.proofs.Order.{IsInOrder, IsInOrder-filter, filter_all, filter_none, filter-filter, all_weaker, all-append, all-filter}
 use Rattle.sci_history.proofs.Placement.{place, filter-placed, all-by_node_and_serial}
 use Rattle.sci_history.proofs.Lawfulness.{lawful_line}
 use Rattle.sci_history.proofs.AuditVersions.{whole_versions_found, twice_from_whole, missing_from_whole}
@@ -67,7 +67,7 @@ pub nodes_on_line : (logs : List (List Entry)) (line : ℕ) → AreOwn logs → 
 nodes_on_line logs line own sixteen =
     all-filter (λ e. e.node < MAX_NODES) (is_on_line line) (flat_map same_log logs) (subst (λ (ls : List (List Entry)). AllByRecursion (λ e. e.node < MAX_NODES) (flat_map same_log ls)) (take_all MAX_NODES logs (omega arith)) (nodes_front logs MAX_NODES own (omega arith) (omega arith)))
 
-all-by_version : (P : Entry → Type 0) (bound : ℕ) (entries : List Entry) → AllByRecursion P entries → AllByRecursion P (by_version bound entries)
+pub all-by_version : (P : Entry → Type 0) (bound : ℕ) (entries : List Entry) → AllByRecursion P entries → AllByRecursion P (by_version bound entries)
 unfolding by_version
 all-by_version P zero entries h = tt
 all-by_version P (suc version) entries h =
@@ -134,3 +134,16 @@ fault_or_none entries last VersionMissing named h k = named_none (first_missing 
 fault_or_none entries last WrongReply named h k = named_none (first_wrong entries) named h.2 k.wrong
 fault_or_none entries last OutOfOrder named h k = named_none (first_disordered entries) named h.3 k.disordered
 fault_or_none entries last LastDiffers named h k = h.5 (k.words, k.version)
+
+-- ---- logs, from all their entries
+
+pub own_entries : (logs : List (List Entry)) (node : ℕ) → AreOwn logs → length logs ≡ MAX_NODES → node < MAX_NODES → filter (is_of_node node) (flat_map same_log logs) ≡ log_of logs node
+own_entries logs node own sixteen lt =
+    let whole : take MAX_NODES logs ≡ logs = take_all MAX_NODES logs (omega arith) in
+    ap (λ (ls : List (List Entry)). filter (is_of_node node) (flat_map same_log ls)) (sym whole) ∙ whole_of logs node MAX_NODES own (omega arith) lt
+
+pub same_logs : (a b : List (List Entry)) → AreOwn a → AreOwn b → length a ≡ MAX_NODES → length b ≡ MAX_NODES → flat_map same_log a ≡ flat_map same_log b → a ≡ b
+same_logs a b own other long sixteen e =
+    ext_get_or [] a b (long ∙ sym sixteen) (λ node lt.
+    let low : node < MAX_NODES = omega arith in
+    sym (own_entries a node own long low) ∙ ap (filter (is_of_node node)) e ∙ own_entries b node other sixteen low)

@@ -13,3 +13,8 @@ pub mod AuditRuns
 pub mod AuditVersions
 pub mod Audits
 pub mod PlacedOrder
+pub mod AuditFinds
+pub mod Sorting
+pub mod PlacedSort
+pub mod AuditLines
+pub mod ByLine

@@ -1,5 +1,5 @@
 -- Placed entries stand by version, and each maker before the loads at its version.
-use Rattle.std.proofs.Common.{◌≡◌, ℕ, zero, suc, ◌+◌, ◌<◌, ◌≤◌, Bool, true, false, cond, eqb, ◌&&◌, not, List, [], ◌∷◌, ◌++◌, refl, ◌∙◌, arith}
+use Rattle.std.proofs.Common.{◌≡◌, ℕ, zero, suc, ◌+◌, ◌<◌, ◌≤◌, true, false, eqb, not, List, ◌++◌, arith}
 use Rattle.std.specs.List.{filter, AllByRecursion}
 use Rattle.std.proofs.lemmas.Bool.{and_parts, eqb-true, not-true}
 use Rattle.sci_history.specs.declared.entry.Entry.{Entry}

@@ -10,6 +10,7 @@ use Rattle.std.proofs.lemmas.List.Elements.{filter-append, filter_agree, recursi
 use Rattle.sci_words.specs.declared.limits.TheConstants.{MAX_NODES}
 use Rattle.sci_history.specs.declared.entry.Entry.{Entry}
 use Rattle.sci_history.specs.Placed.{log_of, is_of_node, is_on_line, is_making, makes, reads, on_line, in_order, above_serials, by_node_and_serial, by_version}
+use Rattle.sci_history.proofs.Sorting.{in_order-bound}
 use Rattle.sci_history.proofs.Order.{IsInOrder, HasKeysBelow, filter-filter, filter-in_order, in_order-ordered, in_order_same_key, IsInOrder-filter, all-filter, all-passes, all_weaker, all-in_order}
 
 -- ---- pairs
@@ -47,7 +48,7 @@ on_line-logs logs line entries sixteen logged =
 
 -- ---- by_node_and_serial
 
-above_serials-above : (entries : List Entry) (bound : ℕ) → above_serials entries ≤ bound → HasKeysBelow (λ entry. entry.serial) bound entries
+pub above_serials-above : (entries : List Entry) (bound : ℕ) → above_serials entries ≤ bound → HasKeysBelow (λ entry. entry.serial) bound entries
 above_serials-above [] bound h = tt
 above_serials-above (entry ∷ entries) bound h = (omega arith, above_serials-above entries bound (omega arith))
 
@@ -127,7 +128,7 @@ by_place-in_order (suc version) entries =
     rw (twice, by_place-in_order version entries, filter_agree (makes version) (λ entry. eqb (place entry) (version + version)) (makes-place version) entries, filter_agree (reads version) (λ entry. eqb (place entry) (suc (version + version))) (reads-place version) entries)
     (sym (append_assoc before (filter (λ entry. eqb (place entry) (version + version)) entries) (filter (λ entry. eqb (place entry) (suc (version + version))) entries)))
 
-place-below : (entry : Entry) (version : ℕ) → entry.version ≤ version → place entry < suc version + suc version
+pub place-below : (entry : Entry) (version : ℕ) → entry.version ≤ version → place entry < suc version + suc version
 place-below entry version le =
     elim (cases_Bool (is_making entry)) [
       | inl maker ↦ rw maker (omega arith)
@@ -143,3 +144,25 @@ filter-placed node version entries lt serials places below =
     filter-by_version node (suc version) entries lt serials
     ∙ by_place-in_order (suc version) own
     ∙ in_order-ordered place (suc version + suc version) own places under
+
+-- ---- all entries by place
+
+below_filter : (p : Entry → Bool) (entries : List Entry) → HasKeysBelow (λ entry. entry.serial) (above_serials entries) (filter p entries)
+below_filter p entries = all-filter (λ entry. entry.serial < above_serials entries) p entries (above_serials-above entries (above_serials entries) (omega arith))
+
+-- a test's entries among those by node and serial
+by_node_and_serial-filter : (p : Entry → Bool) (entries : List Entry) → by_node_and_serial (filter p entries) ≡ filter p (by_node_and_serial entries)
+by_node_and_serial-filter p entries =
+    let own = filter p entries in
+    sym (filter-in_order p (λ entry. entry.node) MAX_NODES (in_order (λ entry. entry.serial) (above_serials entries) entries)
+    ∙ rw (filter-in_order p (λ entry. entry.serial) (above_serials entries) entries, in_order-bound (λ (entry : Entry). entry.serial) (above_serials entries) (above_serials own) own (below_filter p entries) (above_serials-above own (above_serials own) (omega arith))) refl)
+
+by_version-place : (bound : ℕ) (entries : List Entry) → by_version bound entries ≡ by_place bound (by_node_and_serial entries)
+unfolding by_version by_place
+by_version-place zero entries = refl
+by_version-place (suc version) entries =
+    rw (by_version-place version entries, by_node_and_serial-filter (makes version) entries, by_node_and_serial-filter (reads version) entries) refl
+
+-- placed entries are those by node and serial, by place
+pub by_version-in_order : (bound : ℕ) (entries : List Entry) → by_version bound entries ≡ in_order place (bound + bound) (by_node_and_serial entries)
+by_version-in_order bound entries = by_version-place bound entries ∙ by_place-in_order bound (by_node_and_serial entries)

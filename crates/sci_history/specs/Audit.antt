@@ -1,6 +1,8 @@
 -- What an audit reports: the first rule that logs and last contents break, and where.
-use Rattle.std.specs.Prelude.{◌≡◌, ℕ, ◌+◌, ◌<◌, ◌==◌, ◌&&◌, ◌||◌, not, nat_lt, nat_le, Bool, true, false, List, [], ◌∷◌, ◌++◌, length, filter, map, Option, Some, None, if◌then◌else◌}
+use Rattle.std.specs.Prelude.{◌≡◌, ℕ, ◌<◌, ◌==◌, ◌&&◌, ◌||◌, not, nat_lt, nat_le, Bool, true, false, List, [], ◌∷◌, ◌++◌, length, filter, map, Option, Some, None, if◌then◌else◌}
 use Rattle.std.specs.List.{All, list_any}
+use denote.Ref.{Bor}
+use Rattle.std.specs.Global.{Vec}
 use Rattle.sci_words.specs.declared.limits.TheConstants.{WORDS_PER_LINE}
 use Rattle.sci_words.specs.declared.operation.Op.{Op}
 use Rattle.sci_words.specs.declared.operation.Reply.{Reply}
@@ -8,13 +10,14 @@ use Rattle.sci_words.specs.declared.operation.Reply.TheVariants.{Stored, Got}
 use Rattle.sci_words.specs.declared.stamped.Stamped.{Stamped}
 use Rattle.sci_words.specs.Stamped.{line_after, zero_line}
 use Rattle.sci_history.specs.declared.entry.Entry.{Entry}
-use Rattle.sci_history.specs.declared.audit.FaultKind.{FaultKind}
-use Rattle.sci_history.specs.declared.audit.FaultKind.TheVariants.{VersionTwice, VersionMissing, WrongReply, OutOfOrder, LastDiffers}
-use Rattle.sci_history.specs.declared.audit.Verdict.{Verdict}
-use Rattle.sci_history.specs.declared.audit.Verdict.TheVariants as verdicts
+use Rattle.sci_history.specs.declared.verdict.FaultKind.{FaultKind}
+use Rattle.sci_history.specs.declared.verdict.FaultKind.TheVariants.{VersionTwice, VersionMissing, WrongReply, OutOfOrder, LastDiffers}
+use Rattle.sci_history.specs.declared.verdict.Verdict.{Verdict}
+use Rattle.sci_history.specs.declared.faults.LineFault.{LineFault}
+use Rattle.sci_history.specs.declared.verdict.Verdict.TheVariants as verdicts
 use Rattle.sci_history.specs.Memory.{reply_of, stamped_at}
 use Rattle.sci_history.specs.Placed.{log_of, is_of_node, is_making, makes, maker_count, on_line, placed_entries}
-use Rattle.sci_history.specs.Lawful.{IsLawfulLine, Lawful, EndsAt}
+use Rattle.sci_history.specs.Lawful.{IsLawfulLine, Lawful}
 
 -- the first of some entries that fails a test, which looks at the entries before it too
 abbrev pub first_failing : (List Entry → Entry → Bool) → List Entry → List Entry → Option Entry
@@ -118,6 +121,19 @@ pub record HasNoFault (entries : List Entry) (last : Stamped) : Type 0 where
   pub disordered : first_disordered entries ≡ None
   pub words : last.line ≡ words_after (placed_entries entries)
   pub version : last.version ≡ maker_count entries
+
+-- what references point to
+abbrev pub entries_of : List (Bor Entry) → List Entry
+entries_of refs = map (λ ref. ref.now) refs
+
+-- lists of references, as lists of what they point to
+abbrev pub lists_of : List (Vec (Bor Entry)) → List (List Entry)
+lists_of lists = map (λ list. entries_of list.items) lists
+
+-- what is found on a line: the fault that comes first, or that no kind fails
+abbrev pub IsFound : List Entry → Stamped → Option LineFault → Type 0
+IsFound entries last None = HasNoFault entries last
+IsFound entries last (Some fault) = IsLineFault entries last fault.kind fault.at
 
 -- a fault of this line, where each line below is lawful
 pub record IsFault (logs : List (List Entry)) (last : List Stamped) (line : ℕ) (kind : FaultKind) (named : Option (ℕ × ℕ)) : Type 0 where

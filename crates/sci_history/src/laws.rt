@@ -2,20 +2,20 @@
 //! whoever reads the definitions sees that they say what they mean.
 
 ghost use Rattle.std.specs.Prelude.{◌≡◌, ◌≤◌, ◌<◌, ◌↔◌, ◌∷◌, ◌++◌, [], List, ℕ, Option, map, filter, length};
-ghost use Rattle.std.specs.List.{AllByRecursion};
+ghost use Rattle.std.specs.List.{AllByRecursion, flat_map};
 ghost use Rattle.sci_words.specs.declared.limits.TheConstants.{MAX_NODES};
 ghost use Rattle.sci_words.specs.declared.operation.Op.{Op};
 ghost use Rattle.sci_words.specs.declared.operation.Reply.{Reply};
 ghost use Rattle.sci_words.specs.declared.stamped.Stamped.{Stamped};
 ghost use Rattle.sci_words.specs.Stamped.{zero_stamped};
 ghost use Rattle.sci_history.specs.declared.entry.Entry.{Entry};
-ghost use Rattle.sci_history.specs.declared.audit.FaultKind.{FaultKind};
+ghost use Rattle.sci_history.specs.declared.verdict.FaultKind.{FaultKind};
 ghost use Rattle.sci_history.specs.Audit.{HasNoFault, IsLineFault};
 ghost use Rattle.sci_history.specs.History.{HasHistory};
 ghost use Rattle.sci_history.specs.Lawful.{IsLawfulLine, Lawful};
 ghost use Rattle.sci_history.specs.Memory.{IsRun, stamped_at};
 ghost use Rattle.sci_history.specs.Oracle.{IsInRange, Issue, oracle_last, oracle_logs};
-ghost use Rattle.sci_history.specs.Placed.{AreOwn, is_on_line, log_of, on_line};
+ghost use Rattle.sci_history.specs.Placed.{AreOwn, is_of_node, is_on_line, log_of, on_line};
 
 /// A script's logs and last contents on one memory of one thread are lawful, whatever operations it has within
 /// the limits.
@@ -67,4 +67,13 @@ pub fn lawful_is_faultless()
         IsLawfulLine logs line last ↔ HasNoFault (on_line line logs) last }
     ensures faulty { (entries : List Entry) (last : Stamped) (kind : FaultKind) (named : Option (ℕ × ℕ)) →
         IsLineFault entries last kind named → HasNoFault entries last → ⊥ }
+{}
+
+/// Logs that each have their own node's entries are known by all entries in reading order: a node's log is its own
+/// among them.
+pub fn one_partition()
+    ensures one { (a b : List (List Entry)) → AreOwn a → AreOwn b → length a ≡ MAX_NODES → length b ≡ MAX_NODES →
+        flat_map (λ log. log) a ≡ flat_map (λ log. log) b → a ≡ b }
+    ensures own { (logs : List (List Entry)) (node : ℕ) → AreOwn logs → length logs ≡ MAX_NODES → node < MAX_NODES →
+        filter (is_of_node node) (flat_map (λ log. log) logs) ≡ log_of logs node }
 {}

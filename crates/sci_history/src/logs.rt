@@ -80,10 +80,11 @@ impl Logs {
         push_entry(log, entry)
     }
 
-    /// The number of logs, which is 16.
+    /// The number of logs, which is 16. Each has its own node's entries.
     pub fn nodes(&self) -> u8
         ensures nodes { result ≡ length self.now }
         ensures sixteen { result ≡ MAX_NODES }
+        ensures own { AreOwn self.now }
     {
         let _ = &self.lists;
         MAX_NODES

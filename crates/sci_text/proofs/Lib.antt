@@ -13,3 +13,11 @@ pub mod LogLines
 pub mod Events
 pub mod EventLines
 pub mod Schedules
+pub mod LogReads
+pub mod LogFaults
+pub mod LogFronts
+pub mod LogLaws
+pub mod LogUnique
+pub mod LogShort
+pub mod LogNoFault
+pub mod LogTold

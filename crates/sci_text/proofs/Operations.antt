@@ -84,7 +84,7 @@ bind_some (Some x) f y e = (x, refl, e)
 
 -- ---- the word
 
-abbrev command_of : Act → Command
+abbrev pub command_of : Act → Command
 command_of Load = commands.Load
 command_of (Store word) = commands.Store
 command_of (Lock (MaskSwap arg datum)) = commands.MaskSwap
@@ -102,7 +102,7 @@ word_of commands.FetchAdd = codes "fetch-add"
 word_of commands.BoundedAdd = codes "bounded-add"
 word_of commands.WrapAdd = codes "wrap-add"
 
-command_again : (act : Act) (rest : List ℕ) → command_read (act_word act ++ rest) ≡ Some (command_of act, rest)
+pub command_again : (act : Act) (rest : List ℕ) → command_read (act_word act ++ rest) ≡ Some (command_of act, rest)
 unfolding after command_read
 command_again Load rest = refl
 command_again (Store word) rest = refl
@@ -146,7 +146,7 @@ ReadAs act read rest = (o : Option Act) × (read ≡ Some (o, rest)) × SomeIff 
 one_again : (f : ℕ → Act) (n : ℕ) (rest : List ℕ) → Ends rest → one f (field n ++ rest) ≡ Some (option_map f (fitting n), rest)
 one_again f n rest ends = rw (field_again n rest ends) refl
 
-pair_again : (a d : ℕ) (rest : List ℕ) → Ends rest → pair_read ((field a ++ field d) ++ rest) ≡ Some (both (fitting a) (fitting d), rest)
+pub pair_again : (a d : ℕ) (rest : List ℕ) → Ends rest → pair_read ((field a ++ field d) ++ rest) ≡ Some (both (fitting a) (fitting d), rest)
 unfolding pair_read
 pair_again a d rest ends = rw (append_assoc (field a) (field d) rest, field_again a (field d ++ rest) (ends_field d rest), field_again d rest ends) refl
 
@@ -193,7 +193,7 @@ one_found f bytes o rest e =
       subst (λ (v : Option Act). SomeIff v (found.0 < 2 ^ 64) (f found.0)) (ap (option_map f) (sym found.2) ∙ parts.0) (mapped (found.0 < 2 ^ 64) f (fitting found.0) found.0 (fitting_is found.0)),
     )
 
-pair_found : (bytes : List ℕ) (o : Option (ℕ × ℕ)) (rest : List ℕ) → pair_read bytes ≡ Some (o, rest)
+pub pair_found : (bytes : List ℕ) (o : Option (ℕ × ℕ)) (rest : List ℕ) → pair_read bytes ≡ Some (o, rest)
     → (a : ℕ) × (d : ℕ) × (bytes ≡ (field a ++ field d) ++ rest) × (o ≡ both (fitting a) (fitting d))
 unfolding pair_read
 pair_found bytes o rest e =

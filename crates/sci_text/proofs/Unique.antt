@@ -131,7 +131,7 @@ one_script a b good other e =
 
 -- ---- lines of scripts are short
 
-number_short : (n : ℕ) → n < 2 ^ 64 → length (number n) ≤ 20
+pub number_short : (n : ℕ) → n < 2 ^ 64 → length (number n) ≤ 20
 unfolding number
 number_short zero h = omega arith
 number_short (suc n) h = omega (arith, length-map (digits_of 10 (suc n)) (λ digit. 48 + digit), length-digits_of-le 10 20 (suc n) (omega arith) (omega arith))

@@ -8,3 +8,4 @@ pub mod Log
 pub mod Schedule
 pub mod ScheduleFault
 pub mod EventReading
+pub mod LogValue

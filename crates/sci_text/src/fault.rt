@@ -36,4 +36,16 @@ impl TextFault {
     {
         TextFault { line: 0, kind }
     }
+
+    /// A fault of a line, but for want of memory, which is the whole input's.
+    pub(crate) fn at(line: usize, kind: TextFaultKind) -> TextFault
+        ensures kind { result.kind ≡ kind }
+        ensures memory { kind ≡ TextFaultKind.Memory → result.line ≡ 0 }
+        ensures line { (kind ≡ TextFaultKind.Memory → ⊥) → result.line ≡ line }
+    {
+        match kind {
+            TextFaultKind::Memory => TextFault::of_input(kind),
+            _ => TextFault { line, kind },
+        }
+    }
 }

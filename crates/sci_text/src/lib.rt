@@ -1,10 +1,13 @@
-//! Texts of scripts: their grammar, and a reader that tells the first fault.
+//! Texts of scripts and logs: their grammar, and a reader that tells the first fault.
 #![tactic(auto)]
 
 mod event;
 mod fault;
+mod form;
 mod laws;
 mod lines;
+mod log;
+mod log_line;
 mod number;
 mod operation;
 mod printing;
@@ -18,9 +21,9 @@ mod tap;
 mod writing;
 
 pub use fault::{TextFault, TextFaultKind};
-pub use laws::{no_fault, one_fault, one_script};
+pub use laws::{no_fault, no_log_fault, one_fault, one_log, one_script, written_again};
 pub use printing::{push_field, push_number, push_text};
-pub use reading::read_script;
+pub use reading::{read_logs, read_script};
 pub use schedule::Schedule;
 pub use schedule_laws::{no_schedule_fault, one_schedule, one_schedule_fault};
 pub use schedule_reading::read_schedule;

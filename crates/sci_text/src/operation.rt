@@ -35,7 +35,7 @@ pub fn byte(number: Number) -> Option<u8>
 
 /// The word at the front of `bytes`, and the bytes after it.
 #[tactic(auto, unfolding(crate::specs::Reading::command_read))]
-fn command_of(bytes: &[u8]) -> Option<(Command, &[u8])>
+pub fn command_of(bytes: &[u8]) -> Option<(Command, &[u8])>
     ensures { Gives (λ x. (x.0, x.1.now)) result (command_read bytes.now) }
 {
     if let Some(rest) = after(bytes, b"load") {
@@ -62,7 +62,7 @@ fn command_of(bytes: &[u8]) -> Option<(Command, &[u8])>
 
 /// Two numbers, each behind one space, and the bytes after them.
 #[tactic(auto, unfolding(crate::specs::Reading::pair_read))]
-fn pair(bytes: &[u8]) -> Option<(Option<(u64, u64)>, &[u8])>
+pub fn pair(bytes: &[u8]) -> Option<(Option<(u64, u64)>, &[u8])>
     ensures { Gives (λ x. (x.0, x.1.now)) result (pair_read bytes.now) }
 {
     let (first, rest) = field(bytes)?;

@@ -4,3 +4,5 @@ pub mod OneDecoding
 pub mod Runs
 pub mod Written
 pub mod Counts
+pub mod Refusals
+pub mod Replays

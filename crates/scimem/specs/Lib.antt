@@ -6,3 +6,4 @@ pub mod Writing
 pub mod OracleAnswer
 pub mod Refusal
 pub mod ReplayAnswer
+pub mod LogAnswer

@@ -2,11 +2,10 @@
 use Rattle.std.specs.Prelude.{◌≡◌, ℕ, Bool, List, Option, IfSome}
 use Rattle.sci_history.specs.Lawful.{Lawful}
 use Rattle.sci_history.specs.Oracle.{oracle_logs, oracle_last}
-use Rattle.sci_text.specs.declared.fault.TextFaultKind.{TextFaultKind}
 use Rattle.sci_text.specs.Script.{ScriptValue, IsScript, script_text}
 use Rattle.sci_text.specs.Fault.{IsTold}
 use Rattle.sci_text.specs.Log.{log_text}
-use Rattle.scimem.specs.Refusal.{line_refusal}
+use Rattle.scimem.specs.Refusal.{IsRefusalBy}
 use Rattle.scimem.specs.declared.outcome.Outcome.{Outcome}
 use Rattle.scimem.specs.declared.outcome.Outcome.TheVariants.{Done, Unlawful, Refused}
 
@@ -22,15 +21,8 @@ pub record IsOracleOf (input text : List ℕ) : Type 0 where
   pub written : text ≡ oracle_text script
   pub lawful : Lawful (oracle_logs script.lines script.operations) (oracle_last script.lines script.operations)
 
--- the refusal of the fault that is told of the input
-pub record IsRefusalOf (input : Option (List ℕ)) (failed : Bool) (text : List ℕ) : Type 0 where
-  pub line : ℕ
-  pub kind : TextFaultKind
-  pub told : IsTold kind input failed line
-  pub written : text ≡ line_refusal line kind
-
 -- what is written, and how the command ends, for the bytes of a reader, which has failed or not
 abbrev pub IsOracleAnswer : Option (List ℕ) → Bool → List ℕ → Outcome → Type 0
 IsOracleAnswer input failed text Done = IfSome input (λ bytes. IsOracleOf bytes text)
-IsOracleAnswer input failed text Refused = IsRefusalOf input failed text
+IsOracleAnswer input failed text Refused = IsRefusalBy (λ kind line. IsTold kind input failed line) text
 IsOracleAnswer input failed text Unlawful = ⊥

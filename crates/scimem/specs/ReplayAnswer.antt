@@ -4,11 +4,10 @@ use Rattle.sci_words.specs.declared.limits.TheConstants.{MAX_OPERATIONS}
 use Rattle.sci_core.specs.Core.{Core, run}
 use Rattle.sci_core.specs.Outcome.{logs_of}
 use Rattle.sci_core.specs.Sharing.{last_of}
-use Rattle.sci_text.specs.declared.fault.TextFaultKind.{TextFaultKind}
 use Rattle.sci_text.specs.Schedule.{ScheduleValue, IsSchedule, schedule_text}
 use Rattle.sci_text.specs.ScheduleFault.{IsToldOfSchedule}
 use Rattle.sci_text.specs.Log.{log_text}
-use Rattle.scimem.specs.Refusal.{line_refusal}
+use Rattle.scimem.specs.Refusal.{IsRefusalBy}
 use Rattle.scimem.specs.declared.outcome.Outcome.{Outcome}
 use Rattle.scimem.specs.declared.outcome.Outcome.TheVariants.{Done, Unlawful, Refused}
 
@@ -27,15 +26,8 @@ pub record IsReplayOf (input text : List ℕ) : Type 0 where
   pub read : input ≡ schedule_text schedule
   pub written : text ≡ replay_text schedule
 
--- the refusal of the fault that is told of the input
-pub record IsReplayRefusal (input : Option (List ℕ)) (failed : Bool) (text : List ℕ) : Type 0 where
-  pub line : ℕ
-  pub kind : TextFaultKind
-  pub told : IsToldOfSchedule kind input failed line
-  pub written : text ≡ line_refusal line kind
-
 -- what is written, and how the command ends, for the bytes of a reader, which has failed or not
 abbrev pub IsReplayAnswer : Option (List ℕ) → Bool → List ℕ → Outcome → Type 0
 IsReplayAnswer input failed text Done = IfSome input (λ bytes. IsReplayOf bytes text)
-IsReplayAnswer input failed text Refused = IsReplayRefusal input failed text
+IsReplayAnswer input failed text Refused = IsRefusalBy (λ kind line. IsToldOfSchedule kind input failed line) text
 IsReplayAnswer input failed text Unlawful = ⊥

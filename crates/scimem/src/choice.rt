@@ -8,7 +8,7 @@ use std::rt::Env;
 use std::{env, io};
 
 /// The words that the program knows.
-pub const USAGE: &str = "usage: scimem oracle | replay | decode";
+pub const USAGE: &str = "usage: scimem oracle | replay | audit | decode | upgrade";
 
 /// What the program is asked to do.
 #[derive(Clone, Copy, Debug, PartialEq, Eq)]
@@ -19,6 +19,10 @@ pub enum Command {
     Replay,
     /// Write a line for each packet of the input.
     Decode,
+    /// Write whether a log is lawful, or the first rule that it breaks.
+    Audit,
+    /// Write a log in format 2.
+    Upgrade,
 }
 
 /// The command that the words of the command line choose, the program's own name left out.
@@ -29,6 +33,8 @@ pub fn chosen(words: &[&str]) -> Option<Command>
         ["oracle"] => Some(Command::Oracle),
         ["replay"] => Some(Command::Replay),
         ["decode"] => Some(Command::Decode),
+        ["audit"] => Some(Command::Audit),
+        ["upgrade"] => Some(Command::Upgrade),
         _ => None,
     }
 }

@@ -1,6 +1,7 @@
 //! The program `scimem`: it reads standard input, and writes standard output.
 #![tactic(auto)]
 
+mod audit;
 mod choice;
 mod decode;
 mod laws;
@@ -11,17 +12,22 @@ mod printing;
 mod reading;
 mod refusal;
 mod replay;
+mod upgrade;
 mod writing;
 
+use audit::audit_text;
 use choice::{Command, USAGE, asked};
 use decode::decode_bytes;
 use oracle::oracle as oracle_of;
 use replay::replay as replay_of;
 use sci_text::Tap;
 use std::process::ExitCode;
+use upgrade::upgrade as upgrade_of;
 
 #[cfg(test)]
 mod devices;
+#[cfg(test)]
+mod log_tests;
 #[cfg(test)]
 mod oracle_tests;
 #[cfg(test)]
@@ -40,6 +46,8 @@ fn main(rt: HostRuntime) -> ExitCode {
         Command::Oracle => oracle_of(rt.alloc(), &mut reader, &mut writer),
         Command::Replay => replay_of(rt.alloc(), &mut reader, &mut writer),
         Command::Decode => decode_bytes(rt.alloc(), &mut reader, &mut writer),
+        Command::Audit => audit_text(rt.alloc(), &mut reader, &mut writer),
+        Command::Upgrade => upgrade_of(rt.alloc(), &mut reader, &mut writer),
     };
     ExitCode::from(outcome.status())
 }

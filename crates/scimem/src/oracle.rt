@@ -1,15 +1,18 @@
 //! The command `oracle`: the log of one memory that does a script's operations in text order.
 
-ghost use Rattle.std.specs.Prelude.{◌≡◌, ℕ, List, false, true, IfOk, IfErr, IfSome};
+ghost use Rattle.std.specs.Prelude.{◌≡◌, ◌⊎◌, ◌++◌, ℕ, List, false, true, IfOk, IfErr, IfSome, OnOk};
 ghost use Rattle.std.specs.Io.KnownBytes.{Appends};
 ghost use Rattle.sci_text.specs.Fault.{IsTold};
 ghost use Rattle.sci_text.specs.Tap.{has_failed, tapped};
+ghost use Rattle.scimem.specs.declared.outcome.Outcome.{Outcome};
 ghost use Rattle.scimem.specs.OracleAnswer.{IsOracleAnswer, IsOracleOf};
+ghost use Rattle.scimem.specs.Writing.{WritesFront};
 
 use crate::outcome::Outcome;
 use crate::refusal::{refuse, refused_for_memory};
+use crate::writing::write_answer;
 use sci_history::run_oracle;
-use sci_text::{Tap, TextFault, logs_text, read_script, write_text};
+use sci_text::{Tap, TextFault, logs_text, read_script};
 use std::alloc::Global;
 use std::io::{Read, Write};
 
@@ -48,16 +51,15 @@ pub fn oracle<R: Read, W: Write>(alloc: Global, reader: &mut Tap<R>, writer: &mu
     ensures written { has_failed writer.new ≡ false → (text : List ℕ)
         × Appends (W.contents (tapped writer.old)) (W.contents (tapped writer.new)) text
         × IsOracleAnswer (R.remaining (tapped reader.old)) (has_failed reader.new) text result }
+
+    // Where a write fails, a front of it is.
+    ensures front { (text : List ℕ) × (outcome : Outcome)
+        × WritesFront (W.contents (tapped writer.old)) (W.contents (tapped writer.new)) text
+        × IsOracleAnswer (R.remaining (tapped reader.old)) (has_failed reader.new) text outcome }
     ensures failed { has_failed writer.new ≡ true → result ≡ Outcome.Refused }
 {
     match answer(alloc, reader) {
-        Ok(text) => match write_text(writer, &text) {
-            Ok(()) => Outcome::Done,
-            Err(_) => Outcome::Refused,
-        },
-        Err(fault) => {
-            refuse(alloc, writer, fault);
-            Outcome::Refused
-        }
+        Ok(text) => write_answer(writer, &text, Outcome::Done),
+        Err(fault) => refuse(alloc, writer, fault),
     }
 }

@@ -169,7 +169,7 @@ fn a_reader_of_one_byte_at_a_time(rt: HostRuntime) {
 
 #[test]
 fn each_write_fails_in_turn(rt: HostRuntime) {
-    // The log has 79 bytes, so there are eight writes of up to ten.
+    // The log has 79 bytes, so there are eight writes of up to ten, and a flush.
     for takes_nothing in [false, true] {
         for fails_at in 0..=10 {
             let mut to = Failing {
@@ -181,7 +181,7 @@ fn each_write_fails_in_turn(rt: HostRuntime) {
             let mut writer = Tap::new(&mut to);
             let mut reader = Tap::new(STORE_THEN_LOAD.as_bytes());
             let outcome = oracle(rt.alloc(), &mut reader, &mut writer);
-            let end = if fails_at < 8 {
+            let end = if fails_at <= 8 {
                 Outcome::Refused
             } else {
                 Outcome::Done

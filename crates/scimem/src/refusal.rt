@@ -1,11 +1,14 @@
-//! The refusal of a text that was read, or of the memory that reading it takes.
+//! Refusals of texts.
 
-ghost use Rattle.std.specs.Prelude.{◌≡◌, ◌⊎◌, false, IfOk};
+ghost use Rattle.std.specs.Prelude.{◌≡◌, ◌++◌, ℕ, List, false, IfOk};
 ghost use Rattle.std.specs.Io.KnownBytes.{Appends};
 ghost use Rattle.sci_text.specs.Tap.{has_failed, tapped};
-ghost use Rattle.scimem.specs.Refusal.{kind_word, line_refusal};
+ghost use Rattle.scimem.specs.Refusal.{Refuses, kind_word, line_refusal};
+ghost use Rattle.scimem.specs.Writing.{WritesFront};
 
-use sci_text::{Tap, TextFault, TextFaultKind, push_field, push_text, write_text};
+use crate::outcome::Outcome;
+use crate::writing::write_answer;
+use sci_text::{Tap, TextFault, TextFaultKind, push_field, push_text};
 use std::alloc::{AllocError, Global};
 use std::io::Write;
 
@@ -51,7 +54,7 @@ fn input_refusal(kind: TextFaultKind) -> &'static [u8]
     }
 }
 
-/// The fault that memory was refused.
+/// The fault of want of memory.
 pub fn refused_for_memory() -> TextFault
     ensures line { result.line ≡ 0 }
     ensures kind { result.kind ≡ TextFaultKind.Memory }
@@ -63,24 +66,24 @@ pub fn refused_for_memory() -> TextFault
 }
 
 /// Writes the refusal of a fault, or of the memory that it would take.
-pub fn refuse<W: Write>(alloc: Global, writer: &mut Tap<W>, fault: TextFault)
-    requires { has_failed writer.old ≡ false }
-    ensures whole { has_failed writer.new ≡ false → fault.line ≡ 0
-        → Appends (W.contents (tapped writer.old)) (W.contents (tapped writer.new)) (line_refusal 0 fault.kind) }
-    ensures lines { has_failed writer.new ≡ false
-        → Appends (W.contents (tapped writer.old)) (W.contents (tapped writer.new)) (line_refusal fault.line fault.kind)
-        ⊎ Appends (W.contents (tapped writer.old)) (W.contents (tapped writer.new)) (line_refusal 0 TextFaultKind.Memory) }
+pub fn refuse<W: Write>(alloc: Global, writer: &mut Tap<W>, fault: TextFault) -> Outcome
+    ensures whole { has_failed writer.new ≡ false → (text : List ℕ)
+        × Appends (W.contents (tapped writer.old)) (W.contents (tapped writer.new)) text × Refuses fault text }
+    ensures front { (text : List ℕ)
+        × WritesFront (W.contents (tapped writer.old)) (W.contents (tapped writer.new)) text × Refuses fault text }
+    ensures refused { result ≡ Outcome.Refused }
 {
     if fault.line == 0 {
-        let _ = write_text(writer, input_refusal(fault.kind));
-        return;
+        let _ = write_answer(writer, input_refusal(fault.kind), Outcome::Refused);
+        return Outcome::Refused;
     }
     match refusal_text(alloc, fault) {
-        Ok(text) => {
-            let _ = write_text(writer, &text);
-        }
-        Err(_) => {
-            let _ = write_text(writer, input_refusal(TextFaultKind::Memory));
-        }
-    }
+        Ok(text) => write_answer(writer, &text, Outcome::Refused),
+        Err(_) => write_answer(
+            writer,
+            input_refusal(TextFaultKind::Memory),
+            Outcome::Refused,
+        ),
+    };
+    Outcome::Refused
 }

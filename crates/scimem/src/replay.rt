@@ -4,12 +4,15 @@ ghost use Rattle.std.specs.Prelude.{◌≡◌, ℕ, List, false, true, IfOk, IfE
 ghost use Rattle.std.specs.Io.KnownBytes.{Appends};
 ghost use Rattle.sci_text.specs.ScheduleFault.{IsToldOfSchedule};
 ghost use Rattle.sci_text.specs.Tap.{has_failed, tapped};
+ghost use Rattle.scimem.specs.declared.outcome.Outcome.{Outcome};
 ghost use Rattle.scimem.specs.ReplayAnswer.{IsReplayAnswer, IsReplayOf};
+ghost use Rattle.scimem.specs.Writing.{WritesFront};
 
 use crate::outcome::Outcome;
 use crate::refusal::{refuse, refused_for_memory};
+use crate::writing::write_answer;
 use sci_core::Machine;
-use sci_text::{Tap, TextFault, logs_text, read_schedule, write_text};
+use sci_text::{Tap, TextFault, logs_text, read_schedule};
 use sci_words::MAX_OPERATIONS;
 use std::alloc::Global;
 use std::io::{Read, Write};
@@ -58,16 +61,15 @@ pub fn replay<R: Read, W: Write>(alloc: Global, reader: &mut Tap<R>, writer: &mu
     ensures written { has_failed writer.new ≡ false → (text : List ℕ)
         × Appends (W.contents (tapped writer.old)) (W.contents (tapped writer.new)) text
         × IsReplayAnswer (R.remaining (tapped reader.old)) (has_failed reader.new) text result }
+
+    // Where a write fails, a front of it is.
+    ensures front { (text : List ℕ) × (outcome : Outcome)
+        × WritesFront (W.contents (tapped writer.old)) (W.contents (tapped writer.new)) text
+        × IsReplayAnswer (R.remaining (tapped reader.old)) (has_failed reader.new) text outcome }
     ensures failed { has_failed writer.new ≡ true → result ≡ Outcome.Refused }
 {
     match answer(alloc, reader) {
-        Ok(text) => match write_text(writer, &text) {
-            Ok(()) => Outcome::Done,
-            Err(_) => Outcome::Refused,
-        },
-        Err(fault) => {
-            refuse(alloc, writer, fault);
-            Outcome::Refused
-        }
+        Ok(text) => write_answer(writer, &text, Outcome::Done),
+        Err(fault) => refuse(alloc, writer, fault),
     }
 }

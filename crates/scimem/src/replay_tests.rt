@@ -273,7 +273,7 @@ fn a_refused_growth_is_told_alone(rt: HostRuntime) {
 
 #[test]
 fn each_write_fails_in_turn(rt: HostRuntime) {
-    // The log has 59 bytes, so there are six writes of up to ten.
+    // The log has 59 bytes, so there are six writes of up to ten, and then the flush.
     for takes_nothing in [false, true] {
         for fails_at in 0..=8 {
             let mut to = Failing {
@@ -284,7 +284,7 @@ fn each_write_fails_in_turn(rt: HostRuntime) {
             };
             let mut reader = Tap::new(ONE_STORE);
             let outcome = replay(rt.alloc(), &mut reader, &mut Tap::new(&mut to));
-            let end = if fails_at < 6 {
+            let end = if fails_at <= 6 {
                 Outcome::Refused
             } else {
                 Outcome::Done

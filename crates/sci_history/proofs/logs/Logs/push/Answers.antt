@@ -1,6 +1,6 @@
 -- One of sixteen logs is longer, and the fifteen others stand.
 use Rattle.std.proofs.lemmas.List.{map-set, length-map, length-set, get_or-map}
-use Rattle.std.proofs.Common.{◌≡◌, ◌<◌, ◌∙◌, [], get_or, length, map, sym, ap, refl, arith}
+use Rattle.std.proofs.Common.{◌≡◌, ◌<◌, ◌∙◌, [], get_or, length, map, sym, refl, arith}
 use Rattle.std.specs.Prelude.{All}
 use Rattle.std.proofs.lemmas.List.Elements.{All-same}
 use Rattle.std.proofs.lemmas.Result.{on_ok_weaker, on_err_weaker}

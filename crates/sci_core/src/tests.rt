@@ -1,0 +1,92 @@
+//! That a machine does what a small schedule says, and that it finds memory where there is some.
+
+use crate::*;
+use sci_history::Entry;
+use sci_packets::Body;
+use sci_words::{Act, AskKind, Event, Extent, Line, Op, Reply, Stamped};
+use std::alloc::AllocError;
+use std::process::Abort;
+use std::test::*;
+
+fn store(word: u64) -> Op {
+    Op {
+        line: 0,
+        word: 0,
+        act: Act::Store(word),
+    }
+}
+
+/// Line 0 with this word first, at version 1.
+fn stored(word: u64) -> Stamped {
+    Stamped {
+        line: Line::zero().with(0, word),
+        version: 1,
+    }
+}
+
+/// One node takes line 0 to write, and stores 7.
+fn schedule() -> [Event; 6] {
+    let node = 0;
+    let from = 0;
+    [
+        Event::Issue { node, op: store(7) },
+        Event::Ask {
+            node,
+            line: 0,
+            kind: AskKind::Mread,
+        },
+        Event::Serve { from, node },
+        Event::Reply { node },
+        Event::Accept { from, node },
+        Event::Perform { node, line: 0 },
+    ]
+}
+
+fn entry() -> Entry {
+    Entry {
+        node: 0,
+        serial: 0,
+        op: store(7),
+        reply: Reply::Stored,
+        version: 1,
+    }
+}
+
+#[test]
+fn each_event_of_a_schedule_is_applied(rt: HostRuntime) -> Result<(), Fail> {
+    let extent = Extent::new(1, 1, 1).ok_or("an extent")?;
+    let mut machine = Machine::new(rt.alloc(), extent, 1).ok().ok_or("no memory")?;
+    let events = schedule();
+    for event in &events {
+        assert_eq!(rt; machine.apply(event), Ok(()), "{event:?}");
+        assert_eq!(rt;
+            machine.apply(&Event::Perform { node: 0, line: 1 }),
+            Err(ApplyFault::NotEnabled)
+        );
+    }
+    assert_eq!(rt; machine.apply(&events[5]), Err(ApplyFault::NotEnabled));
+    assert_eq!(rt; machine.apply(&events[0]), Err(ApplyFault::NotEnabled));
+    let logs = machine.logs(rt.alloc()).ok().ok_or("no memory")?;
+    assert_eq!(rt; logs.of(0).len(), 1);
+    assert_eq!(rt; logs.of(0)[0], entry());
+    assert_eq!(rt; logs.of(1).len(), 0);
+    assert_eq!(rt; machine.last().lines(), 1);
+    Ok(())
+}
+
+#[test]
+fn a_run_skips_what_is_not_enabled(rt: HostRuntime) -> Result<(), Fail> {
+    let extent = Extent::new(2, 1, 1).ok_or("an extent")?;
+    let mut machine = Machine::new(rt.alloc(), extent, 1).ok().ok_or("no memory")?;
+    let reply = Event::Reply { node: 1 };
+    assert_eq!(rt; machine.run(&[reply, reply]), Ok(()));
+    assert_eq!(rt; machine.run(&schedule()), Ok(()));
+    assert_eq!(rt; machine.run(&[reply]), Ok(()));
+    let logs = machine.logs(rt.alloc()).ok().ok_or("no memory")?;
+    assert_eq!(rt; logs.of(0).len(), 1);
+    let last = machine.last();
+    if last.lines() > 0 {
+        assert_eq!(rt; last.get(0), stored(7));
+    }
+    Ok(())
+}

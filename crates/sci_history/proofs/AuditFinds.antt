@@ -1,0 +1,101 @@
+-- What a loop over a line's entries has found so far.
+use Rattle.std.proofs.Common.{◌≡◌, ℕ, ◌+◌, ◌<◌, ◌≤◌, Bool, true, false, cond, List, [], ◌∷◌, ◌++◌, length, get_or, take, drop, Some, None, refl, sym, ap, ◌∙◌, subst, add-one}
+use Rattle.std.proofs.lemmas.List.{take_more, drop_all, length-map, get_or-map}
+use Rattle.std.proofs.Math.Seq.{drop-cons}
+use denote.Ref.{Bor}
+use Rattle.std.specs.Prelude.{All}
+use Rattle.std.specs.List.{filter, list_any}
+use Rattle.std.proofs.Common.{◌||◌}
+use Rattle.std.proofs.lemmas.Bool.{eq-eqb, ne_eqb}
+use Rattle.std.proofs.lemmas.List.{append-nil}
+use Rattle.std.proofs.lemmas.List.Folds.{list_any-append}
+use Rattle.std.proofs.lemmas.List.Elements.{filter-append}
+use Rattle.sci_words.specs.Stamped.{line_after}
+use Rattle.sci_history.specs.Placed.{makes, is_of_node}
+use Rattle.sci_history.specs.Audit.{last_of, words_after}
+use Rattle.sci_history.proofs.Order.{filter_yes, filter_no}
+use Rattle.sci_history.proofs.AuditOrders.{last_of-push}
+use Rattle.sci_history.proofs.AuditRuns.{words_after-push}
+use Rattle.sci_words.specs.declared.operation.Act.TheVariants.{Load}
+use Rattle.sci_words.specs.declared.operation.Reply.TheVariants.{Stored}
+use Rattle.sci_history.specs.declared.entry.Entry.{Entry}
+use Rattle.sci_history.specs.Audit.{entries_of, first_failing}
+
+abbrev pub no_entry : Entry
+no_entry = record { node = 0; serial = 0; op = record { line = 0; word = 0; act = Load }; reply = Stored; version = 0 }
+
+-- what a reference of a list points to, as the code reads it
+abbrev pub entry_at : List (Bor Entry) → ℕ → Entry
+entry_at refs n = (get_or refs n (record { ref_ptr = (0, 0); now = no_entry })).now
+
+-- the first that fails isn't among the first n
+pub record FailsLater (fails : List Entry → Entry → Bool) (refs : List (Bor Entry)) (n : ℕ) : Type 0 where
+  pub is : first_failing fails [] (entries_of refs) ≡ first_failing fails (take n (entries_of refs)) (drop n (entries_of refs))
+
+pub later_none : (fails : List Entry → Entry → Bool) (refs : List (Bor Entry)) → FailsLater fails refs 0
+later_none fails refs = record { is = refl }
+
+next_or : (fails : List Entry → Entry → Bool) (entries : List Entry) (n : ℕ) (d : Entry) → n < length entries →
+    first_failing fails (take n entries) (drop n entries) ≡ cond (fails (take n entries) (get_or entries n d)) (Some (get_or entries n d)) (first_failing fails (take (n + 1) entries) (drop (n + 1) entries))
+next_or fails entries n d lt = ap (first_failing fails (take n entries)) (drop-cons entries n d lt) ∙ rw (take_more entries n d lt, add-one) refl
+
+pub entries_at : (refs : List (Bor Entry)) (n : ℕ) → n < length refs → get_or (entries_of refs) n no_entry ≡ entry_at refs n
+entries_at refs n lt = get_or-map (λ ref. ref.now) refs n (record { ref_ptr = (0, 0); now = no_entry }) no_entry lt
+
+next_of : (fails : List Entry → Entry → Bool) (refs : List (Bor Entry)) (n : ℕ) → n < length refs →
+    first_failing fails (take n (entries_of refs)) (drop n (entries_of refs)) ≡ cond (fails (take n (entries_of refs)) (entry_at refs n)) (Some (entry_at refs n)) (first_failing fails (take (n + 1) (entries_of refs)) (drop (n + 1) (entries_of refs)))
+next_of fails refs n lt =
+    let long : n < length (entries_of refs) = rw length-map lt in
+    next_or fails (entries_of refs) n no_entry long ∙ rw (entries_at refs n lt) refl
+
+pub take_entries_more : (refs : List (Bor Entry)) (n : ℕ) → n < length refs → take (n + 1) (entries_of refs) ≡ take n (entries_of refs) ++ entry_at refs n ∷ []
+take_entries_more refs n lt =
+    let long : n < length (entries_of refs) = rw length-map lt in
+    take_more (entries_of refs) n no_entry long ∙ ap (λ (e : Entry). take n (entries_of refs) ++ e ∷ []) (entries_at refs n lt)
+
+pub later_more : (fails : List Entry → Entry → Bool) (refs : List (Bor Entry)) (n : ℕ) → n < length refs → fails (take n (entries_of refs)) (entry_at refs n) ≡ false → FailsLater fails refs n → FailsLater fails refs (n + 1)
+later_more fails refs n lt passes h = record { is = h.is ∙ next_of fails refs n lt ∙ rw passes refl }
+
+pub later_here : (fails : List Entry → Entry → Bool) (refs : List (Bor Entry)) (n : ℕ) → n < length refs → fails (take n (entries_of refs)) (entry_at refs n) ≡ true → FailsLater fails refs n → Some (entry_at refs n) ≡ first_failing fails [] (entries_of refs)
+later_here fails refs n lt here h = sym (h.is ∙ next_of fails refs n lt ∙ rw here refl)
+
+pub later_end : (fails : List Entry → Entry → Bool) (refs : List (Bor Entry)) (n : ℕ) → length refs ≤ n → FailsLater fails refs n → None ≡ first_failing fails [] (entries_of refs)
+later_end fails refs n le h =
+    let past : length (entries_of refs) ≤ n = rw length-map le in
+    sym (h.is ∙ rw (drop_all n (entries_of refs) past) refl)
+
+pub all_at : (P : Entry → Type 0) (refs : List (Bor Entry)) (n : ℕ) → n < length refs → All P (entries_of refs) → P (entry_at refs n)
+all_at P refs n lt h =
+    let long : n < length (entries_of refs) = rw length-map lt in
+    subst P (entries_at refs n lt) (h n no_entry long)
+
+-- ---- a version twice
+
+or_false : (b : Bool) → (b || false) ≡ b
+or_false true = refl
+or_false false = refl
+
+pub made_more : (refs : List (Bor Entry)) (n version : ℕ) → n < length refs → list_any (makes version) (take (n + 1) (entries_of refs)) ≡ (list_any (makes version) (take n (entries_of refs)) || makes version (entry_at refs n))
+made_more refs n version lt = rw (take_entries_more refs n lt) (list_any-append (makes version) (take n (entries_of refs)) (entry_at refs n ∷ []) ∙ ap (λ (b : Bool). list_any (makes version) (take n (entries_of refs)) || b) (or_false (makes version (entry_at refs n))))
+
+-- ---- words
+
+pub words_more : (refs : List (Bor Entry)) (n : ℕ) → n < length refs → words_after (take (n + 1) (entries_of refs)) ≡ line_after (words_after (take n (entries_of refs))) (entry_at refs n).op
+words_more refs n lt = ap words_after (take_entries_more refs n lt) ∙ words_after-push (take n (entries_of refs)) (entry_at refs n)
+
+-- ---- each node's latest entry
+
+pub latest_own : (refs : List (Bor Entry)) (n node : ℕ) → n < length refs → (entry_at refs n).node ≡ node → last_of None (filter (is_of_node node) (take (n + 1) (entries_of refs))) ≡ Some (entry_at refs n)
+latest_own refs n node lt own =
+    let p = is_of_node node in
+    let before = take n (entries_of refs) in
+    ap (λ (es : List Entry). last_of None (filter p es)) (take_entries_more refs n lt)
+    ∙ ap (last_of None) (filter-append p before (entry_at refs n ∷ []) ∙ ap (λ (es : List Entry). filter p before ++ es) (filter_yes p (entry_at refs n) [] (eq-eqb (entry_at refs n).node node own)))
+    ∙ last_of-push None (filter p before) (entry_at refs n)
+
+pub latest_other : (refs : List (Bor Entry)) (n node : ℕ) → n < length refs → ((entry_at refs n).node ≡ node → ⊥) → last_of None (filter (is_of_node node) (take (n + 1) (entries_of refs))) ≡ last_of None (filter (is_of_node node) (take n (entries_of refs)))
+latest_other refs n node lt other =
+    let p = is_of_node node in
+    let before = take n (entries_of refs) in
+    ap (λ (es : List Entry). last_of None (filter p es)) (take_entries_more refs n lt)
+    ∙ ap (last_of None) (filter-append p before (entry_at refs n ∷ []) ∙ ap (λ (es : List Entry). filter p before ++ es) (filter_no p (entry_at refs n) [] (ne_eqb (entry_at refs n).node node other)) ∙ append-nil (filter p before))

@@ -1,0 +1,35 @@
+//! The audit of logs: whether they are lawful, or the first rule that they break.
+
+ghost use Rattle.std.specs.Prelude.{◌≡◌, ◌↔◌, IfOk, length};
+ghost use Rattle.sci_history.specs.Audit.{AreWithin, IsVerdict};
+ghost use Rattle.sci_history.specs.Lawful.{Lawful};
+
+use crate::by_line::by_line;
+use crate::faults::line_fault;
+use crate::last::Last;
+use crate::logs::Logs;
+use crate::verdict::Verdict;
+use std::alloc::{AllocError, Global};
+
+/// Audits logs against last contents: Lawful exactly where for each line one memory of one thread explains both;
+/// else the first fault, of the lowest line that has one and there of the first kind. Refused only where a growth
+/// was. It takes time n log n in the number of entries. The caller sees to it that each entry's line is one of
+/// `last`, and its word below 8.
+pub fn audit(alloc: Global, logs: &Logs, last: &Last) -> Result<Verdict, AllocError>
+    requires { AreWithin (length last.now) logs.now }
+    ensures verdict { IfOk result (IsVerdict logs.now last.now) }
+    ensures lawful { IfOk result (λ verdict. (verdict ≡ Verdict.Lawful) ↔ Lawful logs.now last.now) }
+{
+    let lines = last.lines();
+    let lists = by_line(alloc, logs, lines)?;
+    for line in 0..lines {
+        if let Some(fault) = line_fault(alloc, &lists[line as usize], last.get(line))? {
+            return Ok(Verdict::Fault {
+                line,
+                kind: fault.kind,
+                at: fault.at,
+            });
+        }
+    }
+    Ok(Verdict::Lawful)
+}

@@ -1,0 +1,177 @@
+//! The faults of one line: the first entry at which each kind fails.
+
+ghost use Rattle.std.specs.Prelude.{◌≡◌, ◌≤◌, ◌<◌, [], None, Some, length, not, All, IfOk, IfErr};
+ghost use Rattle.std.specs.Option.{option_copied};
+ghost use Rattle.sci_words.specs.declared.limits.TheConstants.{MAX_NODES, WORDS_PER_LINE};
+ghost use Rattle.sci_history.specs.Audit.{IsFound, breaks_order as breaks_order_of, entries_of, first_disordered, first_failing, first_twice, first_wrong, is_placed_before, is_reply_wrong, is_version_missing, same_reply, words_after};
+ghost use Rattle.sci_history.specs.Placed.{maker_count, placed_entries};
+
+use crate::entry::Entry;
+use crate::verdict::FaultKind;
+use sci_words::{Line, MAX_NODES, Reply, Stamped, effect};
+use std::alloc::{AllocError, Global};
+use std::collections::BTreeSet;
+
+const NODES: usize = MAX_NODES as usize;
+
+/// A fault of one line.
+#[derive(Clone, Copy)]
+pub struct LineFault {
+    pub kind: FaultKind,
+    /// Node and serial of the entry where the rule fails; none where the last contents differ.
+    pub at: Option<(u8, u32)>,
+}
+
+/// The first maker whose version an earlier maker has.
+fn version_twice<'a>(alloc: Global, entries: &[&'a Entry]) -> Result<Option<&'a Entry>, AllocError>
+    ensures { IfOk result (λ found. option_copied found ≡ first_twice (entries_of entries.now)) }
+{
+    let mut made = BTreeSet::new(alloc);
+    for entry in entries {
+        if entry.op.is_maker() && !made.insert(entry.version)? {
+            return Ok(Some(*entry));
+        }
+    }
+    Ok(None)
+}
+
+/// How many of the entries are makers'.
+fn makers(entries: &[&Entry]) -> u64
+    ensures { result ≡ maker_count (entries_of entries.now) }
+{
+    entries.iter().filter(|entry| entry.op.is_maker()).count() as u64
+}
+
+/// The first maker of version 0, or entry whose version is above the number of makers.
+fn version_missing<'a>(entries: &[&'a Entry], makers: u64) -> Option<&'a Entry>
+    ensures { option_copied result ≡ first_failing (is_version_missing makers) [] (entries_of entries.now) }
+{
+    for entry in entries {
+        if entry.version > makers || (entry.op.is_maker() && entry.version == 0) {
+            return Some(*entry);
+        }
+    }
+    None
+}
+
+/// The entries in placed order.
+fn placed<'a>(alloc: Global, entries: &[&'a Entry]) -> Result<Vec<&'a Entry>, AllocError>
+    requires nodes { All (λ entry. entry.node < MAX_NODES) (entries_of entries.now) }
+    requires versions { All (λ entry. entry.version ≤ maker_count (entries_of entries.now)) (entries_of entries.now) }
+    ensures { IfOk result (λ placed. entries_of placed.items ≡ placed_entries (entries_of entries.now)) }
+{
+    let mut placed = Vec::from_slice(alloc, entries)?;
+    placed.sort_by_key(|entry| entry.serial)?;
+    placed.sort_by_key(|entry| entry.node)?;
+    placed.sort_by_key(|entry| (entry.version, !entry.op.is_maker()))?;
+    Ok(placed)
+}
+
+/// Whether the entry's reply is this one.
+fn answers(entry: &Entry, reply: Reply) -> bool
+    ensures { result ≡ same_reply entry.now.reply reply }
+{
+    entry.reply == reply
+}
+
+/// The words that the placed entries leave, begun with zero words, or the first of them whose reply isn't the effect's.
+fn replayed<'a>(placed: &[&'a Entry]) -> Result<Line, &'a Entry>
+    requires { All (λ entry. entry.op.word < WORDS_PER_LINE) (entries_of placed.now) }
+    ensures right { IfOk result (λ line. first_failing is_reply_wrong [] (entries_of placed.now) ≡ None) }
+    ensures words { IfOk result (λ line. line ≡ words_after (entries_of placed.now)) }
+    ensures wrong { IfErr result (λ entry. first_failing is_reply_wrong [] (entries_of placed.now) ≡ Some entry.now) }
+{
+    let mut line = Line::zero();
+    for entry in placed {
+        let (word, reply) = effect(entry.op, line.word(entry.op.word));
+        if !answers(entry, reply) {
+            return Err(*entry);
+        }
+        line = line.with(entry.op.word, word);
+    }
+    Ok(line)
+}
+
+/// Whether the first of two entries of one node stands before the second in placed order.
+fn is_before(first: &Entry, second: &Entry) -> bool
+    ensures { result ≡ is_placed_before first.now second.now }
+{
+    if first.version != second.version {
+        return first.version < second.version;
+    }
+    match (first.op.is_maker(), second.op.is_maker()) {
+        (true, false) => true,
+        (false, true) => false,
+        _ => first.serial <= second.serial,
+    }
+}
+
+/// Whether an entry doesn't stand after its node's entry before it on the line.
+fn breaks_order(previous: Option<Entry>, entry: &Entry) -> bool
+    ensures { result ≡ breaks_order_of previous entry.now }
+{
+    match previous {
+        None => false,
+        Some(previous) => previous.serial >= entry.serial || !is_before(&previous, entry),
+    }
+}
+
+/// The first entry whose serial or place isn't above that of its node's entry before it.
+fn out_of_order<'a>(entries: &[&'a Entry]) -> Option<&'a Entry>
+    requires { All (λ entry. entry.node < MAX_NODES) (entries_of entries.now) }
+    ensures { option_copied result ≡ first_disordered (entries_of entries.now) }
+{
+    let mut latest: [Option<Entry>; NODES] = [None; NODES];
+    for entry in entries {
+        let node = entry.node as usize;
+        if breaks_order(latest[node], entry) {
+            return Some(*entry);
+        }
+        latest[node] = Some(**entry);
+    }
+    None
+}
+
+/// A fault at an entry.
+fn fault_at(kind: FaultKind, entry: &Entry) -> Option<LineFault>
+    ensures { result ≡ Some (record { kind = kind; at = Some (entry.now.node, entry.now.serial) }) }
+{
+    Some(LineFault {
+        kind,
+        at: Some((entry.node, entry.serial)),
+    })
+}
+
+/// The fault that comes first among the entries on a line, in reading order, against its last contents.
+pub fn line_fault(
+    alloc: Global,
+    entries: &[&Entry],
+    last: Stamped,
+) -> Result<Option<LineFault>, AllocError>
+    requires nodes { All (λ entry. entry.node < MAX_NODES) (entries_of entries.now) }
+    requires words { All (λ entry. entry.op.word < WORDS_PER_LINE) (entries_of entries.now) }
+    ensures { IfOk result (IsFound (entries_of entries.now) last) }
+{
+    if let Some(entry) = version_twice(alloc, entries)? {
+        return Ok(fault_at(FaultKind::VersionTwice, entry));
+    }
+    let makers = makers(entries);
+    if let Some(entry) = version_missing(entries, makers) {
+        return Ok(fault_at(FaultKind::VersionMissing, entry));
+    }
+    let placed = placed(alloc, entries)?;
+    let line = match replayed(&placed) {
+        Ok(line) => line,
+        Err(entry) => return Ok(fault_at(FaultKind::WrongReply, entry)),
+    };
+    if let Some(entry) = out_of_order(entries) {
+        return Ok(fault_at(FaultKind::OutOfOrder, entry));
+    }
+    if last.line == line && last.version == makers {
+        return Ok(None);
+    }
+    Ok(Some(LineFault {
+        kind: FaultKind::LastDiffers,
+        at: None,
+    }))
+}

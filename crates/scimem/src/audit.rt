@@ -1,0 +1,126 @@
+//! The command `audit`: whether a log is lawful, or the first rule that it breaks.
+
+ghost use Rattle.std.specs.Prelude.{◌≡◌, ◌++◌, ℕ, List, false, true, IfOk, IfErr, IfSome, OnOk};
+ghost use Rattle.std.specs.Io.KnownBytes.{Appends};
+ghost use Rattle.sci_text.specs.LogValue.{IsLogTold};
+ghost use Rattle.sci_text.specs.Tap.{has_failed, tapped};
+ghost use Rattle.scimem.specs.declared.outcome.Outcome.{Outcome};
+ghost use Rattle.scimem.specs.LogAnswer.{IsAuditAnswer, IsAuditOf, kind_text, named_text, outcome_of, verdict_text};
+ghost use Rattle.scimem.specs.Writing.{WritesFront};
+
+use crate::outcome::Outcome;
+use crate::refusal::{refuse, refused_for_memory};
+use crate::writing::write_answer;
+use sci_history::{FaultKind, Verdict, audit};
+use sci_text::{Tap, TextFault, push_field, push_text, read_logs};
+use std::alloc::{AllocError, Global};
+use std::io::{Read, Write};
+
+/// The number of a kind of fault, and its name.
+#[tactic(auto, unfolding(crate::specs::LogAnswer::kind_text))]
+fn kind_words(kind: FaultKind) -> &'static str
+    ensures { result.now ≡ kind_text kind }
+{
+    match kind {
+        FaultKind::VersionTwice => "fault 1 version-twice",
+        FaultKind::VersionMissing => "fault 2 version-missing",
+        FaultKind::WrongReply => "fault 3 wrong-reply",
+        FaultKind::OutOfOrder => "fault 4 out-of-order",
+        FaultKind::LastDiffers => "fault 5 last-differs",
+    }
+}
+
+/// Appends node and serial of an entry that is named.
+#[tactic(auto, unfolding(crate::specs::LogAnswer::named_text))]
+fn push_named(out: &mut Vec<u8>, at: Option<(u8, u32)>) -> Result<(), AllocError>
+    ensures { OnOk result (out.new.items ≡ out.old.items ++ named_text at) }
+{
+    match at {
+        None => Ok(()),
+        Some((node, serial)) => {
+            push_text(out, " node")?;
+            push_field(out, u64::from(node))?;
+            push_text(out, " serial")?;
+            push_field(out, u64::from(serial))
+        }
+    }
+}
+
+/// The line of a verdict.
+#[tactic(auto, unfolding(crate::specs::LogAnswer::verdict_text))]
+fn verdict_line(alloc: Global, verdict: Verdict) -> Result<Vec<u8>, AllocError>
+    ensures { IfOk result (λ text. text.items ≡ verdict_text verdict) }
+{
+    let mut text = Vec::new(alloc);
+    match verdict {
+        Verdict::Lawful => push_text(&mut text, "lawful")?,
+        Verdict::Fault { line, kind, at } => {
+            push_text(&mut text, kind_words(kind))?;
+            push_text(&mut text, " line")?;
+            push_field(&mut text, u64::from(line))?;
+            push_named(&mut text, at)?;
+        }
+    }
+    push_text(&mut text, "\n")?;
+    Ok(text)
+}
+
+/// How an audit ends.
+fn end_of(verdict: Verdict) -> Outcome
+    ensures { result ≡ outcome_of verdict }
+{
+    match verdict {
+        Verdict::Lawful => Outcome::Done,
+        Verdict::Fault { .. } => Outcome::Unlawful,
+    }
+}
+
+/// The line for the log that the reader gives and how the audit ends, or its fault.
+fn answer<R: Read>(alloc: Global, reader: &mut Tap<R>) -> Result<(Vec<u8>, Outcome), TextFault>
+    requires { has_failed reader.old ≡ false }
+    ensures text { IfOk result (λ x. IfSome (R.remaining (tapped reader.old)) (λ input. IsAuditOf input x.0.items x.1)) }
+    ensures judged { IfOk result (λ x. x.1 ≡ Outcome.Refused → ⊥) }
+    ensures fault { IfErr result (λ fault. IsLogTold fault.kind (R.remaining (tapped reader.old)) (has_failed reader.new) fault.line) }
+{
+    let (_, logs, last) = match read_logs(alloc, reader) {
+        Ok(read) => read,
+        Err(fault) => return Err(fault),
+    };
+    let Ok(verdict) = audit(alloc, &logs, &last) else {
+        return Err(refused_for_memory());
+    };
+    let Ok(text) = verdict_line(alloc, verdict) else {
+        return Err(refused_for_memory());
+    };
+    Ok((text, end_of(verdict)))
+}
+
+/// Reads a log to its end and judges it: `lawful` is Done, and `fault K NAME line L node N serial S` is Unlawful, the
+/// first fault of the lowest line that has one (without node and serial where the last contents differ). A text with a
+/// fault is Refused, with the line `refused at line K: KIND` alone, as are a reader that fails, too long an input and
+/// want of memory, at line 0. The line is made before its first byte is written. After a failed write nothing more is
+/// written, and it is Refused. The caller sees to it that neither tap has failed before.
+pub fn audit_text<R: Read, W: Write>(
+    alloc: Global,
+    reader: &mut Tap<R>,
+    writer: &mut Tap<W>,
+) -> Outcome
+    requires reader { has_failed reader.old ≡ false }
+    requires writer { has_failed writer.old ≡ false }
+
+    // The answer to the input is written, and nothing else.
+    ensures written { has_failed writer.new ≡ false → (text : List ℕ)
+        × Appends (W.contents (tapped writer.old)) (W.contents (tapped writer.new)) text
+        × IsAuditAnswer (R.remaining (tapped reader.old)) (has_failed reader.new) text result }
+
+    // Where a write fails, a front of it is.
+    ensures front { (text : List ℕ) × (outcome : Outcome)
+        × WritesFront (W.contents (tapped writer.old)) (W.contents (tapped writer.new)) text
+        × IsAuditAnswer (R.remaining (tapped reader.old)) (has_failed reader.new) text outcome }
+    ensures failed { has_failed writer.new ≡ true → result ≡ Outcome.Refused }
+{
+    match answer(alloc, reader) {
+        Ok((text, outcome)) => write_answer(writer, &text, outcome),
+        Err(fault) => refuse(alloc, writer, fault),
+    }
+}

@@ -1,0 +1,61 @@
+//! The command `upgrade`: the same log in format 2.
+
+ghost use Rattle.std.specs.Prelude.{◌≡◌, ℕ, List, false, true, IfOk, IfErr, IfSome};
+ghost use Rattle.std.specs.Io.KnownBytes.{Appends};
+ghost use Rattle.sci_text.specs.LogValue.{IsLogTold};
+ghost use Rattle.sci_text.specs.Tap.{has_failed, tapped};
+ghost use Rattle.scimem.specs.declared.outcome.Outcome.{Outcome};
+ghost use Rattle.scimem.specs.LogAnswer.{IsUpgradeAnswer, IsUpgradeOf};
+ghost use Rattle.scimem.specs.Writing.{WritesFront};
+
+use crate::outcome::Outcome;
+use crate::refusal::{refuse, refused_for_memory};
+use crate::writing::write_answer;
+use sci_text::{Tap, TextFault, logs_text, read_logs, written_again};
+use std::alloc::Global;
+use std::io::{Read, Write};
+
+/// The text in format 2 of the log that the reader gives, or its fault.
+fn answer<R: Read>(alloc: Global, reader: &mut Tap<R>) -> Result<Vec<u8>, TextFault>
+    requires { has_failed reader.old ≡ false }
+    ensures text { IfOk result (λ text. IfSome (R.remaining (tapped reader.old)) (λ input. IsUpgradeOf input text.items)) }
+    ensures fault { IfErr result (λ fault. IsLogTold fault.kind (R.remaining (tapped reader.old)) (has_failed reader.new) fault.line) }
+{
+    let (nodes, logs, last) = match read_logs(alloc, reader) {
+        Ok(read) => read,
+        Err(fault) => return Err(fault),
+    };
+    let Ok(text) = logs_text(alloc, nodes, &logs, &last) else {
+        return Err(refused_for_memory());
+    };
+    written_again();
+    Ok(text)
+}
+
+/// Reads a log to its end, and writes it in format 2: Done. It isn't judged, and its entries stay in their order. A text
+/// with a fault is Refused, as by `audit`. The whole text is made before its first byte is written. After a failed
+/// write nothing more is written, and it is Refused. The caller sees to it that neither tap has failed before.
+pub fn upgrade<R: Read, W: Write>(
+    alloc: Global,
+    reader: &mut Tap<R>,
+    writer: &mut Tap<W>,
+) -> Outcome
+    requires reader { has_failed reader.old ≡ false }
+    requires writer { has_failed writer.old ≡ false }
+
+    // The answer to the input is written, and nothing else.
+    ensures written { has_failed writer.new ≡ false → (text : List ℕ)
+        × Appends (W.contents (tapped writer.old)) (W.contents (tapped writer.new)) text
+        × IsUpgradeAnswer (R.remaining (tapped reader.old)) (has_failed reader.new) text result }
+
+    // Where a write fails, a front of it is.
+    ensures front { (text : List ℕ) × (outcome : Outcome)
+        × WritesFront (W.contents (tapped writer.old)) (W.contents (tapped writer.new)) text
+        × IsUpgradeAnswer (R.remaining (tapped reader.old)) (has_failed reader.new) text outcome }
+    ensures failed { has_failed writer.new ≡ true → result ≡ Outcome.Refused }
+{
+    match answer(alloc, reader) {
+        Ok(text) => write_answer(writer, &text, Outcome::Done),
+        Err(fault) => refuse(alloc, writer, fault),
+    }
+}
