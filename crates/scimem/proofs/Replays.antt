@@ -1,5 +1,5 @@
 -- A fault that is told of a schedule leaves room for the one that memory was refused.
-use Rattle.std.proofs.Common.{◌≡◌, ℕ, ◌<◌, List, Bool, Option, refl, arith}
+use Rattle.std.proofs.Common.{ℕ, ◌<◌, List, Bool, Option, refl, arith}
 use Rattle.sci_text.specs.declared.fault.TextFaultKind.{TextFaultKind}
 use Rattle.sci_text.specs.declared.fault.TextFaultKind.TheVariants.{Syntax, Range, TooMany, Read, Write, Memory}
 use Rattle.sci_text.specs.ScheduleFault.{IsToldOfSchedule}
