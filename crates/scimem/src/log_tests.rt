@@ -268,6 +268,69 @@ fn sixty_four_lines(rt: HostRuntime) -> Result<(), Fail> {
     Ok(())
 }
 
+/// A log in format 2 of sixteen nodes and 64 lines, whose lines but the last have version 0, with this last
+/// content of line 63 and these entries.
+fn of_line_63(rt: &impl AllocGlobal, last: &str, entries: &str) -> Result<String, Fail> {
+    let mut log = String::from_str(rt.alloc(), "log 2 16 64\n")?;
+    log.push_str(lines(rt, 63)?.as_str())?;
+    log.push_str(last)?;
+    log.push_str(entries)?;
+    Ok(log)
+}
+
+#[test]
+fn faults_at_the_last_place(rt: HostRuntime) -> Result<(), Fail> {
+    let zero = "last 63 @0 0 0 0 0 0 0 0 0\n";
+    let one = "last 63 @1 7 0 0 0 0 0 0 0\n";
+    let table: [(&str, &str, &str); 5] = [
+        (
+            one,
+            "14 65535 store 63 0 7 = - @1\n15 65535 store 63 0 7 = - @1\n",
+            "fault 1 version-twice line 63 node 15 serial 65535\n",
+        ),
+        (
+            zero,
+            "15 65535 load 63 7 = 0 @18446744073709551615\n",
+            "fault 2 version-missing line 63 node 15 serial 65535\n",
+        ),
+        (
+            zero,
+            "15 65535 load 63 7 = 18446744073709551615 @0\n",
+            "fault 3 wrong-reply line 63 node 15 serial 65535\n",
+        ),
+        (
+            one,
+            "14 65535 store 63 0 7 = - @1\n15 65534 load 63 0 = 7 @1\n15 65535 load 63 0 = 0 @0\n",
+            "fault 4 out-of-order line 63 node 15 serial 65535\n",
+        ),
+        (
+            "last 63 @0 0 0 0 0 0 0 0 1\n",
+            "15 65535 load 63 7 = 0 @0\n",
+            "fault 5 last-differs line 63\n",
+        ),
+    ];
+    for (last, entries, text) in table {
+        let log = of_line_63(&rt, last, entries)?;
+        expect(&rt, log.as_str(), text, Outcome::Unlawful);
+    }
+    let lawful = of_line_63(&rt, one, "15 65535 store 63 0 7 = - @1\n")?;
+    expect(&rt, lawful.as_str(), "lawful\n", Outcome::Done);
+    Ok(())
+}
+
+#[test]
+fn a_line_of_257_bytes(rt: HostRuntime) -> Result<(), Fail> {
+    let mut log = String::from_str(rt.alloc(), ZERO)?;
+    for _ in 0..257 {
+        log.push_str("0")?;
+    }
+    log.push_str("\n")?;
+    let refused = "refused at line 2: syntax\n";
+    expect(&rt, log.as_str(), refused, Outcome::Refused);
+    expect_upgrade(&rt, log.as_str(), refused, Outcome::Refused);
+    Ok(())
+}
+
 #[test]
 fn too_long(rt: HostRuntime) {
     let refused = b"refused at line 0: too-many\n".as_slice();
@@ -336,6 +399,34 @@ fn each_write_fails_in_turn(rt: HostRuntime) {
             let count = (10 * fails_at).min(79);
             assert_eq!(rt; FORMAT_2.len(), 79);
             assert_eq!(rt; to.written.as_slice(), &FORMAT_2.as_bytes()[..count]);
+        }
+    }
+}
+
+#[test]
+fn each_write_of_a_verdict_fails_in_turn(rt: HostRuntime) {
+    // The verdict's line has 44 bytes, so there are five writes of up to ten, and a flush.
+    let verdict = "fault 4 out-of-order line 0 node 1 serial 1\n";
+    for takes_nothing in [false, true] {
+        for fails_at in 0..=7 {
+            let mut to = Failing {
+                written: Vec::new(rt.alloc()),
+                calls: 0,
+                fails_at,
+                takes_nothing,
+            };
+            let mut writer = Tap::new(&mut to);
+            let mut reader = Tap::new(OUT_OF_ORDER.as_bytes());
+            let outcome = audit_text(rt.alloc(), &mut reader, &mut writer);
+            let end = if fails_at <= 5 {
+                Outcome::Refused
+            } else {
+                Outcome::Unlawful
+            };
+            assert_eq!(rt; outcome, end, "{fails_at}");
+            let count = (10 * fails_at).min(44);
+            assert_eq!(rt; verdict.len(), 44);
+            assert_eq!(rt; to.written.as_slice(), &verdict.as_bytes()[..count]);
         }
     }
 }

@@ -29,6 +29,8 @@ mod devices;
 #[cfg(test)]
 mod log_tests;
 #[cfg(test)]
+mod memory_tests;
+#[cfg(test)]
 mod oracle_tests;
 #[cfg(test)]
 mod replay_tests;

@@ -256,22 +256,6 @@ fn each_read_fails_in_turn(rt: HostRuntime) {
 }
 
 #[test]
-fn a_refused_growth_is_told_alone(rt: HostRuntime) {
-    let mut written = Vec::new(rt.alloc());
-    let outcome = replay(
-        rt.alloc(),
-        &mut Tap::new(ONE_STORE),
-        &mut Tap::new(&mut written),
-    );
-    match outcome {
-        Outcome::Done => assert_eq!(rt; written.as_slice(), ONE_STORE_LOG),
-        _ => assert!(rt;
-            written.is_empty() || written.as_slice() == b"refused at line 0: memory\n".as_slice()
-        ),
-    }
-}
-
-#[test]
 fn each_write_fails_in_turn(rt: HostRuntime) {
     // The log has 59 bytes, so there are six writes of up to ten, and then the flush.
     for takes_nothing in [false, true] {
