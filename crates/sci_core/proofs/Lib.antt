@@ -20,3 +20,11 @@ pub mod WaitingNodes
 pub mod TidySteps
 pub mod TidyRuns
 pub mod Transactions
+pub mod Chains
+pub mod Links
+pub mod Relinking
+pub mod NodeLinks
+pub mod ListSteps
+pub mod ListServes
+pub mod ListRuns
+pub mod Steps

@@ -28,7 +28,7 @@ keeps_node core n next keeps m k =
 
 -- ---- what a packet is about
 
-about_from : (m k : ℕ) (letter : Letter) → letter.line ≡ k → asker_of letter ≡ m → is_about m k letter ≡ true
+pub about_from : (m k : ℕ) (letter : Letter) → letter.line ≡ k → asker_of letter ≡ m → is_about m k letter ≡ true
 about_from m k letter line asker = and_from (letter.line == k) (asker_of letter == m) (eq-eqb letter.line k line) (eq-eqb (asker_of letter) m asker)
 
 pub about_line : (m k : ℕ) (letter : Letter) → is_about m k letter ≡ true → letter.line ≡ k
@@ -40,7 +40,7 @@ about_asker m k letter e = eqb-true (asker_of letter) m (and_parts (letter.line 
 pub request_asker : (letter : Letter) → is_request letter.body ≡ true → asker_of letter ≡ letter.source
 request_asker letter e = ap (λ (b : Bool). if b then letter.source else letter.target) e
 
-answer_asker : (letter : Letter) → is_request letter.body ≡ false → asker_of letter ≡ letter.target
+pub answer_asker : (letter : Letter) → is_request letter.body ≡ false → asker_of letter ≡ letter.target
 answer_asker letter e = ap (λ (b : Bool). if b then letter.source else letter.target) e
 
 -- an answer is about what its request is about
@@ -58,7 +58,7 @@ changed_tidy core n next lt well stays tidy m k below within =
 
 -- ---- other nodes and other lines, when one line of one node changes
 
-same_line : (core : Core) (n line : ℕ) (next : NodeOf) (m k : ℕ) → ((j : ℕ) → j ≢ line → line_of next.cache j ≡ line_of (node_at core n).cache j) → n < length core.parts → ((m ≡ n) × (k ≡ line) → ⊥) → line_of (node_at (with_node core n next) m).cache k ≡ line_of (node_at core m).cache k
+pub same_line : (core : Core) (n line : ℕ) (next : NodeOf) (m k : ℕ) → ((j : ℕ) → j ≢ line → line_of next.cache j ≡ line_of (node_at core n).cache j) → n < length core.parts → ((m ≡ n) × (k ≡ line) → ⊥) → line_of (node_at (with_node core n next) m).cache k ≡ line_of (node_at core m).cache k
 same_line core n line next m k others below not =
     elim (cases_eq m n) [
       | inl here ↦

@@ -25,7 +25,8 @@ use Rattle.sci_core.proofs.Waits.{idle_has_none, some_has_one}
 use Rattle.sci_core.proofs.WaitingNodes.{Stays, AsksOnce, Answers, Replies, Accepts, issue_stays, perform_stays, ask_once, serve_answers, refuse_answers, reply_replies, accept_accepts}
 use Rattle.sci_core.proofs.WellFormedSteps.{Comes, comes_from_lane, step_well, opening_well}
 use Rattle.sci_core.proofs.TidySteps.{about_line, about_asker, request_asker, about_answer}
-use Rattle.sci_core.proofs.TidyRuns.{lane_below, node_below, waiting_answers, step_tidy, opening_none, opening_tidy}
+use Rattle.sci_core.proofs.Steps.{lane_below}
+use Rattle.sci_core.proofs.TidyRuns.{node_below, waiting_answers, step_tidy, opening_none, opening_tidy}
 
 -- how far the transaction is whose packets are under way
 abbrev pub phase_of : List Letter → Phase

@@ -10,3 +10,4 @@ pub mod Outcome
 pub mod Sharing
 pub mod Tidy
 pub mod Alternates
+pub mod SharingList

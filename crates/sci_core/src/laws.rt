@@ -6,6 +6,7 @@ ghost use Rattle.sci_core.specs.Core.{Core, run};
 ghost use Rattle.sci_core.specs.Reached.{AreSizes, IsReached};
 ghost use Rattle.sci_core.specs.WellFormed.{IsWellFormed};
 ghost use Rattle.sci_core.specs.Tidy.{IsTidy};
+ghost use Rattle.sci_core.specs.SharingList.{HasSharingLists};
 ghost use Rattle.sci_core.specs.Alternates.{Alternates};
 
 /// Every state that a schedule leads to is reached, and no other is.
@@ -24,6 +25,12 @@ pub fn reached_states_are_well_formed()
 /// state sent.
 pub fn reached_states_are_tidy()
     ensures { (core : Core) → IsReached core → IsTidy core }
+{}
+
+/// In every reached state, for each line: its members are exactly the nodes of one list, which goes from the home's
+/// head along their links, with each of them once; the last one's link is none.
+pub fn members_are_one_list()
+    ensures { (core : Core) → IsReached core → HasSharingLists core }
 {}
 
 /// In every schedule, for each node and line, asks and accepted answers alternate, beginning with an ask; between

@@ -1,0 +1,205 @@
+-- Lists of nodes along links: what becomes of one where the links change. Nothing here knows the protocol.
+use Rattle.std.proofs.Common.{◌≡◌, ◌≢◌, ℕ, Bool, if◌then◌else◌, List, [], ◌∷◌, Option, Some, None, refl, sym, ap, subst, ◌∙◌, inl, inr}
+use Rattle.std.specs.Prelude.{◌==◌}
+use Rattle.std.proofs.lemmas.Bool.{cases_eq, eq-eqb, ne_eqb}
+use Rattle.sci_core.specs.SharingList.{IsIn, IsOnce, LinkedFrom, IsListOf}
+
+-- ---- lists
+
+pub without : ℕ → List ℕ → List ℕ
+without y [] = []
+without y (n ∷ ns) = if n == y then without y ns else n ∷ without y ns
+
+pub without_this : (y n : ℕ) (ns : List ℕ) → n ≡ y → without y (n ∷ ns) ≡ without y ns
+unfolding without
+without_this y n ns e = ap (λ (b : Bool). if b then without y ns else n ∷ without y ns) (eq-eqb n y e)
+
+pub without_other : (y n : ℕ) (ns : List ℕ) → n ≢ y → without y (n ∷ ns) ≡ n ∷ without y ns
+unfolding without
+without_other y n ns ne = ap (λ (b : Bool). if b then without y ns else n ∷ without y ns) (ne_eqb n y ne)
+
+-- nothing is taken out where it isn't
+without_absent : (y : ℕ) (ns : List ℕ) → (IsIn y ns → ⊥) → without y ns ≡ ns
+unfolding without
+without_absent y [] not = refl
+without_absent y (n ∷ ns) not =
+    without_other y n ns (λ e. not (inl (sym e))) ∙ ap (λ (xs : List ℕ). n ∷ xs) (without_absent y ns (λ h. not (inr h)))
+
+pub in_without : (y m : ℕ) (ns : List ℕ) → m ≢ y → IsIn m ns → IsIn m (without y ns)
+unfolding without
+in_without y m [] ne h = elim h [ ]
+in_without y m (n ∷ ns) ne (inl e) = subst (IsIn m) (sym (without_other y n ns (λ same. ne (e ∙ same)))) (inl e)
+in_without y m (n ∷ ns) ne (inr h) =
+    elim (cases_eq n y) [
+      | inl same ↦ subst (IsIn m) (sym (without_this y n ns same)) (in_without y m ns ne h)
+      | inr other ↦ subst (IsIn m) (sym (without_other y n ns other)) (inr (in_without y m ns ne h))
+    ]
+
+either_in : (m n : ℕ) (xs ys : List ℕ) → IsIn m (n ∷ xs) → (IsIn m xs → IsIn m ys) → IsIn m (n ∷ ys)
+either_in m n xs ys (inl e) f = inl e
+either_in m n xs ys (inr h) f = inr (f h)
+
+in_whole : (y m : ℕ) (ns : List ℕ) → IsIn m (without y ns) → IsIn m ns
+unfolding without
+in_whole y m [] h = h
+in_whole y m (n ∷ ns) h =
+    elim (cases_eq n y) [
+      | inl same ↦ inr (in_whole y m ns (subst (IsIn m) (without_this y n ns same) h))
+      | inr other ↦ either_in m n (without y ns) ns (subst (IsIn m) (without_other y n ns other) h) (in_whole y m ns)
+    ]
+
+once_without : (y : ℕ) (ns : List ℕ) → IsOnce ns → IsOnce (without y ns)
+unfolding without
+once_without y [] once = once
+once_without y (n ∷ ns) once =
+    elim (cases_eq n y) [
+      | inl same ↦ subst IsOnce (sym (without_this y n ns same)) (once_without y ns once.1)
+      | inr other ↦ subst IsOnce (sym (without_other y n ns other)) (λ h. once.0 (in_whole y n ns h), once_without y ns once.1)
+    ]
+
+-- ---- links
+
+-- the same links
+pub linked_same : (old new : ℕ → Option (Option ℕ)) (first : Option ℕ) (ns : List ℕ) → ((n : ℕ) → IsIn n ns → new n ≡ old n) → LinkedFrom old first ns → LinkedFrom new first ns
+linked_same old new first [] same linked = linked
+linked_same old new first (n ∷ ns) same linked =
+    (linked.0, (linked.1.0, same n (inl refl) ∙ linked.1.1, linked_same old new linked.1.0 ns (λ m h. same m (inr h)) linked.1.2))
+
+-- each node of a list has a link
+pub linked_has : (link : ℕ → Option (Option ℕ)) (first : Option ℕ) (ns : List ℕ) (n : ℕ) → LinkedFrom link first ns → IsIn n ns → (next : Option ℕ) × (link n ≡ Some next)
+linked_has link first [] n linked h = elim h [ ]
+linked_has link first (m ∷ ns) n linked (inl e) = (linked.1.0, ap link e ∙ linked.1.1)
+linked_has link first (m ∷ ns) n linked (inr h) = linked_has link linked.1.0 ns n linked.1.2 h
+
+first_in : (link : ℕ → Option (Option ℕ)) (first : Option ℕ) (ns : List ℕ) (n : ℕ) → first ≡ Some n → LinkedFrom link first ns → IsIn n ns
+first_in link first [] n e linked = cc
+first_in link first (m ∷ ns) n e linked = let same : n ≡ m = cc in inl same
+
+next_of : (link : ℕ → Option (Option ℕ)) (n x : ℕ) (next : Option ℕ) (y : ℕ) → x ≡ n → link n ≡ Some next → link x ≡ Some (Some y) → next ≡ Some y
+next_of link n x next y same at e =
+    let here : link n ≡ Some (Some y) = ap link (sym same) ∙ e in
+    cc
+
+-- what a node of a list links to is in the list
+pub next_in : (link : ℕ → Option (Option ℕ)) (first : Option ℕ) (ns : List ℕ) (x y : ℕ) → LinkedFrom link first ns → IsIn x ns → link x ≡ Some (Some y) → IsIn y ns
+next_in link first [] x y linked h e = elim h [ ]
+next_in link first (n ∷ ns) x y linked (inl same) e =
+    let next : linked.1.0 ≡ Some y = next_of link n x (linked.1.0) y same linked.1.1 e in
+    inr (first_in link linked.1.0 ns y next linked.1.2)
+next_in link first (n ∷ ns) x y linked (inr h) e = inr (next_in link linked.1.0 ns x y linked.1.2 h e)
+
+-- ---- one node is taken out, behind the node that links to it
+
+pub record TakenOut (old new : ℕ → Option (Option ℕ)) (x y : ℕ) : Type 0 where
+  pub before : old x ≡ Some (Some y)
+  pub behind : new x ≡ old y
+  pub gone : new y ≡ None
+  pub apart : x ≢ y
+  pub others : (n : ℕ) → n ≢ x → n ≢ y → new n ≡ old n
+
+-- the node that is taken out isn't before the one that links to it
+not_first : (link : ℕ → Option (Option ℕ)) (first : Option ℕ) (x y n : ℕ) (ns : List ℕ) → link x ≡ Some (Some y) → x ≢ y → LinkedFrom link first (n ∷ ns) → IsOnce (n ∷ ns) → IsIn x (n ∷ ns) → n ≢ y
+not_first link first x y n ns before apart linked once (inl e) = λ same. apart (e ∙ same)
+not_first link first x y n ns before apart linked once (inr h) = λ same.
+    once.0 (subst (λ (m : ℕ). IsIn m ns) (sym same) (next_in link linked.1.0 ns x y linked.1.2 h before))
+
+-- at the node that links to it
+behind_taken_out : (old new : ℕ → Option (Option ℕ)) (x y n : ℕ) (ns : List ℕ) → TakenOut old new x y → x ≡ n → LinkedFrom old (Some y) ns → IsOnce (n ∷ ns) → (next : Option ℕ) × (new n ≡ Some next) × LinkedFrom new next (without y ns)
+behind_taken_out old new x y n [] out at linked once = cc
+behind_taken_out old new x y n (m ∷ ns) out at linked once =
+    let same : m ≡ y = cc in
+    let f = linked.1.0 in
+    let behind : new n ≡ Some f = ap new (sym at) ∙ (out.behind ∙ (ap old (sym same) ∙ linked.1.1)) in
+    let absent : IsIn y ns → ⊥ = λ h. once.1.0 (subst (λ (k : ℕ). IsIn k ns) (sym same) h) in
+    let rest : without y (m ∷ ns) ≡ ns = without_this y m ns same ∙ without_absent y ns absent in
+    let links = linked_same old new f ns (λ k h. out.others k (λ e. once.0 (inr (subst (λ (j : ℕ). IsIn j ns) (e ∙ at) h))) (λ e. absent (subst (λ (j : ℕ). IsIn j ns) e h))) linked.1.2 in
+    (f, behind, subst (LinkedFrom new f) (sym rest) links)
+
+pub linked_taken_out : (old new : ℕ → Option (Option ℕ)) (first : Option ℕ) (x y : ℕ) (ns : List ℕ) → TakenOut old new x y → LinkedFrom old first ns → IsOnce ns → IsIn x ns → LinkedFrom new first (without y ns)
+linked_taken_out old new first x y [] out linked once h = elim h [ ]
+linked_taken_out old new first x y (n ∷ ns) out linked once (inl e) =
+    let other : n ≢ y = not_first old first x y n ns out.before out.apart linked once (inl e) in
+    let next = next_of old n x linked.1.0 y e linked.1.1 out.before in
+    let then_ = behind_taken_out old new x y n ns out e (subst (λ (f : Option ℕ). LinkedFrom old f ns) next linked.1.2) once in
+    subst (LinkedFrom new first) (sym (without_other y n ns other)) (linked.0, then_)
+linked_taken_out old new first x y (n ∷ ns) out linked once (inr h) =
+    let other : n ≢ y = not_first old first x y n ns out.before out.apart linked once (inr h) in
+    let apart : n ≢ x = λ e. once.0 (subst (λ (k : ℕ). IsIn k ns) (sym e) h) in
+    subst (LinkedFrom new first) (sym (without_other y n ns other))
+    (linked.0, (linked.1.0, out.others n apart other ∙ linked.1.1, linked_taken_out old new linked.1.0 x y ns out linked.1.2 once.1 h))
+
+-- ---- lists that have all members
+
+abbrev pub HasList : (ℕ → Option (Option ℕ)) → Option ℕ → Type 0
+HasList link first = (ns : List ℕ) × IsListOf link first ns
+
+pub list_same : (old new : ℕ → Option (Option ℕ)) (first then_ : Option ℕ) → then_ ≡ first → ((n : ℕ) → new n ≡ old n) → HasList old first → HasList new then_
+list_same old new first then_ e same (ns, is) = (
+  ns,
+  record {
+    linked = subst (λ (f : Option ℕ). LinkedFrom new f ns) (sym e) (linked_same old new first ns (λ n h. same n) is.linked);
+    once = is.once;
+    all = λ n next at. is.all n next (sym (same n) ∙ at);
+  },
+)
+
+-- a new front
+pub list_front : (old new : ℕ → Option (Option ℕ)) (first then_ : Option ℕ) (a : ℕ) → old a ≡ None → new a ≡ Some first → then_ ≡ Some a → ((n : ℕ) → n ≢ a → new n ≡ old n) → HasList old first → HasList new then_
+list_front old new first then_ a none joins head others (ns, is) =
+    let absent : IsIn a ns → ⊥ = λ h. (let has = linked_has old first ns a is.linked h in let link = has.1 in cc) in
+    let links = linked_same old new first ns (λ n h. others n (λ e. absent (subst (λ (k : ℕ). IsIn k ns) e h))) is.linked in (
+      a ∷ ns,
+      record {
+        linked = (head, (first, joins, links));
+        once = (absent, is.once);
+        all = λ n next at. elim (cases_eq n a) [ inl e ↦ inl e | inr ne ↦ inr (is.all n next (sym (others n ne) ∙ at)) ];
+      },
+    )
+
+-- the only one is gone
+only_front : (link : ℕ → Option (Option ℕ)) (next : Option ℕ) (ns : List ℕ) (m a n : ℕ) → m ≡ a → next ≡ None → LinkedFrom link next ns → IsIn n (m ∷ ns) → n ≡ a
+only_front link next ns m a n same none linked (inl e) = e ∙ same
+only_front link next [] m a n same none linked (inr h) = elim h [ ]
+only_front link next (k ∷ ns) m a n same none linked (inr h) = let e = linked.0 in cc
+
+only_one : (link : ℕ → Option (Option ℕ)) (first : Option ℕ) (ns : List ℕ) (a n : ℕ) → first ≡ Some a → link a ≡ Some None → LinkedFrom link first ns → IsIn n ns → n ≡ a
+only_one link first [] a n head ends linked h = elim h [ ]
+only_one link first (m ∷ ns) a n head ends linked h =
+    let same : m ≡ a = let e = linked.0 in cc in
+    let next : linked.1.0 ≡ None = let here : link m ≡ Some None = ap link same ∙ ends in let at = linked.1.1 in cc in
+    only_front link linked.1.0 ns m a n same next linked.1.2 h
+
+pub list_gone : (old new : ℕ → Option (Option ℕ)) (first then_ : Option ℕ) (a : ℕ) → first ≡ Some a → old a ≡ Some None → new a ≡ None → then_ ≡ None → ((n : ℕ) → n ≢ a → new n ≡ old n) → HasList old first → HasList new then_
+list_gone old new first then_ a head ends gone none others (ns, is) = (
+  [],
+  record {
+    linked = none;
+    once = tt;
+    all = λ n next at. elim (cases_eq n a) [
+      | inl e ↦ let here : new a ≡ Some next = ap new (sym e) ∙ at in cc
+      | inr ne ↦ absurd (ne (only_one old first ns a n head ends is.linked (is.all n next (sym (others n ne) ∙ at))))
+    ];
+  },
+)
+
+-- one is taken out behind the one that links to it
+pub list_taken_out : (old new : ℕ → Option (Option ℕ)) (first then_ : Option ℕ) (x y : ℕ) → then_ ≡ first → TakenOut old new x y → HasList old first → HasList new then_
+list_taken_out old new first then_ x y e out (ns, is) =
+    let at = is.all x (Some y) out.before in (
+      without y ns,
+      record {
+        linked = subst (λ (f : Option ℕ). LinkedFrom new f (without y ns)) (sym e) (linked_taken_out old new first x y ns out is.linked is.once at);
+        once = once_without y ns is.once;
+        all = λ n next here. elim (cases_eq n y) [
+          | inl same ↦ let none : new y ≡ Some next = ap new (sym same) ∙ here in let gone = out.gone in cc
+          | inr other ↦ in_without y n ns other (elim (cases_eq n x) [
+            | inl this ↦ subst (λ (k : ℕ). IsIn k ns) (sym this) at
+            | inr ne ↦ is.all n next (sym (out.others n ne other) ∙ here)
+          ])
+        ];
+      },
+    )
+
+-- what a member links to is a member
+pub next_is_member : (link : ℕ → Option (Option ℕ)) (first : Option ℕ) (x y : ℕ) → HasList link first → link x ≡ Some (Some y) → (next : Option ℕ) × (link y ≡ Some next)
+next_is_member link first x y (ns, is) e = linked_has link first ns y is.linked (next_in link first ns x y is.linked (is.all x (Some y) e) e)

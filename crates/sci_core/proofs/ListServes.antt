@@ -1,0 +1,220 @@
+-- A request that is served, or refused, keeps each line's members one list.
+use Rattle.std.proofs.Common.{◌≡◌, ◌≢◌, ℕ, ◌+◌, ◌*◌, ◌/◌, ◌%◌, ◌<◌, true, false, List, [], ◌∷◌, length, filter, Option, Some, None, refl, sym, ap, subst, ◌∙◌, inl, inr}
+use Rattle.std.specs.Prelude.{IfSome, option_to_list, slice_set, slice_index_or}
+use Rattle.std.proofs.Math.Nat.{div-add-mod}
+use Rattle.std.proofs.lemmas.Bool.{cases_Bool, cases_eq}
+use Rattle.std.proofs.lemmas.List.{get_or-set_same, get_or-set_other}
+use Rattle.sci_packets.specs.declared.body.Body.{Body}
+use Rattle.sci_packets.specs.declared.body.Body.TheVariants.{Busy}
+use Rattle.sci_packets.specs.Table.{is_request}
+use Rattle.sci_home.specs.declared.state.HomeState.{HomeState}
+use Rattle.sci_home.specs.Serving.{opening_home, head_of, serving as serving_of_home}
+use Rattle.sci_cache.specs.State.{CacheState, waits}
+use Rattle.sci_cache.specs.Serving.{serving}
+use Rattle.sci_cache.specs.Line.{LineState, untouched, line_in}
+use Rattle.sci_cache.specs.Member.{link_of}
+use Rattle.sci_cache.specs.Cache.{Letter, line_of, with_line}
+use Rattle.sci_core.specs.Node.{NodeOf, opening_node, lines_of, home_of, home_place, answer_to, with_answer}
+use Rattle.sci_core.specs.Core.{Core, node_at, with_node, lane_at, with_lane}
+use Rattle.sci_core.specs.Sharing.{is_about, packets_of, answer_in, home_at, answer_to as told}
+use Rattle.sci_core.specs.SharingList.{link_at, IsSharingList, HasSharingLists}
+use Rattle.sci_core.specs.Tidy.{IsSentIn, IsTidy}
+use Rattle.sci_core.specs.WellFormed.{IsPart}
+use Rattle.sci_core.proofs.Lists.{at_place_set}
+use Rattle.sci_core.proofs.Nodes.{home_below}
+use Rattle.sci_core.proofs.Packets.{packets_same, packets_served, filter_left, filter_one, lane_has}
+use Rattle.sci_core.proofs.Waits.{idle_has_none, some_has_one}
+use Rattle.sci_core.proofs.TidySteps.{about_from, about_line, about_asker, request_asker, about_answer, same_line}
+use Rattle.sci_core.proofs.Chains.{list_same}
+use Rattle.sci_core.proofs.Links.{ServesHead, Same_head, ServesLinks, busy_links, home_links, cache_links}
+use Rattle.sci_core.proofs.ListSteps.{view_of, request_tells, answer_tells, heads_same}
+use Rattle.sci_core.proofs.Relinking.{Shift, list_served, list_at_home}
+
+-- node n has taken a request from a lane, and its answer waits there
+pub record Answered (core : Core) (n place : ℕ) (next : NodeOf) (request : Letter) (rest : List Letter) (body : Body) : Type 0 where
+  pub some : n < core.nodes
+  pub below : n < length core.parts
+  pub within : place < length core.lanes
+  pub front : lane_at core place ≡ request ∷ rest
+  pub asks : is_request request.body ≡ true
+  pub answers : is_request body ≡ false
+  pub free : (node_at core n).waiting ≡ None
+  pub waiting : next.waiting ≡ Some (answer_to request body)
+  pub asker : request.source < core.nodes
+  pub known : request.line < core.lines
+  pub to : request.target ≡ n
+
+-- what is under way to node a about line k, before and after
+pub record Told (core new : Core) (a k : ℕ) (body : Body) (request : Letter) : Type 0 where
+  pub unanswered : told core a k ≡ None
+  pub answered : told new a k ≡ Some body
+  pub waiting : waits ((view_of core k).state a) ≡ true
+  pub sent : IsSentIn (k % core.nodes) ((view_of core k).state a) request
+
+pub told_here : (core : Core) (n place : ℕ) (next : NodeOf) (request : Letter) (rest : List Letter) (body : Body) → Answered core n place next request rest body → IsTidy core
+    → Told core (with_lane (with_node core n next) place rest) request.source request.line body request
+told_here core n place next request rest body is tidy =
+    let a = request.source in
+    let k = request.line in
+    let about = about_from a k request refl (request_asker request is.asks) in
+    let answer = answer_to request body in
+    let one = some_has_one (k % core.nodes) (line_of (node_at core a).cache k) (packets_of core a k) (lane_has core place request rest a k is.within is.front about) (tidy a k is.asker is.known) in
+    let moved = packets_served core n next place request answer one.letter rest a k is.below is.within is.front is.free is.waiting about (about_answer a k request body is.asks is.answers ∙ about) one.one in
+    let there : packets_of core a k ≡ request ∷ [] = one.one ∙ ap (λ (l : Letter). l ∷ []) (sym moved.same) in
+    let sent = subst (λ (l : Letter). is_request l.body ≡ true → IsSentIn (k % core.nodes) ((view_of core k).state a) l) (sym moved.same) one.awaited.sent in
+    record {
+      unanswered = ap answer_in there ∙ request_tells request is.asks;
+      answered = ap answer_in moved.then_ ∙ answer_tells answer is.answers;
+      waiting = one.awaited.waiting;
+      sent = sent is.asks;
+    }
+
+-- what is under way to another node, or about another line, stays
+pub told_other : (core : Core) (n place : ℕ) (next : NodeOf) (request : Letter) (rest : List Letter) (body : Body) → Answered core n place next request rest body → (m k : ℕ) → ((m ≡ request.source) × (k ≡ request.line) → ⊥) → told (with_lane (with_node core n next) place rest) m k ≡ told core m k
+told_other core n place next request rest body is m k not =
+    let answer = answer_to request body in
+    elim (cases_Bool (is_about m k request)) [
+      | inl about ↦ absurd (not (sym (about_asker m k request about) ∙ request_asker request is.asks, sym (about_line m k request about)))
+      | inr other ↦
+          let answer_other : is_about m k answer ≡ false = about_answer m k request body is.asks is.answers ∙ other in
+          let waits : filter (is_about m k) (option_to_list next.waiting) ≡ filter (is_about m k) (option_to_list (node_at core n).waiting) =
+          ap (λ (w : Option Letter). filter (is_about m k) (option_to_list w)) is.waiting ∙ (filter_one m k answer answer_other ∙ ap (λ (w : Option Letter). filter (is_about m k) (option_to_list w)) (sym is.free)) in
+          ap answer_in (packets_same core n next place rest m k is.below is.within waits (filter_left m k (lane_at core place) rest request is.front other))
+    ]
+
+-- ---- where no state changes
+
+state_same : (core : Core) (n : ℕ) (next : NodeOf) → ((k : ℕ) → (line_of next.cache k).state ≡ (line_of (node_at core n).cache k).state) → (m k : ℕ) → (line_of (node_at (with_node core n next) m).cache k).state ≡ (line_of (node_at core m).cache k).state
+state_same core n next states m k =
+    at_place_set (λ (j : ℕ) (part : NodeOf). (line_of part.cache k).state ≡ (line_of (node_at core j).cache k).state) core.parts n next (opening_node 0 1 0 0 0) (λ j. refl) (states k) m
+
+-- a request is refused, or served by the home: the asker's link and the home's head may change
+pub kept_states : (core : Core) (n place : ℕ) (next : NodeOf) (request : Letter) (rest : List Letter) (body : Body) → Answered core n place next request rest body → IsTidy core → ((k : ℕ) → (line_of next.cache k).state ≡ (line_of (node_at core n).cache k).state)
+    → ((k : ℕ) → k ≢ request.line → head_of (home_at (with_node core n next) k) ≡ head_of (home_at core k))
+    → ServesHead request.source ((view_of core request.line).state request.source) (head_of (home_at core request.line)) (head_of (home_at (with_node core n next) request.line)) body → HasSharingLists core → HasSharingLists (with_lane (with_node core n next) place rest)
+kept_states core n place next request rest body is tidy states heads serves lists k inside =
+    let new = with_lane (with_node core n next) place rest in
+    let a = request.source in
+    elim (cases_eq k request.line) [
+      | inl here ↦
+          let told_a = told_here core n place next request rest body is tidy in
+          let line = request.line in
+          let shift : Shift (view_of core line) (view_of new line) a a ((view_of core line).state a) body = record {
+            unanswered = told_a.unanswered;
+            answered = told_a.answered;
+            other_answers = λ m apart. told_other core n place next request rest body is m line (λ h. apart h.0);
+            here = state_same core n next states a line;
+            others = λ m apart. state_same core n next states m line;
+            idle = λ idle. (let busy = told_a.waiting in cc);
+          } in
+          let then_ = list_at_home (view_of core line) (view_of new line) a body (head_of (home_at core line)) (head_of (home_at new line)) shift serves (lists line is.known) in
+          subst (λ (j : ℕ). (nodes : List ℕ) × IsSharingList new j nodes) (sym here) then_
+      | inr other ↦
+          list_same (link_at core k) (link_at new k) (head_of (home_at core k)) (head_of (home_at new k)) (heads k other)
+          (λ m. ap (link_of ((view_of new k).state m)) (told_other core n place next request rest body is m k (λ h. other h.1)) ∙ ap (λ (s : CacheState). link_of s (told core m k)) (state_same core n next states m k)) (lists k inside)
+    ]
+
+pub refused_lists : (core : Core) (n place : ℕ) (request : Letter) (rest : List Letter) → Answered core n place (with_answer (node_at core n) request Busy) request rest Busy → IsTidy core → HasSharingLists core
+    → HasSharingLists (with_lane (with_node core n (with_answer (node_at core n) request Busy)) place rest)
+refused_lists core n place request rest is tidy lists =
+    let next = with_answer (node_at core n) request Busy in
+    let heads = heads_same core n next (record { homes = refl; nodes = refl }) in
+    let told_a = told_here core n place next request rest Busy is tidy in
+    kept_states core n place next request rest Busy is tidy (λ k. refl) (λ k other. heads k) (Same_head (heads request.line) (busy_links ((view_of core request.line).state request.source) told_a.waiting)) lists
+
+-- ---- the home of one line
+
+-- two lines whose homes are one node's have two places there
+places_apart : (c k line : ℕ) → k % c ≡ line % c → k ≢ line → k / c ≢ line / c
+places_apart c k line same other e =
+    let a = div-add-mod k c in
+    let b = div-add-mod line c in
+    let d : c * (k / c) + k % c ≡ c * (line / c) + line % c = ap (λ (i : ℕ). c * i + k % c) e ∙ ap (λ (i : ℕ). c * (line / c) + i) same in
+    other (sym a ∙ (d ∙ b))
+
+home_changed : (core : Core) (n line : ℕ) (next : NodeOf) (home : HomeState) → n < length core.parts → (node_at core n).cache.nodes ≡ core.nodes → line % core.nodes ≡ n → next.cache.nodes ≡ core.nodes → next.homes ≡ slice_set (node_at core n).homes (home_place (node_at core n) line) home
+    → (k : ℕ) → k ≢ line → home_at (with_node core n next) k ≡ home_at core k
+home_changed core n line next home below all at same homes k other =
+    elim (cases_eq (k % core.nodes) n) [
+      | inl here ↦
+          let part = node_at core n in
+          let node : node_at (with_node core n next) (k % core.nodes) ≡ next = ap (node_at (with_node core n next)) here ∙ get_or-set_same core.parts n next (opening_node 0 1 0 0 0) below in
+          let apart : k / core.nodes ≢ line / core.nodes = places_apart core.nodes k line (here ∙ sym at) other in
+          let place : home_place part line ≡ line / core.nodes = ap (λ (c : ℕ). line / c) all in
+          let there : home_of next k ≡ slice_index_or next.homes (k / core.nodes) opening_home = ap (λ (c : ℕ). slice_index_or next.homes (k / c) opening_home) same in
+          let set_ : slice_index_or next.homes (k / core.nodes) opening_home ≡ slice_index_or (slice_set part.homes (line / core.nodes) home) (k / core.nodes) opening_home =
+          ap (λ (hs : List HomeState). slice_index_or hs (k / core.nodes) opening_home) (homes ∙ ap (λ (p : ℕ). slice_set part.homes p home) place) in
+          let rest : slice_index_or (slice_set part.homes (line / core.nodes) home) (k / core.nodes) opening_home ≡ slice_index_or part.homes (k / core.nodes) opening_home = get_or-set_other part.homes (line / core.nodes) (k / core.nodes) home opening_home apart in
+          let was : slice_index_or part.homes (k / core.nodes) opening_home ≡ home_of part k = ap (λ (c : ℕ). slice_index_or part.homes (k / c) opening_home) (sym all) in
+          ap (λ (p : NodeOf). home_of p k) node ∙ (there ∙ (set_ ∙ (rest ∙ (was ∙ ap (λ (j : ℕ). home_of (node_at core j) k) (sym here)))))
+      | inr elsewhere ↦ ap (λ (p : NodeOf). home_of p k) (get_or-set_other core.parts n (k % core.nodes) next (opening_node 0 1 0 0 0) elsewhere)
+    ]
+
+home_now : (core : Core) (n line : ℕ) (next : NodeOf) (home : HomeState) → n < length core.parts → line % core.nodes ≡ n → next.cache.nodes ≡ (node_at core n).cache.nodes → next.homes ≡ slice_set (node_at core n).homes (home_place (node_at core n) line) home
+    → home_place (node_at core n) line < length (node_at core n).homes → home_at (with_node core n next) line ≡ home
+home_now core n line next home below at same homes within =
+    let part = node_at core n in
+    let node : node_at (with_node core n next) (line % core.nodes) ≡ next = ap (node_at (with_node core n next)) at ∙ get_or-set_same core.parts n next (opening_node 0 1 0 0 0) below in
+    let there : home_of next line ≡ slice_index_or next.homes (home_place part line) opening_home = ap (λ (c : ℕ). slice_index_or next.homes (line / c) opening_home) same in
+    ap (λ (p : NodeOf). home_of p line) node ∙ (there ∙ (ap (λ (hs : List HomeState). slice_index_or hs (home_place part line) opening_home) homes ∙ get_or-set_same part.homes (home_place part line) home opening_home within))
+
+-- the node after its home has served
+abbrev with_home : NodeOf → Letter → HomeState → Body → NodeOf
+with_home part request home body = with_answer (record part { homes = slice_set part.homes (home_place part request.line) home }) request body
+
+pub home_lists : (core : Core) (n place : ℕ) (request : Letter) (rest : List Letter) (served : HomeState × Body) → IsPart core.nodes core.lines core.slots core.limit n (node_at core n) → request.line % core.nodes ≡ n → Answered core n place (with_home (node_at core n) request served.0 served.1) request rest served.1
+    → serving_of_home (home_of (node_at core n) request.line) request.source request.body ≡ Some served → IsTidy core → HasSharingLists core → HasSharingLists (with_lane (with_node core n (with_home (node_at core n) request served.0 served.1)) place rest)
+home_lists core n place request rest served part at is serves tidy lists =
+    let old = node_at core n in
+    let next = with_home old request served.0 served.1 in
+    let line = request.line in
+    let told_a = told_here core n place next request rest served.1 is tidy in
+    let asker = (view_of core line).state request.source in
+    let homes = home_changed core n line next served.0 is.below part.all at part.all refl in
+    let within : home_place old line < length old.homes = home_below old line (subst (λ (k : ℕ). line < k) (sym part.each) is.known) part.fits in
+    let now : home_at (with_node core n next) line ≡ served.0 = home_now core n line next served.0 is.below at refl refl within in
+    let was : home_at core line ≡ home_of old line = ap (λ (j : ℕ). home_of (node_at core j) line) at in
+    let links = home_links (line % core.nodes) request.source (home_of old line) asker request told_a.sent in
+    let serves_head = subst (λ (o : Option (HomeState × Body)). IfSome o (λ (s : HomeState × Body). ServesHead request.source asker (head_of (home_of old line)) (head_of s.0) s.1)) serves links in
+    let serves_old = subst (λ (h : Option ℕ). ServesHead request.source asker h (head_of served.0) served.1) (ap head_of (sym was)) serves_head in
+    let serves_both = subst (λ (h : Option ℕ). ServesHead request.source asker (head_of (home_at core line)) h served.1) (ap head_of (sym now)) serves_old in
+    kept_states core n place next request rest served.1 is tidy (λ k. refl) (λ k other. ap head_of (homes k other)) serves_both lists
+
+-- ---- a cache serves
+
+abbrev with_served : NodeOf → Letter → CacheState → Body → NodeOf
+with_served part request state body = with_answer (record part { cache = with_line part.cache request.line (line_in (line_of part.cache request.line) state) }) request body
+
+pub cache_lists : (core : Core) (n place : ℕ) (request : Letter) (rest : List Letter) (served : CacheState × Body) → IsPart core.nodes core.lines core.slots core.limit n (node_at core n) → Answered core n place (with_served (node_at core n) request served.0 served.1) request rest served.1
+    → serving (line_of (node_at core n).cache request.line).state request.source request.body ≡ Some served → IsTidy core → HasSharingLists core → HasSharingLists (with_lane (with_node core n (with_served (node_at core n) request served.0 served.1)) place rest)
+cache_lists core n place request rest served part is serves tidy lists k inside =
+    let old = node_at core n in
+    let next = with_served old request served.0 served.1 in
+    let new = with_lane (with_node core n next) place rest in
+    let line = request.line in
+    let a = request.source in
+    let heads = heads_same core n next (record { homes = refl; nodes = refl }) in
+    let line_below : line < lines_of old = subst (λ (i : ℕ). line < i) (sym part.each) is.known in
+    let others : (j : ℕ) → j ≢ line → line_of next.cache j ≡ line_of old.cache j = λ j apart. get_or-set_other old.cache.lines line j (line_in (line_of old.cache line) served.0) untouched apart in
+    elim (cases_eq k line) [
+      | inl here ↦
+          let told_a = told_here core n place next request rest served.1 is tidy in
+          let asker = (view_of core line).state a in
+          let at : node_at new n ≡ next = get_or-set_same core.parts n next (opening_node 0 1 0 0 0) is.below in
+          let state : (line_of next.cache line).state ≡ served.0 = ap (λ (l : LineState). l.state) (get_or-set_same old.cache.lines line (line_in (line_of old.cache line) served.0) untouched line_below) in
+          let shift : Shift (view_of core line) (view_of new line) a n served.0 served.1 = record {
+            unanswered = told_a.unanswered;
+            answered = told_a.answered;
+            other_answers = λ m apart. told_other core n place next request rest served.1 is m line (λ h. apart h.0);
+            here = ap (λ (p : NodeOf). (line_of p.cache line).state) at ∙ state;
+            others = λ m apart. ap (λ (p : NodeOf). (line_of p.cache line).state) (get_or-set_other core.parts n m next (opening_node 0 1 0 0 0) apart);
+            idle = λ idle. ap answer_in (idle_has_none (line % core.nodes) (line_of (node_at core n).cache line) (packets_of core n line) idle (tidy n line is.some is.known));
+          } in
+          let links = cache_links (line % core.nodes) a n ((view_of core line).state n) asker request told_a.sent is.to in
+          let serves_links = subst (λ (o : Option (CacheState × Body)). IfSome o (ServesLinks a n asker ((view_of core line).state n))) serves links in
+          let then_ = list_served (view_of core line) (view_of new line) a n served (head_of (home_at core line)) (head_of (home_at new line)) shift serves_links (heads line) (lists line is.known) in
+          subst (λ (j : ℕ). (nodes : List ℕ) × IsSharingList new j nodes) (sym here) then_
+      | inr other ↦
+          list_same (link_at core k) (link_at new k) (head_of (home_at core k)) (head_of (home_at new k)) (heads k)
+          (λ m. ap (link_of ((view_of new k).state m)) (told_other core n place next request rest served.1 is m k (λ h. other h.1)) ∙ ap (λ (l : LineState). link_of l.state (told core m k)) (same_line core n line next m k others is.below (λ h. other h.1))) (lists k inside)
+    ]

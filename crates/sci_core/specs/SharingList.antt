@@ -1,0 +1,42 @@
+-- The sharing list of a line, from the home's head along the links of its members.
+use Rattle.std.specs.Prelude.{◌≡◌, ◌⊎◌, ◌<◌, ℕ, List, [], ◌∷◌, Option, Some, None}
+use Rattle.sci_cache.specs.Member.{link_of}
+use Rattle.sci_home.specs.Serving.{head_of}
+use Rattle.sci_core.specs.Core.{Core}
+use Rattle.sci_core.specs.Sharing.{sharer_of, home_at}
+
+-- ---- lists along links
+
+abbrev pub IsIn : ℕ → List ℕ → Type 0
+IsIn node [] = ⊥
+IsIn node (n ∷ ns) = (node ≡ n) ⊎ IsIn node ns
+
+-- no node stands twice
+abbrev pub IsOnce : List ℕ → Type 0
+IsOnce [] = Unit {0}
+IsOnce (n ∷ ns) = (IsIn n ns → ⊥) × IsOnce ns
+
+-- the nodes stand one behind another along the links, from the first; the last one has none behind it
+abbrev pub LinkedFrom : (ℕ → Option (Option ℕ)) → Option ℕ → List ℕ → Type 0
+LinkedFrom link first [] = first ≡ None
+LinkedFrom link first (n ∷ ns) = (first ≡ Some n) × ((next : Option ℕ) × (link n ≡ Some next) × LinkedFrom link next ns)
+
+-- the nodes are linked from the first, each stands there once, and they are all nodes that have a link
+pub record IsListOf (link : ℕ → Option (Option ℕ)) (first : Option ℕ) (nodes : List ℕ) : Type 0 where
+  pub linked : LinkedFrom link first nodes
+  pub once : IsOnce nodes
+  pub all : (n : ℕ) (next : Option ℕ) → link n ≡ Some next → IsIn n nodes
+
+-- ---- sharing lists
+
+-- the entry behind node n, or none at the list's end; None where n is no member
+abbrev pub link_at : Core → ℕ → ℕ → Option (Option ℕ)
+link_at core line n = link_of (sharer_of core line n).state (sharer_of core line n).answer
+
+-- the list of a line: its members, from the home's head
+abbrev pub IsSharingList : Core → ℕ → List ℕ → Type 0
+IsSharingList core line nodes = IsListOf (link_at core line) (head_of (home_at core line)) nodes
+
+-- each line's members are one list, from the home's head along their links; the last one's link is none
+abbrev pub HasSharingLists : Core → Type 0
+HasSharingLists core = (line : ℕ) → line < core.lines → (nodes : List ℕ) × IsSharingList core line nodes
