@@ -18,6 +18,10 @@ pub without_other : (y n : ℕ) (ns : List ℕ) → n ≢ y → without y (n ∷
 unfolding without
 without_other y n ns ne = ap (λ (b : Bool). if b then without y ns else n ∷ without y ns) (ne_eqb n y ne)
 
+pub without_nil : (y : ℕ) → without y [] ≡ []
+unfolding without
+without_nil y = refl
+
 -- nothing is taken out where it isn't
 without_absent : (y : ℕ) (ns : List ℕ) → (IsIn y ns → ⊥) → without y ns ≡ ns
 unfolding without
@@ -35,11 +39,24 @@ in_without y m (n ∷ ns) ne (inr h) =
       | inr other ↦ subst (IsIn m) (sym (without_other y n ns other)) (inr (in_without y m ns ne h))
     ]
 
+front_or_behind : (y m n : ℕ) (ns : List ℕ) → n ≢ y → IsIn m (n ∷ ns) → (IsIn m ns → m ≢ y) → m ≢ y
+front_or_behind y m n ns other (inl e) f = λ same. other (sym e ∙ same)
+front_or_behind y m n ns other (inr h) f = f h
+
+pub not_in_without : (y m : ℕ) (ns : List ℕ) → IsIn m (without y ns) → m ≢ y
+unfolding without
+not_in_without y m [] h = elim h [ ]
+not_in_without y m (n ∷ ns) h =
+    elim (cases_eq n y) [
+      | inl same ↦ not_in_without y m ns (subst (IsIn m) (without_this y n ns same) h)
+      | inr other ↦ front_or_behind y m n (without y ns) other (subst (IsIn m) (without_other y n ns other) h) (not_in_without y m ns)
+    ]
+
 either_in : (m n : ℕ) (xs ys : List ℕ) → IsIn m (n ∷ xs) → (IsIn m xs → IsIn m ys) → IsIn m (n ∷ ys)
 either_in m n xs ys (inl e) f = inl e
 either_in m n xs ys (inr h) f = inr (f h)
 
-in_whole : (y m : ℕ) (ns : List ℕ) → IsIn m (without y ns) → IsIn m ns
+pub in_whole : (y m : ℕ) (ns : List ℕ) → IsIn m (without y ns) → IsIn m ns
 unfolding without
 in_whole y m [] h = h
 in_whole y m (n ∷ ns) h =
@@ -75,7 +92,7 @@ first_in : (link : ℕ → Option (Option ℕ)) (first : Option ℕ) (ns : List 
 first_in link first [] n e linked = cc
 first_in link first (m ∷ ns) n e linked = let same : n ≡ m = cc in inl same
 
-next_of : (link : ℕ → Option (Option ℕ)) (n x : ℕ) (next : Option ℕ) (y : ℕ) → x ≡ n → link n ≡ Some next → link x ≡ Some (Some y) → next ≡ Some y
+pub next_of : (link : ℕ → Option (Option ℕ)) (n x : ℕ) (next : Option ℕ) (y : ℕ) → x ≡ n → link n ≡ Some next → link x ≡ Some (Some y) → next ≡ Some y
 next_of link n x next y same at e =
     let here : link n ≡ Some (Some y) = ap link (sym same) ∙ e in
     cc
@@ -130,6 +147,78 @@ linked_taken_out old new first x y (n ∷ ns) out linked once (inr h) =
 
 -- ---- lists that have all members
 
+pub chain_same : (old new : ℕ → Option (Option ℕ)) (first then_ : Option ℕ) (ns : List ℕ) → then_ ≡ first → ((n : ℕ) → new n ≡ old n) → IsListOf old first ns → IsListOf new then_ ns
+chain_same old new first then_ ns e same is = record {
+  linked = subst (λ (f : Option ℕ). LinkedFrom new f ns) (sym e) (linked_same old new first ns (λ n h. same n) is.linked);
+  once = is.once;
+  all = λ n next at. is.all n next (sym (same n) ∙ at);
+}
+
+-- who has no link isn't in the list
+pub not_in : (link : ℕ → Option (Option ℕ)) (first : Option ℕ) (ns : List ℕ) (a : ℕ) → link a ≡ None → IsListOf link first ns → IsIn a ns → ⊥
+not_in link first ns a none is h = let has = linked_has link first ns a is.linked h in let at = has.1 in cc
+
+-- a new front
+pub chain_front : (old new : ℕ → Option (Option ℕ)) (first then_ : Option ℕ) (a : ℕ) (ns : List ℕ) → old a ≡ None → new a ≡ Some first → then_ ≡ Some a → ((n : ℕ) → n ≢ a → new n ≡ old n) → IsListOf old first ns → IsListOf new then_ (a ∷ ns)
+chain_front old new first then_ a ns none joins head others is =
+    let absent : IsIn a ns → ⊥ = not_in old first ns a none is in
+    let links = linked_same old new first ns (λ n h. others n (λ e. absent (subst (λ (k : ℕ). IsIn k ns) e h))) is.linked in
+    record {
+      linked = (head, (first, joins, links));
+      once = (absent, is.once);
+      all = λ n next at. elim (cases_eq n a) [ inl e ↦ inl e | inr ne ↦ inr (is.all n next (sym (others n ne) ∙ at)) ];
+    }
+
+-- a list without a first node is empty
+pub none_empty : (link : ℕ → Option (Option ℕ)) (first : Option ℕ) (ns : List ℕ) → first ≡ None → IsListOf link first ns → ns ≡ []
+none_empty link first [] e is = refl
+none_empty link first (n ∷ ns) e is = let head = is.linked.0 in cc
+
+-- the only one is gone
+only_front : (link : ℕ → Option (Option ℕ)) (next : Option ℕ) (ns : List ℕ) (m a n : ℕ) → m ≡ a → next ≡ None → LinkedFrom link next ns → IsIn n (m ∷ ns) → n ≡ a
+only_front link next ns m a n same none linked (inl e) = e ∙ same
+only_front link next [] m a n same none linked (inr h) = elim h [ ]
+only_front link next (k ∷ ns) m a n same none linked (inr h) = let e = linked.0 in cc
+
+only_one : (link : ℕ → Option (Option ℕ)) (first : Option ℕ) (ns : List ℕ) (a n : ℕ) → first ≡ Some a → link a ≡ Some None → LinkedFrom link first ns → IsIn n ns → n ≡ a
+only_one link first [] a n head ends linked h = elim h [ ]
+only_one link first (m ∷ ns) a n head ends linked h =
+    let same : m ≡ a = let e = linked.0 in cc in
+    let next : linked.1.0 ≡ None = let here : link m ≡ Some None = ap link same ∙ ends in let at = linked.1.1 in cc in
+    only_front link linked.1.0 ns m a n same next linked.1.2 h
+
+pub chain_gone : (old new : ℕ → Option (Option ℕ)) (first then_ : Option ℕ) (a : ℕ) (ns : List ℕ) → first ≡ Some a → old a ≡ Some None → new a ≡ None → then_ ≡ None → ((n : ℕ) → n ≢ a → new n ≡ old n) → IsListOf old first ns → IsListOf new then_ []
+chain_gone old new first then_ a ns head ends gone none others is = record {
+  linked = none;
+  once = tt;
+  all = λ n next at. elim (cases_eq n a) [
+    | inl e ↦ let here : new a ≡ Some next = ap new (sym e) ∙ at in cc
+    | inr ne ↦ absurd (ne (only_one old first ns a n head ends is.linked (is.all n next (sym (others n ne) ∙ at))))
+  ];
+}
+
+-- one is taken out behind the one that links to it
+pub chain_taken_out : (old new : ℕ → Option (Option ℕ)) (first then_ : Option ℕ) (x y : ℕ) (ns : List ℕ) → then_ ≡ first → TakenOut old new x y → IsListOf old first ns → IsListOf new then_ (without y ns)
+chain_taken_out old new first then_ x y ns e out is =
+    let at = is.all x (Some y) out.before in
+    record {
+      linked = subst (λ (f : Option ℕ). LinkedFrom new f (without y ns)) (sym e) (linked_taken_out old new first x y ns out is.linked is.once at);
+      once = once_without y ns is.once;
+      all = λ n next here. elim (cases_eq n y) [
+        | inl same ↦ let none : new y ≡ Some next = ap new (sym same) ∙ here in let gone = out.gone in cc
+        | inr other ↦ in_without y n ns other (elim (cases_eq n x) [
+          | inl this ↦ subst (λ (k : ℕ). IsIn k ns) (sym this) at
+          | inr ne ↦ is.all n next (sym (out.others n ne other) ∙ here)
+        ])
+      ];
+    }
+
+-- what a member links to is a member
+pub next_is_member : (link : ℕ → Option (Option ℕ)) (first : Option ℕ) (x y : ℕ) (ns : List ℕ) → IsListOf link first ns → link x ≡ Some (Some y) → (next : Option ℕ) × (link y ≡ Some next)
+next_is_member link first x y ns is e = linked_has link first ns y is.linked (next_in link first ns x y is.linked (is.all x (Some y) e) e)
+
+-- ---- the same, of some list
+
 abbrev pub HasList : (ℕ → Option (Option ℕ)) → Option ℕ → Type 0
 HasList link first = (ns : List ℕ) × IsListOf link first ns
 
@@ -155,19 +244,6 @@ list_front old new first then_ a none joins head others (ns, is) =
         all = λ n next at. elim (cases_eq n a) [ inl e ↦ inl e | inr ne ↦ inr (is.all n next (sym (others n ne) ∙ at)) ];
       },
     )
-
--- the only one is gone
-only_front : (link : ℕ → Option (Option ℕ)) (next : Option ℕ) (ns : List ℕ) (m a n : ℕ) → m ≡ a → next ≡ None → LinkedFrom link next ns → IsIn n (m ∷ ns) → n ≡ a
-only_front link next ns m a n same none linked (inl e) = e ∙ same
-only_front link next [] m a n same none linked (inr h) = elim h [ ]
-only_front link next (k ∷ ns) m a n same none linked (inr h) = let e = linked.0 in cc
-
-only_one : (link : ℕ → Option (Option ℕ)) (first : Option ℕ) (ns : List ℕ) (a n : ℕ) → first ≡ Some a → link a ≡ Some None → LinkedFrom link first ns → IsIn n ns → n ≡ a
-only_one link first [] a n head ends linked h = elim h [ ]
-only_one link first (m ∷ ns) a n head ends linked h =
-    let same : m ≡ a = let e = linked.0 in cc in
-    let next : linked.1.0 ≡ None = let here : link m ≡ Some None = ap link same ∙ ends in let at = linked.1.1 in cc in
-    only_front link linked.1.0 ns m a n same next linked.1.2 h
 
 pub list_gone : (old new : ℕ → Option (Option ℕ)) (first then_ : Option ℕ) (a : ℕ) → first ≡ Some a → old a ≡ Some None → new a ≡ None → then_ ≡ None → ((n : ℕ) → n ≢ a → new n ≡ old n) → HasList old first → HasList new then_
 list_gone old new first then_ a head ends gone none others (ns, is) = (
@@ -201,5 +277,5 @@ list_taken_out old new first then_ x y e out (ns, is) =
     )
 
 -- what a member links to is a member
-pub next_is_member : (link : ℕ → Option (Option ℕ)) (first : Option ℕ) (x y : ℕ) → HasList link first → link x ≡ Some (Some y) → (next : Option ℕ) × (link y ≡ Some next)
-next_is_member link first x y (ns, is) e = linked_has link first ns y is.linked (next_in link first ns x y is.linked (is.all x (Some y) e) e)
+pub member_next : (link : ℕ → Option (Option ℕ)) (first : Option ℕ) (x y : ℕ) → HasList link first → link x ≡ Some (Some y) → (next : Option ℕ) × (link y ≡ Some next)
+member_next link first x y (ns, is) e = linked_has link first ns y is.linked (next_in link first ns x y is.linked (is.all x (Some y) e) e)

@@ -27,4 +27,8 @@ pub mod NodeLinks
 pub mod ListSteps
 pub mod ListServes
 pub mod ListRuns
+pub mod Standings
+pub mod Led
+pub mod Shapes
+pub mod CacheShapes
 pub mod Steps

@@ -132,7 +132,7 @@ fread_links (at.Fresh p c) a = New_front refl refl refl
 fread_links (at.Gone p) a = New_front refl refl refl
 
 -- where the asker is the head, or is not
-if_head : {X : Type 0} (P : X → Type 0) (p a : ℕ) (yes_ no_ : X) → (p ≡ a → P yes_) → P no_ → P (if p == a then yes_ else no_)
+pub if_head : {X : Type 0} (P : X → Type 0) (p a : ℕ) (yes_ no_ : X) → (p ≡ a → P yes_) → P no_ → P (if p == a then yes_ else no_)
 if_head P p a yes_ no_ h k =
     elim (cases_Bool (p == a)) [
       | inl same ↦ subst (λ (b : Bool). P (if b then yes_ else no_)) (sym same) (h (eqb-true p a same))
@@ -249,7 +249,7 @@ purge_links a q d (Telling r w sent) = Keep (same_links (Telling r w sent)) refl
 purge_links a q d Fading = Keep (same_links Fading) refl
 
 -- the entry behind: the asker, or another
-next_either : {X : Type 0} (P : X → Type 0) (f : Option ℕ) (a : ℕ) (yes_ no_ : X) → (f ≡ Some a → P yes_) → P no_ → P (if is_next f a then yes_ else no_)
+pub next_either : {X : Type 0} (P : X → Type 0) (f : Option ℕ) (a : ℕ) (yes_ no_ : X) → (f ≡ Some a → P yes_) → P no_ → P (if is_next f a then yes_ else no_)
 next_either P None a yes_ no_ h k = k
 next_either P (Some p) a yes_ no_ h k = if_head P p a yes_ no_ (λ same. h (ap Some same)) k
 

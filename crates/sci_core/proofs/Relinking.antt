@@ -5,7 +5,7 @@ use Rattle.std.proofs.lemmas.Bool.{cases_eq}
 use Rattle.sci_packets.specs.declared.body.Body.{Body}
 use Rattle.sci_cache.specs.State.{CacheState, waits}
 use Rattle.sci_cache.specs.Member.{link_of}
-use Rattle.sci_core.proofs.Chains.{HasList, list_same, list_front, list_gone, list_taken_out, next_is_member}
+use Rattle.sci_core.proofs.Chains.{HasList, list_same, list_front, list_gone, list_taken_out, member_next}
 use Rattle.sci_core.proofs.Links.{KeepsLink, ServesHead, Same_head, New_front, Only_gone, ServesLinks, Keep, Purged_out, Rolled_out}
 
 -- the states of a line in all nodes, and the answers that are under way to them
@@ -72,7 +72,7 @@ list_served old new a q served first then_ shift (Keep keeps same) e list =
 list_served old new a q served first then_ shift (Purged_out f before after goes gone not) e list =
     let apart = differs old a q not in
     let was : link_in old a ≡ Some (Some q) = asker_before old new a q served.0 served.1 shift ∙ before in
-    let next = next_is_member (link_in old) first a q list was in
+    let next = member_next (link_in old) first a q list was in
     let same : next.0 ≡ f = goes (old.answer q) next.0 next.1 in
     list_taken_out (link_in old) (link_in new) first then_ a q e (record {
       before = was;
@@ -85,7 +85,7 @@ list_served old new a q served first then_ shift (Rolled_out f idle before after
     let apart = differs old a q not in
     let none = shift.idle idle in
     let was : link_in old q ≡ Some (Some a) = ap (link_of (old.state q)) none ∙ before in
-    let next = next_is_member (link_in old) first q a list was in
+    let next = member_next (link_in old) first q a list was in
     let same : next.0 ≡ f = goes next.0 (sym (asker_before old new a q served.0 served.1 shift) ∙ next.1) in
     list_taken_out (link_in old) (link_in new) first then_ q a e (record {
       before = was;

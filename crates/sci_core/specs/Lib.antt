@@ -11,3 +11,4 @@ pub mod Sharing
 pub mod Tidy
 pub mod Alternates
 pub mod SharingList
+pub mod Fresh

@@ -1,0 +1,231 @@
+-- Where a member stands in its list: before the authority, as the authority, or behind it; and which contents it has or
+-- gets. Each row of the tables but those of served requests leaves that as it was.
+use Rattle.std.proofs.Common.{◌≡◌, ℕ, ◌-◌, ◌^◌, nat_lt, Bool, true, false, if◌then◌else◌, Option, Some, None, refl, sym, ap, subst, ◌∙◌}
+use Rattle.std.specs.Prelude.{IfSome}
+use Rattle.std.proofs.lemmas.Bool.{cases_Bool}
+use Rattle.sci_words.specs.declared.stamped.Stamped.{Stamped}
+use Rattle.sci_words.specs.declared.event.AskKind.{AskKind}
+use Rattle.sci_words.specs.declared.event.AskKind.TheVariants as kind
+use Rattle.sci_words.specs.declared.operation.Op.{Op}
+use Rattle.sci_words.specs.Operation.{is_maker}
+use Rattle.sci_words.specs.Stamped.{after}
+use Rattle.sci_packets.specs.declared.body.Body.{Body}
+use Rattle.sci_packets.specs.declared.body.Body.TheVariants as body
+use Rattle.sci_cache.specs.State.{CacheState, Out, Asking, Joining, FreshJoining, Head, FreshHead, Below, Purging, Claiming, Clearing, Returning, Rolling, Telling, Fading, waits, contents_of}
+use Rattle.sci_cache.specs.Asking.{Asked, asking}
+use Rattle.sci_cache.specs.Accepting.{accepting}
+use Rattle.sci_cache.specs.Performing.{Performed, performing, reply_on}
+use Rattle.sci_cache.specs.Member.{link_of}
+use Rattle.sci_core.specs.Fresh.{is_fresh}
+
+-- a member comes, leads or follows
+pub data Role : Type 0 where
+  Coming : Role
+  Leading : Role
+  Following : Role
+
+abbrev pub role_of : CacheState → Option Body → Option Role
+role_of Asking (Some (body.Mdata c)) = Some Leading
+role_of Asking (Some (body.Mgone p)) = Some Coming
+role_of Asking (Some (body.Fdata None c)) = Some Leading
+role_of Asking (Some (body.Fdata (Some p) c)) = Some Coming
+role_of (Joining p sent) (Some (body.Cdata c)) = Some Leading
+role_of (Joining p sent) _ = Some Coming
+role_of (FreshJoining p sent c) (Some (body.Cdata d)) = Some Leading
+role_of (FreshJoining p sent c) _ = Some Coming
+role_of (Head f c) None = Some Leading
+role_of (FreshHead f c) None = Some Leading
+role_of (Below f b c) None = Some Following
+role_of (Purging q c) None = Some Leading
+role_of (Purging q c) (Some body.Busy) = Some Leading
+role_of (Purging q c) (Some (body.Purged x)) = Some Leading
+role_of (Claiming f c) None = Some Leading
+role_of (Claiming f c) (Some body.Wbok) = Some Leading
+role_of (Claiming f c) (Some body.Wbno) = Some Leading
+role_of (Claiming f c) (Some body.Busy) = Some Leading
+role_of (Clearing c) None = Some Leading
+role_of (Clearing c) (Some body.Wbno) = Some Leading
+role_of (Clearing c) (Some body.Busy) = Some Leading
+role_of (Returning c) None = Some Leading
+role_of (Returning c) (Some body.Wbno) = Some Leading
+role_of (Returning c) (Some body.Busy) = Some Leading
+role_of (Rolling f b c) None = Some Following
+role_of (Rolling f b c) (Some body.Busy) = Some Following
+role_of _ _ = None
+
+-- the contents that an answer brings
+abbrev pub brought : CacheState → Option Body → Option Stamped
+brought Asking (Some (body.Mdata c)) = Some c
+brought Asking (Some (body.Fdata p c)) = Some c
+brought (Joining p sent) (Some (body.Cdata c)) = Some c
+brought (FreshJoining p sent d) (Some (body.Cdata c)) = Some c
+brought _ _ = None
+
+-- the contents that a member has, and those under way to it, are these
+abbrev pub Agrees : Stamped → CacheState → Option Body → Type 0
+Agrees c state answer = IfSome (contents_of state) (λ d. d ≡ c) × IfSome (brought state answer) (λ d. d ≡ c)
+
+abbrev pub sight_of : CacheState → Option Body → Option (Option ℕ) × Option Role × Bool
+sight_of state answer = (link_of state answer, role_of state answer, is_fresh state answer)
+
+-- a line stands as it stood, with the same contents
+pub record Alike (old : CacheState) (was : Option Body) (new : CacheState) (now : Option Body) : Type 0 where
+  pub sight : sight_of new now ≡ sight_of old was
+  pub agrees : (c : Stamped) → Agrees c old was → Agrees c new now
+
+pub alike_itself : (state : CacheState) (answer : Option Body) → Alike state answer state answer
+alike_itself state answer = record { sight = refl; agrees = λ c h. h }
+
+-- ---- a refusal
+
+abbrev IsRefused : CacheState → Type 0
+IsRefused state = Alike state None state (Some body.Busy)
+
+pub busy_alike : (state : CacheState) → waits state ≡ true → IsRefused state
+busy_alike Asking w = record { sight = refl; agrees = λ c h. h }
+busy_alike (Joining p sent) w = record { sight = refl; agrees = λ c h. h }
+busy_alike (FreshJoining p sent d) w = record { sight = refl; agrees = λ c h. h }
+busy_alike (Purging q d) w = record { sight = refl; agrees = λ c h. h }
+busy_alike (Claiming f d) w = record { sight = refl; agrees = λ c h. h }
+busy_alike (Clearing d) w = record { sight = refl; agrees = λ c h. h }
+busy_alike (Returning d) w = record { sight = refl; agrees = λ c h. h }
+busy_alike (Rolling f b d) w = record { sight = refl; agrees = λ c h. h }
+busy_alike (Telling r s sent) w = record { sight = refl; agrees = λ c h. h }
+busy_alike Fading w = record { sight = refl; agrees = λ c h. h }
+busy_alike Out w = cc
+busy_alike (Head f c) w = cc
+busy_alike (FreshHead f c) w = cc
+busy_alike (Below f b c) w = cc
+
+-- ---- asking
+
+pub asking_alike : (state : CacheState) (k : AskKind) → IfSome (asking state k) (λ (asked : Asked). Alike state None asked.next None)
+asking_alike Out kind.Mread = record { sight = refl; agrees = λ c h. h }
+asking_alike Out kind.Fread = record { sight = refl; agrees = λ c h. h }
+asking_alike (Joining p false) kind.Cread = record { sight = refl; agrees = λ c h. h }
+asking_alike (FreshJoining p false d) kind.Cread = record { sight = refl; agrees = λ c h. h }
+asking_alike (Head (Some q) d) kind.Purge = record { sight = refl; agrees = λ c h. h }
+asking_alike (Head None d) kind.Wback = record { sight = refl; agrees = λ c h. h }
+asking_alike (FreshHead f d) kind.Claim = record { sight = refl; agrees = λ c h. h }
+asking_alike (FreshHead None d) kind.Clear = record { sight = refl; agrees = λ c h. h }
+asking_alike (Below f b d) kind.Roll = record { sight = refl; agrees = λ c h. h }
+asking_alike (Telling r w false) kind.Setback = record { sight = refl; agrees = λ c h. h }
+asking_alike _ _ = tt
+
+-- ---- accepting
+
+pub accepting_alike : (state : CacheState) (answer : Body) → IfSome (accepting state answer) (λ (next : CacheState). Alike state (Some answer) next None)
+accepting_alike Asking (body.Mdata d) = record { sight = refl; agrees = λ c h. (h.1, tt) }
+accepting_alike Asking (body.Mgone p) = record { sight = refl; agrees = λ c h. h }
+accepting_alike Asking (body.Fdata None d) = record { sight = refl; agrees = λ c h. (h.1, tt) }
+accepting_alike Asking (body.Fdata (Some p) d) = record { sight = refl; agrees = λ c h. (h.1, tt) }
+accepting_alike Asking body.Busy = record { sight = refl; agrees = λ c h. h }
+accepting_alike (Joining p true) (body.Cdata d) = record { sight = refl; agrees = λ c h. (h.1, tt) }
+accepting_alike (Joining p true) body.Busy = record { sight = refl; agrees = λ c h. h }
+accepting_alike (FreshJoining p true d) (body.Cdata e) = record { sight = refl; agrees = λ c h. (h.0, tt) }
+accepting_alike (FreshJoining p true d) body.Busy = record { sight = refl; agrees = λ c h. h }
+accepting_alike (Purging q d) (body.Purged x) = record { sight = refl; agrees = λ c h. h }
+accepting_alike (Purging q d) body.Busy = record { sight = refl; agrees = λ c h. h }
+accepting_alike (Claiming f d) body.Wbok = record { sight = refl; agrees = λ c h. h }
+accepting_alike (Claiming f d) body.Wbno = record { sight = refl; agrees = λ c h. h }
+accepting_alike (Claiming f d) body.Busy = record { sight = refl; agrees = λ c h. h }
+accepting_alike (Clearing d) body.Wbok = record { sight = refl; agrees = λ c h. (tt, tt) }
+accepting_alike (Clearing d) body.Wbno = record { sight = refl; agrees = λ c h. h }
+accepting_alike (Clearing d) body.Busy = record { sight = refl; agrees = λ c h. h }
+accepting_alike (Returning d) body.Wbok = record { sight = refl; agrees = λ c h. (tt, tt) }
+accepting_alike (Returning d) body.Wbno = record { sight = refl; agrees = λ c h. h }
+accepting_alike (Returning d) body.Busy = record { sight = refl; agrees = λ c h. h }
+accepting_alike (Rolling None b d) body.Rolled = record { sight = refl; agrees = λ c h. (tt, tt) }
+accepting_alike (Rolling (Some r) b d) body.Rolled = record { sight = refl; agrees = λ c h. (tt, tt) }
+accepting_alike (Rolling f b d) body.Busy = record { sight = refl; agrees = λ c h. h }
+accepting_alike (Telling r w true) body.Told = record { sight = refl; agrees = λ c h. h }
+accepting_alike Fading body.Busy = record { sight = refl; agrees = λ c h. h }
+accepting_alike _ _ = tt
+
+-- ---- performing
+
+-- an operation reads, and changes nothing; or it makes contents, at the head of a list of one
+pub data Performs (state : CacheState) (op : Op) (done : Performed) : Type 0 where
+  Reads : done.next ≡ state → Performs state op done
+  Makes : (c : Stamped) → state ≡ Head None c → done.next ≡ Head None (after c op) → Performs state op done
+
+reads : (state : CacheState) (op : Op) (c : Stamped) (makes : Bool) → IfSome (if makes then None else Some (record { reply = reply_on c op; version = c.version; next = state })) (Performs state op)
+reads state op c true = tt
+reads state op c false = Reads refl
+
+makes_or_reads : (op : Op) (c : Stamped) (makes room : Bool)
+    → IfSome (if makes then (if room then Some (record { reply = reply_on c op; version = (after c op).version; next = Head None (after c op) }) else None) else Some (record { reply = reply_on c op; version = c.version; next = Head None c })) (Performs (Head None c) op)
+makes_or_reads op c true true = Makes c refl refl
+makes_or_reads op c true false = tt
+makes_or_reads op c false room = Reads refl
+
+pub performing_does : (state : CacheState) (op : Op) → IfSome (performing state op) (Performs state op)
+performing_does (Head None c) op = makes_or_reads op c (is_maker op) (nat_lt c.version (2 ^ 64 - 1))
+performing_does (Head (Some q) c) op = reads (Head (Some q) c) op c (is_maker op)
+performing_does (FreshHead f c) op = reads (FreshHead f c) op c (is_maker op)
+performing_does (Below f b c) op = reads (Below f b c) op c (is_maker op)
+performing_does _ op = tt
+
+-- ---- a member that comes and isn't fresh has no contents, and gets none
+
+joining_empty : (p : ℕ) (sent : Bool) (answer : Option Body) (c : Stamped) → role_of (Joining p sent) answer ≡ Some Coming → Agrees c (Joining p sent) answer
+joining_empty p sent None c comes = (tt, tt)
+joining_empty p sent (Some (body.Cdata d)) c comes = cc
+joining_empty p sent (Some _) c comes = (tt, tt)
+
+asking_empty : (answer : Option Body) (c : Stamped) → role_of Asking answer ≡ Some Coming → is_fresh Asking answer ≡ false → Agrees c Asking answer
+asking_empty None c comes stale = cc
+asking_empty (Some (body.Mgone p)) c comes stale = (tt, tt)
+asking_empty (Some (body.Fdata p d)) c comes stale = cc
+asking_empty (Some (body.Mdata d)) c comes stale = cc
+asking_empty (Some _) c comes stale = cc
+
+claiming_leads : (f : Option ℕ) (d : Stamped) (answer : Option Body) → role_of (Claiming f d) answer ≡ Some Coming → ⊥
+claiming_leads f d None e = cc
+claiming_leads f d (Some body.Wbok) e = cc
+claiming_leads f d (Some body.Wbno) e = cc
+claiming_leads f d (Some body.Busy) e = cc
+claiming_leads f d (Some _) e = cc
+
+clearing_leads : (d : Stamped) (answer : Option Body) → role_of (Clearing d) answer ≡ Some Coming → ⊥
+clearing_leads d None e = cc
+clearing_leads d (Some body.Wbno) e = cc
+clearing_leads d (Some body.Busy) e = cc
+clearing_leads d (Some _) e = cc
+
+returning_leads : (d : Stamped) (answer : Option Body) → role_of (Returning d) answer ≡ Some Coming → ⊥
+returning_leads d None e = cc
+returning_leads d (Some body.Wbno) e = cc
+returning_leads d (Some body.Busy) e = cc
+returning_leads d (Some _) e = cc
+
+purging_leads : (q : ℕ) (d : Stamped) (answer : Option Body) → role_of (Purging q d) answer ≡ Some Coming → ⊥
+purging_leads q d None e = cc
+purging_leads q d (Some body.Busy) e = cc
+purging_leads q d (Some (body.Purged x)) e = cc
+purging_leads q d (Some _) e = cc
+
+rolling_follows : (f : Option ℕ) (b : ℕ) (d : Stamped) (answer : Option Body) → role_of (Rolling f b d) answer ≡ Some Coming → ⊥
+rolling_follows f b d None e = cc
+rolling_follows f b d (Some body.Busy) e = cc
+rolling_follows f b d (Some _) e = cc
+
+idle_comes : (state : CacheState) (answer : Option Body) → (role_of state None ≡ Some Coming → ⊥) → ((b : Body) → role_of state (Some b) ≡ None) → role_of state answer ≡ Some Coming → ⊥
+idle_comes state None here there e = here e
+idle_comes state (Some b) here there e = let none = there b in cc
+
+pub coming_empty : (state : CacheState) (answer : Option Body) (c : Stamped) → role_of state answer ≡ Some Coming → is_fresh state answer ≡ false → Agrees c state answer
+coming_empty (Joining p sent) answer c comes stale = joining_empty p sent answer c comes
+coming_empty Asking answer c comes stale = asking_empty answer c comes stale
+coming_empty (FreshJoining p sent d) answer c comes stale = cc
+coming_empty Out answer c comes stale = cc
+coming_empty (Head f d) answer c comes stale = absurd (idle_comes (Head f d) answer (λ e. cc) (λ b. refl) comes)
+coming_empty (FreshHead f d) answer c comes stale = absurd (idle_comes (FreshHead f d) answer (λ e. cc) (λ b. refl) comes)
+coming_empty (Below f b d) answer c comes stale = absurd (idle_comes (Below f b d) answer (λ e. cc) (λ x. refl) comes)
+coming_empty (Purging q d) answer c comes stale = absurd (purging_leads q d answer comes)
+coming_empty (Claiming f d) answer c comes stale = absurd (claiming_leads f d answer comes)
+coming_empty (Clearing d) answer c comes stale = absurd (clearing_leads d answer comes)
+coming_empty (Returning d) answer c comes stale = absurd (returning_leads d answer comes)
+coming_empty (Rolling f b d) answer c comes stale = absurd (rolling_follows f b d answer comes)
+coming_empty (Telling r w sent) answer c comes stale = cc
+coming_empty Fading answer c comes stale = cc
