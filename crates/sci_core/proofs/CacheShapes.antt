@@ -1,6 +1,6 @@
 -- One line's list and what stands where in it, as a cache serves a request.
-use Rattle.std.proofs.Common.{◌≡◌, ◌≢◌, ℕ, Bool, true, false, if◌then◌else◌, List, [], ◌∷◌, Option, Some, None, refl, sym, ap, subst, ◌∙◌, inl, inr}
-use Rattle.std.specs.Prelude.{IfSome, ◌==◌}
+use Rattle.std.proofs.Common.{◌≡◌, ◌≢◌, ℕ, Bool, true, false, if◌then◌else◌, List, Option, Some, None, refl, sym, ap, subst, ◌∙◌, inl, inr}
+use Rattle.std.specs.Prelude.{IfSome, IsSome}
 use Rattle.std.proofs.lemmas.Bool.{cases_eq}
 use Rattle.sci_words.specs.declared.stamped.Stamped.{Stamped}
 use Rattle.sci_packets.specs.declared.body.Body.{Body}
@@ -9,18 +9,19 @@ use Rattle.sci_home.specs.declared.state.HomeState.{HomeState}
 use Rattle.sci_home.specs.declared.state.HomeState.TheVariants as at
 use Rattle.sci_home.specs.Serving.{head_of}
 use Rattle.sci_cache.specs.State.{CacheState, Out, Asking, Joining, FreshJoining, Head, FreshHead, Below, Purging, Claiming, Clearing, Returning, Rolling, Telling, Fading, waits}
+use Rattle.sci_cache.specs.Accepting.{accepting}
 use Rattle.sci_cache.specs.Serving.{serving, is_next, serving_cread, serving_purge, serving_roll, serving_setback}
 use Rattle.sci_cache.specs.Member.{link_of}
 use Rattle.sci_cache.specs.Cache.{Letter}
 use Rattle.sci_core.specs.Fresh.{is_fresh}
-use Rattle.sci_core.specs.SharingList.{IsIn, IsListOf}
-use Rattle.sci_core.specs.Tidy.{IsSentIn}
-use Rattle.sci_core.proofs.Chains.{TakenOut, without, in_whole, not_in_without, chain_same, chain_taken_out, next_is_member}
-use Rattle.sci_core.proofs.Links.{if_head, next_either}
-use Rattle.sci_core.proofs.Relinking.{View, link_in, Shift}
-use Rattle.sci_core.proofs.Standings.{Role, Coming, Leading, Following, role_of, Agrees, sight_of, Alike, alike_itself}
-use Rattle.sci_core.proofs.Led.{role_in, fresh_in, AgreesIn, IsLed, AlikeIn, same_link, Stands, alike_stands, led_stands, led_without, Joins, led_joins}
-use Rattle.sci_core.proofs.Shapes.{IsLedFrom, IsShaped, Shaped, shaped_alike}
+use Rattle.sci_core.specs.SharingList.{IsIn}
+use Rattle.sci_core.specs.Tidy.{IsSentIn, IsAccepted}
+use Rattle.sci_core.proofs.Chains.{TakenOut, without, not_in_without, chain_same, chain_taken_out, next_is_member}
+use Rattle.sci_core.proofs.Heads.{if_head, next_either}
+use Rattle.sci_core.proofs.Views.{View, link_in, Shift}
+use Rattle.sci_core.proofs.Standings.{Coming, Leading, Following, role_of, Agrees, Alike, alike_itself}
+use Rattle.sci_core.proofs.Led.{role_in, AgreesIn, IsLed, AlikeIn, alike_moved, same_link, Stands, alike_stands, led_stands, led_without, Joins, led_joins}
+use Rattle.sci_core.proofs.Shapes.{AcceptsIn, IsLedFrom, Shaped, shaped_alike}
 
 -- stands as it stood, but for the link
 pub record Stood (old : CacheState) (was : Option Body) (new : CacheState) (now : Option Body) : Type 0 where
@@ -41,6 +42,7 @@ pub record JoinsAs (a q : ℕ) (asker old : CacheState) (served : CacheState × 
   pub fresh : is_fresh asker (Some served.1) ≡ is_fresh asker None
   pub keeps : (c : Stamped) → Agrees c old None → Agrees c served.0 None
   pub takes : (c : Stamped) → Agrees c old None → Agrees c asker None → Agrees c asker (Some served.1)
+  pub accepted : IsSome (accepting asker served.1)
   pub differ : asker ≡ old → ⊥
 
 -- a purged cache, which followed, is no member any more; the asker links to whom it linked
@@ -52,6 +54,8 @@ pub record PurgesAs (q : ℕ) (asker old : CacheState) (served : CacheState × B
   pub follows : (answer : Option Body) (f : Option ℕ) → link_of old answer ≡ Some f → role_of old answer ≡ Some Following
   pub gone : (answer : Option Body) → link_of served.0 answer ≡ None
   pub stood : Stood asker None asker (Some served.1)
+  pub accepted : IsSome (accepting asker served.1)
+  pub still : (answer : Option Body) (f : Option ℕ) → link_of old answer ≡ Some f → IsAccepted served.0 answer
   pub differ : asker ≡ old → ⊥
 
 -- the asker, which followed, is no member any more; this cache links to whom it linked
@@ -64,6 +68,7 @@ pub record RollsAs (a : ℕ) (asker old : CacheState) (served : CacheState × Bo
   pub follows : (f : Option ℕ) → link_of asker None ≡ Some f → role_of asker None ≡ Some Following
   pub gone : link_of asker (Some served.1) ≡ None
   pub stood : Stood old None served.0 None
+  pub accepted : (f : Option ℕ) → link_of asker None ≡ Some f → IsSome (accepting asker served.1)
   pub differ : asker ≡ old → ⊥
 
 -- what a cache does to its own standing and the asker's, whose state is given
@@ -85,14 +90,15 @@ record Joiner (asker : CacheState) (p : ℕ) : Type 0 where
   pub leads : (d : Stamped) → role_of asker (Some (body.Cdata d)) ≡ Some Leading
   pub fresh : (d : Stamped) → is_fresh asker (Some (body.Cdata d)) ≡ is_fresh asker None
   pub takes : (c d : Stamped) → d ≡ c → Agrees c asker None → Agrees c asker (Some (body.Cdata d))
+  pub accepted : (d : Stamped) → IsSome (accepting asker (body.Cdata d))
   pub refused : Alike asker None asker (Some body.Busy)
   pub waiting : waits asker ≡ true
 
 joining : (p : ℕ) → Joiner (Joining p true) p
-joining p = record { link = λ answer. refl; coming = refl; leads = λ d. refl; fresh = λ d. refl; takes = λ c d e h. (tt, e); refused = record { sight = refl; agrees = λ c h. h }; waiting = refl }
+joining p = record { link = λ answer. refl; coming = refl; leads = λ d. refl; fresh = λ d. refl; takes = λ c d e h. (tt, e); accepted = λ d. refl; refused = record { sight = refl; agrees = λ c h. h; accepts = λ h. refl }; waiting = refl }
 
 fresh_joining : (p : ℕ) (e : Stamped) → Joiner (FreshJoining p true e) p
-fresh_joining p e = record { link = λ answer. refl; coming = refl; leads = λ d. refl; fresh = λ d. refl; takes = λ c d same h. (h.0, same); refused = record { sight = refl; agrees = λ c h. h }; waiting = refl }
+fresh_joining p e = record { link = λ answer. refl; coming = refl; leads = λ d. refl; fresh = λ d. refl; takes = λ c d same h. (h.0, same); accepted = λ d. refl; refused = record { sight = refl; agrees = λ c h. h; accepts = λ h. refl }; waiting = refl }
 
 idle_differs : (asker old : CacheState) → waits asker ≡ true → waits old ≡ false → asker ≡ old → ⊥
 idle_differs asker old w i e = let both : waits old ≡ true = ap waits (sym e) ∙ w in cc
@@ -110,6 +116,7 @@ cread_as a q asker (Head f d) joins = Joined (record {
   fresh = joins.fresh d;
   keeps = λ c h. h;
   takes = λ c h k. joins.takes c d h.0 k;
+  accepted = joins.accepted d;
   differ = idle_differs asker (Head f d) joins.waiting refl;
 })
 cread_as a q asker (FreshHead f d) joins = Joined (record {
@@ -124,6 +131,7 @@ cread_as a q asker (FreshHead f d) joins = Joined (record {
   fresh = joins.fresh d;
   keeps = λ c h. h;
   takes = λ c h k. joins.takes c d h.0 k;
+  accepted = joins.accepted d;
   differ = idle_differs asker (FreshHead f d) joins.waiting refl;
 })
 cread_as a q asker Out joins = refuses a q asker Out joins.refused
@@ -150,6 +158,15 @@ rolling_as f b c None next e = (cc, refl)
 rolling_as f b c (Some body.Busy) next e = (cc, refl)
 rolling_as f b c (Some _) next e = cc
 
+below_still : (f : Option ℕ) (b : ℕ) (c : Stamped) (answer : Option Body) (next : Option ℕ) → link_of (Below f b c) answer ≡ Some next → IsAccepted Out answer
+below_still f b c None next e = tt
+below_still f b c (Some body) next e = cc
+
+rolling_still : (f : Option ℕ) (b : ℕ) (c : Stamped) (answer : Option Body) (next : Option ℕ) → link_of (Rolling f b c) answer ≡ Some next → IsAccepted Fading answer
+rolling_still f b c None next e = tt
+rolling_still f b c (Some body.Busy) next e = refl
+rolling_still f b c (Some _) next e = cc
+
 purging_stood : (q : ℕ) (d : Stamped) (x : Option ℕ) → Stood (Purging q d) None (Purging q d) (Some (body.Purged x))
 purging_stood q d x = record { role = refl; fresh = refl; agrees = λ c h. h }
 
@@ -162,6 +179,8 @@ purge_as a q d (Below f b c) = Purged (record {
   follows = λ answer next e. (below_as f b c answer next e).1;
   gone = λ answer. refl;
   stood = purging_stood q d f;
+  accepted = refl;
+  still = λ answer next e. below_still f b c answer next e;
   differ = λ e. cc;
 })
 purge_as a q d (Rolling f b c) = Purged (record {
@@ -172,20 +191,22 @@ purge_as a q d (Rolling f b c) = Purged (record {
   follows = λ answer next e. (rolling_as f b c answer next e).1;
   gone = λ answer. refl;
   stood = purging_stood q d f;
+  accepted = refl;
+  still = λ answer next e. rolling_still f b c answer next e;
   differ = λ e. cc;
 })
-purge_as a q d Out = refuses a q (Purging q d) Out (record { sight = refl; agrees = λ c_ h. h })
-purge_as a q d Asking = refuses a q (Purging q d) Asking (record { sight = refl; agrees = λ c_ h. h })
-purge_as a q d (Joining r sent) = refuses a q (Purging q d) (Joining r sent) (record { sight = refl; agrees = λ c_ h. h })
-purge_as a q d (FreshJoining r sent e) = refuses a q (Purging q d) (FreshJoining r sent e) (record { sight = refl; agrees = λ c_ h. h })
-purge_as a q d (Head f c) = refuses a q (Purging q d) (Head f c) (record { sight = refl; agrees = λ c_ h. h })
-purge_as a q d (FreshHead f c) = refuses a q (Purging q d) (FreshHead f c) (record { sight = refl; agrees = λ c_ h. h })
-purge_as a q d (Purging r c) = refuses a q (Purging q d) (Purging r c) (record { sight = refl; agrees = λ c_ h. h })
-purge_as a q d (Claiming f c) = refuses a q (Purging q d) (Claiming f c) (record { sight = refl; agrees = λ c_ h. h })
-purge_as a q d (Clearing c) = refuses a q (Purging q d) (Clearing c) (record { sight = refl; agrees = λ c_ h. h })
-purge_as a q d (Returning c) = refuses a q (Purging q d) (Returning c) (record { sight = refl; agrees = λ c_ h. h })
-purge_as a q d (Telling r w sent) = refuses a q (Purging q d) (Telling r w sent) (record { sight = refl; agrees = λ c_ h. h })
-purge_as a q d Fading = refuses a q (Purging q d) Fading (record { sight = refl; agrees = λ c_ h. h })
+purge_as a q d Out = refuses a q (Purging q d) Out (record { sight = refl; agrees = λ c_ h. h; accepts = λ h. refl })
+purge_as a q d Asking = refuses a q (Purging q d) Asking (record { sight = refl; agrees = λ c_ h. h; accepts = λ h. refl })
+purge_as a q d (Joining r sent) = refuses a q (Purging q d) (Joining r sent) (record { sight = refl; agrees = λ c_ h. h; accepts = λ h. refl })
+purge_as a q d (FreshJoining r sent e) = refuses a q (Purging q d) (FreshJoining r sent e) (record { sight = refl; agrees = λ c_ h. h; accepts = λ h. refl })
+purge_as a q d (Head f c) = refuses a q (Purging q d) (Head f c) (record { sight = refl; agrees = λ c_ h. h; accepts = λ h. refl })
+purge_as a q d (FreshHead f c) = refuses a q (Purging q d) (FreshHead f c) (record { sight = refl; agrees = λ c_ h. h; accepts = λ h. refl })
+purge_as a q d (Purging r c) = refuses a q (Purging q d) (Purging r c) (record { sight = refl; agrees = λ c_ h. h; accepts = λ h. refl })
+purge_as a q d (Claiming f c) = refuses a q (Purging q d) (Claiming f c) (record { sight = refl; agrees = λ c_ h. h; accepts = λ h. refl })
+purge_as a q d (Clearing c) = refuses a q (Purging q d) (Clearing c) (record { sight = refl; agrees = λ c_ h. h; accepts = λ h. refl })
+purge_as a q d (Returning c) = refuses a q (Purging q d) (Returning c) (record { sight = refl; agrees = λ c_ h. h; accepts = λ h. refl })
+purge_as a q d (Telling r w sent) = refuses a q (Purging q d) (Telling r w sent) (record { sight = refl; agrees = λ c_ h. h; accepts = λ h. refl })
+purge_as a q d Fading = refuses a q (Purging q d) Fading (record { sight = refl; agrees = λ c_ h. h; accepts = λ h. refl })
 
 -- ---- Roll
 
@@ -194,19 +215,28 @@ record Leaver (asker : CacheState) (m : Option ℕ) : Type 0 where
   pub link : (f : Option ℕ) → link_of asker None ≡ Some f → f ≡ m
   pub follows : (f : Option ℕ) → link_of asker None ≡ Some f → role_of asker None ≡ Some Following
   pub gone : link_of asker (Some body.Rolled) ≡ None
+  pub ends : (f : Option ℕ) → link_of asker None ≡ Some f → IsSome (accepting asker body.Rolled)
   pub refused : Alike asker None asker (Some body.Busy)
   pub waiting : waits asker ≡ true
 
+rolling_busy : (f : Option ℕ) (b : ℕ) (c : Stamped) → Alike (Rolling f b c) None (Rolling f b c) (Some body.Busy)
+rolling_busy None b c = record { sight = refl; agrees = λ c_ h. h; accepts = λ h. refl }
+rolling_busy (Some r) b c = record { sight = refl; agrees = λ c_ h. h; accepts = λ h. refl }
+
+rolling_ends : (f : Option ℕ) (b : ℕ) (c : Stamped) → IsSome (accepting (Rolling f b c) body.Rolled)
+rolling_ends None b c = refl
+rolling_ends (Some r) b c = refl
+
 rolling : (f : Option ℕ) (b : ℕ) (c : Stamped) → Leaver (Rolling f b c) f
-rolling f b c = record { link = λ next e. cc; follows = λ next e. refl; gone = refl; refused = record { sight = refl; agrees = λ c_ h. h }; waiting = refl }
+rolling f b c = record { link = λ next e. cc; follows = λ next e. refl; gone = refl; ends = λ next e. rolling_ends f b c; refused = rolling_busy f b c; waiting = refl }
 
 fading : (f : Option ℕ) → Leaver Fading f
-fading f = record { link = λ next e. cc; follows = λ next e. cc; gone = refl; refused = record { sight = refl; agrees = λ c_ h. h }; waiting = refl }
+fading f = record { link = λ next e. cc; follows = λ next e. cc; gone = refl; ends = λ next e. cc; refused = record { sight = refl; agrees = λ c_ h. h; accepts = λ h. refl }; waiting = refl }
 
 rolls_as : (a q : ℕ) (m : Option ℕ) (asker old next : CacheState) (f : Option ℕ) → Leaver asker m → waits old ≡ false → link_of old None ≡ Some f → link_of next None ≡ Some m → Stood old None next None → ServesAs a q asker old (if is_next f a then (next, body.Rolled) else (old, body.Busy))
 rolls_as a q m asker old next f leaves idle here then_ stood =
     next_either (ServesAs a q asker old) f a (next, body.Rolled) (old, body.Busy)
-    (λ e. Rolled (record { next = m; idle = idle; before = here ∙ ap Some e; behind = then_; link = leaves.link; follows = leaves.follows; gone = leaves.gone; stood = stood; differ = idle_differs asker old leaves.waiting idle }))
+    (λ e. Rolled (record { next = m; idle = idle; before = here ∙ ap Some e; behind = then_; link = leaves.link; follows = leaves.follows; gone = leaves.gone; stood = stood; accepted = leaves.ends; differ = idle_differs asker old leaves.waiting idle }))
     (refuses a q asker old leaves.refused)
 
 roll_as : (a q : ℕ) (m : Option ℕ) (asker old : CacheState) → Leaver asker m → ServesAs a q asker old (serving_roll old a m)
@@ -228,16 +258,19 @@ roll_as a q m asker Fading leaves = refuses a q asker Fading leaves.refused
 -- ---- Setback
 
 tells : (a q r v : ℕ) (old next : CacheState) → ((answer : Option Body) → Alike old answer next answer) → ServesAs a q (Telling r v true) old (next, body.Told)
-tells a q r v old next alike = Keeps alike (record { sight = refl; agrees = λ c h. h })
+tells a q r v old next alike = Keeps alike (record { sight = refl; agrees = λ c h. h; accepts = λ h. refl })
 
 below_told : (f : Option ℕ) (b w : ℕ) (d : Stamped) (answer : Option Body) → Alike (Below f b d) answer (Below f w d) answer
-below_told f b w d None = record { sight = refl; agrees = λ c h. h }
-below_told f b w d (Some body) = record { sight = refl; agrees = λ c h. h }
+below_told f b w d None = record { sight = refl; agrees = λ c h. h; accepts = λ h. h }
+below_told f b w d (Some body) = record { sight = refl; agrees = λ c h. h; accepts = λ h. h }
 
 rolling_told : (f : Option ℕ) (b w : ℕ) (d : Stamped) (answer : Option Body) → Alike (Rolling f b d) answer (Rolling f w d) answer
-rolling_told f b w d None = record { sight = refl; agrees = λ c h. h }
-rolling_told f b w d (Some body.Busy) = record { sight = refl; agrees = λ c h. h }
-rolling_told f b w d (Some _) = record { sight = refl; agrees = λ c h. h }
+rolling_told f b w d None = record { sight = refl; agrees = λ c h. h; accepts = λ h. h }
+rolling_told None b w d (Some body.Busy) = record { sight = refl; agrees = λ c h. h; accepts = λ h. refl }
+rolling_told (Some r) b w d (Some body.Busy) = record { sight = refl; agrees = λ c h. h; accepts = λ h. refl }
+rolling_told None b w d (Some _) = record { sight = refl; agrees = λ c h. h; accepts = λ h. h }
+rolling_told (Some r) b w d (Some body.Rolled) = record { sight = refl; agrees = λ c h. h; accepts = λ h. refl }
+rolling_told (Some r) b w d (Some _) = record { sight = refl; agrees = λ c h. h; accepts = λ h. h }
 
 setback_as : (a q r v w : ℕ) (old : CacheState) → ServesAs a q (Telling r v true) old (serving_setback old a w)
 setback_as a q r v w (Below f b c) = if_head (ServesAs a q (Telling r v true) (Below f b c)) b a (Below f w c, body.Told) (Below f b c, body.Told) (λ same. tells a q r v (Below f b c) (Below f w c) (below_told f b w c)) (tells a q r v (Below f b c) (Below f b c) (alike_itself (Below f b c)))
@@ -282,10 +315,6 @@ cache_serves h a q old (Telling r w false) letter sent here = elim sent [ ]
 
 -- ---- one line, before and after
 
-alike_moved : (old new : View) (n : ℕ) (was : Option Body) (state : CacheState) (now : Option Body) → old.answer n ≡ was → new.state n ≡ state → new.answer n ≡ now → Alike (old.state n) was state now → AlikeIn old new n
-alike_moved old new n was state now e f g alike =
-    subst (λ (w : Option Body). Alike (old.state n) w (new.state n) (new.answer n)) (sym e) (subst (λ (s : CacheState). Alike (old.state n) was s (new.answer n)) (sym f) (subst (Alike (old.state n) was state) (sym g) alike))
-
 -- neither asker nor server
 other_alike : (old new : View) (a q : ℕ) (next : CacheState) (body : Body) → Shift old new a q next body → (n : ℕ) → n ≢ a → n ≢ q → AlikeIn old new n
 other_alike old new a q next body shift n not_asker not_server =
@@ -297,7 +326,7 @@ asker_alike old new a q served shift keeps asks =
       | inl here ↦
           let now : Alike (old.state a) (Some served.1) served.0 (Some served.1) = subst (λ (n : ℕ). Alike (old.state n) (Some served.1) served.0 (Some served.1)) (sym here) (keeps (Some served.1)) in
           alike_moved old new a None served.0 (Some served.1) shift.unanswered (ap new.state here ∙ shift.here) shift.answered
-          (record { sight = now.sight ∙ asks.sight; agrees = λ c h. now.agrees c (asks.agrees c h) })
+          (record { sight = now.sight ∙ asks.sight; agrees = λ c h. now.agrees c (asks.agrees c h); accepts = λ h. now.accepts (asks.accepts h) })
       | inr apart ↦ alike_moved old new a None (old.state a) (Some served.1) shift.unanswered (shift.others a apart) shift.answered asks
     ]
 
@@ -336,13 +365,24 @@ asker_agreed : (old : View) (a : ℕ) (c : Stamped) → old.answer a ≡ None �
 asker_agreed old a c none h = subst (Agrees c (old.state a)) none h
 
 -- a list that is led stays so
-map_led : (old new : View) (home : HomeState) (ns ms : List ℕ) → ((c : Stamped) (must : Bool) → IsLed old c must ns → IsLed new c must ms) → IsLedFrom old home ns → IsLedFrom new home ms
-map_led old new (at.Home c) ns ms f led = tt
-map_led old new (at.Fresh p c) ns ms f led = f c true led
-map_led old new (at.Gone p) ns ms f (c, led) = (c, f c false led)
+map_led : (old new : View) (home : HomeState) (c : Stamped) (ns ms : List ℕ) → ((must : Bool) → IsLed old c must ns → IsLed new c must ms) → IsLedFrom old home c ns → IsLedFrom new home c ms
+map_led old new (at.Home d) c ns ms f led = led
+map_led old new (at.Fresh p d) c ns ms f led = (led.0, f true led.1)
+map_led old new (at.Gone p) c ns ms f led = f false led
 
-joined_shaped : (old new : View) (a q : ℕ) (served : CacheState × Body) (home : HomeState) → Shift old new a q served.0 served.1 → JoinsAs a q (old.state a) (old.state q) served → Shaped old home → Shaped new home
-joined_shaped old new a q served home shift joins (ns, is) =
+-- the asker takes its answer, and the server takes what it took
+accepts_both : (old new : View) (a q : ℕ) (served : CacheState × Body) → Shift old new a q served.0 served.1 → a ≢ q → IsSome (accepting (old.state a) served.1) → IsAccepted served.0 (old.answer q) → ((n : ℕ) → AcceptsIn old n) → (n : ℕ) → AcceptsIn new n
+accepts_both old new a q served shift apart accepted still all n =
+    elim (cases_eq n a) [
+      | inl asker ↦ subst (AcceptsIn new) (sym asker) (subst (IsAccepted (new.state a)) (sym shift.answered) (subst (λ (s : CacheState). IsSome (accepting s served.1)) (sym (shift.others a apart)) accepted))
+      | inr not_asker ↦ elim (cases_eq n q) [
+        | inl server ↦ subst (AcceptsIn new) (sym server) (subst (IsAccepted (new.state q)) (sym (shift.other_answers q (λ e. apart (sym e)))) (subst (λ (s : CacheState). IsAccepted s (old.answer q)) (sym shift.here) still))
+        | inr other ↦ (other_alike old new a q served.0 served.1 shift n not_asker other).accepts (all n)
+      ]
+    ]
+
+joined_shaped : (old new : View) (a q : ℕ) (served : CacheState × Body) (home : HomeState) (c : Stamped) → Shift old new a q served.0 served.1 → JoinsAs a q (old.state a) (old.state q) served → Shaped old home c → Shaped new home c
+joined_shaped old new a q served home c shift joins (ns, is) =
     let apart : a ≢ q = λ e. joins.differ (ap old.state e) in
     let see = sights old new a q served shift apart in
     let none = shift.idle joins.idle in
@@ -355,7 +395,7 @@ joined_shaped old new a q served home shift joins (ns, is) =
         | inr other ↦ same_link old new n (other_alike old new a q served.0 served.1 shift n not_asker other)
       ]
     ] in
-    let server_agreed : (c : Stamped) → AgreesIn c old q → Agrees c (old.state q) None = λ c h. subst (Agrees c (old.state q)) none h in
+    let server_agreed : (d : Stamped) → AgreesIn d old q → Agrees d (old.state q) None = λ d h. subst (Agrees d (old.state q)) none h in
     let led_so : Joins old new a q = record {
       link = was;
       coming = see.asker_was role_of ∙ joins.coming;
@@ -363,20 +403,21 @@ joined_shaped old new a q served home shift joins (ns, is) =
       leads = see.asker_is role_of ∙ joins.leads;
       follows = see.server_is role_of ∙ (ap (role_of served.0) none ∙ joins.follows);
       fresh = see.asker_is is_fresh ∙ (joins.fresh ∙ sym (see.asker_was is_fresh));
-      keeps = λ c h. server_agrees old new a q served c shift apart (subst (Agrees c served.0) (sym none) (joins.keeps c (server_agreed c h)));
-      takes = λ c h k. asker_agrees old new a q served c shift apart (joins.takes c (server_agreed c h) (asker_agreed old a c shift.unanswered k));
+      keeps = λ d h. server_agrees old new a q served d shift apart (subst (Agrees d served.0) (sym none) (joins.keeps d (server_agreed d h)));
+      takes = λ d h k. asker_agrees old new a q served d shift apart (joins.takes d (server_agreed d h) (asker_agreed old a d shift.unanswered k));
       others = λ n not_asker not_server. alike_stands old new n (other_alike old new a q served.0 served.1 shift n not_asker not_server);
     } in
     let at = is.list.all a (Some q) was in (
       ns,
       record {
         list = chain_same (link_in old) (link_in new) (head_of home) (head_of home) ns refl same is.list;
-        led = map_led old new home ns ns (λ c must led. led_joins old new a q c must (head_of home) ns led_so is.list.linked is.list.once at led) is.led;
+        led = map_led old new home c ns ns (λ must led. led_joins old new a q c must (head_of home) ns led_so is.list.linked is.list.once at led) is.led;
+        accepts = accepts_both old new a q served shift apart joins.accepted (subst (IsAccepted served.0) (sym none) tt) is.accepts;
       },
     )
 
-purged_shaped : (old new : View) (a q : ℕ) (served : CacheState × Body) (home : HomeState) → Shift old new a q served.0 served.1 → PurgesAs q (old.state a) (old.state q) served → Shaped old home → Shaped new home
-purged_shaped old new a q served home shift purges (ns, is) =
+purged_shaped : (old new : View) (a q : ℕ) (served : CacheState × Body) (home : HomeState) (c : Stamped) → Shift old new a q served.0 served.1 → PurgesAs q (old.state a) (old.state q) served → Shaped old home c → Shaped new home c
+purged_shaped old new a q served home c shift purges (ns, is) =
     let apart : a ≢ q = λ e. purges.differ (ap old.state e) in
     let see = sights old new a q served shift apart in
     let was : link_in old a ≡ Some (Some q) = see.asker_was link_of ∙ purges.before in
@@ -393,7 +434,7 @@ purged_shaped old new a q served home shift purges (ns, is) =
     let asker : Stands old new a = record {
       role = see.asker_is role_of ∙ (purges.stood.role ∙ sym (see.asker_was role_of));
       fresh = see.asker_is is_fresh ∙ (purges.stood.fresh ∙ sym (see.asker_was is_fresh));
-      agrees = λ c h. asker_agrees old new a q served c shift apart (purges.stood.agrees c (asker_agreed old a c shift.unanswered h));
+      agrees = λ d h. asker_agrees old new a q served d shift apart (purges.stood.agrees d (asker_agreed old a d shift.unanswered h));
     } in
     let stand : (n : ℕ) → IsIn n (without q ns) → Stands old new n = λ n h. elim (cases_eq n a) [
       | inl e ↦ subst (Stands old new) (sym e) asker
@@ -402,12 +443,13 @@ purged_shaped old new a q served home shift purges (ns, is) =
       without q ns,
       record {
         list = chain_taken_out (link_in old) (link_in new) (head_of home) (head_of home) a q ns refl out is.list;
-        led = map_led old new home ns (without q ns) (λ c must led. led_stands old new c must (without q ns) stand (led_without old c must q ns follows led)) is.led;
+        led = map_led old new home c ns (without q ns) (λ must led. led_stands old new c must (without q ns) stand (led_without old c must q ns follows led)) is.led;
+        accepts = accepts_both old new a q served shift apart purges.accepted (purges.still (old.answer q) next.0 next.1) is.accepts;
       },
     )
 
-rolled_shaped : (old new : View) (a q : ℕ) (served : CacheState × Body) (home : HomeState) → Shift old new a q served.0 served.1 → RollsAs a (old.state a) (old.state q) served → Shaped old home → Shaped new home
-rolled_shaped old new a q served home shift rolls (ns, is) =
+rolled_shaped : (old new : View) (a q : ℕ) (served : CacheState × Body) (home : HomeState) (c : Stamped) → Shift old new a q served.0 served.1 → RollsAs a (old.state a) (old.state q) served → Shaped old home c → Shaped new home c
+rolled_shaped old new a q served home c shift rolls (ns, is) =
     let apart : a ≢ q = λ e. rolls.differ (ap old.state e) in
     let see = sights old new a q served shift apart in
     let none = shift.idle rolls.idle in
@@ -426,7 +468,7 @@ rolled_shaped old new a q served home shift rolls (ns, is) =
     let server : Stands old new q = record {
       role = see.server_is role_of ∙ (ap (role_of served.0) none ∙ (rolls.stood.role ∙ ap (role_of (old.state q)) (sym none)));
       fresh = see.server_is is_fresh ∙ (ap (is_fresh served.0) none ∙ (rolls.stood.fresh ∙ ap (is_fresh (old.state q)) (sym none)));
-      agrees = λ c h. server_agrees old new a q served c shift apart (subst (Agrees c served.0) (sym none) (rolls.stood.agrees c (subst (Agrees c (old.state q)) none h)));
+      agrees = λ d h. server_agrees old new a q served d shift apart (subst (Agrees d served.0) (sym none) (rolls.stood.agrees d (subst (Agrees d (old.state q)) none h)));
     } in
     let stand : (n : ℕ) → IsIn n (without a ns) → Stands old new n = λ n h. elim (cases_eq n q) [
       | inl e ↦ subst (Stands old new) (sym e) server
@@ -435,12 +477,13 @@ rolled_shaped old new a q served home shift rolls (ns, is) =
       without a ns,
       record {
         list = chain_taken_out (link_in old) (link_in new) (head_of home) (head_of home) q a ns refl out is.list;
-        led = map_led old new home ns (without a ns) (λ c must led. led_stands old new c must (without a ns) stand (led_without old c must a ns follows led)) is.led;
+        led = map_led old new home c ns (without a ns) (λ must led. led_stands old new c must (without a ns) stand (led_without old c must a ns follows led)) is.led;
+        accepts = accepts_both old new a q served shift apart (rolls.accepted next.0 asker_link) (subst (IsAccepted served.0) (sym none) tt) is.accepts;
       },
     )
 
-pub cache_shaped : (old new : View) (a q : ℕ) (served : CacheState × Body) (home : HomeState) → Shift old new a q served.0 served.1 → ServesAs a q (old.state a) (old.state q) served → Shaped old home → Shaped new home
-cache_shaped old new a q served home shift (Keeps keeps asks) shaped = shaped_alike old new home (kept_alike old new a q served shift keeps asks) shaped
-cache_shaped old new a q served home shift (Joined joins) shaped = joined_shaped old new a q served home shift joins shaped
-cache_shaped old new a q served home shift (Purged purges) shaped = purged_shaped old new a q served home shift purges shaped
-cache_shaped old new a q served home shift (Rolled rolls) shaped = rolled_shaped old new a q served home shift rolls shaped
+pub cache_shaped : (old new : View) (a q : ℕ) (served : CacheState × Body) (home : HomeState) (c : Stamped) → Shift old new a q served.0 served.1 → ServesAs a q (old.state a) (old.state q) served → Shaped old home c → Shaped new home c
+cache_shaped old new a q served home c shift (Keeps keeps asks) shaped = shaped_alike old new home c (kept_alike old new a q served shift keeps asks) shaped
+cache_shaped old new a q served home c shift (Joined joins) shaped = joined_shaped old new a q served home c shift joins shaped
+cache_shaped old new a q served home c shift (Purged purges) shaped = purged_shaped old new a q served home c shift purges shaped
+cache_shaped old new a q served home c shift (Rolled rolls) shaped = rolled_shaped old new a q served home c shift rolls shaped

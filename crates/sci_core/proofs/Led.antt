@@ -5,12 +5,11 @@ use Rattle.std.proofs.lemmas.Bool.{cases_eq}
 use Rattle.sci_words.specs.declared.stamped.Stamped.{Stamped}
 use Rattle.sci_packets.specs.declared.body.Body.{Body}
 use Rattle.sci_cache.specs.State.{CacheState}
-use Rattle.sci_cache.specs.Member.{link_of}
 use Rattle.sci_core.specs.Fresh.{is_fresh}
 use Rattle.sci_core.specs.SharingList.{IsIn, IsOnce, LinkedFrom}
 use Rattle.sci_core.proofs.Chains.{without, without_nil, without_this, without_other, next_of}
-use Rattle.sci_core.proofs.Relinking.{View, link_in}
-use Rattle.sci_core.proofs.Standings.{Role, Coming, Leading, Following, role_of, Agrees, Alike, coming_empty}
+use Rattle.sci_core.proofs.Views.{View, link_in}
+use Rattle.sci_core.proofs.Standings.{Role, Coming, Leading, Following, role_of, Agrees, Alike, alike_itself, coming_empty}
 
 abbrev pub role_in : View → ℕ → Option Role
 role_in view n = role_of (view.state n) (view.answer n)
@@ -31,10 +30,31 @@ IsLed view c must [] = ⊥
 IsLed view c must (n ∷ ns) =
     ((must ≡ true → fresh_in view n ≡ true) × AgreesIn c view n) × (((role_in view n ≡ Some Leading) × AreFollowing view c ns) ⊎ ((role_in view n ≡ Some Coming) × IsLed view c (fresh_in view n) ns))
 
+-- ---- every member of a list that is led has its contents
+
+following_agrees : (view : View) (c : Stamped) (ns : List ℕ) (n : ℕ) → AreFollowing view c ns → IsIn n ns → AgreesIn c view n
+following_agrees view c [] n f h = elim h [ ]
+following_agrees view c (m ∷ ns) n f (inl e) = subst (AgreesIn c view) (sym e) f.1
+following_agrees view c (m ∷ ns) n f (inr h) = following_agrees view c ns n f.2 h
+
+pub led_agrees : (view : View) (c : Stamped) (must : Bool) (ns : List ℕ) (n : ℕ) → IsLed view c must ns → IsIn n ns → AgreesIn c view n
+led_agrees view c must [] n led h = elim h [ ]
+led_agrees view c must (m ∷ ns) n led (inl e) = subst (AgreesIn c view) (sym e) led.0.1
+led_agrees view c must (m ∷ ns) n (front, inl leads) (inr h) = following_agrees view c ns n leads.1 h
+led_agrees view c must (m ∷ ns) n (front, inr comes) (inr h) = led_agrees view c (fresh_in view m) ns n comes.1 h
+
 -- ---- what stands as it stood
 
 abbrev pub AlikeIn : View → View → ℕ → Type 0
 AlikeIn old new n = Alike (old.state n) (old.answer n) (new.state n) (new.answer n)
+
+pub alike_moved : (old new : View) (n : ℕ) (was : Option Body) (state : CacheState) (now : Option Body) → old.answer n ≡ was → new.state n ≡ state → new.answer n ≡ now → Alike (old.state n) was state now → AlikeIn old new n
+alike_moved old new n was state now e f g alike =
+    subst (λ (w : Option Body). Alike (old.state n) w (new.state n) (new.answer n)) (sym e) (subst (λ (s : CacheState). Alike (old.state n) was s (new.answer n)) (sym f) (subst (Alike (old.state n) was state) (sym g) alike))
+
+-- its state and what is under way to it are the same
+pub alike_same : (old new : View) (n : ℕ) → new.state n ≡ old.state n → new.answer n ≡ old.answer n → AlikeIn old new n
+alike_same old new n e f = alike_moved old new n (old.answer n) (old.state n) (old.answer n) refl e f (alike_itself (old.state n) (old.answer n))
 
 pub same_role : (old new : View) (n : ℕ) → AlikeIn old new n → role_in new n ≡ role_in old n
 same_role old new n alike = ap (λ (s : Option (Option ℕ) × Option Role × Bool). s.1) alike.sight
@@ -118,7 +138,7 @@ following_in view c [] n f h = elim h [ ]
 following_in view c (m ∷ ns) n f (inl e) = ap (role_in view) e ∙ f.0
 following_in view c (m ∷ ns) n f (inr h) = following_in view c ns n f.2 h
 
-roles_differ : (r s : Role) (role : Option Role) → role ≡ Some r → role ≡ Some s → (r ≡ s → ⊥) → ⊥
+pub roles_differ : (r s : Role) (role : Option Role) → role ≡ Some r → role ≡ Some s → (r ≡ s → ⊥) → ⊥
 roles_differ r s role is also not = let both : Some r ≡ Some s = sym is ∙ also in not cc
 
 -- the one that led stands directly behind

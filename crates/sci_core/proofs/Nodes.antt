@@ -52,7 +52,7 @@ pub node_with_homes : (node : NodeOf) (homes : List HomeState) → length homes 
 node_with_homes node homes same is = record { homes = same ∙ is.homes; some_node = is.some_node; pending = is.pending; each = is.each; logged = is.logged; issued = is.issued; limit = is.limit }
 
 -- where something is pending there is such a line
-some_below : (pending : List (Option Pending)) (line : ℕ) (p : Pending) → get_or pending line None ≡ Some p → line < length pending
+pub some_below : (pending : List (Option Pending)) (line : ℕ) (p : Pending) → get_or pending line None ≡ Some p → line < length pending
 some_below pending line p e =
     elim (cases_lt line (length pending)) [
       | inl below ↦ below

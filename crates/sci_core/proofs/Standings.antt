@@ -1,8 +1,7 @@
 -- Where a member stands in its list: before the authority, as the authority, or behind it; and which contents it has or
 -- gets. Each row of the tables but those of served requests leaves that as it was.
-use Rattle.std.proofs.Common.{◌≡◌, ℕ, ◌-◌, ◌^◌, nat_lt, Bool, true, false, if◌then◌else◌, Option, Some, None, refl, sym, ap, subst, ◌∙◌}
+use Rattle.std.proofs.Common.{◌≡◌, ℕ, ◌+◌, ◌-◌, ◌^◌, nat_lt, Bool, true, false, if◌then◌else◌, Option, Some, None, refl, sym, ap}
 use Rattle.std.specs.Prelude.{IfSome}
-use Rattle.std.proofs.lemmas.Bool.{cases_Bool}
 use Rattle.sci_words.specs.declared.stamped.Stamped.{Stamped}
 use Rattle.sci_words.specs.declared.event.AskKind.{AskKind}
 use Rattle.sci_words.specs.declared.event.AskKind.TheVariants as kind
@@ -17,6 +16,9 @@ use Rattle.sci_cache.specs.Accepting.{accepting}
 use Rattle.sci_cache.specs.Performing.{Performed, performing, reply_on}
 use Rattle.sci_cache.specs.Member.{link_of}
 use Rattle.sci_core.specs.Fresh.{is_fresh}
+use Rattle.sci_cache.specs.Cache.{Letter}
+use Rattle.sci_core.specs.Node.{is_setback}
+use Rattle.sci_core.specs.Tidy.{IsSentIn, IsAccepted}
 
 -- a member comes, leads or follows
 pub data Role : Type 0 where
@@ -68,102 +70,140 @@ Agrees c state answer = IfSome (contents_of state) (λ d. d ≡ c) × IfSome (br
 abbrev pub sight_of : CacheState → Option Body → Option (Option ℕ) × Option Role × Bool
 sight_of state answer = (link_of state answer, role_of state answer, is_fresh state answer)
 
--- a line stands as it stood, with the same contents
+-- a line stands as it stood, with the same contents, and takes what comes where it took it
 pub record Alike (old : CacheState) (was : Option Body) (new : CacheState) (now : Option Body) : Type 0 where
   pub sight : sight_of new now ≡ sight_of old was
   pub agrees : (c : Stamped) → Agrees c old was → Agrees c new now
+  pub accepts : IsAccepted old was → IsAccepted new now
 
 pub alike_itself : (state : CacheState) (answer : Option Body) → Alike state answer state answer
-alike_itself state answer = record { sight = refl; agrees = λ c h. h }
+alike_itself state answer = record { sight = refl; agrees = λ c h. h; accepts = λ h. h }
 
 -- ---- a refusal
 
 abbrev IsRefused : CacheState → Type 0
 IsRefused state = Alike state None state (Some body.Busy)
 
-pub busy_alike : (state : CacheState) → waits state ≡ true → IsRefused state
-busy_alike Asking w = record { sight = refl; agrees = λ c h. h }
-busy_alike (Joining p sent) w = record { sight = refl; agrees = λ c h. h }
-busy_alike (FreshJoining p sent d) w = record { sight = refl; agrees = λ c h. h }
-busy_alike (Purging q d) w = record { sight = refl; agrees = λ c h. h }
-busy_alike (Claiming f d) w = record { sight = refl; agrees = λ c h. h }
-busy_alike (Clearing d) w = record { sight = refl; agrees = λ c h. h }
-busy_alike (Returning d) w = record { sight = refl; agrees = λ c h. h }
-busy_alike (Rolling f b d) w = record { sight = refl; agrees = λ c h. h }
-busy_alike (Telling r s sent) w = record { sight = refl; agrees = λ c h. h }
-busy_alike Fading w = record { sight = refl; agrees = λ c h. h }
-busy_alike Out w = cc
-busy_alike (Head f c) w = cc
-busy_alike (FreshHead f c) w = cc
-busy_alike (Below f b c) w = cc
+pub busy_alike : (h : ℕ) (state : CacheState) (request : Letter) → IsSentIn h state request → is_setback request.body ≡ false → IsRefused state
+busy_alike h Asking request sent other = record { sight = refl; agrees = λ c h. h; accepts = λ h. refl }
+busy_alike h (Joining p true) request sent other = record { sight = refl; agrees = λ c h. h; accepts = λ h. refl }
+busy_alike h (FreshJoining p true d) request sent other = record { sight = refl; agrees = λ c h. h; accepts = λ h. refl }
+busy_alike h (Purging q d) request sent other = record { sight = refl; agrees = λ c h. h; accepts = λ h. refl }
+busy_alike h (Claiming f d) request sent other = record { sight = refl; agrees = λ c h. h; accepts = λ h. refl }
+busy_alike h (Clearing d) request sent other = record { sight = refl; agrees = λ c h. h; accepts = λ h. refl }
+busy_alike h (Returning d) request sent other = record { sight = refl; agrees = λ c h. h; accepts = λ h. refl }
+busy_alike h (Rolling None b d) request sent other = record { sight = refl; agrees = λ c h. h; accepts = λ h. refl }
+busy_alike h (Rolling (Some r) b d) request sent other = record { sight = refl; agrees = λ c h. h; accepts = λ h. refl }
+busy_alike h (Telling r w true) request sent other = let told : is_setback request.body ≡ true = ap is_setback sent.0 in cc
+busy_alike h Fading request sent other = record { sight = refl; agrees = λ c h. h; accepts = λ h. refl }
+busy_alike h Out request sent other = elim sent [ ]
+busy_alike h (Joining p false) request sent other = elim sent [ ]
+busy_alike h (FreshJoining p false d) request sent other = elim sent [ ]
+busy_alike h (Head f c) request sent other = elim sent [ ]
+busy_alike h (FreshHead f c) request sent other = elim sent [ ]
+busy_alike h (Below f b c) request sent other = elim sent [ ]
+busy_alike h (Telling r w false) request sent other = elim sent [ ]
 
 -- ---- asking
 
 pub asking_alike : (state : CacheState) (k : AskKind) → IfSome (asking state k) (λ (asked : Asked). Alike state None asked.next None)
-asking_alike Out kind.Mread = record { sight = refl; agrees = λ c h. h }
-asking_alike Out kind.Fread = record { sight = refl; agrees = λ c h. h }
-asking_alike (Joining p false) kind.Cread = record { sight = refl; agrees = λ c h. h }
-asking_alike (FreshJoining p false d) kind.Cread = record { sight = refl; agrees = λ c h. h }
-asking_alike (Head (Some q) d) kind.Purge = record { sight = refl; agrees = λ c h. h }
-asking_alike (Head None d) kind.Wback = record { sight = refl; agrees = λ c h. h }
-asking_alike (FreshHead f d) kind.Claim = record { sight = refl; agrees = λ c h. h }
-asking_alike (FreshHead None d) kind.Clear = record { sight = refl; agrees = λ c h. h }
-asking_alike (Below f b d) kind.Roll = record { sight = refl; agrees = λ c h. h }
-asking_alike (Telling r w false) kind.Setback = record { sight = refl; agrees = λ c h. h }
+asking_alike Out kind.Mread = record { sight = refl; agrees = λ c h. h; accepts = λ h. tt }
+asking_alike Out kind.Fread = record { sight = refl; agrees = λ c h. h; accepts = λ h. tt }
+asking_alike (Joining p false) kind.Cread = record { sight = refl; agrees = λ c h. h; accepts = λ h. tt }
+asking_alike (FreshJoining p false d) kind.Cread = record { sight = refl; agrees = λ c h. h; accepts = λ h. tt }
+asking_alike (Head (Some q) d) kind.Purge = record { sight = refl; agrees = λ c h. h; accepts = λ h. tt }
+asking_alike (Head None d) kind.Wback = record { sight = refl; agrees = λ c h. h; accepts = λ h. tt }
+asking_alike (FreshHead f d) kind.Claim = record { sight = refl; agrees = λ c h. h; accepts = λ h. tt }
+asking_alike (FreshHead None d) kind.Clear = record { sight = refl; agrees = λ c h. h; accepts = λ h. tt }
+asking_alike (Below f b d) kind.Roll = record { sight = refl; agrees = λ c h. h; accepts = λ h. tt }
+asking_alike (Telling r w false) kind.Setback = record { sight = refl; agrees = λ c h. h; accepts = λ h. tt }
 asking_alike _ _ = tt
 
 -- ---- accepting
 
 pub accepting_alike : (state : CacheState) (answer : Body) → IfSome (accepting state answer) (λ (next : CacheState). Alike state (Some answer) next None)
-accepting_alike Asking (body.Mdata d) = record { sight = refl; agrees = λ c h. (h.1, tt) }
-accepting_alike Asking (body.Mgone p) = record { sight = refl; agrees = λ c h. h }
-accepting_alike Asking (body.Fdata None d) = record { sight = refl; agrees = λ c h. (h.1, tt) }
-accepting_alike Asking (body.Fdata (Some p) d) = record { sight = refl; agrees = λ c h. (h.1, tt) }
-accepting_alike Asking body.Busy = record { sight = refl; agrees = λ c h. h }
-accepting_alike (Joining p true) (body.Cdata d) = record { sight = refl; agrees = λ c h. (h.1, tt) }
-accepting_alike (Joining p true) body.Busy = record { sight = refl; agrees = λ c h. h }
-accepting_alike (FreshJoining p true d) (body.Cdata e) = record { sight = refl; agrees = λ c h. (h.0, tt) }
-accepting_alike (FreshJoining p true d) body.Busy = record { sight = refl; agrees = λ c h. h }
-accepting_alike (Purging q d) (body.Purged x) = record { sight = refl; agrees = λ c h. h }
-accepting_alike (Purging q d) body.Busy = record { sight = refl; agrees = λ c h. h }
-accepting_alike (Claiming f d) body.Wbok = record { sight = refl; agrees = λ c h. h }
-accepting_alike (Claiming f d) body.Wbno = record { sight = refl; agrees = λ c h. h }
-accepting_alike (Claiming f d) body.Busy = record { sight = refl; agrees = λ c h. h }
-accepting_alike (Clearing d) body.Wbok = record { sight = refl; agrees = λ c h. (tt, tt) }
-accepting_alike (Clearing d) body.Wbno = record { sight = refl; agrees = λ c h. h }
-accepting_alike (Clearing d) body.Busy = record { sight = refl; agrees = λ c h. h }
-accepting_alike (Returning d) body.Wbok = record { sight = refl; agrees = λ c h. (tt, tt) }
-accepting_alike (Returning d) body.Wbno = record { sight = refl; agrees = λ c h. h }
-accepting_alike (Returning d) body.Busy = record { sight = refl; agrees = λ c h. h }
-accepting_alike (Rolling None b d) body.Rolled = record { sight = refl; agrees = λ c h. (tt, tt) }
-accepting_alike (Rolling (Some r) b d) body.Rolled = record { sight = refl; agrees = λ c h. (tt, tt) }
-accepting_alike (Rolling f b d) body.Busy = record { sight = refl; agrees = λ c h. h }
-accepting_alike (Telling r w true) body.Told = record { sight = refl; agrees = λ c h. h }
-accepting_alike Fading body.Busy = record { sight = refl; agrees = λ c h. h }
+accepting_alike Asking (body.Mdata d) = record { sight = refl; agrees = λ c h. (h.1, tt); accepts = λ h. tt }
+accepting_alike Asking (body.Mgone p) = record { sight = refl; agrees = λ c h. h; accepts = λ h. tt }
+accepting_alike Asking (body.Fdata None d) = record { sight = refl; agrees = λ c h. (h.1, tt); accepts = λ h. tt }
+accepting_alike Asking (body.Fdata (Some p) d) = record { sight = refl; agrees = λ c h. (h.1, tt); accepts = λ h. tt }
+accepting_alike Asking body.Busy = record { sight = refl; agrees = λ c h. h; accepts = λ h. tt }
+accepting_alike (Joining p true) (body.Cdata d) = record { sight = refl; agrees = λ c h. (h.1, tt); accepts = λ h. tt }
+accepting_alike (Joining p true) body.Busy = record { sight = refl; agrees = λ c h. h; accepts = λ h. tt }
+accepting_alike (FreshJoining p true d) (body.Cdata e) = record { sight = refl; agrees = λ c h. (h.0, tt); accepts = λ h. tt }
+accepting_alike (FreshJoining p true d) body.Busy = record { sight = refl; agrees = λ c h. h; accepts = λ h. tt }
+accepting_alike (Purging q d) (body.Purged x) = record { sight = refl; agrees = λ c h. h; accepts = λ h. tt }
+accepting_alike (Purging q d) body.Busy = record { sight = refl; agrees = λ c h. h; accepts = λ h. tt }
+accepting_alike (Claiming f d) body.Wbok = record { sight = refl; agrees = λ c h. h; accepts = λ h. tt }
+accepting_alike (Claiming f d) body.Wbno = record { sight = refl; agrees = λ c h. h; accepts = λ h. tt }
+accepting_alike (Claiming f d) body.Busy = record { sight = refl; agrees = λ c h. h; accepts = λ h. tt }
+accepting_alike (Clearing d) body.Wbok = record { sight = refl; agrees = λ c h. (tt, tt); accepts = λ h. tt }
+accepting_alike (Clearing d) body.Wbno = record { sight = refl; agrees = λ c h. h; accepts = λ h. tt }
+accepting_alike (Clearing d) body.Busy = record { sight = refl; agrees = λ c h. h; accepts = λ h. tt }
+accepting_alike (Returning d) body.Wbok = record { sight = refl; agrees = λ c h. (tt, tt); accepts = λ h. tt }
+accepting_alike (Returning d) body.Wbno = record { sight = refl; agrees = λ c h. h; accepts = λ h. tt }
+accepting_alike (Returning d) body.Busy = record { sight = refl; agrees = λ c h. h; accepts = λ h. tt }
+accepting_alike (Rolling None b d) body.Rolled = record { sight = refl; agrees = λ c h. (tt, tt); accepts = λ h. tt }
+accepting_alike (Rolling (Some r) b d) body.Rolled = record { sight = refl; agrees = λ c h. (tt, tt); accepts = λ h. tt }
+accepting_alike (Rolling f b d) body.Busy = record { sight = refl; agrees = λ c h. h; accepts = λ h. tt }
+accepting_alike (Telling r w true) body.Told = record { sight = refl; agrees = λ c h. h; accepts = λ h. tt }
+accepting_alike Fading body.Busy = record { sight = refl; agrees = λ c h. h; accepts = λ h. tt }
 accepting_alike _ _ = tt
 
 -- ---- performing
 
--- an operation reads, and changes nothing; or it makes contents, at the head of a list of one
-pub data Performs (state : CacheState) (op : Op) (done : Performed) : Type 0 where
-  Reads : done.next ≡ state → Performs state op done
-  Makes : (c : Stamped) → state ≡ Head None c → done.next ≡ Head None (after c op) → Performs state op done
+-- the state after an operation: a load leaves it, and a maker makes contents, at the head of a list of one
+pub data Leaves (state : CacheState) (op : Op) (c : Stamped) (next : CacheState) : Type 0 where
+  Reads : is_maker op ≡ false → next ≡ state → Leaves state op c next
+  Makes : state ≡ Head None c → next ≡ Head None (after c op) → Leaves state op c next
 
-reads : (state : CacheState) (op : Op) (c : Stamped) (makes : Bool) → IfSome (if makes then None else Some (record { reply = reply_on c op; version = c.version; next = state })) (Performs state op)
-reads state op c true = tt
-reads state op c false = Reads refl
+-- an operation on the contents of a member that doesn't wait
+pub record Performs (state : CacheState) (op : Op) (done : Performed) : Type 0 where
+  pub contents : Stamped
+  pub has : contents_of state ≡ Some contents
+  pub idle : waits state ≡ false
+  pub behind : Option ℕ
+  pub member : link_of state None ≡ Some behind
+  pub reply : done.reply ≡ reply_on contents op
+  pub version : done.version ≡ (after contents op).version
+  pub leaves : Leaves state op contents done.next
 
-makes_or_reads : (op : Op) (c : Stamped) (makes room : Bool)
+version_read : (c : Stamped) (op : Op) → is_maker op ≡ false → c.version ≡ (after c op).version
+version_read c op e = ap (λ (b : Bool). if b then c.version + 1 else c.version) (sym e)
+
+reads : (state : CacheState) (op : Op) (c : Stamped) (f : Option ℕ) (makes : Bool) → contents_of state ≡ Some c → waits state ≡ false → link_of state None ≡ Some f → is_maker op ≡ makes
+    → IfSome (if makes then None else Some (record { reply = reply_on c op; version = c.version; next = state })) (Performs state op)
+reads state op c f true has idle member is = tt
+reads state op c f false has idle member is = record {
+  contents = c;
+  has = has;
+  idle = idle;
+  behind = f;
+  member = member;
+  reply = refl;
+  version = version_read c op is;
+  leaves = Reads is refl;
+}
+
+makes_or_reads : (op : Op) (c : Stamped) (makes room : Bool) → is_maker op ≡ makes
     → IfSome (if makes then (if room then Some (record { reply = reply_on c op; version = (after c op).version; next = Head None (after c op) }) else None) else Some (record { reply = reply_on c op; version = c.version; next = Head None c })) (Performs (Head None c) op)
-makes_or_reads op c true true = Makes c refl refl
-makes_or_reads op c true false = tt
-makes_or_reads op c false room = Reads refl
+makes_or_reads op c true true is = record {
+  contents = c;
+  has = refl;
+  idle = refl;
+  behind = None;
+  member = refl;
+  reply = refl;
+  version = refl;
+  leaves = Makes refl refl;
+}
+makes_or_reads op c true false is = tt
+makes_or_reads op c false room is = reads (Head None c) op c None false refl refl refl is
 
 pub performing_does : (state : CacheState) (op : Op) → IfSome (performing state op) (Performs state op)
-performing_does (Head None c) op = makes_or_reads op c (is_maker op) (nat_lt c.version (2 ^ 64 - 1))
-performing_does (Head (Some q) c) op = reads (Head (Some q) c) op c (is_maker op)
-performing_does (FreshHead f c) op = reads (FreshHead f c) op c (is_maker op)
-performing_does (Below f b c) op = reads (Below f b c) op c (is_maker op)
+performing_does (Head None c) op = makes_or_reads op c (is_maker op) (nat_lt c.version (2 ^ 64 - 1)) refl
+performing_does (Head (Some q) c) op = reads (Head (Some q) c) op c (Some q) (is_maker op) refl refl refl refl
+performing_does (FreshHead f c) op = reads (FreshHead f c) op c f (is_maker op) refl refl refl refl
+performing_does (Below f b c) op = reads (Below f b c) op c f (is_maker op) refl refl refl refl
 performing_does _ op = tt
 
 -- ---- a member that comes and isn't fresh has no contents, and gets none

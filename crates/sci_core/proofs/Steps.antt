@@ -1,6 +1,6 @@
--- What each step of a well formed state did, in one of seven ways: the side of the event's node, with its packet.
+-- What each step of a well formed state did, in one of seven ways: the side of the event's node, with its packet, and the entry that it makes.
 use Rattle.std.proofs.Common.{◌≡◌, ℕ, ◌<◌, nat_lt, Bool, if◌then◌else◌, List, [], ◌∷◌, length, Option, Some, None, refl, sym, subst, inl, inr}
-use Rattle.std.specs.Prelude.{IfSome}
+use Rattle.std.specs.Prelude.{IfSome, option_map}
 use Rattle.std.specs.List.{All}
 use Rattle.std.proofs.lemmas.Bool.{cases_Bool, ltb-true}
 use Rattle.std.proofs.lemmas.List.Elements.{All-head}
@@ -14,6 +14,7 @@ use Rattle.sci_core.specs.declared.lane.LaneKind.{LaneKind}
 use Rattle.sci_core.specs.declared.lane.LaneKind.TheVariants.{Requests, Answers}
 use Rattle.sci_core.specs.Node.{NodeOf, node_issuing, node_performing, node_asking, node_serving, node_refusing, node_replying, node_accepting}
 use Rattle.sci_core.specs.Core.{Core, node_at, with_node, lane_place, lane_at, lane_of, with_lane, changes, performs, sends, side, Takes, node_of, sent_by, taken_as, taken_from, step_by, stepping}
+use Rattle.sci_core.specs.Done.{performed}
 use Rattle.sci_core.specs.WellFormed.{IsInLane, IsWellFormed}
 use Rattle.sci_core.proofs.Parts.{SendsWell, RepliesWell, part_asking, part_replying}
 use Rattle.sci_core.proofs.Places.{place_below}
@@ -39,45 +40,46 @@ pub record Sent (core new : Core) (kind : LaneKind) (n : ℕ) (sent : NodeOf × 
   pub within : lane_place core.nodes kind n sent.1.target < length core.lanes
   pub then_ : sent_by core n kind sent.0 sent.1 ≡ new
 
-pub data Stepped (core new : Core) : Type 0 where
-  By_issue : (n : ℕ) (op : Op) (next : NodeOf) → n < core.nodes → node_issuing (node_at core n) op ≡ Some next → with_node core n next ≡ new → Stepped core new
-  By_perform : (n line : ℕ) (done : NodeOf × Entry) → n < core.nodes → node_performing (node_at core n) line ≡ Some done → with_node core n done.0 ≡ new → Stepped core new
-  By_ask : (n line : ℕ) (kind : AskKind) (sent : NodeOf × Letter) → node_asking (node_at core n) line kind ≡ Some sent → SendsWell core.nodes core.lines core.slots core.limit n sent → Sent core new Requests n sent → Stepped core new
-  By_serve : Taken core new Requests node_serving → Stepped core new
-  By_refuse : Taken core new Requests node_refusing → Stepped core new
-  By_reply : (n : ℕ) (sent : NodeOf × Letter) → node_replying (node_at core n) ≡ Some sent → RepliesWell core.nodes core.lines core.slots core.limit n sent → Sent core new Answers n sent → Stepped core new
-  By_accept : Taken core new Answers node_accepting → Stepped core new
+-- the step, and the entry that it makes, if any
+pub data Stepped (core : Core) (made : Option Entry) (new : Core) : Type 0 where
+  By_issue : (n : ℕ) (op : Op) (next : NodeOf) → n < core.nodes → node_issuing (node_at core n) op ≡ Some next → with_node core n next ≡ new → made ≡ None → Stepped core made new
+  By_perform : (n line : ℕ) (done : NodeOf × Entry) → n < core.nodes → node_performing (node_at core n) line ≡ Some done → with_node core n done.0 ≡ new → made ≡ Some done.1 → Stepped core made new
+  By_ask : (n line : ℕ) (kind : AskKind) (sent : NodeOf × Letter) → node_asking (node_at core n) line kind ≡ Some sent → SendsWell core.nodes core.lines core.slots core.limit n sent → Sent core new Requests n sent → made ≡ None → Stepped core made new
+  By_serve : Taken core new Requests node_serving → made ≡ None → Stepped core made new
+  By_refuse : Taken core new Requests node_refusing → made ≡ None → Stepped core made new
+  By_reply : (n : ℕ) (sent : NodeOf × Letter) → node_replying (node_at core n) ≡ Some sent → RepliesWell core.nodes core.lines core.slots core.limit n sent → Sent core new Answers n sent → made ≡ None → Stepped core made new
+  By_accept : Taken core new Answers node_accepting → made ≡ None → Stepped core made new
 
 -- ---- each kind of side
 
 pub lane_below : (core : Core) (kind : LaneKind) (from to : ℕ) → IsWellFormed core → from < core.nodes → to < core.nodes → lane_place core.nodes kind from to < length core.lanes
 lane_below core kind from to well f t = subst (λ (k : ℕ). lane_place core.nodes kind from to < k) (sym well.lanes_long) (place_below core.nodes kind from to f t)
 
-issued : (core : Core) (n : ℕ) (op : Op) (next : Option NodeOf) → n < core.nodes → node_issuing (node_at core n) op ≡ next → IfSome (step_by core n (changes next)) (Stepped core)
+issued : (core : Core) (n : ℕ) (op : Op) (next : Option NodeOf) → n < core.nodes → node_issuing (node_at core n) op ≡ next → IfSome (step_by core n (changes next)) (Stepped core None)
 issued core n op None lt is = tt
-issued core n op (Some next) lt is = By_issue n op next lt is refl
+issued core n op (Some next) lt is = By_issue n op next lt is refl refl
 
-performed : (core : Core) (n line : ℕ) (done : Option (NodeOf × Entry)) → n < core.nodes → node_performing (node_at core n) line ≡ done → IfSome (step_by core n (performs done)) (Stepped core)
-performed core n line None lt is = tt
-performed core n line (Some done) lt is = By_perform n line done lt is refl
+perform_steps : (core : Core) (n line : ℕ) (done : Option (NodeOf × Entry)) → n < core.nodes → node_performing (node_at core n) line ≡ done → IfSome (step_by core n (performs done)) (Stepped core (option_map (λ (d : NodeOf × Entry). d.1) done))
+perform_steps core n line None lt is = tt
+perform_steps core n line (Some done) lt is = By_perform n line done lt is refl refl
 
 asked : (core : Core) (n line : ℕ) (kind : AskKind) (sent : Option (NodeOf × Letter)) → n < core.nodes → IsWellFormed core → IfSome sent (SendsWell core.nodes core.lines core.slots core.limit n) → node_asking (node_at core n) line kind ≡ sent
-    → IfSome (step_by core n (sends Requests sent)) (Stepped core)
+    → IfSome (step_by core n (sends Requests sent)) (Stepped core None)
 asked core n line kind None lt well sends_well is = tt
 asked core n line kind (Some sent) lt well sends_well is = By_ask n line kind sent is sends_well (record {
   some = lt;
   within = lane_below core Requests n sent.1.target well lt sends_well.request.letter_ok.target;
   then_ = refl;
-})
+}) refl
 
 replied : (core : Core) (n : ℕ) (sent : Option (NodeOf × Letter)) → n < core.nodes → IsWellFormed core → IfSome sent (RepliesWell core.nodes core.lines core.slots core.limit n) → node_replying (node_at core n) ≡ sent
-    → IfSome (step_by core n (sends Answers sent)) (Stepped core)
+    → IfSome (step_by core n (sends Answers sent)) (Stepped core None)
 replied core n None lt well sends_well is = tt
 replied core n (Some sent) lt well sends_well is = By_reply n sent is sends_well (record {
   some = lt;
   within = lane_below core Answers n sent.1.target well lt sends_well.answer.letter_ok.target;
   then_ = refl;
-})
+}) refl
 
 took : (core : Core) (n place : ℕ) (kind : LaneKind) (taking : NodeOf → Letter → Option NodeOf) (letter : Letter) (rest : List Letter) (next : Option NodeOf) → n < core.nodes → place < length core.lanes → lane_at core place ≡ letter ∷ rest → Comes core n kind letter
     → taking (node_at core n) letter ≡ next → IfSome (taken_as core n place rest next) (λ new. Taken core new kind taking)
@@ -121,16 +123,16 @@ weaken P Q (Some x) f h = f x h
 
 -- ---- each event
 
-side_stepped : (core : Core) (e : Event) → node_of e < core.nodes → IsWellFormed core → IfSome (step_by core (node_of e) (side (node_at core (node_of e)) e)) (Stepped core)
+side_stepped : (core : Core) (e : Event) → node_of e < core.nodes → IsWellFormed core → IfSome (step_by core (node_of e) (side (node_at core (node_of e)) e)) (Stepped core (performed core e))
 side_stepped core (event.Issue n op) lt well = issued core n op (node_issuing (node_at core n) op) lt refl
-side_stepped core (event.Perform n line) lt well = performed core n line (node_performing (node_at core n) line) lt refl
+side_stepped core (event.Perform n line) lt well = perform_steps core n line (node_performing (node_at core n) line) lt refl
 side_stepped core (event.Ask n line kind) lt well =
     asked core n line kind (node_asking (node_at core n) line kind) lt well (part_asking core.nodes core.lines core.slots core.limit n (node_at core n) line kind well.some_node lt (well.each_part n lt)) refl
-side_stepped core (event.Serve from n) lt well = weaken _ (Stepped core) (step_by core n (Takes Requests from (node_serving (node_at core n)))) (λ new t. By_serve t) (taken core n from Requests node_serving lt well)
-side_stepped core (event.Refuse from n) lt well = weaken _ (Stepped core) (step_by core n (Takes Requests from (node_refusing (node_at core n)))) (λ new t. By_refuse t) (taken core n from Requests node_refusing lt well)
+side_stepped core (event.Serve from n) lt well = weaken _ (Stepped core None) (step_by core n (Takes Requests from (node_serving (node_at core n)))) (λ new t. By_serve t refl) (taken core n from Requests node_serving lt well)
+side_stepped core (event.Refuse from n) lt well = weaken _ (Stepped core None) (step_by core n (Takes Requests from (node_refusing (node_at core n)))) (λ new t. By_refuse t refl) (taken core n from Requests node_refusing lt well)
 side_stepped core (event.Reply n) lt well = replied core n (node_replying (node_at core n)) lt well (part_replying core.nodes core.lines core.slots core.limit n (node_at core n) (well.each_part n lt)) refl
-side_stepped core (event.Accept from n) lt well = weaken _ (Stepped core) (step_by core n (Takes Answers from (node_accepting (node_at core n)))) (λ new t. By_accept t) (taken core n from Answers node_accepting lt well)
+side_stepped core (event.Accept from n) lt well = weaken _ (Stepped core None) (step_by core n (Takes Answers from (node_accepting (node_at core n)))) (λ new t. By_accept t refl) (taken core n from Answers node_accepting lt well)
 
-pub stepping_stepped : (core : Core) (e : Event) → IsWellFormed core → IfSome (stepping core e) (Stepped core)
+pub stepping_stepped : (core : Core) (e : Event) → IsWellFormed core → IfSome (stepping core e) (Stepped core (performed core e))
 unfolding stepping
-stepping_stepped core e well = if_below (node_of e) core.nodes (Stepped core) (step_by core (node_of e) (side (node_at core (node_of e)) e)) (λ lt. side_stepped core e lt well)
+stepping_stepped core e well = if_below (node_of e) core.nodes (Stepped core (performed core e)) (step_by core (node_of e) (side (node_at core (node_of e)) e)) (λ lt. side_stepped core e lt well)

@@ -13,10 +13,12 @@ use Rattle.sci_packets.specs.Table.{is_request}
 use Rattle.sci_core.specs.declared.lane.LaneKind.TheVariants.{Requests, Answers as AnswerLane}
 use Rattle.sci_core.specs.Node.{NodeOf, opening_node, node_issuing, node_performing, node_asking, node_serving, node_refusing, node_replying, node_accepting, lines_of}
 use Rattle.sci_core.specs.Core.{Core, node_at, lane_place, stepping, step, opening, run_from, run}
+use Rattle.sci_core.specs.Done.{performed}
 use Rattle.sci_core.specs.Reached.{IsReached, AreSizes}
 use Rattle.sci_core.specs.Sharing.{is_about, under_way, packets_of}
 use Rattle.sci_core.specs.Tidy.{HasItsPackets, IsTidy}
 use Rattle.sci_core.specs.WellFormed.{IsAnswerLetter, IsPart, IsWellFormed}
+use Rattle.sci_core.proofs.Lists.{of_some}
 use Rattle.sci_core.proofs.Parts.{part_serving, part_refusing}
 use Rattle.sci_core.proofs.WellFormedSteps.{step_well, run_well, opening_well}
 use Rattle.sci_core.proofs.WaitingNodes.{Stays, AsksOnce, Answers, Replies, Accepts, issue_stays, perform_stays, ask_once, serve_answers, refuse_answers, reply_replies, accept_accepts}
@@ -34,39 +36,36 @@ waiting_answers nodes lines slots limit n next answer waits is =
 
 -- ---- each way of stepping
 
-of_some : {X : Type 0} (P : X → Type 0) (o : Option X) (x : X) → o ≡ Some x → IfSome o P → P x
-of_some {X = X} P o x e h = subst (λ (o_ : Option X). IfSome o_ P) e h
-
 -- a request is taken, and its answer waits
 took_tidy : (core new : Core) (taking : NodeOf → Letter → Option NodeOf) (t : Taken core new Requests taking) → IsWellFormed core → IsTidy core → Answers core.nodes t.letter (node_at core t.node) t.next → IsPart core.nodes core.lines core.slots core.limit t.node t.next → IsTidy new
 took_tidy core new taking t well tidy answers is =
     subst IsTidy t.then_ (served_tidy core t.node t.place t.next t.letter t.rest (node_below core t.node well t.some) t.within t.front t.comes.0.asks answers (waiting_answers core.nodes core.lines core.slots core.limit t.node t.next _ answers.waiting is) tidy)
 
-stepped_tidy : (core new : Core) → IsWellFormed core → IsTidy core → Stepped core new → IsTidy new
-stepped_tidy core new well tidy (By_issue n op next lt is e) =
+stepped_tidy : (core new : Core) (made : Option Entry) → IsWellFormed core → IsTidy core → Stepped core made new → IsTidy new
+stepped_tidy core new made well tidy (By_issue n op next lt is e none) =
     let part = node_at core n in
     subst IsTidy e (changed_tidy core n next lt well (of_some (Stays core.nodes part) (node_issuing part op) next is (issue_stays core.nodes part op)) tidy)
-stepped_tidy core new well tidy (By_perform n line done lt is e) =
+stepped_tidy core new made well tidy (By_perform n line done lt is e some) =
     let part = node_at core n in
     subst IsTidy e (changed_tidy core n done.0 lt well (of_some (λ (x : NodeOf × Entry). Stays core.nodes part x.0) (node_performing part line) done is (perform_stays core.nodes part line)) tidy)
-stepped_tidy core new well tidy (By_ask n line kind sent is sends_well s) =
+stepped_tidy core new made well tidy (By_ask n line kind sent is sends_well s none) =
     let node = node_at core n in
     let part = well.each_part n s.some in
     let once = of_some (AsksOnce core.nodes line node) (node_asking node line kind) sent is (ask_once core.nodes node line kind part.all (part.asks line)) in
     subst IsTidy s.then_ (asked_tidy core n line (lane_place core.nodes Requests n sent.1.target) sent.0 sent.1 (node_below core n well s.some) s.within sends_well.request.asks sends_well.from once tidy)
-stepped_tidy core new well tidy (By_serve t) =
+stepped_tidy core new made well tidy (By_serve t none) =
     let part = node_at core t.node in
     took_tidy core new node_serving t well tidy (of_some (Answers core.nodes t.letter part) (node_serving part t.letter) t.next t.takes (serve_answers core.nodes part t.letter))
     (of_some (IsPart core.nodes core.lines core.slots core.limit t.node) (node_serving part t.letter) t.next t.takes (part_serving core.nodes core.lines core.slots core.limit t.node part t.letter t.comes.0 t.comes.1 (well.each_part t.node t.some)))
-stepped_tidy core new well tidy (By_refuse t) =
+stepped_tidy core new made well tidy (By_refuse t none) =
     let part = node_at core t.node in
     took_tidy core new node_refusing t well tidy (of_some (Answers core.nodes t.letter part) (node_refusing part t.letter) t.next t.takes (refuse_answers core.nodes part t.letter))
     (of_some (IsPart core.nodes core.lines core.slots core.limit t.node) (node_refusing part t.letter) t.next t.takes (part_refusing core.nodes core.lines core.slots core.limit t.node part t.letter t.comes.0 t.comes.1 (well.each_part t.node t.some)))
-stepped_tidy core new well tidy (By_reply n sent is sends_well s) =
+stepped_tidy core new made well tidy (By_reply n sent is sends_well s none) =
     let part = node_at core n in
     let replies = of_some (Replies core.nodes part) (node_replying part) sent is (reply_replies core.nodes part) in
     subst IsTidy s.then_ (replied_tidy core n (lane_place core.nodes AnswerLane n sent.1.target) sent.0 sent.1 (node_below core n well s.some) s.within replies tidy)
-stepped_tidy core new well tidy (By_accept t) =
+stepped_tidy core new made well tidy (By_accept t none) =
     let part = node_at core t.node in
     let on_line : t.letter.line < lines_of part = subst (λ (k : ℕ). t.letter.line < k) (sym (well.each_part t.node t.some).each) t.comes.0.letter_ok.about in
     let accepts = of_some (Accepts t.letter.line part) (node_accepting part t.letter) t.next t.takes (accept_accepts part t.letter) in
@@ -74,12 +73,12 @@ stepped_tidy core new well tidy (By_accept t) =
 
 -- ---- runs
 
-after_tidy : (core : Core) (next : Option Core) → IsWellFormed core → IsTidy core → IfSome next (Stepped core) → IsTidy (unwrap_or next core)
-after_tidy core None well tidy stepped = tidy
-after_tidy core (Some new) well tidy stepped = stepped_tidy core new well tidy stepped
+after_tidy : (core : Core) (made : Option Entry) (next : Option Core) → IsWellFormed core → IsTidy core → IfSome next (Stepped core made) → IsTidy (unwrap_or next core)
+after_tidy core made None well tidy stepped = tidy
+after_tidy core made (Some new) well tidy stepped = stepped_tidy core new made well tidy stepped
 
 pub step_tidy : (core : Core) (e : Event) → IsWellFormed core → IsTidy core → IsTidy (step core e)
-step_tidy core e well tidy = after_tidy core (stepping core e) well tidy (stepping_stepped core e well)
+step_tidy core e well tidy = after_tidy core (performed core e) (stepping core e) well tidy (stepping_stepped core e well)
 
 pub run_tidy : (core : Core) (events : List Event) → IsWellFormed core → IsTidy core → IsTidy (run_from core events)
 run_tidy core [] well tidy = tidy

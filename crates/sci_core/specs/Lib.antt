@@ -12,3 +12,6 @@ pub mod Tidy
 pub mod Alternates
 pub mod SharingList
 pub mod Fresh
+pub mod Done
+pub mod Shape
+pub mod Coherent

@@ -1,5 +1,5 @@
 -- The sharing list of a line, from the home's head along the links of its members.
-use Rattle.std.specs.Prelude.{◌≡◌, ◌⊎◌, ◌<◌, ℕ, List, [], ◌∷◌, Option, Some, None}
+use Rattle.std.specs.Prelude.{◌≡◌, ◌⊎◌, ℕ, List, [], ◌∷◌, Option, Some, None}
 use Rattle.sci_cache.specs.Member.{link_of}
 use Rattle.sci_home.specs.Serving.{head_of}
 use Rattle.sci_core.specs.Core.{Core}
@@ -33,10 +33,7 @@ pub record IsListOf (link : ℕ → Option (Option ℕ)) (first : Option ℕ) (n
 abbrev pub link_at : Core → ℕ → ℕ → Option (Option ℕ)
 link_at core line n = link_of (sharer_of core line n).state (sharer_of core line n).answer
 
--- the list of a line: its members, from the home's head
+-- the list of a line: its members are exactly these nodes, each once, from the home's head along their links; the last
+-- one's link is none
 abbrev pub IsSharingList : Core → ℕ → List ℕ → Type 0
 IsSharingList core line nodes = IsListOf (link_at core line) (head_of (home_at core line)) nodes
-
--- each line's members are one list, from the home's head along their links; the last one's link is none
-abbrev pub HasSharingLists : Core → Type 0
-HasSharingLists core = (line : ℕ) → line < core.lines → (nodes : List ℕ) × IsSharingList core line nodes

@@ -1,12 +1,14 @@
 -- Who waits has one packet under way, and nobody else has one.
-use Rattle.std.specs.Prelude.{◌≡◌, ◌<◌, ◌%◌, ◌⊎◌, ℕ, true, false, List, [], ◌∷◌, Option}
+use Rattle.std.specs.Prelude.{◌≡◌, ◌<◌, ◌%◌, ◌⊎◌, ℕ, true, false, List, [], ◌∷◌, Option, IfSome, IsSome}
+use Rattle.sci_packets.specs.declared.body.Body.{Body}
 use Rattle.sci_packets.specs.declared.body.Body.TheVariants.{Mread, Fread, Cread, Purge, Roll, Wback, Setback, Claim, Clear}
 use Rattle.sci_packets.specs.Table.{is_request}
 use Rattle.sci_cache.specs.State.{CacheState, Asking, Joining, FreshJoining, Purging, Claiming, Clearing, Returning, Rolling, Telling, Fading, waits}
+use Rattle.sci_cache.specs.Accepting.{accepting}
 use Rattle.sci_cache.specs.Line.{LineState, last_control}
 use Rattle.sci_cache.specs.Cache.{Letter, line_of}
 use Rattle.sci_core.specs.Core.{Core, node_at}
-use Rattle.sci_core.specs.Sharing.{packets_of}
+use Rattle.sci_core.specs.Sharing.{packets_of, answer_to}
 
 -- The request is the one that the state sent, with the identifiers and the contents that the state has. That of a node
 -- that leaves may have gone to an entry that was before it.
@@ -38,3 +40,11 @@ HasItsPackets home line (letter ∷ another ∷ letters) = ⊥
 -- for each node and line: exactly one packet of its asks is under way where it waits, and none where it doesn't
 abbrev pub IsTidy : Core → Type 0
 IsTidy core = (n line : ℕ) → n < core.nodes → line < core.lines → HasItsPackets (line % core.nodes) (line_of (node_at core n).cache line) (packets_of core n line)
+
+-- an answer that is under way is one that the state accepts
+abbrev pub IsAccepted : CacheState → Option Body → Type 0
+IsAccepted state answer = IfSome answer (λ body. IsSome (accepting state body))
+
+-- no answer comes that its taker doesn't await
+abbrev pub AreAccepted : Core → Type 0
+AreAccepted core = (n line : ℕ) → line < core.lines → IsAccepted (line_of (node_at core n).cache line).state (answer_to core n line)

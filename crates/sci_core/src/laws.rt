@@ -1,12 +1,20 @@
 //! Laws of the machine, each the contract of a function that does nothing.
 
-ghost use Rattle.std.specs.Prelude.{◌≡◌, ◌<◌, ℕ, List};
+ghost use Rattle.std.specs.Prelude.{◌≡◌, ◌<◌, ℕ, List, filter};
 ghost use Rattle.sci_words.specs.declared.event.Event.{Event};
-ghost use Rattle.sci_core.specs.Core.{Core, run};
+ghost use Rattle.sci_words.specs.Stamped.{zero_stamped};
+ghost use Rattle.sci_history.specs.History.{IsHistory};
+ghost use Rattle.sci_history.specs.Lawful.{Lawful};
+ghost use Rattle.sci_history.specs.Placed.{is_on_line};
+ghost use Rattle.sci_core.specs.Core.{Core, run, step};
+ghost use Rattle.sci_core.specs.Coherent.{IsCoherent};
+ghost use Rattle.sci_core.specs.Done.{LastChanges, done, made_by};
+ghost use Rattle.sci_core.specs.Outcome.{logs_of};
 ghost use Rattle.sci_core.specs.Reached.{AreSizes, IsReached};
 ghost use Rattle.sci_core.specs.WellFormed.{IsWellFormed};
-ghost use Rattle.sci_core.specs.Tidy.{IsTidy};
-ghost use Rattle.sci_core.specs.SharingList.{HasSharingLists};
+ghost use Rattle.sci_core.specs.Shape.{HasShapes};
+ghost use Rattle.sci_core.specs.Sharing.{last_at, last_of};
+ghost use Rattle.sci_core.specs.Tidy.{AreAccepted, IsTidy};
 ghost use Rattle.sci_core.specs.Alternates.{Alternates};
 
 /// Every state that a schedule leads to is reached, and no other is.
@@ -27,10 +35,44 @@ pub fn reached_states_are_tidy()
     ensures { (core : Core) → IsReached core → IsTidy core }
 {}
 
-/// In every reached state, for each line: its members are exactly the nodes of one list, which goes from the home's
-/// head along their links, with each of them once; the last one's link is none.
-pub fn members_are_one_list()
-    ensures { (core : Core) → IsReached core → HasSharingLists core }
+/// In every reached state no answer is under way that its taker doesn't await.
+pub fn answers_are_accepted()
+    ensures { (core : Core) → IsReached core → AreAccepted core }
+{}
+
+/// In every reached state, for each line: its members are exactly the nodes of one list, from the home's head along
+/// their links, each of them once; where the home hasn't the line alone, exactly one of them is the authority, which
+/// may change the line or is about to; before it stand only members that come, and after it only members that
+/// follow; all of them have the line's last contents, if any; and where the home is fresh, and below any fresh member
+/// that comes, all are fresh down to the authority.
+pub fn lines_have_their_shape()
+    ensures { (core : Core) → IsReached core → HasShapes core }
+{}
+
+/// Each event of a reached state that performs an operation answers what the operation gives on its line's last
+/// contents, and changes them as the operation says, a maker's version being one more than before; any other event
+/// leaves every line's last contents as they were.
+pub fn operations_take_effect()
+    ensures { (core : Core) (event : Event) → IsReached core → LastChanges core (step core event) (made_by core event) }
+{}
+
+/// The entries that a schedule makes on a line are, in its order, the line's history from zero words to its last
+/// contents: a run of one memory of one thread.
+pub fn schedules_are_histories()
+    ensures { (nodes lines slots limit : ℕ) (schedule : List Event) (line : ℕ) → AreSizes nodes lines slots limit → line < lines →
+        IsHistory (filter (is_on_line line) (done nodes lines slots limit schedule)) zero_stamped (last_at (run nodes lines slots limit schedule) line) }
+{}
+
+/// The logs of every reached state are lawful with its last contents: placed by version, the operations logged on a
+/// line are a run of one memory of one thread that gives each the reply it got, and each node's stand in the order
+/// issued.
+pub fn logs_are_lawful()
+    ensures { (core : Core) → IsReached core → Lawful (logs_of core) (last_of core) }
+{}
+
+/// Every reached state has all of this.
+pub fn reached_states_are_coherent()
+    ensures { (core : Core) → IsReached core → IsCoherent core }
 {}
 
 /// In every schedule, for each node and line, asks and accepted answers alternate, beginning with an ask; between

@@ -16,8 +16,9 @@ mod state;
 pub use fault::ApplyFault;
 pub use lane::LaneKind;
 pub use laws::{
-    reached_states_are_tidy, reached_states_are_well_formed, schedules_reach,
-    transactions_alternate,
+    answers_are_accepted, lines_have_their_shape, logs_are_lawful, operations_take_effect,
+    reached_states_are_coherent, reached_states_are_tidy, reached_states_are_well_formed,
+    schedules_are_histories, schedules_reach, transactions_alternate,
 };
 pub use machine::Machine;
 pub use node::Node;

@@ -37,7 +37,9 @@ impl Machine {
     ghost use Rattle.sci_core.specs.Fault.{IsFaultOf};
     ghost use Rattle.sci_core.specs.Reached.{IsReached};
     ghost use Rattle.sci_core.specs.Stopped.{IsStoppedAt};
-    ghost use Rattle.sci_core.specs.Tidy.{IsTidy};
+    ghost use Rattle.sci_core.specs.Coherent.{IsCoherent};
+    ghost use Rattle.sci_core.specs.Done.{LastChanges, made_by};
+    ghost use Rattle.sci_history.specs.Lawful.{Lawful};
     ghost use Rattle.sci_core.specs.Outcome.{logs_of};
     ghost use Rattle.sci_core.specs.Sharing.{last_of};
 
@@ -49,7 +51,7 @@ impl Machine {
         requires few { limit ≤ MAX_OPERATIONS }
         ensures opening { IfOk result (λ machine. machine ≡ opening extent.nodes extent.lines extent.slots limit) }
         ensures reached { IfOk result IsReached }
-        ensures tidy { IfOk result IsTidy }
+        ensures coherent { IfOk result IsCoherent }
     {
         Ok(Machine {
             state: State::new(alloc, extent, limit)?,
@@ -57,13 +59,14 @@ impl Machine {
     }
 
     /// Applies an event. Unchanged on refusal: NotEnabled exactly where the event is not enabled, and Memory
-    /// only for an Ask or a Reply that is enabled, where its lane could not grow.
+    /// only for an Ask or a Reply that is enabled, where its lane could not grow. A Perform answers on its line's
+    /// last contents, and changes them as its operation says; no other event changes the last contents of a line.
     pub fn apply(&mut self, event: &Event) -> Result<(), ApplyFault>
         ensures done { IfOk result (λ _. stepping self.old event.now ≡ Some self.new) }
         ensures refused { IfErr result (IsFaultOf (stepping self.old event.now) event.now) }
         ensures same { IsErr result → self.new ≡ self.old }
-        ensures reached { IsReached self.new }
-        ensures tidy { IsTidy self.new }
+        ensures effect { IfOk result (λ _. LastChanges self.old self.new (made_by self.old event.now)) }
+        ensures coherent { IsCoherent self.new }
     {
         self.state.apply(event)
     }
@@ -73,8 +76,7 @@ impl Machine {
     pub fn run(&mut self, events: &[Event]) -> Result<(), AllocError>
         ensures ok { OnOk result (self.new ≡ run_from self.old events.now) }
         ensures err { IsErr result → IsStoppedAt self.old self.new events.now }
-        ensures reached { IsReached self.new }
-        ensures tidy { IsTidy self.new }
+        ensures coherent { IsCoherent self.new }
     {
         for event in events {
             match self.apply(event) {
@@ -116,6 +118,7 @@ impl Machine {
     /// The logs of all nodes; those beyond the machine's are empty. Refused where memory is.
     pub fn logs(&self, alloc: Global) -> Result<Logs, AllocError>
         ensures logs { IfOk result (λ logs. logs ≡ logs_of self.now) }
+        ensures lawful { IfOk result (λ logs. Lawful logs (last_of self.now)) }
         ensures reached { IsReached self.now }
     {
         let mut logs = Logs::new(alloc);
@@ -126,9 +129,10 @@ impl Machine {
     }
 
     /// The last contents of each line: its home's where nobody may have written since, and else those of the one
-    /// node that may change the line or is about to.
+    /// node that may change the line or is about to. The logs are lawful with them.
     pub fn last(&self) -> Last
         ensures last { result ≡ last_of self.now }
+        ensures lawful { Lawful (logs_of self.now) result }
         ensures reached { IsReached self.now }
     {
         let lines = self.state.lines();

@@ -1,5 +1,9 @@
 -- A reached state is well formed, and one event more leads to a reached state.
-use Rattle.sci_core.proofs.TidyRuns.{reached_tidy}
+use Rattle.std.proofs.Common.{subst}
+use Rattle.std.specs.Prelude.{IfOk}
+use Rattle.sci_core.specs.Core.{Core}
+use Rattle.sci_core.specs.Done.{LastChanges, made_by}
+use Rattle.sci_core.proofs.ReachedLaws.{reached_coherent, applied_effects}
 use Rattle.sci_core.proofs.WellFormedSteps.{reached_well, reached_either}
 use Rattle.sci_core.proofs.machine.Machine.apply.Goals as goal
 
@@ -9,9 +13,11 @@ apply-requires c = reached_well c.self.inside.state c.self.invariant
 pub invariant_of-self : goal.invariant_of-self
 invariant_of-self c = reached_either c.apply.result c.self.inside.state c.apply.new.self c.args.event.now c.self.invariant c.apply.ensures.done c.apply.ensures.same
 
-pub returns-clause-reached : goal.returns-clause-reached
-returns-clause-reached c = reached_either c.apply.result c.self.inside.state c.apply.new.self c.args.event.now c.self.invariant c.apply.ensures.done c.apply.ensures.same
+pub returns-clause-effect : goal.returns-clause-effect
+returns-clause-effect c =
+    let effects = applied_effects c.apply.result c.self.inside.state c.apply.new.self c.args.event.now c.self.invariant c.apply.ensures.done in
+    subst (λ (old : Core). IfOk c.apply.result (λ _. LastChanges old c.apply.new.self (made_by old c.args.event.now))) c.self.view_is effects
 
-pub returns-clause-tidy : goal.returns-clause-tidy
-returns-clause-tidy c =
-    reached_tidy c.apply.new.self (reached_either c.apply.result c.self.inside.state c.apply.new.self c.args.event.now c.self.invariant c.apply.ensures.done c.apply.ensures.same)
+pub returns-clause-coherent : goal.returns-clause-coherent
+returns-clause-coherent c =
+    reached_coherent c.apply.new.self (reached_either c.apply.result c.self.inside.state c.apply.new.self c.args.event.now c.self.invariant c.apply.ensures.done c.apply.ensures.same)

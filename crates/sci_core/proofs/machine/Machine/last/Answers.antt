@@ -1,10 +1,13 @@
 -- A reached state is well formed, and all lines are read off it.
-use Rattle.std.proofs.Common.{◌≡◌, subst, ◌∙◌, arith}
+use Rattle.std.proofs.Common.{◌≡◌, sym, subst, ◌∙◌, arith}
 use Rattle.std.proofs.lemmas.List.FromFn.{fill_by_all}
 use Rattle.sci_words.specs.Stamped.{zero_stamped}
+use Rattle.sci_history.specs.Lawful.{Lawful}
 use Rattle.sci_core.specs.Core.{Core}
+use Rattle.sci_core.specs.Outcome.{logs_of}
 use Rattle.sci_core.specs.Sharing.{last_at, last_of}
 use Rattle.sci_core.proofs.WellFormedSteps.{reached_well}
+use Rattle.sci_core.proofs.ReachedLaws.{reached_lawful}
 use Rattle.sci_core.proofs.machine.Machine.last.Goals as goal
 
 pub last_at-requires-clause-well : goal.last_at-requires-clause-well
@@ -15,3 +18,10 @@ returns-clause-last c =
     let core = c.self.inside.state in
     let all = fill_by_all (last_at core) c.loop-line.last core.lines zero_stamped (c.loop-line.invariant.0 ∙ c.lines-lines.ensures.lines) (λ k below. c.loop-line.invariant.1 k (omega arith)) in
     subst (λ (k : Core). c.loop-line.last ≡ last_of k) c.self.view_is all
+
+pub returns-clause-lawful : goal.returns-clause-lawful
+returns-clause-lawful c =
+    let core = c.self.inside.state in
+    let all = fill_by_all (last_at core) c.loop-line.last core.lines zero_stamped (c.loop-line.invariant.0 ∙ c.lines-lines.ensures.lines) (λ k below. c.loop-line.invariant.1 k (omega arith)) in
+    let lawful = subst (Lawful (logs_of core)) (sym all) (reached_lawful core c.self.invariant) in
+    subst (λ (k : Core). Lawful (logs_of k) c.loop-line.last) c.self.view_is lawful

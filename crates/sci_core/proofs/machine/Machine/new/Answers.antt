@@ -1,8 +1,26 @@
--- The opening is tidy.
-use Rattle.std.proofs.Common.{sym, subst}
-use Rattle.sci_core.specs.Tidy.{IsTidy}
-use Rattle.sci_core.proofs.TidyRuns.{opening_tidy}
+-- The opening is where the schedule without events leads.
+use Rattle.std.proofs.Common.{[], sym, subst}
+use Rattle.sci_core.specs.Coherent.{IsCoherent}
+use Rattle.sci_core.specs.Core.{opening}
+use Rattle.sci_core.specs.Reached.{AreSizes}
+use Rattle.sci_core.proofs.TidyRuns.{run_reached}
+use Rattle.sci_core.proofs.ReachedLaws.{reached_coherent}
 use Rattle.sci_core.proofs.machine.Machine.new.Goals as goal
 
-pub returns-clause-tidy : goal.returns-clause-tidy
-returns-clause-tidy c = subst IsTidy (sym c.in_ok-new.ensures) (opening_tidy c.args.extent.nodes c.args.extent.lines c.args.extent.slots c.args.limit)
+pub returns-clause-coherent : goal.returns-clause-coherent
+returns-clause-coherent c =
+    let extent = c.args.extent in
+    let sizes : AreSizes extent.nodes extent.lines extent.slots c.args.limit = record {
+      extent = record {
+        has_node = extent.has_node;
+        few_nodes = extent.few_nodes;
+        has_line = extent.has_line;
+        few_lines = extent.few_lines;
+        has_slot = extent.has_slot;
+        few_slots = extent.few_slots;
+      };
+      some_operation = c.requires.some;
+      few_operations = c.requires.few;
+    } in
+    let opening_coherent = reached_coherent (opening extent.nodes extent.lines extent.slots c.args.limit) (run_reached extent.nodes extent.lines extent.slots c.args.limit [] sizes) in
+    subst IsCoherent (sym c.in_ok-new.ensures) opening_coherent

@@ -1,34 +1,35 @@
--- A request that is served, or refused, keeps each line's members one list.
+-- A request that is served, or refused, leaves each line its shape and its last contents.
 use Rattle.std.proofs.Common.{◌≡◌, ◌≢◌, ℕ, ◌+◌, ◌*◌, ◌/◌, ◌%◌, ◌<◌, true, false, List, [], ◌∷◌, length, filter, Option, Some, None, refl, sym, ap, subst, ◌∙◌, inl, inr}
 use Rattle.std.specs.Prelude.{IfSome, option_to_list, slice_set, slice_index_or}
 use Rattle.std.proofs.Math.Nat.{div-add-mod}
 use Rattle.std.proofs.lemmas.Bool.{cases_Bool, cases_eq}
 use Rattle.std.proofs.lemmas.List.{get_or-set_same, get_or-set_other}
+use Rattle.sci_words.specs.declared.stamped.Stamped.{Stamped}
 use Rattle.sci_packets.specs.declared.body.Body.{Body}
 use Rattle.sci_packets.specs.declared.body.Body.TheVariants.{Busy}
 use Rattle.sci_packets.specs.Table.{is_request}
 use Rattle.sci_home.specs.declared.state.HomeState.{HomeState}
-use Rattle.sci_home.specs.Serving.{opening_home, head_of, serving as serving_of_home}
+use Rattle.sci_home.specs.Serving.{opening_home, serving as serving_of_home}
 use Rattle.sci_cache.specs.State.{CacheState, waits}
 use Rattle.sci_cache.specs.Serving.{serving}
 use Rattle.sci_cache.specs.Line.{LineState, untouched, line_in}
-use Rattle.sci_cache.specs.Member.{link_of}
 use Rattle.sci_cache.specs.Cache.{Letter, line_of, with_line}
-use Rattle.sci_core.specs.Node.{NodeOf, opening_node, lines_of, home_of, home_place, answer_to, with_answer}
+use Rattle.sci_core.specs.Node.{NodeOf, is_setback, opening_node, lines_of, home_of, home_place, answer_to, with_answer}
 use Rattle.sci_core.specs.Core.{Core, node_at, with_node, lane_at, with_lane}
 use Rattle.sci_core.specs.Sharing.{is_about, packets_of, answer_in, home_at, answer_to as told}
-use Rattle.sci_core.specs.SharingList.{link_at, IsSharingList, HasSharingLists}
 use Rattle.sci_core.specs.Tidy.{IsSentIn, IsTidy}
 use Rattle.sci_core.specs.WellFormed.{IsPart}
 use Rattle.sci_core.proofs.Lists.{at_place_set}
 use Rattle.sci_core.proofs.Nodes.{home_below}
 use Rattle.sci_core.proofs.Packets.{packets_same, packets_served, filter_left, filter_one, lane_has}
 use Rattle.sci_core.proofs.Waits.{idle_has_none, some_has_one}
-use Rattle.sci_core.proofs.TidySteps.{about_from, about_line, about_asker, request_asker, about_answer, same_line}
-use Rattle.sci_core.proofs.Chains.{list_same}
-use Rattle.sci_core.proofs.Links.{ServesHead, Same_head, ServesLinks, busy_links, home_links, cache_links}
-use Rattle.sci_core.proofs.ListSteps.{view_of, request_tells, answer_tells, heads_same}
-use Rattle.sci_core.proofs.Relinking.{Shift, list_served, list_at_home}
+use Rattle.sci_core.proofs.TidySteps.{about_from, about_line, about_asker, request_asker, about_answer}
+use Rattle.sci_core.proofs.Views.{Shift}
+use Rattle.sci_core.proofs.Standings.{busy_alike}
+use Rattle.sci_core.proofs.Led.{AlikeIn, alike_moved, alike_same}
+use Rattle.sci_core.proofs.Shapes.{Asks, Shaped, HomeShapes, home_shaped}
+use Rattle.sci_core.proofs.CacheShapes.{ServesAs, cache_serves, cache_shaped}
+use Rattle.sci_core.proofs.ShapeSteps.{view_of, ShapedAt, SameLine, same_shaped, request_tells, answer_tells, homes_same}
 
 -- node n has taken a request from a lane, and its answer waits there
 pub record Answered (core : Core) (n place : ℕ) (next : NodeOf) (request : Letter) (rest : List Letter) (body : Body) : Type 0 where
@@ -88,39 +89,54 @@ state_same : (core : Core) (n : ℕ) (next : NodeOf) → ((k : ℕ) → (line_of
 state_same core n next states m k =
     at_place_set (λ (j : ℕ) (part : NodeOf). (line_of part.cache k).state ≡ (line_of (node_at core j).cache k).state) core.parts n next (opening_node 0 1 0 0 0) (λ j. refl) (states k) m
 
--- a request is refused, or served by the home: the asker's link and the home's head may change
-pub kept_states : (core : Core) (n place : ℕ) (next : NodeOf) (request : Letter) (rest : List Letter) (body : Body) → Answered core n place next request rest body → IsTidy core → ((k : ℕ) → (line_of next.cache k).state ≡ (line_of (node_at core n).cache k).state)
-    → ((k : ℕ) → k ≢ request.line → head_of (home_at (with_node core n next) k) ≡ head_of (home_at core k))
-    → ServesHead request.source ((view_of core request.line).state request.source) (head_of (home_at core request.line)) (head_of (home_at (with_node core n next) request.line)) body → HasSharingLists core → HasSharingLists (with_lane (with_node core n next) place rest)
-kept_states core n place next request rest body is tidy states heads serves lists k inside =
+-- another line stands as it stood
+other_line : (core : Core) (n place : ℕ) (next : NodeOf) (request : Letter) (rest : List Letter) (body : Body) → Answered core n place next request rest body → ((k : ℕ) → k ≢ request.line → (line_of next.cache k).state ≡ (line_of (node_at core n).cache k).state)
+    → ((k : ℕ) → k ≢ request.line → home_at (with_node core n next) k ≡ home_at core k) → (k : ℕ) → k ≢ request.line → SameLine core (with_lane (with_node core n next) place rest) k
+other_line core n place next request rest body is states homes k other =
     let new = with_lane (with_node core n next) place rest in
-    let a = request.source in
-    elim (cases_eq k request.line) [
-      | inl here ↦
-          let told_a = told_here core n place next request rest body is tidy in
-          let line = request.line in
-          let shift : Shift (view_of core line) (view_of new line) a a ((view_of core line).state a) body = record {
-            unanswered = told_a.unanswered;
-            answered = told_a.answered;
-            other_answers = λ m apart. told_other core n place next request rest body is m line (λ h. apart h.0);
-            here = state_same core n next states a line;
-            others = λ m apart. state_same core n next states m line;
-            idle = λ idle. (let busy = told_a.waiting in cc);
-          } in
-          let then_ = list_at_home (view_of core line) (view_of new line) a body (head_of (home_at core line)) (head_of (home_at new line)) shift serves (lists line is.known) in
-          subst (λ (j : ℕ). (nodes : List ℕ) × IsSharingList new j nodes) (sym here) then_
-      | inr other ↦
-          list_same (link_at core k) (link_at new k) (head_of (home_at core k)) (head_of (home_at new k)) (heads k other)
-          (λ m. ap (link_of ((view_of new k).state m)) (told_other core n place next request rest body is m k (λ h. other h.1)) ∙ ap (λ (s : CacheState). link_of s (told core m k)) (state_same core n next states m k)) (lists k inside)
-    ]
+    record {
+      home = homes k other;
+      alike = λ m. alike_same (view_of core k) (view_of new k) m
+          (at_place_set (λ (j : ℕ) (part : NodeOf). (line_of part.cache k).state ≡ (line_of (node_at core j).cache k).state) core.parts n next (opening_node 0 1 0 0 0) (λ j. refl) (states k other) m)
+          (told_other core n place next request rest body is m k (λ h. other h.1));
+    }
 
-pub refused_lists : (core : Core) (n place : ℕ) (request : Letter) (rest : List Letter) → Answered core n place (with_answer (node_at core n) request Busy) request rest Busy → IsTidy core → HasSharingLists core
-    → HasSharingLists (with_lane (with_node core n (with_answer (node_at core n) request Busy)) place rest)
-refused_lists core n place request rest is tidy lists =
+-- the asker's line, where no state changes
+asks_now : (core : Core) (n place : ℕ) (next : NodeOf) (request : Letter) (rest : List Letter) (body : Body) → Answered core n place next request rest body → IsTidy core → ((k : ℕ) → (line_of next.cache k).state ≡ (line_of (node_at core n).cache k).state)
+    → Asks (view_of core request.line) (view_of (with_lane (with_node core n next) place rest) request.line) request.source ((view_of core request.line).state request.source) body
+asks_now core n place next request rest body is tidy states =
+    let new = with_lane (with_node core n next) place rest in
+    let line = request.line in
+    let told_a = told_here core n place next request rest body is tidy in
+    record {
+      was = refl;
+      state = state_same core n next states request.source line;
+      unanswered = told_a.unanswered;
+      answered = told_a.answered;
+      others = λ m apart. alike_same (view_of core line) (view_of new line) m (state_same core n next states m line) (told_other core n place next request rest body is m line (λ h. apart h.0));
+    }
+
+-- ---- a refusal
+
+pub refused_same : (core : Core) (n place : ℕ) (request : Letter) (rest : List Letter) → is_setback request.body ≡ false → Answered core n place (with_answer (node_at core n) request Busy) request rest Busy → IsTidy core
+    → (k : ℕ) → SameLine core (with_lane (with_node core n (with_answer (node_at core n) request Busy)) place rest) k
+refused_same core n place request rest not_setback is tidy k =
     let next = with_answer (node_at core n) request Busy in
-    let heads = heads_same core n next (record { homes = refl; nodes = refl }) in
-    let told_a = told_here core n place next request rest Busy is tidy in
-    kept_states core n place next request rest Busy is tidy (λ k. refl) (λ k other. heads k) (Same_head (heads request.line) (busy_links ((view_of core request.line).state request.source) told_a.waiting)) lists
+    let new = with_lane (with_node core n next) place rest in
+    let line = request.line in
+    let homes = homes_same core n next (record { homes = refl; nodes = refl }) in
+    elim (cases_eq k line) [
+      | inl here ↦
+          let told_a = told_here core n place next request rest Busy is tidy in
+          let asks = asks_now core n place next request rest Busy is tidy (λ j. refl) in
+          let busy = busy_alike (line % core.nodes) ((view_of core line).state request.source) request told_a.sent not_setback in
+          let alike : (m : ℕ) → AlikeIn (view_of core line) (view_of new line) m = λ m. elim (cases_eq m request.source) [
+            | inl asker ↦ subst (AlikeIn (view_of core line) (view_of new line)) (sym asker) (alike_moved (view_of core line) (view_of new line) request.source None ((view_of core line).state request.source) (Some Busy) asks.unanswered asks.state asks.answered busy)
+            | inr other ↦ asks.others m other
+          ] in
+          subst (SameLine core new) (sym here) (record { home = homes line; alike = alike })
+      | inr other ↦ other_line core n place next request rest Busy is (λ j apart. refl) (λ j apart. homes j) k other
+    ]
 
 -- ---- the home of one line
 
@@ -159,62 +175,76 @@ home_now core n line next home below at same homes within =
     ap (λ (p : NodeOf). home_of p line) node ∙ (there ∙ (ap (λ (hs : List HomeState). slice_index_or hs (home_place part line) opening_home) homes ∙ get_or-set_same part.homes (home_place part line) home opening_home within))
 
 -- the node after its home has served
-abbrev with_home : NodeOf → Letter → HomeState → Body → NodeOf
+abbrev pub with_home : NodeOf → Letter → HomeState → Body → NodeOf
 with_home part request home body = with_answer (record part { homes = slice_set part.homes (home_place part request.line) home }) request body
 
-pub home_lists : (core : Core) (n place : ℕ) (request : Letter) (rest : List Letter) (served : HomeState × Body) → IsPart core.nodes core.lines core.slots core.limit n (node_at core n) → request.line % core.nodes ≡ n → Answered core n place (with_home (node_at core n) request served.0 served.1) request rest served.1
-    → serving_of_home (home_of (node_at core n) request.line) request.source request.body ≡ Some served → IsTidy core → HasSharingLists core → HasSharingLists (with_lane (with_node core n (with_home (node_at core n) request served.0 served.1)) place rest)
-home_lists core n place request rest served part at is serves tidy lists =
+pub home_kept : (core : Core) (n place : ℕ) (request : Letter) (rest : List Letter) (served : HomeState × Body) → IsPart core.nodes core.lines core.slots core.limit n (node_at core n) → request.line % core.nodes ≡ n → Answered core n place (with_home (node_at core n) request served.0 served.1) request rest served.1
+    → serving_of_home (home_of (node_at core n) request.line) request.source request.body ≡ Some served → IsTidy core → (k : ℕ) (c : Stamped) → ShapedAt core k c → ShapedAt (with_lane (with_node core n (with_home (node_at core n) request served.0 served.1)) place rest) k c
+home_kept core n place request rest served part at is serves tidy k c shaped =
     let old = node_at core n in
     let next = with_home old request served.0 served.1 in
+    let new = with_lane (with_node core n next) place rest in
     let line = request.line in
-    let told_a = told_here core n place next request rest served.1 is tidy in
-    let asker = (view_of core line).state request.source in
     let homes = home_changed core n line next served.0 is.below part.all at part.all refl in
-    let within : home_place old line < length old.homes = home_below old line (subst (λ (k : ℕ). line < k) (sym part.each) is.known) part.fits in
-    let now : home_at (with_node core n next) line ≡ served.0 = home_now core n line next served.0 is.below at refl refl within in
-    let was : home_at core line ≡ home_of old line = ap (λ (j : ℕ). home_of (node_at core j) line) at in
-    let links = home_links (line % core.nodes) request.source (home_of old line) asker request told_a.sent in
-    let serves_head = subst (λ (o : Option (HomeState × Body)). IfSome o (λ (s : HomeState × Body). ServesHead request.source asker (head_of (home_of old line)) (head_of s.0) s.1)) serves links in
-    let serves_old = subst (λ (h : Option ℕ). ServesHead request.source asker h (head_of served.0) served.1) (ap head_of (sym was)) serves_head in
-    let serves_both = subst (λ (h : Option ℕ). ServesHead request.source asker (head_of (home_at core line)) h served.1) (ap head_of (sym now)) serves_old in
-    kept_states core n place next request rest served.1 is tidy (λ k. refl) (λ k other. ap head_of (homes k other)) serves_both lists
+    elim (cases_eq k line) [
+      | inl here ↦
+          let told_a = told_here core n place next request rest served.1 is tidy in
+          let asker = (view_of core line).state request.source in
+          let within : home_place old line < length old.homes = home_below old line (subst (λ (i : ℕ). line < i) (sym part.each) is.known) part.fits in
+          let now : home_at (with_node core n next) line ≡ served.0 = home_now core n line next served.0 is.below at refl refl within in
+          let was : home_at core line ≡ home_of old line = ap (λ (j : ℕ). home_of (node_at core j) line) at in
+          let row = home_shaped (line % core.nodes) request.source (home_of old line) c (view_of core line) (view_of new line) asker request told_a.sent in
+          let shapes = subst (λ (o : Option (HomeState × Body)). IfSome o (HomeShapes (view_of core line) (view_of new line) request.source asker (home_of old line) c)) serves row in
+          let shaped_here : Shaped (view_of core line) (home_of old line) c = subst (λ (h : HomeState). Shaped (view_of core line) h c) was (subst (λ (j : ℕ). ShapedAt core j c) here shaped) in
+          let then_ = shapes (asks_now core n place next request rest served.1 is tidy (λ j. refl)) shaped_here in
+          subst (λ (j : ℕ). ShapedAt new j c) (sym here) (subst (λ (h : HomeState). Shaped (view_of new line) h c) (sym now) then_)
+      | inr other ↦ same_shaped core new k c (other_line core n place next request rest served.1 is (λ j apart. refl) homes k other) shaped
+    ]
 
 -- ---- a cache serves
 
 abbrev with_served : NodeOf → Letter → CacheState → Body → NodeOf
 with_served part request state body = with_answer (record part { cache = with_line part.cache request.line (line_in (line_of part.cache request.line) state) }) request body
 
-pub cache_lists : (core : Core) (n place : ℕ) (request : Letter) (rest : List Letter) (served : CacheState × Body) → IsPart core.nodes core.lines core.slots core.limit n (node_at core n) → Answered core n place (with_served (node_at core n) request served.0 served.1) request rest served.1
-    → serving (line_of (node_at core n).cache request.line).state request.source request.body ≡ Some served → IsTidy core → HasSharingLists core → HasSharingLists (with_lane (with_node core n (with_served (node_at core n) request served.0 served.1)) place rest)
-cache_lists core n place request rest served part is serves tidy lists k inside =
+-- the line of the asker and of the server, before and after
+served_shift : (core : Core) (n place : ℕ) (request : Letter) (rest : List Letter) (served : CacheState × Body) → IsPart core.nodes core.lines core.slots core.limit n (node_at core n) → Answered core n place (with_served (node_at core n) request served.0 served.1) request rest served.1 → IsTidy core
+    → Shift (view_of core request.line) (view_of (with_lane (with_node core n (with_served (node_at core n) request served.0 served.1)) place rest) request.line) request.source n served.0 served.1
+served_shift core n place request rest served part is tidy =
+    let old = node_at core n in
+    let next = with_served old request served.0 served.1 in
+    let line = request.line in
+    let line_below : line < lines_of old = subst (λ (i : ℕ). line < i) (sym part.each) is.known in
+    let told_a = told_here core n place next request rest served.1 is tidy in
+    let at : node_at (with_node core n next) n ≡ next = get_or-set_same core.parts n next (opening_node 0 1 0 0 0) is.below in
+    let state : (line_of next.cache line).state ≡ served.0 = ap (λ (l : LineState). l.state) (get_or-set_same old.cache.lines line (line_in (line_of old.cache line) served.0) untouched line_below) in
+    record {
+      unanswered = told_a.unanswered;
+      answered = told_a.answered;
+      other_answers = λ m apart. told_other core n place next request rest served.1 is m line (λ h. apart h.0);
+      here = ap (λ (p : NodeOf). (line_of p.cache line).state) at ∙ state;
+      others = λ m apart. ap (λ (p : NodeOf). (line_of p.cache line).state) (get_or-set_other core.parts n m next (opening_node 0 1 0 0 0) apart);
+      idle = λ idle. ap answer_in (idle_has_none (line % core.nodes) (line_of (node_at core n).cache line) (packets_of core n line) idle (tidy n line is.some is.known));
+    }
+
+pub cache_kept : (core : Core) (n place : ℕ) (request : Letter) (rest : List Letter) (served : CacheState × Body) → IsPart core.nodes core.lines core.slots core.limit n (node_at core n) → Answered core n place (with_served (node_at core n) request served.0 served.1) request rest served.1
+    → serving (line_of (node_at core n).cache request.line).state request.source request.body ≡ Some served → IsTidy core → (k : ℕ) (c : Stamped) → ShapedAt core k c → ShapedAt (with_lane (with_node core n (with_served (node_at core n) request served.0 served.1)) place rest) k c
+cache_kept core n place request rest served part is serves tidy k c shaped =
     let old = node_at core n in
     let next = with_served old request served.0 served.1 in
     let new = with_lane (with_node core n next) place rest in
     let line = request.line in
     let a = request.source in
-    let heads = heads_same core n next (record { homes = refl; nodes = refl }) in
-    let line_below : line < lines_of old = subst (λ (i : ℕ). line < i) (sym part.each) is.known in
-    let others : (j : ℕ) → j ≢ line → line_of next.cache j ≡ line_of old.cache j = λ j apart. get_or-set_other old.cache.lines line j (line_in (line_of old.cache line) served.0) untouched apart in
+    let homes = homes_same core n next (record { homes = refl; nodes = refl }) in
     elim (cases_eq k line) [
       | inl here ↦
           let told_a = told_here core n place next request rest served.1 is tidy in
           let asker = (view_of core line).state a in
-          let at : node_at new n ≡ next = get_or-set_same core.parts n next (opening_node 0 1 0 0 0) is.below in
-          let state : (line_of next.cache line).state ≡ served.0 = ap (λ (l : LineState). l.state) (get_or-set_same old.cache.lines line (line_in (line_of old.cache line) served.0) untouched line_below) in
-          let shift : Shift (view_of core line) (view_of new line) a n served.0 served.1 = record {
-            unanswered = told_a.unanswered;
-            answered = told_a.answered;
-            other_answers = λ m apart. told_other core n place next request rest served.1 is m line (λ h. apart h.0);
-            here = ap (λ (p : NodeOf). (line_of p.cache line).state) at ∙ state;
-            others = λ m apart. ap (λ (p : NodeOf). (line_of p.cache line).state) (get_or-set_other core.parts n m next (opening_node 0 1 0 0 0) apart);
-            idle = λ idle. ap answer_in (idle_has_none (line % core.nodes) (line_of (node_at core n).cache line) (packets_of core n line) idle (tidy n line is.some is.known));
-          } in
-          let links = cache_links (line % core.nodes) a n ((view_of core line).state n) asker request told_a.sent is.to in
-          let serves_links = subst (λ (o : Option (CacheState × Body)). IfSome o (ServesLinks a n asker ((view_of core line).state n))) serves links in
-          let then_ = list_served (view_of core line) (view_of new line) a n served (head_of (home_at core line)) (head_of (home_at new line)) shift serves_links (heads line) (lists line is.known) in
-          subst (λ (j : ℕ). (nodes : List ℕ) × IsSharingList new j nodes) (sym here) then_
+          let row = cache_serves (line % core.nodes) a n ((view_of core line).state n) asker request told_a.sent is.to in
+          let serves_as = subst (λ (o : Option (CacheState × Body)). IfSome o (ServesAs a n asker ((view_of core line).state n))) serves row in
+          let shift = served_shift core n place request rest served part is tidy in
+          let then_ = cache_shaped (view_of core line) (view_of new line) a n served (home_at core line) c shift serves_as (subst (λ (j : ℕ). ShapedAt core j c) here shaped) in
+          subst (λ (j : ℕ). ShapedAt new j c) (sym here) (subst (λ (h : HomeState). Shaped (view_of new line) h c) (sym (homes line)) then_)
       | inr other ↦
-          list_same (link_at core k) (link_at new k) (head_of (home_at core k)) (head_of (home_at new k)) (heads k)
-          (λ m. ap (link_of ((view_of new k).state m)) (told_other core n place next request rest served.1 is m k (λ h. other h.1)) ∙ ap (λ (l : LineState). link_of l.state (told core m k)) (same_line core n line next m k others is.below (λ h. other h.1))) (lists k inside)
+          let others : (j : ℕ) → j ≢ line → (line_of next.cache j).state ≡ (line_of old.cache j).state = λ j apart. ap (λ (l : LineState). l.state) (get_or-set_other old.cache.lines line j (line_in (line_of old.cache line) served.0) untouched apart) in
+          same_shaped core new k c (other_line core n place next request rest served.1 is others (λ j apart. homes j) k other) shaped
     ]

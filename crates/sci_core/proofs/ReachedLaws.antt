@@ -1,0 +1,173 @@
+-- The laws of every reached state, and of every schedule.
+use Rattle.std.proofs.Common.{◌≡◌, ℕ, ◌<◌, ◌≤◌, false, List, [], ◌++◌, filter, Option, refl, sym, ap, subst, ◌∙◌, arith, inl, inr}
+use Rattle.std.specs.Prelude.{Result, Ok, Err, IfOk, Some, unwrap_or}
+use Rattle.std.specs.List.{AllByRecursion, AllPairs}
+use Rattle.std.proofs.lemmas.Bool.{cases_lt, ne_eqb}
+use Rattle.std.proofs.lemmas.List.{get_or_past}
+use Rattle.std.proofs.lemmas.List.FromFn.{get_or-map-range_with_len, length-map-range_with_len}
+use Rattle.sci_words.specs.declared.limits.TheConstants.{MAX_NODES}
+use Rattle.sci_words.specs.declared.event.Event.{Event}
+use Rattle.sci_words.specs.declared.stamped.Stamped.{Stamped}
+use Rattle.sci_words.specs.Stamped.{zero_stamped}
+use Rattle.sci_history.specs.declared.entry.Entry.{Entry}
+use Rattle.sci_history.specs.History.{IsHistory, HasHistory}
+use Rattle.sci_history.specs.Lawful.{Lawful}
+use Rattle.sci_history.specs.Memory.{stamped_at}
+use Rattle.sci_history.specs.Placed.{log_of, is_of_node, is_on_line}
+use Rattle.sci_history.proofs.Lawfulness.{lawful_line}
+use Rattle.sci_history.proofs.Order.{filter_none, filter-filter, all_weaker, all-filter}
+use Rattle.sci_core.specs.Node.{NodeOf, opening_node}
+use Rattle.sci_core.specs.Core.{Core, node_at, stepping, step, opening, run}
+use Rattle.sci_core.specs.Reached.{IsReached, AreSizes}
+use Rattle.sci_core.specs.Done.{ChangesBy, LastChanges, made_by, done}
+use Rattle.sci_core.specs.Outcome.{logs_of}
+use Rattle.sci_core.specs.Coherent.{IsCoherent}
+use Rattle.sci_core.specs.Shape.{HasShapes}
+use Rattle.sci_core.specs.Sharing.{last_at, last_of}
+use Rattle.sci_core.specs.Tidy.{AreAccepted}
+use Rattle.sci_core.specs.WellFormed.{IsWellFormed}
+use Rattle.sci_core.proofs.WellFormedSteps.{step_well, run_well, opening_well, reached_well}
+use Rattle.sci_core.proofs.TidyRuns.{opening_tidy, reached_tidy}
+use Rattle.sci_core.proofs.Transactions.{runs_alternate}
+use Rattle.sci_core.proofs.ShapeSteps.{ShapedAt}
+use Rattle.sci_core.proofs.ShapeRuns.{each_mapped, opening_shaped, step_follows}
+use Rattle.sci_core.proofs.ShapeClauses.{last_is, shape_of}
+use Rattle.sci_core.proofs.Works.{HasSerials, opening_serials}
+use Rattle.sci_core.proofs.Histories.{run_follows, RunLogged, run_logged}
+
+-- ---- from the opening on
+
+opened : (nodes lines slots limit : ℕ) → AreSizes nodes lines slots limit → IsWellFormed (opening nodes lines slots limit)
+opened nodes lines slots limit sizes = let some = sizes.extent.has_node in opening_well nodes lines slots limit (omega arith) sizes.few_operations
+
+-- a line's shape where a schedule leads, and its history
+record Traced (nodes lines slots limit : ℕ) (schedule : List Event) (line : ℕ) : Type 0 where
+  pub contents : Stamped
+  pub shaped : ShapedAt (run nodes lines slots limit schedule) line contents
+  pub history : IsHistory (filter (is_on_line line) (done nodes lines slots limit schedule)) zero_stamped contents
+
+traced : (nodes lines slots limit : ℕ) (schedule : List Event) (line : ℕ) → AreSizes nodes lines slots limit → line < lines → Traced nodes lines slots limit schedule line
+traced nodes lines slots limit schedule line sizes inside =
+    let trace = run_follows (opening nodes lines slots limit) schedule (opened nodes lines slots limit sizes) (opening_tidy nodes lines slots limit) line inside zero_stamped (opening_shaped nodes lines slots limit line) in
+    record { contents = trace.0; shaped = trace.1; history = trace.2 }
+
+-- the entries of a schedule on a line are a history of it, from zero words to its last contents
+pub schedule_history : (nodes lines slots limit : ℕ) (schedule : List Event) (line : ℕ) → AreSizes nodes lines slots limit → line < lines
+    → IsHistory (filter (is_on_line line) (done nodes lines slots limit schedule)) zero_stamped (last_at (run nodes lines slots limit schedule) line)
+schedule_history nodes lines slots limit schedule line sizes inside =
+    let trace = traced nodes lines slots limit schedule line sizes inside in
+    let well = (run_well (opening nodes lines slots limit) schedule (opened nodes lines slots limit sizes)).well in
+    subst (IsHistory (filter (is_on_line line) (done nodes lines slots limit schedule)) zero_stamped) (sym (last_is (run nodes lines slots limit schedule) line trace.contents well trace.shaped)) trace.history
+
+-- ---- shape
+
+reached_shaped : (core : Core) → IsReached core → (line : ℕ) → line < core.lines → (c : Stamped) × ShapedAt core line c
+reached_shaped core reached line inside =
+    let trace = traced core.nodes core.lines core.slots core.limit reached.schedule line reached.sizes inside in
+    subst (λ (x : Core). (c : Stamped) × ShapedAt x line c) reached.leads (trace.contents, trace.shaped)
+
+pub reached_shapes : (core : Core) → IsReached core → HasShapes core
+reached_shapes core reached line inside =
+    let shaped = reached_shaped core reached line inside in
+    shape_of core line shaped.0 (reached_well core reached) (reached_tidy core reached) inside shaped.1
+
+-- no answer comes that its taker doesn't await
+pub reached_accepted : (core : Core) → IsReached core → AreAccepted core
+reached_accepted core reached n line inside =
+    let shaped = reached_shaped core reached line inside in
+    shaped.1.1.accepts n
+
+-- ---- the last contents
+
+-- each operation takes effect on them at its own Perform
+pub reached_effects : (core : Core) (e : Event) → IsReached core → LastChanges core (step core e) (made_by core e)
+reached_effects core e reached line inside =
+    let well = reached_well core reached in
+    let shaped = reached_shaped core reached line inside in
+    let follows = step_follows core e well (reached_tidy core reached) line inside shaped.0 shaped.1 in
+    let was = last_is core line shaped.0 well shaped.1 in
+    let now = last_is (step core e) line follows.0 (step_well core e well).well follows.1 in
+    subst (λ (c : Stamped). ChangesBy (made_by core e) line c (last_at (step core e) line)) (sym was) (subst (ChangesBy (made_by core e) line shaped.0) (sym now) follows.2)
+
+-- ---- logs
+
+opening_log : (nodes lines slots limit n : ℕ) → (node_at (opening nodes lines slots limit) n).log ≡ []
+opening_log nodes lines slots limit n = each_mapped (λ (part : NodeOf). part.log ≡ []) (λ (m : ℕ). opening_node m nodes lines slots limit) (opening_node 0 1 0 0 0) 0 nodes n (λ m. refl) refl
+
+reached_logged : (core : Core) (reached : IsReached core) → RunLogged (opening core.nodes core.lines core.slots core.limit) (done core.nodes core.lines core.slots core.limit reached.schedule) core
+reached_logged core reached =
+    let first = opening core.nodes core.lines core.slots core.limit in
+    let serials : (n : ℕ) → HasSerials (node_at first n) = λ n. each_mapped HasSerials (λ (m : ℕ). opening_node m core.nodes core.lines core.slots core.limit) (opening_node 0 1 0 0 0) 0 core.nodes n
+    (λ m. opening_serials m core.nodes core.lines core.slots core.limit) (opening_serials 0 1 0 0 0) in
+    subst (RunLogged first (done core.nodes core.lines core.slots core.limit reached.schedule)) reached.leads (run_logged first reached.schedule (opened core.nodes core.lines core.slots core.limit reached.sizes) serials)
+
+-- no entry is on a line that the machine doesn't have
+beyond_none : (lines line : ℕ) (entries : List Entry) → lines ≤ line → AllByRecursion (λ entry. entry.op.line < lines) entries → filter (is_on_line line) entries ≡ []
+beyond_none lines line entries past all =
+    filter_none (is_on_line line) entries (all_weaker (λ (entry : Entry). entry.op.line < lines) (λ entry. is_on_line line entry ≡ false) (λ entry lt. ne_eqb entry.op.line line (λ e. (let below : line < lines = subst (λ (k : ℕ). k < lines) e lt in omega arith))) entries all)
+
+last_within : (core : Core) (line : ℕ) → line < core.lines → stamped_at (last_of core) line ≡ last_at core line
+last_within core line inside = get_or-map-range_with_len (last_at core) 0 core.lines line line zero_stamped inside (omega arith)
+
+last_beyond : (core : Core) (line : ℕ) → core.lines ≤ line → stamped_at (last_of core) line ≡ zero_stamped
+last_beyond core line past = let all = length-map-range_with_len (last_at core) 0 core.lines in get_or_past (last_of core) line zero_stamped (omega arith)
+
+line_history : (core : Core) (reached : IsReached core) (line : ℕ) → IsHistory (filter (is_on_line line) (done core.nodes core.lines core.slots core.limit reached.schedule)) zero_stamped (stamped_at (last_of core) line)
+line_history core reached line =
+    let entries = done core.nodes core.lines core.slots core.limit reached.schedule in
+    elim (cases_lt line core.lines) [
+      | inl inside ↦
+          let history = subst (λ (x : Core). IsHistory (filter (is_on_line line) entries) zero_stamped (last_at x line)) reached.leads (schedule_history core.nodes core.lines core.slots core.limit reached.schedule line reached.sizes inside) in
+          subst (IsHistory (filter (is_on_line line) entries) zero_stamped) (sym (last_within core line inside)) history
+      | inr past ↦
+          subst (λ (es : List Entry). IsHistory es zero_stamped (stamped_at (last_of core) line)) (sym (beyond_none core.lines line entries past (reached_logged core reached).lines)) (last_beyond core line past)
+    ]
+
+line_logged : (core : Core) (reached : IsReached core) (line node : ℕ) → node < MAX_NODES
+    → filter (is_on_line line) (log_of (logs_of core) node) ≡ filter (is_of_node node) (filter (is_on_line line) (done core.nodes core.lines core.slots core.limit reached.schedule))
+line_logged core reached line node lt =
+    let entries = done core.nodes core.lines core.slots core.limit reached.schedule in
+    let log : log_of (logs_of core) node ≡ (node_at core node).log = get_or-map-range_with_len (λ (n : ℕ). (node_at core n).log) 0 16 node node [] lt (omega arith) in
+    let made : (node_at core node).log ≡ filter (is_of_node node) entries = (reached_logged core reached).logs node ∙ ap (λ (es : List Entry). es ++ filter (is_of_node node) entries) (opening_log core.nodes core.lines core.slots core.limit node) in
+    ap (filter (is_on_line line)) (log ∙ made) ∙ filter-filter (is_on_line line) (is_of_node node) entries
+
+line_serials : (core : Core) (reached : IsReached core) (line node : ℕ) → node < MAX_NODES → AllPairs (λ x y. x.serial < y.serial) (filter (is_on_line line) (log_of (logs_of core) node))
+line_serials core reached line node lt =
+    let log : log_of (logs_of core) node ≡ (node_at core node).log = get_or-map-range_with_len (λ (n : ℕ). (node_at core n).log) 0 16 node node [] lt (omega arith) in
+    subst (λ (es : List Entry). AllPairs (λ x y. x.serial < y.serial) (filter (is_on_line line) es)) (sym log) (((reached_logged core reached).serials node).rising line)
+
+has_history : (core : Core) (reached : IsReached core) (line : ℕ) → HasHistory (logs_of core) line (stamped_at (last_of core) line)
+has_history core reached line =
+    let entries = done core.nodes core.lines core.slots core.limit reached.schedule in
+    let few = reached.sizes.extent.few_nodes in
+    let nodes = all_weaker (λ (entry : Entry). entry.node < core.nodes) (λ entry. entry.node < MAX_NODES) (λ entry lt. omega arith) entries (reached_logged core reached).nodes in
+    record {
+      entries = filter (is_on_line line) entries;
+      history = line_history core reached line;
+      nodes = all-filter (λ (entry : Entry). entry.node < MAX_NODES) (is_on_line line) entries nodes;
+      logged = λ node lt. line_logged core reached line node lt;
+      serials = λ node lt. line_serials core reached line node lt;
+    }
+
+-- the logs are lawful with the last contents
+pub reached_lawful : (core : Core) → IsReached core → Lawful (logs_of core) (last_of core)
+reached_lawful core reached line = lawful_line (logs_of core) line (stamped_at (last_of core) line) refl (has_history core reached line)
+
+-- ---- all of them
+
+pub reached_coherent : (core : Core) → IsReached core → IsCoherent core
+reached_coherent core reached = record {
+  reached = reached;
+  tidy = reached_tidy core reached;
+  accepted = reached_accepted core reached;
+  alternates = λ n line some inside. runs_alternate core.nodes core.lines core.slots core.limit reached.schedule n line reached.sizes some inside;
+  shapes = reached_shapes core reached;
+  explained = λ line inside. subst (λ (x : Core). IsHistory (filter (is_on_line line) (done core.nodes core.lines core.slots core.limit reached.schedule)) zero_stamped (last_at x line)) reached.leads
+      (schedule_history core.nodes core.lines core.slots core.limit reached.schedule line reached.sizes inside);
+  lawful = reached_lawful core reached;
+}
+
+-- where an event was applied, or refused and nothing changed
+pub applied_effects : {T E : Type 0} (result : Result T E) (old new : Core) (e : Event) → IsReached old → IfOk result (λ _. stepping old e ≡ Some new) → IfOk result (λ _. LastChanges old new (made_by old e))
+applied_effects (Err fault) old new e reached done_ = tt
+applied_effects (Ok x) old new e reached done_ = subst (λ (o : Option Core). LastChanges old (unwrap_or o old) (made_by old e)) done_ (reached_effects old e reached)

@@ -1,0 +1,22 @@
+-- One line as all nodes have it, and what becomes of it where one request is served.
+use Rattle.std.proofs.Common.{◌≡◌, ◌≢◌, ℕ, false, Option, Some, None}
+use Rattle.sci_packets.specs.declared.body.Body.{Body}
+use Rattle.sci_cache.specs.State.{CacheState, waits}
+use Rattle.sci_cache.specs.Member.{link_of}
+
+-- the states of a line in all nodes, and the answers that are under way to them
+pub record View : Type 0 where
+  pub state : ℕ → CacheState
+  pub answer : ℕ → Option Body
+
+abbrev pub link_in : View → ℕ → Option (Option ℕ)
+link_in view n = link_of (view.state n) (view.answer n)
+
+-- node q, whose next state is given, serves the request of node a, and this answer is under way to it
+pub record Shift (old new : View) (a q : ℕ) (next : CacheState) (body : Body) : Type 0 where
+  pub unanswered : old.answer a ≡ None
+  pub answered : new.answer a ≡ Some body
+  pub other_answers : (n : ℕ) → n ≢ a → new.answer n ≡ old.answer n
+  pub here : new.state q ≡ next
+  pub others : (n : ℕ) → n ≢ q → new.state n ≡ old.state n
+  pub idle : waits (old.state q) ≡ false → old.answer q ≡ None

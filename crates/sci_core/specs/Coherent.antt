@@ -1,0 +1,35 @@
+-- What holds of every state of a machine: it is one where a schedule leads, and there one memory of one thread explains
+-- every line.
+use Rattle.std.specs.Prelude.{ℕ, ◌<◌, filter}
+use Rattle.sci_words.specs.Stamped.{zero_stamped}
+use Rattle.sci_history.specs.History.{IsHistory}
+use Rattle.sci_history.specs.Lawful.{Lawful}
+use Rattle.sci_history.specs.Placed.{is_on_line}
+use Rattle.sci_core.specs.Core.{Core}
+use Rattle.sci_core.specs.Reached.{IsReached}
+use Rattle.sci_core.specs.Done.{done}
+use Rattle.sci_core.specs.Outcome.{logs_of}
+use Rattle.sci_core.specs.Sharing.{last_at, last_of}
+use Rattle.sci_core.specs.Tidy.{IsTidy, AreAccepted}
+use Rattle.sci_core.specs.Shape.{HasShapes}
+use Rattle.sci_core.specs.Alternates.{Alternates}
+
+-- the entries of the schedule on a line are, in their order, the line's history from zero words to its last contents
+abbrev pub IsExplained : (core : Core) → IsReached core → ℕ → Type 0
+IsExplained core reached line =
+    IsHistory (filter (is_on_line line) (done core.nodes core.lines core.slots core.limit reached.schedule)) zero_stamped (last_at core line)
+
+pub record IsCoherent (core : Core) : Type 0 where
+  -- a schedule leads here
+  pub reached : IsReached core
+  -- who waits has one packet under way, and nobody else has one; no answer comes that isn't awaited
+  pub tidy : IsTidy core
+  pub accepted : AreAccepted core
+  -- no transaction of the schedule is answered twice
+  pub alternates : (n line : ℕ) → n < core.nodes → line < core.lines → Alternates core.nodes core.lines core.slots core.limit reached.schedule n line
+  -- each line's members are one list, with one authority
+  pub shapes : HasShapes core
+  -- each operation took effect at its own Perform
+  pub explained : (line : ℕ) → line < core.lines → IsExplained core reached line
+  -- and the logs alone show that it did
+  pub lawful : Lawful (logs_of core) (last_of core)

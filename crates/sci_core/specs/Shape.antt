@@ -1,0 +1,99 @@
+-- The shape of a line: its members are one list, in which those that come stand before the one authority, and those that
+-- follow behind it; they all have the line's last contents, and know what is fresh.
+use Rattle.std.specs.Prelude.{◌≡◌, ◌<◌, ℕ, Bool, true, false, List, [], ◌∷◌, ◌++◌, Option, Some, IfSome, IsSome}
+use Rattle.std.specs.List.{AllByRecursion}
+use Rattle.sci_words.specs.declared.stamped.Stamped.{Stamped}
+use Rattle.sci_packets.specs.declared.body.Body.TheVariants.{Wback, Fdata}
+use Rattle.sci_home.specs.declared.state.HomeState.{HomeState}
+use Rattle.sci_home.specs.declared.state.HomeState.TheVariants as at
+use Rattle.sci_home.specs.Serving.{current_of}
+use Rattle.sci_cache.specs.State.{CacheState, Asking, Joining, FreshJoining, Below, Rolling, contents_of}
+use Rattle.sci_core.specs.Core.{Core}
+use Rattle.sci_core.specs.Sharing.{packets_of, sharer_of, home_at, authority_contents, last_at}
+use Rattle.sci_core.specs.Fresh.{is_fresh}
+use Rattle.sci_core.specs.SharingList.{IsSharingList}
+
+-- ---- members
+
+-- a member that comes: it isn't yet the head, or doesn't know yet
+abbrev pub comes : CacheState → Bool
+comes Asking = true
+comes (Joining p sent) = true
+comes (FreshJoining p sent c) = true
+comes _ = false
+
+-- a member that follows another
+abbrev pub follows : CacheState → Bool
+follows (Below f b c) = true
+follows (Rolling f b c) = true
+follows _ = false
+
+abbrev pub state_at : Core → ℕ → ℕ → CacheState
+state_at core line n = (sharer_of core line n).state
+
+abbrev pub is_fresh_at : Core → ℕ → ℕ → Bool
+is_fresh_at core line n = is_fresh (sharer_of core line n).state (sharer_of core line n).answer
+
+abbrev pub AreFresh : Core → ℕ → List ℕ → Type 0
+AreFresh core line nodes = AllByRecursion (λ n. is_fresh_at core line n ≡ true) nodes
+
+-- whoever may change the line, or is about to
+abbrev pub IsAuthority : Core → ℕ → ℕ → Type 0
+IsAuthority core line n = IsSome (authority_contents (sharer_of core line n))
+
+-- the nodes of a list: those before the authority, the authority, and those after it
+pub record IsSplit (core : Core) (line : ℕ) (nodes before : List ℕ) (a : ℕ) (after : List ℕ) : Type 0 where
+  pub whole : nodes ≡ before ++ a ∷ after
+  pub authority : IsAuthority core line a
+
+-- ---- the clauses, beside that of the list itself
+
+-- a line that its home has alone has no authority, and any other has exactly one
+pub record HasOneAuthority (core : Core) (line : ℕ) : Type 0 where
+  pub node : ℕ
+  pub some : node < core.nodes
+  pub authority : IsAuthority core line node
+  pub only : (n : ℕ) → IsAuthority core line n → n ≡ node
+
+abbrev pub HasAuthorities : Core → ℕ → HomeState → Type 0
+HasAuthorities core line (at.Home c) = (n : ℕ) → IsAuthority core line n → ⊥
+HasAuthorities core line (at.Fresh p c) = HasOneAuthority core line
+HasAuthorities core line (at.Gone p) = HasOneAuthority core line
+
+-- before the authority stand only members that come, and after it only members that follow
+pub record StandInOrder (core : Core) (line : ℕ) (nodes : List ℕ) : Type 0 where
+  pub coming : (before after : List ℕ) (a : ℕ) → IsSplit core line nodes before a after → AllByRecursion (λ n. comes (state_at core line n) ≡ true) before
+  pub following : (before after : List ℕ) (a : ℕ) → IsSplit core line nodes before a after → AllByRecursion (λ n. follows (state_at core line n) ≡ true) after
+
+-- One stamped line: the contents of the authority, of every node after it, of a home that has them, of every Fdata under
+-- way, of every node that joins with contents, and of a Wback under way.
+pub record HaveContents (core : Core) (line : ℕ) (nodes : List ℕ) (c : Stamped) : Type 0 where
+  pub authority : (n : ℕ) → IfSome (authority_contents (sharer_of core line n)) (λ d. d ≡ c)
+  pub following : (before after : List ℕ) (a : ℕ) → IsSplit core line nodes before a after → AllByRecursion (λ n. contents_of (state_at core line n) ≡ Some c) after
+  pub home : IfSome (current_of (home_at core line)) (λ d. d ≡ c)
+  pub told : (n : ℕ) (p : Option ℕ) (d : Stamped) → (sharer_of core line n).answer ≡ Some (Fdata p d) → d ≡ c
+  pub joining : (n p : ℕ) (sent : Bool) (d : Stamped) → state_at core line n ≡ FreshJoining p sent d → d ≡ c
+  pub back : (n : ℕ) → n < core.nodes → AllByRecursion (λ letter. (d : Stamped) → letter.body ≡ Wback d → d ≡ c) (packets_of core n line)
+
+-- where the home is fresh, and below any fresh member that stands before the authority, every member down to the
+-- authority is fresh
+abbrev pub is_home_fresh : HomeState → Bool
+is_home_fresh (at.Fresh p c) = true
+is_home_fresh _ = false
+
+pub record IsFreshDown (core : Core) (line : ℕ) (nodes : List ℕ) : Type 0 where
+  pub home : (before after : List ℕ) (a : ℕ) → IsSplit core line nodes before a after → is_home_fresh (home_at core line) ≡ true → AreFresh core line (before ++ a ∷ [])
+  pub below : (before middle after : List ℕ) (m a : ℕ) → IsSplit core line nodes (before ++ m ∷ middle) a after → is_fresh_at core line m ≡ true → AreFresh core line (middle ++ a ∷ [])
+
+-- ---- the shape
+
+pub record HasShape (core : Core) (line : ℕ) : Type 0 where
+  pub nodes : List ℕ
+  pub list : IsSharingList core line nodes
+  pub authorities : HasAuthorities core line (home_at core line)
+  pub order : StandInOrder core line nodes
+  pub contents : HaveContents core line nodes (last_at core line)
+  pub fresh : IsFreshDown core line nodes
+
+abbrev pub HasShapes : Core → Type 0
+HasShapes core = (line : ℕ) → line < core.lines → HasShape core line
