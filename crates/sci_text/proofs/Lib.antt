@@ -19,5 +19,7 @@ pub mod LogFronts
 pub mod LogLaws
 pub mod LogUnique
 pub mod LogShort
+pub mod LogMeets
 pub mod LogNoFault
+pub mod LogOneFault
 pub mod LogTold

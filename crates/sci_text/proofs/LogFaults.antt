@@ -143,8 +143,8 @@ last_range front bytes l o rest none room e is short outside =
       ],
     )
 
-pub last_ok : (form : Form) (old : List Stamped) (bytes : List ℕ) (l : Option ℕ) (stamped : Stamped) (rest : List ℕ) → last_line_read bytes ≡ Some ((l, Some stamped), rest) → l ≡ Some (length old) → length old < MAX_LINES → AddsLast form old (old ++ stamped ∷ []) bytes rest
-last_ok form old bytes l stamped rest e is few =
+pub last_ok : (form : Form) (old : List Stamped) (bytes : List ℕ) (l : Option ℕ) (stamped : Stamped) (rest : List ℕ) → last_line_read bytes ≡ Some ((l, Some stamped), rest) → l ≡ Some (length old) → length old < MAX_LINES → HasRoom form.lines (length old) → AddsLast form old (old ++ stamped ∷ []) bytes rest
+last_ok form old bytes l stamped rest e is few room =
     let f = last_is bytes l (Some stamped) rest (length old) e is in
     let same : stamped ≡ f.0 = f.3.1 in
     record {
@@ -153,6 +153,7 @@ last_ok form old bytes l stamped rest e is few =
       eight = subst (λ (s : Stamped). length s.line ≡ WORDS_PER_LINE) (sym same) f.1;
       fits = subst StampedFits (sym same) f.3.0;
       few = few;
+      room = room;
       added = refl;
     }
 

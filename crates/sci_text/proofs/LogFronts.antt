@@ -1,5 +1,5 @@
 -- The front of a log grows by the lines that are read.
-use Rattle.std.proofs.Common.{◌≡◌, ℕ, zero, suc, ◌+◌, ◌<◌, ◌≤◌, List, [], ◌∷◌, ◌++◌, length, None, refl, sym, ap, subst, ◌∙◌, append_assoc, arith, inl, inr, ◌⊎◌}
+use Rattle.std.proofs.Common.{◌≡◌, ℕ, zero, suc, ◌+◌, ◌<◌, ◌≤◌, List, [], ◌∷◌, ◌++◌, length, Option, Some, None, refl, sym, ap, subst, ◌∙◌, append_assoc, arith, inl, inr, ◌⊎◌}
 use Rattle.std.proofs.Math.ListN.{set}
 use Rattle.std.specs.Prelude.{codes, All}
 use Rattle.std.specs.List.{flat_map}
@@ -17,7 +17,7 @@ use Rattle.sci_text.specs.declared.fault.TextFaultKind.{TextFaultKind}
 use Rattle.sci_text.specs.declared.fault.TextFaultKind.TheVariants.{Syntax, Range, TooMany, Read, Write, Memory}
 use Rattle.sci_text.specs.Number.{number, field}
 use Rattle.sci_text.specs.Log.{last_line, last_lines, issue_text, entry_line, entry_lines}
-use Rattle.sci_text.specs.LogValue.{StampedFits, EntryFits, Front, front_of, IsFront, IsForm, HasAllLines, first_line, first_lines, front_text, entry_count, BeginsLog, BeginsLast, NoLast, LogLineFault, IsLogRefusalOf, IsLogRefusal, IsRefusalAfter, AddsLast, AddsEntry, IsLatest, no_logs}
+use Rattle.sci_text.specs.LogValue.{StampedFits, EntryFits, Front, front_of, IsFront, IsForm, HasAllLines, HasRoom, HasNoExtra, first_line, first_lines, front_text, entry_count, BeginsLog, BeginsLast, NoLast, LogLineFault, IsLogRefusalOf, IsLogRefusal, IsRefusalAfter, AddsLast, AddsEntry, IsLatest, no_logs}
 
 -- ---- `last` lines
 
@@ -49,6 +49,7 @@ GoodLast stamped = (length stamped.line ≡ WORDS_PER_LINE) × StampedFits stamp
 pub record IsFrontOf (form : Form) (contents : List Stamped) : Type 0 where
   pub last : All GoodLast contents
   pub few : length contents ≤ MAX_LINES
+  pub no_extra : HasNoExtra form.lines (length contents)
 
 no_log : (node : ℕ) → log_of no_logs node ≡ []
 no_log node = none_of 16 node
@@ -66,19 +67,30 @@ front_of_last form last good h = record {
   form = good;
   last = h.last;
   few_lines = h.few;
+  no_extra = h.no_extra;
+  last_first = λ some. absurd (omega arith);
   sixteen = refl;
   own = λ node. all_none (λ e. e.node ≡ node) (log_of no_logs node) (no_log node);
   entries = λ node. all_none (EntryFits form (length last)) (log_of no_logs node) (no_log node);
   few_entries = λ node. let none = no_log node in omega (arith, ap length none);
 }
 
+none_extra : (lines : Option ℕ) → HasNoExtra lines 0
+none_extra None = tt
+none_extra (Some lines) = omega arith
+
 pub last_front_none : (form : Form) → IsFrontOf form []
-last_front_none form = record { last = λ k d lt. absurd (omega arith); few = omega arith }
+last_front_none form = record { last = λ k d lt. absurd (omega arith); few = omega arith; no_extra = none_extra form.lines }
+
+one_more : (lines : Option ℕ) (old new : ℕ) → HasRoom lines old → new ≡ old + 1 → HasNoExtra lines new
+one_more None old new room more = tt
+one_more (Some lines) old new room more = omega arith
 
 pub last_front_more : (form : Form) (old new : List Stamped) (bytes rest : List ℕ) → IsFrontOf form old → AddsLast form old new bytes rest → IsFrontOf form new
 last_front_more form old new bytes rest h a = rw a.added (record {
   last = All-push GoodLast old a.stamped h.last (a.eight, a.fits);
   few = let few = a.few in omega (arith, length-append old (a.stamped ∷ []));
+  no_extra = one_more form.lines (length old) (length (old ++ a.stamped ∷ [])) a.room (length-append old (a.stamped ∷ []));
 })
 
 -- ---- faults
@@ -181,8 +193,9 @@ few_below : (form : Form) (last : List Stamped) (logs : List (List Entry)) (entr
 few_below form last logs entry h fits = let few = node_below form h.form in let node = fits.numbers.node in let sixteen = h.sixteen in omega arith
 
 -- the front with one entry more
-pub front_more : (form : Form) (last : List Stamped) (old new : List (List Entry)) (latest now : ℕ) (bytes rest : List ℕ) → IsFront (front_of form last old) → AddsEntry form (length last) old new latest now bytes rest → IsFront (front_of form last new)
-front_more form last old new latest now bytes rest h a =
+pub front_more : (form : Form) (last : List Stamped) (old new : List (List Entry)) (latest now : ℕ) (bytes rest : List ℕ) → IsFront (front_of form last old) → HasAllLines form.lines (length last) → AddsEntry form (length last) old new latest now bytes rest
+    → IsFront (front_of form last new)
+front_more form last old new latest now bytes rest h whole a =
     let node = a.entry.node in
     let log = log_of old node in
     let below = few_below form last old a.entry h a.fits in
@@ -192,6 +205,8 @@ front_more form last old new latest now bytes rest h a =
       form = h.form;
       last = h.last;
       few_lines = h.few_lines;
+      no_extra = h.no_extra;
+      last_first = λ some. whole;
       sixteen = ap length a.added ∙ length-set old node (log ++ a.entry ∷ []) ∙ h.sixteen;
       own = λ n. elim (cases_eq n node) [
         | inl e ↦ All-same (λ x. x.node ≡ n) (log_of new n) (log ++ a.entry ∷ []) (same n e) (All-push (λ x. x.node ≡ n) log a.entry (subst (λ (m : ℕ). All (λ x. x.node ≡ n) (log_of old m)) e (h.own n)) (sym e))

@@ -89,13 +89,21 @@ abbrev pub HasRoom : Option ℕ → ℕ → Type 0
 HasRoom None count = Unit {0}
 HasRoom (Some lines) count = count < lines
 
+-- there is none too many
+abbrev pub HasNoExtra : Option ℕ → ℕ → Type 0
+HasNoExtra None count = Unit {0}
+HasNoExtra (Some lines) count = count ≤ lines
+
 abbrev pub front_of : Form → List Stamped → List (List Entry) → Front
 front_of form last logs = record { form = form; last = last; logs = logs }
 
+-- each line is right at its place: the `last` lines come first, as many as there may be, and all of them before an entry
 pub record IsFront (front : Front) : Type 0 where
   pub form : IsForm front.form
   pub last : All (λ stamped. (length stamped.line ≡ WORDS_PER_LINE) × StampedFits stamped) front.last
   pub few_lines : length front.last ≤ MAX_LINES
+  pub no_extra : HasNoExtra front.form.lines (length front.last)
+  pub last_first : 0 < entry_count front.logs → HasAllLines front.form.lines (length front.last)
   pub sixteen : length front.logs ≡ MAX_NODES
   pub own : AreOwn front.logs
   pub entries : (node : ℕ) → All (EntryFits front.form (length front.last)) (log_of front.logs node)
@@ -251,6 +259,7 @@ pub record AddsLast (form : Form) (old new : List Stamped) (bytes rest : List �
   pub eight : length stamped.line ≡ WORDS_PER_LINE
   pub fits : StampedFits stamped
   pub few : length old < MAX_LINES
+  pub room : HasRoom form.lines (length old)
   pub added : new ≡ old ++ stamped ∷ []
 
 -- the bytes are the line of an entry and the rest, and its node's log ends with it

@@ -44,3 +44,10 @@ pub fn no_log_fault()
 {
     one_partition();
 }
+
+/// Bytes have at most one first line that is faulty in a log, and one fault there.
+pub fn one_log_fault()
+    ensures { (input : List ℕ) (l m : ℕ) (k j : TextFaultKind) → IsLogFault input l k → IsLogFault input m j → (l ≡ m) × (k ≡ j) }
+{
+    one_partition();
+}

@@ -21,7 +21,9 @@ mod tap;
 mod writing;
 
 pub use fault::{TextFault, TextFaultKind};
-pub use laws::{no_fault, no_log_fault, one_fault, one_log, one_script, written_again};
+pub use laws::{
+    no_fault, no_log_fault, one_fault, one_log, one_log_fault, one_script, written_again,
+};
 pub use printing::{push_field, push_number, push_text};
 pub use reading::{read_logs, read_script};
 pub use schedule::Schedule;

@@ -21,7 +21,7 @@ loop-rest-preserved c =
     let count = count_more form last c.loop-rest.logs c.push_entry.new.logs c.loop-rest.latest c.in-Ok.node c.loop-rest.rest.now c.in-Ok.more.now h.good a in
     let shorter = entry_shrinks form (length last) c.loop-rest.logs c.push_entry.new.logs c.loop-rest.latest c.in-Ok.node c.loop-rest.rest.now c.in-Ok.more.now a in
     record {
-      good = front_more form last c.loop-rest.logs c.push_entry.new.logs c.loop-rest.latest c.in-Ok.node c.loop-rest.rest.now c.in-Ok.more.now h.good a;
+      good = front_more form last c.loop-rest.logs c.push_entry.new.logs c.loop-rest.latest c.in-Ok.node c.loop-rest.rest.now c.in-Ok.more.now h.good c.requires.whole a;
       parts = entries_go_on form last c.args.bytes.now c.loop-rest.logs c.push_entry.new.logs c.loop-rest.latest c.in-Ok.node c.loop-rest.rest.now c.in-Ok.more.now h.good h.latest h.parts a;
       latest = latest_more form last c.loop-rest.logs c.push_entry.new.logs c.loop-rest.latest c.in-Ok.node c.loop-rest.rest.now c.in-Ok.more.now h.good h.latest a;
       no_last = no_last_after (front_of form last c.push_entry.new.logs) c.in-Ok.more.now (entry_count c.loop-rest.logs) count;

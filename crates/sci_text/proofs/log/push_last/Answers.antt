@@ -51,7 +51,8 @@ returns-in-Ok-clause-ok c =
     let old = c.args.last.now.items in
     let stamped = c.in-Some-stamped.stamped in
     let len : c.len.result ≡ length old = omega (arith, c.len.ensures) in
+    let len-2 : c.len-2.result ≡ length old = omega (arith, c.len-2.ensures) in
     let read : last_line_read c.args.bytes.now ≡ Some ((c.in-Some.said.line, Some stamped), c.in-Some.rest.now) = c.in-Some.ensures ∙ ap (λ (o : Option Stamped). Some ((c.in-Some.said.line, o), c.in-Some.rest.now)) c.in-Some-stamped.is in
     let pushed : c.push.new.self.items ≡ old ++ stamped ∷ [] = (rw c.in-Some-stamped.is at c.in-Ok.ensures.items) in
     subst (λ (new : List Stamped). AddsLast c.args.form.now old new c.args.bytes.now c.in-Some.rest.now) (sym pushed)
-    (last_ok c.args.form.now old c.args.bytes.now c.in-Some.said.line stamped c.in-Some.rest.now read (c.if-not-is_number.ensures.yes ∙ ap (λ (n : ℕ). Some n) len) (omega (arith, c.len-3.ensures)))
+    (last_ok c.args.form.now old c.args.bytes.now c.in-Some.said.line stamped c.in-Some.rest.now read (c.if-not-is_number.ensures.yes ∙ ap (λ (n : ℕ). Some n) len) (omega (arith, c.len-3.ensures)) (subst (HasRoom c.args.form.now.lines) len-2 c.if-not-has_room.ensures.yes))
