@@ -1,5 +1,5 @@
 -- The text of a log has no line with a fault.
-use Rattle.std.proofs.Common.{◌≡◌, ℕ, ◌<◌, ◌≤◌, ◌^◌, List, [], ◌++◌, length, get_or, Option, Some, None, refl, sym, ap, subst, ◌∙◌, append_assoc, arith, inl, inr, ◌⊎◌}
+use Rattle.std.proofs.Common.{◌≡◌, ℕ, ◌<◌, ◌≤◌, ◌^◌, List, [], ◌++◌, length, get_or, None, refl, sym, ap, subst, ◌∙◌, append_assoc, arith, inl, inr, ◌⊎◌}
 use Rattle.std.proofs.lemmas.List.{append-nil}
 use Rattle.std.proofs.lemmas.Option.{none-some, some_pair_parts}
 use Rattle.sci_words.specs.declared.stamped.Stamped.{Stamped}
@@ -8,7 +8,7 @@ use Rattle.sci_text.specs.declared.form.Form.{Form}
 use Rattle.sci_text.specs.declared.fault.TextFaultKind.{TextFaultKind}
 use Rattle.sci_text.specs.declared.fault.TextFaultKind.TheVariants.{Syntax, Range, TooMany, Read, Write, Memory}
 use Rattle.sci_text.specs.Log.{log_line, last_lines, entry_lines}
-use Rattle.sci_text.specs.LogValue.{format_1, format_2, IsSize, IsForm, front_of, IsFront, HasAllLines, IsLogs, BeginsLast, BeginsLog, LogLineFault, LogFaultAfter, SizeFault, IsLogFault}
+use Rattle.sci_text.specs.LogValue.{format_1, format_2, IsSize, IsForm, front_of, IsFront, HasAllLines, IsLogs, BeginsLast, BeginsLog, LogLineFault, SizeFault, IsLogFault}
 use Rattle.sci_text.specs.Reading.{fitting, log_line_read}
 use Rattle.sci_text.proofs.LineFaults.{fitting_some}
 use Rattle.sci_text.proofs.Numbers.{fitting_below}
