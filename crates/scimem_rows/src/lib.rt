@@ -3,6 +3,8 @@
 #![tactic(auto)]
 
 #[cfg(test)]
+mod bounded;
+#[cfg(test)]
 mod carried;
 #[cfg(test)]
 mod fresh_lists;

@@ -1,13 +1,11 @@
 //! A machine that a row's events are applied to, one after another.
 
-ghost use Rattle.std.specs.Prelude.{◌≤◌};
-
+use crate::bounded::Bounded;
 use sci_cache::Held;
-use sci_core::{ApplyFault, LaneKind, Machine};
+use sci_core::LaneKind;
 use sci_home::Home;
 use sci_packets::{Body, Packet};
-use sci_text::{Tap, logs_text, read_schedule};
-use sci_words::Event;
+use sci_text::{Tap, read_schedule};
 use std::alloc::{AllocError, Global};
 use std::test::*;
 
@@ -31,9 +29,7 @@ fn push_lines(text: &mut Vec<u8>, lines: &str) -> Result<(), AllocError> {
 pub struct Stepped {
     alloc: Global,
     size: &'static str,
-    nodes: u8,
-    machine: Machine,
-    ghost has_nodes: { nodes ≤ machine.nodes },
+    machine: Bounded,
 }
 
 impl Stepped {
@@ -42,22 +38,11 @@ impl Stepped {
         let mut text = Vec::new(alloc);
         push_lines(&mut text, size)?;
         let schedule = read_schedule(alloc, &mut Tap::new(text.as_slice()))?;
-        let extent = schedule.extent();
         Ok(Stepped {
             alloc,
             size,
-            nodes: extent.nodes,
-            machine: Machine::new(alloc, extent, 65_536)?,
+            machine: Bounded::new(alloc, schedule.extent(), 65_536)?,
         })
-    }
-
-    /// Applies an event, and tells whether it was enabled.
-    fn apply(&mut self, event: &Event) -> Result<bool, Fail> {
-        match self.machine.apply(event) {
-            Ok(()) => Ok(true),
-            Err(ApplyFault::NotEnabled) => Ok(false),
-            Err(ApplyFault::Memory(refused)) => Err(Fail::from(refused)),
-        }
     }
 
     /// Applies events, written as in a schedule, each of which is enabled or each of which is not.
@@ -67,7 +52,7 @@ impl Stepped {
         push_lines(&mut text, events)?;
         let schedule = read_schedule(self.alloc, &mut Tap::new(text.as_slice()))?;
         for event in schedule.events() {
-            if self.apply(event)? != enabled {
+            if self.machine.apply(event)? != enabled {
                 return Err(Fail::from("an event that was not to be enabled, or was to be"));
             }
         }
@@ -86,27 +71,16 @@ impl Stepped {
 
     /// Whether this is the state of line 0 at a node.
     pub fn holds(&self, n: u8, held: &Held) -> bool {
-        if n >= self.nodes {
-            return false;
-        }
-        let node = self.machine.node(n);
-        node.extent().lines > 0 && node.held(0) == held
+        self.machine.held(n, 0) == Some(held)
     }
 
     /// Whether this is the home of line 0.
     pub fn home_is(&self, home: &Home) -> bool {
-        if self.nodes == 0 {
-            return false;
-        }
-        let node = self.machine.node(0);
-        node.extent().lines > 0 && node.home(0) == Some(home)
+        self.machine.home(0) == Some(home)
     }
 
     /// The oldest packet of a lane.
     pub fn front(&self, kind: LaneKind, from: u8, to: u8) -> Option<&Packet> {
-        if from >= self.nodes || to >= self.nodes {
-            return None;
-        }
         self.machine.front(kind, from, to)
     }
 
@@ -120,18 +94,13 @@ impl Stepped {
 
     /// How many entries a node's log has.
     pub fn entries(&self, n: u8) -> usize {
-        if n >= self.nodes {
-            return 0;
-        }
-        self.machine.node(n).log().len()
+        self.machine.entries(n)
     }
 
     /// Whether this is the text of the logs and the last contents.
     pub fn logged(&self, log: &str) -> Result<bool, Fail> {
         let mut wanted = Vec::new(self.alloc);
         push_lines(&mut wanted, log)?;
-        let logs = self.machine.logs(self.alloc)?;
-        let text = logs_text(self.alloc, self.nodes, &logs, &self.machine.last())?;
-        Ok(text == wanted)
+        Ok(self.machine.text(self.alloc)? == wanted)
     }
 }

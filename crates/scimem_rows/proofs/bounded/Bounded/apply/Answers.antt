@@ -1,5 +1,5 @@
 use Rattle.scimem_rows.proofs.NodesKept.{still_has}
-use Rattle.scimem_rows.proofs.stepped.Stepped.apply.Goals as goal
+use Rattle.scimem_rows.proofs.bounded.Bounded.apply.Goals as goal
 
 pub invariant_of-self : goal.invariant_of-self
 invariant_of-self c =

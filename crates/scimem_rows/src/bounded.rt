@@ -1,0 +1,124 @@
+//! A machine that answers nothing about nodes and lines that it lacks.
+
+ghost use Rattle.std.specs.Prelude.{◌≤◌};
+ghost use Rattle.sci_words.specs.declared.limits.TheConstants.{MAX_OPERATIONS};
+
+use sci_cache::Held;
+use sci_core::{ApplyFault, LaneKind, Machine, Pending};
+use sci_history::Last;
+use sci_home::Home;
+use sci_packets::Packet;
+use sci_text::logs_text;
+use sci_words::{Event, Extent};
+use std::alloc::Global;
+use std::test::*;
+
+/// A machine, and how many nodes it has.
+#[derive(Drop)]
+pub struct Bounded {
+    nodes: u8,
+    machine: Machine,
+    ghost has_nodes: { nodes ≤ machine.nodes },
+}
+
+impl Bounded {
+    /// The machine of a size before any event, each node of which may issue `limit` operations.
+    pub fn new(alloc: Global, extent: Extent, limit: u32) -> Result<Bounded, Fail>
+        requires some { 1 ≤ limit }
+        requires few { limit ≤ MAX_OPERATIONS }
+    {
+        Ok(Bounded {
+            nodes: extent.nodes,
+            machine: Machine::new(alloc, extent, limit)?,
+        })
+    }
+
+    /// Applies an event, and tells whether it was enabled.
+    pub fn apply(&mut self, event: &Event) -> Result<bool, Fail> {
+        match self.machine.apply(event) {
+            Ok(()) => Ok(true),
+            Err(ApplyFault::NotEnabled) => Ok(false),
+            Err(ApplyFault::Memory(refused)) => Err(Fail::from(refused)),
+        }
+    }
+
+    /// How many nodes there are.
+    pub fn nodes(&self) -> u8 {
+        self.nodes
+    }
+
+    /// The state of a line at a node.
+    pub fn held(&self, n: u8, line: u8) -> Option<&Held> {
+        if n >= self.nodes {
+            return None;
+        }
+        let node = self.machine.node(n);
+        if line >= node.extent().lines {
+            return None;
+        }
+        Some(node.held(line))
+    }
+
+    /// The home of a line.
+    pub fn home(&self, line: u8) -> Option<&Home> {
+        if self.nodes == 0 {
+            return None;
+        }
+        let node = self.machine.node(line % self.nodes);
+        if line >= node.extent().lines {
+            return None;
+        }
+        node.home(line)
+    }
+
+    /// The operation that is pending on a line at a node.
+    pub fn pending(&self, n: u8, line: u8) -> Option<Pending> {
+        if n >= self.nodes {
+            return None;
+        }
+        self.machine.node(n).pending(line)
+    }
+
+    /// The answer that waits at a node.
+    pub fn waiting(&self, n: u8) -> Option<Packet> {
+        if n >= self.nodes {
+            return None;
+        }
+        self.machine.node(n).waiting().copied()
+    }
+
+    /// How many entries a node's log has.
+    pub fn entries(&self, n: u8) -> usize {
+        if n >= self.nodes {
+            return 0;
+        }
+        self.machine.node(n).log().len()
+    }
+
+    /// The oldest packet of a lane.
+    pub fn front(&self, kind: LaneKind, from: u8, to: u8) -> Option<&Packet> {
+        if from >= self.nodes || to >= self.nodes {
+            return None;
+        }
+        self.machine.front(kind, from, to)
+    }
+
+    /// How many packets a lane has.
+    pub fn count(&self, kind: LaneKind, from: u8, to: u8) -> usize {
+        if from >= self.nodes || to >= self.nodes {
+            return 0;
+        }
+        self.machine.count(kind, from, to)
+    }
+
+    /// The last contents of each line.
+    pub fn last(&self) -> Last {
+        self.machine.last()
+    }
+
+    /// The text of the logs and the last contents.
+    pub fn text(&self, alloc: Global) -> Result<Vec<u8>, Fail> {
+        let logs = self.machine.logs(alloc)?;
+        Ok(logs_text(alloc, self.nodes, &logs, &self.machine.last())?)
+    }
+}
