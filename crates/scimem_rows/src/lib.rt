@@ -1,5 +1,6 @@
 //! Worked rows that cross crates: caches and homes between which packets are carried by hand. The order of the
-//! packets is each row's own, and the states and packets that it passes through are written out.
+//! packets is each row's own, and the states and packets that it passes through are written out. Beside them
+//! walks, whose events are taken by chance, from seeds that stay the same.
 #![tactic(auto)]
 
 #[cfg(test)]
@@ -7,11 +8,19 @@ mod bounded;
 #[cfg(test)]
 mod carried;
 #[cfg(test)]
+mod choices;
+#[cfg(test)]
 mod fresh_lists;
 #[cfg(test)]
 mod lists;
 #[cfg(test)]
 mod pairs;
+#[cfg(test)]
+mod plain_lists;
+#[cfg(test)]
+mod random;
+#[cfg(test)]
+mod requests;
 #[cfg(test)]
 mod schedules;
 #[cfg(test)]
@@ -22,3 +31,7 @@ mod short_schedules;
 mod states;
 #[cfg(test)]
 mod stepped;
+#[cfg(test)]
+mod walked;
+#[cfg(test)]
+mod walks;

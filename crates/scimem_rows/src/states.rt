@@ -90,6 +90,36 @@ pub fn fresh(head: u16) -> Result<Home, Fail> {
     Ok(home)
 }
 
+/// A home after one more request, and what it answered.
+fn home_served(home: Home, sender: u16, body: Body) -> Result<(Home, Body), Fail> {
+    let request = first_request(sender, body)?;
+    let mut home = home;
+    let answer = serve_home(&mut home, &request)?;
+    Ok((home, answer.body))
+}
+
+/// HOME with these contents.
+pub fn home_with(contents: Stamped) -> Result<Home, Fail> {
+    let (home, answer) = home_served(gone(0)?, 0, Body::Wback(contents))?;
+    if answer != Body::Wbok {
+        return Err(Fail::from("a head may write back"));
+    }
+    Ok(home)
+}
+
+/// FRESH with this head and these contents.
+pub fn fresh_with(head: u16, contents: Stamped) -> Result<Home, Fail> {
+    let (home, answer) = home_served(home_with(contents)?, head, Body::Fread)?;
+    let fdata = Body::Fdata {
+        old_head: None,
+        contents,
+    };
+    if answer != fdata {
+        return Err(Fail::from("a home has the contents"));
+    }
+    Ok(home)
+}
+
 pub fn out() -> Held {
     Held::Out(OutState)
 }

@@ -1,0 +1,42 @@
+//! Numbers that look random, and are the same in every run.
+
+ghost use Rattle.std.specs.Prelude.{◌<◌};
+
+/// A generator of numbers: 64 bits that are shifted by 13, 7 and 17 and added without carry.
+#[derive(Drop)]
+pub struct Random {
+    state: u64,
+}
+
+impl Random {
+    /// The generator of a seed. No seed gives the state 0, in which a generator would stay.
+    pub fn new(seed: u64) -> Random {
+        Random {
+            state: seed.wrapping_mul(0x9E37_79B9_7F4A_7C15) | 1,
+        }
+    }
+
+    fn step(&mut self) -> u64 {
+        let mut state = self.state;
+        state ^= state << 13;
+        state ^= state >> 7;
+        state ^= state << 17;
+        self.state = state;
+        state >> 20
+    }
+
+    /// A number below `bound`, or 0 where that is 0.
+    pub fn below(&mut self, bound: u8) -> u8
+        ensures { 0 < bound → result < bound }
+    {
+        if bound == 0 {
+            return 0;
+        }
+        (self.step() % u64::from(bound)) as u8
+    }
+
+    /// True once in `times`, on average.
+    pub fn once_in(&mut self, times: u8) -> bool {
+        self.below(times) == 0
+    }
+}

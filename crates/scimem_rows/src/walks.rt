@@ -1,0 +1,186 @@
+//! Walks: schedules whose events are taken by chance, from fixed seeds, mostly among the enabled ones. On the way
+//! and at the end, what the machine shows is compared with what a plain look at the nodes and at the events that
+//! happened gives, and its logs are audited.
+
+use crate::choices::{any_event, enabled_event};
+use crate::plain_lists::holds;
+use crate::random::Random;
+use crate::walked::{Counts, Walked};
+use sci_history::{Verdict, audit};
+use sci_text::{Tap, read_logs};
+use sci_words::Extent;
+use std::alloc::Global;
+use std::process::Abort;
+use std::test::*;
+
+/// Walks on machines of one size: of how many seeds, and how many events each tries.
+#[derive(Drop)]
+struct Walks {
+    nodes: u8,
+    lines: u8,
+    slots: u8,
+    seeds: u16,
+    events: u16,
+}
+
+/// An error where the audit finds the logs not lawful.
+fn audit_logs(alloc: Global, walked: &Walked) -> Result<(), Fail> {
+    let text = walked.machine.text(alloc)?;
+    let (nodes, logs, last) = read_logs(alloc, &mut Tap::new(text.as_slice()))?;
+    if nodes != walked.extent.nodes {
+        return Err(Fail::from("logs of another machine"));
+    }
+    match audit(alloc, &logs, &last)? {
+        Verdict::Lawful => Ok(()),
+        fault => Err(Fail::from(fault)),
+    }
+}
+
+/// An error where the machine shows anything that a plain look doesn't give.
+fn compare(alloc: Global, walked: &Walked) -> Result<(), Fail> {
+    walked.shows_all()?;
+    let last = walked.machine.last();
+    if last.lines() != walked.extent.lines {
+        return Err(Fail::from("the last contents of other lines"));
+    }
+    for line in 0..last.lines() {
+        holds(alloc, walked, line, last.get(line))?;
+    }
+    audit_logs(alloc, walked)
+}
+
+/// One event of a walk. Where a plain look finds an event enabled, it must be.
+fn step(random: &mut Random, walked: &mut Walked) -> Result<(), Fail> {
+    if random.once_in(16) {
+        let event = any_event(random, walked);
+        let _happened = walked.step(&event)?;
+        return Ok(());
+    }
+    for _look in 0..8 {
+        if let Some(event) = enabled_event(random, walked) {
+            if !walked.step(&event)? {
+                return Err(Fail::new(format_args!("{event:?} is not enabled")));
+            }
+            return Ok(());
+        }
+    }
+    Ok(())
+}
+
+/// What happens in the walk of a seed.
+fn walk(alloc: Global, walks: &Walks, seed: u64) -> Result<Counts, Fail> {
+    let extent = Extent::new(walks.nodes, walks.lines, walks.slots).ok_or("an extent")?;
+    let mut random = Random::new(seed);
+    let mut walked = Walked::new(alloc, extent)?;
+    for place in 0..walks.events {
+        if place == walks.events / 2 {
+            compare(alloc, &walked)?;
+        }
+        step(&mut random, &mut walked)?;
+    }
+    compare(alloc, &walked)?;
+    Ok(walked.counts)
+}
+
+/// What happens in all these walks together. The seed of a walk that goes wrong is printed.
+fn walk_all(rt: &impl Eprint, alloc: Global, all: &[Walks]) -> Result<Counts, Fail> {
+    let mut counts = Counts::none();
+    for walks in all {
+        let (nodes, lines, slots) = (walks.nodes, walks.lines, walks.slots);
+        for seed in 0..u64::from(walks.seeds) {
+            match walk(alloc, walks, seed) {
+                Ok(more) => counts.add(&more),
+                Err(fail) => {
+                    let _ = rt.eprintln(format_args!(
+                        "machine {nodes} {lines} {slots}, seed {seed}"
+                    ));
+                    return Err(fail);
+                }
+            }
+        }
+    }
+    Ok(counts)
+}
+
+/// Walks on a machine of this size.
+fn of_size(nodes: u8, lines: u8, slots: u8, seeds: u16, events: u16) -> Walks {
+    Walks {
+        nodes,
+        lines,
+        slots,
+        seeds,
+        events,
+    }
+}
+
+/// Fails where something happened seldom or never.
+fn much_happened(rt: &impl Abort, counts: &Counts, operations: u64, others: u64) {
+    assert!(rt; counts.loads >= operations, "{counts:?}");
+    assert!(rt; counts.makers >= operations, "{counts:?}");
+    assert!(rt; counts.joined >= others, "{counts:?}");
+    assert!(rt; counts.purged >= others, "{counts:?}");
+    assert!(rt; counts.rolled >= others, "{counts:?}");
+    assert!(rt; counts.written_back >= others, "{counts:?}");
+    assert!(rt; counts.claimed >= others, "{counts:?}");
+    assert!(rt; counts.cleared >= others, "{counts:?}");
+    assert!(rt; counts.lost >= others, "{counts:?}");
+    assert!(rt; counts.busy >= others, "{counts:?}");
+}
+
+#[test]
+fn walks_of_two_nodes(rt: HostRuntime) -> Result<(), Fail> {
+    let all = [of_size(2, 1, 1, 400, 200), of_size(2, 3, 1, 200, 200)];
+    let counts = walk_all(&rt, rt.alloc(), &all)?;
+    much_happened(&rt, &counts, 3_000, 300);
+    Ok(())
+}
+
+#[test]
+fn walks_of_three_nodes(rt: HostRuntime) -> Result<(), Fail> {
+    let all = [of_size(3, 1, 1, 400, 200), of_size(3, 4, 2, 200, 240)];
+    let counts = walk_all(&rt, rt.alloc(), &all)?;
+    much_happened(&rt, &counts, 3_000, 100);
+    Ok(())
+}
+
+#[test]
+fn walks_of_four_nodes(rt: HostRuntime) -> Result<(), Fail> {
+    let all = [of_size(4, 1, 2, 300, 240), of_size(4, 8, 3, 200, 300)];
+    let counts = walk_all(&rt, rt.alloc(), &all)?;
+    much_happened(&rt, &counts, 2_000, 100);
+    Ok(())
+}
+
+#[test]
+fn walks_of_five_and_six_nodes(rt: HostRuntime) -> Result<(), Fail> {
+    let all = [of_size(5, 2, 2, 200, 300), of_size(6, 1, 1, 200, 300)];
+    let counts = walk_all(&rt, rt.alloc(), &all)?;
+    much_happened(&rt, &counts, 1_500, 5);
+    Ok(())
+}
+
+#[test]
+fn walks_of_seven_to_twelve_nodes(rt: HostRuntime) -> Result<(), Fail> {
+    let all = [
+        of_size(7, 3, 1, 80, 400),
+        of_size(8, 16, 4, 40, 400),
+        of_size(10, 1, 8, 80, 400),
+        of_size(12, 5, 2, 40, 400),
+    ];
+    let counts = walk_all(&rt, rt.alloc(), &all)?;
+    much_happened(&rt, &counts, 1_000, 50);
+    Ok(())
+}
+
+#[test]
+fn walks_of_sixteen_nodes(rt: HostRuntime) -> Result<(), Fail> {
+    let all = [
+        of_size(16, 1, 1, 40, 800),
+        of_size(16, 2, 1, 40, 800),
+        of_size(15, 6, 8, 20, 800),
+        of_size(16, 64, 8, 4, 800),
+    ];
+    let counts = walk_all(&rt, rt.alloc(), &all)?;
+    much_happened(&rt, &counts, 500, 5);
+    Ok(())
+}
