@@ -18,3 +18,4 @@ pub mod Sorting
 pub mod PlacedSort
 pub mod AuditLines
 pub mod ByLine
+pub mod Consequences

@@ -4,3 +4,4 @@ pub mod History
 pub mod Lawful
 pub mod Oracle
 pub mod Audit
+pub mod Seen

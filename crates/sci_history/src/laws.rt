@@ -1,9 +1,10 @@
 //! Laws of the definitions that contracts cite: each is the contract of a function that does nothing, so that
 //! whoever reads the definitions sees that they say what they mean.
 
-ghost use Rattle.std.specs.Prelude.{◌≡◌, ◌≤◌, ◌<◌, ◌↔◌, ◌∷◌, ◌++◌, [], List, ℕ, Option, map, filter, length};
+ghost use Rattle.std.specs.Prelude.{true, ◌≡◌, ◌≤◌, ◌<◌, ◌↔◌, ◌∷◌, ◌++◌, [], List, ℕ, Option, map, filter, length};
 ghost use Rattle.std.specs.List.{AllByRecursion, flat_map};
-ghost use Rattle.sci_words.specs.declared.limits.TheConstants.{MAX_NODES};
+ghost use Rattle.sci_words.specs.declared.limits.TheConstants.{MAX_NODES, WORDS_PER_LINE};
+ghost use Rattle.sci_words.specs.declared.operation.Act.{Act};
 ghost use Rattle.sci_words.specs.declared.operation.Op.{Op};
 ghost use Rattle.sci_words.specs.declared.operation.Reply.{Reply};
 ghost use Rattle.sci_words.specs.declared.stamped.Stamped.{Stamped};
@@ -15,7 +16,8 @@ ghost use Rattle.sci_history.specs.History.{HasHistory};
 ghost use Rattle.sci_history.specs.Lawful.{IsLawfulLine, Lawful};
 ghost use Rattle.sci_history.specs.Memory.{IsRun, stamped_at};
 ghost use Rattle.sci_history.specs.Oracle.{IsInRange, Issue, oracle_last, oracle_logs};
-ghost use Rattle.sci_history.specs.Placed.{AreOwn, is_of_node, is_on_line, log_of, on_line};
+ghost use Rattle.sci_history.specs.Placed.{AreOwn, is_making, is_of_node, is_on_line, log_of, on_line};
+ghost use Rattle.sci_history.specs.Seen.{DidOn};
 
 /// A script's logs and last contents on one memory of one thread are lawful, whatever operations it has within
 /// the limits.
@@ -58,6 +60,25 @@ pub fn no_stale_read()
     ensures { (logs : List (List Entry)) (last : List Stamped) (line node : ℕ) (before after : List Entry) (entry : Entry) →
         Lawful logs last → node < MAX_NODES → filter (is_on_line line) (log_of logs node) ≡ before ++ entry ∷ after →
         AllByRecursion (λ earlier. earlier.version ≤ entry.version) before }
+{}
+
+/// Two processors, or one, never read two different words at one version of a line.
+pub fn one_word_at_a_version()
+    ensures { (logs : List (List Entry)) (last : List Stamped) (line n m : ℕ) (x y : Entry) →
+        AreOwn logs → length logs ≡ MAX_NODES → Lawful logs last → DidOn logs line n x → DidOn logs line m y →
+        x.op.act ≡ Act.Load → y.op.act ≡ Act.Load → x.op.word ≡ y.op.word → x.version ≡ y.version → x.reply ≡ y.reply }
+{}
+
+/// A store that was answered is seen by every load at its version or a later one, until another maker is at that
+/// word.
+pub fn stores_are_seen()
+    ensures { (logs : List (List Entry)) (last : List Stamped) (line n m word : ℕ) (x y : Entry) →
+        AreOwn logs → length logs ≡ MAX_NODES → Lawful logs last → DidOn logs line n x → DidOn logs line m y →
+        x.op.act ≡ Act.Store word → x.op.word < WORDS_PER_LINE → y.op.act ≡ Act.Load → y.op.word ≡ x.op.word →
+        x.version ≤ y.version →
+        ((k : ℕ) (z : Entry) → DidOn logs line k z → is_making z ≡ true → x.version < z.version → z.version ≤ y.version →
+        z.op.word ≡ x.op.word → ⊥) →
+        y.reply ≡ Reply.Got word }
 {}
 
 /// An audit's five kinds of fault are what lawfulness rules out: a line of logs is lawful exactly where no kind fails
