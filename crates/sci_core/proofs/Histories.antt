@@ -8,11 +8,12 @@ use Rattle.std.proofs.lemmas.List.Elements.{filter-append}
 use Rattle.sci_words.specs.declared.event.Event.{Event}
 use Rattle.sci_words.specs.declared.stamped.Stamped.{Stamped}
 use Rattle.sci_history.specs.declared.entry.Entry.{Entry}
+use Rattle.sci_history.specs.Audit.{IsWithin}
 use Rattle.sci_history.specs.History.{IsHistory}
 use Rattle.sci_history.specs.Placed.{is_of_node, is_on_line}
 use Rattle.sci_history.proofs.Order.{filter_yes, filter_no}
 use Rattle.sci_cache.specs.Cache.{Letter}
-use Rattle.sci_core.specs.Node.{NodeOf, opening_node, node_issuing, node_performing, node_asking, node_serving, node_refusing, node_replying, node_accepting}
+use Rattle.sci_core.specs.Node.{NodeOf, opening_node, node_issuing, node_performing, node_asking, node_serving, node_refusing, node_replying, node_accepting, pending_on, IsPendingOn}
 use Rattle.sci_core.specs.Core.{Core, node_at, with_node, stepping, step, run_from}
 use Rattle.sci_core.specs.Done.{performed, ChangesBy, made_by, done_from}
 use Rattle.sci_core.specs.Tidy.{IsTidy}
@@ -57,7 +58,7 @@ run_follows core (e ∷ events) well tidy line inside c shaped =
 pub record Logged (core : Core) (made : Option Entry) (new : Core) : Type 0 where
   pub serials : ((n : ℕ) → HasSerials (node_at core n)) → (n : ℕ) → HasSerials (node_at new n)
   pub logs : (n : ℕ) → (node_at new n).log ≡ (node_at core n).log ++ filter (is_of_node n) (option_to_list made)
-  pub within : IfSome made (λ entry. (entry.node < core.nodes) × (entry.op.line < core.lines))
+  pub within : IfSome made (λ entry. (entry.node < core.nodes) × IsWithin core.lines entry)
 
 node_serials : (core : Core) (n : ℕ) (next : NodeOf) → (((j : ℕ) → HasSerials (node_at core j)) → HasSerials next) → ((j : ℕ) → HasSerials (node_at core j)) → (j : ℕ) → HasSerials (node_at (with_node core n next) j)
 node_serials core n next h all = at_place_set (λ (j : ℕ) (part : NodeOf). HasSerials part) core.parts n next (opening_node 0 1 0 0 0) all (h all)
@@ -73,7 +74,7 @@ none_logged core n next made none log serials =
 same_logged : (core : Core) (n : ℕ) (next : NodeOf) (made : Option Entry) → made ≡ None → SameWork (node_at core n) next → Logged core made (with_node core n next)
 same_logged core n next made none same = none_logged core n next made none same.log (λ all. same_serials (node_at core n) next same (all n))
 
-some_logged : (core : Core) (n : ℕ) (next : NodeOf) (entry : Entry) → n < length core.parts → n < core.nodes → entry.node ≡ n → entry.op.line < core.lines → next.log ≡ (node_at core n).log ++ entry ∷ [] → (((j : ℕ) → HasSerials (node_at core j)) → HasSerials next) → Logged core (Some entry) (with_node core n next)
+some_logged : (core : Core) (n : ℕ) (next : NodeOf) (entry : Entry) → n < length core.parts → n < core.nodes → entry.node ≡ n → IsWithin core.lines entry → next.log ≡ (node_at core n).log ++ entry ∷ [] → (((j : ℕ) → HasSerials (node_at core j)) → HasSerials next) → Logged core (Some entry) (with_node core n next)
 some_logged core n next entry below lt own known log serials = record {
   serials = node_serials core n next serials;
   logs = λ j. elim (cases_eq j n) [
@@ -89,39 +90,39 @@ some_logged core n next entry below lt own known log serials = record {
   within = (subst (λ (k : ℕ). k < core.nodes) (sym own) lt, known);
 }
 
-stepped_logged : (core new : Core) (made : Option Entry) → IsWellFormed core → Stepped core made new → Logged core made new
-stepped_logged core new made well (By_issue n op next lt is e none) =
+stepped_logged : (core new : Core) (e : Event) (made : Option Entry) → IsWellFormed core → Stepped core e made new → Logged core made new
+stepped_logged core new e made well (By_issue n op next event lt is then_ none) =
     let part = node_at core n in
     let log = of_some (λ (x : NodeOf). x.log ≡ part.log) (node_issuing part op) next is (issue_log part op) in
-    subst (Logged core made) e (none_logged core n next made none log (λ all. of_some HasSerials (node_issuing part op) next is (issue_serials part op (all n))))
-stepped_logged core new made well (By_perform n line done lt is e some) =
+    subst (Logged core made) then_ (none_logged core n next made none log (λ all. of_some HasSerials (node_issuing part op) next is (issue_serials part op (all n))))
+stepped_logged core new e made well (By_perform n line done lt is then_ some) =
     let part = node_at core n in
     let does = of_some (PerformedAs part line) (node_performing part line) done is (perform_as part line) in
     let own = perform_owns part line done does ∙ (well.each_part n lt).me in
-    let known = subst (λ (entry : Entry). entry.op.line < core.lines) does.entry (pending_known core n line done does lt well) in
+    let known = subst (IsWithin core.lines) does.entry (pending_known core n line done does lt well, (of_some (IsPendingOn part.issued line) (pending_on part line) does.pending does.here ((well.each_part n lt).fits.each line)).word) in
     let logged = some_logged core n done.0 done.1 (node_below core n well lt) lt own known (perform_logs part line done does) (λ all. perform_serials part line done does (well.each_part n lt).fits (all n)) in
-    subst (Logged core made) e (subst (λ (m : Option Entry). Logged core m (with_node core n done.0)) (sym some) logged)
-stepped_logged core new made well (By_ask n line kind sent is sends_well s none) =
+    subst (Logged core made) then_ (subst (λ (m : Option Entry). Logged core m (with_node core n done.0)) (sym some) logged)
+stepped_logged core new e made well (By_ask n line kind sent is sends_well s none) =
     let part = node_at core n in
     let same = of_some (λ (x : NodeOf × Letter). SameWork part x.0) (node_asking part line kind) sent is (ask_work part line kind) in
     let logged = same_logged core n sent.0 made none same in
     subst (Logged core made) s.then_ (record { serials = logged.serials; logs = logged.logs; within = logged.within })
-stepped_logged core new made well (By_serve t none) =
+stepped_logged core new e made well (By_serve t none) =
     let part = node_at core t.node in
     let same = serve_work part t.letter t.next (of_some (ServedAs part t.letter) (node_serving part t.letter) t.next t.takes (serve_as part t.letter)) in
     let logged = same_logged core t.node t.next made none same in
     subst (Logged core made) t.then_ (record { serials = logged.serials; logs = logged.logs; within = logged.within })
-stepped_logged core new made well (By_refuse t none) =
+stepped_logged core new e made well (By_refuse t none) =
     let part = node_at core t.node in
     let does = of_some (RefusedAs part t.letter) (node_refusing part t.letter) t.next t.takes (refuse_as part t.letter) in
     let logged = same_logged core t.node t.next made none (subst (SameWork part) does.then_ (record { pending = refl; issued = refl; log = refl })) in
     subst (Logged core made) t.then_ (record { serials = logged.serials; logs = logged.logs; within = logged.within })
-stepped_logged core new made well (By_reply n sent is sends_well s none) =
+stepped_logged core new e made well (By_reply n sent is sends_well s none) =
     let part = node_at core n in
     let e = of_some (λ (x : NodeOf × Letter). (record part { waiting = None }) ≡ x.0) (node_replying part) sent is (reply_as part) in
     let logged = same_logged core n sent.0 made none (subst (SameWork part) e (record { pending = refl; issued = refl; log = refl })) in
     subst (Logged core made) s.then_ (record { serials = logged.serials; logs = logged.logs; within = logged.within })
-stepped_logged core new made well (By_accept t none) =
+stepped_logged core new e made well (By_accept t none) =
     let part = node_at core t.node in
     let same = of_some (SameWork part) (node_accepting part t.letter) t.next t.takes (accept_work part t.letter) in
     let logged = same_logged core t.node t.next made none same in
@@ -130,12 +131,12 @@ stepped_logged core new made well (By_accept t none) =
 nothing_logged : (core : Core) → Logged core None core
 nothing_logged core = record { serials = λ all. all; logs = λ n. sym (append-nil (node_at core n).log); within = tt }
 
-after_logged : (core : Core) (next : Option Core) (made : Option Entry) → IsWellFormed core → IfSome next (Stepped core made) → Logged core (elim next as (λ _. Option Entry) [ None ↦ None | Some new ↦ made ]) (unwrap_or next core)
-after_logged core None made well stepped = nothing_logged core
-after_logged core (Some new) made well stepped = stepped_logged core new made well stepped
+after_logged : (core : Core) (e : Event) (next : Option Core) (made : Option Entry) → IsWellFormed core → IfSome next (Stepped core e made) → Logged core (elim next as (λ _. Option Entry) [ None ↦ None | Some new ↦ made ]) (unwrap_or next core)
+after_logged core e None made well stepped = nothing_logged core
+after_logged core e (Some new) made well stepped = stepped_logged core new e made well stepped
 
 step_logged : (core : Core) (e : Event) → IsWellFormed core → Logged core (made_by core e) (step core e)
-step_logged core e well = after_logged core (stepping core e) (performed core e) well (stepping_stepped core e well)
+step_logged core e well = after_logged core e (stepping core e) (performed core e) well (stepping_stepped core e well)
 
 -- ---- the logs of a run
 
@@ -143,7 +144,7 @@ pub record RunLogged (core : Core) (done : List Entry) (new : Core) : Type 0 whe
   pub serials : (n : ℕ) → HasSerials (node_at new n)
   pub logs : (n : ℕ) → (node_at new n).log ≡ (node_at core n).log ++ filter (is_of_node n) done
   pub nodes : AllByRecursion (λ entry. entry.node < core.nodes) done
-  pub lines : AllByRecursion (λ entry. entry.op.line < core.lines) done
+  pub lines : AllByRecursion (IsWithin core.lines) done
 
 one_within : (made : Option Entry) (P : Entry → Type 0) (rest : List Entry) → IfSome made P → AllByRecursion P rest → AllByRecursion P (option_to_list made ++ rest)
 one_within None P rest h all = all
@@ -161,10 +162,10 @@ run_logged core (e ∷ events) well serials =
     let rest = run_logged (step core e) events next.well (one.serials serials) in
     let made = made_by core e in
     let more = done_from (step core e) events in
-    let Both = λ (entry : Entry). (entry.node < core.nodes) × (entry.op.line < core.lines) in
+    let Both = λ (entry : Entry). (entry.node < core.nodes) × IsWithin core.lines entry in
     record {
       serials = rest.serials;
       logs = λ n. rest.logs n ∙ (ap (λ (log : List Entry). log ++ filter (is_of_node n) more) (one.logs n) ∙ (append_assoc (node_at core n).log (filter (is_of_node n) (option_to_list made)) (filter (is_of_node n) more) ∙ ap (λ (es : List Entry). (node_at core n).log ++ es) (sym (filter-append (is_of_node n) (option_to_list made) more))));
       nodes = one_within made (λ entry. entry.node < core.nodes) more (if_some made Both (λ entry. entry.node < core.nodes) (λ entry h. h.0) one.within) (subst (λ (k : ℕ). AllByRecursion (λ (entry : Entry). entry.node < k) more) next.same.nodes rest.nodes);
-      lines = one_within made (λ entry. entry.op.line < core.lines) more (if_some made Both (λ entry. entry.op.line < core.lines) (λ entry h. h.1) one.within) (subst (λ (k : ℕ). AllByRecursion (λ (entry : Entry). entry.op.line < k) more) next.same.lines rest.lines);
+      lines = one_within made (IsWithin core.lines) more (if_some made Both (IsWithin core.lines) (λ entry h. h.1) one.within) (subst (λ (k : ℕ). AllByRecursion (IsWithin k) more) next.same.lines rest.lines);
     }

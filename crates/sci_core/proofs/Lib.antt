@@ -37,3 +37,4 @@ pub mod Works
 pub mod Histories
 pub mod ShapeClauses
 pub mod ReachedLaws
+pub mod Operations

@@ -1,7 +1,8 @@
 -- The laws of every reached state, and of every schedule.
 use Rattle.std.proofs.Common.{◌≡◌, ℕ, ◌<◌, ◌≤◌, false, List, [], ◌++◌, filter, Option, refl, sym, ap, subst, ◌∙◌, arith, inl, inr}
 use Rattle.std.specs.Prelude.{Result, Ok, Err, IfOk, Some, unwrap_or}
-use Rattle.std.specs.List.{AllByRecursion, AllPairs}
+use Rattle.std.proofs.lemmas.List.Elements.{All-from_recursion}
+use Rattle.std.specs.List.{All, AllByRecursion, AllPairs}
 use Rattle.std.proofs.lemmas.Bool.{cases_lt, ne_eqb}
 use Rattle.std.proofs.lemmas.List.{get_or_past}
 use Rattle.std.proofs.lemmas.List.FromFn.{get_or-map-range_with_len, length-map-range_with_len}
@@ -10,6 +11,7 @@ use Rattle.sci_words.specs.declared.event.Event.{Event}
 use Rattle.sci_words.specs.declared.stamped.Stamped.{Stamped}
 use Rattle.sci_words.specs.Stamped.{zero_stamped}
 use Rattle.sci_history.specs.declared.entry.Entry.{Entry}
+use Rattle.sci_history.specs.Audit.{IsWithin, AreWithin}
 use Rattle.sci_history.specs.History.{IsHistory, HasHistory}
 use Rattle.sci_history.specs.Lawful.{Lawful}
 use Rattle.sci_history.specs.Memory.{stamped_at}
@@ -37,7 +39,7 @@ use Rattle.sci_core.proofs.Histories.{run_follows, RunLogged, run_logged}
 
 -- ---- from the opening on
 
-opened : (nodes lines slots limit : ℕ) → AreSizes nodes lines slots limit → IsWellFormed (opening nodes lines slots limit)
+pub opened : (nodes lines slots limit : ℕ) → AreSizes nodes lines slots limit → IsWellFormed (opening nodes lines slots limit)
 opened nodes lines slots limit sizes = let some = sizes.extent.has_node in opening_well nodes lines slots limit (omega arith) sizes.few_operations
 
 -- a line's shape where a schedule leads, and its history
@@ -94,12 +96,27 @@ reached_effects core e reached line inside =
 opening_log : (nodes lines slots limit n : ℕ) → (node_at (opening nodes lines slots limit) n).log ≡ []
 opening_log nodes lines slots limit n = each_mapped (λ (part : NodeOf). part.log ≡ []) (λ (m : ℕ). opening_node m nodes lines slots limit) (opening_node 0 1 0 0 0) 0 nodes n (λ m. refl) refl
 
+-- what a schedule logs
+pub schedule_logged : (nodes lines slots limit : ℕ) (schedule : List Event) → AreSizes nodes lines slots limit → RunLogged (opening nodes lines slots limit) (done nodes lines slots limit schedule) (run nodes lines slots limit schedule)
+schedule_logged nodes lines slots limit schedule sizes =
+    let first = opening nodes lines slots limit in
+    let serials : (n : ℕ) → HasSerials (node_at first n) = λ n. each_mapped HasSerials (λ (m : ℕ). opening_node m nodes lines slots limit) (opening_node 0 1 0 0 0) 0 nodes n (λ m. opening_serials m nodes lines slots limit) (opening_serials 0 1 0 0 0) in
+    run_logged first schedule (opened nodes lines slots limit sizes) serials
+
+-- each log has its own node's entries of the schedule
+pub schedule_log : (nodes lines slots limit : ℕ) (schedule : List Event) (node : ℕ) → AreSizes nodes lines slots limit → (node_at (run nodes lines slots limit schedule) node).log ≡ filter (is_of_node node) (done nodes lines slots limit schedule)
+schedule_log nodes lines slots limit schedule node sizes =
+    (schedule_logged nodes lines slots limit schedule sizes).logs node ∙ ap (λ (es : List Entry). es ++ filter (is_of_node node) (done nodes lines slots limit schedule)) (opening_log nodes lines slots limit node)
+
+pub log_at : (core : Core) (node : ℕ) → node < MAX_NODES → log_of (logs_of core) node ≡ (node_at core node).log
+log_at core node lt = get_or-map-range_with_len (λ (n : ℕ). (node_at core n).log) 0 16 node node [] lt (omega arith)
+
+pub log_beyond : (core : Core) (node : ℕ) → MAX_NODES ≤ node → log_of (logs_of core) node ≡ []
+log_beyond core node past = get_or_past (logs_of core) node [] (omega arith)
+
 reached_logged : (core : Core) (reached : IsReached core) → RunLogged (opening core.nodes core.lines core.slots core.limit) (done core.nodes core.lines core.slots core.limit reached.schedule) core
 reached_logged core reached =
-    let first = opening core.nodes core.lines core.slots core.limit in
-    let serials : (n : ℕ) → HasSerials (node_at first n) = λ n. each_mapped HasSerials (λ (m : ℕ). opening_node m core.nodes core.lines core.slots core.limit) (opening_node 0 1 0 0 0) 0 core.nodes n
-    (λ m. opening_serials m core.nodes core.lines core.slots core.limit) (opening_serials 0 1 0 0 0) in
-    subst (RunLogged first (done core.nodes core.lines core.slots core.limit reached.schedule)) reached.leads (run_logged first reached.schedule (opened core.nodes core.lines core.slots core.limit reached.sizes) serials)
+    subst (RunLogged (opening core.nodes core.lines core.slots core.limit) (done core.nodes core.lines core.slots core.limit reached.schedule)) reached.leads (schedule_logged core.nodes core.lines core.slots core.limit reached.schedule reached.sizes)
 
 -- no entry is on a line that the machine doesn't have
 beyond_none : (lines line : ℕ) (entries : List Entry) → lines ≤ line → AllByRecursion (λ entry. entry.op.line < lines) entries → filter (is_on_line line) entries ≡ []
@@ -120,21 +137,19 @@ line_history core reached line =
           let history = subst (λ (x : Core). IsHistory (filter (is_on_line line) entries) zero_stamped (last_at x line)) reached.leads (schedule_history core.nodes core.lines core.slots core.limit reached.schedule line reached.sizes inside) in
           subst (IsHistory (filter (is_on_line line) entries) zero_stamped) (sym (last_within core line inside)) history
       | inr past ↦
-          subst (λ (es : List Entry). IsHistory es zero_stamped (stamped_at (last_of core) line)) (sym (beyond_none core.lines line entries past (reached_logged core reached).lines)) (last_beyond core line past)
+          subst (λ (es : List Entry). IsHistory es zero_stamped (stamped_at (last_of core) line)) (sym (beyond_none core.lines line entries past (all_weaker (IsWithin core.lines) (λ entry. entry.op.line < core.lines) (λ entry h. h.0) entries (reached_logged core reached).lines))) (last_beyond core line past)
     ]
 
 line_logged : (core : Core) (reached : IsReached core) (line node : ℕ) → node < MAX_NODES
     → filter (is_on_line line) (log_of (logs_of core) node) ≡ filter (is_of_node node) (filter (is_on_line line) (done core.nodes core.lines core.slots core.limit reached.schedule))
 line_logged core reached line node lt =
     let entries = done core.nodes core.lines core.slots core.limit reached.schedule in
-    let log : log_of (logs_of core) node ≡ (node_at core node).log = get_or-map-range_with_len (λ (n : ℕ). (node_at core n).log) 0 16 node node [] lt (omega arith) in
     let made : (node_at core node).log ≡ filter (is_of_node node) entries = (reached_logged core reached).logs node ∙ ap (λ (es : List Entry). es ++ filter (is_of_node node) entries) (opening_log core.nodes core.lines core.slots core.limit node) in
-    ap (filter (is_on_line line)) (log ∙ made) ∙ filter-filter (is_on_line line) (is_of_node node) entries
+    ap (filter (is_on_line line)) (log_at core node lt ∙ made) ∙ filter-filter (is_on_line line) (is_of_node node) entries
 
 line_serials : (core : Core) (reached : IsReached core) (line node : ℕ) → node < MAX_NODES → AllPairs (λ x y. x.serial < y.serial) (filter (is_on_line line) (log_of (logs_of core) node))
 line_serials core reached line node lt =
-    let log : log_of (logs_of core) node ≡ (node_at core node).log = get_or-map-range_with_len (λ (n : ℕ). (node_at core n).log) 0 16 node node [] lt (omega arith) in
-    subst (λ (es : List Entry). AllPairs (λ x y. x.serial < y.serial) (filter (is_on_line line) es)) (sym log) (((reached_logged core reached).serials node).rising line)
+    subst (λ (es : List Entry). AllPairs (λ x y. x.serial < y.serial) (filter (is_on_line line) es)) (sym (log_at core node lt)) (((reached_logged core reached).serials node).rising line)
 
 has_history : (core : Core) (reached : IsReached core) (line : ℕ) → HasHistory (logs_of core) line (stamped_at (last_of core) line)
 has_history core reached line =
@@ -153,6 +168,17 @@ has_history core reached line =
 pub reached_lawful : (core : Core) → IsReached core → Lawful (logs_of core) (last_of core)
 reached_lawful core reached line = lawful_line (logs_of core) line (stamped_at (last_of core) line) refl (has_history core reached line)
 
+-- every entry is on one of the machine's lines, and on a word of it
+pub reached_within : (core : Core) → IsReached core → AreWithin core.lines (logs_of core)
+reached_within core reached node =
+    let entries = done core.nodes core.lines core.slots core.limit reached.schedule in
+    let logged = reached_logged core reached in
+    let log : (node_at core node).log ≡ filter (is_of_node node) entries = logged.logs node ∙ ap (λ (es : List Entry). es ++ filter (is_of_node node) entries) (opening_log core.nodes core.lines core.slots core.limit node) in
+    elim (cases_lt node MAX_NODES) [
+      | inl lt ↦ subst (All (IsWithin core.lines)) (sym (log_at core node lt ∙ log)) (All-from_recursion (IsWithin core.lines) (filter (is_of_node node) entries) (all-filter (IsWithin core.lines) (is_of_node node) entries logged.lines))
+      | inr past ↦ subst (All (IsWithin core.lines)) (sym (log_beyond core node past)) (All-from_recursion (IsWithin core.lines) [] tt)
+    ]
+
 -- ---- all of them
 
 pub reached_coherent : (core : Core) → IsReached core → IsCoherent core
@@ -164,6 +190,7 @@ reached_coherent core reached = record {
   shapes = reached_shapes core reached;
   explained = λ line inside. subst (λ (x : Core). IsHistory (filter (is_on_line line) (done core.nodes core.lines core.slots core.limit reached.schedule)) zero_stamped (last_at x line)) reached.leads
       (schedule_history core.nodes core.lines core.slots core.limit reached.schedule line reached.sizes inside);
+  within = reached_within core reached;
   lawful = reached_lawful core reached;
 }
 

@@ -135,18 +135,18 @@ operates_so core n line done does lt well =
 
 -- ---- each way of stepping
 
-pub stepped_follows : (core new : Core) (made : Option Entry) → IsWellFormed core → IsTidy core → Stepped core made new → (line : ℕ) → line < core.lines → (c : Stamped) → ShapedAt core line c → Follows new made line c
-stepped_follows core new made well tidy (By_issue n op next lt is e none) line inside c shaped =
+pub stepped_follows : (core new : Core) (e : Event) (made : Option Entry) → IsWellFormed core → IsTidy core → Stepped core e made new → (line : ℕ) → line < core.lines → (c : Stamped) → ShapedAt core line c → Follows new made line c
+stepped_follows core new e made well tidy (By_issue n op next event lt is then_ none) line inside c shaped =
     let part = node_at core n in
     let stays = of_some (Stays core.nodes part) (node_issuing part op) next is (issue_stays core.nodes part op) in
     let same = changed_same core n next (node_below core n well lt) (of_some (Unmoved part) (node_issuing part op) next is (issue_unmoved part op)) stays.waiting line in
-    subst (λ (x : Core). Follows x made line c) e (same_follows core (with_node core n next) made line c none same shaped)
-stepped_follows core new made well tidy (By_perform n at done lt is e some) line inside c shaped =
+    subst (λ (x : Core). Follows x made line c) then_ (same_follows core (with_node core n next) made line c none same shaped)
+stepped_follows core new e made well tidy (By_perform n at done lt is then_ some) line inside c shaped =
     let part = node_at core n in
     let does = of_some (PerformedAs part at) (node_performing part at) done is (perform_as part at) in
     let follows = performed_follows core n at done does line c lt well tidy (pending_known core n at done does lt well) shaped (operates_so core n at done does lt well) in
-    subst (λ (x : Core). Follows x made line c) e (subst (λ (m : Option Entry). Follows (with_node core n done.0) m line c) (sym some) follows)
-stepped_follows core new made well tidy (By_ask n at kind sent is sends_well s none) line inside c shaped =
+    subst (λ (x : Core). Follows x made line c) then_ (subst (λ (m : Option Entry). Follows (with_node core n done.0) m line c) (sym some) follows)
+stepped_follows core new e made well tidy (By_ask n at kind sent is sends_well s none) line inside c shaped =
     let node = node_at core n in
     let part = well.each_part n s.some in
     let once = of_some (AsksOnce core.nodes at node) (node_asking node at kind) sent is (ask_once core.nodes node at kind part.all (part.asks at)) in
@@ -154,12 +154,12 @@ stepped_follows core new made well tidy (By_ask n at kind sent is sends_well s n
     let known : at < core.lines = subst (λ (k : ℕ). at < k) part.each once.below in
     let same = asked_same core n at (lane_place core.nodes Requests n sent.1.target) sent.0 sent.1 s.some (node_below core n well s.some) s.within sends_well.request.asks sends_well.from known once alike tidy line in
     subst (λ (x : Core). Follows x made line c) s.then_ (same_follows core _ made line c none same shaped)
-stepped_follows core new made well tidy (By_serve t none) line inside c shaped =
+stepped_follows core new e made well tidy (By_serve t none) line inside c shaped =
     let part = node_at core t.node in
     let is = of_some (IsPart core.nodes core.lines core.slots core.limit t.node) (node_serving part t.letter) t.next t.takes (part_serving core.nodes core.lines core.slots core.limit t.node part t.letter t.comes.0 t.comes.1 (well.each_part t.node t.some)) in
     let served = served_shaped core new t line c well tidy shaped is (of_some (ServedAs part t.letter) (node_serving part t.letter) t.next t.takes (serve_as part t.letter)) in
     unchanged new made line c none (subst (λ (x : Core). ShapedAt x line c) t.then_ served)
-stepped_follows core new made well tidy (By_refuse t none) line inside c shaped =
+stepped_follows core new e made well tidy (By_refuse t none) line inside c shaped =
     let part = node_at core t.node in
     let is = of_some (IsPart core.nodes core.lines core.slots core.limit t.node) (node_refusing part t.letter) t.next t.takes (part_refusing core.nodes core.lines core.slots core.limit t.node part t.letter t.comes.0 t.comes.1 (well.each_part t.node t.some)) in
     let answers = of_some (Answers core.nodes t.letter part) (node_refusing part t.letter) t.next t.takes (refuse_answers core.nodes part t.letter) in
@@ -168,7 +168,7 @@ stepped_follows core new made well tidy (By_refuse t none) line inside c shaped 
     let same = refused_same core t.node t.place t.letter t.rest does.other (answered core new node_refusing t (with_answer part t.letter Busy) Busy well answers.free refl next) tidy line in
     let then_ = subst (λ (x : NodeOf). SameLine core (with_lane (with_node core t.node x) t.place t.rest) line) does.then_ same in
     subst (λ (x : Core). Follows x made line c) t.then_ (same_follows core _ made line c none then_ shaped)
-stepped_follows core new made well tidy (By_reply n sent is sends_well s none) line inside c shaped =
+stepped_follows core new e made well tidy (By_reply n sent is sends_well s none) line inside c shaped =
     let part = node_at core n in
     let replies = of_some (Replies core.nodes part) (node_replying part) sent is (reply_replies core.nodes part) in
     let e = of_some (λ (x : NodeOf × Letter). (record part { waiting = None }) ≡ x.0) (node_replying part) sent is (reply_as part) in
@@ -178,7 +178,7 @@ stepped_follows core new made well tidy (By_reply n sent is sends_well s none) l
     let asker : (m k : ℕ) → is_about m k letter ≡ true → m < core.nodes = λ m k about. subst (λ (j : ℕ). j < core.nodes) (sym (answer_asker letter sends_well.answer.answers) ∙ about_asker m k letter about) target in
     let same = replied_same core n (lane_place core.nodes AnswerLane n letter.target) sent.0 letter (node_below core n well s.some) s.within asker replies unmoved tidy line inside in
     subst (λ (x : Core). Follows x made line c) s.then_ (same_follows core _ made line c none same shaped)
-stepped_follows core new made well tidy (By_accept t none) line inside c shaped =
+stepped_follows core new e made well tidy (By_accept t none) line inside c shaped =
     let part = node_at core t.node in
     let known = t.comes.0.letter_ok.about in
     let on_line : t.letter.line < lines_of part = subst (λ (k : ℕ). t.letter.line < k) (sym (well.each_part t.node t.some).each) known in
@@ -189,13 +189,13 @@ stepped_follows core new made well tidy (By_accept t none) line inside c shaped 
 
 -- ---- steps
 
-after_follows : (core : Core) (next : Option Core) (made : Option Entry) → IsWellFormed core → IsTidy core → IfSome next (Stepped core made) → (line : ℕ) → line < core.lines → (c : Stamped) → ShapedAt core line c
+after_follows : (core : Core) (e : Event) (next : Option Core) (made : Option Entry) → IsWellFormed core → IsTidy core → IfSome next (Stepped core e made) → (line : ℕ) → line < core.lines → (c : Stamped) → ShapedAt core line c
     → Follows (unwrap_or next core) (elim next as (λ _. Option Entry) [ None ↦ None | Some new ↦ made ]) line c
-after_follows core None made well tidy stepped line inside c shaped = (c, shaped, refl)
-after_follows core (Some new) made well tidy stepped line inside c shaped = stepped_follows core new made well tidy stepped line inside c shaped
+after_follows core e None made well tidy stepped line inside c shaped = (c, shaped, refl)
+after_follows core e (Some new) made well tidy stepped line inside c shaped = stepped_follows core new e made well tidy stepped line inside c shaped
 
 pub step_follows : (core : Core) (e : Event) → IsWellFormed core → IsTidy core → (line : ℕ) → line < core.lines → (c : Stamped) → ShapedAt core line c → Follows (step core e) (made_by core e) line c
-step_follows core e well tidy line inside c shaped = after_follows core (stepping core e) (performed core e) well tidy (stepping_stepped core e well) line inside c shaped
+step_follows core e well tidy line inside c shaped = after_follows core e (stepping core e) (performed core e) well tidy (stepping_stepped core e well) line inside c shaped
 
 -- ---- the opening
 

@@ -40,31 +40,31 @@ pub record Sent (core new : Core) (kind : LaneKind) (n : ℕ) (sent : NodeOf × 
   pub within : lane_place core.nodes kind n sent.1.target < length core.lanes
   pub then_ : sent_by core n kind sent.0 sent.1 ≡ new
 
--- the step, and the entry that it makes, if any
-pub data Stepped (core : Core) (made : Option Entry) (new : Core) : Type 0 where
-  By_issue : (n : ℕ) (op : Op) (next : NodeOf) → n < core.nodes → node_issuing (node_at core n) op ≡ Some next → with_node core n next ≡ new → made ≡ None → Stepped core made new
-  By_perform : (n line : ℕ) (done : NodeOf × Entry) → n < core.nodes → node_performing (node_at core n) line ≡ Some done → with_node core n done.0 ≡ new → made ≡ Some done.1 → Stepped core made new
-  By_ask : (n line : ℕ) (kind : AskKind) (sent : NodeOf × Letter) → node_asking (node_at core n) line kind ≡ Some sent → SendsWell core.nodes core.lines core.slots core.limit n sent → Sent core new Requests n sent → made ≡ None → Stepped core made new
-  By_serve : Taken core new Requests node_serving → made ≡ None → Stepped core made new
-  By_refuse : Taken core new Requests node_refusing → made ≡ None → Stepped core made new
-  By_reply : (n : ℕ) (sent : NodeOf × Letter) → node_replying (node_at core n) ≡ Some sent → RepliesWell core.nodes core.lines core.slots core.limit n sent → Sent core new Answers n sent → made ≡ None → Stepped core made new
-  By_accept : Taken core new Answers node_accepting → made ≡ None → Stepped core made new
+-- the step of an event, and the entry that it makes, if any
+pub data Stepped (core : Core) (e : Event) (made : Option Entry) (new : Core) : Type 0 where
+  By_issue : (n : ℕ) (op : Op) (next : NodeOf) → e ≡ event.Issue n op → n < core.nodes → node_issuing (node_at core n) op ≡ Some next → with_node core n next ≡ new → made ≡ None → Stepped core e made new
+  By_perform : (n line : ℕ) (done : NodeOf × Entry) → n < core.nodes → node_performing (node_at core n) line ≡ Some done → with_node core n done.0 ≡ new → made ≡ Some done.1 → Stepped core e made new
+  By_ask : (n line : ℕ) (kind : AskKind) (sent : NodeOf × Letter) → node_asking (node_at core n) line kind ≡ Some sent → SendsWell core.nodes core.lines core.slots core.limit n sent → Sent core new Requests n sent → made ≡ None → Stepped core e made new
+  By_serve : Taken core new Requests node_serving → made ≡ None → Stepped core e made new
+  By_refuse : Taken core new Requests node_refusing → made ≡ None → Stepped core e made new
+  By_reply : (n : ℕ) (sent : NodeOf × Letter) → node_replying (node_at core n) ≡ Some sent → RepliesWell core.nodes core.lines core.slots core.limit n sent → Sent core new Answers n sent → made ≡ None → Stepped core e made new
+  By_accept : Taken core new Answers node_accepting → made ≡ None → Stepped core e made new
 
 -- ---- each kind of side
 
 pub lane_below : (core : Core) (kind : LaneKind) (from to : ℕ) → IsWellFormed core → from < core.nodes → to < core.nodes → lane_place core.nodes kind from to < length core.lanes
 lane_below core kind from to well f t = subst (λ (k : ℕ). lane_place core.nodes kind from to < k) (sym well.lanes_long) (place_below core.nodes kind from to f t)
 
-issued : (core : Core) (n : ℕ) (op : Op) (next : Option NodeOf) → n < core.nodes → node_issuing (node_at core n) op ≡ next → IfSome (step_by core n (changes next)) (Stepped core None)
+issued : (core : Core) (n : ℕ) (op : Op) (next : Option NodeOf) → n < core.nodes → node_issuing (node_at core n) op ≡ next → IfSome (step_by core n (changes next)) (Stepped core (event.Issue n op) None)
 issued core n op None lt is = tt
-issued core n op (Some next) lt is = By_issue n op next lt is refl refl
+issued core n op (Some next) lt is = By_issue n op next refl lt is refl refl
 
-perform_steps : (core : Core) (n line : ℕ) (done : Option (NodeOf × Entry)) → n < core.nodes → node_performing (node_at core n) line ≡ done → IfSome (step_by core n (performs done)) (Stepped core (option_map (λ (d : NodeOf × Entry). d.1) done))
+perform_steps : (core : Core) (n line : ℕ) (done : Option (NodeOf × Entry)) → n < core.nodes → node_performing (node_at core n) line ≡ done → IfSome (step_by core n (performs done)) (Stepped core (event.Perform n line) (option_map (λ (d : NodeOf × Entry). d.1) done))
 perform_steps core n line None lt is = tt
 perform_steps core n line (Some done) lt is = By_perform n line done lt is refl refl
 
 asked : (core : Core) (n line : ℕ) (kind : AskKind) (sent : Option (NodeOf × Letter)) → n < core.nodes → IsWellFormed core → IfSome sent (SendsWell core.nodes core.lines core.slots core.limit n) → node_asking (node_at core n) line kind ≡ sent
-    → IfSome (step_by core n (sends Requests sent)) (Stepped core None)
+    → IfSome (step_by core n (sends Requests sent)) (Stepped core (event.Ask n line kind) None)
 asked core n line kind None lt well sends_well is = tt
 asked core n line kind (Some sent) lt well sends_well is = By_ask n line kind sent is sends_well (record {
   some = lt;
@@ -73,7 +73,7 @@ asked core n line kind (Some sent) lt well sends_well is = By_ask n line kind se
 }) refl
 
 replied : (core : Core) (n : ℕ) (sent : Option (NodeOf × Letter)) → n < core.nodes → IsWellFormed core → IfSome sent (RepliesWell core.nodes core.lines core.slots core.limit n) → node_replying (node_at core n) ≡ sent
-    → IfSome (step_by core n (sends Answers sent)) (Stepped core None)
+    → IfSome (step_by core n (sends Answers sent)) (Stepped core (event.Reply n) None)
 replied core n None lt well sends_well is = tt
 replied core n (Some sent) lt well sends_well is = By_reply n sent is sends_well (record {
   some = lt;
@@ -123,16 +123,16 @@ weaken P Q (Some x) f h = f x h
 
 -- ---- each event
 
-side_stepped : (core : Core) (e : Event) → node_of e < core.nodes → IsWellFormed core → IfSome (step_by core (node_of e) (side (node_at core (node_of e)) e)) (Stepped core (performed core e))
+side_stepped : (core : Core) (e : Event) → node_of e < core.nodes → IsWellFormed core → IfSome (step_by core (node_of e) (side (node_at core (node_of e)) e)) (Stepped core e (performed core e))
 side_stepped core (event.Issue n op) lt well = issued core n op (node_issuing (node_at core n) op) lt refl
 side_stepped core (event.Perform n line) lt well = perform_steps core n line (node_performing (node_at core n) line) lt refl
 side_stepped core (event.Ask n line kind) lt well =
     asked core n line kind (node_asking (node_at core n) line kind) lt well (part_asking core.nodes core.lines core.slots core.limit n (node_at core n) line kind well.some_node lt (well.each_part n lt)) refl
-side_stepped core (event.Serve from n) lt well = weaken _ (Stepped core None) (step_by core n (Takes Requests from (node_serving (node_at core n)))) (λ new t. By_serve t refl) (taken core n from Requests node_serving lt well)
-side_stepped core (event.Refuse from n) lt well = weaken _ (Stepped core None) (step_by core n (Takes Requests from (node_refusing (node_at core n)))) (λ new t. By_refuse t refl) (taken core n from Requests node_refusing lt well)
+side_stepped core (event.Serve from n) lt well = weaken _ (Stepped core (event.Serve from n) None) (step_by core n (Takes Requests from (node_serving (node_at core n)))) (λ new t. By_serve t refl) (taken core n from Requests node_serving lt well)
+side_stepped core (event.Refuse from n) lt well = weaken _ (Stepped core (event.Refuse from n) None) (step_by core n (Takes Requests from (node_refusing (node_at core n)))) (λ new t. By_refuse t refl) (taken core n from Requests node_refusing lt well)
 side_stepped core (event.Reply n) lt well = replied core n (node_replying (node_at core n)) lt well (part_replying core.nodes core.lines core.slots core.limit n (node_at core n) (well.each_part n lt)) refl
-side_stepped core (event.Accept from n) lt well = weaken _ (Stepped core None) (step_by core n (Takes Answers from (node_accepting (node_at core n)))) (λ new t. By_accept t refl) (taken core n from Answers node_accepting lt well)
+side_stepped core (event.Accept from n) lt well = weaken _ (Stepped core (event.Accept from n) None) (step_by core n (Takes Answers from (node_accepting (node_at core n)))) (λ new t. By_accept t refl) (taken core n from Answers node_accepting lt well)
 
-pub stepping_stepped : (core : Core) (e : Event) → IsWellFormed core → IfSome (stepping core e) (Stepped core (performed core e))
+pub stepping_stepped : (core : Core) (e : Event) → IsWellFormed core → IfSome (stepping core e) (Stepped core e (performed core e))
 unfolding stepping
-stepping_stepped core e well = if_below (node_of e) core.nodes (Stepped core (performed core e)) (step_by core (node_of e) (side (node_at core (node_of e)) e)) (λ lt. side_stepped core e lt well)
+stepping_stepped core e well = if_below (node_of e) core.nodes (Stepped core e (performed core e)) (step_by core (node_of e) (side (node_at core (node_of e)) e)) (λ lt. side_stepped core e lt well)

@@ -41,31 +41,31 @@ took_tidy : (core new : Core) (taking : NodeOf → Letter → Option NodeOf) (t 
 took_tidy core new taking t well tidy answers is =
     subst IsTidy t.then_ (served_tidy core t.node t.place t.next t.letter t.rest (node_below core t.node well t.some) t.within t.front t.comes.0.asks answers (waiting_answers core.nodes core.lines core.slots core.limit t.node t.next _ answers.waiting is) tidy)
 
-stepped_tidy : (core new : Core) (made : Option Entry) → IsWellFormed core → IsTidy core → Stepped core made new → IsTidy new
-stepped_tidy core new made well tidy (By_issue n op next lt is e none) =
+stepped_tidy : (core new : Core) (e : Event) (made : Option Entry) → IsWellFormed core → IsTidy core → Stepped core e made new → IsTidy new
+stepped_tidy core new e made well tidy (By_issue n op next event lt is then_ none) =
     let part = node_at core n in
-    subst IsTidy e (changed_tidy core n next lt well (of_some (Stays core.nodes part) (node_issuing part op) next is (issue_stays core.nodes part op)) tidy)
-stepped_tidy core new made well tidy (By_perform n line done lt is e some) =
+    subst IsTidy then_ (changed_tidy core n next lt well (of_some (Stays core.nodes part) (node_issuing part op) next is (issue_stays core.nodes part op)) tidy)
+stepped_tidy core new e made well tidy (By_perform n line done lt is then_ some) =
     let part = node_at core n in
-    subst IsTidy e (changed_tidy core n done.0 lt well (of_some (λ (x : NodeOf × Entry). Stays core.nodes part x.0) (node_performing part line) done is (perform_stays core.nodes part line)) tidy)
-stepped_tidy core new made well tidy (By_ask n line kind sent is sends_well s none) =
+    subst IsTidy then_ (changed_tidy core n done.0 lt well (of_some (λ (x : NodeOf × Entry). Stays core.nodes part x.0) (node_performing part line) done is (perform_stays core.nodes part line)) tidy)
+stepped_tidy core new e made well tidy (By_ask n line kind sent is sends_well s none) =
     let node = node_at core n in
     let part = well.each_part n s.some in
     let once = of_some (AsksOnce core.nodes line node) (node_asking node line kind) sent is (ask_once core.nodes node line kind part.all (part.asks line)) in
     subst IsTidy s.then_ (asked_tidy core n line (lane_place core.nodes Requests n sent.1.target) sent.0 sent.1 (node_below core n well s.some) s.within sends_well.request.asks sends_well.from once tidy)
-stepped_tidy core new made well tidy (By_serve t none) =
+stepped_tidy core new e made well tidy (By_serve t none) =
     let part = node_at core t.node in
     took_tidy core new node_serving t well tidy (of_some (Answers core.nodes t.letter part) (node_serving part t.letter) t.next t.takes (serve_answers core.nodes part t.letter))
     (of_some (IsPart core.nodes core.lines core.slots core.limit t.node) (node_serving part t.letter) t.next t.takes (part_serving core.nodes core.lines core.slots core.limit t.node part t.letter t.comes.0 t.comes.1 (well.each_part t.node t.some)))
-stepped_tidy core new made well tidy (By_refuse t none) =
+stepped_tidy core new e made well tidy (By_refuse t none) =
     let part = node_at core t.node in
     took_tidy core new node_refusing t well tidy (of_some (Answers core.nodes t.letter part) (node_refusing part t.letter) t.next t.takes (refuse_answers core.nodes part t.letter))
     (of_some (IsPart core.nodes core.lines core.slots core.limit t.node) (node_refusing part t.letter) t.next t.takes (part_refusing core.nodes core.lines core.slots core.limit t.node part t.letter t.comes.0 t.comes.1 (well.each_part t.node t.some)))
-stepped_tidy core new made well tidy (By_reply n sent is sends_well s none) =
+stepped_tidy core new e made well tidy (By_reply n sent is sends_well s none) =
     let part = node_at core n in
     let replies = of_some (Replies core.nodes part) (node_replying part) sent is (reply_replies core.nodes part) in
     subst IsTidy s.then_ (replied_tidy core n (lane_place core.nodes AnswerLane n sent.1.target) sent.0 sent.1 (node_below core n well s.some) s.within replies tidy)
-stepped_tidy core new made well tidy (By_accept t none) =
+stepped_tidy core new e made well tidy (By_accept t none) =
     let part = node_at core t.node in
     let on_line : t.letter.line < lines_of part = subst (λ (k : ℕ). t.letter.line < k) (sym (well.each_part t.node t.some).each) t.comes.0.letter_ok.about in
     let accepts = of_some (Accepts t.letter.line part) (node_accepting part t.letter) t.next t.takes (accept_accepts part t.letter) in
@@ -73,12 +73,12 @@ stepped_tidy core new made well tidy (By_accept t none) =
 
 -- ---- runs
 
-after_tidy : (core : Core) (made : Option Entry) (next : Option Core) → IsWellFormed core → IsTidy core → IfSome next (Stepped core made) → IsTidy (unwrap_or next core)
-after_tidy core made None well tidy stepped = tidy
-after_tidy core made (Some new) well tidy stepped = stepped_tidy core new made well tidy stepped
+after_tidy : (core : Core) (e : Event) (made : Option Entry) (next : Option Core) → IsWellFormed core → IsTidy core → IfSome next (Stepped core e made) → IsTidy (unwrap_or next core)
+after_tidy core e made None well tidy stepped = tidy
+after_tidy core e made (Some new) well tidy stepped = stepped_tidy core new e made well tidy stepped
 
 pub step_tidy : (core : Core) (e : Event) → IsWellFormed core → IsTidy core → IsTidy (step core e)
-step_tidy core e well tidy = after_tidy core (performed core e) (stepping core e) well tidy (stepping_stepped core e well)
+step_tidy core e well tidy = after_tidy core e (performed core e) (stepping core e) well tidy (stepping_stepped core e well)
 
 pub run_tidy : (core : Core) (events : List Event) → IsWellFormed core → IsTidy core → IsTidy (run_from core events)
 run_tidy core [] well tidy = tidy

@@ -2,6 +2,7 @@
 -- every line.
 use Rattle.std.specs.Prelude.{ℕ, ◌<◌, filter}
 use Rattle.sci_words.specs.Stamped.{zero_stamped}
+use Rattle.sci_history.specs.Audit.{AreWithin}
 use Rattle.sci_history.specs.History.{IsHistory}
 use Rattle.sci_history.specs.Lawful.{Lawful}
 use Rattle.sci_history.specs.Placed.{is_on_line}
@@ -31,5 +32,6 @@ pub record IsCoherent (core : Core) : Type 0 where
   pub shapes : HasShapes core
   -- each operation took effect at its own Perform
   pub explained : (line : ℕ) → line < core.lines → IsExplained core reached line
-  -- and the logs alone show that it did
+  -- and the logs alone show that it did: they are of the machine's lines, and lawful
+  pub within : AreWithin core.lines (logs_of core)
   pub lawful : Lawful (logs_of core) (last_of core)

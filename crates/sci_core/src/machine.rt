@@ -39,6 +39,7 @@ impl Machine {
     ghost use Rattle.sci_core.specs.Stopped.{IsStoppedAt};
     ghost use Rattle.sci_core.specs.Coherent.{IsCoherent};
     ghost use Rattle.sci_core.specs.Done.{LastChanges, made_by};
+    ghost use Rattle.sci_history.specs.Audit.{AreWithin};
     ghost use Rattle.sci_history.specs.Lawful.{Lawful};
     ghost use Rattle.sci_core.specs.Outcome.{logs_of};
     ghost use Rattle.sci_core.specs.Sharing.{last_of};
@@ -115,9 +116,11 @@ impl Machine {
         self.state.count(kind, from, to)
     }
 
-    /// The logs of all nodes; those beyond the machine's are empty. Refused where memory is.
+    /// The logs of all nodes; those beyond the machine's are empty. An audit of them with the last contents finds
+    /// them lawful. Refused where memory is.
     pub fn logs(&self, alloc: Global) -> Result<Logs, AllocError>
         ensures logs { IfOk result (λ logs. logs ≡ logs_of self.now) }
+        ensures within { IfOk result (AreWithin self.now.lines) }
         ensures lawful { IfOk result (λ logs. Lawful logs (last_of self.now)) }
         ensures reached { IsReached self.now }
     {
@@ -132,6 +135,7 @@ impl Machine {
     /// node that may change the line or is about to. The logs are lawful with them.
     pub fn last(&self) -> Last
         ensures last { result ≡ last_of self.now }
+        ensures lines { length result ≡ self.now.lines }
         ensures lawful { Lawful (logs_of self.now) result }
         ensures reached { IsReached self.now }
     {

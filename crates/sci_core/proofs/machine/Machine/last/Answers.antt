@@ -1,6 +1,7 @@
 -- A reached state is well formed, and all lines are read off it.
-use Rattle.std.proofs.Common.{◌≡◌, sym, subst, ◌∙◌, arith}
-use Rattle.std.proofs.lemmas.List.FromFn.{fill_by_all}
+use Rattle.std.proofs.Common.{◌≡◌, List, length, ap, sym, subst, ◌∙◌, arith}
+use Rattle.std.proofs.lemmas.List.FromFn.{fill_by_all, length-map-range_with_len}
+use Rattle.sci_words.specs.declared.stamped.Stamped.{Stamped}
 use Rattle.sci_words.specs.Stamped.{zero_stamped}
 use Rattle.sci_history.specs.Lawful.{Lawful}
 use Rattle.sci_core.specs.Core.{Core}
@@ -25,3 +26,10 @@ returns-clause-lawful c =
     let all = fill_by_all (last_at core) c.loop-line.last core.lines zero_stamped (c.loop-line.invariant.0 ∙ c.lines-lines.ensures.lines) (λ k below. c.loop-line.invariant.1 k (omega arith)) in
     let lawful = subst (Lawful (logs_of core)) (sym all) (reached_lawful core c.self.invariant) in
     subst (λ (k : Core). Lawful (logs_of k) c.loop-line.last) c.self.view_is lawful
+
+pub returns-clause-lines : goal.returns-clause-lines
+returns-clause-lines c =
+    let core = c.self.inside.state in
+    let all = fill_by_all (last_at core) c.loop-line.last core.lines zero_stamped (c.loop-line.invariant.0 ∙ c.lines-lines.ensures.lines) (λ k below. c.loop-line.invariant.1 k (omega arith)) in
+    let long = ap (λ (last : List Stamped). length last) all ∙ length-map-range_with_len (last_at core) 0 core.lines in
+    subst (λ (k : Core). length c.loop-line.last ≡ k.lines) c.self.view_is long
