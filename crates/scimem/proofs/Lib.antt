@@ -6,3 +6,4 @@ pub mod Written
 pub mod Counts
 pub mod Refusals
 pub mod Replays
+pub mod ReplayLogs

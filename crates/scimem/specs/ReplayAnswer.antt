@@ -1,12 +1,14 @@
 -- What `replay` writes for its input.
 use Rattle.std.specs.Prelude.{◌≡◌, ℕ, Bool, List, Option, IfSome}
 use Rattle.sci_words.specs.declared.limits.TheConstants.{MAX_OPERATIONS}
+use Rattle.sci_history.specs.Lawful.{Lawful}
 use Rattle.sci_core.specs.Core.{Core, run}
 use Rattle.sci_core.specs.Outcome.{logs_of}
 use Rattle.sci_core.specs.Sharing.{last_of}
 use Rattle.sci_text.specs.Schedule.{ScheduleValue, IsSchedule, schedule_text}
 use Rattle.sci_text.specs.ScheduleFault.{IsToldOfSchedule}
 use Rattle.sci_text.specs.Log.{log_text}
+use Rattle.sci_text.specs.LogValue.{IsLogs}
 use Rattle.scimem.specs.Refusal.{IsRefusalBy}
 use Rattle.scimem.specs.declared.outcome.Outcome.{Outcome}
 use Rattle.scimem.specs.declared.outcome.Outcome.TheVariants.{Done, Unlawful, Refused}
@@ -19,12 +21,14 @@ replayed s = run s.nodes s.lines s.slots MAX_OPERATIONS s.events
 abbrev pub replay_text : ScheduleValue → List ℕ
 replay_text s = log_text s.nodes (logs_of (replayed s)) (last_of (replayed s))
 
--- the input is the text of a schedule, and the text of where it leads is written
+-- the input is the text of a schedule, and the text of where it leads is written; it says lawful logs, and no others
 pub record IsReplayOf (input text : List ℕ) : Type 0 where
   pub schedule : ScheduleValue
   pub good : IsSchedule schedule
   pub read : input ≡ schedule_text schedule
   pub written : text ≡ replay_text schedule
+  pub says : IsLogs text schedule.nodes (logs_of (replayed schedule)) (last_of (replayed schedule))
+  pub lawful : Lawful (logs_of (replayed schedule)) (last_of (replayed schedule))
 
 -- what is written, and how the command ends, for the bytes of a reader, which has failed or not
 abbrev pub IsReplayAnswer : Option (List ℕ) → Bool → List ℕ → Outcome → Type 0

@@ -1,9 +1,13 @@
-//! A law of decoding, the contract of a function that does nothing.
+//! Laws of the commands, each the contract of a function that does nothing.
 
 ghost use Rattle.std.specs.Prelude.{◌≡◌, ℕ, List};
 ghost use Rattle.scimem.specs.declared.outcome.Outcome.{Outcome};
 ghost use Rattle.scimem.specs.Decoding.{IsDecoded};
+ghost use Rattle.scimem.specs.LogAnswer.{IsAuditOf, verdict_text};
+ghost use Rattle.scimem.specs.ReplayAnswer.{IsReplayOf};
+ghost use Rattle.sci_history.specs.declared.verdict.Verdict.TheVariants as verdicts;
 
+use sci_history::one_partition;
 use sci_packets::laws::{no_proper_prefix, one_packet};
 
 /// Bytes have one text, and one end of the command: no run of packets is refused, and what is no run is never
@@ -13,4 +17,11 @@ pub fn one_decoding()
 {
     no_proper_prefix();
     one_packet();
+}
+
+/// What `replay` writes for any schedule an audit finds lawful.
+pub fn replays_are_lawful()
+    ensures { (input text said : List ℕ) (outcome : Outcome) → IsReplayOf input text → IsAuditOf text said outcome → (said ≡ verdict_text verdicts.Lawful) × (outcome ≡ Outcome.Done) }
+{
+    one_partition();
 }
