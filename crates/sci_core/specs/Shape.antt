@@ -48,13 +48,14 @@ pub record IsSplit (core : Core) (line : ℕ) (nodes before : List ℕ) (a : ℕ
 
 -- ---- the clauses, beside that of the list itself
 
--- a line that its home has alone has no authority, and any other has exactly one
+-- one node of the machine is the authority, and no other is
 pub record HasOneAuthority (core : Core) (line : ℕ) : Type 0 where
   pub node : ℕ
   pub some : node < core.nodes
   pub authority : IsAuthority core line node
   pub only : (n : ℕ) → IsAuthority core line n → n ≡ node
 
+-- a line that its home has alone has no authority, and any other has exactly one
 abbrev pub HasAuthorities : Core → ℕ → HomeState → Type 0
 HasAuthorities core line (at.Home c) = (n : ℕ) → IsAuthority core line n → ⊥
 HasAuthorities core line (at.Fresh p c) = HasOneAuthority core line
@@ -75,12 +76,12 @@ pub record HaveContents (core : Core) (line : ℕ) (nodes : List ℕ) (c : Stamp
   pub joining : (n p : ℕ) (sent : Bool) (d : Stamped) → state_at core line n ≡ FreshJoining p sent d → d ≡ c
   pub back : (n : ℕ) → n < core.nodes → AllByRecursion (λ letter. (d : Stamped) → letter.body ≡ Wback d → d ≡ c) (packets_of core n line)
 
--- where the home is fresh, and below any fresh member that stands before the authority, every member down to the
--- authority is fresh
 abbrev pub is_home_fresh : HomeState → Bool
 is_home_fresh (at.Fresh p c) = true
 is_home_fresh _ = false
 
+-- where the home is fresh, and below any fresh member that stands before the authority, every member down to the
+-- authority is fresh
 pub record IsFreshDown (core : Core) (line : ℕ) (nodes : List ℕ) : Type 0 where
   pub home : (before after : List ℕ) (a : ℕ) → IsSplit core line nodes before a after → is_home_fresh (home_at core line) ≡ true → AreFresh core line (before ++ a ∷ [])
   pub below : (before middle after : List ℕ) (m a : ℕ) → IsSplit core line nodes (before ++ m ∷ middle) a after → is_fresh_at core line m ≡ true → AreFresh core line (middle ++ a ∷ [])
