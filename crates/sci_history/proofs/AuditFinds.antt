@@ -1,32 +1,36 @@
 -- What a loop over a line's entries has found so far.
-use Rattle.std.proofs.Common.{◌≡◌, ℕ, ◌+◌, ◌<◌, ◌≤◌, Bool, true, false, cond, List, [], ◌∷◌, ◌++◌, length, get_or, take, drop, Some, None, refl, sym, ap, ◌∙◌, subst, add-one}
-use Rattle.std.proofs.lemmas.List.{take_more, drop_all, length-map, get_or-map}
+use Rattle.std.proofs.Common.{◌≡◌, ℕ, ◌+◌, ◌<◌, ◌≤◌, Bool, true, false, cond, List, [], ◌∷◌, ◌++◌, length, get_or, take, drop, Some, None, refl, sym, ap, ◌∙◌, subst, add-one, ◌-◌, set, arith, inl, inr}
+use Rattle.std.proofs.lemmas.List.{take_more, drop_all, length-map, get_or-map, get_or_default, get_or-set_same, get_or-set_other}
 use Rattle.std.proofs.Math.Seq.{drop-cons}
 use denote.Ref.{Bor}
-use Rattle.std.specs.Prelude.{All}
+use Rattle.std.specs.Prelude.{All, IsTrue}
 use Rattle.std.specs.List.{filter, list_any}
 use Rattle.std.proofs.Common.{◌||◌}
-use Rattle.std.proofs.lemmas.Bool.{eq-eqb, ne_eqb}
+use Rattle.std.proofs.lemmas.Bool.{cases_eq, eq-eqb, ne_eqb}
 use Rattle.std.proofs.lemmas.List.{append-nil}
 use Rattle.std.proofs.lemmas.List.Folds.{list_any-append}
-use Rattle.std.proofs.lemmas.List.Elements.{filter-append}
+use Rattle.std.proofs.lemmas.List.Elements.{filter-append, All-from_recursion}
 use Rattle.sci_words.specs.Stamped.{line_after}
-use Rattle.sci_history.specs.Placed.{makes, is_of_node}
+use Rattle.sci_history.specs.Placed.{is_making, makes, is_of_node}
 use Rattle.sci_history.specs.Audit.{last_of, words_after}
 use Rattle.sci_history.proofs.Order.{filter_yes, filter_no}
 use Rattle.sci_history.proofs.AuditOrders.{last_of-push}
+use Rattle.sci_history.proofs.AuditVersions.{none_fail, versions_within}
 use Rattle.sci_history.proofs.AuditRuns.{words_after-push}
 use Rattle.sci_words.specs.declared.operation.Act.TheVariants.{Load}
 use Rattle.sci_words.specs.declared.operation.Reply.TheVariants.{Stored}
 use Rattle.sci_history.specs.declared.entry.Entry.{Entry}
-use Rattle.sci_history.specs.Audit.{entries_of, first_failing}
+use Rattle.sci_history.specs.Audit.{entries_of, first_failing, is_version_missing}
 
 abbrev pub no_entry : Entry
 no_entry = record { node = 0; serial = 0; op = record { line = 0; word = 0; act = Load }; reply = Stored; version = 0 }
 
+abbrev pub no_ref : Bor Entry
+no_ref = record { ref_ptr = (0, 0); now = no_entry }
+
 -- what a reference of a list points to, as the code reads it
 abbrev pub entry_at : List (Bor Entry) → ℕ → Entry
-entry_at refs n = (get_or refs n (record { ref_ptr = (0, 0); now = no_entry })).now
+entry_at refs n = (get_or refs n no_ref).now
 
 -- the first that fails isn't among the first n
 pub record FailsLater (fails : List Entry → Entry → Bool) (refs : List (Bor Entry)) (n : ℕ) : Type 0 where
@@ -40,7 +44,7 @@ next_or : (fails : List Entry → Entry → Bool) (entries : List Entry) (n : �
 next_or fails entries n d lt = ap (first_failing fails (take n entries)) (drop-cons entries n d lt) ∙ rw (take_more entries n d lt, add-one) refl
 
 pub entries_at : (refs : List (Bor Entry)) (n : ℕ) → n < length refs → get_or (entries_of refs) n no_entry ≡ entry_at refs n
-entries_at refs n lt = get_or-map (λ ref. ref.now) refs n (record { ref_ptr = (0, 0); now = no_entry }) no_entry lt
+entries_at refs n lt = get_or-map (λ ref. ref.now) refs n no_ref no_entry lt
 
 next_of : (fails : List Entry → Entry → Bool) (refs : List (Bor Entry)) (n : ℕ) → n < length refs →
     first_failing fails (take n (entries_of refs)) (drop n (entries_of refs)) ≡ cond (fails (take n (entries_of refs)) (entry_at refs n)) (Some (entry_at refs n)) (first_failing fails (take (n + 1) (entries_of refs)) (drop (n + 1) (entries_of refs)))
@@ -77,6 +81,57 @@ or_false false = refl
 
 pub made_more : (refs : List (Bor Entry)) (n version : ℕ) → n < length refs → list_any (makes version) (take (n + 1) (entries_of refs)) ≡ (list_any (makes version) (take n (entries_of refs)) || makes version (entry_at refs n))
 made_more refs n version lt = rw (take_entries_more refs n lt) (list_any-append (makes version) (take n (entries_of refs)) (entry_at refs n ∷ []) ∙ ap (λ (b : Bool). list_any (makes version) (take n (entries_of refs)) || b) (or_false (makes version (entry_at refs n))))
+
+-- the makers' versions among the first n are the marked ones, each with its mark one place below
+abbrev pub HasMarked : List Bool → List (Bor Entry) → ℕ → ℕ → Type 0
+HasMarked marks refs n makers = (below : ℕ) → below < makers → get_or marks below false ≡ list_any (makes (below + 1)) (take n (entries_of refs))
+
+or_true : (b : Bool) → (b || true) ≡ true
+or_true true = refl
+or_true false = refl
+
+marked_same : (marks : List Bool) (refs : List (Bor Entry)) (n below : ℕ) → n < length refs → makes (below + 1) (entry_at refs n) ≡ false → get_or marks below false ≡ list_any (makes (below + 1)) (take n (entries_of refs)) → get_or marks below false ≡ list_any (makes (below + 1)) (take (n + 1) (entries_of refs))
+marked_same marks refs n below lt other h =
+    h ∙ sym (made_more refs n (below + 1) lt ∙ rw other (or_false (list_any (makes (below + 1)) (take n (entries_of refs)))))
+
+-- a load leaves the marks
+pub marked_load : (marks : List Bool) (refs : List (Bor Entry)) (n makers : ℕ) → n < length refs → is_making (entry_at refs n) ≡ false → HasMarked marks refs n makers → HasMarked marks refs (n + 1) makers
+marked_load marks refs n makers lt load h = λ below low. marked_same marks refs n below lt (rw load refl) (h below low)
+
+-- a maker sets its own
+pub marked_maker : (marks : List Bool) (refs : List (Bor Entry)) (n makers : ℕ) → n < length refs → is_making (entry_at refs n) ≡ true → length marks ≡ makers → (1 ≤ (entry_at refs n).version) × ((entry_at refs n).version ≤ makers) → HasMarked marks refs n makers → HasMarked (set marks ((entry_at refs n).version - 1) true) refs (n + 1) makers
+marked_maker marks refs n makers lt maker long within h = λ below low.
+    let version = (entry_at refs n).version in
+    let least = within.0 in
+    let most = within.1 in
+    elim (cases_eq version (below + 1)) [
+      | inl own ↦
+          let at : version - 1 ≡ below = omega arith in
+          let makes_it : makes (below + 1) (entry_at refs n) ≡ true = rw (maker, eq-eqb version (below + 1) own) refl in
+          ap (λ (k : ℕ). get_or (set marks k true) below false) at
+          ∙ get_or-set_same marks below true false (omega arith)
+          ∙ sym (made_more refs n (below + 1) lt ∙ rw makes_it (or_true (list_any (makes (below + 1)) (take n (entries_of refs)))))
+      | inr other ↦
+          let makes_not : makes (below + 1) (entry_at refs n) ≡ false = rw (maker, ne_eqb version (below + 1) other) refl in
+          get_or-set_other marks (version - 1) below true false (λ is. absurd (omega arith))
+          ∙ marked_same marks refs n below lt makes_not (h below low)
+    ]
+
+-- what is marked for a version, as the code reads it
+pub mark_is : (marks : List Bool) (refs : List (Bor Entry)) (n makers version : ℕ) → length marks ≡ makers → (1 ≤ version) × (version ≤ makers) → HasMarked marks refs n makers → (d : Bool) → get_or marks (version - 1) d ≡ list_any (makes version) (take n (entries_of refs))
+mark_is marks refs n makers version long within h d =
+    let least = within.0 in
+    let most = within.1 in
+    let next : version - 1 + 1 ≡ version = omega arith in
+    get_or_default marks (version - 1) d false (omega arith) ∙ h (version - 1) (omega arith) ∙ ap (λ (v : ℕ). list_any (makes v) (take n (entries_of refs))) next
+
+-- where no version is missing, a maker's is from 1 to the number of makers
+pub maker_within : (refs : List (Bor Entry)) (n makers : ℕ) → n < length refs → first_failing (is_version_missing makers) [] (entries_of refs) ≡ None → is_making (entry_at refs n) ≡ true → (1 ≤ (entry_at refs n).version) × ((entry_at refs n).version ≤ makers)
+maker_within refs n makers lt none maker =
+    let within = versions_within makers [] (entries_of refs) (none_fail (is_version_missing makers) [] (entries_of refs) none) in (
+      all_at (λ e. IsTrue (is_making e) → 1 ≤ e.version) refs n lt (All-from_recursion (λ e. IsTrue (is_making e) → 1 ≤ e.version) (entries_of refs) within.1) maker,
+      all_at (λ e. e.version ≤ makers) refs n lt (All-from_recursion (λ e. e.version ≤ makers) (entries_of refs) within.0),
+    )
 
 -- ---- words
 

@@ -15,6 +15,7 @@ pub mod Audits
 pub mod PlacedOrder
 pub mod AuditFinds
 pub mod Sorting
+pub mod ReadOrder
 pub mod PlacedSort
 pub mod AuditLines
 pub mod ByLine

@@ -103,18 +103,22 @@ after_place : (bound : ℕ) (xs ys : List (Bor Entry)) → HasKeysBelow place bo
 after_place bound xs ys below h =
     keyed (λ x y. is_lt (ordering_then (nat_cmp x.now.version y.now.version) (bool_cmp (not (is_making x.now)) (not (is_making y.now))))) place at_place (λ x y. compares_both x.now.version y.now.version (is_making x.now) (is_making y.now)) at_place_is bound xs ys h.sorted h.stable h.moved below
 
-pub sorted_placed : (xs a b c : List (Bor Entry)) → All (λ e. e.node < MAX_NODES) (entries_of xs) → All (λ e. e.version ≤ maker_count (entries_of xs)) (entries_of xs)
-    → Sorts (λ x y. is_lt (nat_cmp x.now.serial y.now.serial)) xs a → Sorts (λ x y. is_lt (nat_cmp x.now.node y.now.node)) a b → Sorts (λ x y. is_lt (ordering_then (nat_cmp x.now.version y.now.version) (bool_cmp (not (is_making x.now)) (not (is_making y.now))))) b c
-    → entries_of c ≡ placed_entries (entries_of xs)
-sorted_placed xs a b c nodes versions serials by_nodes places =
+pub sorted_by_node : (xs a b : List (Bor Entry)) → All (λ e. e.node < MAX_NODES) (entries_of xs)
+    → Sorts (λ x y. is_lt (nat_cmp x.now.serial y.now.serial)) xs a → Sorts (λ x y. is_lt (nat_cmp x.now.node y.now.node)) a b
+    → entries_of b ≡ by_node_and_serial (entries_of xs)
+sorted_by_node xs a b nodes serials by_nodes =
     let entries = entries_of xs in
-    let count = maker_count entries in
     let serial_is = after_serial xs a serials in
     let in_nodes = recursion_from_All (λ e. e.node < MAX_NODES) entries nodes in
-    let in_count = recursion_from_All (λ e. e.version ≤ count) entries versions in
-    let node_is : entries_of b ≡ by_node_and_serial entries =
     after_node a b (subst (HasKeysBelow (λ e. e.node) MAX_NODES) (sym serial_is) (all-in_order (λ e. e.node < MAX_NODES) (λ e. e.serial) (above_serials entries) entries in_nodes)) by_nodes
-    ∙ ap (in_order (λ e. e.node) MAX_NODES) serial_is in
+    ∙ ap (in_order (λ e. e.node) MAX_NODES) serial_is
+
+pub sorted_placed : (entries : List Entry) (b c : List (Bor Entry)) → All (λ e. e.version ≤ maker_count entries) entries → entries_of b ≡ by_node_and_serial entries
+    → Sorts (λ x y. is_lt (ordering_then (nat_cmp x.now.version y.now.version) (bool_cmp (not (is_making x.now)) (not (is_making y.now))))) b c
+    → entries_of c ≡ placed_entries entries
+sorted_placed entries b c versions node_is places =
+    let count = maker_count entries in
+    let in_count = recursion_from_All (λ e. e.version ≤ count) entries versions in
     let below : HasKeysBelow place (suc count + suc count) (by_node_and_serial entries) =
     all-by_node_and_serial (λ e. place e < suc count + suc count) entries (all_weaker (λ e. e.version ≤ count) (λ e. place e < suc count + suc count) (λ e le. place-below e count le) entries in_count) in
     after_place (suc count + suc count) b c (subst (HasKeysBelow place (suc count + suc count)) (sym node_is) below) places

@@ -1,10 +1,10 @@
 //! The faults of one line: the first entry at which each kind fails.
 
-ghost use Rattle.std.specs.Prelude.{◌≡◌, ◌≤◌, ◌<◌, [], None, Some, length, not, All, IfOk, IfErr};
+ghost use Rattle.std.specs.Prelude.{◌≡◌, ◌≤◌, ◌<◌, [], true, None, Some, length, not, All, IfOk, IfErr};
 ghost use Rattle.std.specs.Option.{option_copied};
 ghost use Rattle.sci_words.specs.declared.limits.TheConstants.{MAX_NODES, WORDS_PER_LINE};
-ghost use Rattle.sci_history.specs.Audit.{IsFound, breaks_order as breaks_order_of, entries_of, first_disordered, first_failing, first_twice, first_wrong, is_placed_before, is_reply_wrong, is_version_missing, same_reply, words_after};
-ghost use Rattle.sci_history.specs.Placed.{maker_count, placed_entries};
+ghost use Rattle.sci_history.specs.Audit.{IsFound, breaks_order as breaks_order_of, entries_of, first_disordered, first_failing, first_twice, first_wrong, is_placed_before, is_read_before as is_read_before_of, is_reply_wrong, is_version_missing, same_reply, words_after};
+ghost use Rattle.sci_history.specs.Placed.{by_node_and_serial as by_node_and_serial_of, maker_count, placed_entries};
 
 use crate::entry::Entry;
 use crate::verdict::FaultKind;
@@ -22,14 +22,39 @@ pub struct LineFault {
     pub at: Option<(u8, u32)>,
 }
 
-/// The first maker whose version an earlier maker has.
-fn version_twice<'a>(alloc: Global, entries: &[&'a Entry]) -> Result<Option<&'a Entry>, AllocError>
+/// The first maker whose version an earlier maker has, by a set of the versions.
+fn collected_twice<'a>(
+    alloc: Global,
+    entries: &[&'a Entry],
+) -> Result<Option<&'a Entry>, AllocError>
     ensures { IfOk result (λ found. option_copied found ≡ first_twice (entries_of entries.now)) }
 {
     let mut made = BTreeSet::new(alloc);
     for entry in entries {
         if entry.op.is_maker() && !made.insert(entry.version)? {
             return Ok(Some(*entry));
+        }
+    }
+    Ok(None)
+}
+
+/// The first maker whose version an earlier maker has, by a mark for each version from 1 to the number of makers.
+fn marked_twice<'a>(
+    alloc: Global,
+    entries: &[&'a Entry],
+    makers: u64,
+) -> Result<Option<&'a Entry>, AllocError>
+    requires { first_failing (is_version_missing makers) [] (entries_of entries.now) ≡ None }
+    ensures { IfOk result (λ found. option_copied found ≡ first_twice (entries_of entries.now)) }
+{
+    let mut marks = Vec::from_elem(alloc, false, makers as usize)?;
+    for entry in entries {
+        if entry.op.is_maker() {
+            let mark = entry.version as usize - 1;
+            if marks[mark] {
+                return Ok(Some(*entry));
+            }
+            marks[mark] = true;
         }
     }
     Ok(None)
@@ -54,16 +79,45 @@ fn version_missing<'a>(entries: &[&'a Entry], makers: u64) -> Option<&'a Entry>
     None
 }
 
+/// Whether the first of two entries stands before the second, or with it, by node and serial.
+fn is_read_before(first: &Entry, second: &Entry) -> bool
+    ensures { result ≡ is_read_before_of first.now second.now }
+{
+    first.node < second.node || (first.node == second.node && first.serial <= second.serial)
+}
+
+/// Whether the entries stand by node and serial already.
+fn are_read_in_order(entries: &[&Entry]) -> bool
+    requires { All (λ entry. entry.node < MAX_NODES) (entries_of entries.now) }
+    ensures { result ≡ true → by_node_and_serial_of (entries_of entries.now) ≡ entries_of entries.now }
+{
+    entries.is_sorted_by(|first, second| is_read_before(first, second))
+}
+
+/// The entries by node, then by serial, then as they stand.
+fn by_node_and_serial<'a>(
+    alloc: Global,
+    entries: &[&'a Entry],
+) -> Result<Vec<&'a Entry>, AllocError>
+    requires { All (λ entry. entry.node < MAX_NODES) (entries_of entries.now) }
+    ensures { IfOk result (λ read. entries_of read.items ≡ by_node_and_serial_of (entries_of entries.now)) }
+{
+    let mut read = Vec::from_slice(alloc, entries)?;
+    if !are_read_in_order(entries) {
+        read.sort_by_key(|entry| entry.serial)?;
+        read.sort_by_key(|entry| entry.node)?;
+    }
+    Ok(read)
+}
+
 /// The entries in placed order.
 fn placed<'a>(alloc: Global, entries: &[&'a Entry]) -> Result<Vec<&'a Entry>, AllocError>
     requires nodes { All (λ entry. entry.node < MAX_NODES) (entries_of entries.now) }
     requires versions { All (λ entry. entry.version ≤ maker_count (entries_of entries.now)) (entries_of entries.now) }
     ensures { IfOk result (λ placed. entries_of placed.items ≡ placed_entries (entries_of entries.now)) }
 {
-    let mut placed = Vec::from_slice(alloc, entries)?;
-    placed.sort_by_key(|entry| entry.serial)?;
-    placed.sort_by_key(|entry| entry.node)?;
-    placed.sort_by_key(|entry| (entry.version, !entry.op.is_maker()))?;
+    let mut placed = by_node_and_serial(alloc, entries)?;
+    placed.sort_by_cached_key(|entry| (entry.version, !entry.op.is_maker()))?;
     Ok(placed)
 }
 
@@ -152,11 +206,16 @@ pub fn line_fault(
     requires words { All (λ entry. entry.op.word < WORDS_PER_LINE) (entries_of entries.now) }
     ensures { IfOk result (IsFound (entries_of entries.now) last) }
 {
-    if let Some(entry) = version_twice(alloc, entries)? {
+    let makers = makers(entries);
+    let missing = version_missing(entries, makers);
+    let twice = match missing {
+        None => marked_twice(alloc, entries, makers)?,
+        Some(_) => collected_twice(alloc, entries)?,
+    };
+    if let Some(entry) = twice {
         return Ok(fault_at(FaultKind::VersionTwice, entry));
     }
-    let makers = makers(entries);
-    if let Some(entry) = version_missing(entries, makers) {
+    if let Some(entry) = missing {
         return Ok(fault_at(FaultKind::VersionMissing, entry));
     }
     let placed = placed(alloc, entries)?;

@@ -6,7 +6,7 @@ use Rattle.sci_history.proofs.faults.line_fault.Goals as goal
 
 pub placed-requires-clause-versions : goal.placed-requires-clause-versions
 placed-requires-clause-versions c = versions_low (entries_of c.args.entries.now)
-    (c.in_default-version_missing.ensures ∙ ap (λ (n : ℕ). first_failing (is_version_missing n) [] (entries_of c.args.entries.now)) c.makers-makers.ensures)
+    (c.in_default-missing.ensures ∙ ap (λ (n : ℕ). first_failing (is_version_missing n) [] (entries_of c.args.entries.now)) c.makers-makers.ensures)
 
 pub replayed-requires : goal.replayed-requires
 replayed-requires c =

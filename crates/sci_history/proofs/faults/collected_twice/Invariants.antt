@@ -5,7 +5,7 @@ use Rattle.std.specs.List.{list_any}
 use Rattle.sci_history.specs.Placed.{makes}
 use Rattle.sci_history.specs.Audit.{entries_of, is_version_twice}
 use Rattle.sci_history.proofs.AuditFinds.{FailsLater}
-use Rattle.sci_history.proofs.faults.version_twice.Given as goal
+use Rattle.sci_history.proofs.faults.collected_twice.Given as goal
 
 -- the set has the versions of the makers so far, and each came once
 abbrev pub invariant-loop-entry : goal.invariant-loop-entry
