@@ -8,11 +8,14 @@ ghost use Rattle.sci_history.specs.Placed.{by_node_and_serial as by_node_and_ser
 
 use crate::entry::Entry;
 use crate::verdict::FaultKind;
-use sci_words::{Line, MAX_NODES, Reply, Stamped, effect};
+use sci_words::{Line, MAX_NODES, MAX_OPERATIONS, Reply, Stamped, effect};
 use std::alloc::{AllocError, Global};
 use std::collections::BTreeSet;
 
 const NODES: usize = MAX_NODES as usize;
+
+/// A line's entries are copied where they are at most as many as one log can have.
+const FEW: usize = MAX_OPERATIONS as usize;
 
 /// A fault of one line.
 #[derive(Clone, Copy)]
@@ -197,7 +200,7 @@ fn fault_at(kind: FaultKind, entry: &Entry) -> Option<LineFault>
 }
 
 /// The fault that comes first among the entries on a line, in reading order, against its last contents.
-pub fn line_fault(
+fn fault_among(
     alloc: Global,
     entries: &[&Entry],
     last: Stamped,
@@ -233,4 +236,37 @@ pub fn line_fault(
         kind: FaultKind::LastDiffers,
         at: None,
     }))
+}
+
+/// The entries that references point to, next to one another.
+fn gathered(alloc: Global, entries: &[&Entry]) -> Result<Vec<Entry>, AllocError>
+    ensures { IfOk result (λ near. near.items ≡ entries_of entries.now) }
+{
+    entries.iter().map(|entry| **entry).collect(alloc)
+}
+
+/// A reference to each of the entries.
+fn referred(alloc: Global, entries: &[Entry]) -> Result<Vec<&Entry>, AllocError>
+    ensures { IfOk result (λ refs. entries_of refs.items ≡ entries.now) }
+{
+    entries.iter().collect(alloc)
+}
+
+/// The fault that comes first among the entries on a line, in reading order, against its last contents. The few
+/// entries of one line among many stand far apart in the logs, so it looks at a copy of them.
+pub fn line_fault(
+    alloc: Global,
+    entries: &[&Entry],
+    last: Stamped,
+) -> Result<Option<LineFault>, AllocError>
+    requires nodes { All (λ entry. entry.node < MAX_NODES) (entries_of entries.now) }
+    requires words { All (λ entry. entry.op.word < WORDS_PER_LINE) (entries_of entries.now) }
+    ensures { IfOk result (IsFound (entries_of entries.now) last) }
+{
+    if entries.len() > FEW {
+        return fault_among(alloc, entries, last);
+    }
+    let near = gathered(alloc, entries)?;
+    let near = referred(alloc, &near)?;
+    fault_among(alloc, &near, last)
 }

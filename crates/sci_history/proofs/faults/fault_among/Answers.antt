@@ -2,7 +2,7 @@ use Rattle.std.proofs.Common.{ℕ, [], ap, ◌∙◌, ◌<◌}
 use Rattle.sci_words.specs.declared.limits.TheConstants.{WORDS_PER_LINE}
 use Rattle.sci_history.specs.Audit.{entries_of, first_failing, is_version_missing}
 use Rattle.sci_history.proofs.AuditLines.{versions_low, all_placed}
-use Rattle.sci_history.proofs.faults.line_fault.Goals as goal
+use Rattle.sci_history.proofs.faults.fault_among.Goals as goal
 
 pub placed-requires-clause-versions : goal.placed-requires-clause-versions
 placed-requires-clause-versions c = versions_low (entries_of c.args.entries.now)
