@@ -14,7 +14,7 @@ use Rattle.sci_cache.specs.Serving.{serving, is_next, serving_cread, serving_pur
 use Rattle.sci_cache.specs.Member.{link_of}
 use Rattle.sci_cache.specs.Cache.{Letter}
 use Rattle.sci_core.specs.Fresh.{is_fresh}
-use Rattle.sci_core.specs.SharingList.{IsIn}
+use Rattle.sci_history.specs.Seen.{IsAmong}
 use Rattle.sci_core.specs.Tidy.{IsSentIn, IsAccepted}
 use Rattle.sci_core.proofs.Chains.{TakenOut, without, not_in_without, chain_same, chain_taken_out, next_is_member}
 use Rattle.sci_core.proofs.Heads.{if_head, next_either}
@@ -436,7 +436,7 @@ purged_shaped old new a q served home c shift purges (ns, is) =
       fresh = see.asker_is is_fresh ∙ (purges.stood.fresh ∙ sym (see.asker_was is_fresh));
       agrees = λ d h. asker_agrees old new a q served d shift apart (purges.stood.agrees d (asker_agreed old a d shift.unanswered h));
     } in
-    let stand : (n : ℕ) → IsIn n (without q ns) → Stands old new n = λ n h. elim (cases_eq n a) [
+    let stand : (n : ℕ) → IsAmong n (without q ns) → Stands old new n = λ n h. elim (cases_eq n a) [
       | inl e ↦ subst (Stands old new) (sym e) asker
       | inr other ↦ alike_stands old new n (other_alike old new a q served.0 served.1 shift n other (not_in_without q n ns h))
     ] in (
@@ -470,7 +470,7 @@ rolled_shaped old new a q served home c shift rolls (ns, is) =
       fresh = see.server_is is_fresh ∙ (ap (is_fresh served.0) none ∙ (rolls.stood.fresh ∙ ap (is_fresh (old.state q)) (sym none)));
       agrees = λ d h. server_agrees old new a q served d shift apart (subst (Agrees d served.0) (sym none) (rolls.stood.agrees d (subst (Agrees d (old.state q)) none h)));
     } in
-    let stand : (n : ℕ) → IsIn n (without a ns) → Stands old new n = λ n h. elim (cases_eq n q) [
+    let stand : (n : ℕ) → IsAmong n (without a ns) → Stands old new n = λ n h. elim (cases_eq n q) [
       | inl e ↦ subst (Stands old new) (sym e) server
       | inr other ↦ alike_stands old new n (other_alike old new a q served.0 served.1 shift n (not_in_without a n ns h) other)
     ] in (

@@ -1,6 +1,7 @@
 -- The entries of a schedule on a line are the line's history, and the nodes' logs are theirs.
 use Rattle.std.proofs.Common.{◌≡◌, ℕ, ◌<◌, List, [], ◌∷◌, ◌++◌, length, filter, append_assoc, Option, Some, None, refl, sym, ap, subst, ◌∙◌, inl, inr}
 use Rattle.std.specs.Prelude.{IfSome, unwrap_or, option_to_list}
+use Rattle.std.proofs.lemmas.Option.{IfSome_then}
 use Rattle.std.specs.List.{AllByRecursion}
 use Rattle.std.proofs.lemmas.Bool.{cases_eq, eq-eqb, ne_eqb}
 use Rattle.std.proofs.lemmas.List.{append-nil, get_or-set_same, get_or-set_other}
@@ -18,7 +19,8 @@ use Rattle.sci_core.specs.Core.{Core, node_at, with_node, stepping, step, run_fr
 use Rattle.sci_core.specs.Done.{performed, ChangesBy, made_by, done_from}
 use Rattle.sci_core.specs.Tidy.{IsTidy}
 use Rattle.sci_core.specs.WellFormed.{IsWellFormed}
-use Rattle.sci_core.proofs.Lists.{of_some, at_place_set}
+use Rattle.sci_core.proofs.Lists.{at_place_set}
+use Rattle.sci_core.proofs.Options.{of_some}
 use Rattle.sci_core.proofs.WellFormedSteps.{step_well}
 use Rattle.sci_core.proofs.TidyRuns.{node_below, step_tidy}
 use Rattle.sci_core.proofs.Steps.{Stepped, By_issue, By_perform, By_ask, By_serve, By_refuse, By_reply, By_accept, stepping_stepped}
@@ -150,10 +152,6 @@ one_within : (made : Option Entry) (P : Entry → Type 0) (rest : List Entry) �
 one_within None P rest h all = all
 one_within (Some entry) P rest h all = (h, all)
 
-if_some : (made : Option Entry) (P Q : Entry → Type 0) → ((entry : Entry) → P entry → Q entry) → IfSome made P → IfSome made Q
-if_some None P Q f h = tt
-if_some (Some entry) P Q f h = f entry h
-
 pub run_logged : (core : Core) (events : List Event) → IsWellFormed core → ((n : ℕ) → HasSerials (node_at core n)) → RunLogged core (done_from core events) (run_from core events)
 run_logged core [] well serials = record { serials = serials; logs = λ n. sym (append-nil (node_at core n).log); nodes = tt; lines = tt }
 run_logged core (e ∷ events) well serials =
@@ -166,6 +164,6 @@ run_logged core (e ∷ events) well serials =
     record {
       serials = rest.serials;
       logs = λ n. rest.logs n ∙ (ap (λ (log : List Entry). log ++ filter (is_of_node n) more) (one.logs n) ∙ (append_assoc (node_at core n).log (filter (is_of_node n) (option_to_list made)) (filter (is_of_node n) more) ∙ ap (λ (es : List Entry). (node_at core n).log ++ es) (sym (filter-append (is_of_node n) (option_to_list made) more))));
-      nodes = one_within made (λ entry. entry.node < core.nodes) more (if_some made Both (λ entry. entry.node < core.nodes) (λ entry h. h.0) one.within) (subst (λ (k : ℕ). AllByRecursion (λ (entry : Entry). entry.node < k) more) next.same.nodes rest.nodes);
-      lines = one_within made (IsWithin core.lines) more (if_some made Both (IsWithin core.lines) (λ entry h. h.1) one.within) (subst (λ (k : ℕ). AllByRecursion (IsWithin k) more) next.same.lines rest.lines);
+      nodes = one_within made (λ entry. entry.node < core.nodes) more (IfSome_then made one.within (λ entry h. h.0)) (subst (λ (k : ℕ). AllByRecursion (λ (entry : Entry). entry.node < k) more) next.same.nodes rest.nodes);
+      lines = one_within made (IsWithin core.lines) more (IfSome_then made one.within (λ entry h. h.1)) (subst (λ (k : ℕ). AllByRecursion (IsWithin k) more) next.same.lines rest.lines);
     }

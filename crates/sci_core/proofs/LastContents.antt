@@ -2,6 +2,7 @@
 use Rattle.std.proofs.Common.{◌≡◌, ℕ, ◌+◌, ◌<◌, List, [], ◌∷◌, ◌++◌, length, get_or, take, drop, Option, Some, None, refl, sym, ap, ◌∙◌, arith}
 use Rattle.std.specs.Prelude.{option_to_list, unwrap_or}
 use Rattle.std.specs.Option.{option_or}
+use Rattle.sci_core.proofs.Options.{after_none, found_first}
 use Rattle.std.specs.List.{flat_map}
 use Rattle.std.proofs.lemmas.List.{take_more, take_all, take-append-drop}
 use Rattle.std.proofs.lemmas.List.FromFn.{length-map-range_with_len, get_or-map-range_with_len}
@@ -43,14 +44,6 @@ or_assoc (Some x) y z = refl
 authority_append : (xs ys : List Sharer) → first_authority (xs ++ ys) ≡ option_or (first_authority xs) (first_authority ys)
 authority_append [] ys = refl
 authority_append (x ∷ xs) ys = ap (option_or (authority_contents x)) (authority_append xs ys) ∙ or_assoc (authority_contents x) (first_authority xs) (first_authority ys)
-
-after_none : (xs ys : Option Stamped) → xs ≡ None → option_or xs ys ≡ ys
-after_none None ys e = refl
-after_none (Some x) ys e = cc
-
-found_first : (xs ys : Option Stamped) (c : Stamped) → xs ≡ Some c → option_or xs ys ≡ Some c
-found_first None ys c e = cc
-found_first (Some x) ys c e = e
 
 or_none : (x : Option Stamped) → option_or x None ≡ x
 or_none None = refl

@@ -6,7 +6,8 @@ use Rattle.sci_words.specs.declared.stamped.Stamped.{Stamped}
 use Rattle.sci_packets.specs.declared.body.Body.{Body}
 use Rattle.sci_cache.specs.State.{CacheState}
 use Rattle.sci_core.specs.Fresh.{is_fresh}
-use Rattle.sci_core.specs.SharingList.{IsIn, IsOnce, LinkedFrom}
+use Rattle.sci_history.specs.Seen.{IsAmong}
+use Rattle.sci_core.specs.SharingList.{IsOnce, LinkedFrom}
 use Rattle.sci_core.proofs.Chains.{without, without_nil, without_this, without_other, next_of}
 use Rattle.sci_core.proofs.Views.{View, link_in}
 use Rattle.sci_core.proofs.Standings.{Role, Coming, Leading, Following, role_of, Agrees, Alike, alike_itself, coming_empty}
@@ -32,12 +33,12 @@ IsLed view c must (n ∷ ns) =
 
 -- ---- every member of a list that is led has its contents
 
-following_agrees : (view : View) (c : Stamped) (ns : List ℕ) (n : ℕ) → AreFollowing view c ns → IsIn n ns → AgreesIn c view n
+following_agrees : (view : View) (c : Stamped) (ns : List ℕ) (n : ℕ) → AreFollowing view c ns → IsAmong n ns → AgreesIn c view n
 following_agrees view c [] n f h = elim h [ ]
 following_agrees view c (m ∷ ns) n f (inl e) = subst (AgreesIn c view) (sym e) f.1
 following_agrees view c (m ∷ ns) n f (inr h) = following_agrees view c ns n f.2 h
 
-pub led_agrees : (view : View) (c : Stamped) (must : Bool) (ns : List ℕ) (n : ℕ) → IsLed view c must ns → IsIn n ns → AgreesIn c view n
+pub led_agrees : (view : View) (c : Stamped) (must : Bool) (ns : List ℕ) (n : ℕ) → IsLed view c must ns → IsAmong n ns → AgreesIn c view n
 led_agrees view c must [] n led h = elim h [ ]
 led_agrees view c must (m ∷ ns) n led (inl e) = subst (AgreesIn c view) (sym e) led.0.1
 led_agrees view c must (m ∷ ns) n (front, inl leads) (inr h) = following_agrees view c ns n leads.1 h
@@ -74,7 +75,7 @@ pub record Stands (old new : View) (n : ℕ) : Type 0 where
 pub alike_stands : (old new : View) (n : ℕ) → AlikeIn old new n → Stands old new n
 alike_stands old new n alike = record { role = same_role old new n alike; fresh = same_fresh old new n alike; agrees = alike.agrees }
 
-pub following_stand : (old new : View) (c : Stamped) (ns : List ℕ) → ((n : ℕ) → IsIn n ns → Stands old new n) → AreFollowing old c ns → AreFollowing new c ns
+pub following_stand : (old new : View) (c : Stamped) (ns : List ℕ) → ((n : ℕ) → IsAmong n ns → Stands old new n) → AreFollowing old c ns → AreFollowing new c ns
 following_stand old new c [] stands f = tt
 following_stand old new c (n ∷ ns) stands f =
     let this = stands n (inl refl) in
@@ -88,7 +89,7 @@ led_weaker view c must (n ∷ ns) led = ((λ e. cc, led.0.1), led.1)
 front_stands : (old new : View) (c : Stamped) (must : Bool) (n : ℕ) → Stands old new n → (must ≡ true → fresh_in old n ≡ true) × AgreesIn c old n → (must ≡ true → fresh_in new n ≡ true) × AgreesIn c new n
 front_stands old new c must n this h = (λ e. this.fresh ∙ h.0 e, this.agrees c h.1)
 
-pub led_stands : (old new : View) (c : Stamped) (must : Bool) (ns : List ℕ) → ((n : ℕ) → IsIn n ns → Stands old new n) → IsLed old c must ns → IsLed new c must ns
+pub led_stands : (old new : View) (c : Stamped) (must : Bool) (ns : List ℕ) → ((n : ℕ) → IsAmong n ns → Stands old new n) → IsLed old c must ns → IsLed new c must ns
 led_stands old new c must [] stands led = led
 led_stands old new c must (n ∷ ns) stands (front, inl leads) =
     let this = stands n (inl refl) in
@@ -133,7 +134,7 @@ pub record Joins (old new : View) (a q : ℕ) : Type 0 where
   pub takes : (c : Stamped) → AgreesIn c old q → AgreesIn c old a → AgreesIn c new a
   pub others : (n : ℕ) → n ≢ a → n ≢ q → Stands old new n
 
-pub following_in : (view : View) (c : Stamped) (ns : List ℕ) (n : ℕ) → AreFollowing view c ns → IsIn n ns → role_in view n ≡ Some Following
+pub following_in : (view : View) (c : Stamped) (ns : List ℕ) (n : ℕ) → AreFollowing view c ns → IsAmong n ns → role_in view n ≡ Some Following
 following_in view c [] n f h = elim h [ ]
 following_in view c (m ∷ ns) n f (inl e) = ap (role_in view) e ∙ f.0
 following_in view c (m ∷ ns) n f (inr h) = following_in view c ns n f.2 h
@@ -142,18 +143,18 @@ pub roles_differ : (r s : Role) (role : Option Role) → role ≡ Some r → rol
 roles_differ r s role is also not = let both : Some r ≡ Some s = sym is ∙ also in not cc
 
 -- the one that led stands directly behind
-led_behind : (old new : View) (a q : ℕ) (c : Stamped) (b : Bool) (next : Option ℕ) (ns : List ℕ) → Joins old new a q → next ≡ Some q → LinkedFrom (link_in old) next ns → IsOnce ns → (IsIn a ns → ⊥) → IsLed old c b ns → AgreesIn c old q × AreFollowing new c ns
+led_behind : (old new : View) (a q : ℕ) (c : Stamped) (b : Bool) (next : Option ℕ) (ns : List ℕ) → Joins old new a q → next ≡ Some q → LinkedFrom (link_in old) next ns → IsOnce ns → (IsAmong a ns → ⊥) → IsLed old c b ns → AgreesIn c old q × AreFollowing new c ns
 led_behind old new a q c b next [] joins e linked once absent led = elim led [ ]
 led_behind old new a q c b next (m ∷ ns) joins e linked once absent (front, inl leads) =
     let here : m ≡ q = (let at = linked.0 in cc) in
     let agrees = subst (AgreesIn c old) here front.1 in
-    let rest = following_stand old new c ns (λ n h. joins.others n (λ s. absent (inr (subst (λ (k : ℕ). IsIn k ns) s h))) (λ s. once.0 (subst (λ (k : ℕ). IsIn k ns) (s ∙ sym here) h))) leads.1 in
+    let rest = following_stand old new c ns (λ n h. joins.others n (λ s. absent (inr (subst (λ (k : ℕ). IsAmong k ns) s h))) (λ s. once.0 (subst (λ (k : ℕ). IsAmong k ns) (s ∙ sym here) h))) leads.1 in
     (agrees, (ap (role_in new) here ∙ joins.follows, subst (AgreesIn c new) (sym here) (joins.keeps c agrees), rest))
 led_behind old new a q c b next (m ∷ ns) joins e linked once absent (front, inr comes) =
     let here : m ≡ q = (let at = linked.0 in cc) in
     absurd (roles_differ Coming Leading (role_in old m) comes.0 (ap (role_in old) here ∙ joins.leading) (λ s. cc))
 
-pub led_joins : (old new : View) (a q : ℕ) (c : Stamped) (must : Bool) (first : Option ℕ) (ns : List ℕ) → Joins old new a q → LinkedFrom (link_in old) first ns → IsOnce ns → IsIn a ns → IsLed old c must ns → IsLed new c must ns
+pub led_joins : (old new : View) (a q : ℕ) (c : Stamped) (must : Bool) (first : Option ℕ) (ns : List ℕ) → Joins old new a q → LinkedFrom (link_in old) first ns → IsOnce ns → IsAmong a ns → IsLed old c must ns → IsLed new c must ns
 led_joins old new a q c must first [] joins linked once h led = elim led [ ]
 led_joins old new a q c must first (n ∷ ns) joins linked once (inl e) (front, inl leads) =
     absurd (roles_differ Leading Coming (role_in old n) leads.0 (ap (role_in old) (sym e) ∙ joins.coming) (λ s. cc))
@@ -161,13 +162,13 @@ led_joins old new a q c must first (n ∷ ns) joins linked once (inr h) (front, 
     absurd (roles_differ Following Coming (role_in old a) (following_in old c ns a leads.1 h) joins.coming (λ s. cc))
 led_joins old new a q c must first (n ∷ ns) joins linked once (inl e) (front, inr comes) =
     let next = next_of (link_in old) n a linked.1.0 q e linked.1.1 joins.link in
-    let absent : IsIn a ns → ⊥ = λ h. once.0 (subst (λ (k : ℕ). IsIn k ns) e h) in
+    let absent : IsAmong a ns → ⊥ = λ h. once.0 (subst (λ (k : ℕ). IsAmong k ns) e h) in
     let behind = led_behind old new a q c (fresh_in old n) linked.1.0 ns joins next linked.1.2 once.1 absent comes.1 in
     let agrees = joins.takes c behind.0 (subst (AgreesIn c old) (sym e) front.1) in
     let fresh : fresh_in new n ≡ fresh_in old n = ap (fresh_in new) (sym e) ∙ (joins.fresh ∙ ap (fresh_in old) e) in
     ((λ m. fresh ∙ front.0 m, subst (AgreesIn c new) e agrees), inl (ap (role_in new) (sym e) ∙ joins.leads, behind.1))
 led_joins old new a q c must first (n ∷ ns) joins linked once (inr h) (front, inr comes) =
-    let not_asker : n ≢ a = λ s. once.0 (subst (λ (k : ℕ). IsIn k ns) (sym s) h) in
+    let not_asker : n ≢ a = λ s. once.0 (subst (λ (k : ℕ). IsAmong k ns) (sym s) h) in
     let not_server : n ≢ q = λ s. roles_differ Coming Leading (role_in old n) comes.0 (ap (role_in old) s ∙ joins.leading) (λ t. cc) in
     let this = joins.others n not_asker not_server in
     let rest = led_joins old new a q c (fresh_in old n) linked.1.0 ns joins linked.1.2 once.1 h comes.1 in
@@ -202,7 +203,7 @@ not_true : (b : Bool) → (b ≡ true → ⊥) → b ≡ false
 not_true true not = absurd (not refl)
 not_true false not = refl
 
-pub led_made : (old new : View) (q : ℕ) (b c : Stamped) (must : Bool) (first : Option ℕ) (ns : List ℕ) → Made old new q c → LinkedFrom (link_in old) first ns → IsIn q ns → IsLed old b must ns → (must ≡ true → ⊥) × IsLed new c must ns
+pub led_made : (old new : View) (q : ℕ) (b c : Stamped) (must : Bool) (first : Option ℕ) (ns : List ℕ) → Made old new q c → LinkedFrom (link_in old) first ns → IsAmong q ns → IsLed old b must ns → (must ≡ true → ⊥) × IsLed new c must ns
 led_made old new q b c must first [] made linked h led = elim led [ ]
 led_made old new q b c must first (n ∷ ns) made linked (inl e) (front, inl leads) =
     let ends : link_in old n ≡ Some None = ap (link_in old) (sym e) ∙ made.ends in

@@ -2,6 +2,7 @@ pub mod Caches
 pub mod Nodes
 pub mod Asks
 pub mod Lists
+pub mod Options
 pub mod Identifiers
 pub mod Parts
 pub mod Places

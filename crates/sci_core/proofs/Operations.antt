@@ -1,5 +1,5 @@
 -- Every entry that a schedule makes is of an operation that it issued, and it makes no more entries than it has events.
-use Rattle.std.proofs.Common.{◌≡◌, ℕ, zero, suc, ◌+◌, ◌≤◌, List, [], ◌∷◌, ◌++◌, length, replicate, get_or, Option, Some, None, refl, sym, subst, ◌∙◌, arith}
+use Rattle.std.proofs.Common.{◌≡◌, ℕ, ◌+◌, ◌≤◌, List, [], ◌∷◌, ◌++◌, length, get_or, Option, Some, None, refl, sym, subst, ◌∙◌, arith}
 use Rattle.std.specs.Prelude.{IfSome, unwrap_or, option_to_list}
 use Rattle.std.specs.List.{AllByRecursion}
 use Rattle.sci_words.specs.declared.event.Event.{Event}
@@ -12,7 +12,8 @@ use Rattle.sci_core.specs.Node.{NodeOf, opening_node, pending_on, node_issued, n
 use Rattle.sci_core.specs.Core.{Core, node_at, with_node, stepping, step, opening}
 use Rattle.sci_core.specs.Done.{performed, made_by, done_from}
 use Rattle.sci_core.specs.WellFormed.{IsWellFormed}
-use Rattle.sci_core.proofs.Lists.{of_some, if_either, at_place_set}
+use Rattle.sci_core.proofs.Lists.{if_either, at_place_set}
+use Rattle.sci_core.proofs.Options.{none_in, of_some}
 use Rattle.sci_core.proofs.WellFormedSteps.{step_well}
 use Rattle.sci_core.proofs.Steps.{Stepped, By_issue, By_perform, By_ask, By_serve, By_refuse, By_reply, By_accept, stepping_stepped}
 use Rattle.sci_core.proofs.NodeSides.{PerformedAs, ServedAs, RefusedAs, perform_as, serve_as, refuse_as, reply_as}
@@ -118,17 +119,9 @@ done_such Q core (e ∷ events) well issues all =
     let one = after_such Q core e (stepping core e) (performed core e) well issues.0 (stepping_stepped core e well) all in
     one_such Q (made_by core e) (done_from (step core e) events) one.entry (done_such Q (step core e) events (step_well core e well).well issues.1 one.pends)
 
-abbrev no_pending : Option Pending
-no_pending = None
-
-none_pends : (Q : ℕ → Op → Type 0) (n count line : ℕ) → IfSome (get_or (replicate count no_pending) line None) (λ (p : Pending). Q n p.op)
-none_pends Q n zero line = tt
-none_pends Q n (suc count) zero = tt
-none_pends Q n (suc count) (suc line) = none_pends Q n count line
-
 pub opening_pends : (Q : ℕ → Op → Type 0) (nodes lines slots limit : ℕ) → AllPendSuch Q (opening nodes lines slots limit)
 opening_pends Q nodes lines slots limit n line =
-    each_mapped (λ (part : NodeOf). IfSome (pending_on part line) (λ p. Q n p.op)) (λ (m : ℕ). opening_node m nodes lines slots limit) (opening_node 0 1 0 0 0) 0 nodes n (λ m. none_pends Q n lines line) tt
+    each_mapped (λ (part : NodeOf). IfSome (pending_on part line) (λ p. Q n p.op)) (λ (m : ℕ). opening_node m nodes lines slots limit) (opening_node 0 1 0 0 0) 0 nodes n (λ m. none_in (λ (p : Pending). Q n p.op) lines line) tt
 
 -- ---- how many
 

@@ -17,7 +17,7 @@ use Rattle.sci_cache.specs.State.{CacheState, Head, contents_of}
 use Rattle.sci_cache.specs.Performing.{Performed, reply_on}
 use Rattle.sci_cache.specs.Member.{link_of}
 use Rattle.sci_core.specs.Fresh.{is_fresh}
-use Rattle.sci_core.specs.SharingList.{IsIn}
+use Rattle.sci_history.specs.Seen.{IsAmong}
 use Rattle.sci_core.specs.Tidy.{IsAccepted}
 use Rattle.sci_core.proofs.Chains.{chain_same, none_empty}
 use Rattle.sci_core.proofs.Views.{View, link_in}
@@ -45,7 +45,7 @@ load_leaves c op e =
 pub no_members : (view : View) (d : Stamped) (ns : List ℕ) (n : ℕ) (behind : Option ℕ) → link_in view n ≡ Some behind → (c : Stamped) → IsShaped view (at.Home d) c ns → ⊥
 no_members view d ns n behind member c is =
     let empty = none_empty (link_in view) None ns refl is.list in
-    subst (IsIn n) empty (is.list.all n behind member)
+    subst (IsAmong n) empty (is.list.all n behind member)
 
 -- every member has the last contents, and has them coming
 pub member_agrees : (view : View) (home : HomeState) (c : Stamped) (ns : List ℕ) (n : ℕ) (behind : Option ℕ) → link_in view n ≡ Some behind → IsShaped view home c ns → AgreesIn c view n

@@ -1,6 +1,7 @@
 -- Finding the first answer among packets, part by part.
 use Rattle.std.proofs.Common.{◌≡◌, ℕ, ◌+◌, ◌<◌, ◌&&◌, not, Bool, true, false, if◌then◌else◌, cond, List, [], ◌∷◌, ◌++◌, length, map, filter, get_or, take, drop, Option, Some, None, append-nil, refl, sym, ap, ◌∙◌}
 use Rattle.std.specs.Option.{option_or}
+use Rattle.sci_core.proofs.Options.{after_none, found_first}
 use Rattle.std.specs.List.{flat_map}
 use Rattle.std.proofs.lemmas.List.{take_more, map-append, take-append-drop}
 use Rattle.std.proofs.lemmas.List.Elements.{filter-append}
@@ -48,14 +49,6 @@ seek_other n line letter e = seek_one n line letter ∙ no_answer (is_about n li
 
 pub seek_this : (n line : ℕ) (letter : Letter) → (is_about n line letter && not (is_request letter.body)) ≡ true → seek n line (letter ∷ []) ≡ Some letter.body
 seek_this n line letter e = seek_one n line letter ∙ an_answer (is_about n line letter) (is_request letter.body) (Some letter.body) e
-
-after_none : (xs ys : Option Body) → xs ≡ None → option_or xs ys ≡ ys
-after_none None ys e = refl
-after_none (Some x) ys e = cc
-
-found_first : (xs ys : Option Body) (b : Body) → xs ≡ Some b → option_or xs ys ≡ Some b
-found_first None ys b e = cc
-found_first (Some x) ys b e = e
 
 -- the packets so far, and one more
 pub seek_more : (n line : ℕ) (packets : List Packet) (i : ℕ) (d : Packet) → i < length packets → seek n line (map letter_of (take i packets)) ≡ None

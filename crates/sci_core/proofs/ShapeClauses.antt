@@ -22,7 +22,7 @@ use Rattle.sci_core.specs.Node.{NodeOf, opening_node}
 use Rattle.sci_core.specs.Core.{Core, node_at}
 use Rattle.sci_core.specs.Shape.{comes, follows, state_at, IsAuthority, IsSplit, HasOneAuthority, HasAuthorities, HaveContents, is_home_fresh, HasShape}
 use Rattle.sci_core.specs.Sharing.{contents_held, packets_of, answer_in, Sharer, sharer_of, sharers, home_at, authority_contents, first_authority, last_at, answer_to as told}
-use Rattle.sci_core.specs.SharingList.{IsIn}
+use Rattle.sci_history.specs.Seen.{IsAmong}
 use Rattle.sci_core.specs.Tidy.{IsSentIn, HasItsPackets, IsTidy, IsAccepted}
 use Rattle.sci_core.specs.WellFormed.{IsWellFormed}
 use Rattle.sci_core.proofs.LastContents.{last_home}
@@ -149,7 +149,7 @@ led_leader view c must [] led = elim led [ ]
 led_leader view c must (n ∷ ns) (front, inl leads) = (n, leads.0)
 led_leader view c must (n ∷ ns) (front, inr comes) = led_leader view c (fresh_in view n) ns comes.1
 
-led_only : (view : View) (c : Stamped) (must : Bool) (ns : List ℕ) (a b : ℕ) → IsLed view c must ns → role_in view a ≡ Some Leading → role_in view b ≡ Some Leading → IsIn a ns → IsIn b ns → b ≡ a
+led_only : (view : View) (c : Stamped) (must : Bool) (ns : List ℕ) (a b : ℕ) → IsLed view c must ns → role_in view a ≡ Some Leading → role_in view b ≡ Some Leading → IsAmong a ns → IsAmong b ns → b ≡ a
 led_only view c must [] a b led la lb ha hb = elim led [ ]
 led_only view c must (n ∷ ns) a b (front, inl leads) la lb (inl ea) (inl eb) = eb ∙ sym ea
 led_only view c must (n ∷ ns) a b (front, inl leads) la lb (inr ha) hb = absurd (roles_differ Following Leading (role_in view a) (following_in view c ns a leads.1 ha) la (λ s. cc))
@@ -165,7 +165,7 @@ record Parts (view : View) (c : Stamped) (must : Bool) (before : List ℕ) (a : 
   pub following : AreFollowing view c after
   pub fresh : must ≡ true → AllByRecursion (λ n. fresh_in view n ≡ true) (before ++ a ∷ [])
 
-behind : (before : List ℕ) (a : ℕ) (after : List ℕ) → IsIn a (before ++ a ∷ after)
+behind : (before : List ℕ) (a : ℕ) (after : List ℕ) → IsAmong a (before ++ a ∷ after)
 behind [] a after = inl refl
 behind (n ∷ before) a after = inr (behind before a after)
 
@@ -182,7 +182,7 @@ led_below : (view : View) (c : Stamped) (must : Bool) (before : List ℕ) (m : �
 led_below view c must [] m middle a after leading fresh (front, inl leads) = absurd (roles_differ Following Leading (role_in view a) (following_in view c (middle ++ a ∷ after) a leads.1 (behind middle a after)) leading (λ s. cc))
 led_below view c must [] m middle a after leading fresh (front, inr comes) = (led_parts view c (fresh_in view m) middle a after leading comes.1).fresh fresh
 led_below view c must (n ∷ before) m middle a after leading fresh (front, inl leads) =
-    let there : IsIn a (before ++ m ∷ (middle ++ a ∷ after)) = subst (IsIn a) (append_assoc before (m ∷ middle) (a ∷ after)) (behind (before ++ m ∷ middle) a after) in
+    let there : IsAmong a (before ++ m ∷ (middle ++ a ∷ after)) = subst (IsAmong a) (append_assoc before (m ∷ middle) (a ∷ after)) (behind (before ++ m ∷ middle) a after) in
     absurd (roles_differ Following Leading (role_in view a) (following_in view c (before ++ m ∷ (middle ++ a ∷ after)) a leads.1 there) leading (λ s. cc))
 led_below view c must (n ∷ before) m middle a after leading fresh (front, inr comes) = led_below view c (fresh_in view n) before m middle a after leading fresh comes.1
 
@@ -286,7 +286,7 @@ no_authority core line d c ns is n authority =
     let member = leads_member core line n (authority_leads core line n authority) in
     no_members (view_of core line) d ns n member.0 member.1 c is
 
-one_authority : (core : Core) (line : ℕ) (home : HomeState) (c : Stamped) (must : Bool) (ns : List ℕ) → IsWellFormed core → IsShaped (view_of core line) home c ns → IsLed (view_of core line) c must ns → HasOneAuthority core line
+one_authority : (core : Core) (line : ℕ) (home : HomeState) (c : Stamped) (must : Bool) (ns : List ℕ) → IsWellFormed core → IsShaped (view_of core line) home c ns → IsLed (view_of core line) c must ns → HasOneAuthority core line ns
 one_authority core line home c must ns well is led =
     let view = view_of core line in
     let first = led_leader view c must ns led in
@@ -294,6 +294,7 @@ one_authority core line home c must ns well is led =
     record {
       node = first.0;
       some = member_below core line first.0 member.0 well member.1;
+      listed = is.list.all first.0 member.0 member.1;
       authority = leads_authority core line first.0 first.1;
       only = λ n authority. (
           let leads = authority_leads core line n authority in
@@ -301,7 +302,7 @@ one_authority core line home c must ns well is led =
           led_only view c must ns first.0 n led first.1 leads (is.list.all first.0 member.0 member.1) (is.list.all n other.0 other.1));
     }
 
-authorities_so : (core : Core) (line : ℕ) (home : HomeState) (c : Stamped) (ns : List ℕ) → IsWellFormed core → IsShaped (view_of core line) home c ns → HasAuthorities core line home
+authorities_so : (core : Core) (line : ℕ) (home : HomeState) (c : Stamped) (ns : List ℕ) → IsWellFormed core → IsShaped (view_of core line) home c ns → HasAuthorities core line ns home
 authorities_so core line (at.Home d) c ns well is = no_authority core line d c ns is
 authorities_so core line (at.Fresh p d) c ns well is = one_authority core line (at.Fresh p d) c true ns well is is.led.1
 authorities_so core line (at.Gone p) c ns well is = one_authority core line (at.Gone p) c false ns well is is.led

@@ -24,7 +24,7 @@ use Rattle.sci_core.specs.Done.{performed, TakesEffect, ChangesBy, made_by}
 use Rattle.sci_core.specs.Sharing.{is_about, answer_in, answer_to as told}
 use Rattle.sci_core.specs.Tidy.{IsTidy, IsAccepted}
 use Rattle.sci_core.specs.WellFormed.{IsPart, IsWellFormed}
-use Rattle.sci_core.proofs.Lists.{of_some}
+use Rattle.sci_core.proofs.Options.{of_some}
 use Rattle.sci_core.proofs.Nodes.{some_below}
 use Rattle.sci_core.proofs.Parts.{part_serving, part_refusing}
 use Rattle.sci_core.proofs.WaitingNodes.{Stays, AsksOnce, Answers, Replies, Accepts, issue_stays, ask_once, serve_answers, refuse_answers, reply_replies, accept_accepts}

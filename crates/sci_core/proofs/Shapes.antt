@@ -13,7 +13,8 @@ use Rattle.sci_cache.specs.Accepting.{accepting}
 use Rattle.sci_cache.specs.Member.{link_of}
 use Rattle.sci_cache.specs.Cache.{Letter}
 use Rattle.sci_core.specs.Fresh.{is_fresh}
-use Rattle.sci_core.specs.SharingList.{IsIn, IsListOf}
+use Rattle.sci_history.specs.Seen.{IsAmong}
+use Rattle.sci_core.specs.SharingList.{IsListOf}
 use Rattle.sci_core.specs.Tidy.{IsSentIn, IsAccepted}
 use Rattle.sci_core.proofs.Chains.{chain_same, chain_front, chain_gone, none_empty, not_in}
 use Rattle.sci_core.proofs.Heads.{if_head}
@@ -42,7 +43,7 @@ pub record IsShaped (view : View) (home : HomeState) (c : Stamped) (ns : List �
 abbrev pub Shaped : View → HomeState → Stamped → Type 0
 Shaped view home c = (ns : List ℕ) × IsShaped view home c ns
 
-led_from_stands : (old new : View) (home : HomeState) (c : Stamped) (ns : List ℕ) → ((n : ℕ) → IsIn n ns → Stands old new n) → IsLedFrom old home c ns → IsLedFrom new home c ns
+led_from_stands : (old new : View) (home : HomeState) (c : Stamped) (ns : List ℕ) → ((n : ℕ) → IsAmong n ns → Stands old new n) → IsLedFrom old home c ns → IsLedFrom new home c ns
 led_from_stands old new (at.Home d) c ns stands led = led
 led_from_stands old new (at.Fresh p d) c ns stands led = (led.0, led_stands old new c true ns stands led.1)
 led_from_stands old new (at.Gone p) c ns stands led = led_stands old new c false ns stands led
@@ -110,9 +111,9 @@ fronts_list old new home home' a asker body ns asks none joins head list =
     chain_front (link_in old) (link_in new) (head_of home) (head_of home') a ns (before link_of old new a asker body asks ∙ none) (after link_of old new a asker body asks ∙ joins) head
     (λ n other. same_link old new n (asks.others n other)) list
 
-others_stand : (old new : View) (first : Option ℕ) (a : ℕ) (asker : CacheState) (body : Body) (ns : List ℕ) → Asks old new a asker body → link_of asker None ≡ None → IsListOf (link_in old) first ns → (n : ℕ) → IsIn n ns → Stands old new n
+others_stand : (old new : View) (first : Option ℕ) (a : ℕ) (asker : CacheState) (body : Body) (ns : List ℕ) → Asks old new a asker body → link_of asker None ≡ None → IsListOf (link_in old) first ns → (n : ℕ) → IsAmong n ns → Stands old new n
 others_stand old new first a asker body ns asks none list n h =
-    alike_stands old new n (asks.others n (λ e. not_in (link_in old) first ns a (before link_of old new a asker body asks ∙ none) list (subst (λ (m : ℕ). IsIn m ns) e h)))
+    alike_stands old new n (asks.others n (λ e. not_in (link_in old) first ns a (before link_of old new a asker body asks ∙ none) list (subst (λ (m : ℕ). IsAmong m ns) e h)))
 
 -- it comes before the old head
 comes_first : (old new : View) (first : Option ℕ) (a : ℕ) (asker : CacheState) (body : Body) (c : Stamped) (must : Bool) (ns : List ℕ) → Asks old new a asker body → link_of asker None ≡ None → IsListOf (link_in old) first ns
@@ -195,11 +196,11 @@ abbrev pub HomeShapes : View → View → ℕ → CacheState → HomeState → S
 HomeShapes old new a asker home c served = Asks old new a asker served.1 → Shaped old home c → Shaped new served.0 c
 
 -- the front of a fresh list comes to write, and need not be fresh any more
-claimed_led : (old new : View) (a n : ℕ) (f : Option ℕ) (c d : Stamped) (ns : List ℕ) → Asks old new a (Claiming f d) body.Wbok → n ≡ a → (IsIn n ns → ⊥) → IsLed old c true (n ∷ ns) → IsLed new c false (n ∷ ns)
+claimed_led : (old new : View) (a n : ℕ) (f : Option ℕ) (c d : Stamped) (ns : List ℕ) → Asks old new a (Claiming f d) body.Wbok → n ≡ a → (IsAmong n ns → ⊥) → IsLed old c true (n ∷ ns) → IsLed new c false (n ∷ ns)
 claimed_led old new a n f c d ns asks here absent (front, inl leads) =
     let agrees = agrees_after c old new a (Claiming f d) body.Wbok asks (agrees_before c old new a (Claiming f d) body.Wbok asks (subst (AgreesIn c old) here front.1)) in
     let role : role_in new a ≡ Some Leading = after role_of old new a (Claiming f d) body.Wbok asks in
-    let stand : (m : ℕ) → IsIn m ns → Stands old new m = λ m h. alike_stands old new m (asks.others m (λ e. absent (subst (λ (k : ℕ). IsIn k ns) (e ∙ sym here) h))) in
+    let stand : (m : ℕ) → IsAmong m ns → Stands old new m = λ m h. alike_stands old new m (asks.others m (λ e. absent (subst (λ (k : ℕ). IsAmong k ns) (e ∙ sym here) h))) in
     ((λ e. cc, subst (AgreesIn c new) (sym here) agrees), inl (ap (role_in new) here ∙ role, following_stand old new c ns stand leads.1))
 claimed_led old new a n f c d ns asks here absent (front, inr comes) =
     let was : role_in old a ≡ Some Leading = before role_of old new a (Claiming f d) body.Wbok asks in

@@ -1,8 +1,9 @@
 -- What each step of a well formed state did, in one of seven ways: the side of the event's node, with its packet, and the entry that it makes.
-use Rattle.std.proofs.Common.{◌≡◌, ℕ, ◌<◌, nat_lt, Bool, if◌then◌else◌, List, [], ◌∷◌, length, Option, Some, None, refl, sym, subst, inl, inr}
+use Rattle.std.proofs.Common.{◌≡◌, ℕ, ◌<◌, List, [], ◌∷◌, length, Option, Some, None, refl, sym, subst}
 use Rattle.std.specs.Prelude.{IfSome, option_map}
+use Rattle.std.proofs.lemmas.Option.{IfSome_then}
+use Rattle.sci_core.proofs.Options.{if_below}
 use Rattle.std.specs.List.{All}
-use Rattle.std.proofs.lemmas.Bool.{cases_Bool, ltb-true}
 use Rattle.std.proofs.lemmas.List.Elements.{All-head}
 use Rattle.sci_words.specs.declared.event.AskKind.{AskKind}
 use Rattle.sci_words.specs.declared.event.Event.{Event}
@@ -104,22 +105,11 @@ takes core n place kind taking [] lt within front all comes = tt
 takes core n place kind taking (letter ∷ rest) lt within front all comes =
     took core n place kind taking letter rest (taking (node_at core n) letter) lt within front (comes letter (All-head (IsInLane core.nodes core.lines place) letter rest all)) refl
 
-if_below : (a b : ℕ) (P : Core → Type 0) (then_ : Option Core) → (a < b → IfSome then_ P) → IfSome (if nat_lt a b then then_ else None) P
-if_below a b P then_ h =
-    elim (cases_Bool (nat_lt a b)) [
-      | inl within ↦ subst (λ (t : Bool). IfSome (if t then then_ else None) P) (sym within) (h (ltb-true a b within))
-      | inr beyond ↦ subst (λ (t : Bool). IfSome (if t then then_ else None) P) (sym beyond) tt
-    ]
-
 taken : (core : Core) (n from : ℕ) (kind : LaneKind) (taking : NodeOf → Letter → Option NodeOf) → n < core.nodes → IsWellFormed core → IfSome (step_by core n (Takes kind from (taking (node_at core n)))) (λ new. Taken core new kind taking)
 taken core n from kind taking lt well =
     if_below from core.nodes (λ new. Taken core new kind taking) (taken_from core n (lane_place core.nodes kind from n) (taking (node_at core n)) (lane_of core kind from n)) (λ f.
     takes core n (lane_place core.nodes kind from n) kind taking (lane_of core kind from n) lt (lane_below core kind from n well f lt) refl (well.each_lane (lane_place core.nodes kind from n))
     (λ letter h. comes_from_lane core from n kind letter f lt h))
-
-weaken : {X : Type 0} (P Q : X → Type 0) (o : Option X) → ((x : X) → P x → Q x) → IfSome o P → IfSome o Q
-weaken P Q None f h = tt
-weaken P Q (Some x) f h = f x h
 
 -- ---- each event
 
@@ -128,10 +118,10 @@ side_stepped core (event.Issue n op) lt well = issued core n op (node_issuing (n
 side_stepped core (event.Perform n line) lt well = perform_steps core n line (node_performing (node_at core n) line) lt refl
 side_stepped core (event.Ask n line kind) lt well =
     asked core n line kind (node_asking (node_at core n) line kind) lt well (part_asking core.nodes core.lines core.slots core.limit n (node_at core n) line kind well.some_node lt (well.each_part n lt)) refl
-side_stepped core (event.Serve from n) lt well = weaken _ (Stepped core (event.Serve from n) None) (step_by core n (Takes Requests from (node_serving (node_at core n)))) (λ new t. By_serve t refl) (taken core n from Requests node_serving lt well)
-side_stepped core (event.Refuse from n) lt well = weaken _ (Stepped core (event.Refuse from n) None) (step_by core n (Takes Requests from (node_refusing (node_at core n)))) (λ new t. By_refuse t refl) (taken core n from Requests node_refusing lt well)
+side_stepped core (event.Serve from n) lt well = IfSome_then (step_by core n (Takes Requests from (node_serving (node_at core n)))) (taken core n from Requests node_serving lt well) (λ new t. By_serve t refl)
+side_stepped core (event.Refuse from n) lt well = IfSome_then (step_by core n (Takes Requests from (node_refusing (node_at core n)))) (taken core n from Requests node_refusing lt well) (λ new t. By_refuse t refl)
 side_stepped core (event.Reply n) lt well = replied core n (node_replying (node_at core n)) lt well (part_replying core.nodes core.lines core.slots core.limit n (node_at core n) (well.each_part n lt)) refl
-side_stepped core (event.Accept from n) lt well = weaken _ (Stepped core (event.Accept from n) None) (step_by core n (Takes Answers from (node_accepting (node_at core n)))) (λ new t. By_accept t refl) (taken core n from Answers node_accepting lt well)
+side_stepped core (event.Accept from n) lt well = IfSome_then (step_by core n (Takes Answers from (node_accepting (node_at core n)))) (taken core n from Answers node_accepting lt well) (λ new t. By_accept t refl)
 
 pub stepping_stepped : (core : Core) (e : Event) → IsWellFormed core → IfSome (stepping core e) (Stepped core e (performed core e))
 unfolding stepping

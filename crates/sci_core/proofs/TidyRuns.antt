@@ -18,7 +18,7 @@ use Rattle.sci_core.specs.Reached.{IsReached, AreSizes}
 use Rattle.sci_core.specs.Sharing.{is_about, under_way, packets_of}
 use Rattle.sci_core.specs.Tidy.{HasItsPackets, IsTidy}
 use Rattle.sci_core.specs.WellFormed.{IsAnswerLetter, IsPart, IsWellFormed}
-use Rattle.sci_core.proofs.Lists.{of_some}
+use Rattle.sci_core.proofs.Options.{of_some}
 use Rattle.sci_core.proofs.Parts.{part_serving, part_refusing}
 use Rattle.sci_core.proofs.WellFormedSteps.{step_well, run_well, opening_well}
 use Rattle.sci_core.proofs.WaitingNodes.{Stays, AsksOnce, Answers, Replies, Accepts, issue_stays, perform_stays, ask_once, serve_answers, refuse_answers, reply_replies, accept_accepts}

@@ -1,8 +1,9 @@
 -- Transactions alternate, since the packets under way tell how far each is.
-use Rattle.std.proofs.Common.{◌≡◌, ℕ, ◌%◌, ◌<◌, nat_lt, Bool, true, false, if◌then◌else◌, List, [], ◌∷◌, ◌++◌, length, filter, Option, Some, None, refl, sym, ap, subst, ◌∙◌, inl, inr, arith}
+use Rattle.std.proofs.Common.{◌≡◌, ℕ, ◌%◌, ◌<◌, Bool, true, false, if◌then◌else◌, List, [], ◌∷◌, ◌++◌, length, filter, Option, Some, None, refl, sym, ap, subst, ◌∙◌, inl, inr, arith}
 use Rattle.std.specs.Prelude.{IfSome, unwrap_or, option_to_list, option_map, slice_get}
+use Rattle.sci_core.proofs.Options.{if_below}
 use Rattle.std.specs.List.{All}
-use Rattle.std.proofs.lemmas.Bool.{cases_Bool, ltb-true}
+use Rattle.std.proofs.lemmas.Bool.{cases_Bool}
 use Rattle.std.proofs.lemmas.List.Elements.{All-head}
 use Rattle.sci_words.specs.declared.event.Event.{Event}
 use Rattle.sci_words.specs.declared.event.Event.TheVariants as event
@@ -215,25 +216,18 @@ takes_answer core n place taking (letter ∷ rest) below within front comes acce
     let in_lane = All-head (IsInLane core.nodes core.lines place) letter rest (subst (All (IsInLane core.nodes core.lines place)) front (well.each_lane place)) in
     took_answer core n place letter rest (taking letter) below within front (comes letter in_lane) (accepts letter) tidy
 
-if_below : (a b : ℕ) (then_ : Option Core) (P : Core → Type 0) → (a < b → IfSome then_ P) → IfSome (if nat_lt a b then then_ else None) P
-if_below a b then_ P h =
-    elim (cases_Bool (nat_lt a b)) [
-      | inl within ↦ subst (λ (t : Bool). IfSome (if t then then_ else None) P) (sym within) (h (ltb-true a b within))
-      | inr beyond ↦ subst (λ (t : Bool). IfSome (if t then then_ else None) P) (sym beyond) tt
-    ]
-
 request_taken : (core : Core) (n from : ℕ) (taking : Letter → Option NodeOf) → n < core.nodes → ((letter : Letter) → IfSome (taking letter) (Answers core.nodes letter (node_at core n)))
     → ((letter : Letter) → Comes core n Requests letter → IfSome (taking letter) (IsPart core.nodes core.lines core.slots core.limit n)) → IsWellFormed core → IsTidy core
     → IfSome (step_by core n (Takes Requests from taking)) (Advanced core (option_map (λ (l : Letter). (Taken l.control, l)) (slice_get (lane_of core Requests from n) 0)))
 request_taken core n from taking lt answers is well tidy =
-    if_below from core.nodes (taken_from core n (lane_place core.nodes Requests from n) taking (lane_of core Requests from n)) (Advanced core (option_map (λ (l : Letter). (Taken l.control, l)) (slice_get (lane_of core Requests from n) 0))) (λ f.
+    if_below from core.nodes (Advanced core (option_map (λ (l : Letter). (Taken l.control, l)) (slice_get (lane_of core Requests from n) 0))) (taken_from core n (lane_place core.nodes Requests from n) taking (lane_of core Requests from n)) (λ f.
     takes_request core n (lane_place core.nodes Requests from n) taking (lane_of core Requests from n) (node_below core n well lt) (lane_below core Requests from n well f lt) refl
     (λ letter h. comes_from_lane core from n Requests letter f lt h) answers is well tidy)
 
 answer_taken : (core : Core) (n from : ℕ) (taking : Letter → Option NodeOf) → n < core.nodes → ((letter : Letter) → IfSome (taking letter) (Accepts letter.line (node_at core n))) → IsWellFormed core → IsTidy core
     → IfSome (step_by core n (Takes AnswerLane from taking)) (Advanced core (option_map (λ (l : Letter). (Accepted l.control, l)) (slice_get (lane_of core AnswerLane from n) 0)))
 answer_taken core n from taking lt accepts well tidy =
-    if_below from core.nodes (taken_from core n (lane_place core.nodes AnswerLane from n) taking (lane_of core AnswerLane from n)) (Advanced core (option_map (λ (l : Letter). (Accepted l.control, l)) (slice_get (lane_of core AnswerLane from n) 0))) (λ f.
+    if_below from core.nodes (Advanced core (option_map (λ (l : Letter). (Accepted l.control, l)) (slice_get (lane_of core AnswerLane from n) 0))) (taken_from core n (lane_place core.nodes AnswerLane from n) taking (lane_of core AnswerLane from n)) (λ f.
     takes_answer core n (lane_place core.nodes AnswerLane from n) taking (lane_of core AnswerLane from n) (node_below core n well lt) (lane_below core AnswerLane from n well f lt) refl
     (λ letter h. comes_from_lane core from n AnswerLane letter f lt h) accepts well tidy)
 
@@ -254,7 +248,7 @@ side_advances core (event.Accept from n) lt well tidy = answer_taken core n from
 
 stepping_advances : (core : Core) (e : Event) → IsWellFormed core → IsTidy core → IfSome (stepping core e) (Advanced core (mark_of core e))
 unfolding stepping
-stepping_advances core e well tidy = if_below (node_of e) core.nodes (step_by core (node_of e) (side (node_at core (node_of e)) e)) (Advanced core (mark_of core e)) (λ lt. side_advances core e lt well tidy)
+stepping_advances core e well tidy = if_below (node_of e) core.nodes (Advanced core (mark_of core e)) (step_by core (node_of e) (side (node_at core (node_of e)) e)) (λ lt. side_advances core e lt well tidy)
 
 -- ---- runs
 

@@ -1,7 +1,6 @@
 -- What each side of an event does with the waits of a node.
-use Rattle.std.proofs.Common.{◌≡◌, ℕ, ◌%◌, ◌<◌, ◌≢◌, ◌&&◌, not, nat_lt, Bool, true, false, if◌then◌else◌, Option, Some, None, Result, Ok, Err, refl, sym, ap, subst, ◌∙◌, inl, inr}
+use Rattle.std.proofs.Common.{◌≡◌, ℕ, ◌%◌, ◌<◌, ◌≢◌, ◌&&◌, not, Bool, true, false, if◌then◌else◌, Option, Some, None, Result, Ok, Err, refl, sym, ap, subst, ◌∙◌}
 use Rattle.std.specs.Prelude.{◌==◌, IfSome, is_some}
-use Rattle.std.proofs.lemmas.Bool.{cases_Bool, ltb-true}
 use Rattle.std.proofs.lemmas.List.{get_or-set_same, get_or-set_other}
 use Rattle.sci_words.specs.declared.limits.TheConstants.{CONTROLS}
 use Rattle.sci_words.specs.declared.event.AskKind.{AskKind}
@@ -25,6 +24,7 @@ use Rattle.sci_core.specs.declared.pending.Pending.{Pending}
 use Rattle.sci_core.specs.Node.{NodeOf, lines_of, home_of, pending_on, may_issue, node_issued, node_issuing, performed_by, performing_pending, node_performing, asked_by, node_asking, answer_to, served_at_home, served_in_cache, serving_at_home, serving_in_cache, serving_request, answered_by, node_serving, is_setback, with_answer, node_refusing, replied_by, node_replying, accepted_by, node_accepting}
 use Rattle.sci_core.specs.Tidy.{IsAwaited}
 use Rattle.sci_core.proofs.Lists.{if_either, at_place_set}
+use Rattle.sci_core.proofs.Options.{if_below}
 use Rattle.sci_core.proofs.Waits.{BeginsToWait, asking_waits, Keeps, keeps_itself, KeepsWait, serving_waits, performing_waits, EndsToWait, accepting_waits, asked_number}
 
 -- every line of the node is awaited as it was
@@ -109,16 +109,9 @@ made_once nodes line part lacks None below all small begins = tt
 made_once nodes line part true (Some asked) below all small begins = tt
 made_once nodes line part false (Some asked) below all small begins = asked_once nodes line part asked below all small begins
 
-if_below : (nodes line : ℕ) (part : NodeOf) (sent : Option (NodeOf × Letter)) → (line < lines_of part → IfSome sent (AsksOnce nodes line part)) → IfSome (if nat_lt line (lines_of part) then sent else None) (AsksOnce nodes line part)
-if_below nodes line part sent h =
-    elim (cases_Bool (nat_lt line (lines_of part))) [
-      | inl within ↦ subst (λ (b : Bool). IfSome (if b then sent else None) (AsksOnce nodes line part)) (sym within) (h (ltb-true line (lines_of part) within))
-      | inr beyond ↦ subst (λ (b : Bool). IfSome (if b then sent else None) (AsksOnce nodes line part)) (sym beyond) tt
-    ]
-
 pub ask_once : (nodes : ℕ) (part : NodeOf) (line : ℕ) (kind : AskKind) → part.cache.nodes ≡ nodes → (line_of part.cache line).asks < CONTROLS → IfSome (node_asking part line kind) (AsksOnce nodes line part)
 ask_once nodes part line kind all small =
-    if_below nodes line part (asked_by part (cache_asking part.cache line kind)) (λ below.
+    if_below line (lines_of part) (AsksOnce nodes line part) (asked_by part (cache_asking part.cache line kind)) (λ below.
     made_once nodes line part (is_out (line_of part.cache line).state && not (has_slot part.cache)) (asking (line_of part.cache line).state kind) below all small (asking_waits (line_of part.cache line).state kind))
 
 -- ---- Serve and Refuse

@@ -1,8 +1,8 @@
 -- Every step leaves a state well formed, and keeps the machine's sizes. So every reached state is.
-use Rattle.std.proofs.Common.{◌≡◌, ℕ, ◌+◌, ◌*◌, ◌/◌, ◌<◌, ◌≤◌, nat_lt, Bool, if◌then◌else◌, List, [], ◌∷◌, ◌++◌, replicate, Option, Some, None, refl, sym, ap, subst, ◌∙◌, inl, inr, arith}
+use Rattle.std.proofs.Common.{◌≡◌, ℕ, ◌+◌, ◌*◌, ◌/◌, ◌<◌, ◌≤◌, List, [], ◌∷◌, ◌++◌, replicate, Option, Some, None, refl, sym, ap, subst, ◌∙◌, inl, inr, arith}
 use Rattle.std.specs.Prelude.{IfSome, unwrap_or, Result, Ok, Err, IfOk, IsErr}
 use Rattle.std.specs.List.{All}
-use Rattle.std.proofs.lemmas.Bool.{cases_Bool, cases_lt, ltb-true}
+use Rattle.std.proofs.lemmas.Bool.{cases_lt}
 use Rattle.std.proofs.lemmas.List.{length-set, length-replicate, get_or-replicate, get_or_past}
 use Rattle.std.proofs.lemmas.List.Sums.{fold-append}
 use Rattle.std.proofs.lemmas.List.Elements.{All-nil, All-head, All-tail, All-push}
@@ -22,6 +22,7 @@ use Rattle.sci_core.specs.WellFormed.{NamesNodes, HomeNamesNodes, IsRequestLette
 use Rattle.sci_words.specs.declared.limits.TheConstants.{CONTROLS, MAX_OPERATIONS}
 use Rattle.sci_core.proofs.Nodes.{opening_is_node}
 use Rattle.sci_core.proofs.Lists.{at_place_set}
+use Rattle.sci_core.proofs.Options.{if_below}
 use Rattle.sci_core.proofs.Places.{place_to, place_from, place_requests, place_answers}
 use Rattle.sci_core.proofs.Parts.{SendsWell, RepliesWell, part_issuing, part_performing, part_asking, part_serving, part_refusing, part_replying, part_accepting}
 
@@ -118,13 +119,6 @@ taken_from_well : (core : Core) (n place : ℕ) (taking : Letter → Option Node
 taken_from_well core n place taking [] all takes well = tt
 taken_from_well core n place taking (letter ∷ rest) all takes well =
     taken_as_well core n place rest (taking letter) (takes letter (All-head (IsInLane core.nodes core.lines place) letter rest all)) (All-tail (IsInLane core.nodes core.lines place) letter rest all) well
-
-if_below : (a b : ℕ) (P : Core → Type 0) (then_ : Option Core) → (a < b → IfSome then_ P) → IfSome (if nat_lt a b then then_ else None) P
-if_below a b P then_ h =
-    elim (cases_Bool (nat_lt a b)) [
-      | inl within ↦ subst (λ (t : Bool). IfSome (if t then then_ else None) P) (sym within) (h (ltb-true a b within))
-      | inr beyond ↦ subst (λ (t : Bool). IfSome (if t then then_ else None) P) (sym beyond) tt
-    ]
 
 step_by_well : (core : Core) (n : ℕ) (s : Side) → n < core.nodes → IsWellSide core n s → IsWellFormed core → IfSome (step_by core n s) (StepsWell core)
 step_by_well core n Idle lt is well = tt

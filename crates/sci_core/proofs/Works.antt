@@ -1,5 +1,5 @@
 -- What each event does to a node's work: its pending operations, its count of issues and its log. Serials rise.
-use Rattle.std.proofs.Common.{◌≡◌, ◌≢◌, ℕ, zero, suc, ◌+◌, ◌<◌, nat_lt, List, [], ◌∷◌, ◌++◌, filter, replicate, get_or, set, Option, Some, None, Result, Ok, Err, refl, sym, ap, subst, ◌∙◌, arith, inl, inr}
+use Rattle.std.proofs.Common.{◌≡◌, ◌≢◌, ℕ, ◌+◌, ◌<◌, nat_lt, List, [], ◌∷◌, ◌++◌, filter, get_or, set, Option, Some, None, Result, Ok, Err, refl, sym, ap, subst, ◌∙◌, arith, inl, inr}
 use Rattle.std.specs.Prelude.{IfSome}
 use Rattle.std.specs.List.{AllByRecursion, AllPairs}
 use Rattle.std.proofs.lemmas.Bool.{cases_eq, eq-eqb, ne_eqb}
@@ -17,7 +17,8 @@ use Rattle.sci_cache.specs.Cache.{CacheOf, Letter, cache_asking, cache_accepting
 use Rattle.sci_core.specs.declared.pending.Pending.{Pending}
 use Rattle.sci_core.specs.Node.{NodeOf, opening_node, lines_of, pending_on, entry_of, node_logged, may_issue, node_issued, node_issuing, asked_by, node_asking, accepted_by, node_accepting, IsPendingOn, IsNode}
 use Rattle.sci_core.proofs.Nodes.{some_below}
-use Rattle.sci_core.proofs.Lists.{of_some, if_either, at_place_set}
+use Rattle.sci_core.proofs.Lists.{if_either, at_place_set}
+use Rattle.sci_core.proofs.Options.{none_in, of_some}
 use Rattle.sci_core.proofs.NodeSides.{PerformedAs, ServedAs, At_home, In_cache}
 
 -- ---- events that leave the work as it was
@@ -128,17 +129,9 @@ perform_owns part line done does = sym (ap (λ (entry : Entry). entry.node) does
 none_below : (j : ℕ) → j < 0 → ⊥
 none_below j lt = omega arith
 
-abbrev no_pending : Option Pending
-no_pending = None
-
-all_none : (count line : ℕ) → IfSome (get_or (replicate count no_pending) line None) (λ (p : Pending). AllByRecursion (λ (entry : Entry). entry.serial < p.serial) [])
-all_none zero line = tt
-all_none (suc count) zero = tt
-all_none (suc count) (suc line) = all_none count line
-
 pub opening_serials : (me nodes lines slots limit : ℕ) → HasSerials (opening_node me nodes lines slots limit)
 opening_serials me nodes lines slots limit = record {
   below = tt;
   rising = λ line. (λ i j d lt long. absurd (none_below j long));
-  pending = λ line. all_none lines line;
+  pending = λ line. none_in (λ (p : Pending). AllByRecursion (λ (entry : Entry). entry.serial < p.serial) []) lines line;
 }

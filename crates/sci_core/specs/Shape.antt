@@ -7,6 +7,7 @@ use Rattle.sci_packets.specs.declared.body.Body.TheVariants.{Wback, Fdata}
 use Rattle.sci_home.specs.declared.state.HomeState.{HomeState}
 use Rattle.sci_home.specs.declared.state.HomeState.TheVariants as at
 use Rattle.sci_home.specs.Serving.{current_of}
+use Rattle.sci_history.specs.Seen.{IsAmong}
 use Rattle.sci_cache.specs.State.{CacheState, Asking, Joining, FreshJoining, Below, Rolling, contents_of}
 use Rattle.sci_core.specs.Core.{Core}
 use Rattle.sci_core.specs.Sharing.{packets_of, sharer_of, home_at, authority_contents, last_at}
@@ -48,18 +49,19 @@ pub record IsSplit (core : Core) (line : ℕ) (nodes before : List ℕ) (a : ℕ
 
 -- ---- the clauses, beside that of the list itself
 
--- one node of the machine is the authority, and no other is
-pub record HasOneAuthority (core : Core) (line : ℕ) : Type 0 where
+-- one node of the machine, which is in the list, is the authority, and no other is
+pub record HasOneAuthority (core : Core) (line : ℕ) (nodes : List ℕ) : Type 0 where
   pub node : ℕ
   pub some : node < core.nodes
+  pub listed : IsAmong node nodes
   pub authority : IsAuthority core line node
   pub only : (n : ℕ) → IsAuthority core line n → n ≡ node
 
 -- a line that its home has alone has no authority, and any other has exactly one
-abbrev pub HasAuthorities : Core → ℕ → HomeState → Type 0
-HasAuthorities core line (at.Home c) = (n : ℕ) → IsAuthority core line n → ⊥
-HasAuthorities core line (at.Fresh p c) = HasOneAuthority core line
-HasAuthorities core line (at.Gone p) = HasOneAuthority core line
+abbrev pub HasAuthorities : Core → ℕ → List ℕ → HomeState → Type 0
+HasAuthorities core line nodes (at.Home c) = (n : ℕ) → IsAuthority core line n → ⊥
+HasAuthorities core line nodes (at.Fresh p c) = HasOneAuthority core line nodes
+HasAuthorities core line nodes (at.Gone p) = HasOneAuthority core line nodes
 
 -- before the authority stand only members that come, and after it only members that follow
 pub record StandInOrder (core : Core) (line : ℕ) (nodes : List ℕ) : Type 0 where
@@ -91,7 +93,7 @@ pub record IsFreshDown (core : Core) (line : ℕ) (nodes : List ℕ) : Type 0 wh
 pub record HasShape (core : Core) (line : ℕ) : Type 0 where
   pub nodes : List ℕ
   pub list : IsSharingList core line nodes
-  pub authorities : HasAuthorities core line (home_at core line)
+  pub authorities : HasAuthorities core line nodes (home_at core line)
   pub order : StandInOrder core line nodes
   pub contents : HaveContents core line nodes (last_at core line)
   pub fresh : IsFreshDown core line nodes

@@ -1,5 +1,6 @@
 -- The sharing list of a line, from the home's head along the links of its members.
-use Rattle.std.specs.Prelude.{◌≡◌, ◌⊎◌, ℕ, List, [], ◌∷◌, Option, Some, None}
+use Rattle.std.specs.Prelude.{◌≡◌, ℕ, List, [], ◌∷◌, Option, Some, None}
+use Rattle.sci_history.specs.Seen.{IsAmong}
 use Rattle.sci_cache.specs.Member.{link_of}
 use Rattle.sci_home.specs.Serving.{head_of}
 use Rattle.sci_core.specs.Core.{Core}
@@ -7,14 +8,10 @@ use Rattle.sci_core.specs.Sharing.{sharer_of, home_at}
 
 -- ---- lists along links
 
-abbrev pub IsIn : ℕ → List ℕ → Type 0
-IsIn node [] = ⊥
-IsIn node (n ∷ ns) = (node ≡ n) ⊎ IsIn node ns
-
 -- no node stands twice
 abbrev pub IsOnce : List ℕ → Type 0
 IsOnce [] = Unit {0}
-IsOnce (n ∷ ns) = (IsIn n ns → ⊥) × IsOnce ns
+IsOnce (n ∷ ns) = (IsAmong n ns → ⊥) × IsOnce ns
 
 -- the nodes stand one behind another along the links, from the first; the last one has none behind it
 abbrev pub LinkedFrom : (ℕ → Option (Option ℕ)) → Option ℕ → List ℕ → Type 0
@@ -25,7 +22,7 @@ LinkedFrom link first (n ∷ ns) = (first ≡ Some n) × ((next : Option ℕ) ×
 pub record IsListOf (link : ℕ → Option (Option ℕ)) (first : Option ℕ) (nodes : List ℕ) : Type 0 where
   pub linked : LinkedFrom link first nodes
   pub once : IsOnce nodes
-  pub all : (n : ℕ) (next : Option ℕ) → link n ≡ Some next → IsIn n nodes
+  pub all : (n : ℕ) (next : Option ℕ) → link n ≡ Some next → IsAmong n nodes
 
 -- ---- sharing lists
 

@@ -4,10 +4,10 @@ use Rattle.sci_words.specs.declared.limits.TheConstants.{MAX_NODES}
 use Rattle.sci_history.specs.declared.entry.Entry.{Entry}
 use Rattle.sci_history.specs.Placed.{log_of}
 
--- an entry is among some
-abbrev pub IsAmong : Entry → List Entry → Type 0
-IsAmong entry [] = ⊥
-IsAmong entry (e ∷ entries) = (entry ≡ e) ⊎ IsAmong entry entries
+-- an element is among some
+abbrev pub IsAmong : {X : Type 0} → X → List X → Type 0
+IsAmong x [] = ⊥
+IsAmong x (y ∷ ys) = (x ≡ y) ⊎ IsAmong x ys
 
 -- a node's log has this entry on a line
 pub record DidOn (logs : List (List Entry)) (line node : ℕ) (entry : Entry) : Type 0 where

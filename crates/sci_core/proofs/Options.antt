@@ -1,0 +1,32 @@
+-- Optional values.
+use Rattle.std.proofs.Common.{◌≡◌, ℕ, zero, suc, ◌<◌, nat_lt, Bool, if◌then◌else◌, replicate, get_or, Option, Some, None, refl, sym, subst, inl, inr}
+use Rattle.std.specs.Prelude.{IfSome}
+use Rattle.std.specs.Option.{option_or}
+use Rattle.std.proofs.lemmas.Bool.{cases_Bool, ltb-true}
+
+-- what holds of an optional value if it is there, holds of it
+pub of_some : {X : Type 0} (P : X → Type 0) (o : Option X) (x : X) → o ≡ Some x → IfSome o P → P x
+of_some {X = X} P o x e h = subst (λ (o_ : Option X). IfSome o_ P) e h
+
+-- a value that is there below a bound alone
+pub if_below : {X : Type 0} (a b : ℕ) (P : X → Type 0) (o : Option X) → (a < b → IfSome o P) → IfSome (if nat_lt a b then o else None) P
+if_below a b P o h =
+    elim (cases_Bool (nat_lt a b)) [
+      | inl within ↦ subst (λ (t : Bool). IfSome (if t then o else None) P) (sym within) (h (ltb-true a b within))
+      | inr beyond ↦ subst (λ (t : Bool). IfSome (if t then o else None) P) (sym beyond) tt
+    ]
+
+-- what holds of each value of a list that has none
+pub none_in : {X : Type 0} (P : X → Type 0) (count place : ℕ) → IfSome (get_or (replicate count None) place None) P
+none_in P zero place = tt
+none_in P (suc count) zero = tt
+none_in P (suc count) (suc place) = none_in P count place
+
+-- the first of two that is there
+pub after_none : {X : Type 0} (first second : Option X) → first ≡ None → option_or first second ≡ second
+after_none None second e = refl
+after_none (Some x) second e = cc
+
+pub found_first : {X : Type 0} (first second : Option X) (x : X) → first ≡ Some x → option_or first second ≡ Some x
+found_first None second x e = cc
+found_first (Some y) second x e = e
