@@ -13,7 +13,7 @@ use Rattle.sci_text.specs.declared.operation.Command.{Command}
 use Rattle.sci_text.specs.declared.operation.Command.TheVariants as commands
 use Rattle.sci_text.specs.Number.{field}
 use Rattle.sci_text.specs.Operation.{act_word, act_operands, operation, ActFits}
-use Rattle.sci_text.specs.Reading.{◌>>=◌, fitting, field_read, after, byte, otherwise, named, command_read, pair_read, one, two, operands_read, made, operation_read}
+use Rattle.sci_text.specs.Reading.{◌>>=◌, fitting, field_read, after, byte, otherwise, named, command_read, pair_read, one, two, operands_read, made, operation_after, operation_read}
 use Rattle.sci_text.proofs.Numbers.{fitting_below, fitting_above, Ends, field_again, ends_field, field_found}
 use Rattle.sci_text.proofs.Words.{after_found}
 
@@ -262,7 +262,7 @@ command_word (Lock (BoundedAdd arg datum)) = refl
 command_word (Lock (WrapAdd arg datum)) = refl
 
 pub operation_again : (op : Op) (rest : List ℕ) → Ends rest → (o : Option Op) × (operation_read (operation op ++ rest) ≡ Some (o, rest)) × SomeIff o (OpFits op) op
-unfolding operation operation_read
+unfolding operation operation_after operation_read
 operation_again op rest ends =
     let last = act_operands op.act ++ rest in
     let regrouped : (act_word op.act ++ (field op.line ++ (field op.word ++ act_operands op.act))) ++ rest ≡ act_word op.act ++ (field op.line ++ (field op.word ++ last)) = simp append_assoc in
@@ -274,7 +274,7 @@ operation_again op rest ends =
 
 pub operation_found : (bytes : List ℕ) (o : Option Op) (rest : List ℕ) → operation_read bytes ≡ Some (o, rest)
     → (op : Op) × (bytes ≡ operation op ++ rest) × SomeIff o (OpFits op) op
-unfolding operation operation_read
+unfolding operation operation_after operation_read
 operation_found bytes o rest e =
     let a = bind_some (command_read bytes) (λ c. field_read c.1 >>= λ line. field_read line.1 >>= λ word. operands_read c.0 word.1 >>= λ act. Some (made line.0 word.0 act.0, act.1)) (o, rest) e in
     let b = bind_some (field_read a.0.1) (λ line. field_read line.1 >>= λ word. operands_read a.0.0 word.1 >>= λ act. Some (made line.0 word.0 act.0, act.1)) (o, rest) a.2 in

@@ -106,13 +106,18 @@ made line word act = do
   a ← act
   Some (record { line = l; word = w; act = a })
 
+-- the operation whose word stands before the bytes
+unfoldable pub operation_after : Command → List ℕ → Option (Option Op × List ℕ)
+operation_after command bytes = do
+  line ← field_read bytes
+  word ← field_read line.1
+  act ← operands_read command word.1
+  Some (made line.0 word.0 act.0, act.1)
+
 unfoldable pub operation_read : List ℕ → Option (Option Op × List ℕ)
 operation_read bytes = do
   command ← command_read bytes
-  line ← field_read command.1
-  word ← field_read line.1
-  act ← operands_read command.0 word.1
-  Some (made line.0 word.0 act.0, act.1)
+  operation_after command.0 command.1
 
 -- ---- lines
 

@@ -4,7 +4,7 @@ ghost use Rattle.std.specs.Prelude.{◌≡◌};
 ghost use Rattle.sci_text.specs.Reading.{Gives, version_read, eight, words_read, stamped_of, last_line_read, reply_read, serial_of, entry_of, issue_read, outcome_read, entry_line_read, log_line_read};
 
 use crate::number::{Number, field, number};
-use crate::operation::{Command, after, byte, command_of, operation, pair};
+use crate::operation::{Command, after, byte, command_of, operation_after, pair};
 use sci_history::Entry;
 use sci_words::{Line, Op, Reply, Stamped, Word};
 
@@ -134,15 +134,15 @@ fn entry(
 }
 
 /// Node, serial, command and operation of `n serial OP` at the front of `bytes`, and the bytes after it.
-#[tactic(auto, unfolding(crate::specs::Reading::issue_read))]
+#[tactic(auto, unfolding(crate::specs::Reading::issue_read, crate::specs::Reading::operation_read))]
 fn issue(bytes: &[u8]) -> Option<((Number, Number, Command, Option<Op>), &[u8])>
     ensures { Gives (λ x. (x.0, x.1.now)) result (issue_read bytes.now) }
 {
     let (node, rest) = number(bytes)?;
     let (serial, rest) = field(rest)?;
     let gap = after(rest, b" ")?;
-    let (command, _) = command_of(gap)?;
-    let (op, rest) = operation(gap)?;
+    let (command, rest) = command_of(gap)?;
+    let (op, rest) = operation_after(command, rest)?;
     Some(((node, serial, command, op), rest))
 }
 

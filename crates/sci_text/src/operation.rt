@@ -1,7 +1,7 @@
 //! Operations, as all texts write them: a word, the line, the place of the word in it, and the operands.
 
 ghost use Rattle.std.specs.Prelude.{◌≡◌};
-ghost use Rattle.sci_text.specs.Reading.{Gives, after, byte, pair_read, command_read, operands_read, made, operation_read};
+ghost use Rattle.sci_text.specs.Reading.{Gives, after, byte, pair_read, command_read, operands_read, made, operation_after, operation_read};
 
 use crate::number::{Number, field};
 use sci_words::{Act, LockOp, Op};
@@ -124,6 +124,18 @@ fn made(line: Number, word: Number, act: Option<Act>) -> Option<Op>
     })
 }
 
+/// The operation whose word stood before `bytes`, or None where one of its numbers doesn't fit an `Op`, and the bytes
+/// after it.
+#[tactic(auto, unfolding(crate::specs::Reading::operation_after))]
+pub fn operation_after(command: Command, bytes: &[u8]) -> Option<(Option<Op>, &[u8])>
+    ensures { Gives (λ x. (x.0, x.1.now)) result (operation_after command bytes.now) }
+{
+    let (line, rest) = field(bytes)?;
+    let (word, rest) = field(rest)?;
+    let (act, rest) = operands(command, rest)?;
+    Some((made(line, word, act), rest))
+}
+
 /// The operation at the front of `bytes`, or None where one of its numbers doesn't fit an `Op`, and the bytes
 /// after it.
 #[tactic(auto, unfolding(crate::specs::Reading::operation_read))]
@@ -131,8 +143,5 @@ pub fn operation(bytes: &[u8]) -> Option<(Option<Op>, &[u8])>
     ensures { Gives (λ x. (x.0, x.1.now)) result (operation_read bytes.now) }
 {
     let (command, rest) = command_of(bytes)?;
-    let (line, rest) = field(rest)?;
-    let (word, rest) = field(rest)?;
-    let (act, rest) = operands(command, rest)?;
-    Some((made(line, word, act), rest))
+    operation_after(command, rest)
 }
