@@ -34,30 +34,22 @@ pub fn byte(number: Number) -> Option<u8>
 }
 
 /// The word at the front of `bytes`, and the bytes after it.
-#[tactic(auto, unfolding(crate::specs::Reading::command_read))]
+#[tactic(auto, unfolding(crate::specs::Reading::command_read, crate::specs::Reading::after))]
 pub fn command_of(bytes: &[u8]) -> Option<(Command, &[u8])>
     ensures { Gives (λ x. (x.0, x.1.now)) result (command_read bytes.now) }
 {
-    if let Some(rest) = after(bytes, b"load") {
-        return Some((Command::Load, rest));
-    }
-    if let Some(rest) = after(bytes, b"store") {
-        return Some((Command::Store, rest));
-    }
-    if let Some(rest) = after(bytes, b"mask-swap") {
-        return Some((Command::MaskSwap, rest));
-    }
-    if let Some(rest) = after(bytes, b"compare-swap") {
-        return Some((Command::CompareSwap, rest));
-    }
-    if let Some(rest) = after(bytes, b"fetch-add") {
-        return Some((Command::FetchAdd, rest));
-    }
-    if let Some(rest) = after(bytes, b"bounded-add") {
-        return Some((Command::BoundedAdd, rest));
-    }
-    let rest = after(bytes, b"wrap-add")?;
-    Some((Command::WrapAdd, rest))
+    let (command, word): (Command, &[u8]) = match bytes.first()? {
+        b'l' => (Command::Load, b"load"),
+        b's' => (Command::Store, b"store"),
+        b'm' => (Command::MaskSwap, b"mask-swap"),
+        b'c' => (Command::CompareSwap, b"compare-swap"),
+        b'f' => (Command::FetchAdd, b"fetch-add"),
+        b'b' => (Command::BoundedAdd, b"bounded-add"),
+        b'w' => (Command::WrapAdd, b"wrap-add"),
+        _ => return None,
+    };
+    let rest = after(bytes, word)?;
+    Some((command, rest))
 }
 
 /// Two numbers, each behind one space, and the bytes after them.
