@@ -6,6 +6,7 @@ ghost use Rattle.sci_text.specs.Number.{number as number_text, field as field_te
 ghost use Rattle.sci_text.specs.Operation.{act_operands, act_word as word_of, lock_operands, lock_word as lock_word_of, operation as operation_text};
 ghost use Rattle.sci_text.specs.Log.{entry_line as entry_text, issue_text, last_line as last_text, outcome_text, reply_text, version_text};
 
+use itoa::Buffer;
 use sci_history::Entry;
 use sci_words::{Act, Line, LockOp, Op, Reply, Stamped};
 use std::alloc::AllocError;
@@ -18,16 +19,12 @@ pub fn push_text(out: &mut Vec<u8>, text: &str) -> Result<(), AllocError>
 }
 
 /// Appends a number in decimal digits.
+#[tactic(auto, using(crate::proofs::Digits::number_decimal))]
 pub fn push_number(out: &mut Vec<u8>, n: u64) -> Result<(), AllocError>
     ensures { OnOk result (out.new.items ≡ out.old.items ++ number_text n) }
 {
-    if n < 10 {
-        out.push(b'0' + n as u8)?;
-        return Ok(());
-    }
-    push_number(out, n / 10)?;
-    out.push(b'0' + (n % 10) as u8)?;
-    Ok(())
+    let mut digits = Buffer::new();
+    out.extend_from_slice(digits.format(n).as_bytes())
 }
 
 /// Appends a space and a number.
