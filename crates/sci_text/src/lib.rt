@@ -5,6 +5,7 @@ mod event;
 mod fault;
 mod form;
 mod laws;
+mod line_end;
 mod lines;
 mod log;
 mod log_line;

@@ -1,11 +1,13 @@
 //! Texts, appended to a buffer piece by piece.
 
-ghost use Rattle.std.specs.Prelude.{◌≡◌, ◌++◌, ◌∷◌, [], length, OnOk};
+ghost use Rattle.std.specs.Prelude.{◌≡◌, ◌+◌, ◌≤◌, ◌++◌, ◌∷◌, [], length, OnOk};
 ghost use Rattle.std.specs.List.{flat_map};
+ghost use Rattle.sci_words.specs.declared.limits.TheConstants.{MAX_TEXT_LINE_BYTES};
 ghost use Rattle.sci_text.specs.Number.{number as number_text, field as field_text};
 ghost use Rattle.sci_text.specs.Operation.{act_operands, act_word as word_of, lock_operands, lock_word as lock_word_of, operation as operation_text};
 ghost use Rattle.sci_text.specs.Log.{entry_line as entry_text, issue_text, last_line as last_text, outcome_text, reply_text, version_text};
 
+use crate::line_end::LineEnd;
 use itoa::Buffer;
 use sci_history::Entry;
 use sci_words::{Act, Line, LockOp, Op, Reply, Stamped};
@@ -37,7 +39,8 @@ pub fn push_field(out: &mut Vec<u8>, n: u64) -> Result<(), AllocError>
 }
 
 fn lock_word(lock: LockOp) -> &'static str
-    ensures { result.now ≡ lock_word_of lock }
+    ensures word { result.now ≡ lock_word_of lock }
+    ensures short { length result.now ≤ 12 }
 {
     match lock {
         LockOp::MaskSwap { .. } => "mask-swap",
@@ -49,7 +52,8 @@ fn lock_word(lock: LockOp) -> &'static str
 }
 
 fn act_word(act: Act) -> &'static str
-    ensures { result.now ≡ word_of act }
+    ensures word { result.now ≡ word_of act }
+    ensures short { length result.now ≤ 12 }
 {
     match act {
         Act::Load => "load",
@@ -58,57 +62,101 @@ fn act_word(act: Act) -> &'static str
     }
 }
 
-fn push_lock_operands(out: &mut Vec<u8>, lock: LockOp) -> Result<(), AllocError>
-    ensures { OnOk result (out.new.items ≡ out.old.items ++ lock_operands lock) }
+fn put_lock_operands(line: &mut LineEnd, lock: LockOp)
+    requires { 42 + length line.old ≤ MAX_TEXT_LINE_BYTES }
+    ensures text { line.new ≡ lock_operands lock ++ line.old }
+    ensures short { length line.new ≤ 42 + length line.old }
 {
     match lock {
-        LockOp::FetchAdd { datum } => push_field(out, datum),
+        LockOp::FetchAdd { datum } => line.put_field(datum),
         LockOp::MaskSwap { arg, datum }
         | LockOp::CompareSwap { arg, datum }
         | LockOp::BoundedAdd { arg, datum }
         | LockOp::WrapAdd { arg, datum } => {
-            push_field(out, arg)?;
-            push_field(out, datum)
+            line.put_field(datum);
+            line.put_field(arg);
         }
     }
 }
 
-fn push_operands(out: &mut Vec<u8>, act: Act) -> Result<(), AllocError>
-    ensures { OnOk result (out.new.items ≡ out.old.items ++ act_operands act) }
+fn put_operands(line: &mut LineEnd, act: Act)
+    requires { 42 + length line.old ≤ MAX_TEXT_LINE_BYTES }
+    ensures text { line.new ≡ act_operands act ++ line.old }
+    ensures short { length line.new ≤ 42 + length line.old }
 {
     match act {
-        Act::Load => Ok(()),
-        Act::Store(word) => push_field(out, word),
-        Act::Lock(lock) => push_lock_operands(out, lock),
+        Act::Load => {}
+        Act::Store(word) => line.put_field(word),
+        Act::Lock(lock) => put_lock_operands(line, lock),
     }
 }
 
-/// Appends an operation.
 #[tactic(auto, unfolding(crate::specs::Operation::operation))]
-pub fn push_operation(out: &mut Vec<u8>, op: Op) -> Result<(), AllocError>
-    ensures { OnOk result (out.new.items ≡ out.old.items ++ operation_text op) }
+fn put_operation(line: &mut LineEnd, op: Op)
+    requires { 96 + length line.old ≤ MAX_TEXT_LINE_BYTES }
+    ensures text { line.new ≡ operation_text op ++ line.old }
+    ensures short { length line.new ≤ 96 + length line.old }
 {
-    push_text(out, act_word(op.act))?;
-    push_field(out, u64::from(op.line))?;
-    push_field(out, u64::from(op.word))?;
-    push_operands(out, op.act)
+    put_operands(line, op.act);
+    line.put_field(u64::from(op.word));
+    line.put_field(u64::from(op.line));
+    line.put_text(act_word(op.act));
 }
 
-fn push_reply(out: &mut Vec<u8>, reply: Reply) -> Result<(), AllocError>
-    ensures { OnOk result (out.new.items ≡ out.old.items ++ reply_text reply) }
+fn put_reply(line: &mut LineEnd, reply: Reply)
+    requires { 20 + length line.old ≤ MAX_TEXT_LINE_BYTES }
+    ensures text { line.new ≡ reply_text reply ++ line.old }
+    ensures short { length line.new ≤ 20 + length line.old }
 {
     match reply {
-        Reply::Stored => push_text(out, "-"),
-        Reply::Got(word) => push_number(out, word),
+        Reply::Stored => line.put_text("-"),
+        Reply::Got(word) => line.put_number(word),
     }
 }
 
 #[tactic(auto, unfolding(crate::specs::Log::version_text))]
-fn push_version(out: &mut Vec<u8>, version: u64) -> Result<(), AllocError>
-    ensures { OnOk result (out.new.items ≡ out.old.items ++ version_text version) }
+fn put_version(line: &mut LineEnd, version: u64)
+    requires { 22 + length line.old ≤ MAX_TEXT_LINE_BYTES }
+    ensures text { line.new ≡ version_text version ++ line.old }
+    ensures short { length line.new ≤ 22 + length line.old }
 {
-    push_text(out, " @")?;
-    push_number(out, version)
+    line.put_number(version);
+    line.put_text(" @");
+}
+
+#[tactic(auto, unfolding(crate::specs::Log::issue_text))]
+fn put_issue(line: &mut LineEnd, entry: &Entry)
+    requires { 138 + length line.old ≤ MAX_TEXT_LINE_BYTES }
+    ensures text { line.new ≡ issue_text entry.now ++ line.old }
+    ensures short { length line.new ≤ 138 + length line.old }
+{
+    put_operation(line, entry.op);
+    line.put_text(" ");
+    line.put_field(u64::from(entry.serial));
+    line.put_number(u64::from(entry.node));
+}
+
+#[tactic(auto, unfolding(crate::specs::Log::outcome_text))]
+fn put_outcome(line: &mut LineEnd, entry: &Entry)
+    requires { 45 + length line.old ≤ MAX_TEXT_LINE_BYTES }
+    ensures text { line.new ≡ outcome_text entry.now ++ line.old }
+    ensures short { length line.new ≤ 45 + length line.old }
+{
+    put_version(line, entry.version);
+    put_reply(line, entry.reply);
+    line.put_text(" = ");
+}
+
+/// Appends the line of an entry.
+#[tactic(auto, unfolding(crate::specs::Log::entry_line))]
+pub fn push_entry_line(out: &mut Vec<u8>, entry: &Entry) -> Result<(), AllocError>
+    ensures { OnOk result (out.new.items ≡ out.old.items ++ entry_text entry.now) }
+{
+    let mut line = LineEnd::new();
+    line.put_text("\n");
+    put_outcome(&mut line, entry);
+    put_issue(&mut line, entry);
+    out.extend_from_slice(line.as_slice())
 }
 
 fn push_words(out: &mut Vec<u8>, line: &Line) -> Result<(), AllocError>
@@ -121,42 +169,14 @@ fn push_words(out: &mut Vec<u8>, line: &Line) -> Result<(), AllocError>
 }
 
 /// Appends the line of a stamped line of the last contents.
-#[tactic(auto, unfolding(crate::specs::Log::last_line))]
+#[tactic(auto, unfolding(crate::specs::Log::last_line, crate::specs::Log::version_text))]
 pub fn push_last_line(out: &mut Vec<u8>, line: u8, stamped: &Stamped) -> Result<(), AllocError>
     ensures { OnOk result (out.new.items ≡ out.old.items ++ last_text line stamped.now) }
 {
     push_text(out, "last")?;
     push_field(out, u64::from(line))?;
-    push_version(out, stamped.version)?;
+    push_text(out, " @")?;
+    push_number(out, stamped.version)?;
     push_words(out, &stamped.line)?;
-    push_text(out, "\n")
-}
-
-#[tactic(auto, unfolding(crate::specs::Log::issue_text))]
-fn push_issue(out: &mut Vec<u8>, entry: &Entry) -> Result<(), AllocError>
-    ensures { OnOk result (out.new.items ≡ out.old.items ++ issue_text entry.now) }
-{
-    push_number(out, u64::from(entry.node))?;
-    push_field(out, u64::from(entry.serial))?;
-    push_text(out, " ")?;
-    push_operation(out, entry.op)
-}
-
-#[tactic(auto, unfolding(crate::specs::Log::outcome_text))]
-fn push_outcome(out: &mut Vec<u8>, entry: &Entry) -> Result<(), AllocError>
-    ensures { OnOk result (out.new.items ≡ out.old.items ++ outcome_text entry.now) }
-{
-    push_text(out, " = ")?;
-    push_reply(out, entry.reply)?;
-    push_version(out, entry.version)
-}
-
-/// Appends the line of an entry.
-#[tactic(auto, unfolding(crate::specs::Log::entry_line))]
-pub fn push_entry_line(out: &mut Vec<u8>, entry: &Entry) -> Result<(), AllocError>
-    ensures { OnOk result (out.new.items ≡ out.old.items ++ entry_text entry.now) }
-{
-    push_issue(out, entry)?;
-    push_outcome(out, entry)?;
     push_text(out, "\n")
 }
