@@ -6,6 +6,9 @@ ghost use Rattle.sci_text.specs.Reading.{Gives, with_digit, digits_read, number_
 /// A number of a text, or None where it is 2^64 or more.
 pub type Number = Option<u64>;
 
+/// The lowest number of 19 digits. Each below it has room for a digit more in 64 bits.
+const LONG: u64 = 1_000_000_000_000_000_000;
+
 /// The number with one more digit at its end.
 #[tactic(auto, unfolding(crate::specs::Reading::with_digit))]
 fn with_digit(number: Number, digit: u8) -> Number
@@ -32,6 +35,24 @@ fn with_digits(front: Number, bytes: &[u8]) -> (Number, &[u8])
     (number, rest)
 }
 
+/// As `with_digits`, where the first digits are a number of 64 bits. Only a long number is tested digit by digit for
+/// whether it still is one.
+#[tactic(auto, unfolding(crate::specs::Reading::digits_read, crate::specs::Reading::with_digit))]
+fn with_more_digits(front: u64, bytes: &[u8]) -> (Number, &[u8])
+    ensures { (result.0, result.1.now) ≡ digits_read (Some front) bytes.now }
+{
+    let mut number = front;
+    let mut rest = bytes;
+    while let [digit @ b'0'..=b'9', more @ ..] = rest {
+        if number >= LONG {
+            return with_digits(Some(number), rest);
+        }
+        number = number * 10 + u64::from(*digit - b'0');
+        rest = more;
+    }
+    (Some(number), rest)
+}
+
 /// The number at the front of `bytes`, and the bytes after it. It has no leading zero, and any number of
 /// digits.
 #[tactic(auto, unfolding(crate::specs::Reading::number_read))]
@@ -40,7 +61,7 @@ pub fn number(bytes: &[u8]) -> Option<(Number, &[u8])>
 {
     match bytes {
         [b'0', rest @ ..] => Some((Some(0), rest)),
-        [digit @ b'1'..=b'9', rest @ ..] => Some(with_digits(Some(u64::from(*digit - b'0')), rest)),
+        [digit @ b'1'..=b'9', rest @ ..] => Some(with_more_digits(u64::from(*digit - b'0'), rest)),
         _ => None,
     }
 }
