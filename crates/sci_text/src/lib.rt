@@ -26,7 +26,7 @@ pub use laws::{
     no_fault, no_log_fault, one_fault, one_log, one_log_fault, one_script, written_again,
 };
 pub use printing::{push_field, push_number, push_text};
-pub use reading::{read_logs, read_script};
+pub use reading::{read_input, read_logs, read_script};
 pub use schedule::Schedule;
 pub use schedule_laws::{no_schedule_fault, one_schedule, one_schedule_fault};
 pub use schedule_reading::read_schedule;

@@ -23,8 +23,10 @@ use std::io::Read;
 /// Bytes that are asked for in one read.
 const BLOCK_BYTES: usize = 65_536;
 
-/// All bytes that the reader has.
-pub(crate) fn read_input<R: Read>(alloc: Global, reader: &mut Tap<R>) -> Result<Vec<u8>, TextFault>
+/// All bytes that the reader has. A refusal is Read where the reader failed, TooMany for an input above
+/// 134,217,728 bytes, and Memory where a growth was refused; each has line 0. The caller sees to it that the tap has
+/// not failed before.
+pub fn read_input<R: Read>(alloc: Global, reader: &mut Tap<R>) -> Result<Vec<u8>, TextFault>
     requires { has_failed reader.old ≡ false }
     ensures bytes { IfOk result (λ bytes. IfSome (R.remaining (tapped reader.old)) (λ input. bytes.items ≡ input)) }
     ensures few { IfOk result (λ bytes. length bytes.items ≤ MAX_INPUT_BYTES) }

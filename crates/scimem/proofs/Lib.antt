@@ -1,5 +1,4 @@
 pub mod Answered
-pub mod Numbers
 pub mod OneDecoding
 pub mod Runs
 pub mod Written

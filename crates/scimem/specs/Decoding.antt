@@ -1,7 +1,9 @@
 -- What is written for bytes that may be a run of packets.
-use Rattle.std.specs.Prelude.{◌≡◌, ℕ, ◌<◌, ◌≤◌, ◌⊎◌, Bool, true, false, List, [], ◌∷◌, ◌++◌, length, codes, All, Option, Some, IfSome}
+use Rattle.std.specs.Prelude.{◌≡◌, ℕ, ◌<◌, ◌≤◌, ◌⊎◌, Bool, false, List, [], ◌∷◌, ◌++◌, length, codes, All, Option, Some, IfSome}
 use Rattle.std.specs.List.{flat_map}
 use Rattle.sci_words.specs.declared.limits.TheConstants.{MAX_INPUT_BYTES}
+use Rattle.sci_text.specs.declared.fault.TextFaultKind.{TextFaultKind}
+use Rattle.sci_text.specs.Fault.{IsInputFault}
 use Rattle.sci_text.specs.Number.{field}
 use Rattle.sci_packets.specs.declared.fault.PacketFault.{PacketFault}
 use Rattle.sci_packets.specs.declared.fault.PacketFault.TheVariants.{Short, UnknownCommand, BadOffset, BadIdentifier}
@@ -10,9 +12,8 @@ use Rattle.sci_packets.specs.Fault.{fault_of}
 use Rattle.sci_packets.specs.Spelling.{IsPacket, NoneSpells, spelling}
 use Rattle.scimem.specs.declared.outcome.Outcome.{Outcome}
 use Rattle.scimem.specs.declared.outcome.Outcome.TheVariants.{Done, Refused}
-use Rattle.scimem.specs.declared.reading.InputFault.{InputFault}
-use Rattle.scimem.specs.declared.reading.InputFault.TheVariants as inputs
 use Rattle.scimem.specs.PacketLine.{packet_line}
+use Rattle.scimem.specs.Refusal.{kind_word}
 
 -- the word for what is wrong with a packet
 unfoldable pub fault_word : PacketFault → List ℕ
@@ -60,23 +61,11 @@ pub record IsRunThenFault (input text : List ℕ) : Type 0 where
 abbrev pub IsDecoded : List ℕ → List ℕ → Outcome → Type 0
 IsDecoded input text outcome = (IsRun input text × (outcome ≡ Done)) ⊎ (IsRunThenFault input text × (outcome ≡ Refused))
 
--- the word for why an input can't be read
-unfoldable pub input_fault_word : InputFault → List ℕ
-input_fault_word inputs.Read = codes "read"
-input_fault_word inputs.TooMany = codes "too-many"
-input_fault_word inputs.Memory = codes "memory"
-
--- why an input can't be read: the reader failed, it gives too many bytes, or memory was refused
-abbrev pub IsInputFault : InputFault → Option (List ℕ) → Bool → Type 0
-IsInputFault inputs.Read known failed = failed ≡ true
-IsInputFault inputs.TooMany known failed = (failed ≡ false) × IfSome known (λ input. MAX_INPUT_BYTES < length input)
-IsInputFault inputs.Memory known failed = failed ≡ false
-
 -- the text is the refusal of an input that can't be read
 pub record IsInputRefusal (known : Option (List ℕ)) (failed : Bool) (text : List ℕ) : Type 0 where
-  pub fault : InputFault
-  pub why : IsInputFault fault known failed
-  pub line : text ≡ refusal 0 (input_fault_word fault)
+  pub kind : TextFaultKind
+  pub why : IsInputFault kind known failed
+  pub line : text ≡ refusal 0 (kind_word kind)
 
 -- the text is that of the input, which isn't too long, and the input is the one that is known, where it is
 pub record IsInputDecoded (known : Option (List ℕ)) (text : List ℕ) (outcome : Outcome) : Type 0 where

@@ -5,15 +5,16 @@ ghost use Rattle.std.specs.Io.KnownBytes.{Appends};
 ghost use Rattle.sci_text.specs.Tap.{tapped, has_failed};
 ghost use Rattle.scimem.specs.declared.outcome.Outcome.{Outcome};
 ghost use Rattle.scimem.specs.Writing.{WritesFront};
-ghost use Rattle.scimem.specs.Decoding.{IsDecoded, IsInputDecoded, IsInputFault, IsAnswer, refusal, fault_word, input_fault_word};
+ghost use Rattle.sci_text.specs.Fault.{IsInputFault};
+ghost use Rattle.scimem.specs.Decoding.{IsDecoded, IsInputDecoded, IsAnswer, refusal, fault_word};
+ghost use Rattle.scimem.specs.Refusal.{kind_word};
 
 use crate::outcome::Outcome;
 use crate::packet_line::push_packet;
 use crate::printing::push_labelled;
-use crate::reading::{InputFault, read_all};
 use crate::writing::write_answer;
 use sci_packets::{PacketFault, decode};
-use sci_text::Tap;
+use sci_text::{Tap, TextFaultKind, read_input};
 use std::alloc::{AllocError, Global};
 use std::io::{Read, Write};
 
@@ -43,14 +44,17 @@ fn push_refusal(out: &mut Vec<u8>, place: u64, fault: PacketFault) -> Result<(),
 }
 
 /// The refusal of an input that couldn't be read.
-#[tactic(auto, unfolding(crate::specs::Decoding::refusal, crate::specs::Decoding::input_fault_word, sci_text::specs::Number::number, sci_text::specs::Number::field))]
-fn input_refusal(fault: InputFault) -> &'static [u8]
-    ensures { result.now ≡ refusal 0 (input_fault_word fault) }
+#[tactic(auto, unfolding(crate::specs::Decoding::refusal, crate::specs::Refusal::kind_word, sci_text::specs::Number::number, sci_text::specs::Number::field))]
+fn input_refusal(kind: TextFaultKind) -> &'static [u8]
+    ensures { result.now ≡ refusal 0 (kind_word kind) }
 {
-    match fault {
-        InputFault::Read => b"refused at byte 0: read\n",
-        InputFault::TooMany => b"refused at byte 0: too-many\n",
-        InputFault::Memory => b"refused at byte 0: memory\n",
+    match kind {
+        TextFaultKind::Syntax => b"refused at byte 0: syntax\n",
+        TextFaultKind::Range => b"refused at byte 0: range\n",
+        TextFaultKind::TooMany => b"refused at byte 0: too-many\n",
+        TextFaultKind::Read => b"refused at byte 0: read\n",
+        TextFaultKind::Write => b"refused at byte 0: write\n",
+        TextFaultKind::Memory => b"refused at byte 0: memory\n",
     }
 }
 
@@ -76,16 +80,19 @@ fn text_of(alloc: Global, input: &[u8]) -> Result<(Vec<u8>, Outcome), AllocError
 }
 
 /// The text for the input that the reader gives, read to its end, and how the command ends.
-fn answer<R: Read>(alloc: Global, reader: &mut Tap<R>) -> Result<(Vec<u8>, Outcome), InputFault>
+fn answer<R: Read>(alloc: Global, reader: &mut Tap<R>) -> Result<(Vec<u8>, Outcome), TextFaultKind>
     requires { has_failed reader.old ≡ false }
     ensures text { IfOk result (λ x. IsInputDecoded (R.remaining (tapped reader.old)) x.0.items x.1) }
     ensures unfailed { OnOk result (has_failed reader.new ≡ false) }
-    ensures fault { IfErr result (λ fault. IsInputFault fault (R.remaining (tapped reader.old)) (has_failed reader.new)) }
+    ensures fault { IfErr result (λ kind. IsInputFault kind (R.remaining (tapped reader.old)) (has_failed reader.new)) }
 {
-    let input = read_all(alloc, reader)?;
+    let input = match read_input(alloc, reader) {
+        Ok(input) => input,
+        Err(fault) => return Err(fault.kind),
+    };
     match text_of(alloc, &input) {
         Ok(answer) => Ok(answer),
-        Err(_) => Err(InputFault::Memory),
+        Err(_) => Err(TextFaultKind::Memory),
     }
 }
 
@@ -119,6 +126,6 @@ pub fn decode_bytes<R: Read, W: Write>(
 {
     match answer(alloc, reader) {
         Ok((text, outcome)) => write_answer(writer, &text, outcome),
-        Err(fault) => write_answer(writer, input_refusal(fault), Outcome::Refused),
+        Err(kind) => write_answer(writer, input_refusal(kind), Outcome::Refused),
     }
 }

@@ -9,7 +9,6 @@ mod oracle;
 mod outcome;
 mod packet_line;
 mod printing;
-mod reading;
 mod refusal;
 mod replay;
 mod upgrade;

@@ -3,8 +3,9 @@
 ghost use Rattle.std.specs.Prelude.{◌≡◌, ◌++◌, OnOk};
 ghost use Rattle.scimem.specs.PacketLine.{name_of, identifier_text, contents_text, said_text, packet_line};
 
-use crate::printing::{push_labelled, push_number};
+use crate::printing::push_labelled;
 use sci_packets::{Body, NodeId, Packet};
+use sci_text::{push_field, push_number};
 use sci_words::Stamped;
 use std::alloc::AllocError;
 
@@ -55,7 +56,7 @@ fn push_contents(out: &mut Vec<u8>, contents: &Stamped) -> Result<(), AllocError
     out.extend_from_slice(b" @")?;
     push_number(out, contents.version)?;
     for place in 0..8 {
-        push_labelled(out, b"", contents.line.word(place))?;
+        push_field(out, contents.line.word(place))?;
     }
     Ok(())
 }

@@ -1,4 +1,4 @@
-//! Writing a text.
+//! Writing an answer.
 
 ghost use Rattle.std.specs.Prelude.{◌≡◌, false, true};
 ghost use Rattle.std.specs.Io.KnownBytes.{Appends};
@@ -6,7 +6,7 @@ ghost use Rattle.scimem.specs.Writing.{WritesFront};
 ghost use Rattle.sci_text.specs.Tap.{tapped, has_failed};
 
 use crate::outcome::Outcome;
-use sci_text::Tap;
+use sci_text::{Tap, write_text};
 use std::io::Write;
 
 /// Writes the answer of a command that ends so, and tells how it ends then: it is Refused where a write failed.
@@ -16,25 +16,14 @@ pub fn write_answer<W: Write>(writer: &mut Tap<W>, text: &[u8], outcome: Outcome
     ensures unfailed { has_failed writer.new ≡ false → result ≡ outcome }
     ensures failed { has_failed writer.new ≡ true → result ≡ Outcome.Refused }
 {
-    write_text(writer, text);
     if writer.failed() {
-        Outcome::Refused
-    } else {
-        outcome
+        return Outcome::Refused;
     }
-}
-
-/// Writes the text. After a failed write nothing more is written, and the tap has failed.
-fn write_text<W: Write>(writer: &mut Tap<W>, text: &[u8])
-    ensures front { WritesFront (W.contents (tapped writer.old)) (W.contents (tapped writer.new)) text.now }
-    ensures whole { has_failed writer.new ≡ false → Appends (W.contents (tapped writer.old)) (W.contents (tapped writer.new)) text.now }
-{
-    let mut rest = text;
-    while !rest.is_empty() {
-        match writer.write(rest) {
-            Ok(count) if count > 0 => rest = &rest[count..],
-            _ => return,
-        }
+    if write_text(writer, text).is_err() {
+        return Outcome::Refused;
     }
-    let _ = writer.flush();
+    if writer.flush().is_err() {
+        return Outcome::Refused;
+    }
+    outcome
 }
