@@ -1,6 +1,6 @@
 -- The logs and the last contents where a schedule leads can be written as a text, which says them alone.
-use Rattle.std.proofs.Common.{◌≡◌, ℕ, zero, suc, ◌+◌, ◌%◌, ◌^◌, ◌<◌, ◌≤◌, Bool, true, false, cond, if◌then◌else◌, List, [], ◌∷◌, ◌++◌, All, length, map, filter, get_or, set, replicate, length-set, refl, sym, ap, subst, ◌∙◌, arith, inl, inr}
-use Rattle.std.specs.Prelude.{◌==◌, bit_and, bit_or, Option, Some, None, IfSome}
+use Rattle.std.proofs.Common.{◌≡◌, ℕ, zero, suc, ◌+◌, ◌^◌, ◌<◌, ◌≤◌, Bool, true, false, if◌then◌else◌, List, [], ◌∷◌, All, length, map, filter, get_or, replicate, length-set, refl, sym, ap, subst, ◌∙◌, arith, inl, inr}
+use Rattle.std.specs.Prelude.{◌==◌, bit_and, Option, Some, None, IfSome}
 use Rattle.std.specs.Int.{bit_not, w64}
 use Rattle.std.specs.List.{AllByRecursion, range_with_len}
 use Rattle.std.proofs.Math.Nat.{mod-lt}
@@ -26,8 +26,7 @@ use Rattle.sci_history.specs.declared.entry.Entry.{Entry}
 use Rattle.sci_history.specs.History.{IsHistory}
 use Rattle.sci_history.specs.declared.verdict.Verdict.TheVariants as verdicts
 use Rattle.sci_history.specs.Lawful.{Lawful}
-use Rattle.sci_history.specs.Memory.{reply_of}
-use Rattle.sci_history.specs.Placed.{log_of, AreOwn, is_of_node, is_on_line}
+use Rattle.sci_history.specs.Placed.{log_of, is_of_node, is_on_line}
 use Rattle.sci_history.proofs.Histories.{versions-within}
 use Rattle.sci_history.proofs.Order.{filter_yes, filter_no, all_weaker, all_both, all-filter, all-passes}
 use Rattle.sci_core.specs.Node.{NodeOf, opening_node}
@@ -45,7 +44,7 @@ use Rattle.sci_core.proofs.WellFormedSteps.{SameMachine, run_well}
 use Rattle.sci_text.specs.Operation.{LockFits, ActFits}
 use Rattle.sci_text.specs.Script.{IsWithin}
 use Rattle.sci_text.specs.Schedule.{ScheduleValue, IsEventWithin, IsSchedule, schedule_text}
-use Rattle.sci_text.specs.LogValue.{IsSize, IsForm, format_2, StampedFits, Answers, ReplyFits, AreNumbersWithin, EntryFits, front_of, IsFront, AreLogs, IsLogs}
+use Rattle.sci_text.specs.LogValue.{IsSize, format_2, StampedFits, Answers, ReplyFits, EntryFits, AreLogs, IsLogs}
 use Rattle.sci_text.proofs.LogLaws.{written_again}
 use Rattle.sci_text.proofs.LogUnique.{OnePartition, one_log}
 use Rattle.scimem.specs.declared.outcome.Outcome.{Outcome}
