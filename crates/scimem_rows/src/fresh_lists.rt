@@ -1,132 +1,121 @@
 //! Two nodes that read alone at first, and a claim or a clear that comes too late.
 
-use crate::carried::{ask_cache, ask_home};
-use crate::sharer::Sharer;
+use crate::row::Row;
 use crate::states::*;
 use sci_home::Home;
-use sci_packets::Body;
-use sci_words::{AskKind, Extent, Reply};
+use sci_packets::{Body, NodeId, Packet};
+use sci_words::{AskKind, Reply};
 use std::alloc::Global;
-use std::process::Abort;
 use std::test::*;
 
-/// Two nodes, and the home of line 0.
-#[derive(Drop)]
-struct Two {
-    zero: Sharer,
-    one: Sharer,
-    home: Home,
+/// What a home of zero words answers to a reader, with the head that it knew before.
+fn data_after(old_head: Option<NodeId>) -> Body {
+    Body::Fdata {
+        old_head,
+        contents: contents(0, 0),
+    }
 }
 
 /// Node 0 has read the line, and is its only reader.
-fn one_reader(rt: &impl Abort, alloc: Global) -> Result<Two, Fail> {
-    let extent = Extent::new(2, 1, 1).ok_or("an extent")?;
-    let mut row = Two {
-        zero: Sharer::new(alloc, 0, extent)?,
-        one: Sharer::new(alloc, 1, extent)?,
-        home: Home::new(),
-    };
-    ask_home(&mut row.zero, AskKind::Fread, &mut row.home)?;
-    assert!(rt; row.zero.holds(0, &fresh_head(None, contents(0, 0))));
-    assert_eq!(rt; row.zero.perform(load(0)), Some((Reply::Got(0), 0)));
-    assert_eq!(rt; row.home, fresh(0)?);
+fn one_reader(alloc: Global) -> Result<Row, Fail> {
+    let mut row = Row::new(alloc, 2)?;
+    row.asks_home(0, AskKind::Fread, &data_after(None))?;
+    row.holds(0, &fresh_head(None, contents(0, 0)))?;
+    row.performs(0, load(0), Some((Reply::Got(0), 0)))?;
+    row.home_is(&fresh(0)?)?;
     Ok(row)
 }
 
 /// Node 1 reads the line too, and becomes the head before node 0, which asked to leave or to write too late.
-fn second_reader_joins(rt: &impl Abort, row: &mut Two) -> Result<(), Fail> {
-    let (n0, n1) = (node(0)?, node(1)?);
-    let zero = contents(0, 0);
-    assert!(rt; row.zero.holds(0, &fresh_head(None, zero)));
-    assert!(rt; row.one.holds(0, &fresh_joining(n0, false, zero)));
-    let cdata = ask_cache(&mut row.one, AskKind::Cread, &mut row.zero)?;
-    assert_eq!(rt; cdata, Body::Cdata(zero));
-    assert!(rt; row.zero.holds(0, &below(None, n1, zero)));
-    assert!(rt; row.one.holds(0, &fresh_head(Some(n0), zero)));
-    assert_eq!(rt; row.home, fresh(1)?);
-    assert_eq!(rt; row.one.perform(load(0)), Some((Reply::Got(0), 0)));
-    Ok(())
+fn second_reader_joins(row: &mut Row) -> Result<(), Fail> {
+    let (n0, n1, _) = nodes()?;
+    row.holds(0, &fresh_head(None, contents(0, 0)))?;
+    row.holds(1, &fresh_joining(n0, false, contents(0, 0)))?;
+    row.asks_cache(1, AskKind::Cread, 0, &Body::Cdata(contents(0, 0)))?;
+    row.holds(0, &below(None, n1, contents(0, 0)))?;
+    row.holds(1, &fresh_head(Some(n0), contents(0, 0)))?;
+    row.home_is(&fresh(1)?)?;
+    row.performs(1, load(0), Some((Reply::Got(0), 0)))
+}
+
+/// Node 1, a head that may write once it is alone, purges node 0 and stores.
+fn purge_and_store(row: &mut Row, value: u64) -> Result<(), Fail> {
+    row.asks_cache(1, AskKind::Purge, 0, &Body::Purged { forward: None })?;
+    row.holds(0, &out())?;
+    row.performs(1, store(value), Some((Reply::Stored, 1)))
+}
+
+/// Node 0 claims the line, and the home refuses.
+fn claim_too_late(row: &mut Row) -> Result<(), Fail> {
+    let claim = row.ask(0, AskKind::Claim)?;
+    row.holds(0, &claiming(None, contents(0, 0)))?;
+    let wbno = row.home_serves(&claim, &Body::Wbno)?;
+    row.accept(0, &wbno)
+}
+
+/// Node 1, the head of readers, claims the line, and may not store yet.
+fn head_claims(row: &mut Row) -> Result<(), Fail> {
+    row.performs(1, store(9), None)?;
+    row.asks_home(1, AskKind::Claim, &Body::Wbok)?;
+    row.holds(1, &head(Some(node(0)?), contents(0, 0)))?;
+    row.home_is(&gone(1)?)?;
+    row.performs(1, store(9), None)
 }
 
 #[test]
 fn claim_loses(rt: HostRuntime) -> Result<(), Fail> {
     let n0 = node(0)?;
-    let zero = contents(0, 0);
-    let mut row = one_reader(&rt, rt.alloc())?;
-    let fdata = ask_home(&mut row.one, AskKind::Fread, &mut row.home)?;
-    assert_eq!(rt;
-        fdata,
-        Body::Fdata {
-            old_head: Some(n0),
-            contents: zero
-        }
-    );
-    let claim = row.zero.ask(0, AskKind::Claim)?;
-    assert!(rt; row.zero.holds(0, &claiming(None, zero)));
-    let wbno = serve_home(&mut row.home, &claim)?;
-    assert_eq!(rt; wbno.body, Body::Wbno);
-    row.zero.accept(&wbno)?;
-    second_reader_joins(&rt, &mut row)?;
-    assert_eq!(rt; row.one.perform(store(9)), None);
-    assert_eq!(rt;
-        ask_home(&mut row.one, AskKind::Claim, &mut row.home)?,
-        Body::Wbok
-    );
-    assert!(rt; row.one.holds(0, &head(Some(n0), zero)));
-    assert_eq!(rt; row.home, gone(1)?);
-    assert_eq!(rt; row.one.perform(store(9)), None);
-    let purged = ask_cache(&mut row.one, AskKind::Purge, &mut row.zero)?;
-    assert_eq!(rt; purged, Body::Purged { forward: None });
-    assert!(rt; row.zero.holds(0, &out()));
-    assert_eq!(rt; row.one.perform(store(9)), Some((Reply::Stored, 1)));
-    assert!(rt; row.one.holds(0, &head(None, contents(1, 9))));
-    Ok(())
+    let mut row = one_reader(rt.alloc())?;
+    row.asks_home(1, AskKind::Fread, &data_after(Some(n0)))?;
+    claim_too_late(&mut row)?;
+    second_reader_joins(&mut row)?;
+    head_claims(&mut row)?;
+    purge_and_store(&mut row, 9)?;
+    row.holds(1, &head(None, contents(1, 9)))
+}
+
+/// Node 0 asks to leave. Before its request comes, node 1 has this answer from the home, which then refuses the
+/// request by the answer that is given.
+fn clear_too_late(
+    row: &mut Row,
+    kind: AskKind,
+    answer: &Body,
+    home: &Home,
+) -> Result<Packet, Fail> {
+    let clear = row.ask(0, AskKind::Clear)?;
+    row.holds(0, &clearing(contents(0, 0)))?;
+    row.asks_home(1, kind, answer)?;
+    row.home_is(home)?;
+    let wbno = row.home_serves(&clear, &Body::Wbno)?;
+    row.home_is(home)?;
+    Ok(wbno)
+}
+
+/// Node 1 joins the list of node 0, to write.
+fn writer_joins(row: &mut Row) -> Result<(), Fail> {
+    let (n0, n1, _) = nodes()?;
+    row.holds(1, &joining(n0, false))?;
+    row.asks_cache(1, AskKind::Cread, 0, &Body::Cdata(contents(0, 0)))?;
+    row.holds(1, &head(Some(n0), contents(0, 0)))?;
+    row.holds(0, &below(None, n1, contents(0, 0)))
 }
 
 #[test]
 fn clear_loses(rt: HostRuntime) -> Result<(), Fail> {
-    let (n0, n1) = (node(0)?, node(1)?);
-    let zero = contents(0, 0);
-    let mut row = one_reader(&rt, rt.alloc())?;
-    let clear = row.zero.ask(0, AskKind::Clear)?;
-    assert!(rt; row.zero.holds(0, &clearing(zero)));
-    let mgone = ask_home(&mut row.one, AskKind::Mread, &mut row.home)?;
-    assert_eq!(rt; mgone, Body::Mgone { old_head: n0 });
-    let wbno = serve_home(&mut row.home, &clear)?;
-    assert_eq!(rt; wbno.body, Body::Wbno);
-    assert_eq!(rt; row.home, gone(1)?);
-    row.zero.accept(&wbno)?;
-    assert!(rt; row.zero.holds(0, &fresh_head(None, zero)));
-    assert!(rt; row.one.holds(0, &joining(n0, false)));
-    let cdata = ask_cache(&mut row.one, AskKind::Cread, &mut row.zero)?;
-    assert_eq!(rt; cdata, Body::Cdata(zero));
-    assert!(rt; row.one.holds(0, &head(Some(n0), zero)));
-    assert!(rt; row.zero.holds(0, &below(None, n1, zero)));
-    let purged = ask_cache(&mut row.one, AskKind::Purge, &mut row.zero)?;
-    assert_eq!(rt; purged, Body::Purged { forward: None });
-    assert!(rt; row.zero.holds(0, &out()));
-    assert_eq!(rt; row.one.perform(store(5)), Some((Reply::Stored, 1)));
-    Ok(())
+    let mgone = Body::Mgone { old_head: node(0)? };
+    let mut row = one_reader(rt.alloc())?;
+    let wbno = clear_too_late(&mut row, AskKind::Mread, &mgone, &gone(1)?)?;
+    row.accept(0, &wbno)?;
+    row.holds(0, &fresh_head(None, contents(0, 0)))?;
+    writer_joins(&mut row)?;
+    purge_and_store(&mut row, 5)
 }
 
 #[test]
 fn clear_loses_to_fresh(rt: HostRuntime) -> Result<(), Fail> {
-    let n0 = node(0)?;
-    let zero = contents(0, 0);
-    let mut row = one_reader(&rt, rt.alloc())?;
-    let clear = row.zero.ask(0, AskKind::Clear)?;
-    assert!(rt; row.zero.holds(0, &clearing(zero)));
-    let fdata = ask_home(&mut row.one, AskKind::Fread, &mut row.home)?;
-    assert_eq!(rt;
-        fdata,
-        Body::Fdata {
-            old_head: Some(n0),
-            contents: zero
-        }
-    );
-    assert_eq!(rt; row.home, fresh(1)?);
-    let wbno = serve_home(&mut row.home, &clear)?;
-    assert_eq!(rt; wbno.body, Body::Wbno);
-    row.zero.accept(&wbno)?;
-    second_reader_joins(&rt, &mut row)
+    let fdata = data_after(Some(node(0)?));
+    let mut row = one_reader(rt.alloc())?;
+    let wbno = clear_too_late(&mut row, AskKind::Fread, &fdata, &fresh(1)?)?;
+    row.accept(0, &wbno)?;
+    second_reader_joins(&mut row)
 }

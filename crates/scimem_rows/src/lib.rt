@@ -6,8 +6,6 @@
 #[cfg(test)]
 mod bounded;
 #[cfg(test)]
-mod carried;
-#[cfg(test)]
 mod choices;
 #[cfg(test)]
 mod fresh_lists;
@@ -21,6 +19,8 @@ mod plain_lists;
 mod random;
 #[cfg(test)]
 mod requests;
+#[cfg(test)]
+mod row;
 #[cfg(test)]
 mod schedules;
 #[cfg(test)]

@@ -53,7 +53,7 @@ impl Sharer {
     }
 
     /// Why this kind isn't asked about a line, nor told that it would be.
-    pub fn refusal(&mut self, line: u8, kind: AskKind) -> Option<AskFault> {
+    fn refusal(&mut self, line: u8, kind: AskKind) -> Option<AskFault> {
         if line >= self.lines || self.cache.asked(line, kind).is_some() {
             return None;
         }
@@ -61,6 +61,17 @@ impl Sharer {
             Ok(_) => None,
             Err(fault) => Some(fault),
         }
+    }
+
+    /// An error where this kind isn't refused about a line for this reason.
+    pub fn refuses(&mut self, line: u8, kind: AskKind, fault: AskFault) -> Result<(), Fail> {
+        let refusal = self.refusal(line, kind);
+        if refusal != Some(fault) {
+            return Err(Fail::new(format_args!(
+                "{kind:?} is refused by {refusal:?}, and not {fault:?}"
+            )));
+        }
+        Ok(())
     }
 
     /// The answer to a request of another cache.
@@ -85,15 +96,37 @@ impl Sharer {
     }
 
     /// The reply and the version of an operation, or None where it isn't allowed.
-    pub fn perform(&mut self, op: Op) -> Option<(Reply, u64)> {
+    fn perform(&mut self, op: Op) -> Option<(Reply, u64)> {
         if op.line >= self.lines || op.word >= 8 {
             return None;
         }
         self.cache.perform(op)
     }
 
-    /// Whether this is the state of the line.
-    pub fn holds(&self, line: u8, held: &Held) -> bool {
-        line < self.lines && self.cache.held(line) == held
+    /// An error where an operation has another reply or version, or is allowed or not otherwise than it has to be.
+    pub fn performs(&mut self, op: Op, outcome: Option<(Reply, u64)>) -> Result<(), Fail> {
+        let found = self.perform(op);
+        if found != outcome {
+            return Err(Fail::new(format_args!(
+                "node {} answers {found:?}, and not {outcome:?}",
+                self.me
+            )));
+        }
+        Ok(())
+    }
+
+    /// An error where this isn't the state of the line.
+    pub fn holds(&self, line: u8, held: &Held) -> Result<(), Fail> {
+        if line >= self.lines {
+            return Err(Fail::from("no such line"));
+        }
+        let found = self.cache.held(line);
+        if found != held {
+            return Err(Fail::new(format_args!(
+                "node {} holds {found:?}, and not {held:?}",
+                self.me
+            )));
+        }
+        Ok(())
     }
 }

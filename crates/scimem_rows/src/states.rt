@@ -10,6 +10,11 @@ pub fn node(number: u16) -> Result<NodeId, Fail> {
     Ok(NodeId::new(number).ok_or("the number of a node")?)
 }
 
+/// Nodes 0, 1 and 2.
+pub fn nodes() -> Result<(NodeId, NodeId, NodeId), Fail> {
+    Ok((node(0)?, node(1)?, node(2)?))
+}
+
 /// Contents of this version whose first word is `word` and whose other words are 0.
 pub fn contents(version: u64, word: u64) -> Stamped {
     Stamped {

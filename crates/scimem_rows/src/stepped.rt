@@ -4,7 +4,7 @@ use crate::bounded::Bounded;
 use sci_cache::Held;
 use sci_core::LaneKind;
 use sci_home::Home;
-use sci_packets::{Body, Packet};
+use sci_packets::Body;
 use sci_text::{Tap, read_schedule};
 use std::alloc::{AllocError, Global};
 use std::test::*;
@@ -69,38 +69,56 @@ impl Stepped {
         self.apply_all(events, false)
     }
 
-    /// Whether this is the state of line 0 at a node.
-    pub fn holds(&self, n: u8, held: &Held) -> bool {
-        self.machine.held(n, 0) == Some(held)
+    /// An error where this isn't the state of line 0 at a node.
+    pub fn holds(&self, n: u8, held: &Held) -> Result<(), Fail> {
+        let found = self.machine.held(n, 0);
+        if found != Some(held) {
+            return Err(Fail::new(format_args!("node {n} holds {found:?}, and not {held:?}")));
+        }
+        Ok(())
     }
 
-    /// Whether this is the home of line 0.
-    pub fn home_is(&self, home: &Home) -> bool {
-        self.machine.home(0) == Some(home)
+    /// An error where this isn't the home of line 0.
+    pub fn home_is(&self, home: &Home) -> Result<(), Fail> {
+        let found = self.machine.home(0);
+        if found != Some(home) {
+            return Err(Fail::new(format_args!("the home is {found:?}, and not {home:?}")));
+        }
+        Ok(())
     }
 
-    /// The oldest packet of a lane.
-    pub fn front(&self, kind: LaneKind, from: u8, to: u8) -> Option<&Packet> {
-        self.machine.front(kind, from, to)
-    }
-
-    /// Whether this is the oldest answer from one node to another.
-    pub fn answers(&self, from: u8, to: u8, body: Body) -> bool {
-        match self.front(LaneKind::Answers, from, to) {
-            Some(answer) => answer.body == body,
-            None => false,
+    /// An error where the oldest request from one node to another isn't of this number.
+    pub fn requests(&self, from: u8, to: u8, control: u16) -> Result<(), Fail> {
+        match self.machine.front(LaneKind::Requests, from, to) {
+            Some(request) if request.control == control => Ok(()),
+            _ => Err(Fail::from("another request, or none")),
         }
     }
 
-    /// How many entries a node's log has.
-    pub fn entries(&self, n: u8) -> usize {
-        self.machine.entries(n)
+    /// An error where this isn't the oldest answer from one node to another.
+    pub fn answers(&self, from: u8, to: u8, body: Body) -> Result<(), Fail> {
+        match self.machine.front(LaneKind::Answers, from, to) {
+            Some(answer) if answer.body == body => Ok(()),
+            found => Err(Fail::new(format_args!("{found:?} is under way, and not {body:?}"))),
+        }
     }
 
-    /// Whether this is the text of the logs and the last contents.
-    pub fn logged(&self, log: &str) -> Result<bool, Fail> {
+    /// An error where a node's log has another number of entries.
+    pub fn has_entries(&self, n: u8, count: usize) -> Result<(), Fail> {
+        let found = self.machine.entries(n);
+        if found != count {
+            return Err(Fail::new(format_args!("node {n} has {found} entries, and not {count}")));
+        }
+        Ok(())
+    }
+
+    /// An error where this isn't the text of the logs and the last contents.
+    pub fn logged(&self, log: &str) -> Result<(), Fail> {
         let mut wanted = Vec::new(self.alloc);
         push_lines(&mut wanted, log)?;
-        Ok(self.machine.text(self.alloc)? == wanted)
+        if self.machine.text(self.alloc)? != wanted {
+            return Err(Fail::from("other logs or last contents"));
+        }
+        Ok(())
     }
 }
