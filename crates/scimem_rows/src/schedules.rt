@@ -7,10 +7,9 @@ use sci_packets::Body;
 use std::alloc::Global;
 use std::test::*;
 
-/// The list 2, 1, 0, after nodes 1 and 2 asked to join at one time.
-fn two_join(alloc: Global) -> Result<Stepped, Fail> {
+/// Node 0 stores, and nodes 1 and 2 ask to join its list at one time.
+fn join_at_once(row: &mut Stepped) -> Result<(), Fail> {
     let (n0, n1, _) = nodes()?;
-    let mut row = Stepped::new(alloc, "machine 3 1 1")?;
     row.go("issue 0 store 0 0 7; ask 0 0 mread; serve 0 0; reply 0; accept 0 0; perform 0 0")?;
     row.go(
         "issue 1 load 0 0; issue 2 load 0 0; ask 1 0 mread; ask 2 0 mread; serve 1 0; reply 0; serve 2 0; reply 0; accept 0 1; accept 0 2",
@@ -20,7 +19,13 @@ fn two_join(alloc: Global) -> Result<Stepped, Fail> {
     row.holds(1, &joining(n0, false))?;
     row.holds(2, &joining(n1, true))?;
     row.go("accept 1 2; ask 1 0 cread; serve 1 0; reply 0; accept 0 1; perform 1 0")?;
-    row.go("ask 2 0 cread; serve 2 1; reply 1; accept 1 2; perform 2 0")?;
+    row.go("ask 2 0 cread; serve 2 1; reply 1; accept 1 2; perform 2 0")
+}
+
+/// The list 2, 1, 0, after nodes 1 and 2 asked to join at one time.
+fn two_join(alloc: Global) -> Result<Stepped, Fail> {
+    let mut row = Stepped::new(alloc, "machine 3 1 1")?;
+    join_at_once(&mut row)?;
     Ok(row)
 }
 
@@ -54,10 +59,9 @@ fn purging_a_list(rt: HostRuntime) -> Result<(), Fail> {
     )
 }
 
-#[test]
-fn neighbours_leave(rt: HostRuntime) -> Result<(), Fail> {
+/// Nodes 0 and 1 ask at once to leave. Node 1 has node 0 wait, leaves, and tells it whom it stands behind now.
+fn the_middle_leaves(row: &mut Stepped) -> Result<(), Fail> {
     let (_, n1, n2) = nodes()?;
-    let mut row = two_join(rt.alloc())?;
     row.go("ask 1 0 roll; ask 0 0 roll; serve 0 1; reply 1")?;
     row.answers(1, 0, Body::Busy)?;
     row.holds(0, &rolling(None, n1, contents(1, 7)))?;
@@ -65,7 +69,13 @@ fn neighbours_leave(rt: HostRuntime) -> Result<(), Fail> {
     row.holds(0, &rolling(None, n2, contents(1, 7)))?;
     row.go("reply 0; accept 1 0; accept 0 1")?;
     row.holds(0, &below(None, n2, contents(1, 7)))?;
-    row.holds(1, &out())?;
+    row.holds(1, &out())
+}
+
+#[test]
+fn neighbours_leave(rt: HostRuntime) -> Result<(), Fail> {
+    let mut row = two_join(rt.alloc())?;
+    the_middle_leaves(&mut row)?;
     row.go("ask 0 0 roll; serve 0 2; reply 2; accept 2 0; issue 2 store 0 0 9; perform 2 0")?;
     row.holds(0, &out())?;
     row.holds(2, &head(None, contents(2, 9)))?;
@@ -74,17 +84,22 @@ fn neighbours_leave(rt: HostRuntime) -> Result<(), Fail> {
     )
 }
 
-#[test]
-fn purge_crosses_rollout(rt: HostRuntime) -> Result<(), Fail> {
-    let (n0, n1, n2) = nodes()?;
-    let mut row = two_join(rt.alloc())?;
+/// Node 1 asks to leave while node 2 purges it, and then asks the home again, by its request number 3.
+fn purge_meets_roll(row: &mut Stepped) -> Result<(), Fail> {
     row.go("ask 1 0 roll; ask 2 0 purge; serve 2 1")?;
     row.holds(1, &Held::Fading(Fading))?;
     row.idle("ask 1 0 mread")?;
     row.go("reply 1; serve 1 2; reply 2")?;
     row.answers(2, 1, Body::Busy)?;
     row.go("accept 1 2; accept 2 1; issue 1 load 0 0; ask 1 0 mread")?;
-    row.requests(1, 0, 3)?;
+    row.requests(1, 0, 3)
+}
+
+#[test]
+fn purge_crosses_rollout(rt: HostRuntime) -> Result<(), Fail> {
+    let (n0, n1, n2) = nodes()?;
+    let mut row = two_join(rt.alloc())?;
+    purge_meets_roll(&mut row)?;
     row.go(
         "serve 1 0; reply 0; accept 0 1; ask 1 0 cread; serve 1 2; reply 2; accept 2 1; perform 1 0",
     )?;
@@ -168,10 +183,9 @@ fn one_reader(alloc: Global) -> Result<Stepped, Fail> {
     Ok(row)
 }
 
-#[test]
-fn a_claim_loses(rt: HostRuntime) -> Result<(), Fail> {
+/// Node 0's claim comes too late, and node 1 becomes the head of both readers.
+fn claim_too_late(row: &mut Stepped) -> Result<(), Fail> {
     let (n0, n1, _) = nodes()?;
-    let mut row = one_reader(rt.alloc())?;
     row.go("issue 1 load 0 0; ask 1 0 fread; serve 1 0; reply 0; accept 0 1")?;
     row.go("ask 0 0 claim; serve 0 0; reply 0")?;
     row.answers(0, 0, Body::Wbno)?;
@@ -180,7 +194,14 @@ fn a_claim_loses(rt: HostRuntime) -> Result<(), Fail> {
     )?;
     row.holds(1, &fresh_head(Some(n0), contents(0, 0)))?;
     row.holds(0, &below(None, n1, contents(0, 0)))?;
-    row.idle("perform 1 0")?;
+    row.idle("perform 1 0")
+}
+
+#[test]
+fn a_claim_loses(rt: HostRuntime) -> Result<(), Fail> {
+    let n0 = node(0)?;
+    let mut row = one_reader(rt.alloc())?;
+    claim_too_late(&mut row)?;
     row.go("ask 1 0 claim; serve 1 0; reply 0; accept 0 1")?;
     row.holds(1, &head(Some(n0), contents(0, 0)))?;
     row.idle("perform 1 0")?;
