@@ -1,7 +1,8 @@
 -- Entries that stand by node and serial already are left so.
-use Rattle.std.proofs.Common.{◌≡◌, ℕ, suc, ◌+◌, ◌<◌, ◌≤◌, true, List, [], ◌∷◌, length, get_or, refl, sym, ◌∙◌, subst, arith, inl, inr}
+use Rattle.std.proofs.Common.{◌≡◌, ℕ, suc, ◌+◌, ◌<◌, ◌≤◌, Bool, true, Some, List, [], ◌∷◌, length, get_or, refl, sym, ◌∙◌, subst, arith, inl, inr}
 use Rattle.std.specs.List.{filter, AllByRecursion, IsAllAdjacentAnswer}
 use Rattle.std.specs.Prelude.{All}
+use Rattle.std.specs.Ordering.{is_le, is_some_and, nat_cmp, partial_ordering_then}
 use Rattle.std.proofs.lemmas.Bool.{cases_eq, eq-eqb, ne_eqb, eqb-true}
 use Rattle.std.proofs.lemmas.List.Elements.{recursion_from_All}
 use Rattle.std.proofs.lemmas.Bool.Decides.{nat_tests}
@@ -10,7 +11,7 @@ use denote.Ref.{Bor}
 use Rattle.sci_words.specs.declared.limits.TheConstants.{MAX_NODES}
 use Rattle.sci_history.specs.declared.entry.Entry.{Entry}
 use Rattle.sci_history.specs.Placed.{is_of_node, in_order, above_serials, by_node_and_serial}
-use Rattle.sci_history.specs.Audit.{entries_of, is_read_before}
+use Rattle.sci_history.specs.Audit.{entries_of}
 use Rattle.sci_history.proofs.Order.{IsInOrder, HasKeysBelow, all_weaker, all-filter, all-passes, all_both, filter_yes, filter_no, filter-in_order, in_order_same, in_order-ordered}
 use Rattle.sci_history.proofs.Placement.{above_serials-above}
 use Rattle.sci_history.proofs.AuditFinds.{entry_at, entries_at, no_entry, no_ref}
@@ -18,6 +19,10 @@ use Rattle.sci_history.proofs.AuditFinds.{entry_at, entries_at, no_entry, no_ref
 -- the node doesn't fall, nor within a node the serial
 abbrev Stands : Entry → Entry → Type 0
 Stands first second = (first.node ≤ second.node) × (first.node ≡ second.node → first.serial ≤ second.serial)
+
+-- by node and serial, as a look at two entries compares them
+abbrev pub is_read_before : Entry → Entry → Bool
+is_read_before first second = is_some_and is_le (partial_ordering_then (Some (nat_cmp first.node second.node)) (Some (nat_cmp first.serial second.serial)))
 
 stands : (first second : Entry) → is_read_before first second ≡ true → Stands first second
 stands first second before = (grind (arith, nat_tests), λ same. grind (arith, nat_tests))

@@ -61,10 +61,6 @@ words_after before = line_after_all zero_line (map (λ entry. entry.op) before)
 abbrev pub is_reply_wrong : List Entry → Entry → Bool
 is_reply_wrong before entry = not (same_reply entry.reply (reply_of (words_after before) entry.op))
 
--- whether the first of two entries stands before the second, or with it, by node and serial
-abbrev pub is_read_before : Entry → Entry → Bool
-is_read_before first second = nat_lt first.node second.node || ((first.node == second.node) && nat_le first.serial second.serial)
-
 -- the last of some entries
 abbrev pub last_of : Option Entry → List Entry → Option Entry
 last_of found [] = found

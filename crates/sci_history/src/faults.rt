@@ -3,7 +3,7 @@
 ghost use Rattle.std.specs.Prelude.{◌≡◌, ◌≤◌, ◌<◌, [], true, None, Some, length, not, All, IfOk, IfErr};
 ghost use Rattle.std.specs.Option.{option_copied};
 ghost use Rattle.sci_words.specs.declared.limits.TheConstants.{MAX_NODES, WORDS_PER_LINE};
-ghost use Rattle.sci_history.specs.Audit.{IsFound, breaks_order as breaks_order_of, entries_of, first_disordered, first_failing, first_twice, first_wrong, is_placed_before, is_read_before as is_read_before_of, is_reply_wrong, is_version_missing, same_reply, words_after};
+ghost use Rattle.sci_history.specs.Audit.{IsFound, breaks_order as breaks_order_of, entries_of, first_disordered, first_failing, first_twice, first_wrong, is_placed_before, is_reply_wrong, is_version_missing, same_reply, words_after};
 ghost use Rattle.sci_history.specs.Placed.{by_node_and_serial as by_node_and_serial_of, maker_count, placed_entries};
 
 use crate::entry::Entry;
@@ -14,8 +14,8 @@ use std::collections::BTreeSet;
 
 const NODES: usize = MAX_NODES as usize;
 
-/// A line's entries are copied where they are at most as many as one log can have.
-const FEW: usize = MAX_OPERATIONS as usize;
+/// A line's entries are copied where they are at most so many, which one log can have.
+const MAX_COPIED: usize = MAX_OPERATIONS as usize;
 
 /// A fault of one line.
 #[derive(Clone, Copy)]
@@ -82,19 +82,12 @@ fn version_missing<'a>(entries: &[&'a Entry], makers: u64) -> Option<&'a Entry>
     None
 }
 
-/// Whether the first of two entries stands before the second, or with it, by node and serial.
-fn is_read_before(first: &Entry, second: &Entry) -> bool
-    ensures { result ≡ is_read_before_of first.now second.now }
-{
-    first.node < second.node || (first.node == second.node && first.serial <= second.serial)
-}
-
 /// Whether the entries stand by node and serial already.
 fn are_read_in_order(entries: &[&Entry]) -> bool
     requires { All (λ entry. entry.node < MAX_NODES) (entries_of entries.now) }
     ensures { result ≡ true → by_node_and_serial_of (entries_of entries.now) ≡ entries_of entries.now }
 {
-    entries.is_sorted_by(|first, second| is_read_before(first, second))
+    entries.is_sorted_by_key(|entry| (entry.node, entry.serial))
 }
 
 /// The entries by node, then by serial, then as they stand.
@@ -240,7 +233,7 @@ fn fault_among(
 
 /// The entries that references point to, next to one another.
 fn gathered(alloc: Global, entries: &[&Entry]) -> Result<Vec<Entry>, AllocError>
-    ensures { IfOk result (λ near. near.items ≡ entries_of entries.now) }
+    ensures { IfOk result (λ copies. copies.items ≡ entries_of entries.now) }
 {
     entries.iter().map(|entry| **entry).collect(alloc)
 }
@@ -263,10 +256,10 @@ pub fn line_fault(
     requires words { All (λ entry. entry.op.word < WORDS_PER_LINE) (entries_of entries.now) }
     ensures { IfOk result (IsFound (entries_of entries.now) last) }
 {
-    if entries.len() > FEW {
+    if entries.len() > MAX_COPIED {
         return fault_among(alloc, entries, last);
     }
-    let near = gathered(alloc, entries)?;
-    let near = referred(alloc, &near)?;
-    fault_among(alloc, &near, last)
+    let copies = gathered(alloc, entries)?;
+    let entries = referred(alloc, &copies)?;
+    fault_among(alloc, &entries, last)
 }
