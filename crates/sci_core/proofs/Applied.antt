@@ -14,7 +14,7 @@ use Rattle.sci_core.specs.Core.{Core, node_at, with_node, lane_place, lane_of, w
 use Rattle.sci_core.specs.WellFormed.{IsInLane, IsWellFormed}
 use Rattle.sci_core.proofs.Parts.{SendsWell, part_asking}
 use Rattle.sci_core.proofs.WellFormedSteps.{Comes, comes_from_lane}
-use Rattle.sci_core.proofs.Stepping.{stepping_sent, stepping_taken}
+use Rattle.sci_core.proofs.Stepping.{stepping_sent}
 
 -- ---- packets that come
 
@@ -22,11 +22,11 @@ front_holds : (P : Letter → Type 0) (lane : List Letter) (letter : Letter) →
 front_holds P [] letter e all = cc
 front_holds P (first ∷ rest) letter e all = let same : first ≡ letter = cc in subst P same (All-head P first rest all)
 
-front_comes : (core : Core) (from n : ℕ) (kind : LaneKind) (letter : Letter) → IsWellFormed core → from < core.nodes → n < core.nodes → slice_get (lane_of core kind from n) 0 ≡ Some letter → Comes core n kind letter
+front_comes : (core : Core) (from n : ℕ) (kind : LaneKind) (letter : Letter) → IsWellFormed core → from < core.size.nodes → n < core.size.nodes → slice_get (lane_of core kind from n) 0 ≡ Some letter → Comes core n kind letter
 front_comes core from n kind letter well f lt front =
-    comes_from_lane core from n kind letter f lt (front_holds (IsInLane core.nodes core.lines (lane_place core.nodes kind from n)) (lane_of core kind from n) letter front (well.each_lane (lane_place core.nodes kind from n)))
+    comes_from_lane core from n kind letter f lt (front_holds (IsInLane core.size.nodes core.size.lines (lane_place core.size.nodes kind from n)) (lane_of core kind from n) letter front (well.each_lane (lane_place core.size.nodes kind from n)))
 
-pub servable : (core : Core) (from n : ℕ) (letter : Letter) → IsWellFormed core → from < core.nodes → n < core.nodes → slice_get (lane_of core Requests from n) 0 ≡ Some letter → IsServable (node_at core n) letter
+pub servable : (core : Core) (from n : ℕ) (letter : Letter) → IsWellFormed core → from < core.size.nodes → n < core.size.nodes → slice_get (lane_of core Requests from n) 0 ≡ Some letter → IsServable (node_at core n) letter
 servable core from n letter well f lt front =
     let part = well.each_part n lt in
     let comes = front_comes core from n Requests letter well f lt front in
@@ -36,34 +36,24 @@ servable core from n letter well f lt front =
       home = λ for_home. ap (λ (k : ℕ). letter.line % k) part.all ∙ (comes.0.home for_home ∙ (comes.1 ∙ sym part.me));
     }
 
-pub acceptable : (core : Core) (from n : ℕ) (letter : Letter) → IsWellFormed core → from < core.nodes → n < core.nodes → slice_get (lane_of core Answers from n) 0 ≡ Some letter → IsForNode (node_at core n) letter
+pub acceptable : (core : Core) (from n : ℕ) (letter : Letter) → IsWellFormed core → from < core.size.nodes → n < core.size.nodes → slice_get (lane_of core Answers from n) 0 ≡ Some letter → IsForNode (node_at core n) letter
 acceptable core from n letter well f lt front =
     let part = well.each_part n lt in
     let comes = front_comes core from n Answers letter well f lt front in
     record { target = comes.1 ∙ sym part.me; line = subst (λ (k : ℕ). letter.line < k) (sym part.each) comes.0.letter_ok.about }
 
--- the node takes a packet, and then the packet leaves its lane
-pub taken_done : (core mid new : Core) (e : Event) (kind : LaneKind) (from : ℕ) (taking : Letter → Option NodeOf) (letter : Letter) → node_of e < core.nodes → from < core.nodes → side (node_at core (node_of e)) e ≡ Takes kind from taking
-    → slice_get (lane_of core kind from (node_of e)) 0 ≡ Some letter
-    → (next : NodeOf) × (taking letter ≡ Some next) × (mid ≡ with_node core (node_of e) next)
-    → new ≡ with_lane mid (lane_place mid.nodes kind from (node_of e)) (drop 1 (lane_of mid kind from (node_of e)))
-    → stepping core e ≡ Some new
-taken_done core mid new e kind from taking letter lt f is front done same =
-    stepping_taken core new e kind from taking letter done.0 lt f is front done.1
-    (same ∙ ap (λ (m : Core). with_lane m (lane_place m.nodes kind from (node_of e)) (drop 1 (lane_of m kind from (node_of e)))) done.2)
-
 -- ---- packets that are sent
 
-pub target_below : (core : Core) (n line : ℕ) (kind : AskKind) (next : NodeOf) (letter : Letter) → IsWellFormed core → n < core.nodes → node_asking (node_at core n) line kind ≡ Some (next, letter) → letter.target < core.nodes
+pub target_below : (core : Core) (n line : ℕ) (kind : AskKind) (next : NodeOf) (letter : Letter) → IsWellFormed core → n < core.size.nodes → node_asking (node_at core n) line kind ≡ Some (next, letter) → letter.target < core.size.nodes
 target_below core n line kind next letter well lt e =
-    let sent = subst (λ (o : Option (NodeOf × Letter)). IfSome o (SendsWell core.nodes core.lines core.slots core.limit n)) e
-    (part_asking core.nodes core.lines core.slots core.limit n (node_at core n) line kind well.some_node lt (well.each_part n lt)) in
+    let sent = subst (λ (o : Option (NodeOf × Letter)). IfSome o (SendsWell core.size n)) e
+    (part_asking core.size n (node_at core n) line kind well.some_node lt (well.each_part n lt)) in
     sent.request.letter_ok.target
 
-sent_into : (core new : Core) (e : Event) (kind : LaneKind) (sending : NodeOf → Option (NodeOf × Letter)) (request : Letter) (result : Option Packet) → node_of e < core.nodes
+sent_into : (core new : Core) (e : Event) (kind : LaneKind) (sending : NodeOf → Option (NodeOf × Letter)) (request : Letter) (result : Option Packet) → node_of e < core.size.nodes
     → ((node : NodeOf) → side node e ≡ sends kind (sending node))
     → (x : NodeOf) → sending (node_at core (node_of e)) ≡ Some (x, request)
-    → IfSome result (λ packet. (next : NodeOf) × (sending (node_at core (node_of e)) ≡ Some (next, letter_of packet)) × (new ≡ with_node (with_lane core (lane_place core.nodes kind (node_of e) request.target) (lane_of core kind (node_of e) request.target ++ request ∷ [])) (node_of e) next))
+    → IfSome result (λ packet. (next : NodeOf) × (sending (node_at core (node_of e)) ≡ Some (next, letter_of packet)) × (new ≡ with_node (with_lane core (lane_place core.size.nodes kind (node_of e) request.target) (lane_of core kind (node_of e) request.target ++ request ∷ [])) (node_of e) next))
     → (result ≡ None → sending (node_at core (node_of e)) ≡ None)
     → stepping core e ≡ Some new
 sent_into core new e kind sending request None lt is x made done none = let not = none refl in cc
@@ -75,21 +65,19 @@ sent_into core new e kind sending request (Some packet) lt is x made done none =
     stepping_sent core new e kind next request lt (is (node_at core (node_of e)) ∙ ap (sends kind) sends_it) done.2
 
 -- the packet ends its lane, and then the node changes
-pub sent_done : (core mid new : Core) (e : Event) (kind : LaneKind) (sending : NodeOf → Option (NodeOf × Letter)) (target : ℕ) (request : Letter) (result : Option Packet) → node_of e < core.nodes
+pub sent_done : (core mid new : Core) (e : Event) (kind : LaneKind) (sending : NodeOf → Option (NodeOf × Letter)) (request : Letter) (result : Option Packet) → node_of e < core.size.nodes
     → ((node : NodeOf) → side node e ≡ sends kind (sending node))
     → (x : NodeOf) → sending (node_at core (node_of e)) ≡ Some (x, request)
-    → target ≡ request.target
-    → mid ≡ with_lane core (lane_place core.nodes kind (node_of e) target) (lane_of core kind (node_of e) target ++ request ∷ [])
+    → mid ≡ with_lane core (lane_place core.size.nodes kind (node_of e) request.target) (lane_of core kind (node_of e) request.target ++ request ∷ [])
     → IfSome result (λ packet. (next : NodeOf) × (sending (node_at mid (node_of e)) ≡ Some (next, letter_of packet)) × (new ≡ with_node mid (node_of e) next))
     → (result ≡ None → sending (node_at mid (node_of e)) ≡ None)
     → stepping core e ≡ Some new
-sent_done core mid new e kind sending target request result lt is x made to sent done none =
-    let sent_so = sent ∙ ap (λ (t : ℕ). with_lane core (lane_place core.nodes kind (node_of e) t) (lane_of core kind (node_of e) t ++ request ∷ [])) to in
+sent_done core mid new e kind sending request result lt is x made sent done none =
     sent_into core new e kind sending request result lt is x made
-    (subst (λ (m : Core). IfSome result (λ packet. (next : NodeOf) × (sending (node_at m (node_of e)) ≡ Some (next, letter_of packet)) × (new ≡ with_node m (node_of e) next))) sent_so done)
-    (λ e_none. subst (λ (m : Core). sending (node_at m (node_of e)) ≡ None) sent_so (none e_none))
+    (subst (λ (m : Core). IfSome result (λ packet. (next : NodeOf) × (sending (node_at m (node_of e)) ≡ Some (next, letter_of packet)) × (new ≡ with_node m (node_of e) next))) sent done)
+    (λ e_none. subst (λ (m : Core). sending (node_at m (node_of e)) ≡ None) sent (none e_none))
 
-pub sent_enabled : (core : Core) (e : Event) (kind : LaneKind) (sending : NodeOf → Option (NodeOf × Letter)) → node_of e < core.nodes → ((node : NodeOf) → side node e ≡ sends kind (sending node))
+pub sent_enabled : (core : Core) (e : Event) (kind : LaneKind) (sending : NodeOf → Option (NodeOf × Letter)) → node_of e < core.size.nodes → ((node : NodeOf) → side node e ≡ sends kind (sending node))
     → (x : NodeOf) (request : Letter) → sending (node_at core (node_of e)) ≡ Some (x, request) → IsSome (stepping core e)
 sent_enabled core e kind sending lt is x request made =
     subst IsSome (sym (stepping_sent core _ e kind x request lt (is (node_at core (node_of e)) ∙ ap (sends kind) made) refl)) refl

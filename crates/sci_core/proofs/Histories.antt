@@ -14,7 +14,7 @@ use Rattle.sci_history.specs.History.{IsHistory}
 use Rattle.sci_history.specs.Placed.{is_of_node, is_on_line}
 use Rattle.sci_history.proofs.Order.{filter_yes, filter_no}
 use Rattle.sci_cache.specs.Cache.{Letter}
-use Rattle.sci_core.specs.Node.{NodeOf, opening_node, node_issuing, node_performing, node_asking, node_serving, node_refusing, node_replying, node_accepting, pending_on, IsPendingOn}
+use Rattle.sci_core.specs.Node.{NodeOf, opening_node, node_issuing, node_performing, node_asking, node_serving, node_refusing, node_replying, node_accepting, pending_on, IsPendingOn, no_node}
 use Rattle.sci_core.specs.Core.{Core, node_at, with_node, stepping, step, run_from}
 use Rattle.sci_core.specs.Done.{performed, ChangesBy, made_by, done_from}
 use Rattle.sci_core.specs.Tidy.{IsTidy}
@@ -28,6 +28,7 @@ use Rattle.sci_core.proofs.NodeSides.{PerformedAs, ServedAs, RefusedAs, perform_
 use Rattle.sci_core.proofs.Works.{SameWork, HasSerials, same_serials, issue_serials, issue_log, perform_serials, perform_logs, perform_owns, ask_work, serve_work, accept_work}
 use Rattle.sci_core.proofs.ShapeSteps.{ShapedAt}
 use Rattle.sci_core.proofs.ShapeRuns.{step_follows, pending_known}
+use Rattle.sci_core.specs.Size.{Size}
 
 -- ---- a line's history
 
@@ -45,13 +46,13 @@ history_made (Some entry) line c d e rest changes history =
           (subst (λ (s : Stamped). IsHistory (filter (is_on_line line) rest) s e) (changes.elsewhere other) history)
     ]
 
-pub run_follows : (core : Core) (events : List Event) → IsWellFormed core → IsTidy core → (line : ℕ) → line < core.lines → (c : Stamped) → ShapedAt core line c
+pub run_follows : (core : Core) (events : List Event) → IsWellFormed core → IsTidy core → (line : ℕ) → line < core.size.lines → (c : Stamped) → ShapedAt core line c
     → (d : Stamped) × ShapedAt (run_from core events) line d × IsHistory (filter (is_on_line line) (done_from core events)) c d
 run_follows core [] well tidy line inside c shaped = (c, shaped, refl)
 run_follows core (e ∷ events) well tidy line inside c shaped =
     let one = step_follows core e well tidy line inside c shaped in
     let next = step_well core e well in
-    let rest = run_follows (step core e) events next.well (step_tidy core e well tidy) line (subst (λ (k : ℕ). line < k) (sym next.same.lines) inside) one.0 one.1 in
+    let rest = run_follows (step core e) events next.well (step_tidy core e well tidy) line (subst (λ (size : Size). line < size.lines) (sym next.same) inside) one.0 one.1 in
     (rest.0, rest.1, history_made (made_by core e) line c one.0 rest.0 (done_from (step core e) events) one.2 rest.2)
 
 -- ---- logs
@@ -60,36 +61,36 @@ run_follows core (e ∷ events) well tidy line inside c shaped =
 pub record Logged (core : Core) (made : Option Entry) (new : Core) : Type 0 where
   pub serials : ((n : ℕ) → HasSerials (node_at core n)) → (n : ℕ) → HasSerials (node_at new n)
   pub logs : (n : ℕ) → (node_at new n).log ≡ (node_at core n).log ++ filter (is_of_node n) (option_to_list made)
-  pub within : IfSome made (λ entry. (entry.node < core.nodes) × IsWithin core.lines entry)
+  pub within : IfSome made (λ entry. (entry.node < core.size.nodes) × IsWithin core.size.lines entry)
 
 node_serials : (core : Core) (n : ℕ) (next : NodeOf) → (((j : ℕ) → HasSerials (node_at core j)) → HasSerials next) → ((j : ℕ) → HasSerials (node_at core j)) → (j : ℕ) → HasSerials (node_at (with_node core n next) j)
-node_serials core n next h all = at_place_set (λ (j : ℕ) (part : NodeOf). HasSerials part) core.parts n next (opening_node 0 1 0 0 0) all (h all)
+node_serials core n next h all = at_place_set (λ (j : ℕ) (part : NodeOf). HasSerials part) core.parts n next no_node all (h all)
 
 none_logged : (core : Core) (n : ℕ) (next : NodeOf) (made : Option Entry) → made ≡ None → next.log ≡ (node_at core n).log → (((j : ℕ) → HasSerials (node_at core j)) → HasSerials next) → Logged core made (with_node core n next)
 none_logged core n next made none log serials =
     subst (λ (m : Option Entry). Logged core m (with_node core n next)) (sym none) (record {
       serials = node_serials core n next serials;
-      logs = λ j. at_place_set (λ (i : ℕ) (part : NodeOf). part.log ≡ (node_at core i).log) core.parts n next (opening_node 0 1 0 0 0) (λ i. refl) log j ∙ sym (append-nil (node_at core j).log);
+      logs = λ j. at_place_set (λ (i : ℕ) (part : NodeOf). part.log ≡ (node_at core i).log) core.parts n next no_node (λ i. refl) log j ∙ sym (append-nil (node_at core j).log);
       within = tt;
     })
 
 same_logged : (core : Core) (n : ℕ) (next : NodeOf) (made : Option Entry) → made ≡ None → SameWork (node_at core n) next → Logged core made (with_node core n next)
 same_logged core n next made none same = none_logged core n next made none same.log (λ all. same_serials (node_at core n) next same (all n))
 
-some_logged : (core : Core) (n : ℕ) (next : NodeOf) (entry : Entry) → n < length core.parts → n < core.nodes → entry.node ≡ n → IsWithin core.lines entry → next.log ≡ (node_at core n).log ++ entry ∷ [] → (((j : ℕ) → HasSerials (node_at core j)) → HasSerials next) → Logged core (Some entry) (with_node core n next)
+some_logged : (core : Core) (n : ℕ) (next : NodeOf) (entry : Entry) → n < length core.parts → n < core.size.nodes → entry.node ≡ n → IsWithin core.size.lines entry → next.log ≡ (node_at core n).log ++ entry ∷ [] → (((j : ℕ) → HasSerials (node_at core j)) → HasSerials next) → Logged core (Some entry) (with_node core n next)
 some_logged core n next entry below lt own known log serials = record {
   serials = node_serials core n next serials;
   logs = λ j. elim (cases_eq j n) [
     | inl e ↦
-        let here = ap (λ (part : NodeOf). part.log) (ap (node_at (with_node core n next)) e ∙ get_or-set_same core.parts n next (opening_node 0 1 0 0 0) below) in
+        let here = ap (λ (part : NodeOf). part.log) (ap (node_at (with_node core n next)) e ∙ get_or-set_same core.parts n next no_node below) in
         let one : filter (is_of_node j) (entry ∷ []) ≡ entry ∷ [] = filter_yes (is_of_node j) entry [] (eq-eqb entry.node j (own ∙ sym e)) in
         here ∙ (log ∙ (ap (λ (i : ℕ). (node_at core i).log ++ entry ∷ []) (sym e) ∙ ap (λ (es : List Entry). (node_at core j).log ++ es) (sym one)))
     | inr ne ↦
-        let there = ap (λ (part : NodeOf). part.log) (get_or-set_other core.parts n j next (opening_node 0 1 0 0 0) ne) in
+        let there = ap (λ (part : NodeOf). part.log) (get_or-set_other core.parts n j next no_node ne) in
         let none : filter (is_of_node j) (entry ∷ []) ≡ [] = filter_no (is_of_node j) entry [] (ne_eqb entry.node j (λ e. ne (sym e ∙ own))) in
         there ∙ (sym (append-nil (node_at core j).log) ∙ ap (λ (es : List Entry). (node_at core j).log ++ es) (sym none))
   ];
-  within = (subst (λ (k : ℕ). k < core.nodes) (sym own) lt, known);
+  within = (subst (λ (k : ℕ). k < core.size.nodes) (sym own) lt, known);
 }
 
 stepped_logged : (core new : Core) (e : Event) (made : Option Entry) → IsWellFormed core → Stepped core e made new → Logged core made new
@@ -101,7 +102,7 @@ stepped_logged core new e made well (By_perform n line done lt is then_ some) =
     let part = node_at core n in
     let does = of_some (PerformedAs part line) (node_performing part line) done is (perform_as part line) in
     let own = perform_owns part line done does ∙ (well.each_part n lt).me in
-    let known = subst (IsWithin core.lines) does.entry (pending_known core n line done does lt well, (of_some (IsPendingOn part.issued line) (pending_on part line) does.pending does.here ((well.each_part n lt).fits.each line)).word) in
+    let known = subst (IsWithin core.size.lines) does.entry (pending_known core n line done does lt well, (of_some (IsPendingOn part.issued line) (pending_on part line) does.pending does.here ((well.each_part n lt).fits.each line)).word) in
     let logged = some_logged core n done.0 done.1 (node_below core n well lt) lt own known (perform_logs part line done does) (λ all. perform_serials part line done does (well.each_part n lt).fits (all n)) in
     subst (Logged core made) then_ (subst (λ (m : Option Entry). Logged core m (with_node core n done.0)) (sym some) logged)
 stepped_logged core new e made well (By_ask n line kind sent is sends_well s none) =
@@ -145,8 +146,8 @@ step_logged core e well = after_logged core e (stepping core e) (performed core 
 pub record RunLogged (core : Core) (done : List Entry) (new : Core) : Type 0 where
   pub serials : (n : ℕ) → HasSerials (node_at new n)
   pub logs : (n : ℕ) → (node_at new n).log ≡ (node_at core n).log ++ filter (is_of_node n) done
-  pub nodes : AllByRecursion (λ entry. entry.node < core.nodes) done
-  pub lines : AllByRecursion (IsWithin core.lines) done
+  pub nodes : AllByRecursion (λ entry. entry.node < core.size.nodes) done
+  pub lines : AllByRecursion (IsWithin core.size.lines) done
 
 one_within : (made : Option Entry) (P : Entry → Type 0) (rest : List Entry) → IfSome made P → AllByRecursion P rest → AllByRecursion P (option_to_list made ++ rest)
 one_within None P rest h all = all
@@ -160,10 +161,10 @@ run_logged core (e ∷ events) well serials =
     let rest = run_logged (step core e) events next.well (one.serials serials) in
     let made = made_by core e in
     let more = done_from (step core e) events in
-    let Both = λ (entry : Entry). (entry.node < core.nodes) × IsWithin core.lines entry in
+    let Both = λ (entry : Entry). (entry.node < core.size.nodes) × IsWithin core.size.lines entry in
     record {
       serials = rest.serials;
       logs = λ n. rest.logs n ∙ (ap (λ (log : List Entry). log ++ filter (is_of_node n) more) (one.logs n) ∙ (append_assoc (node_at core n).log (filter (is_of_node n) (option_to_list made)) (filter (is_of_node n) more) ∙ ap (λ (es : List Entry). (node_at core n).log ++ es) (sym (filter-append (is_of_node n) (option_to_list made) more))));
-      nodes = one_within made (λ entry. entry.node < core.nodes) more (IfSome_then made one.within (λ entry h. h.0)) (subst (λ (k : ℕ). AllByRecursion (λ (entry : Entry). entry.node < k) more) next.same.nodes rest.nodes);
-      lines = one_within made (IsWithin core.lines) more (IfSome_then made one.within (λ entry h. h.1)) (subst (λ (k : ℕ). AllByRecursion (IsWithin k) more) next.same.lines rest.lines);
+      nodes = one_within made (λ entry. entry.node < core.size.nodes) more (IfSome_then made one.within (λ entry h. h.0)) (subst (λ (size : Size). AllByRecursion (λ (entry : Entry). entry.node < size.nodes) more) next.same rest.nodes);
+      lines = one_within made (IsWithin core.size.lines) more (IfSome_then made one.within (λ entry h. h.1)) (subst (λ (size : Size). AllByRecursion (IsWithin size.lines) more) next.same rest.lines);
     }

@@ -9,6 +9,7 @@ pub mod Places
 pub mod WellFormedSteps
 pub mod Stepping
 pub mod States
+pub mod Takings
 pub mod Applied
 pub mod Stops
 pub mod Logs

@@ -7,7 +7,7 @@ use Rattle.std.proofs.lemmas.List.FromFn.{fill_by_all}
 use Rattle.sci_words.specs.declared.limits.TheConstants.{MAX_OPERATIONS}
 use Rattle.sci_history.specs.declared.entry.Entry.{Entry}
 use Rattle.sci_history.specs.Placed.{log_of}
-use Rattle.sci_core.specs.Node.{NodeOf, opening_node}
+use Rattle.sci_core.specs.Node.{NodeOf, opening_node, no_node}
 use Rattle.sci_core.specs.Core.{Core, node_at}
 use Rattle.sci_core.specs.Outcome.{logs_of}
 use Rattle.sci_core.specs.WellFormed.{IsWellFormed}
@@ -25,17 +25,17 @@ log_at core n k long =
     elim (cases_lt k n) [
       | inl below ↦ ap (λ (b : Bool). if b then (node_at core k).log else []) (lt-ltb k n below)
       | inr past ↦
-          let none : node_at core k ≡ opening_node 0 1 0 0 0 = get_or_past core.parts k (opening_node 0 1 0 0 0) (omega arith) in
+          let none : node_at core k ≡ no_node = get_or_past core.parts k no_node (omega arith) in
           ap (λ (b : Bool). if b then (node_at core k).log else []) (le-ltb k n past) ∙ sym (ap (λ (node : NodeOf). node.log) none)
     ]
 
 pub all_logs : (core : Core) (logs : List (List Entry)) (n : ℕ) → length core.parts ≡ n → length logs ≡ 16 → ((k : ℕ) → log_of logs k ≡ if nat_lt k n then (node_at core k).log else []) → logs ≡ logs_of core
 all_logs core logs n long sixteen each = fill_by_all (λ (k : ℕ). (node_at core k).log) logs 16 [] sixteen (λ k below. each k ∙ log_at core n k long)
 
-pub own_log : (core : Core) (n : ℕ) → IsWellFormed core → n < core.nodes → All (λ (entry : Entry). entry.node ≡ n) (node_at core n).log
+pub own_log : (core : Core) (n : ℕ) → IsWellFormed core → n < core.size.nodes → All (λ (entry : Entry). entry.node ≡ n) (node_at core n).log
 own_log core n well lt = (well.each_part n lt).own
 
-pub short_log : (core : Core) (n : ℕ) → IsWellFormed core → n < core.nodes → length (node_at core n).log ≤ MAX_OPERATIONS
+pub short_log : (core : Core) (n : ℕ) → IsWellFormed core → n < core.size.nodes → length (node_at core n).log ≤ MAX_OPERATIONS
 short_log core n well lt =
     let part = well.each_part n lt in
     let logged = part.fits.logged in

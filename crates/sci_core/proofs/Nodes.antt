@@ -21,6 +21,7 @@ use Rattle.sci_core.specs.declared.pending.Pending.{Pending}
 use Rattle.sci_core.specs.Node.{NodeOf, IsNode, IsPendingOn, pending_on, lines_of, may_issue, node_issued, opening_node}
 use Rattle.sci_core.specs.Inside.{FitsInside}
 use Rattle.sci_core.proofs.Caches.{SameSizes}
+use Rattle.sci_core.specs.Size.{Size}
 
 pub fits_kept : (number : ℕ) (extent : Extent) (old new : CacheOf) (space limit : ℕ) → SameSizes old new → FitsInside number extent old space limit → FitsInside number extent new space limit
 fits_kept number extent old new space limit same fits = record {
@@ -143,16 +144,16 @@ node_with_issue node op may is =
       limit = is.limit;
     }
 
-pub opening_is_node : (me nodes lines slots limit : ℕ) → 0 < nodes → limit ≤ MAX_OPERATIONS → IsNode (opening_node me nodes lines slots limit)
-opening_is_node me nodes lines slots limit some few = record {
-  homes = length-replicate (lines / nodes + 1) opening_home ∙ ap (λ (k : ℕ). k / nodes + 1) (sym (length-replicate lines untouched));
+pub opening_is_node : (me : ℕ) (size : Size) → 0 < size.nodes → size.limit ≤ MAX_OPERATIONS → IsNode (opening_node me size)
+opening_is_node me size some few = record {
+  homes = length-replicate (size.lines / size.nodes + 1) opening_home ∙ ap (λ (k : ℕ). k / size.nodes + 1) (sym (length-replicate size.lines untouched));
   some_node = some;
-  pending = length-replicate lines None ∙ sym (length-replicate lines untouched);
-  each = λ l. elim (cases_lt l lines) [
-    | inl below ↦ subst (λ (o : Option Pending). IfSome o (IsPendingOn 0 l)) (sym (get_or-replicate lines l None None below)) tt
-    | inr past ↦ subst (λ (o : Option Pending). IfSome o (IsPendingOn 0 l)) (sym (get_or_past (replicate lines None) l None (rw length-replicate past))) tt
+  pending = length-replicate size.lines None ∙ sym (length-replicate size.lines untouched);
+  each = λ l. elim (cases_lt l size.lines) [
+    | inl below ↦ subst (λ (o : Option Pending). IfSome o (IsPendingOn 0 l)) (sym (get_or-replicate size.lines l None None below)) tt
+    | inr past ↦ subst (λ (o : Option Pending). IfSome o (IsPendingOn 0 l)) (sym (get_or_past (replicate size.lines None) l None (rw length-replicate past))) tt
   ];
-  logged = let count : count_by is_some (replicate lines None) ≡ lines * 0 = sum_by-replicate (λ (o : Option Pending). cond {A = ℕ} (is_some o) 1 0) lines None in omega (arith, count);
+  logged = let count : count_by is_some (replicate size.lines None) ≡ size.lines * 0 = sum_by-replicate (λ (o : Option Pending). cond {A = ℕ} (is_some o) 1 0) size.lines None in omega (arith, count);
   issued = omega arith;
   limit = few;
 }

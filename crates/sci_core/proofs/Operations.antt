@@ -8,7 +8,7 @@ use Rattle.sci_words.specs.declared.operation.Op.{Op}
 use Rattle.sci_history.specs.declared.entry.Entry.{Entry}
 use Rattle.sci_cache.specs.Cache.{Letter}
 use Rattle.sci_core.specs.declared.pending.Pending.{Pending}
-use Rattle.sci_core.specs.Node.{NodeOf, opening_node, pending_on, node_issued, node_issuing, may_issue, node_performing, node_asking, node_serving, node_refusing, node_replying, node_accepting}
+use Rattle.sci_core.specs.Node.{NodeOf, opening_node, pending_on, node_issued, node_issuing, may_issue, node_performing, node_asking, node_serving, node_refusing, node_replying, node_accepting, no_node}
 use Rattle.sci_core.specs.Core.{Core, node_at, with_node, stepping, step, opening}
 use Rattle.sci_core.specs.Done.{performed, made_by, done_from}
 use Rattle.sci_core.specs.WellFormed.{IsWellFormed}
@@ -19,6 +19,7 @@ use Rattle.sci_core.proofs.Steps.{Stepped, By_issue, By_perform, By_ask, By_serv
 use Rattle.sci_core.proofs.NodeSides.{PerformedAs, ServedAs, RefusedAs, perform_as, serve_as, refuse_as, reply_as}
 use Rattle.sci_core.proofs.Works.{SameWork, perform_owns, ask_work, serve_work, accept_work}
 use Rattle.sci_core.proofs.ShapeRuns.{each_mapped}
+use Rattle.sci_core.specs.Size.{Size}
 
 -- an event issues only such operations
 abbrev pub IssuesSuch : (ℕ → Op → Type 0) → Event → Type 0
@@ -58,7 +59,7 @@ record Such (Q : ℕ → Op → Type 0) (made : Option Entry) (new : Core) : Typ
   pub entry : IfSome made (λ entry. Q entry.node entry.op)
 
 one_pends : (Q : ℕ → Op → Type 0) (core : Core) (n : ℕ) (next : NodeOf) → AllPendSuch Q core → PendsSuch Q n next → AllPendSuch Q (with_node core n next)
-one_pends Q core n next all here m = at_place_set (λ (j : ℕ) (part : NodeOf). (line : ℕ) → IfSome (pending_on part line) (λ p. Q j p.op)) core.parts n next (opening_node 0 1 0 0 0) all here m
+one_pends Q core n next all here m = at_place_set (λ (j : ℕ) (part : NodeOf). (line : ℕ) → IfSome (pending_on part line) (λ p. Q j p.op)) core.parts n next no_node all here m
 
 none_such : (Q : ℕ → Op → Type 0) (core new : Core) (made : Option Entry) → made ≡ None → AllPendSuch Q new → Such Q made new
 none_such Q core new made none pends = record { pends = pends; entry = subst (λ (m : Option Entry). IfSome m (λ entry. Q entry.node entry.op)) (sym none) tt }
@@ -119,9 +120,9 @@ done_such Q core (e ∷ events) well issues all =
     let one = after_such Q core e (stepping core e) (performed core e) well issues.0 (stepping_stepped core e well) all in
     one_such Q (made_by core e) (done_from (step core e) events) one.entry (done_such Q (step core e) events (step_well core e well).well issues.1 one.pends)
 
-pub opening_pends : (Q : ℕ → Op → Type 0) (nodes lines slots limit : ℕ) → AllPendSuch Q (opening nodes lines slots limit)
-opening_pends Q nodes lines slots limit n line =
-    each_mapped (λ (part : NodeOf). IfSome (pending_on part line) (λ p. Q n p.op)) (λ (m : ℕ). opening_node m nodes lines slots limit) (opening_node 0 1 0 0 0) 0 nodes n (λ m. none_in (λ (p : Pending). Q n p.op) lines line) tt
+pub opening_pends : (Q : ℕ → Op → Type 0) (size : Size) → AllPendSuch Q (opening size)
+opening_pends Q size n line =
+    each_mapped (λ (part : NodeOf). IfSome (pending_on part line) (λ p. Q n p.op)) (λ (m : ℕ). opening_node m size) no_node 0 size.nodes n (λ m. none_in (λ (p : Pending). Q n p.op) size.lines line) tt
 
 -- ---- how many
 

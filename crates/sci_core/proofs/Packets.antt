@@ -4,7 +4,7 @@ use Rattle.std.specs.Prelude.{option_to_list}
 use Rattle.std.specs.List.{flat_map}
 use Rattle.std.proofs.lemmas.List.Elements.{filter-append}
 use Rattle.sci_cache.specs.Cache.{Letter}
-use Rattle.sci_core.specs.Node.{NodeOf, opening_node}
+use Rattle.sci_core.specs.Node.{NodeOf, opening_node, no_node}
 use Rattle.sci_core.specs.Core.{Core, node_at, with_node, lane_at, with_lane}
 use Rattle.sci_core.specs.Sharing.{is_about, packets_of}
 use Rattle.sci_core.proofs.FlatMaps.{around, flat_same, flat_from_none, flat_from_one}
@@ -84,9 +84,9 @@ pub record NodeAlone (q : Letter → Bool) (parts : List NodeOf) (lanes : List (
   pub same : z ≡ x
 
 node_alone : (q : Letter → Bool) (parts : List NodeOf) (lanes : List (List Letter)) (n : ℕ) (v : NodeOf) (x z : Letter) → n < length parts
-    → two_parts q parts lanes ≡ x ∷ [] → waits_in q (get_or parts n (opening_node 0 1 0 0 0)) ≡ z ∷ [] → NodeAlone q parts lanes n v x z
+    → two_parts q parts lanes ≡ x ∷ [] → waits_in q (get_or parts n no_node) ≡ z ∷ [] → NodeAlone q parts lanes n v x z
 node_alone q parts lanes n v x z below one this =
-    let d = opening_node 0 1 0 0 0 in
+    let d = no_node in
     let a = around (waits_in q) parts n d below in
     let here : flat_map (waits_in q) parts ≡ a.before ++ (z ∷ a.after) = a.now ∙ ap (λ ys. a.before ++ (ys ++ a.after)) this in
     let all : a.before ++ (z ∷ (a.after ++ flat_map (filter q) lanes)) ≡ x ∷ [] = sym (append_assoc a.before (z ∷ a.after) (flat_map (filter q) lanes)) ∙ (ap (λ ys. ys ++ flat_map (filter q) lanes) (sym here) ∙ one) in
@@ -104,7 +104,7 @@ pub packets_changed : (core : Core) (n : ℕ) (next : NodeOf) (m k : ℕ) → n 
 packets_changed core n next m k below same =
     let q = is_about m k in
     packets_are (with_node core n next) m k ∙
-    (ap (λ ys. ys ++ flat_map (filter q) core.lanes) (flat_same (waits_in q) core.parts n (opening_node 0 1 0 0 0) next below (ap (λ (w : Option Letter). filter q (option_to_list w)) same)) ∙ sym (packets_are core m k))
+    (ap (λ ys. ys ++ flat_map (filter q) core.lanes) (flat_same (waits_in q) core.parts n no_node next below (ap (λ (w : Option Letter). filter q (option_to_list w)) same)) ∙ sym (packets_are core m k))
 
 -- a node and a lane change
 abbrev moved : Core → ℕ → NodeOf → ℕ → List Letter → Core
@@ -117,7 +117,7 @@ pub packets_same : (core : Core) (n : ℕ) (next : NodeOf) (place : ℕ) (lane :
 packets_same core n next place lane m k below within same along =
     let q = is_about m k in
     packets_are (moved core n next place lane) m k ∙
-    (ap (λ ys. ys ++ flat_map (filter q) (set core.lanes place lane)) (flat_same (waits_in q) core.parts n (opening_node 0 1 0 0 0) next below same) ∙
+    (ap (λ ys. ys ++ flat_map (filter q) (set core.lanes place lane)) (flat_same (waits_in q) core.parts n no_node next below same) ∙
     (ap (λ ys. flat_map (waits_in q) core.parts ++ ys) (flat_same (filter q) core.lanes place [] lane within along) ∙ sym (packets_are core m k)))
 
 -- a request is sent, where nothing was under way
@@ -134,7 +134,7 @@ packets_asked core n next place letter m k below within same about none =
     let lane = lane_at core place ++ letter ∷ [] in
     let last : filter q lane ≡ letter ∷ [] = filter-append q (lane_at core place) (letter ∷ []) ∙ (ap (λ ys. ys ++ filter q (letter ∷ [])) here ∙ kept q letter [] about) in
     packets_are (moved core n next place lane) m k ∙
-    (ap (λ ys. ys ++ flat_map (filter q) (set core.lanes place lane)) (flat_same (waits_in q) core.parts n (opening_node 0 1 0 0 0) next below (ap (λ (w : Option Letter). filter q (option_to_list w)) same) ∙ waits) ∙
+    (ap (λ ys. ys ++ flat_map (filter q) (set core.lanes place lane)) (flat_same (waits_in q) core.parts n no_node next below (ap (λ (w : Option Letter). filter q (option_to_list w)) same) ∙ waits) ∙
     (flat_from_none (filter q) core.lanes place [] lane within lanes ∙ last))
 
 -- the answer that waited is sent
@@ -169,7 +169,7 @@ packets_served core n next place request answer x rest m k below within front fr
     record {
       then_ =
           packets_are (moved core n next place rest) m k ∙
-          (ap (λ ys. ys ++ flat_map (filter q) (set core.lanes place rest)) (flat_from_none (waits_in q) core.parts n (opening_node 0 1 0 0 0) next below alone.waits ∙ here) ∙
+          (ap (λ ys. ys ++ flat_map (filter q) (set core.lanes place rest)) (flat_from_none (waits_in q) core.parts n no_node next below alone.waits ∙ here) ∙
           ap (λ ys. (answer ∷ []) ++ ys) (alone.lanes_then ∙ alone.rest));
       same = alone.same;
     }
@@ -188,7 +188,7 @@ packets_accepted core n next place answer x rest m k below within front same abo
     record {
       then_ =
           packets_are (moved core n next place rest) m k ∙
-          (ap (λ ys. ys ++ flat_map (filter q) (set core.lanes place rest)) (flat_same (waits_in q) core.parts n (opening_node 0 1 0 0 0) next below (ap (λ (w : Option Letter). filter q (option_to_list w)) same) ∙ alone.waits) ∙
+          (ap (λ ys. ys ++ flat_map (filter q) (set core.lanes place rest)) (flat_same (waits_in q) core.parts n no_node next below (ap (λ (w : Option Letter). filter q (option_to_list w)) same) ∙ alone.waits) ∙
           (alone.lanes_then ∙ alone.rest));
       same = alone.same;
     }
@@ -218,7 +218,7 @@ pub node_has : (core : Core) (n : ℕ) (letter : Letter) (m k : ℕ) → n < len
 node_has core n letter m k below waited about none =
     let q = is_about m k in
     let parts = none_first (flat_map (waits_in q) core.parts) _ (sym (packets_are core m k) ∙ none) in
-    let a = around (waits_in q) core.parts n (opening_node 0 1 0 0 0) below in
+    let a = around (waits_in q) core.parts n no_node below in
     let here = none_first (waits_in q (node_at core n)) a.after (none_second a.before _ (sym a.now ∙ parts)) in
     let this : waits_in q (node_at core n) ≡ letter ∷ [] = ap (λ (w : Option Letter). filter q (option_to_list w)) waited ∙ kept q letter [] about in
     cc

@@ -31,28 +31,29 @@ use Rattle.std.proofs.lemmas.List.Elements.{All-push}
 use Rattle.sci_core.proofs.Caches.{same_line}
 use Rattle.sci_core.proofs.Nodes.{node_with_cache, node_with_homes, node_with_waiting, node_with_issue, node_with_entry}
 use Rattle.sci_core.proofs.Identifiers.{AsksWell, asking_names, ServesWell, serving_names, HomeServesWell, home_names, accepting_names, performing_names}
+use Rattle.sci_core.specs.Size.{Size}
 
 -- ---- parts in which one thing is another
 
-pub part_with_line : (nodes lines slots limit n : ℕ) (part : NodeOf) (line : ℕ) (state : LineState) → NamesNodes nodes state.state → state.asks < CONTROLS → IsPart nodes lines slots limit n part
-    → IsPart nodes lines slots limit n (record part { cache = with_line part.cache line state })
-part_with_line nodes lines slots limit n part line state names small is = record {
+pub part_with_line : (size : Size) (n : ℕ) (part : NodeOf) (line : ℕ) (state : LineState) → NamesNodes size.nodes state.state → state.asks < CONTROLS → IsPart size n part
+    → IsPart size n (record part { cache = with_line part.cache line state })
+part_with_line size n part line state names small is = record {
   asks = at_set (λ (l : LineState). l.asks < CONTROLS) part.cache.lines line state untouched is.asks small;
   me = is.me;
   all = is.all;
   room = is.room;
   each = length-set part.cache.lines line state ∙ is.each;
   most = is.most;
-  states = at_set (λ (l : LineState). NamesNodes nodes l.state) part.cache.lines line state untouched is.states names;
+  states = at_set (λ (l : LineState). NamesNodes size.nodes l.state) part.cache.lines line state untouched is.states names;
   homes = is.homes;
   answer = is.answer;
   fits = node_with_cache part (with_line part.cache line state) (same_line part.cache line state) is.fits;
   own = is.own;
 }
 
-pub part_with_home : (nodes lines slots limit n : ℕ) (part : NodeOf) (place : ℕ) (home : HomeState) → HomeNamesNodes nodes home → IsPart nodes lines slots limit n part
-    → IsPart nodes lines slots limit n (record part { homes = set part.homes place home })
-part_with_home nodes lines slots limit n part place home names is = record {
+pub part_with_home : (size : Size) (n : ℕ) (part : NodeOf) (place : ℕ) (home : HomeState) → HomeNamesNodes size.nodes home → IsPart size n part
+    → IsPart size n (record part { homes = set part.homes place home })
+part_with_home size n part place home names is = record {
   me = is.me;
   all = is.all;
   room = is.room;
@@ -63,12 +64,12 @@ part_with_home nodes lines slots limit n part place home names is = record {
   own = is.own;
   asks = is.asks;
   fits = node_with_homes part (set part.homes place home) (length-set part.homes place home) is.fits;
-  homes = at_set (HomeNamesNodes nodes) part.homes place home opening_home is.homes names;
+  homes = at_set (HomeNamesNodes size.nodes) part.homes place home opening_home is.homes names;
 }
 
-pub part_with_waiting : (nodes lines slots limit n : ℕ) (part : NodeOf) (waiting : Option Letter) → IfSome waiting (λ (letter : Letter). IsAnswerLetter nodes lines letter × (letter.source ≡ n)) → IsPart nodes lines slots limit n part
-    → IsPart nodes lines slots limit n (record part { waiting = waiting })
-part_with_waiting nodes lines slots limit n part waiting answer is = record {
+pub part_with_waiting : (size : Size) (n : ℕ) (part : NodeOf) (waiting : Option Letter) → IfSome waiting (λ (letter : Letter). IsAnswerLetter size.nodes size.lines letter × (letter.source ≡ n)) → IsPart size n part
+    → IsPart size n (record part { waiting = waiting })
+part_with_waiting size n part waiting answer is = record {
   me = is.me;
   all = is.all;
   room = is.room;
@@ -91,8 +92,8 @@ answer_letter nodes lines n request answer asks to names not_asks =
 
 -- ---- Issue
 
-issued_part : (nodes lines slots limit n : ℕ) (part : NodeOf) (op : Op) → may_issue part op ≡ true → IsPart nodes lines slots limit n part → IsPart nodes lines slots limit n (node_issued part op)
-issued_part nodes lines slots limit n part op may is = record {
+issued_part : (size : Size) (n : ℕ) (part : NodeOf) (op : Op) → may_issue part op ≡ true → IsPart size n part → IsPart size n (node_issued part op)
+issued_part size n part op may is = record {
   me = is.me;
   all = is.all;
   room = is.room;
@@ -106,19 +107,19 @@ issued_part nodes lines slots limit n part op may is = record {
   fits = node_with_issue part op may is.fits;
 }
 
-issuing_if : (nodes lines slots limit n : ℕ) (part : NodeOf) (op : Op) (may : Bool) → may_issue part op ≡ may → IsPart nodes lines slots limit n part → IfSome (if may then Some (node_issued part op) else None) (IsPart nodes lines slots limit n)
-issuing_if nodes lines slots limit n part op true e is = issued_part nodes lines slots limit n part op e is
-issuing_if nodes lines slots limit n part op false e is = tt
+issuing_if : (size : Size) (n : ℕ) (part : NodeOf) (op : Op) (may : Bool) → may_issue part op ≡ may → IsPart size n part → IfSome (if may then Some (node_issued part op) else None) (IsPart size n)
+issuing_if size n part op true e is = issued_part size n part op e is
+issuing_if size n part op false e is = tt
 
-pub part_issuing : (nodes lines slots limit n : ℕ) (part : NodeOf) (op : Op) → IsPart nodes lines slots limit n part → IfSome (node_issuing part op) (IsPart nodes lines slots limit n)
-part_issuing nodes lines slots limit n part op is = issuing_if nodes lines slots limit n part op (may_issue part op) refl is
+pub part_issuing : (size : Size) (n : ℕ) (part : NodeOf) (op : Op) → IsPart size n part → IfSome (node_issuing part op) (IsPart size n)
+part_issuing size n part op is = issuing_if size n part op (may_issue part op) refl is
 
 -- ---- Perform
 
-logged_part : (nodes lines slots limit n : ℕ) (part : NodeOf) (line : ℕ) (pending : Pending) (place : ℕ) (state : LineState) (entry : Entry) → pending_on part line ≡ Some pending → NamesNodes nodes state.state → state.asks < CONTROLS → entry.node ≡ n → IsPart nodes lines slots limit n part
-    → IsPart nodes lines slots limit n (node_logged part line (with_line part.cache place state) entry)
-logged_part nodes lines slots limit n part line pending place state entry at names small mine is =
-    let changed = part_with_line nodes lines slots limit n part place state names small is in
+logged_part : (size : Size) (n : ℕ) (part : NodeOf) (line : ℕ) (pending : Pending) (place : ℕ) (state : LineState) (entry : Entry) → pending_on part line ≡ Some pending → NamesNodes size.nodes state.state → state.asks < CONTROLS → entry.node ≡ n → IsPart size n part
+    → IsPart size n (node_logged part line (with_line part.cache place state) entry)
+logged_part size n part line pending place state entry at names small mine is =
+    let changed = part_with_line size n part place state names small is in
     record {
       me = is.me;
       all = is.all;
@@ -133,29 +134,29 @@ logged_part nodes lines slots limit n part line pending place state entry at nam
       own = All-push (λ (e : Entry). e.node ≡ n) part.log entry is.own mine;
     }
 
-performed_part : (nodes lines slots limit n : ℕ) (part : NodeOf) (line : ℕ) (pending : Pending) (done : Option Performed) → pending_on part line ≡ Some pending → IsPart nodes lines slots limit n part → IfSome done (λ (d : Performed). NamesNodes nodes d.next)
+performed_part : (size : Size) (n : ℕ) (part : NodeOf) (line : ℕ) (pending : Pending) (done : Option Performed) → pending_on part line ≡ Some pending → IsPart size n part → IfSome done (λ (d : Performed). NamesNodes size.nodes d.next)
     → IfSome (performed_by part line pending (elim done as (λ _. Option (CacheOf × Reply × ℕ)) [ None ↦ None | Some d ↦ Some (with_line part.cache pending.op.line (line_in (line_of part.cache pending.op.line) d.next), d.reply, d.version) ]))
-    (λ (x : NodeOf × Entry). IsPart nodes lines slots limit n x.0)
-performed_part nodes lines slots limit n part line pending None at is names = tt
-performed_part nodes lines slots limit n part line pending (Some d) at is names =
-    logged_part nodes lines slots limit n part line pending pending.op.line (line_in (line_of part.cache pending.op.line) d.next) (entry_of part pending d.reply d.version) at names (is.asks pending.op.line) is.me is
+    (λ (x : NodeOf × Entry). IsPart size n x.0)
+performed_part size n part line pending None at is names = tt
+performed_part size n part line pending (Some d) at is names =
+    logged_part size n part line pending pending.op.line (line_in (line_of part.cache pending.op.line) d.next) (entry_of part pending d.reply d.version) at names (is.asks pending.op.line) is.me is
 
-pending_part : (nodes lines slots limit n : ℕ) (part : NodeOf) (line : ℕ) (pending : Option Pending) → pending_on part line ≡ pending → IsPart nodes lines slots limit n part
-    → IfSome (performing_pending part line pending) (λ (x : NodeOf × Entry). IsPart nodes lines slots limit n x.0)
-pending_part nodes lines slots limit n part line None at is = tt
-pending_part nodes lines slots limit n part line (Some pending) at is =
-    performed_part nodes lines slots limit n part line pending (performing (line_of part.cache pending.op.line).state pending.op) at is
-    (performing_names nodes (line_of part.cache pending.op.line).state pending.op (is.states pending.op.line))
+pending_part : (size : Size) (n : ℕ) (part : NodeOf) (line : ℕ) (pending : Option Pending) → pending_on part line ≡ pending → IsPart size n part
+    → IfSome (performing_pending part line pending) (λ (x : NodeOf × Entry). IsPart size n x.0)
+pending_part size n part line None at is = tt
+pending_part size n part line (Some pending) at is =
+    performed_part size n part line pending (performing (line_of part.cache pending.op.line).state pending.op) at is
+    (performing_names size.nodes (line_of part.cache pending.op.line).state pending.op (is.states pending.op.line))
 
-pub part_performing : (nodes lines slots limit n : ℕ) (part : NodeOf) (line : ℕ) → IsPart nodes lines slots limit n part
-    → IfSome (node_performing part line) (λ (x : NodeOf × Entry). IsPart nodes lines slots limit n x.0)
-part_performing nodes lines slots limit n part line is = pending_part nodes lines slots limit n part line (pending_on part line) refl is
+pub part_performing : (size : Size) (n : ℕ) (part : NodeOf) (line : ℕ) → IsPart size n part
+    → IfSome (node_performing part line) (λ (x : NodeOf × Entry). IsPart size n x.0)
+part_performing size n part line is = pending_part size n part line (pending_on part line) refl is
 
 -- ---- Ask
 
-pub record SendsWell (nodes lines slots limit n : ℕ) (sent : NodeOf × Letter) : Type 0 where
-  pub next : IsPart nodes lines slots limit n sent.0
-  pub request : IsRequestLetter nodes lines sent.1
+pub record SendsWell (size : Size) (n : ℕ) (sent : NodeOf × Letter) : Type 0 where
+  pub next : IsPart size n sent.0
+  pub request : IsRequestLetter size.nodes size.lines sent.1
   pub from : sent.1.source ≡ n
 
 target_below : (nodes line : ℕ) (cache : CacheOf) (to : Option ℕ) → 0 < nodes → cache.nodes ≡ nodes → IsBelow nodes to → target_of cache line to < nodes
@@ -166,124 +167,124 @@ home_target : (nodes line : ℕ) (cache : CacheOf) (to : Option ℕ) → cache.n
 home_target nodes line cache None all e = rw all refl
 home_target nodes line cache (Some q) all e = cc
 
-asked_part : (nodes lines slots limit n : ℕ) (part : NodeOf) (line : ℕ) (asked : Asked) → 0 < nodes → n < nodes → line < lines → AsksWell nodes asked → IsPart nodes lines slots limit n part
-    → SendsWell nodes lines slots limit n (record part { cache = with_line part.cache line (line_asked (line_of part.cache line) asked) }, letter_asking part.cache line asked)
-asked_part nodes lines slots limit n part line asked some lt below asks is = record {
-  next = part_with_line nodes lines slots limit n part line (line_asked (line_of part.cache line) asked) asks.next (mod-lt ((line_of part.cache line).asks + 1) (omega arith)) is;
+asked_part : (size : Size) (n : ℕ) (part : NodeOf) (line : ℕ) (asked : Asked) → 0 < size.nodes → n < size.nodes → line < size.lines → AsksWell size.nodes asked → IsPart size n part
+    → SendsWell size n (record part { cache = with_line part.cache line (line_asked (line_of part.cache line) asked) }, letter_asking part.cache line asked)
+asked_part size n part line asked some lt below asks is = record {
+  next = part_with_line size n part line (line_asked (line_of part.cache line) asked) asks.next (mod-lt ((line_of part.cache line).asks + 1) (omega arith)) is;
   request = record {
     letter_ok = record {
-      target = target_below nodes line part.cache asked.to some is.all asks.to;
+      target = target_below size.nodes line part.cache asked.to some is.all asks.to;
       source = rw is.me lt;
       about = below;
       names = asks.names;
     };
     asks = asks.asks;
-    home = λ for_home. home_target nodes line part.cache asked.to is.all (asks.home for_home);
+    home = λ for_home. home_target size.nodes line part.cache asked.to is.all (asks.home for_home);
   };
   from = is.me;
 }
 
-made_part : (nodes lines slots limit n : ℕ) (part : NodeOf) (line : ℕ) (lacks : Bool) (made : Option Asked) → 0 < nodes → n < nodes → line < lines → IfSome made (AsksWell nodes) → IsPart nodes lines slots limit n part
+made_part : (size : Size) (n : ℕ) (part : NodeOf) (line : ℕ) (lacks : Bool) (made : Option Asked) → 0 < size.nodes → n < size.nodes → line < size.lines → IfSome made (AsksWell size.nodes) → IsPart size n part
     → IfSome (asked_by part (elim (elim made as (λ _. Result Asked AskFault) [ None ↦ Err NotNow | Some a ↦ if lacks then Err NoSlot else Ok a ]) as (λ _. Result (CacheOf × Letter) AskFault) [
       | Err fault ↦ Err fault
       | Ok a ↦ Ok (with_line part.cache line (line_asked (line_of part.cache line) a), letter_asking part.cache line a)
-    ])) (SendsWell nodes lines slots limit n)
-made_part nodes lines slots limit n part line lacks None some lt below asks is = tt
-made_part nodes lines slots limit n part line true (Some asked) some lt below asks is = tt
-made_part nodes lines slots limit n part line false (Some asked) some lt below asks is = asked_part nodes lines slots limit n part line asked some lt below asks is
+    ])) (SendsWell size n)
+made_part size n part line lacks None some lt below asks is = tt
+made_part size n part line true (Some asked) some lt below asks is = tt
+made_part size n part line false (Some asked) some lt below asks is = asked_part size n part line asked some lt below asks is
 
-asking_if : (nodes lines slots limit n : ℕ) (part : NodeOf) (line : ℕ) (sent : Option (NodeOf × Letter)) → (line < lines_of part → IfSome sent (SendsWell nodes lines slots limit n))
-    → IfSome (if nat_lt line (lines_of part) then sent else None) (SendsWell nodes lines slots limit n)
-asking_if nodes lines slots limit n part line sent h =
+asking_if : (size : Size) (n : ℕ) (part : NodeOf) (line : ℕ) (sent : Option (NodeOf × Letter)) → (line < lines_of part → IfSome sent (SendsWell size n))
+    → IfSome (if nat_lt line (lines_of part) then sent else None) (SendsWell size n)
+asking_if size n part line sent h =
     elim (cases_Bool (nat_lt line (lines_of part))) [
-      | inl within ↦ subst (λ (b : Bool). IfSome (if b then sent else None) (SendsWell nodes lines slots limit n)) (sym within) (h (ltb-true line (lines_of part) within))
-      | inr beyond ↦ subst (λ (b : Bool). IfSome (if b then sent else None) (SendsWell nodes lines slots limit n)) (sym beyond) tt
+      | inl within ↦ subst (λ (b : Bool). IfSome (if b then sent else None) (SendsWell size n)) (sym within) (h (ltb-true line (lines_of part) within))
+      | inr beyond ↦ subst (λ (b : Bool). IfSome (if b then sent else None) (SendsWell size n)) (sym beyond) tt
     ]
 
-pub part_asking : (nodes lines slots limit n : ℕ) (part : NodeOf) (line : ℕ) (kind : AskKind) → 0 < nodes → n < nodes → IsPart nodes lines slots limit n part
-    → IfSome (node_asking part line kind) (SendsWell nodes lines slots limit n)
-part_asking nodes lines slots limit n part line kind some lt is =
-    asking_if nodes lines slots limit n part line (asked_by part (cache_asking part.cache line kind)) (λ below.
+pub part_asking : (size : Size) (n : ℕ) (part : NodeOf) (line : ℕ) (kind : AskKind) → 0 < size.nodes → n < size.nodes → IsPart size n part
+    → IfSome (node_asking part line kind) (SendsWell size n)
+part_asking size n part line kind some lt is =
+    asking_if size n part line (asked_by part (cache_asking part.cache line kind)) (λ below.
     let all = is.each in
-    made_part nodes lines slots limit n part line (is_out (line_of part.cache line).state && not (has_slot part.cache)) (asking (line_of part.cache line).state kind) some lt (omega arith)
-    (asking_names nodes (line_of part.cache line).state kind (is.states line)) is)
+    made_part size n part line (is_out (line_of part.cache line).state && not (has_slot part.cache)) (asking (line_of part.cache line).state kind) some lt (omega arith)
+    (asking_names size.nodes (line_of part.cache line).state kind (is.states line)) is)
 
 -- ---- Serve
 
-pub record ServedWell (nodes lines slots limit n : ℕ) (request : Letter) (served : NodeOf × Body) : Type 0 where
-  pub next : IsPart nodes lines slots limit n served.0
-  pub answer : IsAnswerLetter nodes lines (answer_to request served.1) × ((answer_to request served.1).source ≡ n)
+pub record ServedWell (size : Size) (n : ℕ) (request : Letter) (served : NodeOf × Body) : Type 0 where
+  pub next : IsPart size n served.0
+  pub answer : IsAnswerLetter size.nodes size.lines (answer_to request served.1) × ((answer_to request served.1).source ≡ n)
 
-home_served_part : (nodes lines slots limit n : ℕ) (part : NodeOf) (request : Letter) (served : Option (HomeState × Body)) → IsRequestLetter nodes lines request → request.target ≡ n → IfSome served (HomeServesWell nodes) → IsPart nodes lines slots limit n part
-    → IfSome (served_at_home part request.line served) (ServedWell nodes lines slots limit n request)
-home_served_part nodes lines slots limit n part request None asks to well is = tt
-home_served_part nodes lines slots limit n part request (Some served) asks to well is = record {
-  next = part_with_home nodes lines slots limit n part (home_place part request.line) served.0 well.next is;
-  answer = answer_letter nodes lines n request served.1 asks to well.names well.answers;
+home_served_part : (size : Size) (n : ℕ) (part : NodeOf) (request : Letter) (served : Option (HomeState × Body)) → IsRequestLetter size.nodes size.lines request → request.target ≡ n → IfSome served (HomeServesWell size.nodes) → IsPart size n part
+    → IfSome (served_at_home part request.line served) (ServedWell size n request)
+home_served_part size n part request None asks to well is = tt
+home_served_part size n part request (Some served) asks to well is = record {
+  next = part_with_home size n part (home_place part request.line) served.0 well.next is;
+  answer = answer_letter size.nodes size.lines n request served.1 asks to well.names well.answers;
 }
 
-cache_served_part : (nodes lines slots limit n : ℕ) (part : NodeOf) (request : Letter) (served : Option (CacheState × Body)) → IsRequestLetter nodes lines request → request.target ≡ n → IfSome served (ServesWell nodes) → IsPart nodes lines slots limit n part
-    → IfSome (served_in_cache part (elim served as (λ _. Option (CacheOf × Body)) [ None ↦ None | Some s ↦ Some (with_line part.cache request.line (line_in (line_of part.cache request.line) s.0), s.1) ])) (ServedWell nodes lines slots limit n request)
-cache_served_part nodes lines slots limit n part request None asks to well is = tt
-cache_served_part nodes lines slots limit n part request (Some served) asks to well is = record {
-  next = part_with_line nodes lines slots limit n part request.line (line_in (line_of part.cache request.line) served.0) well.next (is.asks request.line) is;
-  answer = answer_letter nodes lines n request served.1 asks to well.names well.answers;
+cache_served_part : (size : Size) (n : ℕ) (part : NodeOf) (request : Letter) (served : Option (CacheState × Body)) → IsRequestLetter size.nodes size.lines request → request.target ≡ n → IfSome served (ServesWell size.nodes) → IsPart size n part
+    → IfSome (served_in_cache part (elim served as (λ _. Option (CacheOf × Body)) [ None ↦ None | Some s ↦ Some (with_line part.cache request.line (line_in (line_of part.cache request.line) s.0), s.1) ])) (ServedWell size n request)
+cache_served_part size n part request None asks to well is = tt
+cache_served_part size n part request (Some served) asks to well is = record {
+  next = part_with_line size n part request.line (line_in (line_of part.cache request.line) served.0) well.next (is.asks request.line) is;
+  answer = answer_letter size.nodes size.lines n request served.1 asks to well.names well.answers;
 }
 
-request_part : (nodes lines slots limit n : ℕ) (part : NodeOf) (request : Letter) → IsRequestLetter nodes lines request → request.target ≡ n → IsPart nodes lines slots limit n part
-    → IfSome (serving_request part request) (ServedWell nodes lines slots limit n request)
-request_part nodes lines slots limit n part request asks to is =
-    if_either (λ (o : Option (NodeOf × Body)). IfSome o (ServedWell nodes lines slots limit n request)) (is_for_home request.body) (serving_at_home part request) (serving_in_cache part request)
-    (home_served_part nodes lines slots limit n part request (serving_at_home_of (home_of part request.line) request.source request.body) asks to
-    (home_names nodes (home_of part request.line) request.source request.body asks.letter_ok.source (is.homes (home_place part request.line))) is)
-    (cache_served_part nodes lines slots limit n part request (serving (line_of part.cache request.line).state request.source request.body) asks to
-    (serving_names nodes (line_of part.cache request.line).state request.source request.body asks.letter_ok.source (is.states request.line) asks.letter_ok.names) is)
+request_part : (size : Size) (n : ℕ) (part : NodeOf) (request : Letter) → IsRequestLetter size.nodes size.lines request → request.target ≡ n → IsPart size n part
+    → IfSome (serving_request part request) (ServedWell size n request)
+request_part size n part request asks to is =
+    if_either (λ (o : Option (NodeOf × Body)). IfSome o (ServedWell size n request)) (is_for_home request.body) (serving_at_home part request) (serving_in_cache part request)
+    (home_served_part size n part request (serving_at_home_of (home_of part request.line) request.source request.body) asks to
+    (home_names size.nodes (home_of part request.line) request.source request.body asks.letter_ok.source (is.homes (home_place part request.line))) is)
+    (cache_served_part size n part request (serving (line_of part.cache request.line).state request.source request.body) asks to
+    (serving_names size.nodes (line_of part.cache request.line).state request.source request.body asks.letter_ok.source (is.states request.line) asks.letter_ok.names) is)
 
-answered_part : (nodes lines slots limit n : ℕ) (request : Letter) (served : Option (NodeOf × Body)) → IfSome served (ServedWell nodes lines slots limit n request)
-    → IfSome (answered_by request served) (IsPart nodes lines slots limit n)
-answered_part nodes lines slots limit n request None well = tt
-answered_part nodes lines slots limit n request (Some served) well = part_with_waiting nodes lines slots limit n served.0 (Some (answer_to request served.1)) well.answer well.next
+answered_part : (size : Size) (n : ℕ) (request : Letter) (served : Option (NodeOf × Body)) → IfSome served (ServedWell size n request)
+    → IfSome (answered_by request served) (IsPart size n)
+answered_part size n request None well = tt
+answered_part size n request (Some served) well = part_with_waiting size n served.0 (Some (answer_to request served.1)) well.answer well.next
 
-pub part_serving : (nodes lines slots limit n : ℕ) (part : NodeOf) (request : Letter) → IsRequestLetter nodes lines request → request.target ≡ n → IsPart nodes lines slots limit n part
-    → IfSome (node_serving part request) (IsPart nodes lines slots limit n)
-part_serving nodes lines slots limit n part request asks to is =
-    if_either (λ (o : Option NodeOf). IfSome o (IsPart nodes lines slots limit n)) (is_some part.waiting) None (answered_by request (serving_request part request)) tt
-    (answered_part nodes lines slots limit n request (serving_request part request) (request_part nodes lines slots limit n part request asks to is))
+pub part_serving : (size : Size) (n : ℕ) (part : NodeOf) (request : Letter) → IsRequestLetter size.nodes size.lines request → request.target ≡ n → IsPart size n part
+    → IfSome (node_serving part request) (IsPart size n)
+part_serving size n part request asks to is =
+    if_either (λ (o : Option NodeOf). IfSome o (IsPart size n)) (is_some part.waiting) None (answered_by request (serving_request part request)) tt
+    (answered_part size n request (serving_request part request) (request_part size n part request asks to is))
 
 -- ---- Refuse
 
-pub part_refusing : (nodes lines slots limit n : ℕ) (part : NodeOf) (request : Letter) → IsRequestLetter nodes lines request → request.target ≡ n → IsPart nodes lines slots limit n part
-    → IfSome (node_refusing part request) (IsPart nodes lines slots limit n)
-part_refusing nodes lines slots limit n part request asks to is =
-    if_either (λ (o : Option NodeOf). IfSome o (IsPart nodes lines slots limit n)) (is_some part.waiting) None (if is_setback request.body then None else Some (with_answer part request Busy)) tt
-    (if_either (λ (o : Option NodeOf). IfSome o (IsPart nodes lines slots limit n)) (is_setback request.body) None (Some (with_answer part request Busy)) tt
-    (part_with_waiting nodes lines slots limit n part (Some (answer_to request Busy)) (answer_letter nodes lines n request Busy asks to tt refl) is))
+pub part_refusing : (size : Size) (n : ℕ) (part : NodeOf) (request : Letter) → IsRequestLetter size.nodes size.lines request → request.target ≡ n → IsPart size n part
+    → IfSome (node_refusing part request) (IsPart size n)
+part_refusing size n part request asks to is =
+    if_either (λ (o : Option NodeOf). IfSome o (IsPart size n)) (is_some part.waiting) None (if is_setback request.body then None else Some (with_answer part request Busy)) tt
+    (if_either (λ (o : Option NodeOf). IfSome o (IsPart size n)) (is_setback request.body) None (Some (with_answer part request Busy)) tt
+    (part_with_waiting size n part (Some (answer_to request Busy)) (answer_letter size.nodes size.lines n request Busy asks to tt refl) is))
 
 -- ---- Reply
 
-pub record RepliesWell (nodes lines slots limit n : ℕ) (sent : NodeOf × Letter) : Type 0 where
-  pub next : IsPart nodes lines slots limit n sent.0
-  pub answer : IsAnswerLetter nodes lines sent.1
+pub record RepliesWell (size : Size) (n : ℕ) (sent : NodeOf × Letter) : Type 0 where
+  pub next : IsPart size n sent.0
+  pub answer : IsAnswerLetter size.nodes size.lines sent.1
   pub from : sent.1.source ≡ n
 
-replied_part : (nodes lines slots limit n : ℕ) (part : NodeOf) (waiting : Option Letter) → IfSome waiting (λ (letter : Letter). IsAnswerLetter nodes lines letter × (letter.source ≡ n)) → IsPart nodes lines slots limit n part
-    → IfSome (replied_by part waiting) (RepliesWell nodes lines slots limit n)
-replied_part nodes lines slots limit n part None h is = tt
-replied_part nodes lines slots limit n part (Some letter) h is = record { next = part_with_waiting nodes lines slots limit n part None tt is; answer = h.0; from = h.1 }
+replied_part : (size : Size) (n : ℕ) (part : NodeOf) (waiting : Option Letter) → IfSome waiting (λ (letter : Letter). IsAnswerLetter size.nodes size.lines letter × (letter.source ≡ n)) → IsPart size n part
+    → IfSome (replied_by part waiting) (RepliesWell size n)
+replied_part size n part None h is = tt
+replied_part size n part (Some letter) h is = record { next = part_with_waiting size n part None tt is; answer = h.0; from = h.1 }
 
-pub part_replying : (nodes lines slots limit n : ℕ) (part : NodeOf) → IsPart nodes lines slots limit n part → IfSome (node_replying part) (RepliesWell nodes lines slots limit n)
-part_replying nodes lines slots limit n part is = replied_part nodes lines slots limit n part part.waiting is.answer is
+pub part_replying : (size : Size) (n : ℕ) (part : NodeOf) → IsPart size n part → IfSome (node_replying part) (RepliesWell size n)
+part_replying size n part is = replied_part size n part part.waiting is.answer is
 
 -- ---- Accept
 
-accepted_part : (nodes lines slots limit n : ℕ) (part : NodeOf) (line : ℕ) (awaited : Bool) (state : Option CacheState) → IfSome state (NamesNodes nodes) → IsPart nodes lines slots limit n part
-    → IfSome (accepted_by part (elim (if awaited then state else None) as (λ _. Option CacheOf) [ None ↦ None | Some s ↦ Some (with_line part.cache line (line_in (line_of part.cache line) s)) ])) (IsPart nodes lines slots limit n)
-accepted_part nodes lines slots limit n part line false state names is = tt
-accepted_part nodes lines slots limit n part line true None names is = tt
-accepted_part nodes lines slots limit n part line true (Some s) names is = part_with_line nodes lines slots limit n part line (line_in (line_of part.cache line) s) names (is.asks line) is
+accepted_part : (size : Size) (n : ℕ) (part : NodeOf) (line : ℕ) (awaited : Bool) (state : Option CacheState) → IfSome state (NamesNodes size.nodes) → IsPart size n part
+    → IfSome (accepted_by part (elim (if awaited then state else None) as (λ _. Option CacheOf) [ None ↦ None | Some s ↦ Some (with_line part.cache line (line_in (line_of part.cache line) s)) ])) (IsPart size n)
+accepted_part size n part line false state names is = tt
+accepted_part size n part line true None names is = tt
+accepted_part size n part line true (Some s) names is = part_with_line size n part line (line_in (line_of part.cache line) s) names (is.asks line) is
 
-pub part_accepting : (nodes lines slots limit n : ℕ) (part : NodeOf) (answer : Letter) → IsAnswerLetter nodes lines answer → IsPart nodes lines slots limit n part
-    → IfSome (node_accepting part answer) (IsPart nodes lines slots limit n)
-part_accepting nodes lines slots limit n part answer answers is =
-    accepted_part nodes lines slots limit n part answer.line (answer.control == last_control (line_of part.cache answer.line)) (accepting (line_of part.cache answer.line).state answer.body)
-    (accepting_names nodes (line_of part.cache answer.line).state answer.body (is.states answer.line) answers.letter_ok.names) is
+pub part_accepting : (size : Size) (n : ℕ) (part : NodeOf) (answer : Letter) → IsAnswerLetter size.nodes size.lines answer → IsPart size n part
+    → IfSome (node_accepting part answer) (IsPart size n)
+part_accepting size n part answer answers is =
+    accepted_part size n part answer.line (answer.control == last_control (line_of part.cache answer.line)) (accepting (line_of part.cache answer.line).state answer.body)
+    (accepting_names size.nodes (line_of part.cache answer.line).state answer.body (is.states answer.line) answers.letter_ok.names) is

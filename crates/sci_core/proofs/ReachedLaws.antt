@@ -18,9 +18,9 @@ use Rattle.sci_history.specs.Memory.{stamped_at}
 use Rattle.sci_history.specs.Placed.{log_of, is_of_node, is_on_line}
 use Rattle.sci_history.proofs.Lawfulness.{lawful_line}
 use Rattle.sci_history.proofs.Order.{filter_none, filter-filter, all_weaker, all-filter}
-use Rattle.sci_core.specs.Node.{NodeOf, opening_node}
+use Rattle.sci_core.specs.Node.{NodeOf, opening_node, no_node}
 use Rattle.sci_core.specs.Core.{Core, node_at, stepping, step, opening, run}
-use Rattle.sci_core.specs.Reached.{IsReached, AreSizes}
+use Rattle.sci_core.specs.Reached.{IsReached}
 use Rattle.sci_core.specs.Done.{ChangesBy, LastChanges, made_by, done}
 use Rattle.sci_core.specs.Outcome.{logs_of}
 use Rattle.sci_core.specs.Coherent.{IsCoherent}
@@ -36,36 +36,38 @@ use Rattle.sci_core.proofs.ShapeRuns.{each_mapped, opening_shaped, step_follows}
 use Rattle.sci_core.proofs.ShapeClauses.{last_is, shape_of}
 use Rattle.sci_core.proofs.Works.{HasSerials, opening_serials}
 use Rattle.sci_core.proofs.Histories.{run_follows, RunLogged, run_logged}
+use Rattle.sci_core.specs.Size.{Size}
+use Rattle.sci_core.specs.Size.{IsSize}
 
 -- ---- from the opening on
 
-pub opened : (nodes lines slots limit : ℕ) → AreSizes nodes lines slots limit → IsWellFormed (opening nodes lines slots limit)
-opened nodes lines slots limit sizes = let some = sizes.extent.has_node in opening_well nodes lines slots limit (omega arith) sizes.few_operations
+pub opened : (size : Size) → IsSize size → IsWellFormed (opening size)
+opened size sizes = let some = sizes.extent.has_node in opening_well size (omega arith) sizes.few_operations
 
 -- a line's shape where a schedule leads, and its history
-record Traced (nodes lines slots limit : ℕ) (schedule : List Event) (line : ℕ) : Type 0 where
+record Traced (size : Size) (schedule : List Event) (line : ℕ) : Type 0 where
   pub contents : Stamped
-  pub shaped : ShapedAt (run nodes lines slots limit schedule) line contents
-  pub history : IsHistory (filter (is_on_line line) (done nodes lines slots limit schedule)) zero_stamped contents
+  pub shaped : ShapedAt (run size schedule) line contents
+  pub history : IsHistory (filter (is_on_line line) (done size schedule)) zero_stamped contents
 
-traced : (nodes lines slots limit : ℕ) (schedule : List Event) (line : ℕ) → AreSizes nodes lines slots limit → line < lines → Traced nodes lines slots limit schedule line
-traced nodes lines slots limit schedule line sizes inside =
-    let trace = run_follows (opening nodes lines slots limit) schedule (opened nodes lines slots limit sizes) (opening_tidy nodes lines slots limit) line inside zero_stamped (opening_shaped nodes lines slots limit line) in
+traced : (size : Size) (schedule : List Event) (line : ℕ) → IsSize size → line < size.lines → Traced size schedule line
+traced size schedule line sizes inside =
+    let trace = run_follows (opening size) schedule (opened size sizes) (opening_tidy size) line inside zero_stamped (opening_shaped size line) in
     record { contents = trace.0; shaped = trace.1; history = trace.2 }
 
 -- the entries of a schedule on a line are a history of it, from zero words to its last contents
-pub schedule_history : (nodes lines slots limit : ℕ) (schedule : List Event) (line : ℕ) → AreSizes nodes lines slots limit → line < lines
-    → IsHistory (filter (is_on_line line) (done nodes lines slots limit schedule)) zero_stamped (last_at (run nodes lines slots limit schedule) line)
-schedule_history nodes lines slots limit schedule line sizes inside =
-    let trace = traced nodes lines slots limit schedule line sizes inside in
-    let well = (run_well (opening nodes lines slots limit) schedule (opened nodes lines slots limit sizes)).well in
-    subst (IsHistory (filter (is_on_line line) (done nodes lines slots limit schedule)) zero_stamped) (sym (last_is (run nodes lines slots limit schedule) line trace.contents well trace.shaped)) trace.history
+pub schedule_history : (size : Size) (schedule : List Event) (line : ℕ) → IsSize size → line < size.lines
+    → IsHistory (filter (is_on_line line) (done size schedule)) zero_stamped (last_at (run size schedule) line)
+schedule_history size schedule line sizes inside =
+    let trace = traced size schedule line sizes inside in
+    let well = (run_well (opening size) schedule (opened size sizes)).well in
+    subst (IsHistory (filter (is_on_line line) (done size schedule)) zero_stamped) (sym (last_is (run size schedule) line trace.contents well trace.shaped)) trace.history
 
 -- ---- shape
 
-reached_shaped : (core : Core) → IsReached core → (line : ℕ) → line < core.lines → (c : Stamped) × ShapedAt core line c
+reached_shaped : (core : Core) → IsReached core → (line : ℕ) → line < core.size.lines → (c : Stamped) × ShapedAt core line c
 reached_shaped core reached line inside =
-    let trace = traced core.nodes core.lines core.slots core.limit reached.schedule line reached.sizes inside in
+    let trace = traced core.size reached.schedule line reached.size inside in
     subst (λ (x : Core). (c : Stamped) × ShapedAt x line c) reached.leads (trace.contents, trace.shaped)
 
 pub reached_shapes : (core : Core) → IsReached core → HasShapes core
@@ -93,20 +95,20 @@ reached_effects core e reached line inside =
 
 -- ---- logs
 
-opening_log : (nodes lines slots limit n : ℕ) → (node_at (opening nodes lines slots limit) n).log ≡ []
-opening_log nodes lines slots limit n = each_mapped (λ (part : NodeOf). part.log ≡ []) (λ (m : ℕ). opening_node m nodes lines slots limit) (opening_node 0 1 0 0 0) 0 nodes n (λ m. refl) refl
+opening_log : (size : Size) (n : ℕ) → (node_at (opening size) n).log ≡ []
+opening_log size n = each_mapped (λ (part : NodeOf). part.log ≡ []) (λ (m : ℕ). opening_node m size) no_node 0 size.nodes n (λ m. refl) refl
 
 -- what a schedule logs
-pub schedule_logged : (nodes lines slots limit : ℕ) (schedule : List Event) → AreSizes nodes lines slots limit → RunLogged (opening nodes lines slots limit) (done nodes lines slots limit schedule) (run nodes lines slots limit schedule)
-schedule_logged nodes lines slots limit schedule sizes =
-    let first = opening nodes lines slots limit in
-    let serials : (n : ℕ) → HasSerials (node_at first n) = λ n. each_mapped HasSerials (λ (m : ℕ). opening_node m nodes lines slots limit) (opening_node 0 1 0 0 0) 0 nodes n (λ m. opening_serials m nodes lines slots limit) (opening_serials 0 1 0 0 0) in
-    run_logged first schedule (opened nodes lines slots limit sizes) serials
+pub schedule_logged : (size : Size) (schedule : List Event) → IsSize size → RunLogged (opening size) (done size schedule) (run size schedule)
+schedule_logged size schedule sizes =
+    let first = opening size in
+    let serials : (n : ℕ) → HasSerials (node_at first n) = λ n. each_mapped HasSerials (λ (m : ℕ). opening_node m size) no_node 0 size.nodes n (λ m. opening_serials m size) (opening_serials 0 (record { nodes = 1; lines = 0; slots = 0; limit = 0 })) in
+    run_logged first schedule (opened size sizes) serials
 
 -- each log has its own node's entries of the schedule
-pub schedule_log : (nodes lines slots limit : ℕ) (schedule : List Event) (node : ℕ) → AreSizes nodes lines slots limit → (node_at (run nodes lines slots limit schedule) node).log ≡ filter (is_of_node node) (done nodes lines slots limit schedule)
-schedule_log nodes lines slots limit schedule node sizes =
-    (schedule_logged nodes lines slots limit schedule sizes).logs node ∙ ap (λ (es : List Entry). es ++ filter (is_of_node node) (done nodes lines slots limit schedule)) (opening_log nodes lines slots limit node)
+pub schedule_log : (size : Size) (schedule : List Event) (node : ℕ) → IsSize size → (node_at (run size schedule) node).log ≡ filter (is_of_node node) (done size schedule)
+schedule_log size schedule node sizes =
+    (schedule_logged size schedule sizes).logs node ∙ ap (λ (es : List Entry). es ++ filter (is_of_node node) (done size schedule)) (opening_log size node)
 
 pub log_at : (core : Core) (node : ℕ) → node < MAX_NODES → log_of (logs_of core) node ≡ (node_at core node).log
 log_at core node lt = get_or-map-range_with_len (λ (n : ℕ). (node_at core n).log) 0 16 node node [] lt (omega arith)
@@ -114,37 +116,37 @@ log_at core node lt = get_or-map-range_with_len (λ (n : ℕ). (node_at core n).
 pub log_beyond : (core : Core) (node : ℕ) → MAX_NODES ≤ node → log_of (logs_of core) node ≡ []
 log_beyond core node past = get_or_past (logs_of core) node [] (omega arith)
 
-reached_logged : (core : Core) (reached : IsReached core) → RunLogged (opening core.nodes core.lines core.slots core.limit) (done core.nodes core.lines core.slots core.limit reached.schedule) core
+reached_logged : (core : Core) (reached : IsReached core) → RunLogged (opening core.size) (done core.size reached.schedule) core
 reached_logged core reached =
-    subst (RunLogged (opening core.nodes core.lines core.slots core.limit) (done core.nodes core.lines core.slots core.limit reached.schedule)) reached.leads (schedule_logged core.nodes core.lines core.slots core.limit reached.schedule reached.sizes)
+    subst (RunLogged (opening core.size) (done core.size reached.schedule)) reached.leads (schedule_logged core.size reached.schedule reached.size)
 
 -- no entry is on a line that the machine doesn't have
 beyond_none : (lines line : ℕ) (entries : List Entry) → lines ≤ line → AllByRecursion (λ entry. entry.op.line < lines) entries → filter (is_on_line line) entries ≡ []
 beyond_none lines line entries past all =
     filter_none (is_on_line line) entries (all_weaker (λ (entry : Entry). entry.op.line < lines) (λ entry. is_on_line line entry ≡ false) (λ entry lt. ne_eqb entry.op.line line (λ e. (let below : line < lines = subst (λ (k : ℕ). k < lines) e lt in omega arith))) entries all)
 
-last_within : (core : Core) (line : ℕ) → line < core.lines → stamped_at (last_of core) line ≡ last_at core line
-last_within core line inside = get_or-map-range_with_len (last_at core) 0 core.lines line line zero_stamped inside (omega arith)
+last_within : (core : Core) (line : ℕ) → line < core.size.lines → stamped_at (last_of core) line ≡ last_at core line
+last_within core line inside = get_or-map-range_with_len (last_at core) 0 core.size.lines line line zero_stamped inside (omega arith)
 
-last_beyond : (core : Core) (line : ℕ) → core.lines ≤ line → stamped_at (last_of core) line ≡ zero_stamped
-last_beyond core line past = let all = length-map-range_with_len (last_at core) 0 core.lines in get_or_past (last_of core) line zero_stamped (omega arith)
+last_beyond : (core : Core) (line : ℕ) → core.size.lines ≤ line → stamped_at (last_of core) line ≡ zero_stamped
+last_beyond core line past = let all = length-map-range_with_len (last_at core) 0 core.size.lines in get_or_past (last_of core) line zero_stamped (omega arith)
 
-line_history : (core : Core) (reached : IsReached core) (line : ℕ) → IsHistory (filter (is_on_line line) (done core.nodes core.lines core.slots core.limit reached.schedule)) zero_stamped (stamped_at (last_of core) line)
+line_history : (core : Core) (reached : IsReached core) (line : ℕ) → IsHistory (filter (is_on_line line) (done core.size reached.schedule)) zero_stamped (stamped_at (last_of core) line)
 line_history core reached line =
-    let entries = done core.nodes core.lines core.slots core.limit reached.schedule in
-    elim (cases_lt line core.lines) [
+    let entries = done core.size reached.schedule in
+    elim (cases_lt line core.size.lines) [
       | inl inside ↦
-          let history = subst (λ (x : Core). IsHistory (filter (is_on_line line) entries) zero_stamped (last_at x line)) reached.leads (schedule_history core.nodes core.lines core.slots core.limit reached.schedule line reached.sizes inside) in
+          let history = subst (λ (x : Core). IsHistory (filter (is_on_line line) entries) zero_stamped (last_at x line)) reached.leads (schedule_history core.size reached.schedule line reached.size inside) in
           subst (IsHistory (filter (is_on_line line) entries) zero_stamped) (sym (last_within core line inside)) history
       | inr past ↦
-          subst (λ (es : List Entry). IsHistory es zero_stamped (stamped_at (last_of core) line)) (sym (beyond_none core.lines line entries past (all_weaker (IsWithin core.lines) (λ entry. entry.op.line < core.lines) (λ entry h. h.0) entries (reached_logged core reached).lines))) (last_beyond core line past)
+          subst (λ (es : List Entry). IsHistory es zero_stamped (stamped_at (last_of core) line)) (sym (beyond_none core.size.lines line entries past (all_weaker (IsWithin core.size.lines) (λ entry. entry.op.line < core.size.lines) (λ entry h. h.0) entries (reached_logged core reached).lines))) (last_beyond core line past)
     ]
 
 line_logged : (core : Core) (reached : IsReached core) (line node : ℕ) → node < MAX_NODES
-    → filter (is_on_line line) (log_of (logs_of core) node) ≡ filter (is_of_node node) (filter (is_on_line line) (done core.nodes core.lines core.slots core.limit reached.schedule))
+    → filter (is_on_line line) (log_of (logs_of core) node) ≡ filter (is_of_node node) (filter (is_on_line line) (done core.size reached.schedule))
 line_logged core reached line node lt =
-    let entries = done core.nodes core.lines core.slots core.limit reached.schedule in
-    let made : (node_at core node).log ≡ filter (is_of_node node) entries = (reached_logged core reached).logs node ∙ ap (λ (es : List Entry). es ++ filter (is_of_node node) entries) (opening_log core.nodes core.lines core.slots core.limit node) in
+    let entries = done core.size reached.schedule in
+    let made : (node_at core node).log ≡ filter (is_of_node node) entries = (reached_logged core reached).logs node ∙ ap (λ (es : List Entry). es ++ filter (is_of_node node) entries) (opening_log core.size node) in
     ap (filter (is_on_line line)) (log_at core node lt ∙ made) ∙ filter-filter (is_on_line line) (is_of_node node) entries
 
 line_serials : (core : Core) (reached : IsReached core) (line node : ℕ) → node < MAX_NODES → AllPairs (λ x y. x.serial < y.serial) (filter (is_on_line line) (log_of (logs_of core) node))
@@ -153,9 +155,9 @@ line_serials core reached line node lt =
 
 has_history : (core : Core) (reached : IsReached core) (line : ℕ) → HasHistory (logs_of core) line (stamped_at (last_of core) line)
 has_history core reached line =
-    let entries = done core.nodes core.lines core.slots core.limit reached.schedule in
-    let few = reached.sizes.extent.few_nodes in
-    let nodes = all_weaker (λ (entry : Entry). entry.node < core.nodes) (λ entry. entry.node < MAX_NODES) (λ entry lt. omega arith) entries (reached_logged core reached).nodes in
+    let entries = done core.size reached.schedule in
+    let few = reached.size.extent.few_nodes in
+    let nodes = all_weaker (λ (entry : Entry). entry.node < core.size.nodes) (λ entry. entry.node < MAX_NODES) (λ entry lt. omega arith) entries (reached_logged core reached).nodes in
     record {
       entries = filter (is_on_line line) entries;
       history = line_history core reached line;
@@ -169,14 +171,14 @@ pub reached_lawful : (core : Core) → IsReached core → Lawful (logs_of core) 
 reached_lawful core reached line = lawful_line (logs_of core) line (stamped_at (last_of core) line) refl (has_history core reached line)
 
 -- every entry is on one of the machine's lines, and on a word of it
-pub reached_within : (core : Core) → IsReached core → AreWithin core.lines (logs_of core)
+pub reached_within : (core : Core) → IsReached core → AreWithin core.size.lines (logs_of core)
 reached_within core reached node =
-    let entries = done core.nodes core.lines core.slots core.limit reached.schedule in
+    let entries = done core.size reached.schedule in
     let logged = reached_logged core reached in
-    let log : (node_at core node).log ≡ filter (is_of_node node) entries = logged.logs node ∙ ap (λ (es : List Entry). es ++ filter (is_of_node node) entries) (opening_log core.nodes core.lines core.slots core.limit node) in
+    let log : (node_at core node).log ≡ filter (is_of_node node) entries = logged.logs node ∙ ap (λ (es : List Entry). es ++ filter (is_of_node node) entries) (opening_log core.size node) in
     elim (cases_lt node MAX_NODES) [
-      | inl lt ↦ subst (All (IsWithin core.lines)) (sym (log_at core node lt ∙ log)) (All-from_recursion (IsWithin core.lines) (filter (is_of_node node) entries) (all-filter (IsWithin core.lines) (is_of_node node) entries logged.lines))
-      | inr past ↦ subst (All (IsWithin core.lines)) (sym (log_beyond core node past)) (All-from_recursion (IsWithin core.lines) [] tt)
+      | inl lt ↦ subst (All (IsWithin core.size.lines)) (sym (log_at core node lt ∙ log)) (All-from_recursion (IsWithin core.size.lines) (filter (is_of_node node) entries) (all-filter (IsWithin core.size.lines) (is_of_node node) entries logged.lines))
+      | inr past ↦ subst (All (IsWithin core.size.lines)) (sym (log_beyond core node past)) (All-from_recursion (IsWithin core.size.lines) [] tt)
     ]
 
 -- ---- all of them
@@ -186,10 +188,10 @@ reached_coherent core reached = record {
   reached = reached;
   tidy = reached_tidy core reached;
   accepted = reached_accepted core reached;
-  alternates = λ n line some inside. runs_alternate core.nodes core.lines core.slots core.limit reached.schedule n line reached.sizes some inside;
+  alternates = λ n line some inside. runs_alternate core.size reached.schedule n line reached.size some inside;
   shapes = reached_shapes core reached;
-  explained = λ line inside. subst (λ (x : Core). IsHistory (filter (is_on_line line) (done core.nodes core.lines core.slots core.limit reached.schedule)) zero_stamped (last_at x line)) reached.leads
-      (schedule_history core.nodes core.lines core.slots core.limit reached.schedule line reached.sizes inside);
+  explained = λ line inside. subst (λ (x : Core). IsHistory (filter (is_on_line line) (done core.size reached.schedule)) zero_stamped (last_at x line)) reached.leads
+      (schedule_history core.size reached.schedule line reached.size inside);
   within = reached_within core reached;
   lawful = reached_lawful core reached;
 }

@@ -18,7 +18,7 @@ use Rattle.sci_cache.specs.State.{CacheState, Out, Asking, Joining, FreshJoining
 use Rattle.sci_cache.specs.Accepting.{accepting}
 use Rattle.sci_cache.specs.Member.{link_of}
 use Rattle.sci_cache.specs.Cache.{Letter, line_of}
-use Rattle.sci_core.specs.Node.{NodeOf, opening_node}
+use Rattle.sci_core.specs.Node.{NodeOf, opening_node, no_node}
 use Rattle.sci_core.specs.Core.{Core, node_at}
 use Rattle.sci_core.specs.Shape.{comes, follows, state_at, IsAuthority, IsSplit, HasOneAuthority, HasAuthorities, HaveContents, is_home_fresh, HasShape}
 use Rattle.sci_core.specs.Sharing.{contents_held, packets_of, answer_in, Sharer, sharer_of, sharers, home_at, authority_contents, first_authority, last_at, answer_to as told}
@@ -189,13 +189,13 @@ led_below view c must (n ∷ before) m middle a after leading fresh (front, inr 
 -- ---- a line of a machine
 
 -- nodes beyond the machine's are no members
-member_below : (core : Core) (line n : ℕ) (f : Option ℕ) → IsWellFormed core → link_in (view_of core line) n ≡ Some f → n < core.nodes
+member_below : (core : Core) (line n : ℕ) (f : Option ℕ) → IsWellFormed core → link_in (view_of core line) n ≡ Some f → n < core.size.nodes
 member_below core line n f well member =
-    elim (cases_lt n core.nodes) [
+    elim (cases_lt n core.size.nodes) [
       | inl below ↦ below
       | inr past ↦
           let long = well.parts_long in
-          let none : node_at core n ≡ opening_node 0 1 0 0 0 = get_or_past core.parts n (opening_node 0 1 0 0 0) (omega arith) in
+          let none : node_at core n ≡ no_node = get_or_past core.parts n no_node (omega arith) in
           let out : link_in (view_of core line) n ≡ None = ap (λ (part : NodeOf). link_of (line_of part.cache line).state (told core n line)) none in
           absurd cc
     ]
@@ -261,8 +261,8 @@ last_led core line home c ns a well none is leads =
     let d = sharer_of core line a in
     let member = leads_member core line a leads in
     let below = member_below core line a member.0 well member.1 in
-    let all = length-map-range_with_len (sharer_of core line) 0 core.nodes in
-    let at : (j : ℕ) → j < core.nodes → get_or (sharers core line) j d ≡ sharer_of core line j = λ j lt. get_or-map-range_with_len (sharer_of core line) 0 core.nodes j j d lt (omega arith) in
+    let all = length-map-range_with_len (sharer_of core line) 0 core.size.nodes in
+    let at : (j : ℕ) → j < core.size.nodes → get_or (sharers core line) j d ≡ sharer_of core line j = λ j lt. get_or-map-range_with_len (sharer_of core line) 0 core.size.nodes j j d lt (omega arith) in
     let same : (j : ℕ) → j < length (sharers core line) → IfSome (authority_contents (get_or (sharers core line) j d)) (λ e. e ≡ c) = λ j lt. subst (λ (s : Sharer). IfSome (authority_contents s) (λ e. e ≡ c)) (sym (at j (omega arith))) (authority_same core line home c ns j is) in
     let some : IsSome (authority_contents (get_or (sharers core line) a d)) = subst (λ (s : Sharer). IsSome (authority_contents s)) (sym (at a below)) (leads_authority core line a leads) in
     let found = first_held (sharers core line) c d a same (omega arith) some in
@@ -350,13 +350,13 @@ returning_same core line home c ns n d is e none =
     let link : link_in (view_of core line) n ≡ Some None = ap (link_of (state_at core line n)) none ∙ ap (λ (s : CacheState). link_of s None) e in
     has_last c d (state_at core line n) (told core n line) (ap contents_of e) (member_agrees (view_of core line) home c ns n None link is)
 
-back_same : (core : Core) (line : ℕ) (home : HomeState) (c : Stamped) (ns : List ℕ) (n : ℕ) (letters : List Letter) → IsShaped (view_of core line) home c ns → packets_of core n line ≡ letters → HasItsPackets (line % core.nodes) (line_of (node_at core n).cache line) letters
+back_same : (core : Core) (line : ℕ) (home : HomeState) (c : Stamped) (ns : List ℕ) (n : ℕ) (letters : List Letter) → IsShaped (view_of core line) home c ns → packets_of core n line ≡ letters → HasItsPackets (line % core.size.nodes) (line_of (node_at core n).cache line) letters
     → AllByRecursion (λ letter. (d : Stamped) → letter.body ≡ body.Wback d → d ≡ c) letters
 back_same core line home c ns n [] is are has = tt
 back_same core line home c ns n (letter ∷ []) is are has = (
   λ d e. (
       let asks : is_request letter.body ≡ true = ap is_request e in
-      let returning = sent_back (line % core.nodes) (state_at core line n) letter d (has.sent asks) e in
+      let returning = sent_back (line % core.size.nodes) (state_at core line n) letter d (has.sent asks) e in
       returning_same core line home c ns n d is returning (ap answer_in are ∙ request_tells letter asks)),
   tt,
 )
@@ -367,7 +367,7 @@ home_same view (at.Home d) c ns led = led
 home_same view (at.Fresh p d) c ns led = led.0
 home_same view (at.Gone p) c ns led = tt
 
-pub shape_of : (core : Core) (line : ℕ) (c : Stamped) → IsWellFormed core → IsTidy core → line < core.lines → ShapedAt core line c → HasShape core line
+pub shape_of : (core : Core) (line : ℕ) (c : Stamped) → IsWellFormed core → IsTidy core → line < core.size.lines → ShapedAt core line c → HasShape core line
 shape_of core line c well tidy inside (ns, is) =
     let home = home_at core line in
     let last = last_is core line c well (ns, is) in

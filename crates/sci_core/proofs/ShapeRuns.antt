@@ -18,7 +18,7 @@ use Rattle.sci_cache.specs.Line.{LineState, untouched, line_in}
 use Rattle.sci_cache.specs.Member.{link_of}
 use Rattle.sci_cache.specs.Cache.{Letter, line_of}
 use Rattle.sci_core.specs.declared.lane.LaneKind.TheVariants.{Requests, Answers as AnswerLane}
-use Rattle.sci_core.specs.Node.{NodeOf, opening_node, lines_of, home_of, pending_on, answer_to, with_answer, node_issuing, node_performing, node_asking, node_serving, node_refusing, node_replying, node_accepting, IsPendingOn}
+use Rattle.sci_core.specs.Node.{NodeOf, opening_node, lines_of, home_of, pending_on, answer_to, with_answer, node_issuing, node_performing, node_asking, node_serving, node_refusing, node_replying, node_accepting, IsPendingOn, no_node}
 use Rattle.sci_core.specs.Core.{Core, node_at, with_node, with_lane, lane_place, stepping, step, opening}
 use Rattle.sci_core.specs.Done.{performed, TakesEffect, ChangesBy, made_by}
 use Rattle.sci_core.specs.Sharing.{is_about, answer_in, answer_to as told}
@@ -36,6 +36,7 @@ use Rattle.sci_core.proofs.Shapes.{Shaped}
 use Rattle.sci_core.proofs.NodeSides.{Unmoved, PerformedAs, AsksAlike, ServedAs, At_home, In_cache, RefusedAs, AcceptsAlike, issue_unmoved, perform_as, ask_alike, serve_as, refuse_as, reply_as, accept_alike}
 use Rattle.sci_core.proofs.ShapeSteps.{view_of, ShapedAt, SameLine, same_shaped, changed_same, Operates, performed_same, performed_did, asked_same, replied_same, accepted_same}
 use Rattle.sci_core.proofs.ShapeServes.{Answered, refused_same, home_kept, cache_kept}
+use Rattle.sci_core.specs.Size.{Size}
 
 -- a line has its shape still, and its last contents are as the entry tells
 abbrev pub Follows : Core → Option Entry → ℕ → Stamped → Type 0
@@ -51,14 +52,14 @@ same_follows core new made line c none same shaped = unchanged new made line c n
 
 -- the request that was taken, with an answer that waits
 answered : (core new : Core) (taking : NodeOf → Letter → Option NodeOf) (t : Taken core new Requests taking) (next : NodeOf) (body : Body) → IsWellFormed core → (node_at core t.node).waiting ≡ None → next.waiting ≡ Some (answer_to t.letter body)
-    → IsPart core.nodes core.lines core.slots core.limit t.node next → Answered core t.node t.place next t.letter t.rest body
+    → IsPart core.size t.node next → Answered core t.node t.place next t.letter t.rest body
 answered core new taking t next body well free waits is = record {
   some = t.some;
   below = node_below core t.node well t.some;
   within = t.within;
   front = t.front;
   asks = t.comes.0.asks;
-  answers = waiting_answers core.nodes core.lines core.slots core.limit t.node next (answer_to t.letter body) waits is;
+  answers = waiting_answers core.size t.node next (answer_to t.letter body) waits is;
   free = free;
   waiting = waits;
   asker = t.comes.0.letter_ok.source;
@@ -66,25 +67,25 @@ answered core new taking t next body well free waits is = record {
   to = t.comes.1;
 }
 
-served_shaped : (core new : Core) (t : Taken core new Requests node_serving) (line : ℕ) (c : Stamped) → IsWellFormed core → IsTidy core → ShapedAt core line c → IsPart core.nodes core.lines core.slots core.limit t.node t.next → ServedAs (node_at core t.node) t.letter t.next → ShapedAt (with_lane (with_node core t.node t.next) t.place t.rest) line c
+served_shaped : (core new : Core) (t : Taken core new Requests node_serving) (line : ℕ) (c : Stamped) → IsWellFormed core → IsTidy core → ShapedAt core line c → IsPart core.size t.node t.next → ServedAs (node_at core t.node) t.letter t.next → ShapedAt (with_lane (with_node core t.node t.next) t.place t.rest) line c
 served_shaped core new t line c well tidy shaped is (At_home served asks serves e) =
     let part = node_at core t.node in
-    let answers = of_some (Answers core.nodes t.letter part) (node_serving part t.letter) t.next t.takes (serve_answers core.nodes part t.letter) in
-    let next = subst (IsPart core.nodes core.lines core.slots core.limit t.node) (sym e) is in
+    let answers = of_some (Answers core.size.nodes t.letter part) (node_serving part t.letter) t.next t.takes (serve_answers core.size.nodes part t.letter) in
+    let next = subst (IsPart core.size t.node) (sym e) is in
     let home = t.comes.0.home asks ∙ t.comes.1 in
     subst (λ (x : NodeOf). ShapedAt (with_lane (with_node core t.node x) t.place t.rest) line c) e
     (home_kept core t.node t.place t.letter t.rest served (well.each_part t.node t.some) home (answered core new node_serving t _ served.1 well answers.free refl next) serves tidy line c shaped)
 served_shaped core new t line c well tidy shaped is (In_cache served serves e) =
     let part = node_at core t.node in
-    let answers = of_some (Answers core.nodes t.letter part) (node_serving part t.letter) t.next t.takes (serve_answers core.nodes part t.letter) in
-    let next = subst (IsPart core.nodes core.lines core.slots core.limit t.node) (sym e) is in
+    let answers = of_some (Answers core.size.nodes t.letter part) (node_serving part t.letter) t.next t.takes (serve_answers core.size.nodes part t.letter) in
+    let next = subst (IsPart core.size t.node) (sym e) is in
     subst (λ (x : NodeOf). ShapedAt (with_lane (with_node core t.node x) t.place t.rest) line c) e
     (cache_kept core t.node t.place t.letter t.rest served (well.each_part t.node t.some) (answered core new node_serving t _ served.1 well answers.free refl next) serves tidy line c shaped)
 
 -- ---- an operation is performed
 
 -- what an operation did on its own line
-performed_here : (core : Core) (n line : ℕ) (done : NodeOf × Entry) (does : PerformedAs (node_at core n) line done) (c : Stamped) → n < core.nodes → IsWellFormed core → IsTidy core → does.pending.op.line < core.lines → ShapedAt core does.pending.op.line c → Operates core n done.0 does.did does.pending.op.line
+performed_here : (core : Core) (n line : ℕ) (done : NodeOf × Entry) (does : PerformedAs (node_at core n) line done) (c : Stamped) → n < core.size.nodes → IsWellFormed core → IsTidy core → does.pending.op.line < core.size.lines → ShapedAt core does.pending.op.line c → Operates core n done.0 does.did does.pending.op.line
     → (d : Stamped) × ShapedAt (with_node core n done.0) does.pending.op.line d × TakesEffect done.1 c d
 performed_here core n line done does c lt well tidy known shaped operates =
     let part = node_at core n in
@@ -94,7 +95,7 @@ performed_here core n line done does c lt well tidy known shaped operates =
     let effect = subst (λ (entry : Entry). TakesEffect entry c (after c op)) does.entry (record { reply = did.reply; version = did.version; contents = refl }) in
     (after c op, did.shaped, effect)
 
-performed_follows : (core : Core) (n line : ℕ) (done : NodeOf × Entry) (does : PerformedAs (node_at core n) line done) (k : ℕ) (c : Stamped) → n < core.nodes → IsWellFormed core → IsTidy core → does.pending.op.line < core.lines → ShapedAt core k c → Operates core n done.0 does.did does.pending.op.line
+performed_follows : (core : Core) (n line : ℕ) (done : NodeOf × Entry) (does : PerformedAs (node_at core n) line done) (k : ℕ) (c : Stamped) → n < core.size.nodes → IsWellFormed core → IsTidy core → does.pending.op.line < core.size.lines → ShapedAt core k c → Operates core n done.0 does.did does.pending.op.line
     → Follows (with_node core n done.0) (Some done.1) k c
 performed_follows core n line done does k c lt well tidy known shaped operates =
     let new = with_node core n done.0 in
@@ -108,7 +109,7 @@ performed_follows core n line done does k c lt well tidy known shaped operates =
     ]
 
 -- the pending operation is on a line of the machine
-pub pending_known : (core : Core) (n line : ℕ) (done : NodeOf × Entry) (does : PerformedAs (node_at core n) line done) → n < core.nodes → IsWellFormed core → does.pending.op.line < core.lines
+pub pending_known : (core : Core) (n line : ℕ) (done : NodeOf × Entry) (does : PerformedAs (node_at core n) line done) → n < core.size.nodes → IsWellFormed core → does.pending.op.line < core.size.lines
 pending_known core n line done does lt well =
     let part = node_at core n in
     let fits = (well.each_part n lt).fits in
@@ -118,7 +119,7 @@ pending_known core n line done does lt well =
     let on = (of_some (IsPendingOn part.issued line) (pending_on part line) does.pending does.here (fits.each line)).here in
     omega arith
 
-operates_so : (core : Core) (n line : ℕ) (done : NodeOf × Entry) (does : PerformedAs (node_at core n) line done) → n < core.nodes → IsWellFormed core → Operates core n done.0 does.did does.pending.op.line
+operates_so : (core : Core) (n line : ℕ) (done : NodeOf × Entry) (does : PerformedAs (node_at core n) line done) → n < core.size.nodes → IsWellFormed core → Operates core n done.0 does.did does.pending.op.line
 operates_so core n line done does lt well =
     let part = node_at core n in
     let at = does.pending.op.line in
@@ -135,10 +136,10 @@ operates_so core n line done does lt well =
 
 -- ---- each way of stepping
 
-pub stepped_follows : (core new : Core) (e : Event) (made : Option Entry) → IsWellFormed core → IsTidy core → Stepped core e made new → (line : ℕ) → line < core.lines → (c : Stamped) → ShapedAt core line c → Follows new made line c
+pub stepped_follows : (core new : Core) (e : Event) (made : Option Entry) → IsWellFormed core → IsTidy core → Stepped core e made new → (line : ℕ) → line < core.size.lines → (c : Stamped) → ShapedAt core line c → Follows new made line c
 stepped_follows core new e made well tidy (By_issue n op next event lt is then_ none) line inside c shaped =
     let part = node_at core n in
-    let stays = of_some (Stays core.nodes part) (node_issuing part op) next is (issue_stays core.nodes part op) in
+    let stays = of_some (Stays core.size.nodes part) (node_issuing part op) next is (issue_stays core.size.nodes part op) in
     let same = changed_same core n next (node_below core n well lt) (of_some (Unmoved part) (node_issuing part op) next is (issue_unmoved part op)) stays.waiting line in
     subst (λ (x : Core). Follows x made line c) then_ (same_follows core (with_node core n next) made line c none same shaped)
 stepped_follows core new e made well tidy (By_perform n at done lt is then_ some) line inside c shaped =
@@ -149,34 +150,34 @@ stepped_follows core new e made well tidy (By_perform n at done lt is then_ some
 stepped_follows core new e made well tidy (By_ask n at kind sent is sends_well s none) line inside c shaped =
     let node = node_at core n in
     let part = well.each_part n s.some in
-    let once = of_some (AsksOnce core.nodes at node) (node_asking node at kind) sent is (ask_once core.nodes node at kind part.all (part.asks at)) in
+    let once = of_some (AsksOnce core.size.nodes at node) (node_asking node at kind) sent is (ask_once core.size.nodes node at kind part.all (part.asks at)) in
     let alike = of_some (AsksAlike node) (node_asking node at kind) sent is (ask_alike node at kind) in
-    let known : at < core.lines = subst (λ (k : ℕ). at < k) part.each once.below in
-    let same = asked_same core n at (lane_place core.nodes Requests n sent.1.target) sent.0 sent.1 s.some (node_below core n well s.some) s.within sends_well.request.asks sends_well.from known once alike tidy line in
+    let known : at < core.size.lines = subst (λ (k : ℕ). at < k) part.each once.below in
+    let same = asked_same core n at (lane_place core.size.nodes Requests n sent.1.target) sent.0 sent.1 s.some (node_below core n well s.some) s.within sends_well.request.asks sends_well.from known once alike tidy line in
     subst (λ (x : Core). Follows x made line c) s.then_ (same_follows core _ made line c none same shaped)
 stepped_follows core new e made well tidy (By_serve t none) line inside c shaped =
     let part = node_at core t.node in
-    let is = of_some (IsPart core.nodes core.lines core.slots core.limit t.node) (node_serving part t.letter) t.next t.takes (part_serving core.nodes core.lines core.slots core.limit t.node part t.letter t.comes.0 t.comes.1 (well.each_part t.node t.some)) in
+    let is = of_some (IsPart core.size t.node) (node_serving part t.letter) t.next t.takes (part_serving core.size t.node part t.letter t.comes.0 t.comes.1 (well.each_part t.node t.some)) in
     let served = served_shaped core new t line c well tidy shaped is (of_some (ServedAs part t.letter) (node_serving part t.letter) t.next t.takes (serve_as part t.letter)) in
     unchanged new made line c none (subst (λ (x : Core). ShapedAt x line c) t.then_ served)
 stepped_follows core new e made well tidy (By_refuse t none) line inside c shaped =
     let part = node_at core t.node in
-    let is = of_some (IsPart core.nodes core.lines core.slots core.limit t.node) (node_refusing part t.letter) t.next t.takes (part_refusing core.nodes core.lines core.slots core.limit t.node part t.letter t.comes.0 t.comes.1 (well.each_part t.node t.some)) in
-    let answers = of_some (Answers core.nodes t.letter part) (node_refusing part t.letter) t.next t.takes (refuse_answers core.nodes part t.letter) in
+    let is = of_some (IsPart core.size t.node) (node_refusing part t.letter) t.next t.takes (part_refusing core.size t.node part t.letter t.comes.0 t.comes.1 (well.each_part t.node t.some)) in
+    let answers = of_some (Answers core.size.nodes t.letter part) (node_refusing part t.letter) t.next t.takes (refuse_answers core.size.nodes part t.letter) in
     let does = of_some (RefusedAs part t.letter) (node_refusing part t.letter) t.next t.takes (refuse_as part t.letter) in
-    let next = subst (IsPart core.nodes core.lines core.slots core.limit t.node) (sym does.then_) is in
+    let next = subst (IsPart core.size t.node) (sym does.then_) is in
     let same = refused_same core t.node t.place t.letter t.rest does.other (answered core new node_refusing t (with_answer part t.letter Busy) Busy well answers.free refl next) tidy line in
     let then_ = subst (λ (x : NodeOf). SameLine core (with_lane (with_node core t.node x) t.place t.rest) line) does.then_ same in
     subst (λ (x : Core). Follows x made line c) t.then_ (same_follows core _ made line c none then_ shaped)
 stepped_follows core new e made well tidy (By_reply n sent is sends_well s none) line inside c shaped =
     let part = node_at core n in
-    let replies = of_some (Replies core.nodes part) (node_replying part) sent is (reply_replies core.nodes part) in
+    let replies = of_some (Replies core.size.nodes part) (node_replying part) sent is (reply_replies core.size.nodes part) in
     let e = of_some (λ (x : NodeOf × Letter). (record part { waiting = None }) ≡ x.0) (node_replying part) sent is (reply_as part) in
     let unmoved = subst (Unmoved part) e (record { alike = λ k. alike_itself (line_of part.cache k).state; same = record { homes = refl; nodes = refl } }) in
     let letter = sent.1 in
-    let target : letter.target < core.nodes = sends_well.answer.letter_ok.target in
-    let asker : (m k : ℕ) → is_about m k letter ≡ true → m < core.nodes = λ m k about. subst (λ (j : ℕ). j < core.nodes) (sym (answer_asker letter sends_well.answer.answers) ∙ about_asker m k letter about) target in
-    let same = replied_same core n (lane_place core.nodes AnswerLane n letter.target) sent.0 letter (node_below core n well s.some) s.within asker replies unmoved tidy line inside in
+    let target : letter.target < core.size.nodes = sends_well.answer.letter_ok.target in
+    let asker : (m k : ℕ) → is_about m k letter ≡ true → m < core.size.nodes = λ m k about. subst (λ (j : ℕ). j < core.size.nodes) (sym (answer_asker letter sends_well.answer.answers) ∙ about_asker m k letter about) target in
+    let same = replied_same core n (lane_place core.size.nodes AnswerLane n letter.target) sent.0 letter (node_below core n well s.some) s.within asker replies unmoved tidy line inside in
     subst (λ (x : Core). Follows x made line c) s.then_ (same_follows core _ made line c none same shaped)
 stepped_follows core new e made well tidy (By_accept t none) line inside c shaped =
     let part = node_at core t.node in
@@ -189,12 +190,12 @@ stepped_follows core new e made well tidy (By_accept t none) line inside c shape
 
 -- ---- steps
 
-after_follows : (core : Core) (e : Event) (next : Option Core) (made : Option Entry) → IsWellFormed core → IsTidy core → IfSome next (Stepped core e made) → (line : ℕ) → line < core.lines → (c : Stamped) → ShapedAt core line c
+after_follows : (core : Core) (e : Event) (next : Option Core) (made : Option Entry) → IsWellFormed core → IsTidy core → IfSome next (Stepped core e made) → (line : ℕ) → line < core.size.lines → (c : Stamped) → ShapedAt core line c
     → Follows (unwrap_or next core) (elim next as (λ _. Option Entry) [ None ↦ None | Some new ↦ made ]) line c
 after_follows core e None made well tidy stepped line inside c shaped = (c, shaped, refl)
 after_follows core e (Some new) made well tidy stepped line inside c shaped = stepped_follows core new e made well tidy stepped line inside c shaped
 
-pub step_follows : (core : Core) (e : Event) → IsWellFormed core → IsTidy core → (line : ℕ) → line < core.lines → (c : Stamped) → ShapedAt core line c → Follows (step core e) (made_by core e) line c
+pub step_follows : (core : Core) (e : Event) → IsWellFormed core → IsTidy core → (line : ℕ) → line < core.size.lines → (c : Stamped) → ShapedAt core line c → Follows (step core e) (made_by core e) line c
 step_follows core e well tidy line inside c shaped = after_follows core e (stepping core e) (performed core e) well tidy (stepping_stepped core e well) line inside c shaped
 
 -- ---- the opening
@@ -209,20 +210,19 @@ replicated x zero i = refl
 replicated x (suc count) zero = refl
 replicated x (suc count) (suc i) = replicated x count i
 
-opening_out : (nodes lines slots limit n line : ℕ) → (line_of (node_at (opening nodes lines slots limit) n).cache line).state ≡ Out
-opening_out nodes lines slots limit n line =
-    let out : (m c l : ℕ) → (line_of (opening_node m c l slots limit).cache line).state ≡ Out = λ m c l. ap (λ (s : LineState). s.state) (replicated untouched l line) in
-    each_mapped (λ (part : NodeOf). (line_of part.cache line).state ≡ Out) (λ (m : ℕ). opening_node m nodes lines slots limit) (opening_node 0 1 0 0 0) 0 nodes n (λ m. out m nodes lines) refl
+opening_out : (size : Size) (n line : ℕ) → (line_of (node_at (opening size) n).cache line).state ≡ Out
+opening_out size n line =
+    each_mapped (λ (part : NodeOf). (line_of part.cache line).state ≡ Out) (λ (m : ℕ). opening_node m size) no_node 0 size.nodes n (λ m. ap (λ (s : LineState). s.state) (replicated untouched size.lines line)) refl
 
-opening_at_home : (nodes lines slots limit n line : ℕ) → home_of (node_at (opening nodes lines slots limit) n) line ≡ opening_home
-opening_at_home nodes lines slots limit n line =
-    each_mapped (λ (part : NodeOf). home_of part line ≡ opening_home) (λ (m : ℕ). opening_node m nodes lines slots limit) (opening_node 0 1 0 0 0) 0 nodes n
-    (λ m. replicated opening_home (lines / nodes + 1) (line / nodes)) (replicated opening_home (0 / 1 + 1) (line / 1))
+opening_at_home : (size : Size) (n line : ℕ) → home_of (node_at (opening size) n) line ≡ opening_home
+opening_at_home size n line =
+    each_mapped (λ (part : NodeOf). home_of part line ≡ opening_home) (λ (m : ℕ). opening_node m size) no_node 0 size.nodes n
+    (λ m. replicated opening_home (size.lines / size.nodes + 1) (line / size.nodes)) (replicated opening_home (0 / 1 + 1) (line / 1))
 
-pub opening_shaped : (nodes lines slots limit line : ℕ) → ShapedAt (opening nodes lines slots limit) line zero_stamped
-opening_shaped nodes lines slots limit line =
-    let core = opening nodes lines slots limit in
-    let home = opening_at_home nodes lines slots limit (line % nodes) line in
+pub opening_shaped : (size : Size) (line : ℕ) → ShapedAt (opening size) line zero_stamped
+opening_shaped size line =
+    let core = opening size in
+    let home = opening_at_home size (line % size.nodes) line in
     subst (λ (h : HomeState). Shaped (view_of core line) h zero_stamped) (sym home) (
       [],
       record {
@@ -230,11 +230,11 @@ opening_shaped nodes lines slots limit line =
           linked = refl;
           once = tt;
           all = λ n next e. (
-              let out = opening_out nodes lines slots limit n line in
+              let out = opening_out size n line in
               let none : link_of (line_of (node_at core n).cache line).state (told core n line) ≡ None = ap (λ (s : CacheState). link_of s (told core n line)) out in
               cc);
         };
         led = refl;
-        accepts = λ n. subst (IsAccepted (line_of (node_at core n).cache line).state) (sym (ap answer_in (opening_none nodes lines slots limit n line))) tt;
+        accepts = λ n. subst (IsAccepted (line_of (node_at core n).cache line).state) (sym (ap answer_in (opening_none size n line))) tt;
       },
     )

@@ -14,7 +14,7 @@ use Rattle.sci_cache.specs.State.{CacheState, waits}
 use Rattle.sci_cache.specs.Serving.{serving}
 use Rattle.sci_cache.specs.Line.{LineState, untouched, line_in}
 use Rattle.sci_cache.specs.Cache.{Letter, line_of, with_line}
-use Rattle.sci_core.specs.Node.{NodeOf, is_setback, opening_node, lines_of, home_of, home_place, answer_to, with_answer}
+use Rattle.sci_core.specs.Node.{NodeOf, is_setback, opening_node, lines_of, home_of, home_place, answer_to, with_answer, no_node}
 use Rattle.sci_core.specs.Core.{Core, node_at, with_node, lane_at, with_lane}
 use Rattle.sci_core.specs.Sharing.{is_about, packets_of, answer_in, home_at, answer_to as told}
 use Rattle.sci_core.specs.Tidy.{IsSentIn, IsTidy}
@@ -33,7 +33,7 @@ use Rattle.sci_core.proofs.ShapeSteps.{view_of, ShapedAt, SameLine, same_shaped,
 
 -- node n has taken a request from a lane, and its answer waits there
 pub record Answered (core : Core) (n place : ℕ) (next : NodeOf) (request : Letter) (rest : List Letter) (body : Body) : Type 0 where
-  pub some : n < core.nodes
+  pub some : n < core.size.nodes
   pub below : n < length core.parts
   pub within : place < length core.lanes
   pub front : lane_at core place ≡ request ∷ rest
@@ -41,8 +41,8 @@ pub record Answered (core : Core) (n place : ℕ) (next : NodeOf) (request : Let
   pub answers : is_request body ≡ false
   pub free : (node_at core n).waiting ≡ None
   pub waiting : next.waiting ≡ Some (answer_to request body)
-  pub asker : request.source < core.nodes
-  pub known : request.line < core.lines
+  pub asker : request.source < core.size.nodes
+  pub known : request.line < core.size.lines
   pub to : request.target ≡ n
 
 -- what is under way to node a about line k, before and after
@@ -50,7 +50,7 @@ pub record Told (core new : Core) (a k : ℕ) (body : Body) (request : Letter) :
   pub unanswered : told core a k ≡ None
   pub answered : told new a k ≡ Some body
   pub waiting : waits ((view_of core k).state a) ≡ true
-  pub sent : IsSentIn (k % core.nodes) ((view_of core k).state a) request
+  pub sent : IsSentIn (k % core.size.nodes) ((view_of core k).state a) request
 
 pub told_here : (core : Core) (n place : ℕ) (next : NodeOf) (request : Letter) (rest : List Letter) (body : Body) → Answered core n place next request rest body → IsTidy core
     → Told core (with_lane (with_node core n next) place rest) request.source request.line body request
@@ -59,10 +59,10 @@ told_here core n place next request rest body is tidy =
     let k = request.line in
     let about = about_from a k request refl (request_asker request is.asks) in
     let answer = answer_to request body in
-    let one = some_has_one (k % core.nodes) (line_of (node_at core a).cache k) (packets_of core a k) (lane_has core place request rest a k is.within is.front about) (tidy a k is.asker is.known) in
+    let one = some_has_one (k % core.size.nodes) (line_of (node_at core a).cache k) (packets_of core a k) (lane_has core place request rest a k is.within is.front about) (tidy a k is.asker is.known) in
     let moved = packets_served core n next place request answer one.letter rest a k is.below is.within is.front is.free is.waiting about (about_answer a k request body is.asks is.answers ∙ about) one.one in
     let there : packets_of core a k ≡ request ∷ [] = one.one ∙ ap (λ (l : Letter). l ∷ []) (sym moved.same) in
-    let sent = subst (λ (l : Letter). is_request l.body ≡ true → IsSentIn (k % core.nodes) ((view_of core k).state a) l) (sym moved.same) one.awaited.sent in
+    let sent = subst (λ (l : Letter). is_request l.body ≡ true → IsSentIn (k % core.size.nodes) ((view_of core k).state a) l) (sym moved.same) one.awaited.sent in
     record {
       unanswered = ap answer_in there ∙ request_tells request is.asks;
       answered = ap answer_in moved.then_ ∙ answer_tells answer is.answers;
@@ -87,7 +87,7 @@ told_other core n place next request rest body is m k not =
 
 state_same : (core : Core) (n : ℕ) (next : NodeOf) → ((k : ℕ) → (line_of next.cache k).state ≡ (line_of (node_at core n).cache k).state) → (m k : ℕ) → (line_of (node_at (with_node core n next) m).cache k).state ≡ (line_of (node_at core m).cache k).state
 state_same core n next states m k =
-    at_place_set (λ (j : ℕ) (part : NodeOf). (line_of part.cache k).state ≡ (line_of (node_at core j).cache k).state) core.parts n next (opening_node 0 1 0 0 0) (λ j. refl) (states k) m
+    at_place_set (λ (j : ℕ) (part : NodeOf). (line_of part.cache k).state ≡ (line_of (node_at core j).cache k).state) core.parts n next no_node (λ j. refl) (states k) m
 
 -- another line stands as it stood
 other_line : (core : Core) (n place : ℕ) (next : NodeOf) (request : Letter) (rest : List Letter) (body : Body) → Answered core n place next request rest body → ((k : ℕ) → k ≢ request.line → (line_of next.cache k).state ≡ (line_of (node_at core n).cache k).state)
@@ -97,7 +97,7 @@ other_line core n place next request rest body is states homes k other =
     record {
       home = homes k other;
       alike = λ m. alike_same (view_of core k) (view_of new k) m
-          (at_place_set (λ (j : ℕ) (part : NodeOf). (line_of part.cache k).state ≡ (line_of (node_at core j).cache k).state) core.parts n next (opening_node 0 1 0 0 0) (λ j. refl) (states k other) m)
+          (at_place_set (λ (j : ℕ) (part : NodeOf). (line_of part.cache k).state ≡ (line_of (node_at core j).cache k).state) core.parts n next no_node (λ j. refl) (states k other) m)
           (told_other core n place next request rest body is m k (λ h. other h.1));
     }
 
@@ -129,7 +129,7 @@ refused_same core n place request rest not_setback is tidy k =
       | inl here ↦
           let told_a = told_here core n place next request rest Busy is tidy in
           let asks = asks_now core n place next request rest Busy is tidy (λ j. refl) in
-          let busy = busy_alike (line % core.nodes) ((view_of core line).state request.source) request told_a.sent not_setback in
+          let busy = busy_alike (line % core.size.nodes) ((view_of core line).state request.source) request told_a.sent not_setback in
           let alike : (m : ℕ) → AlikeIn (view_of core line) (view_of new line) m = λ m. elim (cases_eq m request.source) [
             | inl asker ↦ subst (AlikeIn (view_of core line) (view_of new line)) (sym asker) (alike_moved (view_of core line) (view_of new line) request.source None ((view_of core line).state request.source) (Some Busy) asks.unanswered asks.state asks.answered busy)
             | inr other ↦ asks.others m other
@@ -148,29 +148,29 @@ places_apart c k line same other e =
     let d : c * (k / c) + k % c ≡ c * (line / c) + line % c = ap (λ (i : ℕ). c * i + k % c) e ∙ ap (λ (i : ℕ). c * (line / c) + i) same in
     other (sym a ∙ (d ∙ b))
 
-home_changed : (core : Core) (n line : ℕ) (next : NodeOf) (home : HomeState) → n < length core.parts → (node_at core n).cache.nodes ≡ core.nodes → line % core.nodes ≡ n → next.cache.nodes ≡ core.nodes → next.homes ≡ slice_set (node_at core n).homes (home_place (node_at core n) line) home
+home_changed : (core : Core) (n line : ℕ) (next : NodeOf) (home : HomeState) → n < length core.parts → (node_at core n).cache.nodes ≡ core.size.nodes → line % core.size.nodes ≡ n → next.cache.nodes ≡ core.size.nodes → next.homes ≡ slice_set (node_at core n).homes (home_place (node_at core n) line) home
     → (k : ℕ) → k ≢ line → home_at (with_node core n next) k ≡ home_at core k
 home_changed core n line next home below all at same homes k other =
-    elim (cases_eq (k % core.nodes) n) [
+    elim (cases_eq (k % core.size.nodes) n) [
       | inl here ↦
           let part = node_at core n in
-          let node : node_at (with_node core n next) (k % core.nodes) ≡ next = ap (node_at (with_node core n next)) here ∙ get_or-set_same core.parts n next (opening_node 0 1 0 0 0) below in
-          let apart : k / core.nodes ≢ line / core.nodes = places_apart core.nodes k line (here ∙ sym at) other in
-          let place : home_place part line ≡ line / core.nodes = ap (λ (c : ℕ). line / c) all in
-          let there : home_of next k ≡ slice_index_or next.homes (k / core.nodes) opening_home = ap (λ (c : ℕ). slice_index_or next.homes (k / c) opening_home) same in
-          let set_ : slice_index_or next.homes (k / core.nodes) opening_home ≡ slice_index_or (slice_set part.homes (line / core.nodes) home) (k / core.nodes) opening_home =
-          ap (λ (hs : List HomeState). slice_index_or hs (k / core.nodes) opening_home) (homes ∙ ap (λ (p : ℕ). slice_set part.homes p home) place) in
-          let rest : slice_index_or (slice_set part.homes (line / core.nodes) home) (k / core.nodes) opening_home ≡ slice_index_or part.homes (k / core.nodes) opening_home = get_or-set_other part.homes (line / core.nodes) (k / core.nodes) home opening_home apart in
-          let was : slice_index_or part.homes (k / core.nodes) opening_home ≡ home_of part k = ap (λ (c : ℕ). slice_index_or part.homes (k / c) opening_home) (sym all) in
+          let node : node_at (with_node core n next) (k % core.size.nodes) ≡ next = ap (node_at (with_node core n next)) here ∙ get_or-set_same core.parts n next no_node below in
+          let apart : k / core.size.nodes ≢ line / core.size.nodes = places_apart core.size.nodes k line (here ∙ sym at) other in
+          let place : home_place part line ≡ line / core.size.nodes = ap (λ (c : ℕ). line / c) all in
+          let there : home_of next k ≡ slice_index_or next.homes (k / core.size.nodes) opening_home = ap (λ (c : ℕ). slice_index_or next.homes (k / c) opening_home) same in
+          let set_ : slice_index_or next.homes (k / core.size.nodes) opening_home ≡ slice_index_or (slice_set part.homes (line / core.size.nodes) home) (k / core.size.nodes) opening_home =
+          ap (λ (hs : List HomeState). slice_index_or hs (k / core.size.nodes) opening_home) (homes ∙ ap (λ (p : ℕ). slice_set part.homes p home) place) in
+          let rest : slice_index_or (slice_set part.homes (line / core.size.nodes) home) (k / core.size.nodes) opening_home ≡ slice_index_or part.homes (k / core.size.nodes) opening_home = get_or-set_other part.homes (line / core.size.nodes) (k / core.size.nodes) home opening_home apart in
+          let was : slice_index_or part.homes (k / core.size.nodes) opening_home ≡ home_of part k = ap (λ (c : ℕ). slice_index_or part.homes (k / c) opening_home) (sym all) in
           ap (λ (p : NodeOf). home_of p k) node ∙ (there ∙ (set_ ∙ (rest ∙ (was ∙ ap (λ (j : ℕ). home_of (node_at core j) k) (sym here)))))
-      | inr elsewhere ↦ ap (λ (p : NodeOf). home_of p k) (get_or-set_other core.parts n (k % core.nodes) next (opening_node 0 1 0 0 0) elsewhere)
+      | inr elsewhere ↦ ap (λ (p : NodeOf). home_of p k) (get_or-set_other core.parts n (k % core.size.nodes) next no_node elsewhere)
     ]
 
-home_now : (core : Core) (n line : ℕ) (next : NodeOf) (home : HomeState) → n < length core.parts → line % core.nodes ≡ n → next.cache.nodes ≡ (node_at core n).cache.nodes → next.homes ≡ slice_set (node_at core n).homes (home_place (node_at core n) line) home
+home_now : (core : Core) (n line : ℕ) (next : NodeOf) (home : HomeState) → n < length core.parts → line % core.size.nodes ≡ n → next.cache.nodes ≡ (node_at core n).cache.nodes → next.homes ≡ slice_set (node_at core n).homes (home_place (node_at core n) line) home
     → home_place (node_at core n) line < length (node_at core n).homes → home_at (with_node core n next) line ≡ home
 home_now core n line next home below at same homes within =
     let part = node_at core n in
-    let node : node_at (with_node core n next) (line % core.nodes) ≡ next = ap (node_at (with_node core n next)) at ∙ get_or-set_same core.parts n next (opening_node 0 1 0 0 0) below in
+    let node : node_at (with_node core n next) (line % core.size.nodes) ≡ next = ap (node_at (with_node core n next)) at ∙ get_or-set_same core.parts n next no_node below in
     let there : home_of next line ≡ slice_index_or next.homes (home_place part line) opening_home = ap (λ (c : ℕ). slice_index_or next.homes (line / c) opening_home) same in
     ap (λ (p : NodeOf). home_of p line) node ∙ (there ∙ (ap (λ (hs : List HomeState). slice_index_or hs (home_place part line) opening_home) homes ∙ get_or-set_same part.homes (home_place part line) home opening_home within))
 
@@ -178,7 +178,7 @@ home_now core n line next home below at same homes within =
 abbrev pub with_home : NodeOf → Letter → HomeState → Body → NodeOf
 with_home part request home body = with_answer (record part { homes = slice_set part.homes (home_place part request.line) home }) request body
 
-pub home_kept : (core : Core) (n place : ℕ) (request : Letter) (rest : List Letter) (served : HomeState × Body) → IsPart core.nodes core.lines core.slots core.limit n (node_at core n) → request.line % core.nodes ≡ n → Answered core n place (with_home (node_at core n) request served.0 served.1) request rest served.1
+pub home_kept : (core : Core) (n place : ℕ) (request : Letter) (rest : List Letter) (served : HomeState × Body) → IsPart core.size n (node_at core n) → request.line % core.size.nodes ≡ n → Answered core n place (with_home (node_at core n) request served.0 served.1) request rest served.1
     → serving_of_home (home_of (node_at core n) request.line) request.source request.body ≡ Some served → IsTidy core → (k : ℕ) (c : Stamped) → ShapedAt core k c → ShapedAt (with_lane (with_node core n (with_home (node_at core n) request served.0 served.1)) place rest) k c
 home_kept core n place request rest served part at is serves tidy k c shaped =
     let old = node_at core n in
@@ -193,7 +193,7 @@ home_kept core n place request rest served part at is serves tidy k c shaped =
           let within : home_place old line < length old.homes = home_below old line (subst (λ (i : ℕ). line < i) (sym part.each) is.known) part.fits in
           let now : home_at (with_node core n next) line ≡ served.0 = home_now core n line next served.0 is.below at refl refl within in
           let was : home_at core line ≡ home_of old line = ap (λ (j : ℕ). home_of (node_at core j) line) at in
-          let row = home_shaped (line % core.nodes) request.source (home_of old line) c (view_of core line) (view_of new line) asker request told_a.sent in
+          let row = home_shaped (line % core.size.nodes) request.source (home_of old line) c (view_of core line) (view_of new line) asker request told_a.sent in
           let shapes = subst (λ (o : Option (HomeState × Body)). IfSome o (HomeShapes (view_of core line) (view_of new line) request.source asker (home_of old line) c)) serves row in
           let shaped_here : Shaped (view_of core line) (home_of old line) c = subst (λ (h : HomeState). Shaped (view_of core line) h c) was (subst (λ (j : ℕ). ShapedAt core j c) here shaped) in
           let then_ = shapes (asks_now core n place next request rest served.1 is tidy (λ j. refl)) shaped_here in
@@ -207,7 +207,7 @@ abbrev with_served : NodeOf → Letter → CacheState → Body → NodeOf
 with_served part request state body = with_answer (record part { cache = with_line part.cache request.line (line_in (line_of part.cache request.line) state) }) request body
 
 -- the line of the asker and of the server, before and after
-served_shift : (core : Core) (n place : ℕ) (request : Letter) (rest : List Letter) (served : CacheState × Body) → IsPart core.nodes core.lines core.slots core.limit n (node_at core n) → Answered core n place (with_served (node_at core n) request served.0 served.1) request rest served.1 → IsTidy core
+served_shift : (core : Core) (n place : ℕ) (request : Letter) (rest : List Letter) (served : CacheState × Body) → IsPart core.size n (node_at core n) → Answered core n place (with_served (node_at core n) request served.0 served.1) request rest served.1 → IsTidy core
     → Shift (view_of core request.line) (view_of (with_lane (with_node core n (with_served (node_at core n) request served.0 served.1)) place rest) request.line) request.source n served.0 served.1
 served_shift core n place request rest served part is tidy =
     let old = node_at core n in
@@ -215,18 +215,18 @@ served_shift core n place request rest served part is tidy =
     let line = request.line in
     let line_below : line < lines_of old = subst (λ (i : ℕ). line < i) (sym part.each) is.known in
     let told_a = told_here core n place next request rest served.1 is tidy in
-    let at : node_at (with_node core n next) n ≡ next = get_or-set_same core.parts n next (opening_node 0 1 0 0 0) is.below in
+    let at : node_at (with_node core n next) n ≡ next = get_or-set_same core.parts n next no_node is.below in
     let state : (line_of next.cache line).state ≡ served.0 = ap (λ (l : LineState). l.state) (get_or-set_same old.cache.lines line (line_in (line_of old.cache line) served.0) untouched line_below) in
     record {
       unanswered = told_a.unanswered;
       answered = told_a.answered;
       other_answers = λ m apart. told_other core n place next request rest served.1 is m line (λ h. apart h.0);
       here = ap (λ (p : NodeOf). (line_of p.cache line).state) at ∙ state;
-      others = λ m apart. ap (λ (p : NodeOf). (line_of p.cache line).state) (get_or-set_other core.parts n m next (opening_node 0 1 0 0 0) apart);
-      idle = λ idle. ap answer_in (idle_has_none (line % core.nodes) (line_of (node_at core n).cache line) (packets_of core n line) idle (tidy n line is.some is.known));
+      others = λ m apart. ap (λ (p : NodeOf). (line_of p.cache line).state) (get_or-set_other core.parts n m next no_node apart);
+      idle = λ idle. ap answer_in (idle_has_none (line % core.size.nodes) (line_of (node_at core n).cache line) (packets_of core n line) idle (tidy n line is.some is.known));
     }
 
-pub cache_kept : (core : Core) (n place : ℕ) (request : Letter) (rest : List Letter) (served : CacheState × Body) → IsPart core.nodes core.lines core.slots core.limit n (node_at core n) → Answered core n place (with_served (node_at core n) request served.0 served.1) request rest served.1
+pub cache_kept : (core : Core) (n place : ℕ) (request : Letter) (rest : List Letter) (served : CacheState × Body) → IsPart core.size n (node_at core n) → Answered core n place (with_served (node_at core n) request served.0 served.1) request rest served.1
     → serving (line_of (node_at core n).cache request.line).state request.source request.body ≡ Some served → IsTidy core → (k : ℕ) (c : Stamped) → ShapedAt core k c → ShapedAt (with_lane (with_node core n (with_served (node_at core n) request served.0 served.1)) place rest) k c
 cache_kept core n place request rest served part is serves tidy k c shaped =
     let old = node_at core n in
@@ -239,7 +239,7 @@ cache_kept core n place request rest served part is serves tidy k c shaped =
       | inl here ↦
           let told_a = told_here core n place next request rest served.1 is tidy in
           let asker = (view_of core line).state a in
-          let row = cache_serves (line % core.nodes) a n ((view_of core line).state n) asker request told_a.sent is.to in
+          let row = cache_serves (line % core.size.nodes) a n ((view_of core line).state n) asker request told_a.sent is.to in
           let serves_as = subst (λ (o : Option (CacheState × Body)). IfSome o (ServesAs a n asker ((view_of core line).state n))) serves row in
           let shift = served_shift core n place request rest served part is tidy in
           let then_ = cache_shaped (view_of core line) (view_of new line) a n served (home_at core line) c shift serves_as (subst (λ (j : ℕ). ShapedAt core j c) here shaped) in

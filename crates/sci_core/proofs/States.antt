@@ -1,27 +1,35 @@
 -- A node that is read at its place, changes, and is written back, is the node with that number.
-use Rattle.std.proofs.Common.{◌≡◌, ℕ, ◌<◌, length, get_or, set, Option, Some, None, IsTrue, Bool, ap, subst}
-use Rattle.std.specs.Prelude.{IfSome}
+use Rattle.std.proofs.Common.{◌≡◌, ℕ, ◌<◌, Bool, true, false, length, get_or, set, Option, Some, None, refl, sym, ap, subst, ◌∙◌}
+use Rattle.std.specs.Prelude.{IfSome, is_some}
 use Rattle.std.proofs.lemmas.List.{get_or_read}
-use Rattle.sci_core.specs.Node.{NodeOf, opening_node}
-use Rattle.sci_core.specs.Core.{Core, node_at, with_node}
+use Rattle.sci_words.specs.declared.event.Event.{Event}
+use Rattle.sci_core.specs.Node.{NodeOf, no_node}
+use Rattle.sci_core.specs.Core.{Core, Idle, Changes, node_at, with_node, node_of, side, stepping}
+use Rattle.sci_core.proofs.Stepping.{stepping_idle, stepping_changed}
 
-read_node : (core : Core) (i n : ℕ) (old : NodeOf) → i ≡ n → n < length core.parts → old ≡ get_or core.parts i old → old ≡ node_at core n
-read_node core i n old is below e = get_or_read core.parts n old below (subst (λ (k : ℕ). old ≡ get_or core.parts k old) is e) (opening_node 0 1 0 0 0)
+pub read_node : (core : Core) (i n : ℕ) (old : NodeOf) → i ≡ n → n < length core.parts → old ≡ get_or core.parts i old → old ≡ node_at core n
+read_node core i n old is below e = get_or_read core.parts n old below (subst (λ (k : ℕ). old ≡ get_or core.parts k old) is e) no_node
 
 -- what a node's call gives, told of the whole state before and after it
 abbrev pub Gives : {X : Type 0} → (NodeOf → X → NodeOf → Type 0) → Core → Core → ℕ → X → Type 0
 Gives side core after n x = (next : NodeOf) × side (node_at core n) x next × (after ≡ with_node core n next)
 
-given : {X : Type 0} (side : NodeOf → X → NodeOf → Type 0) (core : Core) (i n : ℕ) (old new : NodeOf) (x : X) → i ≡ n → n < length core.parts → old ≡ get_or core.parts i old → side old x new
-    → Gives side core (record core { parts = set core.parts i new }) n x
-given side core i n old new x is below e done =
-    (new, subst (λ (o : NodeOf). side o x new) (read_node core i n old is below e) done, ap (λ (k : ℕ). with_node core k new) is)
-
 pub gives_some : {X : Type 0} (side : NodeOf → X → NodeOf → Type 0) (core : Core) (i n : ℕ) (old new : NodeOf) (result : Option X) → i ≡ n → n < length core.parts → old ≡ get_or core.parts i old
     → IfSome result (λ x. side old x new) → IfSome result (Gives side core (record core { parts = set core.parts i new }) n)
 gives_some side core i n old new None is below e done = done
-gives_some side core i n old new (Some x) is below e done = given side core i n old new x is below e done
+gives_some side core i n old new (Some x) is below e done =
+    (new, subst (λ (o : NodeOf). side o x new) (read_node core i n old is below e) done, ap (λ (k : ℕ). with_node core k new) is)
 
-pub gives_true : (side : NodeOf → Bool → NodeOf → Type 0) (core : Core) (i n : ℕ) (old new : NodeOf) (result : Bool) → i ≡ n → n < length core.parts → old ≡ get_or core.parts i old
-    → (IsTrue result → side old result new) → IsTrue result → Gives side core (record core { parts = set core.parts i new }) n result
-gives_true side core i n old new result is below e done h = given side core i n old new result is below e (done h)
+-- a call that changes its node alone, and gives something, is the step of its event
+pub changed_by : {X : Type 0} (core : Core) (e : Event) (i : ℕ) (old new : NodeOf) (result : Option X) → i ≡ node_of e → node_of e < core.size.nodes → node_of e < length core.parts → old ≡ get_or core.parts i old
+    → IfSome result (λ x. side old e ≡ Changes new) → is_some result ≡ true → stepping core e ≡ Some (record core { parts = set core.parts i new })
+changed_by core e i old new None is lt below read done some = cc
+changed_by core e i old new (Some x) is lt below read done some =
+    stepping_changed core (record core { parts = set core.parts i new }) e new lt (ap (λ (node : NodeOf). side node e) (sym (read_node core i (node_of e) old is below read)) ∙ done) (ap (λ (k : ℕ). with_node core k new) is)
+
+-- and one that gives nothing is none
+pub idle_by : {X : Type 0} (core : Core) (e : Event) (i : ℕ) (old : NodeOf) (result : Option X) → i ≡ node_of e → node_of e < core.size.nodes → node_of e < length core.parts → old ≡ get_or core.parts i old
+    → (result ≡ None → side old e ≡ Idle) → is_some result ≡ false → stepping core e ≡ None
+idle_by core e i old None is lt below read none none_is =
+    stepping_idle core e lt (ap (λ (node : NodeOf). side node e) (sym (read_node core i (node_of e) old is below read)) ∙ none refl)
+idle_by core e i old (Some x) is lt below read none none_is = cc

@@ -11,10 +11,10 @@ use Rattle.sci_cache.specs.Line.{LineState, untouched}
 use Rattle.sci_cache.specs.Cache.{Letter, line_of}
 use Rattle.sci_packets.specs.Table.{is_request}
 use Rattle.sci_core.specs.declared.lane.LaneKind.TheVariants.{Requests, Answers as AnswerLane}
-use Rattle.sci_core.specs.Node.{NodeOf, opening_node, node_issuing, node_performing, node_asking, node_serving, node_refusing, node_replying, node_accepting, lines_of}
+use Rattle.sci_core.specs.Node.{NodeOf, opening_node, node_issuing, node_performing, node_asking, node_serving, node_refusing, node_replying, node_accepting, lines_of, no_node}
 use Rattle.sci_core.specs.Core.{Core, node_at, lane_place, stepping, step, opening, run_from, run}
 use Rattle.sci_core.specs.Done.{performed}
-use Rattle.sci_core.specs.Reached.{IsReached, AreSizes}
+use Rattle.sci_core.specs.Reached.{IsReached}
 use Rattle.sci_core.specs.Sharing.{is_about, under_way, packets_of}
 use Rattle.sci_core.specs.Tidy.{HasItsPackets, IsTidy}
 use Rattle.sci_core.specs.WellFormed.{IsAnswerLetter, IsPart, IsWellFormed}
@@ -24,47 +24,49 @@ use Rattle.sci_core.proofs.WellFormedSteps.{step_well, run_well, opening_well}
 use Rattle.sci_core.proofs.WaitingNodes.{Stays, AsksOnce, Answers, Replies, Accepts, issue_stays, perform_stays, ask_once, serve_answers, refuse_answers, reply_replies, accept_accepts}
 use Rattle.sci_core.proofs.Steps.{Taken, Stepped, By_issue, By_perform, By_ask, By_serve, By_refuse, By_reply, By_accept, stepping_stepped}
 use Rattle.sci_core.proofs.TidySteps.{changed_tidy, asked_tidy, replied_tidy, served_tidy, accepted_tidy}
+use Rattle.sci_core.specs.Size.{Size}
+use Rattle.sci_core.specs.Size.{IsSize}
 
-pub node_below : (core : Core) (n : ℕ) → IsWellFormed core → n < core.nodes → n < length core.parts
+pub node_below : (core : Core) (n : ℕ) → IsWellFormed core → n < core.size.nodes → n < length core.parts
 node_below core n well lt = let long = well.parts_long in omega arith
 
 -- an answer that waits after a request is served is no request
-pub waiting_answers : (nodes lines slots limit n : ℕ) (next : NodeOf) (answer : Letter) → next.waiting ≡ Some answer → IsPart nodes lines slots limit n next → is_request answer.body ≡ false
-waiting_answers nodes lines slots limit n next answer waits is =
-    let told = subst (λ (w : Option Letter). IfSome w (λ (letter : Letter). IsAnswerLetter nodes lines letter × (letter.source ≡ n))) waits is.answer in
+pub waiting_answers : (size : Size) (n : ℕ) (next : NodeOf) (answer : Letter) → next.waiting ≡ Some answer → IsPart size n next → is_request answer.body ≡ false
+waiting_answers size n next answer waits is =
+    let told = subst (λ (w : Option Letter). IfSome w (λ (letter : Letter). IsAnswerLetter size.nodes size.lines letter × (letter.source ≡ n))) waits is.answer in
     told.0.answers
 
 -- ---- each way of stepping
 
 -- a request is taken, and its answer waits
-took_tidy : (core new : Core) (taking : NodeOf → Letter → Option NodeOf) (t : Taken core new Requests taking) → IsWellFormed core → IsTidy core → Answers core.nodes t.letter (node_at core t.node) t.next → IsPart core.nodes core.lines core.slots core.limit t.node t.next → IsTidy new
+took_tidy : (core new : Core) (taking : NodeOf → Letter → Option NodeOf) (t : Taken core new Requests taking) → IsWellFormed core → IsTidy core → Answers core.size.nodes t.letter (node_at core t.node) t.next → IsPart core.size t.node t.next → IsTidy new
 took_tidy core new taking t well tidy answers is =
-    subst IsTidy t.then_ (served_tidy core t.node t.place t.next t.letter t.rest (node_below core t.node well t.some) t.within t.front t.comes.0.asks answers (waiting_answers core.nodes core.lines core.slots core.limit t.node t.next _ answers.waiting is) tidy)
+    subst IsTidy t.then_ (served_tidy core t.node t.place t.next t.letter t.rest (node_below core t.node well t.some) t.within t.front t.comes.0.asks answers (waiting_answers core.size t.node t.next _ answers.waiting is) tidy)
 
 stepped_tidy : (core new : Core) (e : Event) (made : Option Entry) → IsWellFormed core → IsTidy core → Stepped core e made new → IsTidy new
 stepped_tidy core new e made well tidy (By_issue n op next event lt is then_ none) =
     let part = node_at core n in
-    subst IsTidy then_ (changed_tidy core n next lt well (of_some (Stays core.nodes part) (node_issuing part op) next is (issue_stays core.nodes part op)) tidy)
+    subst IsTidy then_ (changed_tidy core n next lt well (of_some (Stays core.size.nodes part) (node_issuing part op) next is (issue_stays core.size.nodes part op)) tidy)
 stepped_tidy core new e made well tidy (By_perform n line done lt is then_ some) =
     let part = node_at core n in
-    subst IsTidy then_ (changed_tidy core n done.0 lt well (of_some (λ (x : NodeOf × Entry). Stays core.nodes part x.0) (node_performing part line) done is (perform_stays core.nodes part line)) tidy)
+    subst IsTidy then_ (changed_tidy core n done.0 lt well (of_some (λ (x : NodeOf × Entry). Stays core.size.nodes part x.0) (node_performing part line) done is (perform_stays core.size.nodes part line)) tidy)
 stepped_tidy core new e made well tidy (By_ask n line kind sent is sends_well s none) =
     let node = node_at core n in
     let part = well.each_part n s.some in
-    let once = of_some (AsksOnce core.nodes line node) (node_asking node line kind) sent is (ask_once core.nodes node line kind part.all (part.asks line)) in
-    subst IsTidy s.then_ (asked_tidy core n line (lane_place core.nodes Requests n sent.1.target) sent.0 sent.1 (node_below core n well s.some) s.within sends_well.request.asks sends_well.from once tidy)
+    let once = of_some (AsksOnce core.size.nodes line node) (node_asking node line kind) sent is (ask_once core.size.nodes node line kind part.all (part.asks line)) in
+    subst IsTidy s.then_ (asked_tidy core n line (lane_place core.size.nodes Requests n sent.1.target) sent.0 sent.1 (node_below core n well s.some) s.within sends_well.request.asks sends_well.from once tidy)
 stepped_tidy core new e made well tidy (By_serve t none) =
     let part = node_at core t.node in
-    took_tidy core new node_serving t well tidy (of_some (Answers core.nodes t.letter part) (node_serving part t.letter) t.next t.takes (serve_answers core.nodes part t.letter))
-    (of_some (IsPart core.nodes core.lines core.slots core.limit t.node) (node_serving part t.letter) t.next t.takes (part_serving core.nodes core.lines core.slots core.limit t.node part t.letter t.comes.0 t.comes.1 (well.each_part t.node t.some)))
+    took_tidy core new node_serving t well tidy (of_some (Answers core.size.nodes t.letter part) (node_serving part t.letter) t.next t.takes (serve_answers core.size.nodes part t.letter))
+    (of_some (IsPart core.size t.node) (node_serving part t.letter) t.next t.takes (part_serving core.size t.node part t.letter t.comes.0 t.comes.1 (well.each_part t.node t.some)))
 stepped_tidy core new e made well tidy (By_refuse t none) =
     let part = node_at core t.node in
-    took_tidy core new node_refusing t well tidy (of_some (Answers core.nodes t.letter part) (node_refusing part t.letter) t.next t.takes (refuse_answers core.nodes part t.letter))
-    (of_some (IsPart core.nodes core.lines core.slots core.limit t.node) (node_refusing part t.letter) t.next t.takes (part_refusing core.nodes core.lines core.slots core.limit t.node part t.letter t.comes.0 t.comes.1 (well.each_part t.node t.some)))
+    took_tidy core new node_refusing t well tidy (of_some (Answers core.size.nodes t.letter part) (node_refusing part t.letter) t.next t.takes (refuse_answers core.size.nodes part t.letter))
+    (of_some (IsPart core.size t.node) (node_refusing part t.letter) t.next t.takes (part_refusing core.size t.node part t.letter t.comes.0 t.comes.1 (well.each_part t.node t.some)))
 stepped_tidy core new e made well tidy (By_reply n sent is sends_well s none) =
     let part = node_at core n in
-    let replies = of_some (Replies core.nodes part) (node_replying part) sent is (reply_replies core.nodes part) in
-    subst IsTidy s.then_ (replied_tidy core n (lane_place core.nodes AnswerLane n sent.1.target) sent.0 sent.1 (node_below core n well s.some) s.within replies tidy)
+    let replies = of_some (Replies core.size.nodes part) (node_replying part) sent is (reply_replies core.size.nodes part) in
+    subst IsTidy s.then_ (replied_tidy core n (lane_place core.size.nodes AnswerLane n sent.1.target) sent.0 sent.1 (node_below core n well s.some) s.within replies tidy)
 stepped_tidy core new e made well tidy (By_accept t none) =
     let part = node_at core t.node in
     let on_line : t.letter.line < lines_of part = subst (λ (k : ℕ). t.letter.line < k) (sym (well.each_part t.node t.some).each) t.comes.0.letter_ok.about in
@@ -86,43 +88,38 @@ run_tidy core (e ∷ events) well tidy = run_tidy (step core e) events (step_wel
 
 -- ---- the opening
 
-nothing_waits : (nodes lines slots limit a count : ℕ) → flat_map (λ (part : NodeOf). option_to_list part.waiting) (map (λ (n : ℕ). opening_node n nodes lines slots limit) (range_with_len a count)) ≡ []
-nothing_waits nodes lines slots limit a zero = refl
-nothing_waits nodes lines slots limit a (suc count) = nothing_waits nodes lines slots limit (a + 1) count
+nothing_waits : (size : Size) (a count : ℕ) → flat_map (λ (part : NodeOf). option_to_list part.waiting) (map (λ (n : ℕ). opening_node n size) (range_with_len a count)) ≡ []
+nothing_waits size a zero = refl
+nothing_waits size a (suc count) = nothing_waits size (a + 1) count
 
 nothing_carried : (count : ℕ) → flat_map (λ (lane : List Letter). lane) (replicate count []) ≡ []
 nothing_carried zero = refl
 nothing_carried (suc count) = nothing_carried count
 
-pub opening_none : (nodes lines slots limit n line : ℕ) → packets_of (opening nodes lines slots limit) n line ≡ []
-opening_none nodes lines slots limit n line =
-    let core = opening nodes lines slots limit in
-    let quiet : under_way core ≡ [] = ap (λ ys. ys ++ flat_map (λ (lane : List Letter). lane) core.lanes) (nothing_waits nodes lines slots limit 0 nodes) ∙ nothing_carried (2 * nodes * nodes) in
+pub opening_none : (size : Size) (n line : ℕ) → packets_of (opening size) n line ≡ []
+opening_none size n line =
+    let core = opening size in
+    let quiet : under_way core ≡ [] = ap (λ ys. ys ++ flat_map (λ (lane : List Letter). lane) core.lanes) (nothing_waits size 0 size.nodes) ∙ nothing_carried (2 * size.nodes * size.nodes) in
     ap (filter (is_about n line)) quiet
 
-pub opening_tidy : (nodes lines slots limit : ℕ) → IsTidy (opening nodes lines slots limit)
-opening_tidy nodes lines slots limit n line lt below =
-    let core = opening nodes lines slots limit in
-    let node : node_at core n ≡ opening_node n nodes lines slots limit = get_or-map-range_with_len (λ (m : ℕ). opening_node m nodes lines slots limit) 0 nodes n n (opening_node 0 1 0 0 0) lt (omega arith) in
-    let out : line_of (node_at core n).cache line ≡ untouched = ap (λ (part : NodeOf). line_of part.cache line) node ∙ get_or-replicate lines line untouched untouched below in
-    subst (HasItsPackets (line % nodes) (line_of (node_at core n).cache line)) (sym (opening_none nodes lines slots limit n line)) (ap (λ (l : LineState). waits l.state) out)
+pub opening_tidy : (size : Size) → IsTidy (opening size)
+opening_tidy size n line lt below =
+    let core = opening size in
+    let node : node_at core n ≡ opening_node n size = get_or-map-range_with_len (λ (m : ℕ). opening_node m size) 0 size.nodes n n no_node lt (omega arith) in
+    let out : line_of (node_at core n).cache line ≡ untouched = ap (λ (part : NodeOf). line_of part.cache line) node ∙ get_or-replicate size.lines line untouched untouched below in
+    subst (HasItsPackets (line % size.nodes) (line_of (node_at core n).cache line)) (sym (opening_none size n line)) (ap (λ (l : LineState). waits l.state) out)
 
 pub reached_tidy : (core : Core) → IsReached core → IsTidy core
 reached_tidy core reached =
-    let some = reached.sizes.extent.has_node in
-    subst IsTidy reached.leads (run_tidy (opening core.nodes core.lines core.slots core.limit) reached.schedule (opening_well core.nodes core.lines core.slots core.limit (omega arith) reached.sizes.few_operations) (opening_tidy core.nodes core.lines core.slots core.limit))
+    let some = reached.size.extent.has_node in
+    subst IsTidy reached.leads (run_tidy (opening core.size) reached.schedule (opening_well core.size (omega arith) reached.size.few_operations) (opening_tidy core.size))
 
-pub run_reached : (nodes lines slots limit : ℕ) (schedule : List Event) → AreSizes nodes lines slots limit → IsReached (run nodes lines slots limit schedule)
-run_reached nodes lines slots limit schedule sizes =
+pub run_reached : (size : Size) (schedule : List Event) → IsSize size → IsReached (run size schedule)
+run_reached size schedule sizes =
     let first = sizes.extent.has_node in
-    let machine = (run_well (opening nodes lines slots limit) schedule (opening_well nodes lines slots limit (omega arith) sizes.few_operations)).same in
-    let core = run nodes lines slots limit schedule in
-    let leads : run nodes lines slots limit schedule ≡ core = refl in
-    let a = subst (λ (k : ℕ). run k lines slots limit schedule ≡ core) (sym machine.nodes) leads in
-    let b = subst (λ (k : ℕ). run core.nodes k slots limit schedule ≡ core) (sym machine.lines) a in
-    let d = subst (λ (k : ℕ). run core.nodes core.lines k limit schedule ≡ core) (sym machine.slots) b in
+    let same = (run_well (opening size) schedule (opening_well size (omega arith) sizes.few_operations)).same in
     record {
-      sizes = rw (machine.nodes, machine.lines, machine.slots, machine.limit) sizes;
+      size = subst IsSize (sym same) sizes;
       schedule = schedule;
-      leads = subst (λ (k : ℕ). run core.nodes core.lines core.slots k schedule ≡ core) (sym machine.limit) d;
+      leads = ap (λ (k : Size). run k schedule) same;
     }

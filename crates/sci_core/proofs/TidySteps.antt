@@ -8,7 +8,7 @@ use Rattle.sci_packets.specs.Table.{is_request}
 use Rattle.sci_cache.specs.State.{waits}
 use Rattle.sci_cache.specs.Line.{LineState}
 use Rattle.sci_cache.specs.Cache.{Letter, line_of}
-use Rattle.sci_core.specs.Node.{NodeOf, opening_node, lines_of, answer_to}
+use Rattle.sci_core.specs.Node.{NodeOf, opening_node, lines_of, answer_to, no_node}
 use Rattle.sci_core.specs.Core.{Core, node_at, with_node, lane_at, with_lane}
 use Rattle.sci_core.specs.Sharing.{asker_of, is_about, packets_of}
 use Rattle.sci_core.specs.Tidy.{IsAwaited, HasItsPackets, IsTidy}
@@ -20,11 +20,11 @@ use Rattle.sci_core.proofs.WaitingNodes.{KeepsLines, Stays, AsksOnce, Answers, R
 
 -- what a tidy state says of one node and one line
 abbrev TidyAt : Core → ℕ → ℕ → Type 0
-TidyAt core m k = HasItsPackets (k % core.nodes) (line_of (node_at core m).cache k) (packets_of core m k)
+TidyAt core m k = HasItsPackets (k % core.size.nodes) (line_of (node_at core m).cache k) (packets_of core m k)
 
-keeps_node : (core : Core) (n : ℕ) (next : NodeOf) → KeepsLines core.nodes (node_at core n).cache next.cache → (m k : ℕ) → Keeps (k % core.nodes) (line_of (node_at core m).cache k) (line_of (node_at (with_node core n next) m).cache k)
+keeps_node : (core : Core) (n : ℕ) (next : NodeOf) → KeepsLines core.size.nodes (node_at core n).cache next.cache → (m k : ℕ) → Keeps (k % core.size.nodes) (line_of (node_at core m).cache k) (line_of (node_at (with_node core n next) m).cache k)
 keeps_node core n next keeps m k =
-    at_place_set (λ (j : ℕ) (part : NodeOf). Keeps (k % core.nodes) (line_of (node_at core j).cache k) (line_of part.cache k)) core.parts n next (opening_node 0 1 0 0 0) (λ j. keeps_itself (k % core.nodes) (line_of (node_at core j).cache k)) (keeps k) m
+    at_place_set (λ (j : ℕ) (part : NodeOf). Keeps (k % core.size.nodes) (line_of (node_at core j).cache k) (line_of part.cache k)) core.parts n next no_node (λ j. keeps_itself (k % core.size.nodes) (line_of (node_at core j).cache k)) (keeps k) m
 
 -- ---- what a packet is about
 
@@ -50,11 +50,11 @@ about_answer m k request body asks answers =
 
 -- ---- Issue and Perform
 
-pub changed_tidy : (core : Core) (n : ℕ) (next : NodeOf) → n < core.nodes → IsWellFormed core → Stays core.nodes (node_at core n) next → IsTidy core → IsTidy (with_node core n next)
+pub changed_tidy : (core : Core) (n : ℕ) (next : NodeOf) → n < core.size.nodes → IsWellFormed core → Stays core.size.nodes (node_at core n) next → IsTidy core → IsTidy (with_node core n next)
 changed_tidy core n next lt well stays tidy m k below within =
     let long = well.parts_long in
-    subst (HasItsPackets (k % core.nodes) (line_of (node_at (with_node core n next) m).cache k)) (sym (packets_changed core n next m k (omega arith) stays.waiting))
-    (keeps_packets (k % core.nodes) (line_of (node_at core m).cache k) (line_of (node_at (with_node core n next) m).cache k) (packets_of core m k) (keeps_node core n next stays.lines m k) (tidy m k below within))
+    subst (HasItsPackets (k % core.size.nodes) (line_of (node_at (with_node core n next) m).cache k)) (sym (packets_changed core n next m k (omega arith) stays.waiting))
+    (keeps_packets (k % core.size.nodes) (line_of (node_at core m).cache k) (line_of (node_at (with_node core n next) m).cache k) (packets_of core m k) (keeps_node core n next stays.lines m k) (tidy m k below within))
 
 -- ---- other nodes and other lines, when one line of one node changes
 
@@ -62,24 +62,24 @@ pub same_line : (core : Core) (n line : ℕ) (next : NodeOf) (m k : ℕ) → ((j
 same_line core n line next m k others below not =
     elim (cases_eq m n) [
       | inl here ↦
-          let at : node_at (with_node core n next) m ≡ next = ap (node_at (with_node core n next)) here ∙ get_or-set_same core.parts n next (opening_node 0 1 0 0 0) below in
+          let at : node_at (with_node core n next) m ≡ next = ap (node_at (with_node core n next)) here ∙ get_or-set_same core.parts n next no_node below in
           ap (λ (part : NodeOf). line_of part.cache k) at ∙ (others k (λ e. not (here, e)) ∙ ap (λ (j : ℕ). line_of (node_at core j).cache k) (sym here))
-      | inr other ↦ ap (λ (part : NodeOf). line_of part.cache k) (get_or-set_other core.parts n m next (opening_node 0 1 0 0 0) other)
+      | inr other ↦ ap (λ (part : NodeOf). line_of part.cache k) (get_or-set_other core.parts n m next no_node other)
     ]
 
 -- ---- Ask
 
-asked_here : (core : Core) (n line place : ℕ) (next : NodeOf) (letter : Letter) → n < length core.parts → place < length core.lanes → is_request letter.body ≡ true → letter.source ≡ n → AsksOnce core.nodes line (node_at core n) (next, letter)
+asked_here : (core : Core) (n line place : ℕ) (next : NodeOf) (letter : Letter) → n < length core.parts → place < length core.lanes → is_request letter.body ≡ true → letter.source ≡ n → AsksOnce core.size.nodes line (node_at core n) (next, letter)
     → TidyAt core n line → TidyAt (with_lane (with_node core n next) place (lane_at core place ++ letter ∷ [])) n line
 asked_here core n line place next letter below within asks from once tidy =
     let about = about_from n line letter once.about (request_asker letter asks ∙ from) in
-    let none = idle_has_none (line % core.nodes) (line_of (node_at core n).cache line) (packets_of core n line) once.idle tidy in
+    let none = idle_has_none (line % core.size.nodes) (line_of (node_at core n).cache line) (packets_of core n line) once.idle tidy in
     let one = packets_asked core n next place letter n line below within once.waiting about none in
-    let at : node_at (with_node core n next) n ≡ next = get_or-set_same core.parts n next (opening_node 0 1 0 0 0) below in
-    subst (HasItsPackets (line % core.nodes) (line_of (node_at (with_node core n next) n).cache line)) (sym one)
-    (subst (λ (part : NodeOf). IsAwaited (line % core.nodes) (line_of part.cache line) letter) (sym at) once.awaited)
+    let at : node_at (with_node core n next) n ≡ next = get_or-set_same core.parts n next no_node below in
+    subst (HasItsPackets (line % core.size.nodes) (line_of (node_at (with_node core n next) n).cache line)) (sym one)
+    (subst (λ (part : NodeOf). IsAwaited (line % core.size.nodes) (line_of part.cache line) letter) (sym at) once.awaited)
 
-pub asked_tidy : (core : Core) (n line place : ℕ) (next : NodeOf) (letter : Letter) → n < length core.parts → place < length core.lanes → is_request letter.body ≡ true → letter.source ≡ n → AsksOnce core.nodes line (node_at core n) (next, letter) → IsTidy core
+pub asked_tidy : (core : Core) (n line place : ℕ) (next : NodeOf) (letter : Letter) → n < length core.parts → place < length core.lanes → is_request letter.body ≡ true → letter.source ≡ n → AsksOnce core.size.nodes line (node_at core n) (next, letter) → IsTidy core
     → IsTidy (with_lane (with_node core n next) place (lane_at core place ++ letter ∷ []))
 asked_tidy core n line place next letter below within asks from once tidy m k mb kb =
     let new = with_lane (with_node core n next) place (lane_at core place ++ letter ∷ []) in
@@ -94,12 +94,12 @@ asked_tidy core n line place next letter below within asks from once tidy m k mb
           let packets = packets_same core n next place (lane_at core place ++ letter ∷ []) m k below within (ap (λ (w : Option Letter). filter (is_about m k) (option_to_list w)) once.waiting) (filter_joined m k (lane_at core place) letter other) in
           let not : (m ≡ n) × (k ≡ line) → ⊥ = λ h. (let yes_it = about_from m k letter (once.about ∙ sym h.1) (request_asker letter asks ∙ (from ∙ sym h.0)) in cc) in
           let same = same_line core n line next m k once.others below not in
-          subst (HasItsPackets (k % core.nodes) (line_of (node_at (with_node core n next) m).cache k)) (sym packets) (subst (λ (l : LineState). HasItsPackets (k % core.nodes) l (packets_of core m k)) (sym same) (tidy m k mb kb))
+          subst (HasItsPackets (k % core.size.nodes) (line_of (node_at (with_node core n next) m).cache k)) (sym packets) (subst (λ (l : LineState). HasItsPackets (k % core.size.nodes) l (packets_of core m k)) (sym same) (tidy m k mb kb))
     ]
 
 -- ---- Reply
 
-pub replied_tidy : (core : Core) (n place : ℕ) (next : NodeOf) (letter : Letter) → n < length core.parts → place < length core.lanes → Replies core.nodes (node_at core n) (next, letter) → IsTidy core
+pub replied_tidy : (core : Core) (n place : ℕ) (next : NodeOf) (letter : Letter) → n < length core.parts → place < length core.lanes → Replies core.size.nodes (node_at core n) (next, letter) → IsTidy core
     → IsTidy (with_lane (with_node core n next) place (lane_at core place ++ letter ∷ []))
 replied_tidy core n place next letter below within replies tidy m k mb kb =
     let keeps = keeps_node core n next replies.lines m k in
@@ -107,20 +107,20 @@ replied_tidy core n place next letter below within replies tidy m k mb kb =
     let line = line_of (node_at (with_node core n next) m).cache k in
     elim (cases_Bool (is_about m k letter)) [
       | inl about ↦
-          let one = some_has_one (k % core.nodes) old (packets_of core m k) (node_has core n letter m k below replies.waited about) (tidy m k mb kb) in
+          let one = some_has_one (k % core.size.nodes) old (packets_of core m k) (node_has core n letter m k below replies.waited about) (tidy m k mb kb) in
           let then_ = packets_replied core n next place letter one.letter m k below within replies.waited replies.gone about one.one in
-          subst (HasItsPackets (k % core.nodes) line) (sym then_) (keeps_packets (k % core.nodes) old line (one.letter ∷ []) keeps one.awaited)
+          subst (HasItsPackets (k % core.size.nodes) line) (sym then_) (keeps_packets (k % core.size.nodes) old line (one.letter ∷ []) keeps one.awaited)
       | inr other ↦
           let waits : filter (is_about m k) (option_to_list next.waiting) ≡ filter (is_about m k) (option_to_list (node_at core n).waiting) =
           ap (λ (w : Option Letter). filter (is_about m k) (option_to_list w)) replies.gone ∙ (sym (filter_one m k letter other) ∙ ap (λ (w : Option Letter). filter (is_about m k) (option_to_list w)) (sym replies.waited)) in
           let packets = packets_same core n next place (lane_at core place ++ letter ∷ []) m k below within waits (filter_joined m k (lane_at core place) letter other) in
-          subst (HasItsPackets (k % core.nodes) line) (sym packets) (keeps_packets (k % core.nodes) old line (packets_of core m k) keeps (tidy m k mb kb))
+          subst (HasItsPackets (k % core.size.nodes) line) (sym packets) (keeps_packets (k % core.size.nodes) old line (packets_of core m k) keeps (tidy m k mb kb))
     ]
 
 -- ---- Serve and Refuse
 
 pub served_tidy : (core : Core) (n place : ℕ) (next : NodeOf) (request : Letter) (rest : List Letter) → n < length core.parts → place < length core.lanes → lane_at core place ≡ request ∷ rest → is_request request.body ≡ true
-    → (answers : Answers core.nodes request (node_at core n) next) → is_request answers.body ≡ false → IsTidy core → IsTidy (with_lane (with_node core n next) place rest)
+    → (answers : Answers core.size.nodes request (node_at core n) next) → is_request answers.body ≡ false → IsTidy core → IsTidy (with_lane (with_node core n next) place rest)
 served_tidy core n place next request rest below within front asks answers is_answer tidy m k mb kb =
     let keeps = keeps_node core n next answers.lines m k in
     let old = line_of (node_at core m).cache k in
@@ -128,21 +128,21 @@ served_tidy core n place next request rest below within front asks answers is_an
     let answer = answer_to request answers.body in
     elim (cases_Bool (is_about m k request)) [
       | inl about ↦
-          let one = some_has_one (k % core.nodes) old (packets_of core m k) (lane_has core place request rest m k within front about) (tidy m k mb kb) in
+          let one = some_has_one (k % core.size.nodes) old (packets_of core m k) (lane_has core place request rest m k within front about) (tidy m k mb kb) in
           let then_ = packets_served core n next place request answer one.letter rest m k below within front answers.free answers.waiting about (about_answer m k request answers.body asks is_answer ∙ about) one.one in
           let numbered : request.control ≡ (old.asks + 65535) % 65536 = ap (λ (l : Letter). l.control) then_.same ∙ one.awaited.numbered in
-          let awaited : IsAwaited (k % core.nodes) line answer = record {
+          let awaited : IsAwaited (k % core.size.nodes) line answer = record {
             waiting = keeps.wait ∙ one.awaited.waiting;
             numbered = numbered ∙ ap (λ (a : ℕ). (a + 65535) % 65536) (sym keeps.asks);
             sent = λ e. cc;
           } in
-          subst (HasItsPackets (k % core.nodes) line) (sym then_.then_) awaited
+          subst (HasItsPackets (k % core.size.nodes) line) (sym then_.then_) awaited
       | inr other ↦
           let answer_other : is_about m k answer ≡ false = about_answer m k request answers.body asks is_answer ∙ other in
           let waits : filter (is_about m k) (option_to_list next.waiting) ≡ filter (is_about m k) (option_to_list (node_at core n).waiting) =
           ap (λ (w : Option Letter). filter (is_about m k) (option_to_list w)) answers.waiting ∙ (filter_one m k answer answer_other ∙ ap (λ (w : Option Letter). filter (is_about m k) (option_to_list w)) (sym answers.free)) in
           let packets = packets_same core n next place rest m k below within waits (filter_left m k (lane_at core place) rest request front other) in
-          subst (HasItsPackets (k % core.nodes) line) (sym packets) (keeps_packets (k % core.nodes) old line (packets_of core m k) keeps (tidy m k mb kb))
+          subst (HasItsPackets (k % core.size.nodes) line) (sym packets) (keeps_packets (k % core.size.nodes) old line (packets_of core m k) keeps (tidy m k mb kb))
     ]
 
 -- ---- Accept
@@ -152,11 +152,11 @@ accepted_here : (core : Core) (n place : ℕ) (next : NodeOf) (answer : Letter) 
 accepted_here core n place next answer rest below within front answers to about_line_below accepts tidy =
     let line = answer.line in
     let about = about_from n line answer refl (answer_asker answer answers ∙ to) in
-    let one = some_has_one (line % core.nodes) (line_of (node_at core n).cache line) (packets_of core n line) (lane_has core place answer rest n line within front about) tidy in
+    let one = some_has_one (line % core.size.nodes) (line_of (node_at core n).cache line) (packets_of core n line) (lane_has core place answer rest n line within front about) tidy in
     let then_ = packets_accepted core n next place answer one.letter rest n line below within front accepts.waiting about one.one in
-    let at : node_at (with_node core n next) n ≡ next = get_or-set_same core.parts n next (opening_node 0 1 0 0 0) below in
+    let at : node_at (with_node core n next) n ≡ next = get_or-set_same core.parts n next no_node below in
     let idle : waits (line_of (node_at (with_node core n next) n).cache line).state ≡ false = ap (λ (part : NodeOf). waits (line_of part.cache line).state) at ∙ accepts.idle about_line_below in
-    subst (HasItsPackets (line % core.nodes) (line_of (node_at (with_node core n next) n).cache line)) (sym then_.then_) idle
+    subst (HasItsPackets (line % core.size.nodes) (line_of (node_at (with_node core n next) n).cache line)) (sym then_.then_) idle
 
 pub accepted_tidy : (core : Core) (n place : ℕ) (next : NodeOf) (answer : Letter) (rest : List Letter) → n < length core.parts → place < length core.lanes → lane_at core place ≡ answer ∷ rest → is_request answer.body ≡ false → answer.target ≡ n → answer.line < lines_of (node_at core n)
     → Accepts answer.line (node_at core n) next → IsTidy core → IsTidy (with_lane (with_node core n next) place rest)
@@ -174,5 +174,5 @@ accepted_tidy core n place next answer rest below within front answers to on_lin
           let packets = packets_same core n next place rest m k below within (ap (λ (w : Option Letter). filter (is_about m k) (option_to_list w)) accepts.waiting) (filter_left m k (lane_at core place) rest answer front other) in
           let not : (m ≡ n) × (k ≡ line) → ⊥ = λ h. (let yes_it = about_from m k answer (sym h.1) (answer_asker answer answers ∙ (to ∙ sym h.0)) in cc) in
           let same = same_line core n line next m k accepts.others below not in
-          subst (HasItsPackets (k % core.nodes) (line_of (node_at (with_node core n next) m).cache k)) (sym packets) (subst (λ (l : LineState). HasItsPackets (k % core.nodes) l (packets_of core m k)) (sym same) (tidy m k mb kb))
+          subst (HasItsPackets (k % core.size.nodes) (line_of (node_at (with_node core n next) m).cache k)) (sym packets) (subst (λ (l : LineState). HasItsPackets (k % core.size.nodes) l (packets_of core m k)) (sym same) (tidy m k mb kb))
     ]

@@ -15,7 +15,6 @@ use Rattle.sci_cache.specs.Cache.{line_of}
 use Rattle.sci_core.specs.declared.lane.LaneKind.TheVariants.{Requests, Answers as AnswerLane}
 use Rattle.sci_core.specs.Node.{NodeOf, answer_to, node_issuing, node_performing, node_asking, node_serving, node_refusing, node_replying, node_accepting}
 use Rattle.sci_core.specs.Core.{Core, node_at, with_node, lane_place, lane_at, lane_of, with_lane, changes, performs, sends, side, Takes, node_of, taken_as, taken_from, step_by, stepping, step, opening}
-use Rattle.sci_core.specs.Reached.{AreSizes}
 use Rattle.sci_core.specs.Sharing.{is_about, packets_of}
 use Rattle.sci_core.specs.Tidy.{IsTidy}
 use Rattle.sci_core.specs.WellFormed.{IsInLane, IsPart, IsWellFormed}
@@ -28,6 +27,8 @@ use Rattle.sci_core.proofs.WellFormedSteps.{Comes, comes_from_lane, step_well, o
 use Rattle.sci_core.proofs.TidySteps.{about_line, about_asker, request_asker, about_answer}
 use Rattle.sci_core.proofs.Steps.{lane_below}
 use Rattle.sci_core.proofs.TidyRuns.{node_below, waiting_answers, step_tidy, opening_none, opening_tidy}
+use Rattle.sci_core.specs.Size.{Size}
+use Rattle.sci_core.specs.Size.{IsSize}
 
 -- how far the transaction is whose packets are under way
 abbrev pub phase_of : List Letter → Phase
@@ -94,14 +95,14 @@ accepted_mark about answer ps qs e answers before after =
 
 -- a step to this state advances each transaction, by this mark
 abbrev Advanced : Core → Option (Mark × Letter) → Core → Type 0
-Advanced core mark new = (n line : ℕ) → n < core.nodes → line < core.lines → Advances (phase_of (packets_of core n line)) (marks_about n line mark) (phase_of (packets_of new n line))
+Advanced core mark new = (n line : ℕ) → n < core.size.nodes → line < core.size.lines → Advances (phase_of (packets_of core n line)) (marks_about n line mark) (phase_of (packets_of new n line))
 
-changed_advance : (core : Core) (n : ℕ) (next : NodeOf) → n < core.nodes → IsWellFormed core → next.waiting ≡ (node_at core n).waiting → Advanced core None (with_node core n next)
+changed_advance : (core : Core) (n : ℕ) (next : NodeOf) → n < core.size.nodes → IsWellFormed core → next.waiting ≡ (node_at core n).waiting → Advanced core None (with_node core n next)
 changed_advance core n next lt well same m k mb kb =
     let long = well.parts_long in
     still (phase_of (packets_of core m k)) (phase_of (packets_of (with_node core n next) m k)) (ap phase_of (packets_changed core n next m k (omega arith) same))
 
-asked_advance : (core : Core) (n line place : ℕ) (next : NodeOf) (letter : Letter) → n < length core.parts → place < length core.lanes → is_request letter.body ≡ true → letter.source ≡ n → AsksOnce core.nodes line (node_at core n) (next, letter) → IsTidy core
+asked_advance : (core : Core) (n line place : ℕ) (next : NodeOf) (letter : Letter) → n < length core.parts → place < length core.lanes → is_request letter.body ≡ true → letter.source ≡ n → AsksOnce core.size.nodes line (node_at core n) (next, letter) → IsTidy core
     → Advanced core (Some (Asked letter.control, letter)) (with_lane (with_node core n next) place (lane_at core place ++ letter ∷ []))
 asked_advance core n line place next letter below within asks from once tidy m k mb kb =
     let new = with_lane (with_node core n next) place (lane_at core place ++ letter ∷ []) in
@@ -110,20 +111,20 @@ asked_advance core n line place next letter below within asks from once tidy m k
           let node : n ≡ m = sym from ∙ (sym (request_asker letter asks) ∙ about_asker m k letter about) in
           let here : line ≡ k = sym once.about ∙ about_line m k letter about in
           let idle : waits (line_of (node_at core m).cache k).state ≡ false = subst (λ (j : ℕ). waits (line_of (node_at core j).cache k).state ≡ false) node (subst (λ (j : ℕ). waits (line_of (node_at core n).cache j).state ≡ false) here once.idle) in
-          let none = idle_has_none (k % core.nodes) (line_of (node_at core m).cache k) (packets_of core m k) idle (tidy m k mb kb) in
+          let none = idle_has_none (k % core.size.nodes) (line_of (node_at core m).cache k) (packets_of core m k) idle (tidy m k mb kb) in
           asked_mark (is_about m k letter) letter (packets_of core m k) (packets_of new m k) about asks none (packets_asked core n next place letter m k below within once.waiting about none)
       | inr other ↦
           no_mark (is_about m k letter) (Asked letter.control) (packets_of core m k) (packets_of new m k) other
           (packets_same core n next place (lane_at core place ++ letter ∷ []) m k below within (ap (λ (w : Option Letter). filter (is_about m k) (option_to_list w)) once.waiting) (filter_joined m k (lane_at core place) letter other))
     ]
 
-replied_advance : (core : Core) (n place : ℕ) (next : NodeOf) (letter : Letter) → n < length core.parts → place < length core.lanes → Replies core.nodes (node_at core n) (next, letter) → IsTidy core
+replied_advance : (core : Core) (n place : ℕ) (next : NodeOf) (letter : Letter) → n < length core.parts → place < length core.lanes → Replies core.size.nodes (node_at core n) (next, letter) → IsTidy core
     → Advanced core None (with_lane (with_node core n next) place (lane_at core place ++ letter ∷ []))
 replied_advance core n place next letter below within replies tidy m k mb kb =
     let new = with_lane (with_node core n next) place (lane_at core place ++ letter ∷ []) in
     let same : packets_of new m k ≡ packets_of core m k = elim (cases_Bool (is_about m k letter)) [
       | inl about ↦
-          let one = some_has_one (k % core.nodes) (line_of (node_at core m).cache k) (packets_of core m k) (node_has core n letter m k below replies.waited about) (tidy m k mb kb) in
+          let one = some_has_one (k % core.size.nodes) (line_of (node_at core m).cache k) (packets_of core m k) (node_has core n letter m k below replies.waited about) (tidy m k mb kb) in
           packets_replied core n next place letter one.letter m k below within replies.waited replies.gone about one.one ∙ sym one.one
       | inr other ↦
           packets_same core n next place (lane_at core place ++ letter ∷ []) m k below within
@@ -133,13 +134,13 @@ replied_advance core n place next letter below within replies tidy m k mb kb =
     still (phase_of (packets_of core m k)) (phase_of (packets_of new m k)) (ap phase_of same)
 
 served_advance : (core : Core) (n place : ℕ) (next : NodeOf) (request : Letter) (rest : List Letter) → n < length core.parts → place < length core.lanes → lane_at core place ≡ request ∷ rest → is_request request.body ≡ true
-    → (answers : Answers core.nodes request (node_at core n) next) → is_request answers.body ≡ false → IsTidy core → Advanced core (Some (Taken request.control, request)) (with_lane (with_node core n next) place rest)
+    → (answers : Answers core.size.nodes request (node_at core n) next) → is_request answers.body ≡ false → IsTidy core → Advanced core (Some (Taken request.control, request)) (with_lane (with_node core n next) place rest)
 served_advance core n place next request rest below within front asks answers is_answer tidy m k mb kb =
     let new = with_lane (with_node core n next) place rest in
     let answer = answer_to request answers.body in
     elim (cases_Bool (is_about m k request)) [
       | inl about ↦
-          let one = some_has_one (k % core.nodes) (line_of (node_at core m).cache k) (packets_of core m k) (lane_has core place request rest m k within front about) (tidy m k mb kb) in
+          let one = some_has_one (k % core.size.nodes) (line_of (node_at core m).cache k) (packets_of core m k) (lane_has core place request rest m k within front about) (tidy m k mb kb) in
           let then_ = packets_served core n next place request answer one.letter rest m k below within front answers.free answers.waiting about (about_answer m k request answers.body asks is_answer ∙ about) one.one in
           taken_mark (is_about m k request) request answer (packets_of core m k) (packets_of new m k) about asks is_answer refl (one.one ∙ ap (λ (l : Letter). l ∷ []) (sym then_.same)) then_.then_
       | inr other ↦
@@ -156,7 +157,7 @@ accepted_advance core n place next answer rest below within front answers accept
     let new = with_lane (with_node core n next) place rest in
     elim (cases_Bool (is_about m k answer)) [
       | inl about ↦
-          let one = some_has_one (k % core.nodes) (line_of (node_at core m).cache k) (packets_of core m k) (lane_has core place answer rest m k within front about) (tidy m k mb kb) in
+          let one = some_has_one (k % core.size.nodes) (line_of (node_at core m).cache k) (packets_of core m k) (lane_has core place answer rest m k within front about) (tidy m k mb kb) in
           let then_ = packets_accepted core n next place answer one.letter rest m k below within front accepts.waiting about one.one in
           accepted_mark (is_about m k answer) answer (packets_of core m k) (packets_of new m k) about answers (one.one ∙ ap (λ (l : Letter). l ∷ []) (sym then_.same)) then_.then_
       | inr other ↦
@@ -166,41 +167,41 @@ accepted_advance core n place next answer rest below within front answers accept
 
 -- ---- each kind of side
 
-changes_advance : (core : Core) (n : ℕ) (next : Option NodeOf) → n < core.nodes → IsWellFormed core → IfSome next (Stays core.nodes (node_at core n)) → IfSome (step_by core n (changes next)) (Advanced core None)
+changes_advance : (core : Core) (n : ℕ) (next : Option NodeOf) → n < core.size.nodes → IsWellFormed core → IfSome next (Stays core.size.nodes (node_at core n)) → IfSome (step_by core n (changes next)) (Advanced core None)
 changes_advance core n None lt well stays = tt
 changes_advance core n (Some next) lt well stays = changed_advance core n next lt well stays.waiting
 
-performs_advance : (core : Core) (n : ℕ) (done : Option (NodeOf × Entry)) → n < core.nodes → IsWellFormed core → IfSome done (λ (x : NodeOf × Entry). Stays core.nodes (node_at core n) x.0) → IfSome (step_by core n (performs done)) (Advanced core None)
+performs_advance : (core : Core) (n : ℕ) (done : Option (NodeOf × Entry)) → n < core.size.nodes → IsWellFormed core → IfSome done (λ (x : NodeOf × Entry). Stays core.size.nodes (node_at core n) x.0) → IfSome (step_by core n (performs done)) (Advanced core None)
 performs_advance core n None lt well stays = tt
 performs_advance core n (Some done) lt well stays = changed_advance core n done.0 lt well stays.waiting
 
 abbrev sent_mark : NodeOf × Letter → Mark × Letter
 sent_mark sent = (Asked sent.1.control, sent.1)
 
-asks_advance : (core : Core) (n line : ℕ) (sent : Option (NodeOf × Letter)) → n < core.nodes → IsWellFormed core → IsTidy core → IfSome sent (AsksOnce core.nodes line (node_at core n)) → IfSome sent (SendsWell core.nodes core.lines core.slots core.limit n)
+asks_advance : (core : Core) (n line : ℕ) (sent : Option (NodeOf × Letter)) → n < core.size.nodes → IsWellFormed core → IsTidy core → IfSome sent (AsksOnce core.size.nodes line (node_at core n)) → IfSome sent (SendsWell core.size n)
     → IfSome (step_by core n (sends Requests sent)) (Advanced core (option_map (λ (s : NodeOf × Letter). (Asked s.1.control, s.1)) sent))
 asks_advance core n line None lt well tidy once sends_well = tt
 asks_advance core n line (Some sent) lt well tidy once sends_well =
-    asked_advance core n line (lane_place core.nodes Requests n sent.1.target) sent.0 sent.1 (node_below core n well lt) (lane_below core Requests n sent.1.target well lt sends_well.request.letter_ok.target) sends_well.request.asks sends_well.from once tidy
+    asked_advance core n line (lane_place core.size.nodes Requests n sent.1.target) sent.0 sent.1 (node_below core n well lt) (lane_below core Requests n sent.1.target well lt sends_well.request.letter_ok.target) sends_well.request.asks sends_well.from once tidy
 
-replies_advance : (core : Core) (n : ℕ) (sent : Option (NodeOf × Letter)) → n < core.nodes → IsWellFormed core → IsTidy core → IfSome sent (Replies core.nodes (node_at core n)) → IfSome sent (RepliesWell core.nodes core.lines core.slots core.limit n)
+replies_advance : (core : Core) (n : ℕ) (sent : Option (NodeOf × Letter)) → n < core.size.nodes → IsWellFormed core → IsTidy core → IfSome sent (Replies core.size.nodes (node_at core n)) → IfSome sent (RepliesWell core.size n)
     → IfSome (step_by core n (sends AnswerLane sent)) (Advanced core None)
 replies_advance core n None lt well tidy replies sends_well = tt
 replies_advance core n (Some sent) lt well tidy replies sends_well =
-    replied_advance core n (lane_place core.nodes AnswerLane n sent.1.target) sent.0 sent.1 (node_below core n well lt) (lane_below core AnswerLane n sent.1.target well lt sends_well.answer.letter_ok.target) replies tidy
+    replied_advance core n (lane_place core.size.nodes AnswerLane n sent.1.target) sent.0 sent.1 (node_below core n well lt) (lane_below core AnswerLane n sent.1.target well lt sends_well.answer.letter_ok.target) replies tidy
 
 took_request : (core : Core) (n place : ℕ) (letter : Letter) (rest : List Letter) (next : Option NodeOf) → n < length core.parts → place < length core.lanes → lane_at core place ≡ letter ∷ rest → Comes core n Requests letter
-    → IfSome next (Answers core.nodes letter (node_at core n)) → IfSome next (IsPart core.nodes core.lines core.slots core.limit n) → IsTidy core → IfSome (taken_as core n place rest next) (Advanced core (Some (Taken letter.control, letter)))
+    → IfSome next (Answers core.size.nodes letter (node_at core n)) → IfSome next (IsPart core.size n) → IsTidy core → IfSome (taken_as core n place rest next) (Advanced core (Some (Taken letter.control, letter)))
 took_request core n place letter rest None below within front comes answers is tidy = tt
 took_request core n place letter rest (Some next) below within front comes answers is tidy =
-    served_advance core n place next letter rest below within front comes.0.asks answers (waiting_answers core.nodes core.lines core.slots core.limit n next _ answers.waiting is) tidy
+    served_advance core n place next letter rest below within front comes.0.asks answers (waiting_answers core.size n next _ answers.waiting is) tidy
 
-takes_request : (core : Core) (n place : ℕ) (taking : Letter → Option NodeOf) (lane : List Letter) → n < length core.parts → place < length core.lanes → lane_at core place ≡ lane → ((letter : Letter) → IsInLane core.nodes core.lines place letter → Comes core n Requests letter)
-    → ((letter : Letter) → IfSome (taking letter) (Answers core.nodes letter (node_at core n))) → ((letter : Letter) → Comes core n Requests letter → IfSome (taking letter) (IsPart core.nodes core.lines core.slots core.limit n)) → IsWellFormed core → IsTidy core
+takes_request : (core : Core) (n place : ℕ) (taking : Letter → Option NodeOf) (lane : List Letter) → n < length core.parts → place < length core.lanes → lane_at core place ≡ lane → ((letter : Letter) → IsInLane core.size.nodes core.size.lines place letter → Comes core n Requests letter)
+    → ((letter : Letter) → IfSome (taking letter) (Answers core.size.nodes letter (node_at core n))) → ((letter : Letter) → Comes core n Requests letter → IfSome (taking letter) (IsPart core.size n)) → IsWellFormed core → IsTidy core
     → IfSome (taken_from core n place taking lane) (Advanced core (option_map (λ (l : Letter). (Taken l.control, l)) (slice_get lane 0)))
 takes_request core n place taking [] below within front comes answers is well tidy = tt
 takes_request core n place taking (letter ∷ rest) below within front comes answers is well tidy =
-    let in_lane = All-head (IsInLane core.nodes core.lines place) letter rest (subst (All (IsInLane core.nodes core.lines place)) front (well.each_lane place)) in
+    let in_lane = All-head (IsInLane core.size.nodes core.size.lines place) letter rest (subst (All (IsInLane core.size.nodes core.size.lines place)) front (well.each_lane place)) in
     took_request core n place letter rest (taking letter) below within front (comes letter in_lane) (answers letter) (is letter (comes letter in_lane)) tidy
 
 took_answer : (core : Core) (n place : ℕ) (letter : Letter) (rest : List Letter) (next : Option NodeOf) → n < length core.parts → place < length core.lanes → lane_at core place ≡ letter ∷ rest → Comes core n AnswerLane letter
@@ -208,67 +209,67 @@ took_answer : (core : Core) (n place : ℕ) (letter : Letter) (rest : List Lette
 took_answer core n place letter rest None below within front comes accepts tidy = tt
 took_answer core n place letter rest (Some next) below within front comes accepts tidy = accepted_advance core n place next letter rest below within front comes.0.answers accepts tidy
 
-takes_answer : (core : Core) (n place : ℕ) (taking : Letter → Option NodeOf) (lane : List Letter) → n < length core.parts → place < length core.lanes → lane_at core place ≡ lane → ((letter : Letter) → IsInLane core.nodes core.lines place letter → Comes core n AnswerLane letter)
+takes_answer : (core : Core) (n place : ℕ) (taking : Letter → Option NodeOf) (lane : List Letter) → n < length core.parts → place < length core.lanes → lane_at core place ≡ lane → ((letter : Letter) → IsInLane core.size.nodes core.size.lines place letter → Comes core n AnswerLane letter)
     → ((letter : Letter) → IfSome (taking letter) (Accepts letter.line (node_at core n))) → IsWellFormed core → IsTidy core
     → IfSome (taken_from core n place taking lane) (Advanced core (option_map (λ (l : Letter). (Accepted l.control, l)) (slice_get lane 0)))
 takes_answer core n place taking [] below within front comes accepts well tidy = tt
 takes_answer core n place taking (letter ∷ rest) below within front comes accepts well tidy =
-    let in_lane = All-head (IsInLane core.nodes core.lines place) letter rest (subst (All (IsInLane core.nodes core.lines place)) front (well.each_lane place)) in
+    let in_lane = All-head (IsInLane core.size.nodes core.size.lines place) letter rest (subst (All (IsInLane core.size.nodes core.size.lines place)) front (well.each_lane place)) in
     took_answer core n place letter rest (taking letter) below within front (comes letter in_lane) (accepts letter) tidy
 
-request_taken : (core : Core) (n from : ℕ) (taking : Letter → Option NodeOf) → n < core.nodes → ((letter : Letter) → IfSome (taking letter) (Answers core.nodes letter (node_at core n)))
-    → ((letter : Letter) → Comes core n Requests letter → IfSome (taking letter) (IsPart core.nodes core.lines core.slots core.limit n)) → IsWellFormed core → IsTidy core
+request_taken : (core : Core) (n from : ℕ) (taking : Letter → Option NodeOf) → n < core.size.nodes → ((letter : Letter) → IfSome (taking letter) (Answers core.size.nodes letter (node_at core n)))
+    → ((letter : Letter) → Comes core n Requests letter → IfSome (taking letter) (IsPart core.size n)) → IsWellFormed core → IsTidy core
     → IfSome (step_by core n (Takes Requests from taking)) (Advanced core (option_map (λ (l : Letter). (Taken l.control, l)) (slice_get (lane_of core Requests from n) 0)))
 request_taken core n from taking lt answers is well tidy =
-    if_below from core.nodes (Advanced core (option_map (λ (l : Letter). (Taken l.control, l)) (slice_get (lane_of core Requests from n) 0))) (taken_from core n (lane_place core.nodes Requests from n) taking (lane_of core Requests from n)) (λ f.
-    takes_request core n (lane_place core.nodes Requests from n) taking (lane_of core Requests from n) (node_below core n well lt) (lane_below core Requests from n well f lt) refl
+    if_below from core.size.nodes (Advanced core (option_map (λ (l : Letter). (Taken l.control, l)) (slice_get (lane_of core Requests from n) 0))) (taken_from core n (lane_place core.size.nodes Requests from n) taking (lane_of core Requests from n)) (λ f.
+    takes_request core n (lane_place core.size.nodes Requests from n) taking (lane_of core Requests from n) (node_below core n well lt) (lane_below core Requests from n well f lt) refl
     (λ letter h. comes_from_lane core from n Requests letter f lt h) answers is well tidy)
 
-answer_taken : (core : Core) (n from : ℕ) (taking : Letter → Option NodeOf) → n < core.nodes → ((letter : Letter) → IfSome (taking letter) (Accepts letter.line (node_at core n))) → IsWellFormed core → IsTidy core
+answer_taken : (core : Core) (n from : ℕ) (taking : Letter → Option NodeOf) → n < core.size.nodes → ((letter : Letter) → IfSome (taking letter) (Accepts letter.line (node_at core n))) → IsWellFormed core → IsTidy core
     → IfSome (step_by core n (Takes AnswerLane from taking)) (Advanced core (option_map (λ (l : Letter). (Accepted l.control, l)) (slice_get (lane_of core AnswerLane from n) 0)))
 answer_taken core n from taking lt accepts well tidy =
-    if_below from core.nodes (Advanced core (option_map (λ (l : Letter). (Accepted l.control, l)) (slice_get (lane_of core AnswerLane from n) 0))) (taken_from core n (lane_place core.nodes AnswerLane from n) taking (lane_of core AnswerLane from n)) (λ f.
-    takes_answer core n (lane_place core.nodes AnswerLane from n) taking (lane_of core AnswerLane from n) (node_below core n well lt) (lane_below core AnswerLane from n well f lt) refl
+    if_below from core.size.nodes (Advanced core (option_map (λ (l : Letter). (Accepted l.control, l)) (slice_get (lane_of core AnswerLane from n) 0))) (taken_from core n (lane_place core.size.nodes AnswerLane from n) taking (lane_of core AnswerLane from n)) (λ f.
+    takes_answer core n (lane_place core.size.nodes AnswerLane from n) taking (lane_of core AnswerLane from n) (node_below core n well lt) (lane_below core AnswerLane from n well f lt) refl
     (λ letter h. comes_from_lane core from n AnswerLane letter f lt h) accepts well tidy)
 
-side_advances : (core : Core) (e : Event) → node_of e < core.nodes → IsWellFormed core → IsTidy core → IfSome (step_by core (node_of e) (side (node_at core (node_of e)) e)) (Advanced core (mark_of core e))
-side_advances core (event.Issue n op) lt well tidy = changes_advance core n (node_issuing (node_at core n) op) lt well (issue_stays core.nodes (node_at core n) op)
-side_advances core (event.Perform n line) lt well tidy = performs_advance core n (node_performing (node_at core n) line) lt well (perform_stays core.nodes (node_at core n) line)
+side_advances : (core : Core) (e : Event) → node_of e < core.size.nodes → IsWellFormed core → IsTidy core → IfSome (step_by core (node_of e) (side (node_at core (node_of e)) e)) (Advanced core (mark_of core e))
+side_advances core (event.Issue n op) lt well tidy = changes_advance core n (node_issuing (node_at core n) op) lt well (issue_stays core.size.nodes (node_at core n) op)
+side_advances core (event.Perform n line) lt well tidy = performs_advance core n (node_performing (node_at core n) line) lt well (perform_stays core.size.nodes (node_at core n) line)
 side_advances core (event.Ask n line kind) lt well tidy =
     let part = well.each_part n lt in
-    asks_advance core n line (node_asking (node_at core n) line kind) lt well tidy (ask_once core.nodes (node_at core n) line kind part.all (part.asks line))
-    (part_asking core.nodes core.lines core.slots core.limit n (node_at core n) line kind well.some_node lt part)
+    asks_advance core n line (node_asking (node_at core n) line kind) lt well tidy (ask_once core.size.nodes (node_at core n) line kind part.all (part.asks line))
+    (part_asking core.size n (node_at core n) line kind well.some_node lt part)
 side_advances core (event.Serve from n) lt well tidy =
-    request_taken core n from (node_serving (node_at core n)) lt (serve_answers core.nodes (node_at core n)) (λ letter comes. part_serving core.nodes core.lines core.slots core.limit n (node_at core n) letter comes.0 comes.1 (well.each_part n lt)) well tidy
+    request_taken core n from (node_serving (node_at core n)) lt (serve_answers core.size.nodes (node_at core n)) (λ letter comes. part_serving core.size n (node_at core n) letter comes.0 comes.1 (well.each_part n lt)) well tidy
 side_advances core (event.Refuse from n) lt well tidy =
-    request_taken core n from (node_refusing (node_at core n)) lt (refuse_answers core.nodes (node_at core n)) (λ letter comes. part_refusing core.nodes core.lines core.slots core.limit n (node_at core n) letter comes.0 comes.1 (well.each_part n lt)) well tidy
+    request_taken core n from (node_refusing (node_at core n)) lt (refuse_answers core.size.nodes (node_at core n)) (λ letter comes. part_refusing core.size n (node_at core n) letter comes.0 comes.1 (well.each_part n lt)) well tidy
 side_advances core (event.Reply n) lt well tidy =
-    replies_advance core n (node_replying (node_at core n)) lt well tidy (reply_replies core.nodes (node_at core n)) (part_replying core.nodes core.lines core.slots core.limit n (node_at core n) (well.each_part n lt))
+    replies_advance core n (node_replying (node_at core n)) lt well tidy (reply_replies core.size.nodes (node_at core n)) (part_replying core.size n (node_at core n) (well.each_part n lt))
 side_advances core (event.Accept from n) lt well tidy = answer_taken core n from (node_accepting (node_at core n)) lt (accept_accepts (node_at core n)) well tidy
 
 stepping_advances : (core : Core) (e : Event) → IsWellFormed core → IsTidy core → IfSome (stepping core e) (Advanced core (mark_of core e))
 unfolding stepping
-stepping_advances core e well tidy = if_below (node_of e) core.nodes (Advanced core (mark_of core e)) (step_by core (node_of e) (side (node_at core (node_of e)) e)) (λ lt. side_advances core e lt well tidy)
+stepping_advances core e well tidy = if_below (node_of e) core.size.nodes (Advanced core (mark_of core e)) (step_by core (node_of e) (side (node_at core (node_of e)) e)) (λ lt. side_advances core e lt well tidy)
 
 -- ---- runs
 
-by_case : (core : Core) (next : Option Core) (mark : Option (Mark × Letter)) (n line : ℕ) → IfSome next (Advanced core mark) → n < core.nodes → line < core.lines
+by_case : (core : Core) (next : Option Core) (mark : Option (Mark × Letter)) (n line : ℕ) → IfSome next (Advanced core mark) → n < core.size.nodes → line < core.size.lines
     → Advances (phase_of (packets_of core n line)) (elim next as (λ _. List Mark) [ None ↦ [] | Some new ↦ marks_about n line mark ]) (phase_of (packets_of (unwrap_or next core) n line))
 by_case core None mark n line h lt below = still (phase_of (packets_of core n line)) (phase_of (packets_of core n line)) refl
 by_case core (Some new) mark n line h lt below = h n line lt below
 
-run_alternates : (core : Core) (events : List Event) (n line : ℕ) → IsWellFormed core → IsTidy core → n < core.nodes → line < core.lines → IsAlternating (phase_of (packets_of core n line)) (trace core events n line)
+run_alternates : (core : Core) (events : List Event) (n line : ℕ) → IsWellFormed core → IsTidy core → n < core.size.nodes → line < core.size.lines → IsAlternating (phase_of (packets_of core n line)) (trace core events n line)
 run_alternates core [] n line well tidy lt below = none_follows (phase_of (packets_of core n line))
 run_alternates core (e ∷ events) n line well tidy lt below =
     let next = step_well core e well in
     goes_on (phase_of (packets_of core n line)) (phase_of (packets_of (step core e) n line)) (marks_of core e n line) (trace (step core e) events n line)
     (by_case core (stepping core e) (mark_of core e) n line (stepping_advances core e well tidy) lt below)
-    (run_alternates (step core e) events n line next.well (step_tidy core e well tidy) (rw next.same.nodes lt) (rw next.same.lines below))
+    (run_alternates (step core e) events n line next.well (step_tidy core e well tidy) (subst (λ (size : Size). n < size.nodes) (sym next.same) lt) (subst (λ (size : Size). line < size.lines) (sym next.same) below))
 
-pub runs_alternate : (nodes lines slots limit : ℕ) (schedule : List Event) (n line : ℕ) → AreSizes nodes lines slots limit → n < nodes → line < lines → Alternates nodes lines slots limit schedule n line
-runs_alternate nodes lines slots limit schedule n line sizes lt below =
+pub runs_alternate : (size : Size) (schedule : List Event) (n line : ℕ) → IsSize size → n < size.nodes → line < size.lines → Alternates size schedule n line
+runs_alternate size schedule n line sizes lt below =
     let first = sizes.extent.has_node in
-    let core = opening nodes lines slots limit in
-    let none = opening_none nodes lines slots limit n line in
+    let core = opening size in
+    let none = opening_none size n line in
     subst (λ (ps : List Letter). IsAlternating (phase_of ps) (trace core schedule n line)) none
-    (run_alternates core schedule n line (opening_well nodes lines slots limit (omega arith) sizes.few_operations) (opening_tidy nodes lines slots limit) lt below)
+    (run_alternates core schedule n line (opening_well size (omega arith) sizes.few_operations) (opening_tidy size) lt below)

@@ -20,6 +20,7 @@ use Rattle.sci_core.proofs.Nodes.{some_below}
 use Rattle.sci_core.proofs.Lists.{if_either, at_place_set}
 use Rattle.sci_core.proofs.Options.{none_in, of_some}
 use Rattle.sci_core.proofs.NodeSides.{PerformedAs, ServedAs, At_home, In_cache}
+use Rattle.sci_core.specs.Size.{Size}
 
 -- ---- events that leave the work as it was
 
@@ -129,9 +130,9 @@ perform_owns part line done does = sym (ap (λ (entry : Entry). entry.node) does
 none_below : (j : ℕ) → j < 0 → ⊥
 none_below j lt = omega arith
 
-pub opening_serials : (me nodes lines slots limit : ℕ) → HasSerials (opening_node me nodes lines slots limit)
-opening_serials me nodes lines slots limit = record {
+pub opening_serials : (me : ℕ) (size : Size) → HasSerials (opening_node me size)
+opening_serials me size = record {
   below = tt;
   rising = λ line. (λ i j d lt long. absurd (none_below j long));
-  pending = λ line. none_in (λ (p : Pending). AllByRecursion (λ (entry : Entry). entry.serial < p.serial) []) lines line;
+  pending = λ line. none_in (λ (p : Pending). AllByRecursion (λ (entry : Entry). entry.serial < p.serial) []) size.lines line;
 }

@@ -5,6 +5,7 @@ use Rattle.sci_words.specs.declared.event.Event.{Event}
 use Rattle.sci_words.specs.declared.event.Event.TheVariants as event
 use Rattle.sci_cache.specs.Cache.{Letter}
 use Rattle.sci_core.specs.declared.lane.LaneKind.TheVariants.{Requests, Answers}
+use Rattle.sci_core.specs.Size.{Size}
 use Rattle.sci_core.specs.Node.{node_asking}
 use Rattle.sci_core.specs.Core.{Core, node_at, lane_of, stepping, step, opening}
 use Rattle.sci_core.specs.Sharing.{is_about}
@@ -50,5 +51,5 @@ IsAlternating (Sent c) (Taken d ∷ marks) = (d ≡ c) × IsAlternating (Served 
 IsAlternating (Served c) (Accepted d ∷ marks) = (d ≡ c) × IsAlternating Idle marks
 IsAlternating phase (mark ∷ marks) = ⊥
 
-abbrev pub Alternates : ℕ → ℕ → ℕ → ℕ → List Event → ℕ → ℕ → Type 0
-Alternates nodes lines slots limit schedule n line = IsAlternating Idle (trace (opening nodes lines slots limit) schedule n line)
+abbrev pub Alternates : Size → List Event → ℕ → ℕ → Type 0
+Alternates size schedule n line = IsAlternating Idle (trace (opening size) schedule n line)

@@ -18,7 +18,7 @@ use Rattle.sci_core.specs.Alternates.{Alternates}
 -- the entries of the schedule on a line are, in their order, the line's history from zero words to its last contents
 abbrev pub IsExplained : (core : Core) → IsReached core → ℕ → Type 0
 IsExplained core reached line =
-    IsHistory (filter (is_on_line line) (done core.nodes core.lines core.slots core.limit reached.schedule)) zero_stamped (last_at core line)
+    IsHistory (filter (is_on_line line) (done core.size reached.schedule)) zero_stamped (last_at core line)
 
 pub record IsCoherent (core : Core) : Type 0 where
   -- a schedule leads here
@@ -27,11 +27,11 @@ pub record IsCoherent (core : Core) : Type 0 where
   pub tidy : IsTidy core
   pub accepted : AreAccepted core
   -- no transaction of the schedule is answered twice
-  pub alternates : (n line : ℕ) → n < core.nodes → line < core.lines → Alternates core.nodes core.lines core.slots core.limit reached.schedule n line
+  pub alternates : (n line : ℕ) → n < core.size.nodes → line < core.size.lines → Alternates core.size reached.schedule n line
   -- each line's members are one list, with one authority
   pub shapes : HasShapes core
   -- each operation took effect at its own Perform
-  pub explained : (line : ℕ) → line < core.lines → IsExplained core reached line
+  pub explained : (line : ℕ) → line < core.size.lines → IsExplained core reached line
   -- and the logs alone show that it did: they are of the machine's lines, and lawful
-  pub within : AreWithin core.lines (logs_of core)
+  pub within : AreWithin core.size.lines (logs_of core)
   pub lawful : Lawful (logs_of core) (last_of core)

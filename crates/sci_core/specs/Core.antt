@@ -1,6 +1,6 @@
 -- The state of the whole machine, and its steps. A step is a node's side of an event together with the one packet
 -- that is sent or taken.
-use Rattle.std.specs.Prelude.{ℕ, ◌+◌, ◌*◌, nat_lt, if◌then◌else◌, List, [], ◌∷◌, ◌++◌, map, replicate, slice_index_or, slice_set, Option, Some, None, unwrap_or, IsSome}
+use Rattle.std.specs.Prelude.{◌≡◌, ◌≤◌, length, ℕ, ◌+◌, ◌*◌, nat_lt, if◌then◌else◌, List, [], ◌∷◌, ◌++◌, map, replicate, slice_index_or, slice_set, Option, Some, None, unwrap_or, IsSome}
 use Rattle.std.specs.List.{fold, range_with_len}
 use Rattle.sci_words.specs.declared.event.Event.{Event}
 use Rattle.sci_words.specs.declared.event.Event.TheVariants as event
@@ -8,13 +8,11 @@ use Rattle.sci_history.specs.declared.entry.Entry.{Entry}
 use Rattle.sci_cache.specs.Cache.{Letter}
 use Rattle.sci_core.specs.declared.lane.LaneKind.{LaneKind}
 use Rattle.sci_core.specs.declared.lane.LaneKind.TheVariants.{Requests, Answers}
-use Rattle.sci_core.specs.Node.{NodeOf, opening_node, node_issuing, node_performing, node_asking, node_serving, node_refusing, node_replying, node_accepting}
+use Rattle.sci_core.specs.Size.{Size}
+use Rattle.sci_core.specs.Node.{NodeOf, opening_node, no_node, node_issuing, node_performing, node_asking, node_serving, node_refusing, node_replying, node_accepting}
 
 pub record Core : Type 0 where
-  pub nodes : ℕ
-  pub lines : ℕ
-  pub slots : ℕ
-  pub limit : ℕ
+  pub size : Size
   -- each node's part
   pub parts : List NodeOf
   -- the packets that are under way from each node to each, oldest first
@@ -23,7 +21,7 @@ pub record Core : Type 0 where
 -- ---- nodes and lanes
 
 abbrev pub node_at : Core → ℕ → NodeOf
-node_at core n = slice_index_or core.parts n (opening_node 0 1 0 0 0)
+node_at core n = slice_index_or core.parts n no_node
 
 abbrev pub with_node : Core → ℕ → NodeOf → Core
 with_node core n node = record core { parts = slice_set core.parts n node }
@@ -40,7 +38,7 @@ abbrev pub lane_at : Core → ℕ → List Letter
 lane_at core place = slice_index_or core.lanes place []
 
 abbrev pub lane_of : Core → LaneKind → ℕ → ℕ → List Letter
-lane_of core kind from to = lane_at core (lane_place core.nodes kind from to)
+lane_of core kind from to = lane_at core (lane_place core.size.nodes kind from to)
 
 abbrev pub with_lane : Core → ℕ → List Letter → Core
 with_lane core place lane = record core { lanes = slice_set core.lanes place lane }
@@ -90,10 +88,13 @@ node_of (event.Accept from n) = n
 
 -- ---- steps
 
--- the node changes, and the packet ends the lane to its target
+-- the packet ends the lane to its target
+abbrev pub with_sent : Core → LaneKind → ℕ → Letter → Core
+with_sent core kind n letter = with_lane core (lane_place core.size.nodes kind n letter.target) (lane_of core kind n letter.target ++ letter ∷ [])
+
+-- the node changes, and sends a packet
 abbrev pub sent_by : Core → ℕ → LaneKind → NodeOf → Letter → Core
-sent_by core n kind next letter =
-    with_lane (with_node core n next) (lane_place core.nodes kind n letter.target) (lane_of core kind n letter.target ++ letter ∷ [])
+sent_by core n kind next letter = with_sent (with_node core n next) kind n letter
 
 abbrev pub taken_as : Core → ℕ → ℕ → List Letter → Option NodeOf → Option Core
 taken_as core n place rest None = None
@@ -109,13 +110,13 @@ step_by core n Idle = None
 step_by core n (Changes next) = Some (with_node core n next)
 step_by core n (Sends kind next letter) = Some (sent_by core n kind next letter)
 step_by core n (Takes kind from taking) =
-    if nat_lt from core.nodes
-    then taken_from core n (lane_place core.nodes kind from n) taking (lane_of core kind from n)
+    if nat_lt from core.size.nodes
+    then taken_from core n (lane_place core.size.nodes kind from n) taking (lane_of core kind from n)
     else None
 
 -- the state after an event, or none where it is not enabled
 unfoldable pub stepping : Core → Event → Option Core
-stepping core event = if nat_lt (node_of event) core.nodes then step_by core (node_of event) (side (node_at core (node_of event)) event) else None
+stepping core event = if nat_lt (node_of event) core.size.nodes then step_by core (node_of event) (side (node_at core (node_of event)) event) else None
 
 abbrev pub IsEnabled : Core → Event → Type 0
 IsEnabled core event = IsSome (stepping core event)
@@ -127,19 +128,24 @@ step core event = unwrap_or (stepping core event) core
 -- ---- runs
 
 -- all lines Out and HOME with zero words at version 0, all else empty
-abbrev pub opening : ℕ → ℕ → ℕ → ℕ → Core
-opening nodes lines slots limit = record {
-  nodes = nodes;
-  lines = lines;
-  slots = slots;
-  limit = limit;
-  parts = map (λ n. opening_node n nodes lines slots limit) (range_with_len 0 nodes);
-  lanes = replicate (2 * nodes * nodes) [];
+abbrev pub opening : Size → Core
+opening size = record {
+  size = size;
+  parts = map (λ n. opening_node n size) (range_with_len 0 size.nodes);
+  lanes = replicate (2 * size.nodes * size.nodes) [];
 }
 
 -- the state where the events, one after another, lead
 abbrev pub run_from : Core → List Event → Core
 run_from core events = fold step core events
 
-abbrev pub run : ℕ → ℕ → ℕ → ℕ → List Event → Core
-run nodes lines slots limit events = run_from (opening nodes lines slots limit) events
+abbrev pub run : Size → List Event → Core
+run size events = run_from (opening size) events
+
+-- ---- sizes
+
+-- how many nodes and lanes a state has
+pub record HasSize (core : Core) : Type 0 where
+  pub some_node : 1 ≤ core.size.nodes
+  pub parts_long : length core.parts ≡ core.size.nodes
+  pub lanes_long : length core.lanes ≡ 2 * core.size.nodes * core.size.nodes

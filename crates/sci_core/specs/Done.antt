@@ -6,6 +6,7 @@ use Rattle.sci_words.specs.declared.event.Event.TheVariants as event
 use Rattle.sci_words.specs.Stamped.{after}
 use Rattle.sci_history.specs.declared.entry.Entry.{Entry}
 use Rattle.sci_history.specs.Memory.{reply_of}
+use Rattle.sci_core.specs.Size.{Size}
 use Rattle.sci_core.specs.Node.{node_performing}
 use Rattle.sci_core.specs.Core.{Core, node_at, stepping, step, opening}
 use Rattle.sci_core.specs.Sharing.{last_at}
@@ -26,8 +27,8 @@ abbrev pub done_from : Core → List Event → List Entry
 done_from core [] = []
 done_from core (e ∷ events) = option_to_list (made_by core e) ++ done_from (step core e) events
 
-abbrev pub done : ℕ → ℕ → ℕ → ℕ → List Event → List Entry
-done nodes lines slots limit schedule = done_from (opening nodes lines slots limit) schedule
+abbrev pub done : Size → List Event → List Entry
+done size schedule = done_from (opening size) schedule
 
 -- ---- what an entry does
 
@@ -49,4 +50,4 @@ ChangesBy (Some entry) line old new = Changes entry line old new
 
 -- the last contents of each line are those of the state before, but where an entry was made
 abbrev pub LastChanges : Core → Core → Option Entry → Type 0
-LastChanges old new made = (line : ℕ) → line < old.lines → ChangesBy made line (last_at old line) (last_at new line)
+LastChanges old new made = (line : ℕ) → line < old.size.lines → ChangesBy made line (last_at old line) (last_at new line)

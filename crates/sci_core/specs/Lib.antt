@@ -1,10 +1,11 @@
 pub mod Node
 pub mod Inside
+pub mod Taking
 pub mod Core
 pub mod Reached
 pub mod WellFormed
 pub mod Fault
-pub mod Sizes
+pub mod Size
 pub mod Stopped
 pub mod Outcome
 pub mod Sharing

@@ -14,6 +14,7 @@ use Rattle.sci_home.specs.Serving.{opening_home, is_for_home, IsForHome, serving
 use Rattle.sci_cache.specs.declared.fault.AskFault.{AskFault}
 use Rattle.sci_cache.specs.Line.{untouched}
 use Rattle.sci_cache.specs.Cache.{CacheOf, Letter, cache_asking, cache_serving, cache_accepting, cache_performing}
+use Rattle.sci_core.specs.Size.{Size}
 use Rattle.sci_core.specs.declared.pending.Pending.{Pending}
 
 pub record NodeOf : Type 0 where
@@ -158,16 +159,20 @@ node_accepting node answer = accepted_by node (cache_accepting node.cache answer
 -- ---- what holds of every node
 
 -- the node of a machine of this size at the beginning: all lines Out and HOME, all else empty
-abbrev pub opening_node : ℕ → ℕ → ℕ → ℕ → ℕ → NodeOf
-opening_node me nodes lines slots limit = record {
-  cache = record { me = me; nodes = nodes; slots = slots; lines = replicate lines untouched };
-  homes = replicate (lines / nodes + 1) opening_home;
-  pending = replicate lines None;
+abbrev pub opening_node : ℕ → Size → NodeOf
+opening_node me size = record {
+  cache = record { me = me; nodes = size.nodes; slots = size.slots; lines = replicate size.lines untouched };
+  homes = replicate (size.lines / size.nodes + 1) opening_home;
+  pending = replicate size.lines None;
   issued = 0;
-  limit = limit;
+  limit = size.limit;
   log = [];
   waiting = None;
 }
+
+-- what stands for a node that isn't there
+abbrev pub no_node : NodeOf
+no_node = opening_node 0 (record { nodes = 1; lines = 0; slots = 0; limit = 0 })
 
 -- a packet for this node, about a line of the machine
 pub record IsForNode (node : NodeOf) (letter : Letter) : Type 0 where

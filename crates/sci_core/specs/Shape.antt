@@ -52,7 +52,7 @@ pub record IsSplit (core : Core) (line : ℕ) (nodes before : List ℕ) (a : ℕ
 -- one node of the machine, which is in the list, is the authority, and no other is
 pub record HasOneAuthority (core : Core) (line : ℕ) (nodes : List ℕ) : Type 0 where
   pub node : ℕ
-  pub some : node < core.nodes
+  pub some : node < core.size.nodes
   pub listed : IsAmong node nodes
   pub authority : IsAuthority core line node
   pub only : (n : ℕ) → IsAuthority core line n → n ≡ node
@@ -76,7 +76,7 @@ pub record HaveContents (core : Core) (line : ℕ) (nodes : List ℕ) (c : Stamp
   pub home : IfSome (current_of (home_at core line)) (λ d. d ≡ c)
   pub told : (n : ℕ) (p : Option ℕ) (d : Stamped) → (sharer_of core line n).answer ≡ Some (Fdata p d) → d ≡ c
   pub joining : (n p : ℕ) (sent : Bool) (d : Stamped) → state_at core line n ≡ FreshJoining p sent d → d ≡ c
-  pub back : (n : ℕ) → n < core.nodes → AllByRecursion (λ letter. (d : Stamped) → letter.body ≡ Wback d → d ≡ c) (packets_of core n line)
+  pub back : (n : ℕ) → n < core.size.nodes → AllByRecursion (λ letter. (d : Stamped) → letter.body ≡ Wback d → d ≡ c) (packets_of core n line)
 
 abbrev pub is_home_fresh : HomeState → Bool
 is_home_fresh (at.Fresh p c) = true
@@ -99,4 +99,4 @@ pub record HasShape (core : Core) (line : ℕ) : Type 0 where
   pub fresh : IsFreshDown core line nodes
 
 abbrev pub HasShapes : Core → Type 0
-HasShapes core = (line : ℕ) → line < core.lines → HasShape core line
+HasShapes core = (line : ℕ) → line < core.size.lines → HasShape core line

@@ -52,10 +52,10 @@ abbrev pub sharer_of : Core → ℕ → ℕ → Sharer
 sharer_of core line n = record { state = (line_of (node_at core n).cache line).state; answer = answer_to core n line }
 
 abbrev pub sharers : Core → ℕ → List Sharer
-sharers core line = map (sharer_of core line) (range_with_len 0 core.nodes)
+sharers core line = map (sharer_of core line) (range_with_len 0 core.size.nodes)
 
 abbrev pub home_at : Core → ℕ → HomeState
-home_at core line = home_of (node_at core (line % core.nodes)) line
+home_at core line = home_of (node_at core (line % core.size.nodes)) line
 
 -- ---- the authority: the one node that may change the line or is about to, with its contents
 
@@ -96,4 +96,4 @@ abbrev pub last_at : Core → ℕ → Stamped
 last_at core line = unwrap_or (option_or (current_of (home_at core line)) (first_authority (sharers core line))) zero_stamped
 
 abbrev pub last_of : Core → List Stamped
-last_of core = map (last_at core) (range_with_len 0 core.lines)
+last_of core = map (last_at core) (range_with_len 0 core.size.lines)

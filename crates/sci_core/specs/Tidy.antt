@@ -39,7 +39,7 @@ HasItsPackets home line (letter ∷ another ∷ letters) = ⊥
 
 -- for each node and line: exactly one packet of its asks is under way where it waits, and none where it doesn't
 abbrev pub IsTidy : Core → Type 0
-IsTidy core = (n line : ℕ) → n < core.nodes → line < core.lines → HasItsPackets (line % core.nodes) (line_of (node_at core n).cache line) (packets_of core n line)
+IsTidy core = (n line : ℕ) → n < core.size.nodes → line < core.size.lines → HasItsPackets (line % core.size.nodes) (line_of (node_at core n).cache line) (packets_of core n line)
 
 -- an answer that is under way is one that the state accepts
 abbrev pub IsAccepted : CacheState → Option Body → Type 0
@@ -47,4 +47,4 @@ IsAccepted state answer = IfSome answer (λ body. IsSome (accepting state body))
 
 -- no answer comes that its taker doesn't await
 abbrev pub AreAccepted : Core → Type 0
-AreAccepted core = (n line : ℕ) → line < core.lines → IsAccepted (line_of (node_at core n).cache line).state (answer_to core n line)
+AreAccepted core = (n line : ℕ) → line < core.size.lines → IsAccepted (line_of (node_at core n).cache line).state (answer_to core n line)

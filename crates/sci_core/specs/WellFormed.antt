@@ -12,6 +12,7 @@ use Rattle.sci_cache.specs.State.{CacheState, Joining, FreshJoining, Head, Fresh
 use Rattle.sci_cache.specs.Cache.{Letter, line_of}
 use Rattle.sci_core.specs.Node.{NodeOf, lines_of, IsNode}
 use Rattle.sci_core.specs.Core.{Core, node_at, lane_at}
+use Rattle.sci_core.specs.Size.{Size}
 
 -- ---- every identifier names a node
 
@@ -70,22 +71,22 @@ pub record IsInLane (nodes lines place : ℕ) (letter : Letter) : Type 0 where
   pub answer : nodes * nodes ≤ place → IsAnswerLetter nodes lines letter
 
 -- the part of node n
-pub record IsPart (nodes lines slots limit n : ℕ) (part : NodeOf) : Type 0 where
+pub record IsPart (size : Size) (n : ℕ) (part : NodeOf) : Type 0 where
   pub me : part.cache.me ≡ n
-  pub all : part.cache.nodes ≡ nodes
-  pub room : part.cache.slots ≡ slots
-  pub each : lines_of part ≡ lines
-  pub most : part.limit ≡ limit
-  pub states : (line : ℕ) → NamesNodes nodes (line_of part.cache line).state
-  pub homes : (place : ℕ) → HomeNamesNodes nodes (slice_index_or part.homes place opening_home)
-  pub answer : IfSome part.waiting (λ letter. IsAnswerLetter nodes lines letter × (letter.source ≡ n))
+  pub all : part.cache.nodes ≡ size.nodes
+  pub room : part.cache.slots ≡ size.slots
+  pub each : lines_of part ≡ size.lines
+  pub most : part.limit ≡ size.limit
+  pub states : (line : ℕ) → NamesNodes size.nodes (line_of part.cache line).state
+  pub homes : (place : ℕ) → HomeNamesNodes size.nodes (slice_index_or part.homes place opening_home)
+  pub answer : IfSome part.waiting (λ letter. IsAnswerLetter size.nodes size.lines letter × (letter.source ≡ n))
   pub asks : (line : ℕ) → (line_of part.cache line).asks < CONTROLS
   pub fits : IsNode part
   pub own : All (λ entry. entry.node ≡ n) part.log
 
 pub record IsWellFormed (core : Core) : Type 0 where
-  pub some_node : 0 < core.nodes
-  pub parts_long : length core.parts ≡ core.nodes
-  pub lanes_long : length core.lanes ≡ 2 * core.nodes * core.nodes
-  pub each_part : (n : ℕ) → n < core.nodes → IsPart core.nodes core.lines core.slots core.limit n (node_at core n)
-  pub each_lane : (place : ℕ) → All (IsInLane core.nodes core.lines place) (lane_at core place)
+  pub some_node : 0 < core.size.nodes
+  pub parts_long : length core.parts ≡ core.size.nodes
+  pub lanes_long : length core.lanes ≡ 2 * core.size.nodes * core.size.nodes
+  pub each_part : (n : ℕ) → n < core.size.nodes → IsPart core.size n (node_at core n)
+  pub each_lane : (place : ℕ) → All (IsInLane core.size.nodes core.size.lines place) (lane_at core place)

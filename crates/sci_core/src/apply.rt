@@ -1,19 +1,35 @@
-//! The events, one function for each kind.
+//! The events of a machine: one function for each kind of a node's side.
 
 ghost use Rattle.std.specs.Prelude.{◌≡◌};
+ghost use Rattle.sci_core.specs.Core.{node_of as node_of_event};
 
 use crate::fault::ApplyFault;
 use crate::lane::LaneKind;
 use crate::state::State;
-use sci_packets::Packet;
+use crate::taking::Taking;
 use sci_words::{AskKind, Event, Op};
 
+/// The node whose event it is.
+fn node_of(event: &Event) -> u8
+    ensures { result ≡ node_of_event event.now }
+{
+    match *event {
+        Event::Issue { node, .. }
+        | Event::Perform { node, .. }
+        | Event::Ask { node, .. }
+        | Event::Serve { node, .. }
+        | Event::Refuse { node, .. }
+        | Event::Reply { node }
+        | Event::Accept { node, .. } => node,
+    }
+}
+
 impl State {
-    ghost use Rattle.std.specs.Prelude.{◌≡◌, ◌<◌, Some, None, IfOk, IfErr, IfSome, IsErr, slice_get};
+    ghost use Rattle.std.specs.Prelude.{◌≡◌, ◌<◌, Some, None, IfOk, IfErr, IsErr, IsTrue, false};
     ghost use Rattle.sci_words.specs.declared.event.Event.TheVariants as event;
-    ghost use Rattle.sci_cache.specs.Cache.{letter_of};
-    ghost use Rattle.sci_core.specs.Core.{lane_of, stepping};
+    ghost use Rattle.sci_core.specs.Core.{stepping};
     ghost use Rattle.sci_core.specs.Fault.{IsFaultOf};
+    ghost use Rattle.sci_core.specs.Taking.{taking_event};
     ghost use Rattle.sci_core.specs.WellFormed.{IsWellFormed};
 
     /// Applies an event, as the step says. Unchanged on refusal: NotEnabled exactly where the event is not
@@ -24,160 +40,100 @@ impl State {
         ensures refused { IfErr result (IsFaultOf (stepping self.old event.now) event.now) }
         ensures same { IsErr result → self.new ≡ self.old }
     {
-        match *event {
-            Event::Issue { node, op } => self.issued(node, op),
-            Event::Perform { node, line } => self.performed(node, line),
-            Event::Ask { node, line, kind } => self.asked(node, line, kind),
-            Event::Serve { from, node } => self.served(from, node),
-            Event::Refuse { from, node } => self.refused(from, node),
-            Event::Reply { node } => self.replied(node),
-            Event::Accept { from, node } => self.accepted(from, node),
-        }
-    }
-
-    fn issued(&mut self, n: u8, op: Op) -> Result<(), ApplyFault>
-        requires { IsWellFormed self.old }
-        ensures done { IfOk result (λ _. stepping self.old (event.Issue n op) ≡ Some self.new) }
-        ensures refused { IfErr result (IsFaultOf (stepping self.old (event.Issue n op)) (event.Issue n op)) }
-        ensures same { IsErr result → self.new ≡ self.old }
-    {
-        if n >= self.nodes() {
+        if node_of(event) >= self.nodes() {
             return Err(ApplyFault::NotEnabled);
         }
-        let Some(_serial) = self.issue(n, op) else {
-            return Err(ApplyFault::NotEnabled);
+        let enabled = match *event {
+            Event::Issue { node, op } => self.issue(node, op),
+            Event::Perform { node, line } => self.perform(node, line),
+            Event::Ask { node, line, kind } => return self.ask(node, line, kind),
+            Event::Serve { from, node } => self.take(Taking::Serve, from, node),
+            Event::Refuse { from, node } => self.take(Taking::Refuse, from, node),
+            Event::Reply { node } => return self.reply(node),
+            Event::Accept { from, node } => self.take(Taking::Accept, from, node),
         };
-        Ok(())
-    }
-
-    fn performed(&mut self, n: u8, line: u8) -> Result<(), ApplyFault>
-        requires { IsWellFormed self.old }
-        ensures done { IfOk result (λ _. stepping self.old (event.Perform n line) ≡ Some self.new) }
-        ensures refused { IfErr result (IsFaultOf (stepping self.old (event.Perform n line)) (event.Perform n line)) }
-        ensures same { IsErr result → self.new ≡ self.old }
-    {
-        if n >= self.nodes() {
-            return Err(ApplyFault::NotEnabled);
+        if enabled {
+            Ok(())
+        } else {
+            Err(ApplyFault::NotEnabled)
         }
-        let Some(_entry) = self.perform(n, line) else {
-            return Err(ApplyFault::NotEnabled);
-        };
-        Ok(())
     }
 
-    fn asked(&mut self, n: u8, line: u8, kind: AskKind) -> Result<(), ApplyFault>
-        requires { IsWellFormed self.old }
+    /// A node issues an operation. False, unchanged, where it can't.
+    fn issue(&mut self, n: u8, op: Op) -> bool
+        requires { n < self.old.size.nodes }
+        ensures done { IsTrue result → stepping self.old (event.Issue n op) ≡ Some self.new }
+        ensures not { result ≡ false → stepping self.old (event.Issue n op) ≡ None }
+        ensures same { result ≡ false → self.new ≡ self.old }
+    {
+        self.nodes[usize::from(n)].issue(op).is_some()
+    }
+
+    /// A node performs the operation that is pending on a line. False, unchanged, where it can't.
+    fn perform(&mut self, n: u8, line: u8) -> bool
+        requires { n < self.old.size.nodes }
+        ensures done { IsTrue result → stepping self.old (event.Perform n line) ≡ Some self.new }
+        ensures not { result ≡ false → stepping self.old (event.Perform n line) ≡ None }
+        ensures same { result ≡ false → self.new ≡ self.old }
+    {
+        self.nodes[usize::from(n)].perform(line).is_some()
+    }
+
+    /// A node asks about a line: the request ends the lane to its target. Unchanged on refusal.
+    fn ask(&mut self, n: u8, line: u8, kind: AskKind) -> Result<(), ApplyFault>
+        requires well { IsWellFormed self.old }
+        requires n { n < self.old.size.nodes }
         ensures done { IfOk result (λ _. stepping self.old (event.Ask n line kind) ≡ Some self.new) }
         ensures refused { IfErr result (IsFaultOf (stepping self.old (event.Ask n line kind)) (event.Ask n line kind)) }
         ensures same { IsErr result → self.new ≡ self.old }
     {
-        if n >= self.nodes() {
-            return Err(ApplyFault::NotEnabled);
-        }
         let Some(request) = self.node(n).asked(line, kind) else {
             return Err(ApplyFault::NotEnabled);
         };
-        let target = request.target.get() as u8;
-        if let Err(refused) = self.send(LaneKind::Requests, n, target, &request) {
+        if let Err(refused) = self.send(LaneKind::Requests, n, &request) {
             return Err(ApplyFault::Memory(refused));
         }
-        let _asked = self.ask(n, line, kind);
+        let _request = self.nodes[usize::from(n)].ask(line, kind);
         Ok(())
     }
 
-    fn replied(&mut self, n: u8) -> Result<(), ApplyFault>
-        requires { IsWellFormed self.old }
+    /// A node sends the answer that waits: it ends the lane to its target. Unchanged on refusal.
+    fn reply(&mut self, n: u8) -> Result<(), ApplyFault>
+        requires well { IsWellFormed self.old }
+        requires n { n < self.old.size.nodes }
         ensures done { IfOk result (λ _. stepping self.old (event.Reply n) ≡ Some self.new) }
         ensures refused { IfErr result (IsFaultOf (stepping self.old (event.Reply n)) (event.Reply n)) }
         ensures same { IsErr result → self.new ≡ self.old }
     {
-        if n >= self.nodes() {
-            return Err(ApplyFault::NotEnabled);
-        }
         let Some(answer) = self.node(n).waiting().copied() else {
             return Err(ApplyFault::NotEnabled);
         };
-        let target = answer.target.get() as u8;
-        if let Err(refused) = self.send(LaneKind::Answers, n, target, &answer) {
+        if let Err(refused) = self.send(LaneKind::Answers, n, &answer) {
             return Err(ApplyFault::Memory(refused));
         }
-        let _answer = self.take_answer(n);
+        let _answer = self.nodes[usize::from(n)].take_answer();
         Ok(())
     }
 
-    /// The oldest packet of a lane, or None where there is none.
-    fn oldest(&self, kind: LaneKind, from: u8, to: u8) -> Option<Packet>
-        requires from { from < self.now.nodes }
-        requires to { to < self.now.nodes }
-        ensures some { IfSome result (λ packet. slice_get (lane_of self.now kind from to) 0 ≡ Some (letter_of packet)) }
-        ensures none { result ≡ None → slice_get (lane_of self.now kind from to) 0 ≡ None }
+    /// A node takes the oldest packet of a lane to it. False, unchanged, where it can't.
+    fn take(&mut self, taking: Taking, from: u8, n: u8) -> bool
+        requires well { IsWellFormed self.old }
+        requires n { n < self.old.size.nodes }
+        ensures done { IsTrue result → stepping self.old (taking_event taking from n) ≡ Some self.new }
+        ensures not { result ≡ false → stepping self.old (taking_event taking from n) ≡ None }
+        ensures same { result ≡ false → self.new ≡ self.old }
     {
-        self.front(kind, from, to).copied()
-    }
-
-    fn served(&mut self, from: u8, n: u8) -> Result<(), ApplyFault>
-        requires { IsWellFormed self.old }
-        ensures done { IfOk result (λ _. stepping self.old (event.Serve from n) ≡ Some self.new) }
-        ensures refused { IfErr result (IsFaultOf (stepping self.old (event.Serve from n)) (event.Serve from n)) }
-        ensures same { IsErr result → self.new ≡ self.old }
-    {
-        if n >= self.nodes() {
-            return Err(ApplyFault::NotEnabled);
-        }
+        let kind = taking.lane_kind();
         if from >= self.nodes() {
-            return Err(ApplyFault::NotEnabled);
+            return false;
         }
-        let Some(request) = self.oldest(LaneKind::Requests, from, n) else {
-            return Err(ApplyFault::NotEnabled);
+        let Some(packet) = self.front(kind, from, n).copied() else {
+            return false;
         };
-        if !self.serve(n, &request) {
-            return Err(ApplyFault::NotEnabled);
+        if !self.nodes[usize::from(n)].take(taking, &packet) {
+            return false;
         }
-        self.drop_front(LaneKind::Requests, from, n);
-        Ok(())
-    }
-
-    fn refused(&mut self, from: u8, n: u8) -> Result<(), ApplyFault>
-        requires { IsWellFormed self.old }
-        ensures done { IfOk result (λ _. stepping self.old (event.Refuse from n) ≡ Some self.new) }
-        ensures refused { IfErr result (IsFaultOf (stepping self.old (event.Refuse from n)) (event.Refuse from n)) }
-        ensures same { IsErr result → self.new ≡ self.old }
-    {
-        if n >= self.nodes() {
-            return Err(ApplyFault::NotEnabled);
-        }
-        if from >= self.nodes() {
-            return Err(ApplyFault::NotEnabled);
-        }
-        let Some(request) = self.oldest(LaneKind::Requests, from, n) else {
-            return Err(ApplyFault::NotEnabled);
-        };
-        if !self.refuse(n, &request) {
-            return Err(ApplyFault::NotEnabled);
-        }
-        self.drop_front(LaneKind::Requests, from, n);
-        Ok(())
-    }
-
-    fn accepted(&mut self, from: u8, n: u8) -> Result<(), ApplyFault>
-        requires { IsWellFormed self.old }
-        ensures done { IfOk result (λ _. stepping self.old (event.Accept from n) ≡ Some self.new) }
-        ensures refused { IfErr result (IsFaultOf (stepping self.old (event.Accept from n)) (event.Accept from n)) }
-        ensures same { IsErr result → self.new ≡ self.old }
-    {
-        if n >= self.nodes() {
-            return Err(ApplyFault::NotEnabled);
-        }
-        if from >= self.nodes() {
-            return Err(ApplyFault::NotEnabled);
-        }
-        let Some(answer) = self.oldest(LaneKind::Answers, from, n) else {
-            return Err(ApplyFault::NotEnabled);
-        };
-        if !self.accept(n, &answer) {
-            return Err(ApplyFault::NotEnabled);
-        }
-        self.drop_front(LaneKind::Answers, from, n);
-        Ok(())
+        self.drop_front(kind, from, n);
+        true
     }
 }

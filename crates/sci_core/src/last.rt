@@ -135,8 +135,8 @@ impl State {
     /// caller sees to it that there are such a node and such a line.
     fn authority(&self, line: u8, n: u8) -> Option<Stamped>
         requires well { IsWellFormed self.now }
-        requires n { n < self.now.nodes }
-        requires line { line < self.now.lines }
+        requires n { n < self.now.size.nodes }
+        requires line { line < self.now.size.lines }
         ensures { result ≡ authority_contents (sharer_of self.now line n) }
     {
         let answer = self.answer_to(n, line);
@@ -147,7 +147,7 @@ impl State {
     /// is such a line.
     fn home_contents(&self, line: u8) -> Option<Stamped>
         requires well { IsWellFormed self.now }
-        requires line { line < self.now.lines }
+        requires line { line < self.now.size.lines }
         ensures { result ≡ current_of (home_at self.now line) }
     {
         match self.node(line % self.nodes()).home(line) {
@@ -160,7 +160,7 @@ impl State {
     /// caller sees to it that there is such a line.
     pub(crate) fn last_at(&self, line: u8) -> Stamped
         requires well { IsWellFormed self.now }
-        requires line { line < self.now.lines }
+        requires line { line < self.now.size.lines }
         ensures { result ≡ last_at_of self.now line }
     {
         if let Some(contents) = self.home_contents(line) {

@@ -10,7 +10,8 @@ ghost use Rattle.sci_core.specs.Core.{Core, run, step};
 ghost use Rattle.sci_core.specs.Coherent.{IsCoherent};
 ghost use Rattle.sci_core.specs.Done.{LastChanges, done, made_by};
 ghost use Rattle.sci_core.specs.Outcome.{logs_of};
-ghost use Rattle.sci_core.specs.Reached.{AreSizes, IsReached};
+ghost use Rattle.sci_core.specs.Size.{Size, IsSize};
+ghost use Rattle.sci_core.specs.Reached.{IsReached};
 ghost use Rattle.sci_core.specs.WellFormed.{IsWellFormed};
 ghost use Rattle.sci_core.specs.Shape.{HasShapes};
 ghost use Rattle.sci_core.specs.Sharing.{last_at, last_of};
@@ -19,7 +20,7 @@ ghost use Rattle.sci_core.specs.Alternates.{Alternates};
 
 /// Every state that a schedule leads to is reached, and no other is.
 pub fn schedules_reach()
-    ensures { (nodes lines slots limit : ℕ) (schedule : List Event) → AreSizes nodes lines slots limit → IsReached (run nodes lines slots limit schedule) }
+    ensures { (size : Size) (schedule : List Event) → IsSize size → IsReached (run size schedule) }
 {}
 
 /// In every reached state each packet is between two nodes of the machine, about one of its lines, in the lane of
@@ -59,8 +60,8 @@ pub fn operations_take_effect()
 /// The entries that a schedule makes on a line are, in its order, the line's history from zero words to its last
 /// contents: a run of one memory of one thread.
 pub fn schedules_are_histories()
-    ensures { (nodes lines slots limit : ℕ) (schedule : List Event) (line : ℕ) → AreSizes nodes lines slots limit → line < lines →
-        IsHistory (filter (is_on_line line) (done nodes lines slots limit schedule)) zero_stamped (last_at (run nodes lines slots limit schedule) line) }
+    ensures { (size : Size) (schedule : List Event) (line : ℕ) → IsSize size → line < size.lines →
+        IsHistory (filter (is_on_line line) (done size schedule)) zero_stamped (last_at (run size schedule) line) }
 {}
 
 /// The logs of every reached state are lawful with its last contents: placed by version, the operations logged on a
@@ -79,5 +80,5 @@ pub fn reached_states_are_coherent()
 /// an ask and its answer exactly one Serve or Refuse takes the request; and all three have one control number. So
 /// no transaction is answered twice.
 pub fn transactions_alternate()
-    ensures { (nodes lines slots limit : ℕ) (schedule : List Event) (n line : ℕ) → AreSizes nodes lines slots limit → n < nodes → line < lines → Alternates nodes lines slots limit schedule n line }
+    ensures { (size : Size) (schedule : List Event) (n line : ℕ) → IsSize size → n < size.nodes → line < size.lines → Alternates size schedule n line }
 {}

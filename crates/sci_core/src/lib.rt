@@ -12,6 +12,7 @@ mod node;
 mod outcome;
 mod pending;
 mod state;
+mod taking;
 
 pub use fault::ApplyFault;
 pub use lane::LaneKind;

@@ -35,6 +35,7 @@ impl Machine {
     ghost use Rattle.sci_cache.specs.Cache.{letter_of};
     ghost use Rattle.sci_core.specs.Core.{lane_of, node_at, opening, stepping, run_from};
     ghost use Rattle.sci_core.specs.Fault.{IsFaultOf};
+    ghost use Rattle.sci_core.specs.Size.{size_of};
     ghost use Rattle.sci_core.specs.Reached.{IsReached};
     ghost use Rattle.sci_core.specs.Stopped.{IsStoppedAt};
     ghost use Rattle.sci_core.specs.Coherent.{IsCoherent};
@@ -50,7 +51,7 @@ impl Machine {
     pub fn new(alloc: Global, extent: Extent, limit: u32) -> Result<Machine, AllocError>
         requires some { 1 ≤ limit }
         requires few { limit ≤ MAX_OPERATIONS }
-        ensures opening { IfOk result (λ machine. machine ≡ opening extent.nodes extent.lines extent.slots limit) }
+        ensures opening { IfOk result (λ machine. machine ≡ opening (size_of extent limit)) }
         ensures reached { IfOk result IsReached }
         ensures coherent { IfOk result IsCoherent }
     {
@@ -91,7 +92,7 @@ impl Machine {
 
     /// A node. The caller sees to it that there is such a node.
     pub fn node(&self, n: u8) -> &Node
-        requires { n < self.now.nodes }
+        requires { n < self.now.size.nodes }
         ensures node { result.now ≡ node_at self.now n }
         ensures reached { IsReached self.now }
     {
@@ -100,8 +101,8 @@ impl Machine {
 
     /// The oldest packet of a lane, or None where it has none. The caller sees to it that there are such nodes.
     pub fn front(&self, kind: LaneKind, from: u8, to: u8) -> Option<&Packet>
-        requires from { from < self.now.nodes }
-        requires to { to < self.now.nodes }
+        requires from { from < self.now.size.nodes }
+        requires to { to < self.now.size.nodes }
         ensures front { option_map letter_of (option_copied result) ≡ slice_get (lane_of self.now kind from to) 0 }
     {
         self.state.front(kind, from, to)
@@ -109,8 +110,8 @@ impl Machine {
 
     /// How many packets a lane has. The caller sees to it that there are such nodes.
     pub fn count(&self, kind: LaneKind, from: u8, to: u8) -> usize
-        requires from { from < self.now.nodes }
-        requires to { to < self.now.nodes }
+        requires from { from < self.now.size.nodes }
+        requires to { to < self.now.size.nodes }
         ensures { result ≡ length (lane_of self.now kind from to) }
     {
         self.state.count(kind, from, to)
@@ -120,7 +121,7 @@ impl Machine {
     /// them lawful. Refused where memory is.
     pub fn logs(&self, alloc: Global) -> Result<Logs, AllocError>
         ensures logs { IfOk result (λ logs. logs ≡ logs_of self.now) }
-        ensures within { IfOk result (AreWithin self.now.lines) }
+        ensures within { IfOk result (AreWithin self.now.size.lines) }
         ensures lawful { IfOk result (λ logs. Lawful logs (last_of self.now)) }
         ensures reached { IsReached self.now }
     {
@@ -135,7 +136,7 @@ impl Machine {
     /// node that may change the line or is about to. The logs are lawful with them.
     pub fn last(&self) -> Last
         ensures last { result ≡ last_of self.now }
-        ensures lines { length result ≡ self.now.lines }
+        ensures lines { length result ≡ self.now.size.lines }
         ensures lawful { Lawful (logs_of self.now) result }
         ensures reached { IsReached self.now }
     {

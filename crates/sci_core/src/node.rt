@@ -4,6 +4,7 @@ ghost use Rattle.std.specs.Prelude.{◌≡◌};
 ghost use Rattle.sci_home.specs.Serving.{is_for_home as is_for_home_of};
 
 use crate::pending::Pending;
+use crate::taking::Taking;
 use sci_cache::{Cache, Held};
 use sci_history::Entry;
 use sci_home::Home;
@@ -53,6 +54,8 @@ fn is_for_home(request: &Body) -> bool
 impl Node {
     ghost use Rattle.std.specs.Prelude.{◌≡◌, ◌≢◌, ◌<◌, ◌≤◌, ◌%◌, length, Some, None, Ok, Err, true, false, IfOk, IfSome, IsErr, MatchOption, MatchBool, is_some, IsTrue, option_map, option_copied};
     ghost use Rattle.sci_words.specs.declared.limits.TheConstants.{MAX_OPERATIONS};
+    ghost use Rattle.sci_core.specs.Size.{size_of};
+    ghost use Rattle.sci_core.specs.Taking.{IsTakable, node_taking};
     ghost use Rattle.sci_home.specs.Serving.{is_for_home, IsForHome};
     ghost use Rattle.sci_cache.specs.Held.{state_of};
     ghost use Rattle.sci_cache.specs.Cache.{letter_of, line_of};
@@ -65,7 +68,7 @@ impl Node {
         requires me { me < extent.nodes }
         requires some { 1 ≤ limit }
         requires few { limit ≤ MAX_OPERATIONS }
-        ensures { IfOk result (λ node. node ≡ opening_node me extent.nodes extent.lines extent.slots limit) }
+        ensures { IfOk result (λ node. node ≡ opening_node me (size_of extent limit)) }
     {
         let homes_here = extent.lines / extent.nodes + 1;
         let mut homes = Vec::with_capacity(alloc, usize::from(homes_here))?;
@@ -245,6 +248,20 @@ impl Node {
         match self.cache.accept(answer) {
             Ok(()) => true,
             Err(_) => false,
+        }
+    }
+
+    /// Serves, refuses or accepts a packet. False, unchanged, where it can't.
+    pub(crate) fn take(&mut self, taking: Taking, packet: &Packet) -> bool
+        requires { IsTakable taking self.old (letter_of packet.now) }
+        ensures taken { IsTrue result → node_taking taking self.old (letter_of packet.now) ≡ Some self.new }
+        ensures not { result ≡ false → node_taking taking self.old (letter_of packet.now) ≡ None }
+        ensures same { result ≡ false → self.new ≡ self.old }
+    {
+        match taking {
+            Taking::Serve => self.serve(packet),
+            Taking::Refuse => self.refuse(packet),
+            Taking::Accept => self.accept(packet),
         }
     }
 

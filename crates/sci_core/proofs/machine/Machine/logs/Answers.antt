@@ -45,5 +45,5 @@ returns-clause-within c =
     let well = reached_well core c.self.invariant in
     let long = well.parts_long in
     let all = all_logs core c.loop-n.logs c.loop-n.n (omega arith) c.loop-n.invariant.0 c.loop-n.invariant.1 in
-    let within = subst (AreWithin core.lines) (sym all) (reached_within core c.self.invariant) in
-    subst (λ (k : Core). AreWithin k.lines c.loop-n.logs) c.self.view_is within
+    let within = subst (AreWithin core.size.lines) (sym all) (reached_within core c.self.invariant) in
+    subst (λ (k : Core). AreWithin k.size.lines c.loop-n.logs) c.self.view_is within

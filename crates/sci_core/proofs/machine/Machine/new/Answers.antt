@@ -2,15 +2,15 @@
 use Rattle.std.proofs.Common.{[], sym, subst}
 use Rattle.sci_core.specs.Coherent.{IsCoherent}
 use Rattle.sci_core.specs.Core.{opening}
-use Rattle.sci_core.specs.Reached.{AreSizes}
 use Rattle.sci_core.proofs.TidyRuns.{run_reached}
 use Rattle.sci_core.proofs.ReachedLaws.{reached_coherent}
 use Rattle.sci_core.proofs.machine.Machine.new.Goals as goal
+use Rattle.sci_core.specs.Size.{IsSize, size_of}
 
 pub returns-clause-coherent : goal.returns-clause-coherent
 returns-clause-coherent c =
     let extent = c.args.extent in
-    let sizes : AreSizes extent.nodes extent.lines extent.slots c.args.limit = record {
+    let sizes : IsSize (size_of extent c.args.limit) = record {
       extent = record {
         has_node = extent.has_node;
         few_nodes = extent.few_nodes;
@@ -22,5 +22,5 @@ returns-clause-coherent c =
       some_operation = c.requires.some;
       few_operations = c.requires.few;
     } in
-    let opening_coherent = reached_coherent (opening extent.nodes extent.lines extent.slots c.args.limit) (run_reached extent.nodes extent.lines extent.slots c.args.limit [] sizes) in
+    let opening_coherent = reached_coherent (opening (size_of extent c.args.limit)) (run_reached (size_of extent c.args.limit) [] sizes) in
     subst IsCoherent (sym c.in_ok-new.ensures) opening_coherent

@@ -1,20 +1,28 @@
--- The node's call, told of the whole state.
-use Rattle.std.proofs.Common.{◌≡◌, ℕ, ◌<◌, Some, length, set, ap, subst, arith}
-use Rattle.std.specs.Prelude.{IfSome}
-use Rattle.sci_core.specs.Node.{NodeOf, node_issuing}
-use Rattle.sci_core.specs.Core.{Core}
+-- The node's call is the step.
+use Rattle.std.proofs.Common.{◌≡◌, ◌<◌, None, Some, length, set, sym, ap, subst, ◌∙◌, arith}
+use Rattle.std.proofs.lemmas.Option.{IfSome_then}
+use Rattle.sci_words.specs.declared.event.Event.TheVariants as event
+use Rattle.sci_core.specs.Core.{Core, changes, stepping}
 use Rattle.sci_core.specs.contracts.state.State.{the_view}
-use Rattle.sci_core.proofs.States.{Gives, gives_some}
+use Rattle.sci_core.proofs.States.{changed_by, idle_by}
 use Rattle.sci_core.proofs.state.State.issue.Goals as goal
 
 pub returns-clause-done : goal.returns-clause-done
-returns-clause-done c =
-    let side : NodeOf → ℕ → NodeOf → Type 0 = λ old x next. node_issuing old c.args.op ≡ Some next in
+returns-clause-done c = λ some.
     let long = c.self.invariant.parts_long in
-    let view = ap (λ (core : Core). core.nodes) c.self.view_is in
+    let view = ap (λ (core : Core). core.size.nodes) c.self.view_is in
     let given = c.requires in
-    let below : c.args.n < length c.self.inside.nodes.items = omega arith in
     let core = the_view c.self.inside in
     let after : Core = record core { parts = set core.parts c.from.result c.issue.new.self } in
-    subst (λ (k : Core). IfSome c.issue.result (Gives side k after c.args.n)) c.self.view_is
-    (gives_some side core c.from.result c.args.n c.index_mut.result.now c.issue.new.self c.issue.result c.from.ensures below c.index_mut.ensures.value c.issue.ensures.issued)
+    subst (λ (k : Core). stepping k (event.Issue c.args.n c.args.op) ≡ Some after) c.self.view_is
+    (changed_by core (event.Issue c.args.n c.args.op) c.from.result c.index_mut.result.now c.issue.new.self c.issue.result c.from.ensures (omega arith) (omega arith) c.index_mut.ensures.value
+    (IfSome_then c.issue.result c.issue.ensures.issued (λ x e. ap changes e)) (sym c.is_some.ensures ∙ some))
+
+pub returns-clause-not : goal.returns-clause-not
+returns-clause-not c = λ none.
+    let long = c.self.invariant.parts_long in
+    let view = ap (λ (core : Core). core.size.nodes) c.self.view_is in
+    let given = c.requires in
+    let core = the_view c.self.inside in
+    subst (λ (k : Core). stepping k (event.Issue c.args.n c.args.op) ≡ None) c.self.view_is
+    (idle_by core (event.Issue c.args.n c.args.op) c.from.result c.index_mut.result.now c.issue.result c.from.ensures (omega arith) (omega arith) c.index_mut.ensures.value (λ e. ap changes (c.issue.ensures.none e)) (sym c.is_some.ensures ∙ none))

@@ -5,11 +5,12 @@ use Rattle.std.proofs.lemmas.List.{length-replicate}
 use Rattle.std.proofs.lemmas.List.FromFn.{map-range_with_len_more, length-map-range_with_len}
 use Rattle.sci_core.specs.Node.{NodeOf, opening_node}
 use Rattle.sci_core.proofs.state.State.new.Goals as goal
+use Rattle.sci_core.specs.Size.{size_of}
 
 pub loop-me-preserved : goal.loop-me-preserved
 loop-me-preserved c =
     let extent = c.args.extent in
-    let f : ℕ → NodeOf = λ n. opening_node n extent.nodes extent.lines extent.slots c.args.limit in
+    let f : ℕ → NodeOf = λ n. opening_node n (size_of extent c.args.limit) in
     let more = map-range_with_len_more f 0 c.loop-me.me c.loop-me.me (omega arith) in
     let pushed = ap (λ (xs : List NodeOf). xs ++ c.in_ok-new.field-0 ∷ []) c.loop-me.invariant in
     let node = ap (λ (x : NodeOf). map f (range_with_len 0 c.loop-me.me) ++ x ∷ []) c.in_ok-new.ensures in
@@ -19,7 +20,7 @@ pub invariant_of-result : goal.invariant_of-result
 invariant_of-result c =
     let extent = c.args.extent in
     let some = extent.has_node in
-    let f : ℕ → NodeOf = λ n. opening_node n extent.nodes extent.lines extent.slots c.args.limit in
+    let f : ℕ → NodeOf = λ n. opening_node n (size_of extent c.args.limit) in
     let product : 2 * c.from-2.result * c.from-3.result ≡ 2 * extent.nodes * extent.nodes = rw (c.from-2.ensures, c.from-3.ensures) refl in
     record {
       some_node = omega arith;

@@ -1,21 +1,28 @@
--- The node's call, told of the whole state.
-use Rattle.std.proofs.Common.{◌≡◌, ◌<◌, Some, length, set, ap, subst, arith}
-use Rattle.std.specs.Prelude.{IfSome}
-use Rattle.sci_history.specs.declared.entry.Entry.{Entry}
-use Rattle.sci_core.specs.Node.{NodeOf, node_performing}
-use Rattle.sci_core.specs.Core.{Core}
+-- The node's call is the step.
+use Rattle.std.proofs.Common.{◌≡◌, ◌<◌, None, Some, length, set, sym, ap, subst, ◌∙◌, arith}
+use Rattle.std.proofs.lemmas.Option.{IfSome_then}
+use Rattle.sci_words.specs.declared.event.Event.TheVariants as event
+use Rattle.sci_core.specs.Core.{Core, performs, stepping}
 use Rattle.sci_core.specs.contracts.state.State.{the_view}
-use Rattle.sci_core.proofs.States.{Gives, gives_some}
+use Rattle.sci_core.proofs.States.{changed_by, idle_by}
 use Rattle.sci_core.proofs.state.State.perform.Goals as goal
 
 pub returns-clause-done : goal.returns-clause-done
-returns-clause-done c =
-    let side : NodeOf → Entry → NodeOf → Type 0 = λ old x next. node_performing old c.args.line ≡ Some (next, x) in
+returns-clause-done c = λ some.
     let long = c.self.invariant.parts_long in
-    let view = ap (λ (core : Core). core.nodes) c.self.view_is in
+    let view = ap (λ (core : Core). core.size.nodes) c.self.view_is in
     let given = c.requires in
-    let below : c.args.n < length c.self.inside.nodes.items = omega arith in
     let core = the_view c.self.inside in
     let after : Core = record core { parts = set core.parts c.from.result c.perform.new.self } in
-    subst (λ (k : Core). IfSome c.perform.result (Gives side k after c.args.n)) c.self.view_is
-    (gives_some side core c.from.result c.args.n c.index_mut.result.now c.perform.new.self c.perform.result c.from.ensures below c.index_mut.ensures.value c.perform.ensures.performed)
+    subst (λ (k : Core). stepping k (event.Perform c.args.n c.args.line) ≡ Some after) c.self.view_is
+    (changed_by core (event.Perform c.args.n c.args.line) c.from.result c.index_mut.result.now c.perform.new.self c.perform.result c.from.ensures (omega arith) (omega arith) c.index_mut.ensures.value
+    (IfSome_then c.perform.result c.perform.ensures.performed (λ x e. ap performs e)) (sym c.is_some.ensures ∙ some))
+
+pub returns-clause-not : goal.returns-clause-not
+returns-clause-not c = λ none.
+    let long = c.self.invariant.parts_long in
+    let view = ap (λ (core : Core). core.size.nodes) c.self.view_is in
+    let given = c.requires in
+    let core = the_view c.self.inside in
+    subst (λ (k : Core). stepping k (event.Perform c.args.n c.args.line) ≡ None) c.self.view_is
+    (idle_by core (event.Perform c.args.n c.args.line) c.from.result c.index_mut.result.now c.perform.result c.from.ensures (omega arith) (omega arith) c.index_mut.ensures.value (λ e. ap performs (c.perform.ensures.none e)) (sym c.is_some.ensures ∙ none))
