@@ -18,11 +18,11 @@ use Rattle.sci_core.proofs.Stepping.{stepping_sent}
 
 -- ---- packets that come
 
-front_holds : (P : Letter → Type 0) (lane : List Letter) (letter : Letter) → slice_get lane 0 ≡ Some letter → All P lane → P letter
+pub front_holds : (P : Letter → Type 0) (lane : List Letter) (letter : Letter) → slice_get lane 0 ≡ Some letter → All P lane → P letter
 front_holds P [] letter e all = cc
 front_holds P (first ∷ rest) letter e all = let same : first ≡ letter = cc in subst P same (All-head P first rest all)
 
-front_comes : (core : Core) (from n : ℕ) (kind : LaneKind) (letter : Letter) → IsWellFormed core → from < core.size.nodes → n < core.size.nodes → slice_get (lane_of core kind from n) 0 ≡ Some letter → Comes core n kind letter
+pub front_comes : (core : Core) (from n : ℕ) (kind : LaneKind) (letter : Letter) → IsWellFormed core → from < core.size.nodes → n < core.size.nodes → slice_get (lane_of core kind from n) 0 ≡ Some letter → Comes core n kind letter
 front_comes core from n kind letter well f lt front =
     comes_from_lane core from n kind letter f lt (front_holds (IsInLane core.size.nodes core.size.lines (lane_place core.size.nodes kind from n)) (lane_of core kind from n) letter front (well.each_lane (lane_place core.size.nodes kind from n)))
 

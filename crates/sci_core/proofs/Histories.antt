@@ -1,6 +1,6 @@
 -- The entries of a schedule on a line are the line's history, and the nodes' logs are theirs.
 use Rattle.std.proofs.Common.{◌≡◌, ℕ, ◌<◌, List, [], ◌∷◌, ◌++◌, length, filter, append_assoc, Option, Some, None, refl, sym, ap, subst, ◌∙◌, inl, inr}
-use Rattle.std.specs.Prelude.{IfSome, unwrap_or, option_to_list}
+use Rattle.std.specs.Prelude.{IsTrue, IfSome, unwrap_or, option_to_list}
 use Rattle.std.proofs.lemmas.Option.{IfSome_then}
 use Rattle.std.specs.List.{AllByRecursion}
 use Rattle.std.proofs.lemmas.Bool.{cases_eq, eq-eqb, ne_eqb}
@@ -29,6 +29,7 @@ use Rattle.sci_core.proofs.Works.{SameWork, HasSerials, same_serials, issue_seri
 use Rattle.sci_core.proofs.ShapeSteps.{ShapedAt}
 use Rattle.sci_core.proofs.ShapeRuns.{step_follows, pending_known}
 use Rattle.sci_core.specs.Size.{Size}
+use Rattle.sci_words.specs.Operation.{has_words}
 
 -- ---- a line's history
 
@@ -57,11 +58,15 @@ run_follows core (e ∷ events) well tidy line inside c shaped =
 
 -- ---- logs
 
+-- an entry is on a word of the machine, and its operands are words
+abbrev pub IsKnown : ℕ → Entry → Type 0
+IsKnown lines entry = IsWithin lines entry × IsTrue (has_words entry.op.act)
+
 -- what a step adds to the logs, whose serials rise
 pub record Logged (core : Core) (made : Option Entry) (new : Core) : Type 0 where
   pub serials : ((n : ℕ) → HasSerials (node_at core n)) → (n : ℕ) → HasSerials (node_at new n)
   pub logs : (n : ℕ) → (node_at new n).log ≡ (node_at core n).log ++ filter (is_of_node n) (option_to_list made)
-  pub within : IfSome made (λ entry. (entry.node < core.size.nodes) × IsWithin core.size.lines entry)
+  pub within : IfSome made (λ entry. (entry.node < core.size.nodes) × IsKnown core.size.lines entry)
 
 node_serials : (core : Core) (n : ℕ) (next : NodeOf) → (((j : ℕ) → HasSerials (node_at core j)) → HasSerials next) → ((j : ℕ) → HasSerials (node_at core j)) → (j : ℕ) → HasSerials (node_at (with_node core n next) j)
 node_serials core n next h all = at_place_set (λ (j : ℕ) (part : NodeOf). HasSerials part) core.parts n next no_node all (h all)
@@ -77,7 +82,7 @@ none_logged core n next made none log serials =
 same_logged : (core : Core) (n : ℕ) (next : NodeOf) (made : Option Entry) → made ≡ None → SameWork (node_at core n) next → Logged core made (with_node core n next)
 same_logged core n next made none same = none_logged core n next made none same.log (λ all. same_serials (node_at core n) next same (all n))
 
-some_logged : (core : Core) (n : ℕ) (next : NodeOf) (entry : Entry) → n < length core.parts → n < core.size.nodes → entry.node ≡ n → IsWithin core.size.lines entry → next.log ≡ (node_at core n).log ++ entry ∷ [] → (((j : ℕ) → HasSerials (node_at core j)) → HasSerials next) → Logged core (Some entry) (with_node core n next)
+some_logged : (core : Core) (n : ℕ) (next : NodeOf) (entry : Entry) → n < length core.parts → n < core.size.nodes → entry.node ≡ n → IsKnown core.size.lines entry → next.log ≡ (node_at core n).log ++ entry ∷ [] → (((j : ℕ) → HasSerials (node_at core j)) → HasSerials next) → Logged core (Some entry) (with_node core n next)
 some_logged core n next entry below lt own known log serials = record {
   serials = node_serials core n next serials;
   logs = λ j. elim (cases_eq j n) [
@@ -102,7 +107,8 @@ stepped_logged core new e made well (By_perform n line done lt is then_ some) =
     let part = node_at core n in
     let does = of_some (PerformedAs part line) (node_performing part line) done is (perform_as part line) in
     let own = perform_owns part line done does ∙ (well.each_part n lt).me in
-    let known = subst (IsWithin core.size.lines) does.entry (pending_known core n line done does lt well, (of_some (IsPendingOn part.issued line) (pending_on part line) does.pending does.here ((well.each_part n lt).fits.each line)).word) in
+    let pends = of_some (IsPendingOn part.issued line) (pending_on part line) does.pending does.here ((well.each_part n lt).fits.each line) in
+    let known = subst (IsKnown core.size.lines) does.entry ((pending_known core n line done does lt well, pends.word), pends.words) in
     let logged = some_logged core n done.0 done.1 (node_below core n well lt) lt own known (perform_logs part line done does) (λ all. perform_serials part line done does (well.each_part n lt).fits (all n)) in
     subst (Logged core made) then_ (subst (λ (m : Option Entry). Logged core m (with_node core n done.0)) (sym some) logged)
 stepped_logged core new e made well (By_ask n line kind sent is sends_well s none) =
@@ -147,24 +153,23 @@ pub record RunLogged (core : Core) (done : List Entry) (new : Core) : Type 0 whe
   pub serials : (n : ℕ) → HasSerials (node_at new n)
   pub logs : (n : ℕ) → (node_at new n).log ≡ (node_at core n).log ++ filter (is_of_node n) done
   pub nodes : AllByRecursion (λ entry. entry.node < core.size.nodes) done
-  pub lines : AllByRecursion (IsWithin core.size.lines) done
+  pub known : AllByRecursion (IsKnown core.size.lines) done
 
 one_within : (made : Option Entry) (P : Entry → Type 0) (rest : List Entry) → IfSome made P → AllByRecursion P rest → AllByRecursion P (option_to_list made ++ rest)
 one_within None P rest h all = all
 one_within (Some entry) P rest h all = (h, all)
 
 pub run_logged : (core : Core) (events : List Event) → IsWellFormed core → ((n : ℕ) → HasSerials (node_at core n)) → RunLogged core (done_from core events) (run_from core events)
-run_logged core [] well serials = record { serials = serials; logs = λ n. sym (append-nil (node_at core n).log); nodes = tt; lines = tt }
+run_logged core [] well serials = record { serials = serials; logs = λ n. sym (append-nil (node_at core n).log); nodes = tt; known = tt }
 run_logged core (e ∷ events) well serials =
     let next = step_well core e well in
     let one = step_logged core e well in
     let rest = run_logged (step core e) events next.well (one.serials serials) in
     let made = made_by core e in
     let more = done_from (step core e) events in
-    let Both = λ (entry : Entry). (entry.node < core.size.nodes) × IsWithin core.size.lines entry in
     record {
       serials = rest.serials;
       logs = λ n. rest.logs n ∙ (ap (λ (log : List Entry). log ++ filter (is_of_node n) more) (one.logs n) ∙ (append_assoc (node_at core n).log (filter (is_of_node n) (option_to_list made)) (filter (is_of_node n) more) ∙ ap (λ (es : List Entry). (node_at core n).log ++ es) (sym (filter-append (is_of_node n) (option_to_list made) more))));
       nodes = one_within made (λ entry. entry.node < core.size.nodes) more (IfSome_then made one.within (λ entry h. h.0)) (subst (λ (size : Size). AllByRecursion (λ (entry : Entry). entry.node < size.nodes) more) next.same rest.nodes);
-      lines = one_within made (IsWithin core.size.lines) more (IfSome_then made one.within (λ entry h. h.1)) (subst (λ (size : Size). AllByRecursion (IsWithin size.lines) more) next.same rest.lines);
+      known = one_within made (IsKnown core.size.lines) more (IfSome_then made one.within (λ entry h. h.1)) (subst (λ (size : Size). AllByRecursion (IsKnown size.lines) more) next.same rest.known);
     }

@@ -40,3 +40,5 @@ pub mod Histories
 pub mod ShapeClauses
 pub mod ReachedLaws
 pub mod Operations
+pub mod Sides
+pub mod Enabled

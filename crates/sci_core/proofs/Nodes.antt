@@ -13,12 +13,13 @@ use Rattle.std.proofs.lemmas.Nat.{le-div}
 use Rattle.std.proofs.Math.Nat.{div-mul-le_self}
 use Rattle.sci_words.specs.declared.extent.Extent.{Extent}
 use Rattle.sci_words.specs.declared.operation.Op.{Op}
+use Rattle.sci_words.specs.Operation.{has_words}
 use Rattle.sci_words.specs.declared.limits.TheConstants.{MAX_OPERATIONS, WORDS_PER_LINE}
 use Rattle.sci_history.specs.declared.entry.Entry.{Entry}
 use Rattle.sci_home.specs.declared.state.HomeState.{HomeState}
 use Rattle.sci_cache.specs.Cache.{CacheOf, Letter}
 use Rattle.sci_core.specs.declared.pending.Pending.{Pending}
-use Rattle.sci_core.specs.Node.{NodeOf, IsNode, IsPendingOn, pending_on, lines_of, may_issue, node_issued, opening_node}
+use Rattle.sci_core.specs.Node.{NodeOf, IsNode, IsPendingOn, pending_on, lines_of, is_in_range, may_issue, node_issued, opening_node}
 use Rattle.sci_core.specs.Inside.{FitsInside}
 use Rattle.sci_core.proofs.Caches.{SameSizes}
 use Rattle.sci_core.specs.Size.{Size}
@@ -107,7 +108,7 @@ home_below node line below is =
 
 weaker_serial : (issued line : ℕ) (pending : Option Pending) → IfSome pending (IsPendingOn issued line) → IfSome pending (IsPendingOn (issued + 1) line)
 weaker_serial issued line None h = tt
-weaker_serial issued line (Some p) h = let serial = h.serial in record { here = h.here; word = h.word; serial = omega arith }
+weaker_serial issued line (Some p) h = let serial = h.serial in record { here = h.here; word = h.word; words = h.words; serial = omega arith }
 
 count_with : (pending : List (Option Pending)) (line : ℕ) (p : Pending) → line < length pending → is_none (get_or pending line None) ≡ true → count_by is_some (set pending line (Some p)) ≡ count_by is_some pending + 1
 count_with pending line p below none =
@@ -118,8 +119,8 @@ count_with pending line p below none =
 -- an operation is issued: it is pending, with the next serial
 pub node_with_issue : (node : NodeOf) (op : Op) → may_issue node op ≡ true → IsNode node → IsNode (node_issued node op)
 node_with_issue node op may is =
-    let parts = and_parts (nat_lt op.line (lines_of node) && nat_lt op.word WORDS_PER_LINE) (is_none (pending_on node op.line) && nat_lt node.issued node.limit) may in
-    let ranges = and_parts (nat_lt op.line (lines_of node)) (nat_lt op.word WORDS_PER_LINE) parts.0 in
+    let parts = and_parts (is_in_range node op) (is_none (pending_on node op.line) && nat_lt node.issued node.limit) may in
+    let ranges = and_parts (nat_lt op.line (lines_of node)) (nat_lt op.word WORDS_PER_LINE) (and_parts (nat_lt op.line (lines_of node) && nat_lt op.word WORDS_PER_LINE) (has_words op.act) parts.0).0 in
     let room = and_parts (is_none (pending_on node op.line)) (nat_lt node.issued node.limit) parts.1 in
     let line = ltb-true op.line (lines_of node) ranges.0 in
     let word = ltb-true op.word WORDS_PER_LINE ranges.1 in
@@ -136,7 +137,7 @@ node_with_issue node op may is =
       each = λ l. elim (cases_eq l op.line) [
         | inl here ↦
             let at : get_or (set node.pending op.line (Some new)) l None ≡ Some new = ap (λ (k : ℕ). get_or (set node.pending op.line (Some new)) k None) here ∙ get_or-set_same node.pending op.line (Some new) None below in
-            subst (λ (o : Option Pending). IfSome o (IsPendingOn (node.issued + 1) l)) (sym at) (record { here = sym here; word = word; serial = omega arith })
+            subst (λ (o : Option Pending). IfSome o (IsPendingOn (node.issued + 1) l)) (sym at) (record { here = sym here; word = word; words = (and_parts (nat_lt op.line (lines_of node) && nat_lt op.word WORDS_PER_LINE) (has_words op.act) parts.0).1; serial = omega arith })
         | inr other ↦ subst (λ (o : Option Pending). IfSome o (IsPendingOn (node.issued + 1) l)) (sym (get_or-set_other node.pending op.line l (Some new) None other)) (weaker_serial node.issued l (pending_on node l) (is.each l))
       ];
       logged = omega arith;

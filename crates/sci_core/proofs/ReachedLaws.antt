@@ -35,7 +35,7 @@ use Rattle.sci_core.proofs.ShapeSteps.{ShapedAt}
 use Rattle.sci_core.proofs.ShapeRuns.{each_mapped, opening_shaped, step_follows}
 use Rattle.sci_core.proofs.ShapeClauses.{last_is, shape_of}
 use Rattle.sci_core.proofs.Works.{HasSerials, opening_serials}
-use Rattle.sci_core.proofs.Histories.{run_follows, RunLogged, run_logged}
+use Rattle.sci_core.proofs.Histories.{run_follows, RunLogged, run_logged, IsKnown}
 use Rattle.sci_core.specs.Size.{Size}
 use Rattle.sci_core.specs.Size.{IsSize}
 
@@ -139,7 +139,7 @@ line_history core reached line =
           let history = subst (λ (x : Core). IsHistory (filter (is_on_line line) entries) zero_stamped (last_at x line)) reached.leads (schedule_history core.size reached.schedule line reached.size inside) in
           subst (IsHistory (filter (is_on_line line) entries) zero_stamped) (sym (last_within core line inside)) history
       | inr past ↦
-          subst (λ (es : List Entry). IsHistory es zero_stamped (stamped_at (last_of core) line)) (sym (beyond_none core.size.lines line entries past (all_weaker (IsWithin core.size.lines) (λ entry. entry.op.line < core.size.lines) (λ entry h. h.0) entries (reached_logged core reached).lines))) (last_beyond core line past)
+          subst (λ (es : List Entry). IsHistory es zero_stamped (stamped_at (last_of core) line)) (sym (beyond_none core.size.lines line entries past (all_weaker (IsKnown core.size.lines) (λ entry. entry.op.line < core.size.lines) (λ entry h. h.0.0) entries (reached_logged core reached).known))) (last_beyond core line past)
     ]
 
 line_logged : (core : Core) (reached : IsReached core) (line node : ℕ) → node < MAX_NODES
@@ -177,7 +177,7 @@ reached_within core reached node =
     let logged = reached_logged core reached in
     let log : (node_at core node).log ≡ filter (is_of_node node) entries = logged.logs node ∙ ap (λ (es : List Entry). es ++ filter (is_of_node node) entries) (opening_log core.size node) in
     elim (cases_lt node MAX_NODES) [
-      | inl lt ↦ subst (All (IsWithin core.size.lines)) (sym (log_at core node lt ∙ log)) (All-from_recursion (IsWithin core.size.lines) (filter (is_of_node node) entries) (all-filter (IsWithin core.size.lines) (is_of_node node) entries logged.lines))
+      | inl lt ↦ subst (All (IsWithin core.size.lines)) (sym (log_at core node lt ∙ log)) (All-from_recursion (IsWithin core.size.lines) (filter (is_of_node node) entries) (all-filter (IsWithin core.size.lines) (is_of_node node) entries (all_weaker (IsKnown core.size.lines) (IsWithin core.size.lines) (λ entry h. h.0) entries logged.known)))
       | inr past ↦ subst (All (IsWithin core.size.lines)) (sym (log_beyond core node past)) (All-from_recursion (IsWithin core.size.lines) [] tt)
     ]
 

@@ -15,4 +15,6 @@ pub mod SharingList
 pub mod Fresh
 pub mod Done
 pub mod Shape
+pub mod Sides
+pub mod Enabled
 pub mod Coherent

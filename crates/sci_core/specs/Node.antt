@@ -1,10 +1,11 @@
 -- A node's part of the machine, and its side of each event. Each side is a function of the part alone, and of the
 -- packet that it takes; None says that this side is not enabled.
-use Rattle.std.specs.Prelude.{◌≡◌, ℕ, ◌+◌, ◌/◌, ◌%◌, ◌<◌, ◌≤◌, replicate, count_by, IfSome, Bool, true, false, nat_lt, ◌&&◌, if◌then◌else◌, List, [], ◌∷◌, ◌++◌, length, slice_index_or, slice_set, Option, Some, None, is_some, is_none, Result, Ok, Err}
+use Rattle.std.specs.Prelude.{IsTrue, ◌≡◌, ℕ, ◌+◌, ◌/◌, ◌%◌, ◌<◌, ◌≤◌, replicate, count_by, IfSome, Bool, true, false, nat_lt, ◌&&◌, if◌then◌else◌, List, [], ◌∷◌, ◌++◌, length, slice_index_or, slice_set, Option, Some, None, is_some, is_none, Result, Ok, Err}
 use Rattle.sci_words.specs.declared.limits.TheConstants.{WORDS_PER_LINE, MAX_OPERATIONS}
 use Rattle.sci_words.specs.declared.event.AskKind.{AskKind}
 use Rattle.sci_words.specs.declared.operation.Op.{Op}
 use Rattle.sci_words.specs.declared.operation.Reply.{Reply}
+use Rattle.sci_words.specs.Operation.{has_words}
 use Rattle.sci_packets.specs.declared.body.Body.{Body}
 use Rattle.sci_packets.specs.declared.body.Body.TheVariants.{Setback, Busy}
 use Rattle.sci_history.specs.declared.entry.Entry.{Entry}
@@ -45,8 +46,12 @@ pending_on node line = slice_index_or node.pending line None
 
 -- ---- Issue
 
+-- whether the line and the word of an operation are the machine's, and its operands are words
+abbrev pub is_in_range : NodeOf → Op → Bool
+is_in_range node op = (nat_lt op.line (lines_of node) && nat_lt op.word WORDS_PER_LINE) && has_words op.act
+
 abbrev pub may_issue : NodeOf → Op → Bool
-may_issue node op = (nat_lt op.line (lines_of node) && nat_lt op.word WORDS_PER_LINE) && (is_none (pending_on node op.line) && nat_lt node.issued node.limit)
+may_issue node op = is_in_range node op && (is_none (pending_on node op.line) && nat_lt node.issued node.limit)
 
 -- the operation is pending, with the node's next serial
 abbrev pub node_issued : NodeOf → Op → NodeOf
@@ -185,10 +190,11 @@ pub record IsServable (node : NodeOf) (request : Letter) : Type 0 where
   pub asks : IsRequest request.body
   pub home : IsForHome request.body → request.line % node.cache.nodes ≡ node.cache.me
 
--- a pending operation on a line has that line, a word in range, and a serial below the count of issues
+-- a pending operation on a line has that line, a word in range, words for operands, and a serial below the count of issues
 pub record IsPendingOn (issued line : ℕ) (pending : Pending) : Type 0 where
   pub here : pending.op.line ≡ line
   pub word : pending.op.word < WORDS_PER_LINE
+  pub words : IsTrue (has_words pending.op.act)
   pub serial : pending.serial < issued
 
 -- the parts of a node fit together

@@ -7,6 +7,8 @@ ghost use Rattle.sci_history.specs.History.{IsHistory};
 ghost use Rattle.sci_history.specs.Lawful.{Lawful};
 ghost use Rattle.sci_history.specs.Placed.{is_on_line};
 ghost use Rattle.sci_core.specs.Core.{Core, run, step};
+ghost use Rattle.sci_core.specs.Sides.{StepsBySides};
+ghost use Rattle.sci_core.specs.Enabled.{AreServedAt, IsAcceptedAt};
 ghost use Rattle.sci_core.specs.Coherent.{IsCoherent};
 ghost use Rattle.sci_core.specs.Done.{LastChanges, done, made_by};
 ghost use Rattle.sci_core.specs.Outcome.{logs_of};
@@ -39,6 +41,23 @@ pub fn reached_states_are_tidy()
 /// In every reached state no answer is under way that its taker doesn't await.
 pub fn answers_are_accepted()
     ensures { (core : Core) → IsReached core → AreAccepted core }
+{}
+
+/// Each event is its node's side of it together with its one packet: the node changes as its own call says, and the
+/// packet ends a lane or leaves its front. This holds of every state, reached or not.
+pub fn sides_make_steps()
+    ensures { (core : Core) (n : ℕ) → n < core.size.nodes → StepsBySides core n }
+{}
+
+/// In every reached state an answer at the front of a lane is accepted by its taker.
+pub fn front_answers_are_accepted()
+    ensures { (core : Core) (from n : ℕ) → IsReached core → from < core.size.nodes → n < core.size.nodes → IsAcceptedAt core from n }
+{}
+
+/// In every reached state a request at the front of a lane is served by its taker unless an answer waits there, and
+/// refused too unless it is a Setback; and its sender waits for the answer.
+pub fn front_requests_are_served()
+    ensures { (core : Core) (from n : ℕ) → IsReached core → from < core.size.nodes → n < core.size.nodes → AreServedAt core from n }
 {}
 
 /// In every reached state, for each line: its members are exactly the nodes of one list, from the home's head along

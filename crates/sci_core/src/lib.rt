@@ -17,7 +17,7 @@ mod taking;
 pub use fault::ApplyFault;
 pub use lane::LaneKind;
 pub use laws::{
-    answers_are_accepted, lines_have_their_shape, logs_are_lawful, operations_take_effect,
+    answers_are_accepted, front_answers_are_accepted, front_requests_are_served, sides_make_steps, lines_have_their_shape, logs_are_lawful, operations_take_effect,
     reached_states_are_coherent, reached_states_are_tidy, reached_states_are_well_formed,
     schedules_are_histories, schedules_reach, transactions_alternate,
 };

@@ -1,6 +1,7 @@
 //! A node: the homes that are here, the cache, the operations of the processor, and its log.
 
-ghost use Rattle.std.specs.Prelude.{◌≡◌};
+ghost use Rattle.std.specs.Prelude.{◌≡◌, true};
+ghost use Rattle.sci_words.specs.Operation.{has_words};
 ghost use Rattle.sci_home.specs.Serving.{is_for_home as is_for_home_of};
 
 use crate::pending::Pending;
@@ -9,7 +10,7 @@ use sci_cache::{Cache, Held};
 use sci_history::Entry;
 use sci_home::Home;
 use sci_packets::{Body, Packet};
-use sci_words::{AskKind, Extent, Op, WORDS_PER_LINE};
+use sci_words::{Act, AskKind, Extent, LockOp, Op, WORDS_PER_LINE};
 use std::alloc::{AllocError, Global};
 use std::marker::Model;
 
@@ -49,6 +50,23 @@ fn is_for_home(request: &Body) -> bool
         request,
         Body::Mread | Body::Fread | Body::Claim | Body::Clear | Body::Wback(_)
     )
+}
+
+/// Reads the operands of an operation, which tells the prover that they are words.
+fn read_words(act: Act)
+    ensures { has_words act ≡ true }
+{
+    match act {
+        Act::Load => {}
+        Act::Store(_word) => {}
+        Act::Lock(lock) => match lock {
+            LockOp::MaskSwap { arg: _arg, datum: _datum } => {}
+            LockOp::CompareSwap { arg: _arg, datum: _datum } => {}
+            LockOp::FetchAdd { datum: _datum } => {}
+            LockOp::BoundedAdd { arg: _arg, datum: _datum } => {}
+            LockOp::WrapAdd { arg: _arg, datum: _datum } => {}
+        },
+    }
 }
 
 impl Node {
@@ -121,9 +139,12 @@ impl Node {
         Some(serial)
     }
 
-    fn may_issue(&self, op: &Op) -> bool
-        ensures { result ≡ may_issue_of self.now op.now }
+    /// Whether an operation may be issued: whether `issue` would give its serial.
+    pub fn may_issue(&self, op: &Op) -> bool
+        ensures rule { result ≡ may_issue_of self.now op.now }
+        ensures enabled { result ≡ is_some (node_issuing self.now op.now) }
     {
+        read_words(op.act);
         op.line < self.extent.lines
             && usize::from(op.word) < WORDS_PER_LINE
             && self.pending[usize::from(op.line)].is_none()

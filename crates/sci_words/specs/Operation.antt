@@ -1,6 +1,6 @@
 -- What each operation does to its word, and what it answers. The names of the lock subcommands are those of
 -- IEEE 1212-1991; the effects are this project's own table.
-use Rattle.std.specs.Prelude.{ℕ, ◌+◌, ◌%◌, ◌^◌, Bool, true, false, ◌==◌, if◌then◌else◌, bit_and, bit_or, IsTrue}
+use Rattle.std.specs.Prelude.{ℕ, nat_lt, ◌&&◌, ◌+◌, ◌%◌, ◌^◌, Bool, true, false, ◌==◌, if◌then◌else◌, bit_and, bit_or, IsTrue}
 use Rattle.std.specs.Int.{w64, bit_not}
 use Rattle.sci_words.specs.declared.operation.LockOp.{LockOp}
 use Rattle.sci_words.specs.declared.operation.LockOp.TheVariants.{MaskSwap, CompareSwap, FetchAdd, BoundedAdd, WrapAdd}
@@ -43,3 +43,20 @@ is_maker op = is_making op.act
 
 abbrev pub IsMaker : Op → Type 0
 IsMaker op = IsTrue (is_maker op)
+
+-- whether a number is a word
+abbrev pub is_word : ℕ → Bool
+is_word n = nat_lt n (2 ^ 64)
+
+-- whether each operand is a word
+abbrev pub are_words : LockOp → Bool
+are_words (MaskSwap arg datum) = is_word arg && is_word datum
+are_words (CompareSwap arg datum) = is_word arg && is_word datum
+are_words (FetchAdd datum) = is_word datum
+are_words (BoundedAdd arg datum) = is_word arg && is_word datum
+are_words (WrapAdd arg datum) = is_word arg && is_word datum
+
+abbrev pub has_words : Act → Bool
+has_words Load = true
+has_words (Store word) = is_word word
+has_words (Lock lock) = are_words lock
