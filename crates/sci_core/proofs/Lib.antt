@@ -42,3 +42,4 @@ pub mod ReachedLaws
 pub mod Operations
 pub mod Sides
 pub mod Enabled
+pub mod Ranges

@@ -116,16 +116,25 @@ log_at core node lt = get_or-map-range_with_len (λ (n : ℕ). (node_at core n).
 pub log_beyond : (core : Core) (node : ℕ) → MAX_NODES ≤ node → log_of (logs_of core) node ≡ []
 log_beyond core node past = get_or_past (logs_of core) node [] (omega arith)
 
-reached_logged : (core : Core) (reached : IsReached core) → RunLogged (opening core.size) (done core.size reached.schedule) core
+pub reached_logged : (core : Core) (reached : IsReached core) → RunLogged (opening core.size) (done core.size reached.schedule) core
 reached_logged core reached =
     subst (RunLogged (opening core.size) (done core.size reached.schedule)) reached.leads (schedule_logged core.size reached.schedule reached.size)
+
+-- each log of a reached state has its own node's entries of the schedule
+pub reached_log : (core : Core) (reached : IsReached core) (node : ℕ) → (node_at core node).log ≡ filter (is_of_node node) (done core.size reached.schedule)
+reached_log core reached node = subst (λ (x : Core). (node_at x node).log ≡ filter (is_of_node node) (done core.size reached.schedule)) reached.leads (schedule_log core.size reached.schedule node reached.size)
+
+-- and its entries on a line are the line's history
+pub reached_history : (core : Core) (reached : IsReached core) (line : ℕ) → line < core.size.lines → IsHistory (filter (is_on_line line) (done core.size reached.schedule)) zero_stamped (last_at core line)
+reached_history core reached line inside =
+    subst (λ (x : Core). IsHistory (filter (is_on_line line) (done core.size reached.schedule)) zero_stamped (last_at x line)) reached.leads (schedule_history core.size reached.schedule line reached.size inside)
 
 -- no entry is on a line that the machine doesn't have
 beyond_none : (lines line : ℕ) (entries : List Entry) → lines ≤ line → AllByRecursion (λ entry. entry.op.line < lines) entries → filter (is_on_line line) entries ≡ []
 beyond_none lines line entries past all =
     filter_none (is_on_line line) entries (all_weaker (λ (entry : Entry). entry.op.line < lines) (λ entry. is_on_line line entry ≡ false) (λ entry lt. ne_eqb entry.op.line line (λ e. (let below : line < lines = subst (λ (k : ℕ). k < lines) e lt in omega arith))) entries all)
 
-last_within : (core : Core) (line : ℕ) → line < core.size.lines → stamped_at (last_of core) line ≡ last_at core line
+pub last_within : (core : Core) (line : ℕ) → line < core.size.lines → stamped_at (last_of core) line ≡ last_at core line
 last_within core line inside = get_or-map-range_with_len (last_at core) 0 core.size.lines line line zero_stamped inside (omega arith)
 
 last_beyond : (core : Core) (line : ℕ) → core.size.lines ≤ line → stamped_at (last_of core) line ≡ zero_stamped
@@ -190,8 +199,8 @@ reached_coherent core reached = record {
   accepted = reached_accepted core reached;
   alternates = λ n line some inside. runs_alternate core.size reached.schedule n line reached.size some inside;
   shapes = reached_shapes core reached;
-  explained = λ line inside. subst (λ (x : Core). IsHistory (filter (is_on_line line) (done core.size reached.schedule)) zero_stamped (last_at x line)) reached.leads
-      (schedule_history core.size reached.schedule line reached.size inside);
+  explained = λ line inside. reached_history core reached line inside;
+  logged = λ node. reached_log core reached node;
   within = reached_within core reached;
   lawful = reached_lawful core reached;
 }

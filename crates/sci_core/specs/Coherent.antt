@@ -1,12 +1,12 @@
 -- What holds of every state of a machine: it is one where a schedule leads, and there one memory of one thread explains
 -- every line.
-use Rattle.std.specs.Prelude.{ℕ, ◌<◌, filter}
+use Rattle.std.specs.Prelude.{◌≡◌, ℕ, ◌<◌, filter}
 use Rattle.sci_words.specs.Stamped.{zero_stamped}
 use Rattle.sci_history.specs.Audit.{AreWithin}
 use Rattle.sci_history.specs.History.{IsHistory}
 use Rattle.sci_history.specs.Lawful.{Lawful}
-use Rattle.sci_history.specs.Placed.{is_on_line}
-use Rattle.sci_core.specs.Core.{Core}
+use Rattle.sci_history.specs.Placed.{is_of_node, is_on_line}
+use Rattle.sci_core.specs.Core.{Core, node_at}
 use Rattle.sci_core.specs.Reached.{IsReached}
 use Rattle.sci_core.specs.Done.{done}
 use Rattle.sci_core.specs.Outcome.{logs_of}
@@ -32,6 +32,8 @@ pub record IsCoherent (core : Core) : Type 0 where
   pub shapes : HasShapes core
   -- each operation took effect at its own Perform
   pub explained : (line : ℕ) → line < core.size.lines → IsExplained core reached line
+  -- each node's log is what the schedule makes there
+  pub logged : (node : ℕ) → (node_at core node).log ≡ filter (is_of_node node) (done core.size reached.schedule)
   -- and the logs alone show that it did: they are of the machine's lines, and lawful
   pub within : AreWithin core.size.lines (logs_of core)
   pub lawful : Lawful (logs_of core) (last_of core)

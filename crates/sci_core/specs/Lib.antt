@@ -15,6 +15,7 @@ pub mod SharingList
 pub mod Fresh
 pub mod Done
 pub mod Shape
+pub mod InRange
 pub mod Sides
 pub mod Enabled
 pub mod Coherent

@@ -9,6 +9,10 @@ ghost use Rattle.sci_history.specs.Placed.{is_on_line};
 ghost use Rattle.sci_core.specs.Core.{Core, run, step};
 ghost use Rattle.sci_core.specs.Sides.{StepsBySides};
 ghost use Rattle.sci_core.specs.Enabled.{AreServedAt, IsAcceptedAt};
+ghost use Rattle.sci_core.specs.InRange.{IsEntryOf, IsStamped};
+ghost use Rattle.sci_history.specs.Placed.{maker_count, on_line, is_of_node};
+ghost use Rattle.std.specs.List.{AllByRecursion};
+ghost use Rattle.sci_core.specs.Core.{node_at};
 ghost use Rattle.sci_core.specs.Coherent.{IsCoherent};
 ghost use Rattle.sci_core.specs.Done.{LastChanges, done, made_by};
 ghost use Rattle.sci_core.specs.Outcome.{logs_of};
@@ -100,4 +104,26 @@ pub fn reached_states_are_coherent()
 /// no transaction is answered twice.
 pub fn transactions_alternate()
     ensures { (size : Size) (schedule : List Event) (n line : ℕ) → IsSize size → n < size.nodes → line < size.lines → Alternates size schedule n line }
+{}
+
+/// In every reached state the last contents of each line are eight words below 2^64, and their version is at most
+/// 1,048,576, the operations that all nodes may issue: so a version never wraps.
+pub fn contents_are_in_range()
+    ensures { (core : Core) (line : ℕ) → IsReached core → line < core.size.lines → IsStamped (last_at core line) }
+{}
+
+/// In every reached state the version of a line is the number of its makers in the logs.
+pub fn versions_count_makers()
+    ensures { (core : Core) (line : ℕ) → IsReached core → line < core.size.lines → (last_at core line).version ≡ maker_count (on_line line (logs_of core)) }
+{}
+
+/// In every reached state each entry of a log is of a node, a serial, a line and a word of the machine, its operands
+/// and its reply are below 2^64, and its version is at most 1,048,576.
+pub fn entries_are_in_range()
+    ensures { (core : Core) (node : ℕ) → IsReached core → AllByRecursion (IsEntryOf core.size) (node_at core node).log }
+{}
+
+/// The log of each node is what the schedule makes on that node, in its order.
+pub fn logs_are_done()
+    ensures { (size : Size) (schedule : List Event) (node : ℕ) → IsSize size → (node_at (run size schedule) node).log ≡ filter (is_of_node node) (done size schedule) }
 {}

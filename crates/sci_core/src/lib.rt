@@ -17,6 +17,10 @@ mod taking;
 pub use fault::ApplyFault;
 pub use lane::LaneKind;
 pub use laws::{
+    logs_are_done,
+    entries_are_in_range,
+    versions_count_makers,
+    contents_are_in_range,
     answers_are_accepted, front_answers_are_accepted, front_requests_are_served, sides_make_steps, lines_have_their_shape, logs_are_lawful, operations_take_effect,
     reached_states_are_coherent, reached_states_are_tidy, reached_states_are_well_formed,
     schedules_are_histories, schedules_reach, transactions_alternate,
