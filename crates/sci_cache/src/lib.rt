@@ -9,6 +9,7 @@ mod fault;
 mod held;
 pub mod laws;
 mod line;
+mod may_perform;
 mod perform;
 mod serve;
 mod states;

@@ -47,7 +47,7 @@ acceptable core from n letter well f lt front =
 pub target_below : (core : Core) (n line : ℕ) (kind : AskKind) (next : NodeOf) (letter : Letter) → IsWellFormed core → n < core.size.nodes → node_asking (node_at core n) line kind ≡ Some (next, letter) → letter.target < core.size.nodes
 target_below core n line kind next letter well lt e =
     let sent = subst (λ (o : Option (NodeOf × Letter)). IfSome o (SendsWell core.size n)) e
-    (part_asking core.size n (node_at core n) line kind well.some_node lt (well.each_part n lt)) in
+    (part_asking core.size n (node_at core n) line kind well.sizes.some_node lt (well.each_part n lt)) in
     sent.request.letter_ok.target
 
 sent_into : (core new : Core) (e : Event) (kind : LaneKind) (sending : NodeOf → Option (NodeOf × Letter)) (request : Letter) (result : Option Packet) → node_of e < core.size.nodes

@@ -43,3 +43,4 @@ pub mod Operations
 pub mod Sides
 pub mod Enabled
 pub mod Ranges
+pub mod Pendings

@@ -118,7 +118,7 @@ all_mapped P f count h i d lt =
 -- a node that the machine doesn't have has no log
 no_log : (core : Core) (node : ℕ) → IsWellFormed core → core.size.nodes ≤ node → (node_at core node).log ≡ []
 no_log core node well past =
-    let long = well.parts_long in
+    let long = well.sizes.parts_long in
     ap (λ (part : NodeOf). part.log) (get_or_past core.parts node no_node (omega arith))
 
 pub log_short : (core : Core) (node : ℕ) → IsWellFormed core → length (node_at core node).log ≤ MAX_OPERATIONS

@@ -194,7 +194,7 @@ member_below core line n f well member =
     elim (cases_lt n core.size.nodes) [
       | inl below ↦ below
       | inr past ↦
-          let long = well.parts_long in
+          let long = well.sizes.parts_long in
           let none : node_at core n ≡ no_node = get_or_past core.parts n no_node (omega arith) in
           let out : link_in (view_of core line) n ≡ None = ap (λ (part : NodeOf). link_of (line_of part.cache line).state (told core n line)) none in
           absurd cc

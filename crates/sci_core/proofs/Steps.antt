@@ -54,7 +54,7 @@ pub data Stepped (core : Core) (e : Event) (made : Option Entry) (new : Core) : 
 -- ---- each kind of side
 
 pub lane_below : (core : Core) (kind : LaneKind) (from to : ℕ) → IsWellFormed core → from < core.size.nodes → to < core.size.nodes → lane_place core.size.nodes kind from to < length core.lanes
-lane_below core kind from to well f t = subst (λ (k : ℕ). lane_place core.size.nodes kind from to < k) (sym well.lanes_long) (place_below core.size.nodes kind from to f t)
+lane_below core kind from to well f t = subst (λ (k : ℕ). lane_place core.size.nodes kind from to < k) (sym well.sizes.lanes_long) (place_below core.size.nodes kind from to f t)
 
 issued : (core : Core) (n : ℕ) (op : Op) (next : Option NodeOf) → n < core.size.nodes → node_issuing (node_at core n) op ≡ next → IfSome (step_by core n (changes next)) (Stepped core (event.Issue n op) None)
 issued core n op None lt is = tt
@@ -117,7 +117,7 @@ side_stepped : (core : Core) (e : Event) → node_of e < core.size.nodes → IsW
 side_stepped core (event.Issue n op) lt well = issued core n op (node_issuing (node_at core n) op) lt refl
 side_stepped core (event.Perform n line) lt well = perform_steps core n line (node_performing (node_at core n) line) lt refl
 side_stepped core (event.Ask n line kind) lt well =
-    asked core n line kind (node_asking (node_at core n) line kind) lt well (part_asking core.size n (node_at core n) line kind well.some_node lt (well.each_part n lt)) refl
+    asked core n line kind (node_asking (node_at core n) line kind) lt well (part_asking core.size n (node_at core n) line kind well.sizes.some_node lt (well.each_part n lt)) refl
 side_stepped core (event.Serve from n) lt well = IfSome_then (step_by core n (Takes Requests from (node_serving (node_at core n)))) (taken core n from Requests node_serving lt well) (λ new t. By_serve t refl)
 side_stepped core (event.Refuse from n) lt well = IfSome_then (step_by core n (Takes Requests from (node_refusing (node_at core n)))) (taken core n from Requests node_refusing lt well) (λ new t. By_refuse t refl)
 side_stepped core (event.Reply n) lt well = replied core n (node_replying (node_at core n)) lt well (part_replying core.size n (node_at core n) (well.each_part n lt)) refl

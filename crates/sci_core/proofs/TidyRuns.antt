@@ -28,7 +28,7 @@ use Rattle.sci_core.specs.Size.{Size}
 use Rattle.sci_core.specs.Size.{IsSize}
 
 pub node_below : (core : Core) (n : ℕ) → IsWellFormed core → n < core.size.nodes → n < length core.parts
-node_below core n well lt = let long = well.parts_long in omega arith
+node_below core n well lt = let long = well.sizes.parts_long in omega arith
 
 -- an answer that waits after a request is served is no request
 pub waiting_answers : (size : Size) (n : ℕ) (next : NodeOf) (answer : Letter) → next.waiting ≡ Some answer → IsPart size n next → is_request answer.body ≡ false

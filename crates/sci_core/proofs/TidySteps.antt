@@ -52,7 +52,7 @@ about_answer m k request body asks answers =
 
 pub changed_tidy : (core : Core) (n : ℕ) (next : NodeOf) → n < core.size.nodes → IsWellFormed core → Stays core.size.nodes (node_at core n) next → IsTidy core → IsTidy (with_node core n next)
 changed_tidy core n next lt well stays tidy m k below within =
-    let long = well.parts_long in
+    let long = well.sizes.parts_long in
     subst (HasItsPackets (k % core.size.nodes) (line_of (node_at (with_node core n next) m).cache k)) (sym (packets_changed core n next m k (omega arith) stays.waiting))
     (keeps_packets (k % core.size.nodes) (line_of (node_at core m).cache k) (line_of (node_at (with_node core n next) m).cache k) (packets_of core m k) (keeps_node core n next stays.lines m k) (tidy m k below within))
 

@@ -99,7 +99,7 @@ Advanced core mark new = (n line : ℕ) → n < core.size.nodes → line < core.
 
 changed_advance : (core : Core) (n : ℕ) (next : NodeOf) → n < core.size.nodes → IsWellFormed core → next.waiting ≡ (node_at core n).waiting → Advanced core None (with_node core n next)
 changed_advance core n next lt well same m k mb kb =
-    let long = well.parts_long in
+    let long = well.sizes.parts_long in
     still (phase_of (packets_of core m k)) (phase_of (packets_of (with_node core n next) m k)) (ap phase_of (packets_changed core n next m k (omega arith) same))
 
 asked_advance : (core : Core) (n line place : ℕ) (next : NodeOf) (letter : Letter) → n < length core.parts → place < length core.lanes → is_request letter.body ≡ true → letter.source ≡ n → AsksOnce core.size.nodes line (node_at core n) (next, letter) → IsTidy core
@@ -238,7 +238,7 @@ side_advances core (event.Perform n line) lt well tidy = performs_advance core n
 side_advances core (event.Ask n line kind) lt well tidy =
     let part = well.each_part n lt in
     asks_advance core n line (node_asking (node_at core n) line kind) lt well tidy (ask_once core.size.nodes (node_at core n) line kind part.all (part.asks line))
-    (part_asking core.size n (node_at core n) line kind well.some_node lt part)
+    (part_asking core.size n (node_at core n) line kind well.sizes.some_node lt part)
 side_advances core (event.Serve from n) lt well tidy =
     request_taken core n from (node_serving (node_at core n)) lt (serve_answers core.size.nodes (node_at core n)) (λ letter comes. part_serving core.size n (node_at core n) letter comes.0 comes.1 (well.each_part n lt)) well tidy
 side_advances core (event.Refuse from n) lt well tidy =

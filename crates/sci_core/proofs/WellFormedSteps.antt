@@ -36,18 +36,22 @@ pub record StepsWell (old new : Core) : Type 0 where
 
 well_with_node : (core : Core) (n : ℕ) (next : NodeOf) → IsPart core.size n next → IsWellFormed core → IsWellFormed (with_node core n next)
 well_with_node core n next is well = record {
-  some_node = well.some_node;
-  parts_long = length-set core.parts n next ∙ well.parts_long;
-  lanes_long = well.lanes_long;
+  sizes = record {
+    some_node = well.sizes.some_node;
+    parts_long = length-set core.parts n next ∙ well.sizes.parts_long;
+    lanes_long = well.sizes.lanes_long;
+  };
   each_part = at_place_set (λ (m : ℕ) (part : NodeOf). m < core.size.nodes → IsPart core.size m part) core.parts n next no_node well.each_part (λ _. is);
   each_lane = well.each_lane;
 }
 
 well_with_lane : (core : Core) (place : ℕ) (lane : List Letter) → All (IsInLane core.size.nodes core.size.lines place) lane → IsWellFormed core → IsWellFormed (with_lane core place lane)
 well_with_lane core place lane all well = record {
-  some_node = well.some_node;
-  parts_long = well.parts_long;
-  lanes_long = length-set core.lanes place lane ∙ well.lanes_long;
+  sizes = record {
+    some_node = well.sizes.some_node;
+    parts_long = well.sizes.parts_long;
+    lanes_long = length-set core.lanes place lane ∙ well.sizes.lanes_long;
+  };
   each_part = well.each_part;
   each_lane = at_place_set (λ (p : ℕ) (l : List Letter). All (IsInLane core.size.nodes core.size.lines p) l) core.lanes place lane [] well.each_lane all;
 }
@@ -152,7 +156,7 @@ pub stepping_well : (core : Core) (e : Event) → IsWellFormed core → IfSome (
 unfolding stepping
 stepping_well core e well =
     if_below (node_of e) core.size.nodes (StepsWell core) (step_by core (node_of e) (side (node_at core (node_of e)) e)) (λ lt.
-    step_by_well core (node_of e) (side (node_at core (node_of e)) e) lt (side_well core (node_at core (node_of e)) e well.some_node lt (well.each_part (node_of e) lt)) well)
+    step_by_well core (node_of e) (side (node_at core (node_of e)) e) lt (side_well core (node_at core (node_of e)) e well.sizes.some_node lt (well.each_part (node_of e) lt)) well)
 
 -- ---- runs
 
@@ -201,9 +205,11 @@ opening_part me size some few = record {
 
 pub opening_well : (size : Size) → 0 < size.nodes → size.limit ≤ MAX_OPERATIONS → IsWellFormed (opening size)
 opening_well size some few = record {
-  some_node = some;
-  parts_long = length-map-range_with_len (λ (n : ℕ). opening_node n size) 0 size.nodes;
-  lanes_long = length-replicate (2 * size.nodes * size.nodes) [];
+  sizes = record {
+    some_node = some;
+    parts_long = length-map-range_with_len (λ (n : ℕ). opening_node n size) 0 size.nodes;
+    lanes_long = length-replicate (2 * size.nodes * size.nodes) [];
+  };
   each_part = λ n lt. subst (IsPart size n) (sym (get_or-map-range_with_len (λ (m : ℕ). opening_node m size) 0 size.nodes n n no_node lt (omega arith))) (opening_part n size some few);
   each_lane = λ place. elim (cases_lt place (2 * size.nodes * size.nodes)) [
     | inl below ↦ subst (All (IsInLane size.nodes size.lines place)) (sym (get_or-replicate (2 * size.nodes * size.nodes) place [] [] below)) (All-nil (IsInLane size.nodes size.lines place))
@@ -237,3 +243,8 @@ reached_stepping core next e reached steps =
 pub reached_either : {T E : Type 0} (result : Result T E) (old new : Core) (e : Event) → IsReached old → IfOk result (λ _. stepping old e ≡ Some new) → (IsErr result → new ≡ old) → IsReached new
 reached_either (Ok x) old new e reached done same = reached_stepping old new e reached done
 reached_either (Err f) old new e reached done same = subst IsReached (sym (same refl)) reached
+
+-- and the machine keeps its size
+pub size_either : {T E : Type 0} (result : Result T E) (old new : Core) (e : Event) → IsReached old → IfOk result (λ _. stepping old e ≡ Some new) → (IsErr result → new ≡ old) → new.size ≡ old.size
+size_either (Ok x) old new e reached done same = (subst (λ (o : Option Core). IfSome o (StepsWell old)) done (stepping_well old e (reached_well old reached))).same
+size_either (Err f) old new e reached done same = ap (λ (core : Core). core.size) (same refl)

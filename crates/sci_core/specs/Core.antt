@@ -2,13 +2,14 @@
 -- that is sent or taken.
 use Rattle.std.specs.Prelude.{◌≡◌, ◌≤◌, length, ℕ, ◌+◌, ◌*◌, nat_lt, if◌then◌else◌, List, [], ◌∷◌, ◌++◌, map, replicate, slice_index_or, slice_set, Option, Some, None, unwrap_or, IsSome}
 use Rattle.std.specs.List.{fold, range_with_len}
+use Rattle.sci_words.specs.declared.extent.Extent.{Extent}
 use Rattle.sci_words.specs.declared.event.Event.{Event}
 use Rattle.sci_words.specs.declared.event.Event.TheVariants as event
 use Rattle.sci_history.specs.declared.entry.Entry.{Entry}
 use Rattle.sci_cache.specs.Cache.{Letter}
 use Rattle.sci_core.specs.declared.lane.LaneKind.{LaneKind}
 use Rattle.sci_core.specs.declared.lane.LaneKind.TheVariants.{Requests, Answers}
-use Rattle.sci_core.specs.Size.{Size}
+use Rattle.sci_core.specs.Size.{Size, size_of}
 use Rattle.sci_core.specs.Node.{NodeOf, opening_node, no_node, node_issuing, node_performing, node_asking, node_serving, node_refusing, node_replying, node_accepting}
 
 pub record Core : Type 0 where
@@ -17,6 +18,10 @@ pub record Core : Type 0 where
   pub parts : List NodeOf
   -- the packets that are under way from each node to each, oldest first
   pub lanes : List (List Letter)
+
+-- the state of these parts
+abbrev pub core_of : Extent → ℕ → List NodeOf → List (List Letter) → Core
+core_of extent limit parts lanes = record { size = size_of extent limit; parts = parts; lanes = lanes }
 
 -- ---- nodes and lanes
 

@@ -16,6 +16,7 @@ pub mod Fresh
 pub mod Done
 pub mod Shape
 pub mod InRange
+pub mod Work
 pub mod Sides
 pub mod Enabled
 pub mod Coherent

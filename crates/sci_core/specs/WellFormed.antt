@@ -11,7 +11,7 @@ use Rattle.sci_home.specs.Serving.{opening_home, IsForHome}
 use Rattle.sci_cache.specs.State.{CacheState, Joining, FreshJoining, Head, FreshHead, Below, Purging, Claiming, Rolling, Telling}
 use Rattle.sci_cache.specs.Cache.{Letter, line_of}
 use Rattle.sci_core.specs.Node.{NodeOf, lines_of, IsNode}
-use Rattle.sci_core.specs.Core.{Core, node_at, lane_at}
+use Rattle.sci_core.specs.Core.{Core, HasSize, node_at, lane_at}
 use Rattle.sci_core.specs.Size.{Size}
 
 -- ---- every identifier names a node
@@ -85,8 +85,6 @@ pub record IsPart (size : Size) (n : ℕ) (part : NodeOf) : Type 0 where
   pub own : All (λ entry. entry.node ≡ n) part.log
 
 pub record IsWellFormed (core : Core) : Type 0 where
-  pub some_node : 0 < core.size.nodes
-  pub parts_long : length core.parts ≡ core.size.nodes
-  pub lanes_long : length core.lanes ≡ 2 * core.size.nodes * core.size.nodes
+  pub sizes : HasSize core
   pub each_part : (n : ℕ) → n < core.size.nodes → IsPart core.size n (node_at core n)
   pub each_lane : (place : ℕ) → All (IsInLane core.size.nodes core.size.lines place) (lane_at core place)

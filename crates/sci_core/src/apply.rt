@@ -127,7 +127,7 @@ impl State {
         if from >= self.nodes() {
             return false;
         }
-        let Some(packet) = self.front(kind, from, n).copied() else {
+        let Some(packet) = self.lane(kind, from, n).front().copied() else {
             return false;
         };
         if !self.nodes[usize::from(n)].take(taking, &packet) {

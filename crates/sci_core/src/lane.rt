@@ -18,7 +18,7 @@ pub enum LaneKind {
 /// The packets of one kind that are under way from one node to another, oldest first. Contracts see the list of
 /// them.
 #[derive(Drop)]
-pub(crate) struct Lane {
+pub struct Lane {
     packets: VecDeque<Packet>,
 }
 
@@ -33,7 +33,7 @@ impl Model for Lane {
 
 impl Lane {
     /// A lane with no packet.
-    pub(crate) fn new(alloc: Global) -> Lane
+    pub fn new(alloc: Global) -> Lane
         ensures { result ≡ [] }
     {
         Lane {
@@ -42,7 +42,7 @@ impl Lane {
     }
 
     /// Sends a packet: it ends the lane. Unchanged where memory is refused.
-    pub(crate) fn send(&mut self, packet: &Packet) -> Result<(), AllocError>
+    pub fn send(&mut self, packet: &Packet) -> Result<(), AllocError>
         ensures ok { OnOk result (self.new ≡ self.old ++ letter_of packet.now ∷ []) }
         ensures err { OnErr result (self.new ≡ self.old) }
     {
@@ -64,7 +64,7 @@ impl Lane {
     }
 
     /// The oldest packet, if there is one.
-    pub(crate) fn front(&self) -> Option<&Packet>
+    pub fn front(&self) -> Option<&Packet>
         ensures { option_map letter_of (option_copied result) ≡ slice_get self.now 0 }
     {
         self.packets.front()
@@ -77,8 +77,15 @@ impl Lane {
         self.packets.as_slices()
     }
 
+    /// The packet at a place, counted from the oldest, or None if there are no more.
+    pub fn get(&self, place: usize) -> Option<&Packet>
+        ensures { option_map letter_of (option_copied result) ≡ slice_get self.now place }
+    {
+        self.packets.get(place)
+    }
+
     /// How many packets there are.
-    pub(crate) fn count(&self) -> usize
+    pub fn count(&self) -> usize
         ensures { result ≡ length self.now }
     {
         self.packets.len()

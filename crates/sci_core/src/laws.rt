@@ -1,6 +1,6 @@
 //! Laws of the machine, each the contract of a function that does nothing.
 
-ghost use Rattle.std.specs.Prelude.{◌≡◌, ◌<◌, ℕ, List, filter};
+ghost use Rattle.std.specs.Prelude.{◌≡◌, ◌<◌, ℕ, List, filter, Some, None, IsSome};
 ghost use Rattle.sci_words.specs.declared.event.Event.{Event};
 ghost use Rattle.sci_words.specs.Stamped.{zero_stamped};
 ghost use Rattle.sci_history.specs.History.{IsHistory};
@@ -13,6 +13,14 @@ ghost use Rattle.sci_core.specs.InRange.{IsEntryOf, IsStamped};
 ghost use Rattle.sci_history.specs.Placed.{maker_count, on_line, is_of_node};
 ghost use Rattle.std.specs.List.{AllByRecursion};
 ghost use Rattle.sci_core.specs.Core.{node_at};
+ghost use Rattle.sci_core.specs.Node.{IsNode, NodeOf, node_issuing, node_performing, pending_on};
+ghost use Rattle.sci_core.specs.Work.{IsIssued, IsLogged};
+ghost use Rattle.sci_words.specs.declared.operation.Op.{Op};
+ghost use Rattle.sci_history.specs.declared.entry.Entry.{Entry};
+ghost use Rattle.sci_core.specs.declared.pending.Pending.{Pending};
+ghost use Rattle.sci_words.specs.declared.stamped.Stamped.{Stamped};
+ghost use Rattle.sci_cache.specs.Cache.{line_of};
+ghost use Rattle.sci_cache.specs.State.{Head};
 ghost use Rattle.sci_core.specs.Coherent.{IsCoherent};
 ghost use Rattle.sci_core.specs.Done.{LastChanges, done, made_by};
 ghost use Rattle.sci_core.specs.Outcome.{logs_of};
@@ -126,4 +134,23 @@ pub fn entries_are_in_range()
 /// The log of each node is what the schedule makes on that node, in its order.
 pub fn logs_are_done()
     ensures { (size : Size) (schedule : List Event) (node : ℕ) → IsSize size → (node_at (run size schedule) node).log ≡ filter (is_of_node node) (done size schedule) }
+{}
+
+/// An operation that a node issues is pending on its line with the node's next serial; nothing was pending there
+/// before, and nothing else changes.
+pub fn issues_are_pending()
+    ensures { (old new : NodeOf) (op : Op) → IsNode old → node_issuing old op ≡ Some new → IsIssued old new op }
+{}
+
+/// The entry of an operation that a node performs has the operation and the serial that were pending on the line, and
+/// ends the node's log; nothing is pending there any more, and nothing else of the node's work changes.
+pub fn performs_end_the_log()
+    ensures { (old new : NodeOf) (line : ℕ) (entry : Entry) → IsNode old → node_performing old line ≡ Some (new, entry) → IsLogged old new line entry }
+{}
+
+/// In every reached state a node that has the only copy of a line can perform any operation that is pending there: a
+/// maker is never refused for its version.
+pub fn sole_copies_perform()
+    ensures { (core : Core) (n line : ℕ) (pending : Pending) (c : Stamped) → IsReached core → n < core.size.nodes → line < core.size.lines →
+        pending_on (node_at core n) line ≡ Some pending → (line_of (node_at core n).cache line).state ≡ Head None c → IsSome (node_performing (node_at core n) line) }
 {}

@@ -15,8 +15,11 @@ mod state;
 mod taking;
 
 pub use fault::ApplyFault;
-pub use lane::LaneKind;
+pub use lane::{Lane, LaneKind};
 pub use laws::{
+    sole_copies_perform,
+    performs_end_the_log,
+    issues_are_pending,
     logs_are_done,
     entries_are_in_range,
     versions_count_makers,

@@ -1,7 +1,7 @@
 //! The machine: any list of single events, applied one after another.
 
 use crate::fault::ApplyFault;
-use crate::lane::LaneKind;
+use crate::lane::{Lane, LaneKind};
 use crate::node::Node;
 use crate::outcome::push_log;
 use crate::state::State;
@@ -33,7 +33,7 @@ impl Machine {
     ghost use Rattle.std.specs.Prelude.{◌≡◌, ◌<◌, ◌≤◌, Some, IfOk, IfErr, IsErr, OnOk, OnErr, option_map, option_copied, slice_get, length};
     ghost use Rattle.sci_words.specs.declared.limits.TheConstants.{MAX_OPERATIONS};
     ghost use Rattle.sci_cache.specs.Cache.{letter_of};
-    ghost use Rattle.sci_core.specs.Core.{lane_of, node_at, opening, stepping, run_from};
+    ghost use Rattle.sci_core.specs.Core.{core_of, lane_of, node_at, opening, stepping, run_from};
     ghost use Rattle.sci_core.specs.Fault.{IsFaultOf};
     ghost use Rattle.sci_core.specs.Size.{size_of};
     ghost use Rattle.sci_core.specs.Reached.{IsReached};
@@ -68,6 +68,7 @@ impl Machine {
         ensures refused { IfErr result (IsFaultOf (stepping self.old event.now) event.now) }
         ensures same { IsErr result → self.new ≡ self.old }
         ensures effect { IfOk result (λ _. LastChanges self.old self.new (made_by self.old event.now)) }
+        ensures size { self.new.size ≡ self.old.size }
         ensures coherent { IsCoherent self.new }
     {
         self.state.apply(event)
@@ -78,6 +79,7 @@ impl Machine {
     pub fn run(&mut self, events: &[Event]) -> Result<(), AllocError>
         ensures ok { OnOk result (self.new ≡ run_from self.old events.now) }
         ensures err { IsErr result → IsStoppedAt self.old self.new events.now }
+        ensures size { self.new.size ≡ self.old.size }
         ensures coherent { IsCoherent self.new }
     {
         for event in events {
@@ -90,6 +92,35 @@ impl Machine {
         Ok(())
     }
 
+    /// The machine of these parts, which are together a state that some schedule leads to: the condition says so.
+    /// `nodes` are the nodes in order; `lanes` are those of requests and then those of answers, for each sender in
+    /// order the lanes to each receiver in order.
+    pub fn of_parts(extent: Extent, limit: u32, nodes: Vec<Node>, lanes: Vec<Lane>) -> Machine
+        requires { IsReached (core_of extent limit nodes.items lanes.items) }
+        ensures parts { result ≡ core_of extent limit nodes.items lanes.items }
+        ensures coherent { IsCoherent result }
+    {
+        Machine {
+            state: State::of_parts(extent, limit, nodes, lanes),
+        }
+    }
+
+    /// The size of the machine.
+    pub fn extent(&self) -> Extent
+        ensures nodes { result.nodes ≡ self.now.size.nodes }
+        ensures lines { result.lines ≡ self.now.size.lines }
+        ensures slots { result.slots ≡ self.now.size.slots }
+    {
+        self.state.extent()
+    }
+
+    /// How many operations each node may issue.
+    pub fn limit(&self) -> u32
+        ensures { result ≡ self.now.size.limit }
+    {
+        self.state.limit()
+    }
+
     /// A node. The caller sees to it that there is such a node.
     pub fn node(&self, n: u8) -> &Node
         requires { n < self.now.size.nodes }
@@ -99,13 +130,22 @@ impl Machine {
         self.state.node(n)
     }
 
+    /// A lane. The caller sees to it that there are such nodes.
+    pub fn lane(&self, kind: LaneKind, from: u8, to: u8) -> &Lane
+        requires from { from < self.now.size.nodes }
+        requires to { to < self.now.size.nodes }
+        ensures { result.now ≡ lane_of self.now kind from to }
+    {
+        self.state.lane(kind, from, to)
+    }
+
     /// The oldest packet of a lane, or None where it has none. The caller sees to it that there are such nodes.
     pub fn front(&self, kind: LaneKind, from: u8, to: u8) -> Option<&Packet>
         requires from { from < self.now.size.nodes }
         requires to { to < self.now.size.nodes }
         ensures front { option_map letter_of (option_copied result) ≡ slice_get (lane_of self.now kind from to) 0 }
     {
-        self.state.front(kind, from, to)
+        self.state.lane(kind, from, to).front()
     }
 
     /// How many packets a lane has. The caller sees to it that there are such nodes.
@@ -114,7 +154,7 @@ impl Machine {
         requires to { to < self.now.size.nodes }
         ensures { result ≡ length (lane_of self.now kind from to) }
     {
-        self.state.count(kind, from, to)
+        self.state.lane(kind, from, to).count()
     }
 
     /// The logs of all nodes; those beyond the machine's are empty. An audit of them with the last contents finds

@@ -174,6 +174,16 @@ impl Node {
         }
     }
 
+    /// Whether the operation that is pending on a line can be performed: whether `perform` would give its entry.
+    pub fn may_perform(&self, line: u8) -> bool
+        ensures { result ≡ is_some (node_performing self.now line) }
+    {
+        match self.pending(line) {
+            Some(pending) => self.cache.held(pending.op.line).may_perform(&pending.op),
+            None => false,
+        }
+    }
+
     /// Makes a request of this kind about a line. None, unchanged, where there is no such line, its state
     /// doesn't ask this kind, or it has no entry and no version slot is free.
     pub fn ask(&mut self, line: u8, kind: AskKind) -> Option<Packet>

@@ -18,14 +18,13 @@ pub(crate) struct State {
 }
 
 impl Model for State {
-    ghost use Rattle.sci_core.specs.Core.{Core, HasSize};
-    ghost use Rattle.sci_core.specs.Size.{size_of};
+    ghost use Rattle.sci_core.specs.Core.{Core, HasSize, core_of};
 
     ghost Value = { Core };
 
-    ghost view = { λ state. record { size = size_of state.extent state.limit; parts = state.nodes.items; lanes = state.lanes.items } };
+    ghost view = { λ state. core_of state.extent state.limit state.nodes.items state.lanes.items };
 
-    ghost invariant = { λ state. HasSize (record { size = size_of state.extent state.limit; parts = state.nodes.items; lanes = state.lanes.items }) };
+    ghost invariant = { λ state. HasSize (core_of state.extent state.limit state.nodes.items state.lanes.items) };
 }
 
 impl State {
@@ -33,7 +32,7 @@ impl State {
     ghost use Rattle.sci_words.specs.declared.limits.TheConstants.{MAX_LINES, MAX_OPERATIONS};
     ghost use Rattle.sci_cache.specs.Cache.{letter_of};
     ghost use Rattle.sci_core.specs.Node.{NodeOf};
-    ghost use Rattle.sci_core.specs.Core.{lane_place, lane_of, with_lane, with_sent, node_at, opening, HasSize};
+    ghost use Rattle.sci_core.specs.Core.{core_of, lane_place, lane_of, with_lane, with_sent, node_at, opening, HasSize};
     ghost use Rattle.sci_core.specs.Size.{size_of};
     ghost use Rattle.sci_core.specs.Sharing.{answer_to as answer_to_of};
 
@@ -75,6 +74,35 @@ impl State {
         })
     }
 
+    /// These nodes and lanes.
+    pub(crate) fn of_parts(extent: Extent, limit: u32, nodes: Vec<Node>, lanes: Vec<Lane>) -> State
+        requires { HasSize (core_of extent limit nodes.items lanes.items) }
+        ensures { result ≡ core_of extent limit nodes.items lanes.items }
+    {
+        State {
+            extent,
+            limit,
+            nodes,
+            lanes,
+        }
+    }
+
+    /// How many nodes, lines and version slots there are.
+    pub(crate) fn extent(&self) -> Extent
+        ensures nodes { result.nodes ≡ self.now.size.nodes }
+        ensures lines { result.lines ≡ self.now.size.lines }
+        ensures slots { result.slots ≡ self.now.size.slots }
+    {
+        self.extent
+    }
+
+    /// How many operations each node may issue.
+    pub(crate) fn limit(&self) -> u32
+        ensures { result ≡ self.now.size.limit }
+    {
+        self.limit
+    }
+
     /// How many nodes there are.
     pub(crate) fn nodes(&self) -> u8
         ensures nodes { result ≡ self.now.size.nodes }
@@ -100,24 +128,14 @@ impl State {
         &self.nodes[usize::from(n)]
     }
 
-    /// The oldest packet of a lane, or None where there is none.
-    pub(crate) fn front(&self, kind: LaneKind, from: u8, to: u8) -> Option<&Packet>
+    /// A lane.
+    pub(crate) fn lane(&self, kind: LaneKind, from: u8, to: u8) -> &Lane
         requires from { from < self.now.size.nodes }
         requires to { to < self.now.size.nodes }
-        ensures { option_map letter_of (option_copied result) ≡ slice_get (lane_of self.now kind from to) 0 }
+        ensures { result.now ≡ lane_of self.now kind from to }
     {
         let place = self.place(kind, usize::from(from), usize::from(to));
-        self.lanes[place].front()
-    }
-
-    /// How many packets a lane has.
-    pub(crate) fn count(&self, kind: LaneKind, from: u8, to: u8) -> usize
-        requires from { from < self.now.size.nodes }
-        requires to { to < self.now.size.nodes }
-        ensures { result ≡ length (lane_of self.now kind from to) }
-    {
-        let place = self.place(kind, usize::from(from), usize::from(to));
-        self.lanes[place].count()
+        &self.lanes[place]
     }
 
     /// Sends a packet: it ends the lane to its target. Unchanged if memory is refused.

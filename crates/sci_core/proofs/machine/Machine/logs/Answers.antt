@@ -27,14 +27,14 @@ push_log-requires-clause-room c =
 pub returns-clause-logs : goal.returns-clause-logs
 returns-clause-logs c =
     let well = reached_well c.self.inside.state c.self.invariant in
-    let long = well.parts_long in
+    let long = well.sizes.parts_long in
     subst (λ (core : Core). c.loop-n.logs ≡ logs_of core) c.self.view_is (all_logs c.self.inside.state c.loop-n.logs c.loop-n.n (omega arith) c.loop-n.invariant.0 c.loop-n.invariant.1)
 
 pub returns-clause-lawful : goal.returns-clause-lawful
 returns-clause-lawful c =
     let core = c.self.inside.state in
     let well = reached_well core c.self.invariant in
-    let long = well.parts_long in
+    let long = well.sizes.parts_long in
     let all = all_logs core c.loop-n.logs c.loop-n.n (omega arith) c.loop-n.invariant.0 c.loop-n.invariant.1 in
     let lawful = subst (λ (logs : List (List Entry)). Lawful logs (last_of core)) (sym all) (reached_lawful core c.self.invariant) in
     subst (λ (k : Core). Lawful c.loop-n.logs (last_of k)) c.self.view_is lawful
@@ -43,7 +43,7 @@ pub returns-clause-within : goal.returns-clause-within
 returns-clause-within c =
     let core = c.self.inside.state in
     let well = reached_well core c.self.invariant in
-    let long = well.parts_long in
+    let long = well.sizes.parts_long in
     let all = all_logs core c.loop-n.logs c.loop-n.n (omega arith) c.loop-n.invariant.0 c.loop-n.invariant.1 in
     let within = subst (AreWithin core.size.lines) (sym all) (reached_within core c.self.invariant) in
     subst (λ (k : Core). AreWithin k.size.lines c.loop-n.logs) c.self.view_is within

@@ -1,7 +1,7 @@
 -- What the node does with the oldest packet is the step.
-use Rattle.std.proofs.Common.{◌≡◌, None, Some, get_or, set, drop, sym, ap, subst, ◌∙◌, arith}
+use Rattle.std.proofs.Common.{◌≡◌, List, None, Some, get_or, set, drop, sym, ap, subst, ◌∙◌, arith}
 use Rattle.std.specs.Prelude.{option_map, slice_get}
-use Rattle.sci_cache.specs.Cache.{letter_of}
+use Rattle.sci_cache.specs.Cache.{Letter, letter_of}
 use Rattle.sci_core.specs.declared.lane.LaneKind.{LaneKind}
 use Rattle.sci_core.specs.Node.{NodeOf}
 use Rattle.sci_core.specs.Core.{Core, lane_place, lane_of, with_lane}
@@ -16,15 +16,15 @@ returns-then-from-nodes-clause-not c = λ _. taking_from_nobody c.args.self.now 
 pub returns-in_default-clause-not : goal.returns-in_default-clause-not
 returns-in_default-clause-not c = λ _.
     let core = c.args.self.now in
-    let front = c.front.ensures ∙ ap (λ (k : LaneKind). slice_get (lane_of core k c.args.from c.args.n) 0) c.lane_kind-kind.ensures in
+    let front = c.front.ensures ∙ ap (λ (lane : List Letter). slice_get lane 0) c.lane.ensures ∙ ap (λ (k : LaneKind). slice_get (lane_of core k c.args.from c.args.n) 0) c.lane_kind-kind.ensures in
     taking_empty core c.args.taking c.args.from c.args.n c.requires.n (omega arith) (sym front ∙ ap (option_map letter_of) (sym c.copied.ensures ∙ c.in_default.is))
 
 pub take-requires : goal.take-requires
 take-requires c =
     let core = c.args.self.now in
-    let long = c.requires.well.parts_long in
+    let long = c.requires.well.sizes.parts_long in
     let given = c.requires.n in
-    let front = c.front.ensures ∙ ap (λ (k : LaneKind). slice_get (lane_of core k c.args.from c.args.n) 0) c.lane_kind-kind.ensures in
+    let front = c.front.ensures ∙ ap (λ (lane : List Letter). slice_get lane 0) c.lane.ensures ∙ ap (λ (k : LaneKind). slice_get (lane_of core k c.args.from c.args.n) 0) c.lane_kind-kind.ensures in
     let some = sym front ∙ ap (option_map letter_of) (sym c.copied.ensures ∙ c.in-Some.is) in
     let read = subst (λ (k : Core). c.index_mut.result.now ≡ get_or k.parts c.from.result c.index_mut.result.now) c.self.view_is c.index_mut.ensures.value in
     subst (λ (node : NodeOf). IsTakable c.args.taking node (letter_of c.in-Some.packet)) (sym (read_node core c.from.result c.args.n c.index_mut.result.now c.from.ensures (omega arith) read))
@@ -33,9 +33,9 @@ take-requires c =
 pub returns-then-not-take-clause-not : goal.returns-then-not-take-clause-not
 returns-then-not-take-clause-not c = λ _.
     let core = c.args.self.now in
-    let long = c.requires.well.parts_long in
+    let long = c.requires.well.sizes.parts_long in
     let given = c.requires.n in
-    let front = c.front.ensures ∙ ap (λ (k : LaneKind). slice_get (lane_of core k c.args.from c.args.n) 0) c.lane_kind-kind.ensures in
+    let front = c.front.ensures ∙ ap (λ (lane : List Letter). slice_get lane 0) c.lane.ensures ∙ ap (λ (k : LaneKind). slice_get (lane_of core k c.args.from c.args.n) 0) c.lane_kind-kind.ensures in
     let some = sym front ∙ ap (option_map letter_of) (sym c.copied.ensures ∙ c.in-Some.is) in
     let read = subst (λ (k : Core). c.index_mut.result.now ≡ get_or k.parts c.from.result c.index_mut.result.now) c.self.view_is c.index_mut.ensures.value in
     taking_untaken core c.args.taking c.args.from c.args.n c.from.result c.index_mut.result.now (letter_of c.in-Some.packet) given (omega arith) some c.from.ensures (omega arith) read (c.take.ensures.not c.if-not-take.true)
@@ -43,11 +43,11 @@ returns-then-not-take-clause-not c = λ _.
 pub returns-clause-done : goal.returns-clause-done
 returns-clause-done c = λ _.
     let core = c.args.self.now in
-    let long = c.requires.well.parts_long in
+    let long = c.requires.well.sizes.parts_long in
     let given = c.requires.n in
     let from = c.args.from in
     let n = c.args.n in
-    let front = c.front.ensures ∙ ap (λ (k : LaneKind). slice_get (lane_of core k c.args.from c.args.n) 0) c.lane_kind-kind.ensures in
+    let front = c.front.ensures ∙ ap (λ (lane : List Letter). slice_get lane 0) c.lane.ensures ∙ ap (λ (k : LaneKind). slice_get (lane_of core k c.args.from c.args.n) 0) c.lane_kind-kind.ensures in
     let some = sym front ∙ ap (option_map letter_of) (sym c.copied.ensures ∙ c.in-Some.is) in
     let read = subst (λ (k : Core). c.index_mut.result.now ≡ get_or k.parts c.from.result c.index_mut.result.now) c.self.view_is c.index_mut.ensures.value in
     let dropped = subst (λ (k : Core). c.drop_front.new.self ≡ with_lane (record k { parts = set k.parts c.from.result c.take.new.self }) (lane_place k.size.nodes c.lane_kind-kind.result from n) (drop 1 (lane_of k c.lane_kind-kind.result from n))) c.self.view_is c.drop_front.ensures in
