@@ -1,11 +1,12 @@
 //! What a processor can do with the contents of each state.
 
 ghost use Rattle.std.specs.Prelude.{◌≡◌, ◌<◌, ◌↔◌, IsTrue, IfErr};
+ghost use Rattle.sci_words.specs.Stamped.{reply_of};
 ghost use Rattle.sci_words.specs.declared.limits.TheConstants.{WORDS_PER_LINE};
 ghost use Rattle.sci_cache.specs.declared.held.Held.TheVariants.{Below as HeldBelow};
 ghost use Rattle.sci_words.specs.Operation.{IsMaker};
 ghost use Rattle.sci_cache.specs.State.{Head, FreshHead as FreshHead_of, Below as Below_of};
-ghost use Rattle.sci_cache.specs.Performing.{performing, reply_on};
+ghost use Rattle.sci_cache.specs.Performing.{performing};
 ghost use Rattle.sci_cache.specs.Held.{performed_in};
 
 use crate::held::{Held, Performed};
@@ -16,7 +17,7 @@ use sci_words::{Op, Reply, Stamped};
 fn load(contents: &Stamped, op: Op) -> (Reply, u64)
     requires word { op.word < WORDS_PER_LINE }
     requires load { IsMaker op → ⊥ }
-    ensures { result ≡ (reply_on contents.now op, contents.now.version) }
+    ensures { result ≡ (reply_of contents.now.line op, contents.now.version) }
 {
     let (_, reply) = (*contents).after(op);
     (reply, contents.version)

@@ -11,9 +11,9 @@ use Rattle.sci_words.specs.declared.limits.TheConstants.{MAX_NODES}
 use Rattle.sci_words.specs.declared.operation.Op.{Op}
 use Rattle.sci_words.specs.declared.stamped.Stamped.{Stamped}
 use Rattle.sci_words.specs.Operation.{is_maker}
-use Rattle.sci_words.specs.Stamped.{after, zero_stamped}
+use Rattle.sci_words.specs.Stamped.{after, zero_stamped, reply_of}
 use Rattle.sci_history.specs.declared.entry.Entry.{Entry}
-use Rattle.sci_history.specs.Memory.{line_at, reply_of, stamped_at, words_of, contents_after}
+use Rattle.sci_history.specs.Memory.{line_at, stamped_at, words_of, contents_after}
 use Rattle.sci_history.specs.Placed.{log_of, is_of_node}
 use Rattle.sci_history.specs.Oracle.{Issue, IsInRange, makes_on, memory_of, entry_after, done_after, oracle_entries, logs_of, contents_of, oracle_logs, oracle_last}
 use Rattle.sci_words.specs.declared.operation.Reply.{Reply}

@@ -13,9 +13,9 @@ use Rattle.sci_words.specs.declared.limits.TheConstants.{MAX_NODES}
 use Rattle.sci_words.specs.declared.operation.Op.{Op}
 use Rattle.sci_words.specs.declared.stamped.Stamped.{Stamped}
 use Rattle.sci_words.specs.Operation.{is_maker}
-use Rattle.sci_words.specs.Stamped.{line_after, after, zero_line, zero_stamped}
+use Rattle.sci_words.specs.Stamped.{line_after, after, zero_line, zero_stamped, reply_of}
 use Rattle.sci_history.specs.declared.entry.Entry.{Entry}
-use Rattle.sci_history.specs.Memory.{zero_memory, line_at, reply_of, memory_after, memory_after_all, stamped_at}
+use Rattle.sci_history.specs.Memory.{zero_memory, line_at, memory_after, memory_after_all, stamped_at}
 use Rattle.sci_history.specs.Placed.{log_of, is_of_node, is_on_line, is_making}
 use Rattle.sci_history.specs.Lawful.{Lawful}
 use Rattle.sci_history.specs.History.{IsHistory, HasHistory}

@@ -8,14 +8,14 @@ use Rattle.sci_words.specs.declared.operation.Op.{Op}
 use Rattle.sci_words.specs.declared.operation.Reply.{Reply}
 use Rattle.sci_words.specs.declared.operation.Reply.TheVariants.{Stored, Got}
 use Rattle.sci_words.specs.declared.stamped.Stamped.{Stamped}
-use Rattle.sci_words.specs.Stamped.{line_after, zero_line}
+use Rattle.sci_words.specs.Stamped.{line_after, zero_line, reply_of}
 use Rattle.sci_history.specs.declared.entry.Entry.{Entry}
 use Rattle.sci_history.specs.declared.verdict.FaultKind.{FaultKind}
 use Rattle.sci_history.specs.declared.verdict.FaultKind.TheVariants.{VersionTwice, VersionMissing, WrongReply, OutOfOrder, LastDiffers}
 use Rattle.sci_history.specs.declared.verdict.Verdict.{Verdict}
 use Rattle.sci_history.specs.declared.faults.LineFault.{LineFault}
 use Rattle.sci_history.specs.declared.verdict.Verdict.TheVariants as verdicts
-use Rattle.sci_history.specs.Memory.{reply_of, stamped_at}
+use Rattle.sci_history.specs.Memory.{stamped_at}
 use Rattle.sci_history.specs.Placed.{log_of, is_of_node, is_making, makes, maker_count, on_line, placed_entries}
 use Rattle.sci_history.specs.Lawful.{IsLawfulLine, Lawful}
 
