@@ -12,7 +12,7 @@ use Rattle.sci_packets.specs.declared.body.Body.TheVariants as body
 use Rattle.sci_packets.specs.Table.{is_request}
 use Rattle.sci_home.specs.declared.state.HomeState.{HomeState}
 use Rattle.sci_home.specs.declared.state.HomeState.TheVariants as home
-use Rattle.sci_home.specs.Serving.{IsForHome, serving as serving_at_home, serving_claim, serving_clear, serving_wback}
+use Rattle.sci_home.specs.Serving.{IsForHome, home_serving as serving_at_home, serving_claim, serving_clear, serving_wback}
 use Rattle.sci_cache.specs.State.{CacheState, Out, Asking, Joining, FreshJoining, Head, FreshHead, Below, Purging, Claiming, Clearing, Returning, Rolling, Telling, Fading}
 use Rattle.sci_cache.specs.Asking.{Asked, asking}
 use Rattle.sci_cache.specs.Serving.{serving, is_next}

@@ -7,7 +7,7 @@ use Rattle.sci_words.specs.declared.stamped.Stamped.{Stamped}
 use Rattle.sci_words.specs.declared.operation.Act.{Act}
 use Rattle.sci_words.specs.declared.operation.Act.TheVariants.{Load, Store, Lock}
 use Rattle.sci_words.specs.declared.operation.Op.{Op}
-use Rattle.sci_words.specs.Operation.{effect_of_act, is_maker, is_making}
+use Rattle.sci_words.specs.Operation.{effect_of_act, is_maker, makes_version}
 use Rattle.sci_words.specs.Stamped.{line_after, after, reply_of}
 use Rattle.sci_packets.specs.declared.body.Body.{Body}
 use Rattle.sci_home.specs.declared.state.HomeState.{HomeState}
@@ -28,7 +28,7 @@ use Rattle.sci_core.proofs.Shapes.{AcceptsIn, IsLedFrom, IsShaped, Shaped, shape
 -- ---- a load
 
 -- a load leaves the line
-act_leaves : (words : List ℕ) (word : ℕ) (act : Act) → is_making act ≡ false → set words word (effect_of_act act (get_or words word 0)).0 ≡ words
+act_leaves : (words : List ℕ) (word : ℕ) (act : Act) → makes_version act ≡ false → set words word (effect_of_act act (get_or words word 0)).0 ≡ words
 act_leaves words word Load e = set-get_or words word 0
 act_leaves words word (Store x) e = cc
 act_leaves words word (Lock l) e = cc

@@ -10,7 +10,7 @@ use Rattle.sci_packets.specs.declared.body.Body.TheVariants.{Setback, Busy}
 use Rattle.sci_history.specs.declared.entry.Entry.{Entry}
 use Rattle.sci_home.specs.declared.state.HomeState.{HomeState}
 use Rattle.sci_packets.specs.Table.{IsRequest}
-use Rattle.sci_home.specs.Serving.{opening_home, is_for_home, IsForHome, serving}
+use Rattle.sci_home.specs.Serving.{opening_home, is_for_home, IsForHome, home_serving}
 use Rattle.sci_cache.specs.declared.fault.AskFault.{AskFault}
 use Rattle.sci_cache.specs.Line.{untouched}
 use Rattle.sci_cache.specs.Cache.{CacheOf, Letter, cache_asking, cache_serving, cache_accepting, cache_performing}
@@ -111,7 +111,7 @@ served_in_cache node None = None
 served_in_cache node (Some served) = Some (record node { cache = served.0 }, served.1)
 
 abbrev pub serving_at_home : NodeOf → Letter → Option (NodeOf × Body)
-serving_at_home node request = served_at_home node request.line (serving (home_of node request.line) request.source request.body)
+serving_at_home node request = served_at_home node request.line (home_serving (home_of node request.line) request.source request.body)
 
 abbrev pub serving_in_cache : NodeOf → Letter → Option (NodeOf × Body)
 serving_in_cache node request = served_in_cache node (cache_serving node.cache request.line request.source request.body)

@@ -10,7 +10,7 @@ use Rattle.sci_words.specs.declared.operation.Act.TheVariants.{Load, Store}
 use Rattle.sci_words.specs.declared.operation.Op.{Op}
 use Rattle.sci_words.specs.declared.operation.Reply.TheVariants.{Got}
 use Rattle.sci_words.specs.declared.stamped.Stamped.{Stamped}
-use Rattle.sci_words.specs.Operation.{effect_of_act, is_making as is_making_act}
+use Rattle.sci_words.specs.Operation.{effect_of_act, makes_version as is_making_act}
 use Rattle.sci_words.specs.Stamped.{line_after, zero_line, zero_stamped, reply_of}
 use Rattle.sci_history.specs.declared.entry.Entry.{Entry}
 use Rattle.sci_history.specs.History.{IsHistory}

@@ -39,8 +39,8 @@ abbrev pub stamped_at : List Stamped → ℕ → Stamped
 stamped_at contents line = slice_index_or contents line zero_stamped
 
 -- the words alone
-abbrev pub words_of : List Stamped → List (List ℕ)
-words_of contents = map (λ stamped. stamped.line) contents
+abbrev pub words_of_lines : List Stamped → List (List ℕ)
+words_of_lines contents = map (λ stamped. stamped.line) contents
 
 -- the operation's line is what it becomes by the operation, and every other line stays
 abbrev pub contents_after : List Stamped → Op → List Stamped

@@ -58,13 +58,13 @@ serving_wback (Fresh p c) n back = (Fresh p c, Wbno)
 serving_wback (Gone p) n back = if p == n then (Home back, Wbok) else (Gone p, Wbno)
 
 -- the next state of a home and its answer to a request from node n; none if no home serves such a packet
-abbrev pub serving : HomeState → ℕ → Body → Option (HomeState × Body)
-serving state n Mread = Some (serving_mread state n)
-serving state n Fread = Some (serving_fread state n)
-serving state n Claim = Some (serving_claim state n)
-serving state n Clear = Some (serving_clear state n)
-serving state n (Wback c) = Some (serving_wback state n c)
-serving state n _ = None
+abbrev pub home_serving : HomeState → ℕ → Body → Option (HomeState × Body)
+home_serving state n Mread = Some (serving_mread state n)
+home_serving state n Fread = Some (serving_fread state n)
+home_serving state n Claim = Some (serving_claim state n)
+home_serving state n Clear = Some (serving_clear state n)
+home_serving state n (Wback c) = Some (serving_wback state n c)
+home_serving state n _ = None
 
 -- the contents of a line if its home has them: as in the standard, memory is current at HOME and FRESH
 abbrev pub current_of : HomeState → Option Stamped

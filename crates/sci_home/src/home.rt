@@ -37,7 +37,7 @@ pub fn is_for_home(request: &Body) -> bool
 
 impl Home {
     ghost use Rattle.std.specs.Prelude.{◌≡◌, Some};
-    ghost use Rattle.sci_home.specs.Serving.{opening_home, IsForHome, serving, current_of};
+    ghost use Rattle.sci_home.specs.Serving.{opening_home, IsForHome, home_serving, current_of};
 
     /// The home of a line that nobody has touched: HOME with zero words at version 0.
     pub fn new() -> Home
@@ -62,7 +62,7 @@ impl Home {
     /// sees to it that the request is an Mread, Fread, Claim, Clear or Wback.
     pub fn serve(&mut self, request: &Packet) -> Packet
         requires { IsForHome request.now.body }
-        ensures case { serving self.old request.now.source request.now.body ≡ Some (self.new, result.body) }
+        ensures case { home_serving self.old request.now.source request.now.body ≡ Some (self.new, result.body) }
         ensures target { result.target ≡ request.now.source }
         ensures source { result.source ≡ request.now.target }
         ensures control { result.control ≡ request.now.control }
