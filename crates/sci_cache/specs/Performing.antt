@@ -1,10 +1,10 @@
 -- What a cache's processor can do with its contents.
-use Rattle.std.specs.Prelude.{ℕ, nat_lt, ◌-◌, ◌^◌, if◌then◌else◌, Option, Some, None, slice_index}
+use Rattle.std.specs.Prelude.{ℕ, nat_lt, ◌-◌, ◌^◌, if◌then◌else◌, Option, Some, None}
 use Rattle.sci_words.specs.declared.stamped.Stamped.{Stamped}
 use Rattle.sci_words.specs.declared.operation.Op.{Op}
 use Rattle.sci_words.specs.declared.operation.Reply.{Reply}
-use Rattle.sci_words.specs.Operation.{effect, is_maker}
-use Rattle.sci_words.specs.Stamped.{after}
+use Rattle.sci_words.specs.Operation.{is_maker}
+use Rattle.sci_words.specs.Stamped.{after, reply_of}
 use Rattle.sci_cache.specs.State.{CacheState, Head, FreshHead, Below}
 
 -- what an operation did: the reply, the version that it read or made, and the state that the cache then is in
@@ -13,20 +13,16 @@ pub record Performed : Type 0 where
   pub version : ℕ
   pub next : CacheState
 
--- what an operation answers on contents
-abbrev pub reply_on : Stamped → Op → Reply
-reply_on c op = (effect op (slice_index c.line op.word)).1
-
 -- a load gives its word and the version, and leaves the state
 abbrev pub loading : CacheState → Stamped → Op → Option Performed
-loading state c op = if is_maker op then None else Some (record { reply = reply_on c op; version = c.version; next = state })
+loading state c op = if is_maker op then None else Some (record { reply = reply_of c.line op; version = c.version; next = state })
 
 -- a load or a maker on contents of which there is no other copy; the versions end below the greatest u64
 abbrev pub making : Stamped → Op → Option Performed
 making c op =
     if is_maker op
-    then (if nat_lt c.version (2 ^ 64 - 1) then Some (record { reply = reply_on c op; version = (after c op).version; next = Head None (after c op) }) else None)
-    else Some (record { reply = reply_on c op; version = c.version; next = Head None c })
+    then (if nat_lt c.version (2 ^ 64 - 1) then Some (record { reply = reply_of c.line op; version = (after c op).version; next = Head None (after c op) }) else None)
+    else Some (record { reply = reply_of c.line op; version = c.version; next = Head None c })
 
 -- what an operation does in a state, or none where the state doesn't allow it
 abbrev pub performing : CacheState → Op → Option Performed

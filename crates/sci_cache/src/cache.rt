@@ -53,7 +53,7 @@ fn taken_after(taken: usize, was_out: bool, is_out: bool) -> usize
 }
 
 impl Cache {
-    ghost use Rattle.std.specs.Prelude.{◌≡◌, ◌<◌, ◌%◌, Some, None, Ok, Err, IfOk, IfErr, IfSome, IsErr, length, replicate};
+    ghost use Rattle.std.specs.Prelude.{◌≡◌, ◌<◌, ◌%◌, Some, None, Ok, Err, IfOk, IfErr, IfSome, IsErr, IsOk, length, replicate};
     ghost use Rattle.sci_words.specs.declared.limits.TheConstants.{WORDS_PER_LINE};
     ghost use Rattle.sci_cache.specs.Serving.{IsForCache};
     ghost use Rattle.sci_cache.specs.Line.{untouched};
@@ -119,19 +119,9 @@ impl Cache {
         ensures same { IsErr result → self.new ≡ self.old }
         ensures lines { length self.new.lines ≡ length self.old.lines }
     {
-        let free = self.has_slot();
-        let home = self.home_of(line);
-        let part = &mut self.lines[usize::from(line)];
-        let was_out = part.is_out();
-        let question = part.ask(kind, free)?;
-        self.taken = taken_after(self.taken, was_out, part.is_out());
-        Ok(Packet {
-            target: question.to.unwrap_or(home),
-            source: node(self.me),
-            control: question.control,
-            line: u64::from(line),
-            body: question.request,
-        })
+        let packet = self.packet_asked(line, kind)?;
+        self.apply_ask(line, kind);
+        Ok(packet)
     }
 
     /// The packet that an ask of this kind about a line would send now, or None where the ask would be refused.
@@ -141,17 +131,43 @@ impl Cache {
         ensures asked { IfSome result (λ packet. (next : CacheOf) × (cache_asking self.now line kind ≡ Ok (next, letter_of packet))) }
         ensures refused { result ≡ None → IsErr (cache_asking self.now line kind) }
     {
+        match self.packet_asked(line, kind) {
+            Ok(packet) => Some(packet),
+            Err(_) => None,
+        }
+    }
+
+    /// What `ask` would answer.
+    fn packet_asked(&self, line: u8, kind: AskKind) -> Result<Packet, AskFault>
+        requires { line < length self.now.lines }
+        ensures asked { IfOk result (λ packet. (next : CacheOf) × (cache_asking self.now line kind ≡ Ok (next, letter_of packet))) }
+        ensures refused { IfErr result (λ fault. cache_asking self.now line kind ≡ Err fault) }
+    {
         let free = self.has_slot();
         let home = self.home_of(line);
         let part = &self.lines[usize::from(line)];
-        let question = part.question(kind, free)?;
-        Some(Packet {
+        let question = part.asked(kind, free)?;
+        Ok(Packet {
             target: question.to.unwrap_or(home),
             source: node(self.me),
             control: question.control,
             line: u64::from(line),
             body: question.request,
         })
+    }
+
+    /// Makes the request that `asked` gave, which is sent then. The caller sees to it that there is such a line, and
+    /// that an ask of this kind about it would not be refused.
+    pub fn apply_ask(&mut self, line: u8, kind: AskKind)
+        requires line { line < length self.old.lines }
+        requires asked { IsOk (cache_asking self.old line kind) }
+        ensures asked { IfOk (cache_asking self.old line kind) (λ asked. self.new ≡ asked.0) }
+        ensures lines { length self.new.lines ≡ length self.old.lines }
+    {
+        let part = &mut self.lines[usize::from(line)];
+        let was_out = part.is_out();
+        part.ask(kind);
+        self.taken = taken_after(self.taken, was_out, part.is_out());
     }
 
     /// Serves a Cread, Purge, Roll or Setback about a line, and gives the answer, which goes back to the

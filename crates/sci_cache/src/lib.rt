@@ -3,7 +3,6 @@
 
 mod accept;
 mod ask;
-mod asked;
 mod cache;
 mod fault;
 mod held;

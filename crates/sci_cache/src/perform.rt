@@ -1,100 +1,58 @@
 //! What a processor can do with the contents of each state.
 
-ghost use Rattle.std.specs.Prelude.{◌≡◌, ◌<◌, ◌↔◌, IsTrue, IfErr};
+ghost use Rattle.std.specs.Prelude.{◌≡◌, ◌<◌, ◌^◌, ◌-◌, true, None, Some, option_map, if◌then◌else◌, nat_lt};
 ghost use Rattle.sci_words.specs.declared.limits.TheConstants.{WORDS_PER_LINE};
-ghost use Rattle.sci_cache.specs.declared.held.Held.TheVariants.{Below as HeldBelow};
-ghost use Rattle.sci_words.specs.Operation.{IsMaker};
-ghost use Rattle.sci_cache.specs.State.{Head, FreshHead as FreshHead_of, Below as Below_of};
-ghost use Rattle.sci_cache.specs.Performing.{performing, reply_on};
-ghost use Rattle.sci_cache.specs.Held.{performed_in};
+ghost use Rattle.sci_words.specs.Operation.{is_maker};
+ghost use Rattle.sci_words.specs.Stamped.{after, reply_of};
+ghost use Rattle.sci_cache.specs.Performing.{performing};
+ghost use Rattle.sci_cache.specs.Held.{state_of};
 
-use crate::held::{Held, Performed};
-use crate::states::*;
+use crate::held::Held;
 use sci_words::{Op, Reply, Stamped};
 
-/// What a load of these contents answers: its word, and their version.
-fn load(contents: &Stamped, op: Op) -> (Reply, u64)
-    requires word { op.word < WORDS_PER_LINE }
-    requires load { IsMaker op → ⊥ }
-    ensures { result ≡ (reply_on contents.now op, contents.now.version) }
+impl Held {
+    /// Performs an operation, and gives its reply and the version that it read or made. None, unchanged, if the state
+    /// doesn't allow it.
+    pub(crate) fn perform(&mut self, op: Op) -> Option<(Reply, u64)>
+        requires { op.word < WORDS_PER_LINE }
+        ensures case { performing (state_of self.old) op ≡ option_map (λ answer. record { reply = answer.0; version = answer.1; next = state_of self.new }) result }
+        ensures same { result ≡ None → self.new ≡ self.old }
+    {
+        match self {
+            Held::Head(state) if op.is_maker() && state.forward.is_none() => {
+                make(&mut state.contents, op)
+            }
+            Held::Head(state) => load(&state.contents, op),
+            Held::FreshHead(state) => load(&state.contents, op),
+            Held::Below(state) => load(&state.contents, op),
+            _ => None,
+        }
+    }
+}
+
+/// Performs a load of these contents. None for a maker.
+fn load(contents: &Stamped, op: Op) -> Option<(Reply, u64)>
+    requires { op.word < WORDS_PER_LINE }
+    ensures { result ≡ (if is_maker op then None else Some (reply_of contents.now.line op, contents.now.version)) }
 {
+    if op.is_maker() {
+        return None;
+    }
     let (_, reply) = (*contents).after(op);
-    (reply, contents.version)
+    Some((reply, contents.version))
 }
 
-/// Whether no version comes after that of these contents.
-fn is_last_version(contents: &Stamped) -> bool
-    ensures { IsTrue result ↔ contents.now.version ≡ u64.MAX }
+/// Performs a maker on contents of which there is no other copy. None, unchanged, if their version is the greatest.
+fn make(contents: &mut Stamped, op: Op) -> Option<(Reply, u64)>
+    requires word { op.word < WORDS_PER_LINE }
+    requires maker { is_maker op ≡ true }
+    ensures answer { result ≡ (if nat_lt contents.old.version (2 ^ 64 - 1) then Some (reply_of contents.old.line op, (after contents.old op).version) else None) }
+    ensures contents { contents.new ≡ (if nat_lt contents.old.version (2 ^ 64 - 1) then after contents.old op else contents.old) }
 {
-    contents.version == u64::MAX
-}
-
-impl HeadState {
-    /// Performs a load or, where there is no next entry, any operation, but for one whose version would be too
-    /// large. What is not allowed gives the state back.
-    pub(crate) fn perform(self, op: Op) -> Result<Performed, Held>
-        requires { op.word < WORDS_PER_LINE }
-        ensures case { performing (Head self.forward self.contents) op ≡ performed_in result }
-        ensures same { IfErr result (λ held. held ≡ Held.Head self) }
-    {
-        if !op.is_maker() {
-            let (reply, version) = load(&self.contents, op);
-            return Ok(Performed {
-                reply,
-                version,
-                next: Held::Head(self),
-            });
-        }
-        if self.forward.is_some() || is_last_version(&self.contents) {
-            return Err(Held::Head(self));
-        }
-        let (contents, reply) = self.contents.after(op);
-        let version = contents.version;
-        Ok(Performed {
-            reply,
-            version,
-            next: Held::Head(HeadState {
-                forward: None,
-                contents,
-            }),
-        })
+    if contents.version == u64::MAX {
+        return None;
     }
-}
-
-impl FreshHead {
-    /// Performs a load. A maker gives the state back.
-    pub(crate) fn perform(self, op: Op) -> Result<Performed, Held>
-        requires { op.word < WORDS_PER_LINE }
-        ensures case { performing (FreshHead_of self.forward self.contents) op ≡ performed_in result }
-        ensures same { IfErr result (λ held. held ≡ Held.FreshHead self) }
-    {
-        if op.is_maker() {
-            return Err(Held::FreshHead(self));
-        }
-        let (reply, version) = load(&self.contents, op);
-        Ok(Performed {
-            reply,
-            version,
-            next: Held::FreshHead(self),
-        })
-    }
-}
-
-impl Below {
-    /// Performs a load. A maker gives the state back.
-    pub(crate) fn perform(self, op: Op) -> Result<Performed, Held>
-        requires { op.word < WORDS_PER_LINE }
-        ensures case { performing (Below_of self.forward self.backward self.contents) op ≡ performed_in result }
-        ensures same { IfErr result (λ held. held ≡ HeldBelow self) }
-    {
-        if op.is_maker() {
-            return Err(Held::Below(self));
-        }
-        let (reply, version) = load(&self.contents, op);
-        Ok(Performed {
-            reply,
-            version,
-            next: Held::Below(self),
-        })
-    }
+    let (after, reply) = (*contents).after(op);
+    *contents = after;
+    Some((reply, contents.version))
 }

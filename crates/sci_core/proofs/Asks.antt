@@ -6,13 +6,10 @@ use Rattle.sci_words.specs.declared.event.AskKind.{AskKind}
 use Rattle.sci_packets.specs.declared.body.Body.{Body}
 use Rattle.sci_packets.specs.declared.packet.Packet.{Packet}
 use Rattle.sci_home.specs.declared.state.HomeState.{HomeState}
-use Rattle.sci_home.specs.Serving.{serving}
+use Rattle.sci_home.specs.Serving.{home_serving}
 use Rattle.sci_cache.specs.Cache.{CacheOf, Letter, letter_of, cache_asking}
 use Rattle.sci_core.specs.Node.{NodeOf, lines_of, home_of, home_place, asked_by, node_asking, served_at_home, serving_at_home}
-
-pub if_true : {X : Type 0} (b : Bool) (x y : X) → b ≡ true → (if b then x else y) ≡ x
-if_true true x y e = refl
-if_true false x y e = cc
+use Rattle.sci_core.proofs.Stepping.{if_true}
 
 pub asked_node : (node : NodeOf) (line : ℕ) (kind : AskKind) (next : CacheOf) (letter : Letter) → line < lines_of node → cache_asking node.cache line kind ≡ Ok (next, letter)
     → node_asking node line kind ≡ Some (record node { cache = next }, letter)
@@ -25,7 +22,7 @@ pub asked_some : (node : NodeOf) (line : ℕ) (kind : AskKind) (result : Option 
 asked_some node line kind None below h = h
 asked_some node line kind (Some packet) below h = (record node { cache = h.0 }, asked_node node line kind h.0 (letter_of packet) below h.1)
 
-pub home_served : (node : NodeOf) (request : Letter) (home next : HomeState) (answer : Body) → home ≡ home_of node request.line → serving home request.source request.body ≡ Some (next, answer)
+pub home_served : (node : NodeOf) (request : Letter) (home next : HomeState) (answer : Body) → home ≡ home_of node request.line → home_serving home request.source request.body ≡ Some (next, answer)
     → serving_at_home node request ≡ Some (record node { homes = set node.homes (home_place node request.line) next }, answer)
 home_served node request home next answer is e =
-    ap (served_at_home node request.line) (ap (λ (h : HomeState). serving h request.source request.body) (sym is) ∙ e)
+    ap (served_at_home node request.line) (ap (λ (h : HomeState). home_serving h request.source request.body) (sym is) ∙ e)

@@ -34,17 +34,6 @@ accepted_same cache line (Some s) new e =
 pub same_accepting : (cache : CacheOf) (line control : ℕ) (body : Body) (new : CacheOf) → cache_accepting cache line control body ≡ Some new → SameSizes cache new
 same_accepting cache line control body = accepted_same cache line (line_accepting (line_of cache line) control body)
 
-served_same : (cache : CacheOf) (line : ℕ) (served : Option (CacheState × Body)) (new : CacheOf) (answer : Body)
-    → (elim served as (λ _. Option (CacheOf × Body)) [ None ↦ None | Some s ↦ Some (with_line cache line (line_in (line_of cache line) s.0), s.1) ]) ≡ Some (new, answer)
-    → SameSizes cache new
-served_same cache line None new answer e = cc
-served_same cache line (Some s) new answer e =
-    let same : ◌≡◌ {A = CacheOf × Body} (with_line cache line (line_in (line_of cache line) s.0), s.1) (new, answer) = cc in
-    subst (λ (p : CacheOf × Body). SameSizes cache p.0) same (same_line cache line _)
-
-pub same_serving : (cache : CacheOf) (line n : ℕ) (body : Body) (new : CacheOf) (answer : Body) → cache_serving cache line n body ≡ Some (new, answer) → SameSizes cache new
-same_serving cache line n body = served_same cache line (serving (line_of cache line).state n body)
-
 performed_same : (cache : CacheOf) (line : ℕ) (done : Option Performed) (new : CacheOf) (reply : Reply) (version : ℕ)
     → (elim done as (λ _. Option (CacheOf × Reply × ℕ)) [ None ↦ None | Some d ↦ Some (with_line cache line (line_in (line_of cache line) d.next), d.reply, d.version) ]) ≡ Some (new, reply, version)
     → SameSizes cache new

@@ -6,7 +6,7 @@ use Rattle.sci_packets.specs.declared.body.Body.{Body}
 use Rattle.sci_packets.specs.declared.body.Body.TheVariants as body
 use Rattle.sci_packets.specs.Table.{is_request, IsRequest}
 use Rattle.sci_home.specs.declared.state.HomeState.{HomeState}
-use Rattle.sci_home.specs.Serving.{is_for_home, serving as serving_at}
+use Rattle.sci_home.specs.Serving.{is_for_home, home_serving}
 use Rattle.sci_cache.specs.State.{CacheState, waits}
 use Rattle.sci_cache.specs.Serving.{serving}
 use Rattle.sci_cache.specs.Accepting.{accepting}
@@ -33,7 +33,7 @@ use Rattle.sci_core.proofs.WellFormedSteps.{reached_well}
 
 -- ---- requests
 
-home_serves : (state : HomeState) (n : ℕ) (request : Body) → is_for_home request ≡ true → IsSome (serving_at state n request)
+home_serves : (state : HomeState) (n : ℕ) (request : Body) → is_for_home request ≡ true → IsSome (home_serving state n request)
 home_serves state n body.Mread e = refl
 home_serves state n body.Fread e = refl
 home_serves state n body.Claim e = refl
@@ -62,7 +62,7 @@ request_served node request asks =
     elim (cases_Bool (is_for_home request.body)) [
       | inl home ↦
           subst (λ (b : Bool). IsSome (if b then serving_at_home node request else serving_in_cache node request)) (sym home)
-          (home_served node request.line (serving_at (home_of node request.line) request.source request.body) (home_serves (home_of node request.line) request.source request.body home))
+          (home_served node request.line (home_serving (home_of node request.line) request.source request.body) (home_serves (home_of node request.line) request.source request.body home))
       | inr cache ↦
           subst (λ (b : Bool). IsSome (if b then serving_at_home node request else serving_in_cache node request)) (sym cache)
           (cache_served node request.line (serving (line_of node.cache request.line).state request.source request.body) (cache_serves (line_of node.cache request.line).state request.source request.body cache asks))

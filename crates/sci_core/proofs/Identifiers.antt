@@ -6,18 +6,18 @@ use Rattle.sci_words.specs.declared.event.AskKind.{AskKind}
 use Rattle.sci_words.specs.declared.event.AskKind.TheVariants as kind
 use Rattle.sci_words.specs.declared.operation.Op.{Op}
 use Rattle.sci_words.specs.Operation.{is_maker}
-use Rattle.sci_words.specs.Stamped.{after}
+use Rattle.sci_words.specs.Stamped.{after, reply_of}
 use Rattle.sci_packets.specs.declared.body.Body.{Body}
 use Rattle.sci_packets.specs.declared.body.Body.TheVariants as body
 use Rattle.sci_packets.specs.Table.{is_request}
 use Rattle.sci_home.specs.declared.state.HomeState.{HomeState}
 use Rattle.sci_home.specs.declared.state.HomeState.TheVariants as home
-use Rattle.sci_home.specs.Serving.{IsForHome, serving as serving_at_home, serving_claim, serving_clear, serving_wback}
+use Rattle.sci_home.specs.Serving.{IsForHome, home_serving as serving_at_home, serving_claim, serving_clear, serving_wback}
 use Rattle.sci_cache.specs.State.{CacheState, Out, Asking, Joining, FreshJoining, Head, FreshHead, Below, Purging, Claiming, Clearing, Returning, Rolling, Telling, Fading}
 use Rattle.sci_cache.specs.Asking.{Asked, asking}
 use Rattle.sci_cache.specs.Serving.{serving, is_next}
 use Rattle.sci_cache.specs.Accepting.{accepting}
-use Rattle.sci_cache.specs.Performing.{Performed, performing, reply_on}
+use Rattle.sci_cache.specs.Performing.{Performed, performing}
 use Rattle.sci_core.specs.WellFormed.{IsBelow, NamesNodes, HomeNamesNodes, BodyNamesNodes}
 use Rattle.sci_core.proofs.Lists.{if_either}
 
@@ -147,8 +147,8 @@ making_names nodes false room made read h k = k
 
 pub performing_names : (nodes : ℕ) (state : CacheState) (op : Op) → NamesNodes nodes state → IfSome (performing state op) (λ (d : Performed). NamesNodes nodes d.next)
 performing_names nodes (Head None c) op h =
-    making_names nodes (is_maker op) (nat_lt c.version (2 ^ 64 - 1)) (record { reply = reply_on c op; version = (after c op).version; next = Head None (after c op) }) (record { reply = reply_on c op; version = c.version; next = Head None c }) tt tt
-performing_names nodes (Head (Some q) c) op h = loading_names nodes (is_maker op) (record { reply = reply_on c op; version = c.version; next = Head (Some q) c }) h
-performing_names nodes (FreshHead f c) op h = loading_names nodes (is_maker op) (record { reply = reply_on c op; version = c.version; next = FreshHead f c }) h
-performing_names nodes (Below f b c) op h = loading_names nodes (is_maker op) (record { reply = reply_on c op; version = c.version; next = Below f b c }) h
+    making_names nodes (is_maker op) (nat_lt c.version (2 ^ 64 - 1)) (record { reply = reply_of c.line op; version = (after c op).version; next = Head None (after c op) }) (record { reply = reply_of c.line op; version = c.version; next = Head None c }) tt tt
+performing_names nodes (Head (Some q) c) op h = loading_names nodes (is_maker op) (record { reply = reply_of c.line op; version = c.version; next = Head (Some q) c }) h
+performing_names nodes (FreshHead f c) op h = loading_names nodes (is_maker op) (record { reply = reply_of c.line op; version = c.version; next = FreshHead f c }) h
+performing_names nodes (Below f b c) op h = loading_names nodes (is_maker op) (record { reply = reply_of c.line op; version = c.version; next = Below f b c }) h
 performing_names nodes _ op h = tt

@@ -91,14 +91,6 @@ node_with_entry node line p cache entry same at is =
       limit = is.limit;
     }
 
--- there is room in the log for what is pending
-pub log_has_room : (node : NodeOf) (line : ℕ) (p : Pending) → pending_on node line ≡ Some p → IsNode node → length node.log < node.limit
-log_has_room node line p at is =
-    let count = count_without node.pending line p at in
-    let logged = is.logged in
-    let issued = is.issued in
-    omega arith
-
 -- the home of a line stands among the homes
 pub home_below : (node : NodeOf) (line : ℕ) → line < lines_of node → IsNode node → line / node.cache.nodes < length node.homes
 home_below node line below is =

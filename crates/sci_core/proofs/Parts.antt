@@ -13,7 +13,7 @@ use Rattle.sci_packets.specs.declared.body.Body.TheVariants.{Busy}
 use Rattle.sci_packets.specs.Table.{is_request}
 use Rattle.sci_history.specs.declared.entry.Entry.{Entry}
 use Rattle.sci_home.specs.declared.state.HomeState.{HomeState}
-use Rattle.sci_home.specs.Serving.{opening_home, is_for_home, serving as serving_at_home_of}
+use Rattle.sci_home.specs.Serving.{opening_home, is_for_home, home_serving as serving_at_home_of}
 use Rattle.sci_cache.specs.declared.fault.AskFault.{AskFault}
 use Rattle.sci_cache.specs.declared.fault.AskFault.TheVariants.{NoSlot, NotNow}
 use Rattle.sci_cache.specs.State.{CacheState, is_out}
@@ -24,9 +24,10 @@ use Rattle.sci_cache.specs.Performing.{Performed, performing}
 use Rattle.sci_cache.specs.Line.{LineState, untouched, line_in, line_asked, last_control}
 use Rattle.sci_cache.specs.Cache.{CacheOf, Letter, line_of, with_line, has_slot, target_of, letter_asking, cache_asking}
 use Rattle.sci_core.specs.declared.pending.Pending.{Pending}
-use Rattle.sci_core.specs.Node.{NodeOf, lines_of, home_of, home_place, pending_on, may_issue, node_issued, node_issuing, node_logged, entry_of, performed_by, performing_pending, node_performing, asked_by, node_asking, answer_to, with_answer, served_at_home, served_in_cache, serving_at_home, serving_in_cache, serving_request, answered_by, node_serving, is_setback, node_refusing, replied_by, node_replying, accepted_by, node_accepting}
+use Rattle.sci_core.specs.Node.{NodeOf, lines_of, home_of, home_place, pending_on, may_issue, node_issued, node_issuing, node_logged, entry_of, performed_by, performing_pending, node_performing, asked_by, node_asking, answering, with_answer, served_at_home, served_in_cache, serving_at_home, serving_in_cache, serving_request, answered_by, node_serving, is_setback, node_refusing, replied_by, node_replying, accepted_by, node_accepting}
 use Rattle.sci_core.specs.WellFormed.{IsBelow, NamesNodes, HomeNamesNodes, BodyNamesNodes, IsRequestLetter, IsAnswerLetter, IsPart}
 use Rattle.sci_core.proofs.Lists.{at_set, if_either}
+use Rattle.sci_core.proofs.Options.{if_below}
 use Rattle.std.proofs.lemmas.List.Elements.{All-push}
 use Rattle.sci_core.proofs.Caches.{same_line}
 use Rattle.sci_core.proofs.Nodes.{node_with_cache, node_with_homes, node_with_waiting, node_with_issue, node_with_entry}
@@ -86,7 +87,7 @@ part_with_waiting size n part waiting answer is = record {
 -- ---- the answer to a request
 
 pub answer_letter : (nodes lines n : ℕ) (request : Letter) (answer : Body) → IsRequestLetter nodes lines request → request.target ≡ n → BodyNamesNodes nodes answer → is_request answer ≡ false
-    → IsAnswerLetter nodes lines (answer_to request answer) × ((answer_to request answer).source ≡ n)
+    → IsAnswerLetter nodes lines (answering request answer) × ((answering request answer).source ≡ n)
 answer_letter nodes lines n request answer asks to names not_asks =
     (record { letter_ok = record { target = asks.letter_ok.source; source = asks.letter_ok.target; about = asks.letter_ok.about; names = names }; answers = not_asks }, to)
 
@@ -193,18 +194,10 @@ made_part size n part line lacks None some lt below asks is = tt
 made_part size n part line true (Some asked) some lt below asks is = tt
 made_part size n part line false (Some asked) some lt below asks is = asked_part size n part line asked some lt below asks is
 
-asking_if : (size : Size) (n : ℕ) (part : NodeOf) (line : ℕ) (sent : Option (NodeOf × Letter)) → (line < lines_of part → IfSome sent (SendsWell size n))
-    → IfSome (if nat_lt line (lines_of part) then sent else None) (SendsWell size n)
-asking_if size n part line sent h =
-    elim (cases_Bool (nat_lt line (lines_of part))) [
-      | inl within ↦ subst (λ (b : Bool). IfSome (if b then sent else None) (SendsWell size n)) (sym within) (h (ltb-true line (lines_of part) within))
-      | inr beyond ↦ subst (λ (b : Bool). IfSome (if b then sent else None) (SendsWell size n)) (sym beyond) tt
-    ]
-
 pub part_asking : (size : Size) (n : ℕ) (part : NodeOf) (line : ℕ) (kind : AskKind) → 0 < size.nodes → n < size.nodes → IsPart size n part
     → IfSome (node_asking part line kind) (SendsWell size n)
 part_asking size n part line kind some lt is =
-    asking_if size n part line (asked_by part (cache_asking part.cache line kind)) (λ below.
+    if_below line (lines_of part) (SendsWell size n) (asked_by part (cache_asking part.cache line kind)) (λ below.
     let all = is.each in
     made_part size n part line (is_out (line_of part.cache line).state && not (has_slot part.cache)) (asking (line_of part.cache line).state kind) some lt (omega arith)
     (asking_names size.nodes (line_of part.cache line).state kind (is.states line)) is)
@@ -213,7 +206,7 @@ part_asking size n part line kind some lt is =
 
 pub record ServedWell (size : Size) (n : ℕ) (request : Letter) (served : NodeOf × Body) : Type 0 where
   pub next : IsPart size n served.0
-  pub answer : IsAnswerLetter size.nodes size.lines (answer_to request served.1) × ((answer_to request served.1).source ≡ n)
+  pub answer : IsAnswerLetter size.nodes size.lines (answering request served.1) × ((answering request served.1).source ≡ n)
 
 home_served_part : (size : Size) (n : ℕ) (part : NodeOf) (request : Letter) (served : Option (HomeState × Body)) → IsRequestLetter size.nodes size.lines request → request.target ≡ n → IfSome served (HomeServesWell size.nodes) → IsPart size n part
     → IfSome (served_at_home part request.line served) (ServedWell size n request)
@@ -243,7 +236,7 @@ request_part size n part request asks to is =
 answered_part : (size : Size) (n : ℕ) (request : Letter) (served : Option (NodeOf × Body)) → IfSome served (ServedWell size n request)
     → IfSome (answered_by request served) (IsPart size n)
 answered_part size n request None well = tt
-answered_part size n request (Some served) well = part_with_waiting size n served.0 (Some (answer_to request served.1)) well.answer well.next
+answered_part size n request (Some served) well = part_with_waiting size n served.0 (Some (answering request served.1)) well.answer well.next
 
 pub part_serving : (size : Size) (n : ℕ) (part : NodeOf) (request : Letter) → IsRequestLetter size.nodes size.lines request → request.target ≡ n → IsPart size n part
     → IfSome (node_serving part request) (IsPart size n)
@@ -258,7 +251,7 @@ pub part_refusing : (size : Size) (n : ℕ) (part : NodeOf) (request : Letter) �
 part_refusing size n part request asks to is =
     if_either (λ (o : Option NodeOf). IfSome o (IsPart size n)) (is_some part.waiting) None (if is_setback request.body then None else Some (with_answer part request Busy)) tt
     (if_either (λ (o : Option NodeOf). IfSome o (IsPart size n)) (is_setback request.body) None (Some (with_answer part request Busy)) tt
-    (part_with_waiting size n part (Some (answer_to request Busy)) (answer_letter size.nodes size.lines n request Busy asks to tt refl) is))
+    (part_with_waiting size n part (Some (answering request Busy)) (answer_letter size.nodes size.lines n request Busy asks to tt refl) is))
 
 -- ---- Reply
 

@@ -88,9 +88,6 @@ pub performs_where : (node : NodeOf) (line : ℕ) (pending : Pending) → pendin
 performs_where node line pending at =
     ap (λ (o : Option Pending). is_some (performing_pending node line o)) at ∙ is_done node line pending (performing (line_of node.cache pending.op.line).state pending.op)
 
-pub performs_nothing : (node : NodeOf) (line : ℕ) → pending_on node line ≡ None → is_some (node_performing node line) ≡ false
-performs_nothing node line at = ap (λ (o : Option Pending). is_some (performing_pending node line o)) at
-
 -- ---- a node that has a line alone
 
 made_or_read : (makes room : Bool) (made read : Performed) → room ≡ true → IsSome (if makes then (if room then Some made else None) else Some read)

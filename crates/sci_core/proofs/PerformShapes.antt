@@ -7,14 +7,14 @@ use Rattle.sci_words.specs.declared.stamped.Stamped.{Stamped}
 use Rattle.sci_words.specs.declared.operation.Act.{Act}
 use Rattle.sci_words.specs.declared.operation.Act.TheVariants.{Load, Store, Lock}
 use Rattle.sci_words.specs.declared.operation.Op.{Op}
-use Rattle.sci_words.specs.Operation.{effect_of_act, is_maker, is_making}
-use Rattle.sci_words.specs.Stamped.{line_after, after}
+use Rattle.sci_words.specs.Operation.{effect_of_act, is_maker, makes_version}
+use Rattle.sci_words.specs.Stamped.{line_after, after, reply_of}
 use Rattle.sci_packets.specs.declared.body.Body.{Body}
 use Rattle.sci_home.specs.declared.state.HomeState.{HomeState}
 use Rattle.sci_home.specs.declared.state.HomeState.TheVariants as at
 use Rattle.sci_home.specs.Serving.{head_of}
 use Rattle.sci_cache.specs.State.{CacheState, Head, contents_of}
-use Rattle.sci_cache.specs.Performing.{Performed, reply_on}
+use Rattle.sci_cache.specs.Performing.{Performed}
 use Rattle.sci_cache.specs.Member.{link_of}
 use Rattle.sci_core.specs.Fresh.{is_fresh}
 use Rattle.sci_history.specs.Seen.{IsAmong}
@@ -28,7 +28,7 @@ use Rattle.sci_core.proofs.Shapes.{AcceptsIn, IsLedFrom, IsShaped, Shaped, shape
 -- ---- a load
 
 -- a load leaves the line
-act_leaves : (words : List ℕ) (word : ℕ) (act : Act) → is_making act ≡ false → set words word (effect_of_act act (get_or words word 0)).0 ≡ words
+act_leaves : (words : List ℕ) (word : ℕ) (act : Act) → makes_version act ≡ false → set words word (effect_of_act act (get_or words word 0)).0 ≡ words
 act_leaves words word Load e = set-get_or words word 0
 act_leaves words word (Store x) e = cc
 act_leaves words word (Lock l) e = cc
@@ -67,7 +67,7 @@ pub record Moves (old new : View) (q : ℕ) (next : CacheState) : Type 0 where
 
 -- its reply and its version are those of the last contents, and the contents that it leaves are the last ones
 pub record Did (new : View) (home : HomeState) (c : Stamped) (op : Op) (done : Performed) : Type 0 where
-  pub reply : done.reply ≡ reply_on c op
+  pub reply : done.reply ≡ reply_of c.line op
   pub version : done.version ≡ (after c op).version
   pub shaped : Shaped new home (after c op)
 
@@ -138,7 +138,7 @@ performed_shaped old new home c q op done performs moves shaped =
     let agrees = member_agrees old home c shaped.0 q performs.behind member shaped.1 in
     let same : performs.contents ≡ c = has_last c performs.contents (old.state q) (old.answer q) performs.has agrees in
     record {
-      reply = performs.reply ∙ ap (λ (d : Stamped). reply_on d op) same;
+      reply = performs.reply ∙ ap (λ (d : Stamped). reply_of d.line op) same;
       version = performs.version ∙ ap (λ (d : Stamped). (after d op).version) same;
       shaped = left_shaped old new home c q op done.next moves (subst (λ (d : Stamped). Leaves (old.state q) op d done.next) same performs.leaves) shaped;
     }

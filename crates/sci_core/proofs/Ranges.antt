@@ -38,6 +38,7 @@ use Rattle.sci_core.specs.Reached.{IsReached}
 use Rattle.sci_core.specs.Sharing.{last_at, last_of}
 use Rattle.sci_core.specs.WellFormed.{IsWellFormed}
 use Rattle.sci_core.proofs.Histories.{IsKnown}
+use Rattle.sci_core.proofs.Lists.{if_either}
 use Rattle.sci_core.proofs.Logs.{short_log}
 use Rattle.sci_core.proofs.ReachedLaws.{log_at, log_beyond, reached_lawful, reached_logged, last_within, reached_log, reached_history}
 use Rattle.sci_core.proofs.WellFormedSteps.{reached_well}
@@ -47,9 +48,8 @@ use Rattle.sci_core.proofs.WellFormedSteps.{reached_well}
 sum_fits : (a b : ℕ) → word_sum a b < 2 ^ 64
 sum_fits a b = mod-lt (a + b) (omega arith)
 
-if_fits : (b : Bool) (x y : ℕ) → x < 2 ^ 64 → y < 2 ^ 64 → (if b then x else y) < 2 ^ 64
-if_fits true x y h k = h
-if_fits false x y h k = k
+abbrev Fits : ℕ → Type 0
+Fits word = word < 2 ^ 64
 
 both_fit : (a b : ℕ) → IsTrue (is_word a && is_word b) → (a < 2 ^ 64) × (b < 2 ^ 64)
 both_fit a b are = let parts = and_parts (is_word a) (is_word b) are in (ltb-true a (2 ^ 64) parts.0, ltb-true b (2 ^ 64) parts.1)
@@ -61,10 +61,10 @@ lock_fits (MaskSwap arg datum) old are lt =
     let second = and_le_l old (bit_not w64 arg) in
     let small = fits.1 in
     or_lt 64 (bit_and datum arg) (bit_and old (bit_not w64 arg)) (omega arith) (omega arith)
-lock_fits (CompareSwap arg datum) old are lt = if_fits (old == arg) datum old (both_fit arg datum are).1 lt
+lock_fits (CompareSwap arg datum) old are lt = if_either Fits (old == arg) datum old (both_fit arg datum are).1 lt
 lock_fits (FetchAdd datum) old are lt = sum_fits old datum
-lock_fits (BoundedAdd arg datum) old are lt = if_fits (old == arg) old (word_sum old datum) lt (sum_fits old datum)
-lock_fits (WrapAdd arg datum) old are lt = if_fits (old == arg) datum (word_sum old datum) (both_fit arg datum are).1 (sum_fits old datum)
+lock_fits (BoundedAdd arg datum) old are lt = if_either Fits (old == arg) old (word_sum old datum) lt (sum_fits old datum)
+lock_fits (WrapAdd arg datum) old are lt = if_either Fits (old == arg) datum (word_sum old datum) (both_fit arg datum are).1 (sum_fits old datum)
 
 act_gives : (act : Act) (old : ℕ) → IsTrue (has_words act) → old < 2 ^ 64 → ((effect_of_act act old).0 < 2 ^ 64) × IsReply (effect_of_act act old).1
 act_gives Load old fits lt = (lt, lt)

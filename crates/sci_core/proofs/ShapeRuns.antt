@@ -18,7 +18,7 @@ use Rattle.sci_cache.specs.Line.{LineState, untouched, line_in}
 use Rattle.sci_cache.specs.Member.{link_of}
 use Rattle.sci_cache.specs.Cache.{Letter, line_of}
 use Rattle.sci_core.specs.declared.lane.LaneKind.TheVariants.{Requests, Answers as AnswerLane}
-use Rattle.sci_core.specs.Node.{NodeOf, opening_node, lines_of, home_of, pending_on, answer_to, with_answer, node_issuing, node_performing, node_asking, node_serving, node_refusing, node_replying, node_accepting, IsPendingOn, no_node}
+use Rattle.sci_core.specs.Node.{NodeOf, opening_node, lines_of, home_of, pending_on, answering, with_answer, node_issuing, node_performing, node_asking, node_serving, node_refusing, node_replying, node_accepting, IsPendingOn, no_node}
 use Rattle.sci_core.specs.Core.{Core, node_at, with_node, with_lane, lane_place, stepping, step, opening}
 use Rattle.sci_core.specs.Done.{performed, TakesEffect, ChangesBy, made_by}
 use Rattle.sci_core.specs.Sharing.{is_about, answer_in, answer_to as told}
@@ -51,7 +51,7 @@ same_follows core new made line c none same shaped = unchanged new made line c n
 -- ---- requests that are taken
 
 -- the request that was taken, with an answer that waits
-answered : (core new : Core) (taking : NodeOf → Letter → Option NodeOf) (t : Taken core new Requests taking) (next : NodeOf) (body : Body) → IsWellFormed core → (node_at core t.node).waiting ≡ None → next.waiting ≡ Some (answer_to t.letter body)
+answered : (core new : Core) (taking : NodeOf → Letter → Option NodeOf) (t : Taken core new Requests taking) (next : NodeOf) (body : Body) → IsWellFormed core → (node_at core t.node).waiting ≡ None → next.waiting ≡ Some (answering t.letter body)
     → IsPart core.size t.node next → Answered core t.node t.place next t.letter t.rest body
 answered core new taking t next body well free waits is = record {
   some = t.some;
@@ -59,7 +59,7 @@ answered core new taking t next body well free waits is = record {
   within = t.within;
   front = t.front;
   asks = t.comes.0.asks;
-  answers = waiting_answers core.size t.node next (answer_to t.letter body) waits is;
+  answers = waiting_answers core.size t.node next (answering t.letter body) waits is;
   free = free;
   waiting = waits;
   asker = t.comes.0.letter_ok.source;

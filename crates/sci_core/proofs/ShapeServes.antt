@@ -9,12 +9,12 @@ use Rattle.sci_packets.specs.declared.body.Body.{Body}
 use Rattle.sci_packets.specs.declared.body.Body.TheVariants.{Busy}
 use Rattle.sci_packets.specs.Table.{is_request}
 use Rattle.sci_home.specs.declared.state.HomeState.{HomeState}
-use Rattle.sci_home.specs.Serving.{opening_home, serving as serving_of_home}
+use Rattle.sci_home.specs.Serving.{opening_home, home_serving as serving_of_home}
 use Rattle.sci_cache.specs.State.{CacheState, waits}
 use Rattle.sci_cache.specs.Serving.{serving}
 use Rattle.sci_cache.specs.Line.{LineState, untouched, line_in}
 use Rattle.sci_cache.specs.Cache.{Letter, line_of, with_line}
-use Rattle.sci_core.specs.Node.{NodeOf, is_setback, opening_node, lines_of, home_of, home_place, answer_to, with_answer, no_node}
+use Rattle.sci_core.specs.Node.{NodeOf, is_setback, opening_node, lines_of, home_of, home_place, answering, with_answer, no_node}
 use Rattle.sci_core.specs.Core.{Core, node_at, with_node, lane_at, with_lane}
 use Rattle.sci_core.specs.Sharing.{is_about, packets_of, answer_in, home_at, answer_to as told}
 use Rattle.sci_core.specs.Tidy.{IsSentIn, IsTidy}
@@ -40,7 +40,7 @@ pub record Answered (core : Core) (n place : ℕ) (next : NodeOf) (request : Let
   pub asks : is_request request.body ≡ true
   pub answers : is_request body ≡ false
   pub free : (node_at core n).waiting ≡ None
-  pub waiting : next.waiting ≡ Some (answer_to request body)
+  pub waiting : next.waiting ≡ Some (answering request body)
   pub asker : request.source < core.size.nodes
   pub known : request.line < core.size.lines
   pub to : request.target ≡ n
@@ -58,7 +58,7 @@ told_here core n place next request rest body is tidy =
     let a = request.source in
     let k = request.line in
     let about = about_from a k request refl (request_asker request is.asks) in
-    let answer = answer_to request body in
+    let answer = answering request body in
     let one = some_has_one (k % core.size.nodes) (line_of (node_at core a).cache k) (packets_of core a k) (lane_has core place request rest a k is.within is.front about) (tidy a k is.asker is.known) in
     let moved = packets_served core n next place request answer one.letter rest a k is.below is.within is.front is.free is.waiting about (about_answer a k request body is.asks is.answers ∙ about) one.one in
     let there : packets_of core a k ≡ request ∷ [] = one.one ∙ ap (λ (l : Letter). l ∷ []) (sym moved.same) in
@@ -73,7 +73,7 @@ told_here core n place next request rest body is tidy =
 -- what is under way to another node, or about another line, stays
 pub told_other : (core : Core) (n place : ℕ) (next : NodeOf) (request : Letter) (rest : List Letter) (body : Body) → Answered core n place next request rest body → (m k : ℕ) → ((m ≡ request.source) × (k ≡ request.line) → ⊥) → told (with_lane (with_node core n next) place rest) m k ≡ told core m k
 told_other core n place next request rest body is m k not =
-    let answer = answer_to request body in
+    let answer = answering request body in
     elim (cases_Bool (is_about m k request)) [
       | inl about ↦ absurd (not (sym (about_asker m k request about) ∙ request_asker request is.asks, sym (about_line m k request about)))
       | inr other ↦

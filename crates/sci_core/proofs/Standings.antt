@@ -7,13 +7,13 @@ use Rattle.sci_words.specs.declared.event.AskKind.{AskKind}
 use Rattle.sci_words.specs.declared.event.AskKind.TheVariants as kind
 use Rattle.sci_words.specs.declared.operation.Op.{Op}
 use Rattle.sci_words.specs.Operation.{is_maker}
-use Rattle.sci_words.specs.Stamped.{after}
+use Rattle.sci_words.specs.Stamped.{after, reply_of}
 use Rattle.sci_packets.specs.declared.body.Body.{Body}
 use Rattle.sci_packets.specs.declared.body.Body.TheVariants as body
 use Rattle.sci_cache.specs.State.{CacheState, Out, Asking, Joining, FreshJoining, Head, FreshHead, Below, Purging, Claiming, Clearing, Returning, Rolling, Telling, Fading, waits, contents_of}
 use Rattle.sci_cache.specs.Asking.{Asked, asking}
 use Rattle.sci_cache.specs.Accepting.{accepting}
-use Rattle.sci_cache.specs.Performing.{Performed, performing, reply_on}
+use Rattle.sci_cache.specs.Performing.{Performed, performing}
 use Rattle.sci_cache.specs.Member.{link_of}
 use Rattle.sci_core.specs.Fresh.{is_fresh}
 use Rattle.sci_cache.specs.Cache.{Letter}
@@ -163,7 +163,7 @@ pub record Performs (state : CacheState) (op : Op) (done : Performed) : Type 0 w
   pub idle : waits state ≡ false
   pub behind : Option ℕ
   pub member : link_of state None ≡ Some behind
-  pub reply : done.reply ≡ reply_on contents op
+  pub reply : done.reply ≡ reply_of contents.line op
   pub version : done.version ≡ (after contents op).version
   pub leaves : Leaves state op contents done.next
 
@@ -171,7 +171,7 @@ version_read : (c : Stamped) (op : Op) → is_maker op ≡ false → c.version �
 version_read c op e = ap (λ (b : Bool). if b then c.version + 1 else c.version) (sym e)
 
 reads : (state : CacheState) (op : Op) (c : Stamped) (f : Option ℕ) (makes : Bool) → contents_of state ≡ Some c → waits state ≡ false → link_of state None ≡ Some f → is_maker op ≡ makes
-    → IfSome (if makes then None else Some (record { reply = reply_on c op; version = c.version; next = state })) (Performs state op)
+    → IfSome (if makes then None else Some (record { reply = reply_of c.line op; version = c.version; next = state })) (Performs state op)
 reads state op c f true has idle member is = tt
 reads state op c f false has idle member is = record {
   contents = c;
@@ -185,7 +185,7 @@ reads state op c f false has idle member is = record {
 }
 
 makes_or_reads : (op : Op) (c : Stamped) (makes room : Bool) → is_maker op ≡ makes
-    → IfSome (if makes then (if room then Some (record { reply = reply_on c op; version = (after c op).version; next = Head None (after c op) }) else None) else Some (record { reply = reply_on c op; version = c.version; next = Head None c })) (Performs (Head None c) op)
+    → IfSome (if makes then (if room then Some (record { reply = reply_of c.line op; version = (after c op).version; next = Head None (after c op) }) else None) else Some (record { reply = reply_of c.line op; version = c.version; next = Head None c })) (Performs (Head None c) op)
 makes_or_reads op c true true is = record {
   contents = c;
   has = refl;

@@ -8,7 +8,7 @@ use Rattle.sci_packets.specs.Table.{is_request}
 use Rattle.sci_cache.specs.State.{waits}
 use Rattle.sci_cache.specs.Line.{LineState}
 use Rattle.sci_cache.specs.Cache.{Letter, line_of}
-use Rattle.sci_core.specs.Node.{NodeOf, opening_node, lines_of, answer_to, no_node}
+use Rattle.sci_core.specs.Node.{NodeOf, opening_node, lines_of, answering, no_node}
 use Rattle.sci_core.specs.Core.{Core, node_at, with_node, lane_at, with_lane}
 use Rattle.sci_core.specs.Sharing.{asker_of, is_about, packets_of}
 use Rattle.sci_core.specs.Tidy.{IsAwaited, HasItsPackets, IsTidy}
@@ -44,9 +44,9 @@ pub answer_asker : (letter : Letter) → is_request letter.body ≡ false → as
 answer_asker letter e = ap (λ (b : Bool). if b then letter.source else letter.target) e
 
 -- an answer is about what its request is about
-pub about_answer : (m k : ℕ) (request : Letter) (body : Body) → is_request request.body ≡ true → is_request body ≡ false → is_about m k (answer_to request body) ≡ is_about m k request
+pub about_answer : (m k : ℕ) (request : Letter) (body : Body) → is_request request.body ≡ true → is_request body ≡ false → is_about m k (answering request body) ≡ is_about m k request
 about_answer m k request body asks answers =
-    ap (λ (a : ℕ). (request.line == k) && (a == m)) (answer_asker (answer_to request body) answers ∙ sym (request_asker request asks))
+    ap (λ (a : ℕ). (request.line == k) && (a == m)) (answer_asker (answering request body) answers ∙ sym (request_asker request asks))
 
 -- ---- Issue and Perform
 
@@ -125,7 +125,7 @@ served_tidy core n place next request rest below within front asks answers is_an
     let keeps = keeps_node core n next answers.lines m k in
     let old = line_of (node_at core m).cache k in
     let line = line_of (node_at (with_node core n next) m).cache k in
-    let answer = answer_to request answers.body in
+    let answer = answering request answers.body in
     elim (cases_Bool (is_about m k request)) [
       | inl about ↦
           let one = some_has_one (k % core.size.nodes) old (packets_of core m k) (lane_has core place request rest m k within front about) (tidy m k mb kb) in

@@ -13,7 +13,7 @@ use Rattle.sci_history.specs.declared.entry.Entry.{Entry}
 use Rattle.sci_cache.specs.State.{waits}
 use Rattle.sci_cache.specs.Cache.{line_of}
 use Rattle.sci_core.specs.declared.lane.LaneKind.TheVariants.{Requests, Answers as AnswerLane}
-use Rattle.sci_core.specs.Node.{NodeOf, answer_to, node_issuing, node_performing, node_asking, node_serving, node_refusing, node_replying, node_accepting}
+use Rattle.sci_core.specs.Node.{NodeOf, answering, node_issuing, node_performing, node_asking, node_serving, node_refusing, node_replying, node_accepting}
 use Rattle.sci_core.specs.Core.{Core, node_at, with_node, lane_place, lane_at, lane_of, with_lane, changes, performs, sends, side, Takes, node_of, taken_as, taken_from, step_by, stepping, step, opening}
 use Rattle.sci_core.specs.Sharing.{is_about, packets_of}
 use Rattle.sci_core.specs.Tidy.{IsTidy}
@@ -137,7 +137,7 @@ served_advance : (core : Core) (n place : ℕ) (next : NodeOf) (request : Letter
     → (answers : Answers core.size.nodes request (node_at core n) next) → is_request answers.body ≡ false → IsTidy core → Advanced core (Some (Taken request.control, request)) (with_lane (with_node core n next) place rest)
 served_advance core n place next request rest below within front asks answers is_answer tidy m k mb kb =
     let new = with_lane (with_node core n next) place rest in
-    let answer = answer_to request answers.body in
+    let answer = answering request answers.body in
     elim (cases_Bool (is_about m k request)) [
       | inl about ↦
           let one = some_has_one (k % core.size.nodes) (line_of (node_at core m).cache k) (packets_of core m k) (lane_has core place request rest m k within front about) (tidy m k mb kb) in
@@ -174,9 +174,6 @@ changes_advance core n (Some next) lt well stays = changed_advance core n next l
 performs_advance : (core : Core) (n : ℕ) (done : Option (NodeOf × Entry)) → n < core.size.nodes → IsWellFormed core → IfSome done (λ (x : NodeOf × Entry). Stays core.size.nodes (node_at core n) x.0) → IfSome (step_by core n (performs done)) (Advanced core None)
 performs_advance core n None lt well stays = tt
 performs_advance core n (Some done) lt well stays = changed_advance core n done.0 lt well stays.waiting
-
-abbrev sent_mark : NodeOf × Letter → Mark × Letter
-sent_mark sent = (Asked sent.1.control, sent.1)
 
 asks_advance : (core : Core) (n line : ℕ) (sent : Option (NodeOf × Letter)) → n < core.size.nodes → IsWellFormed core → IsTidy core → IfSome sent (AsksOnce core.size.nodes line (node_at core n)) → IfSome sent (SendsWell core.size n)
     → IfSome (step_by core n (sends Requests sent)) (Advanced core (option_map (λ (s : NodeOf × Letter). (Asked s.1.control, s.1)) sent))

@@ -10,7 +10,7 @@ use Rattle.sci_packets.specs.declared.body.Body.{Body}
 use Rattle.sci_packets.specs.declared.body.Body.TheVariants.{Busy}
 use Rattle.sci_history.specs.declared.entry.Entry.{Entry}
 use Rattle.sci_home.specs.declared.state.HomeState.{HomeState}
-use Rattle.sci_home.specs.Serving.{is_for_home, serving as serving_at_home_of}
+use Rattle.sci_home.specs.Serving.{is_for_home, home_serving as serving_at_home_of}
 use Rattle.sci_cache.specs.declared.fault.AskFault.{AskFault}
 use Rattle.sci_cache.specs.declared.fault.AskFault.TheVariants.{NoSlot, NotNow}
 use Rattle.sci_cache.specs.State.{CacheState, waits, is_out}
@@ -21,7 +21,7 @@ use Rattle.sci_cache.specs.Performing.{Performed, performing}
 use Rattle.sci_cache.specs.Line.{LineState, untouched, last_control, line_in, line_asked}
 use Rattle.sci_cache.specs.Cache.{CacheOf, Letter, line_of, with_line, has_slot, target_of, letter_asking, cache_asking}
 use Rattle.sci_core.specs.declared.pending.Pending.{Pending}
-use Rattle.sci_core.specs.Node.{NodeOf, lines_of, home_of, pending_on, may_issue, node_issued, node_issuing, performed_by, performing_pending, node_performing, asked_by, node_asking, answer_to, served_at_home, served_in_cache, serving_at_home, serving_in_cache, serving_request, answered_by, node_serving, is_setback, with_answer, node_refusing, replied_by, node_replying, accepted_by, node_accepting}
+use Rattle.sci_core.specs.Node.{NodeOf, lines_of, home_of, pending_on, may_issue, node_issued, node_issuing, performed_by, performing_pending, node_performing, asked_by, node_asking, answering, served_at_home, served_in_cache, serving_at_home, serving_in_cache, serving_request, answered_by, node_serving, is_setback, with_answer, node_refusing, replied_by, node_replying, accepted_by, node_accepting}
 use Rattle.sci_core.specs.Tidy.{IsAwaited}
 use Rattle.sci_core.proofs.Lists.{if_either, at_place_set}
 use Rattle.sci_core.proofs.Options.{if_below}
@@ -120,7 +120,7 @@ pub record Answers (nodes : ℕ) (request : Letter) (old new : NodeOf) : Type 0 
   pub lines : KeepsLines nodes old.cache new.cache
   pub free : old.waiting ≡ None
   pub body : Body
-  pub waiting : new.waiting ≡ Some (answer_to request body)
+  pub waiting : new.waiting ≡ Some (answering request body)
 
 pub record ServesLines (nodes : ℕ) (old : NodeOf) (served : NodeOf × Body) : Type 0 where
   pub lines : KeepsLines nodes old.cache served.0.cache

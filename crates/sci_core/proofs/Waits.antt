@@ -7,14 +7,14 @@ use Rattle.sci_words.specs.declared.event.AskKind.TheVariants as kind
 use Rattle.sci_words.specs.declared.operation.Op.{Op}
 use Rattle.std.proofs.Common.{◌-◌, ◌^◌}
 use Rattle.sci_words.specs.Operation.{is_maker}
-use Rattle.sci_words.specs.Stamped.{after}
+use Rattle.sci_words.specs.Stamped.{after, reply_of}
 use Rattle.sci_packets.specs.declared.body.Body.{Body}
 use Rattle.sci_packets.specs.declared.body.Body.TheVariants as body
 use Rattle.sci_cache.specs.State.{CacheState, Out, Asking, Joining, FreshJoining, Head, FreshHead, Below, Purging, Claiming, Clearing, Returning, Rolling, Telling, Fading, waits}
 use Rattle.sci_cache.specs.Asking.{Asked, asking}
 use Rattle.sci_cache.specs.Serving.{serving, is_next}
 use Rattle.sci_cache.specs.Accepting.{accepting}
-use Rattle.sci_cache.specs.Performing.{Performed, performing, reply_on}
+use Rattle.sci_cache.specs.Performing.{Performed, performing}
 use Rattle.sci_cache.specs.Line.{LineState}
 use Rattle.sci_cache.specs.Cache.{Letter}
 use Rattle.sci_core.specs.Tidy.{IsSentIn, IsAwaited, HasItsPackets}
@@ -28,7 +28,7 @@ asks_letter home letter asked = (asked.to ≡ None → letter.target ≡ home) �
 pub record BeginsToWait (state : CacheState) (asked : Asked) : Type 0 where
   pub idle : waits state ≡ false
   pub waiting : waits asked.next ≡ true
-  pub sent : (home : ℕ) (letter : Letter) → (asked.to ≡ None → letter.target ≡ home) × ((p : ℕ) → asked.to ≡ Some p → letter.target ≡ p) × (letter.body ≡ asked.request) → IsSentIn home asked.next letter
+  pub sent : (home : ℕ) (letter : Letter) → asks_letter home letter asked → IsSentIn home asked.next letter
 
 pub asking_waits : (state : CacheState) (k : AskKind) → IfSome (asking state k) (BeginsToWait state)
 asking_waits Out kind.Mread = record { idle = refl; waiting = refl; sent = λ home letter h. (inl h.2, h.0 refl) }
@@ -92,11 +92,11 @@ makes_or_loads state false room made read h k = k
 
 pub performing_waits : (state : CacheState) (op : Op) → IfSome (performing state op) (λ (done : Performed). KeepsWait state done.next)
 performing_waits (Head None c) op =
-    makes_or_loads (Head None c) (is_maker op) (nat_lt c.version (2 ^ 64 - 1)) (record { reply = reply_on c op; version = (after c op).version; next = Head None (after c op) }) (record { reply = reply_on c op; version = c.version; next = Head None c })
+    makes_or_loads (Head None c) (is_maker op) (nat_lt c.version (2 ^ 64 - 1)) (record { reply = reply_of c.line op; version = (after c op).version; next = Head None (after c op) }) (record { reply = reply_of c.line op; version = c.version; next = Head None c })
     (record { wait = refl; sent = λ home letter h. elim h [ ] }) (same_wait (Head None c))
-performing_waits (Head (Some q) c) op = loads (Head (Some q) c) (is_maker op) (record { reply = reply_on c op; version = c.version; next = Head (Some q) c }) (same_wait (Head (Some q) c))
-performing_waits (FreshHead f c) op = loads (FreshHead f c) (is_maker op) (record { reply = reply_on c op; version = c.version; next = FreshHead f c }) (same_wait (FreshHead f c))
-performing_waits (Below f b c) op = loads (Below f b c) (is_maker op) (record { reply = reply_on c op; version = c.version; next = Below f b c }) (same_wait (Below f b c))
+performing_waits (Head (Some q) c) op = loads (Head (Some q) c) (is_maker op) (record { reply = reply_of c.line op; version = c.version; next = Head (Some q) c }) (same_wait (Head (Some q) c))
+performing_waits (FreshHead f c) op = loads (FreshHead f c) (is_maker op) (record { reply = reply_of c.line op; version = c.version; next = FreshHead f c }) (same_wait (FreshHead f c))
+performing_waits (Below f b c) op = loads (Below f b c) (is_maker op) (record { reply = reply_of c.line op; version = c.version; next = Below f b c }) (same_wait (Below f b c))
 performing_waits _ op = tt
 
 -- ---- accepting

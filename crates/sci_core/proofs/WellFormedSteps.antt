@@ -17,7 +17,7 @@ use Rattle.sci_core.specs.declared.lane.LaneKind.{LaneKind}
 use Rattle.sci_core.specs.declared.lane.LaneKind.TheVariants.{Requests, Answers}
 use Rattle.sci_core.specs.Node.{NodeOf, opening_node, node_issuing, node_performing, node_asking, node_replying, no_node}
 use Rattle.sci_core.specs.Core.{Core, node_at, with_node, lane_place, lane_of, with_lane, Side, Idle, Changes, Sends, Takes, changes, performs, sends, side, node_of, sent_by, taken_as, taken_from, step_by, stepping, step, opening, run_from, run}
-use Rattle.sci_core.specs.Reached.{IsReached}
+use Rattle.sci_core.specs.Reached.{IsReachedNode, IsReached}
 use Rattle.sci_core.specs.WellFormed.{NamesNodes, HomeNamesNodes, IsRequestLetter, IsAnswerLetter, IsInLane, IsPart, IsWellFormed}
 use Rattle.sci_words.specs.declared.limits.TheConstants.{CONTROLS, MAX_OPERATIONS}
 use Rattle.sci_core.proofs.Nodes.{opening_is_node}
@@ -222,9 +222,6 @@ reached_well core reached =
     let some = reached.size.extent.has_node in
     subst IsWellFormed reached.leads (run_well (opening core.size) reached.schedule (opening_well core.size (omega arith) reached.size.few_operations)).well
 
-pub reached_opening : (size : Size) → IsSize size → IsReached (opening size)
-reached_opening size sizes = record { size = sizes; schedule = []; leads = refl }
-
 -- one event more
 pub reached_stepping : (core next : Core) (e : Event) → IsReached core → stepping core e ≡ Some next → IsReached next
 reached_stepping core next e reached steps =
@@ -248,3 +245,7 @@ reached_either (Err f) old new e reached done same = subst IsReached (sym (same 
 pub size_either : {T E : Type 0} (result : Result T E) (old new : Core) (e : Event) → IsReached old → IfOk result (λ _. stepping old e ≡ Some new) → (IsErr result → new ≡ old) → new.size ≡ old.size
 size_either (Ok x) old new e reached done same = (subst (λ (o : Option Core). IfSome o (StepsWell old)) done (stepping_well old e (reached_well old reached))).same
 size_either (Err f) old new e reached done same = ap (λ (core : Core). core.size) (same refl)
+
+-- a node of a reached state fits its machine
+pub reached_part : (n : ℕ) (node : NodeOf) (is : IsReachedNode n node) → IsPart is.core.size n node
+reached_part n node is = subst (IsPart is.core.size n) is.here ((reached_well is.core is.reached).each_part n is.some)

@@ -3,9 +3,8 @@ use Rattle.std.specs.Prelude.{◌≡◌, ◌<◌, ℕ, List, [], ◌∷◌, ◌+
 use Rattle.sci_words.specs.declared.stamped.Stamped.{Stamped}
 use Rattle.sci_words.specs.declared.event.Event.{Event}
 use Rattle.sci_words.specs.declared.event.Event.TheVariants as event
-use Rattle.sci_words.specs.Stamped.{after}
+use Rattle.sci_words.specs.Stamped.{after, reply_of}
 use Rattle.sci_history.specs.declared.entry.Entry.{Entry}
-use Rattle.sci_history.specs.Memory.{reply_of}
 use Rattle.sci_core.specs.Size.{Size}
 use Rattle.sci_core.specs.Node.{node_performing}
 use Rattle.sci_core.specs.Core.{Core, node_at, stepping, step, opening}

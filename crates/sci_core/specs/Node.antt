@@ -11,7 +11,7 @@ use Rattle.sci_packets.specs.declared.body.Body.TheVariants.{Setback, Busy}
 use Rattle.sci_history.specs.declared.entry.Entry.{Entry}
 use Rattle.sci_home.specs.declared.state.HomeState.{HomeState}
 use Rattle.sci_packets.specs.Table.{IsRequest}
-use Rattle.sci_home.specs.Serving.{opening_home, is_for_home, IsForHome, serving}
+use Rattle.sci_home.specs.Serving.{opening_home, is_for_home, IsForHome, home_serving}
 use Rattle.sci_cache.specs.declared.fault.AskFault.{AskFault}
 use Rattle.sci_cache.specs.Line.{untouched}
 use Rattle.sci_cache.specs.Cache.{CacheOf, Letter, cache_asking, cache_serving, cache_accepting, cache_performing}
@@ -102,11 +102,11 @@ node_asking node line kind = if nat_lt line (lines_of node) then asked_by node (
 -- ---- Serve and Refuse
 
 -- the answer to a request goes back to its sender
-abbrev pub answer_to : Letter → Body → Letter
-answer_to request body = record { target = request.source; source = request.target; control = request.control; line = request.line; body = body }
+abbrev pub answering : Letter → Body → Letter
+answering request body = record { target = request.source; source = request.target; control = request.control; line = request.line; body = body }
 
 abbrev pub with_answer : NodeOf → Letter → Body → NodeOf
-with_answer node request body = record node { waiting = Some (answer_to request body) }
+with_answer node request body = record node { waiting = Some (answering request body) }
 
 abbrev pub served_at_home : NodeOf → ℕ → Option (HomeState × Body) → Option (NodeOf × Body)
 served_at_home node line None = None
@@ -117,7 +117,7 @@ served_in_cache node None = None
 served_in_cache node (Some served) = Some (record node { cache = served.0 }, served.1)
 
 abbrev pub serving_at_home : NodeOf → Letter → Option (NodeOf × Body)
-serving_at_home node request = served_at_home node request.line (serving (home_of node request.line) request.source request.body)
+serving_at_home node request = served_at_home node request.line (home_serving (home_of node request.line) request.source request.body)
 
 abbrev pub serving_in_cache : NodeOf → Letter → Option (NodeOf × Body)
 serving_in_cache node request = served_in_cache node (cache_serving node.cache request.line request.source request.body)

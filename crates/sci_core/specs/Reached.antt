@@ -1,11 +1,19 @@
 -- The states where a schedule leads.
-use Rattle.std.specs.Prelude.{◌≡◌, List}
+use Rattle.std.specs.Prelude.{◌≡◌, ◌<◌, ℕ, List}
 use Rattle.sci_words.specs.declared.event.Event.{Event}
-use Rattle.sci_core.specs.Core.{Core, run}
+use Rattle.sci_core.specs.Core.{Core, node_at, run}
 use Rattle.sci_core.specs.Size.{IsSize}
+use Rattle.sci_core.specs.Node.{NodeOf}
 
 -- a schedule is any finite list of events
 pub record IsReached (core : Core) : Type 0 where
   pub size : IsSize core.size
   pub schedule : List Event
   pub leads : run core.size schedule ≡ core
+
+-- a node of a state where a schedule leads
+pub record IsReachedNode (n : ℕ) (node : NodeOf) : Type 0 where
+  pub core : Core
+  pub reached : IsReached core
+  pub some : n < core.size.nodes
+  pub here : node_at core n ≡ node

@@ -1,7 +1,7 @@
 -- Where a run stands that memory stopped.
 use Rattle.std.specs.Prelude.{◌≡◌, ℕ, List, take, slice_get, Some, IsSome, IsTrue}
 use Rattle.sci_words.specs.declared.event.Event.{Event}
-use Rattle.sci_core.specs.Core.{Core, run_from, stepping}
+use Rattle.sci_core.specs.Core.{Core, IsEnabled, run_from}
 use Rattle.sci_core.specs.Fault.{is_sending}
 
 -- the state is the one where the events before some Ask or Reply lead, which is enabled there
@@ -10,5 +10,5 @@ pub record IsStoppedAt (old new : Core) (events : List Event) : Type 0 where
   pub event : Event
   pub refused : slice_get events place ≡ Some event
   pub stands : new ≡ run_from old (take place events)
-  pub enabled : IsSome (stepping new event)
+  pub enabled : IsEnabled new event
   pub sends : IsTrue (is_sending event)

@@ -25,8 +25,8 @@ ghost use Rattle.sci_core.specs.Coherent.{IsCoherent};
 ghost use Rattle.sci_core.specs.Done.{LastChanges, done, made_by};
 ghost use Rattle.sci_core.specs.Outcome.{logs_of};
 ghost use Rattle.sci_core.specs.Size.{Size, IsSize};
-ghost use Rattle.sci_core.specs.Reached.{IsReached};
-ghost use Rattle.sci_core.specs.WellFormed.{IsWellFormed};
+ghost use Rattle.sci_core.specs.Reached.{IsReached, IsReachedNode};
+ghost use Rattle.sci_core.specs.WellFormed.{IsPart, IsWellFormed};
 ghost use Rattle.sci_core.specs.Shape.{HasShapes};
 ghost use Rattle.sci_core.specs.Sharing.{last_at, last_of};
 ghost use Rattle.sci_core.specs.Tidy.{AreAccepted, IsTidy};
@@ -153,4 +153,10 @@ pub fn performs_end_the_log()
 pub fn sole_copies_perform()
     ensures { (core : Core) (n line : ℕ) (pending : Pending) (c : Stamped) → IsReached core → n < core.size.nodes → line < core.size.lines →
         pending_on (node_at core n) line ≡ Some pending → (line_of (node_at core n).cache line).state ≡ Head None c → IsSome (node_performing (node_at core n) line) }
+{}
+
+/// A node of a reached state is a part of a machine of that state's size, with its own number: its cache, its homes, its
+/// pending operations and its log fit together, and each identifier in it names a node.
+pub fn reached_nodes_are_parts()
+    ensures { (n : ℕ) (node : NodeOf) (is : IsReachedNode n node) → IsPart is.core.size n node }
 {}

@@ -17,6 +17,7 @@ mod taking;
 pub use fault::ApplyFault;
 pub use lane::{Lane, LaneKind};
 pub use laws::{
+    reached_nodes_are_parts,
     sole_copies_perform,
     performs_end_the_log,
     issues_are_pending,

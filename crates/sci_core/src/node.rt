@@ -2,13 +2,12 @@
 
 ghost use Rattle.std.specs.Prelude.{◌≡◌, true};
 ghost use Rattle.sci_words.specs.Operation.{has_words};
-ghost use Rattle.sci_home.specs.Serving.{is_for_home as is_for_home_of};
 
 use crate::pending::Pending;
 use crate::taking::Taking;
 use sci_cache::{Cache, Held};
 use sci_history::Entry;
-use sci_home::Home;
+use sci_home::{Home, is_for_home};
 use sci_packets::{Body, Packet};
 use sci_words::{Act, AskKind, Extent, LockOp, Op, WORDS_PER_LINE};
 use std::alloc::{AllocError, Global};
@@ -42,16 +41,6 @@ impl Model for Node {
     ghost invariant = { λ node. FitsInside node.me node.extent node.cache (vec_capacity node.log) node.limit × IsNode (record { cache = node.cache; homes = node.homes.items; pending = node.pending.items; issued = node.issued; limit = node.limit; log = node.log.items; waiting = option_map letter_of node.waiting }) };
 }
 
-/// Whether a request is for the home of its line, and not for a cache.
-fn is_for_home(request: &Body) -> bool
-    ensures { result ≡ is_for_home_of request.now }
-{
-    matches!(
-        request,
-        Body::Mread | Body::Fread | Body::Claim | Body::Clear | Body::Wback(_)
-    )
-}
-
 /// Reads the operands of an operation, which tells the prover that they are words.
 fn read_words(act: Act)
     ensures { has_words act ≡ true }
@@ -77,7 +66,7 @@ impl Node {
     ghost use Rattle.sci_home.specs.Serving.{is_for_home, IsForHome};
     ghost use Rattle.sci_cache.specs.Held.{state_of};
     ghost use Rattle.sci_cache.specs.Cache.{letter_of, line_of};
-    ghost use Rattle.sci_core.specs.Node.{NodeOf, opening_node, lines_of, home_of, pending_on, IsForNode, IsServable, node_issuing, node_performing, node_asking, node_serving, node_refusing, node_replying, node_accepting, may_issue as may_issue_of, serving_at_home, serving_in_cache, answer_to};
+    ghost use Rattle.sci_core.specs.Node.{NodeOf, opening_node, lines_of, home_of, pending_on, IsForNode, IsServable, node_issuing, node_performing, node_asking, node_serving, node_refusing, node_replying, node_accepting, may_issue as may_issue_of, serving_at_home, serving_in_cache, answering};
 
     /// The node with the number `me` in a machine of this size, whose processor may issue `limit` operations.
     /// The caller sees to it that there is such a node, and that `limit` is 1 to 65,536. Refused where memory
@@ -236,7 +225,7 @@ impl Node {
         requires servable { IsServable self.old (letter_of request.now) }
         requires home { IsForHome request.now.body }
         ensures served { serving_at_home self.old (letter_of request.now) ≡ Some (self.new, result.body) }
-        ensures answer { letter_of result ≡ answer_to (letter_of request.now) result.body }
+        ensures answer { letter_of result ≡ answering (letter_of request.now) result.body }
         ensures waiting { self.new.waiting ≡ self.old.waiting }
     {
         let place = request.line as usize / usize::from(self.extent.nodes);
@@ -247,7 +236,7 @@ impl Node {
         requires servable { IsServable self.old (letter_of request.now) }
         requires cache { is_for_home request.now.body ≡ false }
         ensures served { serving_in_cache self.old (letter_of request.now) ≡ Some (self.new, result.body) }
-        ensures answer { letter_of result ≡ answer_to (letter_of request.now) result.body }
+        ensures answer { letter_of result ≡ answering (letter_of request.now) result.body }
         ensures waiting { self.new.waiting ≡ self.old.waiting }
     {
         self.cache.serve(request)
@@ -317,10 +306,10 @@ impl Node {
     pub fn pending(&self, line: u8) -> Option<Pending>
         ensures { result ≡ pending_on self.now line }
     {
-        if line >= self.extent.lines {
-            return None;
+        match self.pending.get(usize::from(line)) {
+            Some(pending) => *pending,
+            None => None,
         }
-        self.pending[usize::from(line)]
     }
 
     /// The answer that waits to be sent, if one does.

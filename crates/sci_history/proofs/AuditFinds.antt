@@ -12,7 +12,7 @@ use Rattle.std.proofs.lemmas.List.Folds.{list_any-append}
 use Rattle.std.proofs.lemmas.List.Elements.{filter-append, All-from_recursion}
 use Rattle.sci_words.specs.Stamped.{line_after}
 use Rattle.sci_history.specs.Placed.{is_making, makes, is_of_node}
-use Rattle.sci_history.specs.Audit.{last_of, words_after}
+use Rattle.sci_history.specs.Audit.{last_entry, words_after}
 use Rattle.sci_history.proofs.Order.{filter_yes, filter_no}
 use Rattle.sci_history.proofs.AuditOrders.{last_of-push}
 use Rattle.sci_history.proofs.AuditVersions.{none_fail, versions_within}
@@ -140,17 +140,17 @@ words_more refs n lt = ap words_after (take_entries_more refs n lt) ∙ words_af
 
 -- ---- each node's latest entry
 
-pub latest_own : (refs : List (Bor Entry)) (n node : ℕ) → n < length refs → (entry_at refs n).node ≡ node → last_of None (filter (is_of_node node) (take (n + 1) (entries_of refs))) ≡ Some (entry_at refs n)
+pub latest_own : (refs : List (Bor Entry)) (n node : ℕ) → n < length refs → (entry_at refs n).node ≡ node → last_entry None (filter (is_of_node node) (take (n + 1) (entries_of refs))) ≡ Some (entry_at refs n)
 latest_own refs n node lt own =
     let p = is_of_node node in
     let before = take n (entries_of refs) in
-    ap (λ (es : List Entry). last_of None (filter p es)) (take_entries_more refs n lt)
-    ∙ ap (last_of None) (filter-append p before (entry_at refs n ∷ []) ∙ ap (λ (es : List Entry). filter p before ++ es) (filter_yes p (entry_at refs n) [] (eq-eqb (entry_at refs n).node node own)))
+    ap (λ (es : List Entry). last_entry None (filter p es)) (take_entries_more refs n lt)
+    ∙ ap (last_entry None) (filter-append p before (entry_at refs n ∷ []) ∙ ap (λ (es : List Entry). filter p before ++ es) (filter_yes p (entry_at refs n) [] (eq-eqb (entry_at refs n).node node own)))
     ∙ last_of-push None (filter p before) (entry_at refs n)
 
-pub latest_other : (refs : List (Bor Entry)) (n node : ℕ) → n < length refs → ((entry_at refs n).node ≡ node → ⊥) → last_of None (filter (is_of_node node) (take (n + 1) (entries_of refs))) ≡ last_of None (filter (is_of_node node) (take n (entries_of refs)))
+pub latest_other : (refs : List (Bor Entry)) (n node : ℕ) → n < length refs → ((entry_at refs n).node ≡ node → ⊥) → last_entry None (filter (is_of_node node) (take (n + 1) (entries_of refs))) ≡ last_entry None (filter (is_of_node node) (take n (entries_of refs)))
 latest_other refs n node lt other =
     let p = is_of_node node in
     let before = take n (entries_of refs) in
-    ap (λ (es : List Entry). last_of None (filter p es)) (take_entries_more refs n lt)
-    ∙ ap (last_of None) (filter-append p before (entry_at refs n ∷ []) ∙ ap (λ (es : List Entry). filter p before ++ es) (filter_no p (entry_at refs n) [] (ne_eqb (entry_at refs n).node node other)) ∙ append-nil (filter p before))
+    ap (λ (es : List Entry). last_entry None (filter p es)) (take_entries_more refs n lt)
+    ∙ ap (last_entry None) (filter-append p before (entry_at refs n ∷ []) ∙ ap (λ (es : List Entry). filter p before ++ es) (filter_no p (entry_at refs n) [] (ne_eqb (entry_at refs n).node node other)) ∙ append-nil (filter p before))

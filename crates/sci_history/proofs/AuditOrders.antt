@@ -7,7 +7,7 @@ use Rattle.std.proofs.lemmas.List.{append-nil}
 use Rattle.std.proofs.lemmas.List.Elements.{filter-append, All-from_recursion}
 use Rattle.sci_history.specs.declared.entry.Entry.{Entry}
 use Rattle.sci_history.specs.Placed.{is_of_node, is_making}
-use Rattle.sci_history.specs.Audit.{last_of, is_placed_before, breaks_order, is_out_of_order, first_disordered}
+use Rattle.sci_history.specs.Audit.{last_entry, is_placed_before, breaks_order, is_out_of_order, first_disordered}
 use Rattle.sci_history.proofs.Order.{IsInOrder, filter_yes, filter_no, all_weaker}
 use Rattle.sci_history.proofs.Placement.{place, pairs-head, pairs-tail}
 use Rattle.sci_history.proofs.AuditVersions.{NoneFail, none_fail, from_none_fail}
@@ -94,11 +94,11 @@ abbrev Linked : Option Entry → List Entry → Type 0
 Linked previous [] = Unit {0}
 Linked previous (entry ∷ entries) = (breaks_order previous entry ≡ false) × Linked (Some entry) entries
 
-pub last_of-push : (found : Option Entry) (before : List Entry) (entry : Entry) → last_of found (before ++ entry ∷ []) ≡ Some entry
+pub last_of-push : (found : Option Entry) (before : List Entry) (entry : Entry) → last_entry found (before ++ entry ∷ []) ≡ Some entry
 last_of-push found [] entry = refl
 last_of-push found (first ∷ before) entry = last_of-push (Some first) before entry
 
-linked : (node : ℕ) (before entries : List Entry) → NoneFail is_out_of_order before entries → Linked (last_of None (filter (is_of_node node) before)) (filter (is_of_node node) entries)
+linked : (node : ℕ) (before entries : List Entry) → NoneFail is_out_of_order before entries → Linked (last_entry None (filter (is_of_node node) before)) (filter (is_of_node node) entries)
 linked node before [] h = tt
 linked node before (entry ∷ entries) h =
     let p = is_of_node node in
@@ -107,14 +107,14 @@ linked node before (entry ∷ entries) h =
     elim (cases_eq entry.node node) [
       | inl own ↦
           let is : p entry ≡ true = eq-eqb entry.node node own in
-          let last : last_of None (filter p (before ++ entry ∷ [])) ≡ Some entry =
-          ap (last_of None) (pushed ∙ ap (λ es. filter p before ++ es) (filter_yes p entry [] is)) ∙ last_of-push None (filter p before) entry in
-          let here : breaks_order (last_of None (filter p before)) entry ≡ false = subst (λ (n : ℕ). breaks_order (last_of None (filter (is_of_node n) before)) entry ≡ false) own h.0 in
+          let last : last_entry None (filter p (before ++ entry ∷ [])) ≡ Some entry =
+          ap (last_entry None) (pushed ∙ ap (λ es. filter p before ++ es) (filter_yes p entry [] is)) ∙ last_of-push None (filter p before) entry in
+          let here : breaks_order (last_entry None (filter p before)) entry ≡ false = subst (λ (n : ℕ). breaks_order (last_entry None (filter (is_of_node n) before)) entry ≡ false) own h.0 in
           rw (filter_yes p entry entries is) (here, subst (λ (o : Option Entry). Linked o (filter p entries)) last rest)
       | inr other ↦
           let isnt : p entry ≡ false = ne_eqb entry.node node other in
           let same : filter p (before ++ entry ∷ []) ≡ filter p before = pushed ∙ ap (λ es. filter p before ++ es) (filter_no p entry [] isnt) ∙ append-nil (filter p before) in
-          rw (filter_no p entry entries isnt) (subst (λ (es : List Entry). Linked (last_of None es) (filter p entries)) same rest)
+          rw (filter_no p entry entries isnt) (subst (λ (es : List Entry). Linked (last_entry None es) (filter p entries)) same rest)
     ]
 
 abbrev pub RisesFrom : Entry → List Entry → Type 0
@@ -174,7 +174,7 @@ rises_from_pairs [] h k = tt
 rises_from_pairs (entry ∷ entries) h k =
     (both_follow entry entries (pairs-head (λ x y. x.serial < y.serial) entry entries h) k.0, rises_from_pairs entries (pairs-tail (λ x y. x.serial < y.serial) entry entries h) k.1)
 
-last_follows : (found : Option Entry) (before after : List Entry) (entry : Entry) → IfSome found (λ p. Follows p entry) → Rises (before ++ entry ∷ after) → IfSome (last_of found before) (λ p. Follows p entry)
+last_follows : (found : Option Entry) (before after : List Entry) (entry : Entry) → IfSome found (λ p. Follows p entry) → Rises (before ++ entry ∷ after) → IfSome (last_entry found before) (λ p. Follows p entry)
 last_follows found [] after entry h k = h
 last_follows found (first ∷ before) after entry h k = last_follows (Some first) before after entry (at_entry before after first entry k.0) k.1
 
@@ -188,7 +188,7 @@ from_rises before (entry ∷ entries) h =
     let p = is_of_node entry.node in
     let own : filter p (before ++ entry ∷ entries) ≡ filter p before ++ entry ∷ filter p entries =
     filter-append p before (entry ∷ entries) ∙ ap (λ es. filter p before ++ es) (filter_yes p entry entries (eq-eqb entry.node entry.node refl)) in
-    (unbroken (last_of None (filter p before)) entry (last_follows None (filter p before) (filter p entries) entry tt (subst Rises own (h entry))), from_rises (before ++ entry ∷ []) entries (λ e. subst (λ (es : List Entry). Rises (filter (is_of_node e.node) es)) (sym (append_assoc before (entry ∷ []) entries)) (h e)))
+    (unbroken (last_entry None (filter p before)) entry (last_follows None (filter p before) (filter p entries) entry tt (subst Rises own (h entry))), from_rises (before ++ entry ∷ []) entries (λ e. subst (λ (es : List Entry). Rises (filter (is_of_node e.node) es)) (sym (append_assoc before (entry ∷ []) entries)) (h e)))
 
 pub ordered_from_rises : (entries : List Entry) → ((node : ℕ) → Rises (filter (is_of_node node) entries)) → first_disordered entries ≡ None
 ordered_from_rises entries h = from_none_fail is_out_of_order [] entries (from_rises [] entries (λ e. h e.node))

@@ -11,9 +11,9 @@ use Rattle.sci_words.specs.declared.operation.Reply.{Reply}
 use Rattle.sci_words.specs.declared.operation.Reply.TheVariants.{Stored, Got}
 use Rattle.sci_words.specs.declared.stamped.Stamped.{Stamped}
 use Rattle.sci_words.specs.Operation.{is_maker}
-use Rattle.sci_words.specs.Stamped.{line_after, after, zero_line, zero_stamped}
+use Rattle.sci_words.specs.Stamped.{line_after, after, zero_line, zero_stamped, reply_of}
 use Rattle.sci_history.specs.declared.entry.Entry.{Entry}
-use Rattle.sci_history.specs.Memory.{reply_of, IsLineRun}
+use Rattle.sci_history.specs.Memory.{IsLineRun}
 use Rattle.sci_history.specs.Placed.{is_making, makes, reads, maker_count, by_node_and_serial, by_version, placed_entries, pair_of}
 use Rattle.sci_history.specs.Lawful.{HasWholeVersions}
 use Rattle.sci_history.specs.History.{IsHistory}

@@ -10,12 +10,12 @@ use Rattle.sci_words.specs.declared.operation.Act.TheVariants.{Load, Store}
 use Rattle.sci_words.specs.declared.operation.Op.{Op}
 use Rattle.sci_words.specs.declared.operation.Reply.TheVariants.{Got}
 use Rattle.sci_words.specs.declared.stamped.Stamped.{Stamped}
-use Rattle.sci_words.specs.Operation.{effect_of_act, is_making as is_making_act}
-use Rattle.sci_words.specs.Stamped.{line_after, zero_line, zero_stamped}
+use Rattle.sci_words.specs.Operation.{effect_of_act, makes_version as is_making_act}
+use Rattle.sci_words.specs.Stamped.{line_after, zero_line, zero_stamped, reply_of}
 use Rattle.sci_history.specs.declared.entry.Entry.{Entry}
 use Rattle.sci_history.specs.History.{IsHistory}
 use Rattle.sci_history.specs.Lawful.{IsLawfulLine, Lawful}
-use Rattle.sci_history.specs.Memory.{reply_of, stamped_at}
+use Rattle.sci_history.specs.Memory.{stamped_at}
 use Rattle.sci_history.specs.Placed.{log_of, AreOwn, is_of_node, is_on_line, is_making, makes, maker_count, on_line, placed}
 use Rattle.sci_history.specs.Seen.{IsAmong, DidOn}
 use Rattle.sci_history.proofs.AuditRuns.{history_found, right_from_run, end_from_run}

@@ -8,10 +8,9 @@ use Rattle.sci_words.specs.declared.operation.Op.{Op}
 use Rattle.sci_words.specs.declared.operation.Act.{Act}
 use Rattle.sci_words.specs.declared.operation.Act.TheVariants.{Load, Store, Lock}
 use Rattle.sci_words.specs.declared.stamped.Stamped.{Stamped}
-use Rattle.sci_words.specs.Operation.{effect_of_act, is_maker, is_making as is_making_act}
-use Rattle.sci_words.specs.Stamped.{line_after, after}
+use Rattle.sci_words.specs.Operation.{effect_of_act, is_maker, makes_version as is_making_act}
+use Rattle.sci_words.specs.Stamped.{line_after, after, reply_of}
 use Rattle.sci_history.specs.declared.entry.Entry.{Entry}
-use Rattle.sci_history.specs.Memory.{reply_of}
 use Rattle.sci_history.specs.Placed.{is_making, makes}
 use Rattle.sci_history.specs.History.{IsHistory}
 use Rattle.sci_history.proofs.Order.{IsInOrder, filter_yes, filter_no, filter_none, all_weaker, all_both}

@@ -6,9 +6,9 @@ use Rattle.sci_words.specs.declared.limits.TheConstants.{MAX_NODES}
 use Rattle.sci_words.specs.declared.operation.Op.{Op}
 use Rattle.sci_words.specs.declared.operation.Reply.{Reply}
 use Rattle.sci_words.specs.declared.stamped.Stamped.{Stamped}
-use Rattle.sci_words.specs.Stamped.{zero_line, zero_stamped}
+use Rattle.sci_words.specs.Stamped.{zero_line, zero_stamped, reply_of}
 use Rattle.sci_history.specs.declared.entry.Entry.{Entry}
-use Rattle.sci_history.specs.Memory.{IsRun, IsLineRun, line_at, reply_of, memory_after}
+use Rattle.sci_history.specs.Memory.{IsRun, IsLineRun, line_at, memory_after}
 use Rattle.sci_history.specs.Placed.{log_of, is_of_node, is_on_line, is_making, makes, reads, on_line, placed, pair_of, by_node_and_serial, by_version}
 use Rattle.sci_history.specs.Lawful.{IsLawfulLine}
 use Rattle.sci_history.proofs.Order.{IsInOrder, IsInOrder-filter, IsInOrder-same, all_weaker, all-append, all-passes}

@@ -6,9 +6,9 @@ use Rattle.std.proofs.lemmas.List.{map-append}
 use Rattle.sci_words.specs.declared.limits.TheConstants.{MAX_NODES}
 use Rattle.sci_words.specs.declared.operation.Op.{Op}
 use Rattle.sci_words.specs.declared.operation.Reply.{Reply}
-use Rattle.sci_words.specs.Stamped.{line_after}
+use Rattle.sci_words.specs.Stamped.{line_after, reply_of}
 use Rattle.sci_history.specs.declared.entry.Entry.{Entry}
-use Rattle.sci_history.specs.Memory.{reply_of, IsLineRun}
+use Rattle.sci_history.specs.Memory.{IsLineRun}
 use Rattle.sci_history.specs.Placed.{is_making, makes, reads, pair_of, by_node_and_serial, by_version}
 use Rattle.sci_history.proofs.Order.{all_both, all-filter, all-passes}
 use Rattle.sci_history.proofs.Placement.{all-by_node_and_serial, by_node_and_serial-one, by_node_and_serial-none}

@@ -11,11 +11,11 @@ use Rattle.sci_words.specs.declared.limits.TheConstants.{MAX_NODES}
 use Rattle.sci_words.specs.declared.operation.Op.{Op}
 use Rattle.sci_words.specs.declared.stamped.Stamped.{Stamped}
 use Rattle.sci_words.specs.Operation.{is_maker}
-use Rattle.sci_words.specs.Stamped.{after, zero_stamped}
+use Rattle.sci_words.specs.Stamped.{after, zero_stamped, reply_of}
 use Rattle.sci_history.specs.declared.entry.Entry.{Entry}
-use Rattle.sci_history.specs.Memory.{line_at, reply_of, stamped_at, words_of, contents_after}
+use Rattle.sci_history.specs.Memory.{line_at, stamped_at, words_of_lines, contents_after}
 use Rattle.sci_history.specs.Placed.{log_of, is_of_node}
-use Rattle.sci_history.specs.Oracle.{Issue, IsInRange, makes_on, memory_of, entry_after, done_after, oracle_entries, logs_of, contents_of, oracle_logs, oracle_last}
+use Rattle.sci_history.specs.Oracle.{Issue, IsInRange, makes_on, memory_of, entry_after, done_after, oracle_entries, logs_by_node, contents_left, oracle_logs, oracle_last}
 use Rattle.sci_words.specs.declared.operation.Reply.{Reply}
 use Rattle.sci_history.proofs.Runs.{line_at-words_of, same_stamped}
 use Rattle.sci_history.proofs.Oracles.{Traced, IsNext, stamped_of, traced_none, traced_all, filter_push_yes, filter_push_no, count_push, log_of-logs_of, line_at-zero, own_stamped, other_stamped}
@@ -34,9 +34,9 @@ length-done_after lines done (issue ∷ script) =
     let rest = length-done_after lines (done ++ entry_after lines done issue ∷ []) script in
     omega (arith, length-append done (entry_after lines done issue ∷ []))
 
-logs_of-push : (done : List Entry) (entry : Entry) → entry.node < MAX_NODES → set (logs_of done) entry.node (log_of (logs_of done) entry.node ++ entry ∷ []) ≡ logs_of (done ++ entry ∷ [])
+logs_of-push : (done : List Entry) (entry : Entry) → entry.node < MAX_NODES → set (logs_by_node done) entry.node (log_of (logs_by_node done) entry.node ++ entry ∷ []) ≡ logs_by_node (done ++ entry ∷ [])
 logs_of-push done entry lt =
-    let logs = logs_of done in
+    let logs = logs_by_node done in
     let new = log_of logs entry.node ++ entry ∷ [] in
     let long : length logs ≡ MAX_NODES = length-map-range_with_len (λ n. filter (is_of_node n) done) 0 MAX_NODES in
     fill_by_all (λ n. filter (is_of_node n) (done ++ entry ∷ [])) (set logs entry.node new) MAX_NODES [] (length-set logs entry.node new ∙ long) (λ k below.
@@ -51,12 +51,12 @@ logs_of-push done entry lt =
           ∙ sym (filter_push_no (is_of_node k) done entry (ne_eqb entry.node k (λ e. other (sym e))))
     ])
 
-stamped_at-below : (lines : ℕ) (done : List Entry) (line : ℕ) → line < lines → stamped_at (contents_of lines done) line ≡ stamped_of lines done line
+stamped_at-below : (lines : ℕ) (done : List Entry) (line : ℕ) → line < lines → stamped_at (contents_left lines done) line ≡ stamped_of lines done line
 stamped_at-below lines done line lt = get_or-map-range_with_len (λ l. stamped_of lines done l) 0 lines line line zero_stamped lt (omega arith)
 
-contents_of-push : (lines : ℕ) (done : List Entry) (entry : Entry) → Traced lines done → IsNext lines done entry → entry.op.line < lines → contents_after (contents_of lines done) entry.op ≡ contents_of lines (done ++ entry ∷ [])
+contents_of-push : (lines : ℕ) (done : List Entry) (entry : Entry) → Traced lines done → IsNext lines done entry → entry.op.line < lines → contents_after (contents_left lines done) entry.op ≡ contents_left lines (done ++ entry ∷ [])
 contents_of-push lines done entry h next lt =
-    let memory = contents_of lines done in
+    let memory = contents_left lines done in
     let line = entry.op.line in
     let new = after (stamped_at memory line) entry.op in
     let long : length memory ≡ lines = length-map-range_with_len (λ l. stamped_of lines done l) 0 lines in
@@ -126,7 +126,7 @@ same_entry a b node serial op reply version =
     let with_version : ℕ → Entry = λ v. record { node = b.node; serial = b.serial; op = b.op; reply = b.reply; version = v } in
     ap with_node node ∙ ap with_serial serial ∙ ap with_op op ∙ ap with_reply reply ∙ ap with_version version
 
-pub ran_step : (lines : ℕ) (script : List Issue) (issue : Issue) (logs : List (List Entry)) (memory : List Stamped) (entry : Entry) → Ran lines script logs memory → AllByRecursion (IsInRange lines) script → IsInRange lines issue → entry.node ≡ issue.0 → entry.op ≡ issue.1 → entry.serial ≡ length (log_of logs entry.node) → entry.reply ≡ reply_of (line_at (words_of memory) entry.op.line) entry.op → entry.version ≡ (stamped_at memory entry.op.line).version + cond (is_maker entry.op) 1 0 → Ran lines (script ++ issue ∷ []) (set logs entry.node (log_of logs entry.node ++ entry ∷ [])) (contents_after memory entry.op)
+pub ran_step : (lines : ℕ) (script : List Issue) (issue : Issue) (logs : List (List Entry)) (memory : List Stamped) (entry : Entry) → Ran lines script logs memory → AllByRecursion (IsInRange lines) script → IsInRange lines issue → entry.node ≡ issue.0 → entry.op ≡ issue.1 → entry.serial ≡ length (log_of logs entry.node) → entry.reply ≡ reply_of (line_at (words_of_lines memory) entry.op.line) entry.op → entry.version ≡ (stamped_at memory entry.op.line).version + cond (is_maker entry.op) 1 0 → Ran lines (script ++ issue ∷ []) (set logs entry.node (log_of logs entry.node ++ entry ∷ [])) (contents_after memory entry.op)
 ran_step lines script issue logs memory entry h range here node-is op-is serial reply version =
     let done = oracle_entries lines script in
     let traced = traced_all lines script [] range (traced_none lines) in
@@ -134,7 +134,7 @@ ran_step lines script issue logs memory entry h range here node-is op-is serial 
     let line : entry.op.line < lines = rw op-is here.line in
     let stamped : stamped_at memory entry.op.line ≡ stamped_of lines done entry.op.line =
     ap (λ (m : List Stamped). stamped_at m entry.op.line) h.left ∙ stamped_at-below lines done entry.op.line line in
-    let words : line_at (words_of memory) entry.op.line ≡ line_at (memory_of lines done) entry.op.line =
+    let words : line_at (words_of_lines memory) entry.op.line ≡ line_at (memory_of lines done) entry.op.line =
     line_at-words_of memory entry.op.line ∙ ap (λ (s : Stamped). s.line) stamped in
     let replied : entry.reply ≡ reply_of (line_at (memory_of lines done) entry.op.line) entry.op = reply ∙ ap (λ w. reply_of w entry.op) words in
     let versioned : entry.version ≡ count_by (makes_on entry.op.line) done + cond (is_maker entry.op) 1 0 =
@@ -146,8 +146,8 @@ ran_step lines script issue logs memory entry h range here node-is op-is serial 
     same_entry entry (entry_after lines done issue) node-is (numbered ∙ ap (λ n. count_by (is_of_node n) done) node-is) op-is (replied ∙ ap (λ (o : Op). reply_of (line_at (memory_of lines done) o.line) o) op-is) (versioned ∙ ap (λ (o : Op). count_by (makes_on o.line) done + cond (is_maker o) 1 0) op-is) in
     let entries : oracle_entries lines (script ++ issue ∷ []) ≡ done ++ entry ∷ [] = done_after-push lines [] script issue ∙ ap (λ (e : Entry). done ++ e ∷ []) (sym is) in
     record {
-      logged = ap (λ (ls : List (List Entry)). set ls entry.node (log_of ls entry.node ++ entry ∷ [])) h.logged ∙ logs_of-push done entry node ∙ ap logs_of (sym entries);
-      left = ap (λ (m : List Stamped). contents_after m entry.op) h.left ∙ contents_of-push lines done entry traced next line ∙ ap (contents_of lines) (sym entries);
+      logged = ap (λ (ls : List (List Entry)). set ls entry.node (log_of ls entry.node ++ entry ∷ [])) h.logged ∙ logs_of-push done entry node ∙ ap logs_by_node (sym entries);
+      left = ap (λ (m : List Stamped). contents_after m entry.op) h.left ∙ contents_of-push lines done entry traced next line ∙ ap (contents_left lines) (sym entries);
     }
 
 -- ---- the bounds of a run

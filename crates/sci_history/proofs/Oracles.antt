@@ -13,13 +13,13 @@ use Rattle.sci_words.specs.declared.limits.TheConstants.{MAX_NODES}
 use Rattle.sci_words.specs.declared.operation.Op.{Op}
 use Rattle.sci_words.specs.declared.stamped.Stamped.{Stamped}
 use Rattle.sci_words.specs.Operation.{is_maker}
-use Rattle.sci_words.specs.Stamped.{line_after, after, zero_line, zero_stamped}
+use Rattle.sci_words.specs.Stamped.{line_after, after, zero_line, zero_stamped, reply_of}
 use Rattle.sci_history.specs.declared.entry.Entry.{Entry}
-use Rattle.sci_history.specs.Memory.{zero_memory, line_at, reply_of, memory_after, memory_after_all, stamped_at}
+use Rattle.sci_history.specs.Memory.{zero_memory, line_at, memory_after, memory_after_all, stamped_at}
 use Rattle.sci_history.specs.Placed.{log_of, is_of_node, is_on_line, is_making}
 use Rattle.sci_history.specs.Lawful.{Lawful}
 use Rattle.sci_history.specs.History.{IsHistory, HasHistory}
-use Rattle.sci_history.specs.Oracle.{Issue, IsInRange, makes_on, memory_of, entry_after, done_after, oracle_entries, logs_of, contents_of, oracle_logs, oracle_last}
+use Rattle.sci_history.specs.Oracle.{Issue, IsInRange, makes_on, memory_of, entry_after, done_after, oracle_entries, logs_by_node, contents_left, oracle_logs, oracle_last}
 use Rattle.sci_history.proofs.Order.{all_weaker, all-append, all-filter, filter-filter, filter_none, filter_yes, filter_no}
 use Rattle.sci_history.proofs.Lawfulness.{lawful_line}
 use Rattle.sci_history.proofs.Runs.{same_stamped}
@@ -182,7 +182,7 @@ traced_all lines (issue ∷ script) done range h =
 
 -- ---- the law
 
-pub log_of-logs_of : (done : List Entry) (node : ℕ) → node < MAX_NODES → log_of (logs_of done) node ≡ filter (is_of_node node) done
+pub log_of-logs_of : (done : List Entry) (node : ℕ) → node < MAX_NODES → log_of (logs_by_node done) node ≡ filter (is_of_node node) done
 log_of-logs_of done node lt = get_or-map-range_with_len (λ n. filter (is_of_node n) done) 0 MAX_NODES node node [] lt (omega arith)
 
 pub off_line : (lines : ℕ) (done : List Entry) (line : ℕ) → Traced lines done → lines ≤ line → AllByRecursion (λ e. is_on_line line e ≡ false) done
@@ -196,13 +196,13 @@ past_line lines done line h past =
     let count : count_by (makes_on line) done ≡ 0 = sym (length-filter (makes_on line) done) ∙ ap length (filter_none (makes_on line) done none) in
     same_stamped (stamped_of lines done line) zero_stamped words count
 
-pub stamped_at-contents_of : (lines : ℕ) (done : List Entry) (line : ℕ) → Traced lines done → stamped_at (contents_of lines done) line ≡ stamped_of lines done line
+pub stamped_at-contents_of : (lines : ℕ) (done : List Entry) (line : ℕ) → Traced lines done → stamped_at (contents_left lines done) line ≡ stamped_of lines done line
 stamped_at-contents_of lines done line h =
     elim (cases_lt line lines) [
       | inl lt ↦ get_or-map-range_with_len (λ l. stamped_of lines done l) 0 lines line line zero_stamped lt (omega arith)
       | inr past ↦
-          let none : stamped_at (contents_of lines done) line ≡ zero_stamped =
-          get_or_past (contents_of lines done) line zero_stamped (omega (arith, length-map-range_with_len (λ l. stamped_of lines done l) 0 lines)) in
+          let none : stamped_at (contents_left lines done) line ≡ zero_stamped =
+          get_or_past (contents_left lines done) line zero_stamped (omega (arith, length-map-range_with_len (λ l. stamped_of lines done l) 0 lines)) in
           none ∙ sym (past_line lines done line h past)
     ]
 
@@ -215,20 +215,20 @@ line_history lines done line h =
           rw none (past_line lines done line h past)
     ]
 
-traced_history : (lines : ℕ) (done : List Entry) (line : ℕ) → Traced lines done → HasHistory (logs_of done) line (stamped_at (contents_of lines done) line)
+traced_history : (lines : ℕ) (done : List Entry) (line : ℕ) → Traced lines done → HasHistory (logs_by_node done) line (stamped_at (contents_left lines done) line)
 traced_history lines done line h =
     let is = stamped_at-contents_of lines done line h in
-    let own : (node : ℕ) → node < MAX_NODES → filter (is_on_line line) (log_of (logs_of done) node) ≡ filter (is_of_node node) (filter (is_on_line line) done) =
+    let own : (node : ℕ) → node < MAX_NODES → filter (is_on_line line) (log_of (logs_by_node done) node) ≡ filter (is_of_node node) (filter (is_on_line line) done) =
     λ node lt. ap (λ (es : List Entry). filter (is_on_line line) es) (log_of-logs_of done node lt) ∙ filter-filter (is_on_line line) (is_of_node node) done in
     record {
       entries = filter (is_on_line line) done;
       history = subst (λ (s : Stamped). IsHistory (filter (is_on_line line) done) zero_stamped s) (sym is) (line_history lines done line h);
       nodes = all-filter (λ e. e.node < MAX_NODES) (is_on_line line) done (all_weaker (λ e. (e.node < MAX_NODES) × (e.op.line < lines)) (λ e. e.node < MAX_NODES) (λ e range. range.0) done h.in_range);
       logged = own;
-      serials = λ node lt. AllPairs-filter (λ x y. x.serial < y.serial) (is_on_line line) (log_of (logs_of done) node) (subst (λ (es : List Entry). AllPairs (λ x y. x.serial < y.serial) es) (sym (log_of-logs_of done node lt)) (h.rising node));
+      serials = λ node lt. AllPairs-filter (λ x y. x.serial < y.serial) (is_on_line line) (log_of (logs_by_node done) node) (subst (λ (es : List Entry). AllPairs (λ x y. x.serial < y.serial) es) (sym (log_of-logs_of done node lt)) (h.rising node));
     }
 
 pub oracle-lawful : (lines : ℕ) (script : List Issue) → AllByRecursion (IsInRange lines) script → Lawful (oracle_logs lines script) (oracle_last lines script)
 oracle-lawful lines script range = λ line.
     let done = oracle_entries lines script in
-    lawful_line (logs_of done) line (stamped_at (contents_of lines done) line) (length-map-range_with_len (λ n. filter (is_of_node n) done) 0 MAX_NODES) (traced_history lines done line (traced_all lines script [] range (traced_none lines)))
+    lawful_line (logs_by_node done) line (stamped_at (contents_left lines done) line) (length-map-range_with_len (λ n. filter (is_of_node n) done) 0 MAX_NODES) (traced_history lines done line (traced_all lines script [] range (traced_none lines)))

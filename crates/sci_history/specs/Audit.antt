@@ -8,14 +8,14 @@ use Rattle.sci_words.specs.declared.operation.Op.{Op}
 use Rattle.sci_words.specs.declared.operation.Reply.{Reply}
 use Rattle.sci_words.specs.declared.operation.Reply.TheVariants.{Stored, Got}
 use Rattle.sci_words.specs.declared.stamped.Stamped.{Stamped}
-use Rattle.sci_words.specs.Stamped.{line_after, zero_line}
+use Rattle.sci_words.specs.Stamped.{line_after, zero_line, reply_of}
 use Rattle.sci_history.specs.declared.entry.Entry.{Entry}
 use Rattle.sci_history.specs.declared.verdict.FaultKind.{FaultKind}
 use Rattle.sci_history.specs.declared.verdict.FaultKind.TheVariants.{VersionTwice, VersionMissing, WrongReply, OutOfOrder, LastDiffers}
 use Rattle.sci_history.specs.declared.verdict.Verdict.{Verdict}
 use Rattle.sci_history.specs.declared.faults.LineFault.{LineFault}
 use Rattle.sci_history.specs.declared.verdict.Verdict.TheVariants as verdicts
-use Rattle.sci_history.specs.Memory.{reply_of, stamped_at}
+use Rattle.sci_history.specs.Memory.{stamped_at}
 use Rattle.sci_history.specs.Placed.{log_of, is_of_node, is_making, makes, maker_count, on_line, placed_entries}
 use Rattle.sci_history.specs.Lawful.{IsLawfulLine, Lawful}
 
@@ -62,9 +62,9 @@ abbrev pub is_reply_wrong : List Entry → Entry → Bool
 is_reply_wrong before entry = not (same_reply entry.reply (reply_of (words_after before) entry.op))
 
 -- the last of some entries
-abbrev pub last_of : Option Entry → List Entry → Option Entry
-last_of found [] = found
-last_of found (entry ∷ entries) = last_of (Some entry) entries
+abbrev pub last_entry : Option Entry → List Entry → Option Entry
+last_entry found [] = found
+last_entry found (entry ∷ entries) = last_entry (Some entry) entries
 
 -- Of two entries of one node on a line, the one that was logged first is placed before the other: its version is
 -- less, or at one version it is the maker and the other a load, or both are of a kind and its serial isn't greater.
@@ -80,7 +80,7 @@ breaks_order (Some previous) entry = not (nat_lt previous.serial entry.serial &&
 
 -- an entry that doesn't stand after its node's entry before it on the line
 abbrev pub is_out_of_order : List Entry → Entry → Bool
-is_out_of_order before entry = breaks_order (last_of None (filter (is_of_node entry.node) before)) entry
+is_out_of_order before entry = breaks_order (last_entry None (filter (is_of_node entry.node) before)) entry
 
 -- ---- the first of each kind
 

@@ -3,9 +3,8 @@ use Rattle.std.specs.Prelude.{◌≡◌, ℕ, ◌<◌, List, [], ◌∷◌, filt
 use Rattle.std.specs.List.{AllByRecursion}
 use Rattle.sci_words.specs.declared.limits.TheConstants.{MAX_NODES}
 use Rattle.sci_words.specs.declared.stamped.Stamped.{Stamped}
-use Rattle.sci_words.specs.Stamped.{after, zero_stamped}
+use Rattle.sci_words.specs.Stamped.{after, zero_stamped, reply_of}
 use Rattle.sci_history.specs.declared.entry.Entry.{Entry}
-use Rattle.sci_history.specs.Memory.{reply_of}
 use Rattle.sci_history.specs.Placed.{log_of, is_of_node, is_on_line}
 
 -- Entries are a line's history from one stamped line to another: each reply is that of the line so far, and each

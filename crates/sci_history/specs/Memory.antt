@@ -1,10 +1,9 @@
 -- A memory of one thread, and the runs of operations on it.
-use Rattle.std.specs.Prelude.{◌≡◌, ℕ, List, [], ◌∷◌, map, replicate, slice_index, slice_index_or, slice_set}
+use Rattle.std.specs.Prelude.{◌≡◌, ℕ, List, [], ◌∷◌, map, replicate, slice_index_or, slice_set}
 use Rattle.sci_words.specs.declared.operation.Op.{Op}
 use Rattle.sci_words.specs.declared.operation.Reply.{Reply}
 use Rattle.sci_words.specs.declared.stamped.Stamped.{Stamped}
-use Rattle.sci_words.specs.Operation.{effect}
-use Rattle.sci_words.specs.Stamped.{line_after, after, zero_line, zero_stamped}
+use Rattle.sci_words.specs.Stamped.{line_after, after, reply_of, zero_line, zero_stamped}
 
 -- a memory is a list of lines, each a list of eight words; the zero memory has 0 everywhere
 abbrev pub zero_memory : ℕ → List (List ℕ)
@@ -12,10 +11,6 @@ zero_memory lines = replicate lines zero_line
 
 abbrev pub line_at : List (List ℕ) → ℕ → List ℕ
 line_at memory line = slice_index_or memory line zero_line
-
--- the reply of an operation to a line of these words
-abbrev pub reply_of : List ℕ → Op → Reply
-reply_of words op = (effect op (slice_index words op.word)).1
 
 -- the operation's word becomes the effect's new word, and every other word stays
 abbrev pub memory_after : List (List ℕ) → Op → List (List ℕ)
@@ -44,8 +39,8 @@ abbrev pub stamped_at : List Stamped → ℕ → Stamped
 stamped_at contents line = slice_index_or contents line zero_stamped
 
 -- the words alone
-abbrev pub words_of : List Stamped → List (List ℕ)
-words_of contents = map (λ stamped. stamped.line) contents
+abbrev pub words_of_lines : List Stamped → List (List ℕ)
+words_of_lines contents = map (λ stamped. stamped.line) contents
 
 -- the operation's line is what it becomes by the operation, and every other line stays
 abbrev pub contents_after : List Stamped → Op → List Stamped

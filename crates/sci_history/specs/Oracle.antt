@@ -1,12 +1,13 @@
 -- The log of one memory of one thread that does operations in the order given.
 use Rattle.std.specs.Prelude.{ℕ, ◌+◌, ◌<◌, ◌&&◌, Bool, if◌then◌else◌, List, [], ◌∷◌, ◌++◌, filter, count_by, map}
 use Rattle.std.specs.List.{range_with_len}
+use Rattle.sci_words.specs.Stamped.{reply_of}
 use Rattle.sci_words.specs.declared.limits.TheConstants.{MAX_NODES, WORDS_PER_LINE}
 use Rattle.sci_words.specs.declared.operation.Op.{Op}
 use Rattle.sci_words.specs.declared.stamped.Stamped.{Stamped}
 use Rattle.sci_words.specs.Operation.{is_maker}
 use Rattle.sci_history.specs.declared.entry.Entry.{Entry}
-use Rattle.sci_history.specs.Memory.{zero_memory, line_at, reply_of, memory_after_all}
+use Rattle.sci_history.specs.Memory.{zero_memory, line_at, memory_after_all}
 use Rattle.sci_history.specs.Placed.{is_of_node, is_on_line, is_making}
 
 -- an issue is a node and the operation that its processor issues
@@ -48,16 +49,16 @@ abbrev pub oracle_entries : ℕ → List Issue → List Entry
 oracle_entries lines script = done_after lines [] script
 
 -- each node's entries
-abbrev pub logs_of : List Entry → List (List Entry)
-logs_of done = map (λ node. filter (is_of_node node) done) (range_with_len 0 MAX_NODES)
+abbrev pub logs_by_node : List Entry → List (List Entry)
+logs_by_node done = map (λ node. filter (is_of_node node) done) (range_with_len 0 MAX_NODES)
 
 -- each line's words, with the number of its makers
-abbrev pub contents_of : ℕ → List Entry → List Stamped
-contents_of lines done = map (λ line. record { line = line_at (memory_of lines done) line; version = count_by (makes_on line) done }) (range_with_len 0 lines)
+abbrev pub contents_left : ℕ → List Entry → List Stamped
+contents_left lines done = map (λ line. record { line = line_at (memory_of lines done) line; version = count_by (makes_on line) done }) (range_with_len 0 lines)
 
 -- the logs and the last contents that a script leaves
 abbrev pub oracle_logs : ℕ → List Issue → List (List Entry)
-oracle_logs lines script = logs_of (oracle_entries lines script)
+oracle_logs lines script = logs_by_node (oracle_entries lines script)
 
 abbrev pub oracle_last : ℕ → List Issue → List Stamped
-oracle_last lines script = contents_of lines (oracle_entries lines script)
+oracle_last lines script = contents_left lines (oracle_entries lines script)

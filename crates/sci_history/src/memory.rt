@@ -4,7 +4,7 @@ ghost use Rattle.std.specs.Prelude.{◌≡◌, ◌≤◌, ◌<◌, ◌∷◌, []
 ghost use Rattle.sci_words.specs.declared.limits.TheConstants.{MAX_LINES, WORDS_PER_LINE};
 ghost use Rattle.sci_words.specs.Operation.{IsMaker, is_maker};
 ghost use Rattle.sci_words.specs.Stamped.{zero_stamped};
-ghost use Rattle.sci_history.specs.Memory.{IsRun, contents_after, stamped_at, words_of};
+ghost use Rattle.sci_history.specs.Memory.{IsRun, contents_after, stamped_at, words_of_lines};
 
 use crate::last::Last;
 use sci_words::{MAX_LINES, Op, Reply, WORDS_PER_LINE};
@@ -47,7 +47,7 @@ impl Memory {
         requires room { IsMaker op → (stamped_at self.old op.line).version < u64.MAX }
 
         // It is one step of a run.
-        ensures run { IsRun ((op, result.0) ∷ []) (words_of self.old) (words_of self.new) }
+        ensures run { IsRun ((op, result.0) ∷ []) (words_of_lines self.old) (words_of_lines self.new) }
 
         // The line has its effect and the next version if it is a maker, and every other line stays.
         ensures after { self.new ≡ contents_after self.old op }

@@ -1,5 +1,8 @@
 //! The home part of a node's controller, for one line.
 
+ghost use Rattle.std.specs.Prelude.{◌≡◌};
+ghost use Rattle.sci_home.specs.Serving.{is_for_home as is_for_home_of};
+
 use crate::state::HomeState;
 use sci_packets::{Body, Packet};
 use sci_words::{Line, Stamped};
@@ -21,9 +24,20 @@ impl Model for Home {
     ghost inverse = { λ state. record { state = state } };
 }
 
+/// Whether a request is for the home of its line: an Mread, Fread, Claim, Clear or Wback. Every other request is for
+/// a cache.
+pub fn is_for_home(request: &Body) -> bool
+    ensures { result ≡ is_for_home_of request.now }
+{
+    matches!(
+        request,
+        Body::Mread | Body::Fread | Body::Claim | Body::Clear | Body::Wback(_)
+    )
+}
+
 impl Home {
     ghost use Rattle.std.specs.Prelude.{◌≡◌, Some};
-    ghost use Rattle.sci_home.specs.Serving.{opening_home, IsForHome, serving, current_of};
+    ghost use Rattle.sci_home.specs.Serving.{opening_home, IsForHome, home_serving, current_of};
 
     /// The home of a line that nobody has touched: HOME with zero words at version 0.
     pub fn new() -> Home
@@ -48,23 +62,29 @@ impl Home {
     /// sees to it that the request is an Mread, Fread, Claim, Clear or Wback.
     pub fn serve(&mut self, request: &Packet) -> Packet
         requires { IsForHome request.now.body }
-        ensures case { serving self.old request.now.source request.now.body ≡ Some (self.new, result.body) }
+        ensures case { home_serving self.old request.now.source request.now.body ≡ Some (self.new, result.body) }
         ensures target { result.target ≡ request.now.source }
         ensures source { result.source ≡ request.now.target }
         ensures control { result.control ≡ request.now.control }
         ensures line { result.line ≡ request.now.line }
     {
         let sender = request.source;
-        let (next, answer) = match request.body {
-            Body::Mread => self.state.read_to_write(sender),
-            Body::Fread => self.state.read(sender),
-            Body::Claim => self.state.claim(sender),
-            Body::Clear => self.state.clear(sender),
-            Body::Wback(contents) => self.state.write_back(sender, contents),
+        let answer = match request.body {
+            Body::Mread => self.state.serve_mread(sender),
+            Body::Fread => self.state.serve_fread(sender),
+            Body::Claim => self.state.serve_claim(sender),
+            Body::Clear => self.state.serve_clear(sender),
+            Body::Wback(contents) => self.state.serve_wback(sender, contents),
             _ => unreachable!(),
         };
-        self.state = next;
         request.answer(answer)
+    }
+
+    /// The state.
+    pub fn state(&self) -> HomeState
+        ensures { result ≡ self.now }
+    {
+        self.state
     }
 
     /// The contents of the line where the home has them (HOME or FRESH), and else None.

@@ -6,7 +6,7 @@ mod home;
 pub mod laws;
 mod state;
 
-pub use home::Home;
+pub use home::{Home, is_for_home};
 pub use state::HomeState;
 
 #[cfg(test)]

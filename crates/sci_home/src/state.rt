@@ -20,81 +20,92 @@ impl HomeState {
     ghost use Rattle.std.specs.Prelude.{◌≡◌};
     ghost use Rattle.sci_home.specs.Serving.{serving_mread, serving_fread, serving_claim, serving_clear, serving_wback};
 
-    /// Serves an Mread of `sender`.
-    pub(crate) fn read_to_write(self, sender: NodeId) -> (HomeState, Body)
-        ensures { result ≡ serving_mread self sender }
+    /// Serves an Mread of `sender`, and gives the answer.
+    pub(crate) fn serve_mread(&mut self, sender: NodeId) -> Body
+        ensures { (self.new, result) ≡ serving_mread self.old sender }
     {
         let answer = match self {
-            HomeState::Home(contents) => Body::Mdata(contents),
+            HomeState::Home(contents) => Body::Mdata(*contents),
             HomeState::Fresh { head, .. } | HomeState::Gone { head } => Body::Mgone {
-                old_head: head,
+                old_head: *head,
             },
         };
-        (HomeState::Gone { head: sender }, answer)
+        *self = HomeState::Gone { head: sender };
+        answer
     }
 
-    /// Serves an Fread of `sender`.
-    pub(crate) fn read(self, sender: NodeId) -> (HomeState, Body)
-        ensures { result ≡ serving_fread self sender }
+    /// Serves an Fread of `sender`, and gives the answer.
+    pub(crate) fn serve_fread(&mut self, sender: NodeId) -> Body
+        ensures { (self.new, result) ≡ serving_fread self.old sender }
     {
         match self {
-            HomeState::Home(contents) => share(sender, None, &contents),
-            HomeState::Fresh { head, contents } => share(sender, Some(head), &contents),
-            HomeState::Gone { head } => (
-                HomeState::Gone { head: sender },
-                Body::Mgone { old_head: head },
-            ),
+            HomeState::Home(contents) => {
+                let contents = *contents;
+                self.share(sender, None, &contents)
+            }
+            HomeState::Fresh { head, contents } => {
+                let (head, contents) = (*head, *contents);
+                self.share(sender, Some(head), &contents)
+            }
+            HomeState::Gone { head } => {
+                let old_head = *head;
+                *self = HomeState::Gone { head: sender };
+                Body::Mgone { old_head }
+            }
         }
     }
 
-    /// Serves a Claim of `sender`.
-    pub(crate) fn claim(self, sender: NodeId) -> (HomeState, Body)
-        ensures { result ≡ serving_claim self sender }
+    /// Serves a Claim of `sender`, and gives the answer.
+    pub(crate) fn serve_claim(&mut self, sender: NodeId) -> Body
+        ensures { (self.new, result) ≡ serving_claim self.old sender }
     {
         match self {
             HomeState::Fresh { head, .. } if head.get() == sender.get() => {
-                (HomeState::Gone { head }, Body::Wbok)
+                *self = HomeState::Gone { head: sender };
+                Body::Wbok
             }
-            state => (state, Body::Wbno),
+            _ => Body::Wbno,
         }
     }
 
-    /// Serves a Clear of `sender`.
-    pub(crate) fn clear(self, sender: NodeId) -> (HomeState, Body)
-        ensures { result ≡ serving_clear self sender }
+    /// Serves a Clear of `sender`, and gives the answer.
+    pub(crate) fn serve_clear(&mut self, sender: NodeId) -> Body
+        ensures { (self.new, result) ≡ serving_clear self.old sender }
     {
-        match &self {
+        match self {
             HomeState::Fresh { head, contents } if head.get() == sender.get() => {
-                (HomeState::Home(*contents), Body::Wbok)
+                *self = HomeState::Home(*contents);
+                Body::Wbok
             }
-            _ => (self, Body::Wbno),
+            _ => Body::Wbno,
         }
     }
 
-    /// Serves a Wback of `sender` with these contents.
-    pub(crate) fn write_back(self, sender: NodeId, back: Stamped) -> (HomeState, Body)
-        ensures { result ≡ serving_wback self sender back }
+    /// Serves a Wback of `sender` with these contents, and gives the answer.
+    pub(crate) fn serve_wback(&mut self, sender: NodeId, back: Stamped) -> Body
+        ensures { (self.new, result) ≡ serving_wback self.old sender back }
     {
         match self {
             HomeState::Gone { head } if head.get() == sender.get() => {
-                (HomeState::Home(back), Body::Wbok)
+                *self = HomeState::Home(back);
+                Body::Wbok
             }
-            state => (state, Body::Wbno),
+            _ => Body::Wbno,
         }
     }
-}
 
-/// The home of a fresh list whose head is now `reader`, and the answer to it.
-fn share(reader: NodeId, old_head: Option<NodeId>, contents: &Stamped) -> (HomeState, Body)
-    ensures { result ≡ (HomeState.Fresh reader contents.now, Body.Fdata old_head contents.now) }
-{
-    let next = HomeState::Fresh {
-        head: reader,
-        contents: *contents,
-    };
-    let answer = Body::Fdata {
-        old_head,
-        contents: *contents,
-    };
-    (next, answer)
+    /// Makes `reader` the head of a fresh list, and gives the answer to it.
+    fn share(&mut self, reader: NodeId, old_head: Option<NodeId>, contents: &Stamped) -> Body
+        ensures state { self.new ≡ HomeState.Fresh reader contents.now }
+        ensures answer { result ≡ Body.Fdata old_head contents.now }
+    {
+        *self = HomeState::Fresh {
+            head: reader,
+            contents: *contents,
+        };
+        Body::Fdata {
+            old_head,
+            contents: *contents,
+        }
+    }
 }

@@ -81,11 +81,10 @@ fn table() -> Result<[(HomeState, NodeId, Body, HomeState, Body); 21], Fail> {
 
 /// What a home answers, or None where no home serves such a packet.
 fn served(home: &mut Home, request: &Packet) -> Option<Packet> {
-    match request.body {
-        Body::Mread | Body::Fread | Body::Claim | Body::Clear | Body::Wback(_) => {
-            Some(home.serve(request))
-        }
-        _ => None,
+    if is_for_home(&request.body) {
+        Some(home.serve(request))
+    } else {
+        None
     }
 }
 
@@ -94,7 +93,7 @@ fn every_case_of_serving(rt: HostRuntime) -> Result<(), Fail> {
     for (state, sender, body, next, answer) in table()? {
         let mut home = Home::in_state(state);
         let packet = served(&mut home, &request(sender, body)?).ok_or("no home serves it")?;
-        assert_eq!(rt; home, Home::in_state(next), "{state:?} {body:?}");
+        assert_eq!(rt; home.state(), next, "{state:?} {body:?}");
         assert_eq!(rt; packet.target, sender);
         assert_eq!(rt; packet.source, node(9)?);
         assert_eq!(rt; packet.control, 3);
@@ -102,6 +101,11 @@ fn every_case_of_serving(rt: HostRuntime) -> Result<(), Fail> {
         assert_eq!(rt; packet.body, answer, "{state:?} {body:?}");
     }
     Ok(())
+}
+
+#[test]
+fn a_cread_is_for_a_cache(rt: HostRuntime) {
+    assert!(rt; !is_for_home(&Body::Cread));
 }
 
 #[test]

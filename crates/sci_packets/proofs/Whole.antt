@@ -1,6 +1,7 @@
 -- The laws of the spellings.
-use Rattle.std.proofs.Common.{◌≡◌, ℕ, ◌<◌, List, [], ◌++◌, get_or, sym, ap, subst, ◌∙◌}
-use Rattle.std.proofs.lemmas.List.{append-nil, append_cancel_left}
+use Rattle.std.proofs.Common.{◌≡◌, ℕ, ◌<◌, ◌≤◌, List, [], ◌++◌, length, get_or, take, drop, sym, ap, subst, ◌∙◌, arith, inl, inr}
+use Rattle.std.proofs.lemmas.Bool.{cases_lt}
+use Rattle.std.proofs.lemmas.List.{append-nil, append_cancel_left, ext_get_or, get_or-take, length-take-le, take-append-drop}
 use Rattle.std.proofs.lemmas.List.Concat.{flat_map-append}
 use Rattle.sci_packets.specs.declared.packet.Packet.{Packet}
 use Rattle.sci_packets.specs.Fields.{field, word_bytes}
@@ -29,3 +30,19 @@ back p q more others h k e =
     let bytes : spelling p ++ word_bytes more ≡ spelling q ++ word_bytes others = sym (bytes_and p more h) ∙ ap (λ (w : List ℕ). word_bytes w) e ∙ bytes_and q others k in
     let same = (spelling_cancel p q (word_bytes more) (word_bytes others) h k bytes).0 in
     (same, append_cancel_left (words_of q) more others (ap (λ (x : Packet). words_of x ++ more) (sym same) ∙ e))
+
+-- where the shorter packet's words begin the longer one's
+one_by_shorter : (p q : Packet) → IsPacket p → IsPacket q → length (words_of p) ≤ length (words_of q) → ((i : ℕ) → i < length (words_of p) → i < length (words_of q) → get_or (words_of p) i 0 ≡ get_or (words_of q) i 0) → p ≡ q
+one_by_shorter p q h k le agree =
+    let n = length (words_of p) in
+    let long : length (words_of p) ≡ length (take n (words_of q)) = sym (length-take-le n (words_of q) le) in
+    let front : words_of p ≡ take n (words_of q) = ext_get_or 0 (words_of p) (take n (words_of q)) long (λ i lt. agree i lt (omega arith) ∙ sym (get_or-take n (words_of q) i 0 lt)) in
+    let whole : words_of p ++ drop n (words_of q) ≡ words_of q ++ [] = ap (λ (w : List ℕ). w ++ drop n (words_of q)) front ∙ take-append-drop n (words_of q) ∙ sym (append-nil (words_of q)) in
+    (back p q (drop n (words_of q)) [] h k whole).0
+
+pub one_by_words : (p q : Packet) → IsPacket p → IsPacket q → ((i : ℕ) → i < length (words_of p) → i < length (words_of q) → get_or (words_of p) i 0 ≡ get_or (words_of q) i 0) → p ≡ q
+one_by_words p q h k agree =
+    elim (cases_lt (length (words_of p)) (length (words_of q))) [
+      | inl lt ↦ one_by_shorter p q h k (omega arith) agree
+      | inr le ↦ sym (one_by_shorter q p k h le (λ i a b. sym (agree i b a)))
+    ]

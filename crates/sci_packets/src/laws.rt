@@ -25,6 +25,12 @@ pub fn words_give_back()
     ensures { (p q : Packet) (more others : List ℕ) → IsPacket p → IsPacket q → words_of p ++ more ≡ words_of q ++ others → (p ≡ q) × (more ≡ others) }
 {}
 
+/// Two packets whose words agree as far as both go are the same packet.
+pub fn one_packet_by_words()
+    ensures { (p q : Packet) → IsPacket p → IsPacket q →
+        ((i : ℕ) → i < length (words_of p) → i < length (words_of q) → slice_index (words_of p) i ≡ slice_index (words_of q) i) → p ≡ q }
+{}
+
 /// A packet has 2 words, or 11.
 pub fn word_count()
     ensures { (p : Packet) → IsPacket p → (length (words_of p) ≡ 2) ⊎ (length (words_of p) ≡ 11) }

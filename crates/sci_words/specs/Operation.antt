@@ -33,13 +33,13 @@ abbrev pub effect : Op → ℕ → ℕ × Reply
 effect op old = effect_of_act op.act old
 
 -- a store or a lock operation makes the next version of its line, also where the word keeps its value
-abbrev pub is_making : Act → Bool
-is_making Load = false
-is_making (Store word) = true
-is_making (Lock lock) = true
+abbrev pub makes_version : Act → Bool
+makes_version Load = false
+makes_version (Store word) = true
+makes_version (Lock lock) = true
 
 abbrev pub is_maker : Op → Bool
-is_maker op = is_making op.act
+is_maker op = makes_version op.act
 
 abbrev pub IsMaker : Op → Type 0
 IsMaker op = IsTrue (is_maker op)

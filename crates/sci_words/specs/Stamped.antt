@@ -2,8 +2,13 @@
 use Rattle.std.specs.Prelude.{ℕ, ◌+◌, List, if◌then◌else◌, slice_index, slice_set, replicate}
 use Rattle.sci_words.specs.declared.limits.TheConstants.{WORDS_PER_LINE}
 use Rattle.sci_words.specs.declared.operation.Op.{Op}
+use Rattle.sci_words.specs.declared.operation.Reply.{Reply}
 use Rattle.sci_words.specs.declared.stamped.Stamped.{Stamped}
 use Rattle.sci_words.specs.Operation.{effect, is_maker}
+
+-- the reply of an operation to a line of these words
+abbrev pub reply_of : List ℕ → Op → Reply
+reply_of words op = (effect op (slice_index words op.word)).1
 
 -- the operation's word becomes the effect's new word, and every other word stays
 abbrev pub line_after : List ℕ → Op → List ℕ

@@ -18,9 +18,6 @@ pub const LINE_BYTES: usize = 64;
 /// Most operations of a node, and so most entries of its log.
 pub const MAX_OPERATIONS: u32 = 65_536;
 
-/// Most versions of a line: the makers of all nodes.
-pub const MAX_VERSION: u64 = 1_048_576;
-
 /// Control numbers of a node's asks on a line: the count of asks is taken modulo this.
 pub const CONTROLS: u32 = 65_536;
 

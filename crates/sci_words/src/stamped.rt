@@ -13,9 +13,9 @@ pub struct Stamped {
 }
 
 impl Stamped {
-    ghost use Rattle.std.specs.Prelude.{◌≡◌, ◌+◌, ◌^◌, ◌<◌, slice_index};
-    ghost use Rattle.sci_words.specs.Operation.{effect as effect_of, IsMaker};
-    ghost use Rattle.sci_words.specs.Stamped.{after as stamped_after};
+    ghost use Rattle.std.specs.Prelude.{◌≡◌, ◌+◌, ◌^◌, ◌<◌};
+    ghost use Rattle.sci_words.specs.Operation.{IsMaker};
+    ghost use Rattle.sci_words.specs.Stamped.{after as stamped_after, reply_of};
 
     /// What the line becomes by an operation, and the reply: the operation's word by its effect, and the
     /// version one more for a maker. The caller sees to it that the word's place is below eight and, for a
@@ -24,7 +24,7 @@ impl Stamped {
         requires word { op.word < WORDS_PER_LINE }
         requires room { IsMaker op → self.version < u64.MAX }
         ensures after { result.0 ≡ stamped_after self op }
-        ensures reply { result.1 ≡ (effect_of op (slice_index self.line op.word)).1 }
+        ensures reply { result.1 ≡ reply_of self.line op }
     {
         let (word, reply) = effect(op, self.line.word(op.word));
         let version = if op.is_maker() {

@@ -126,3 +126,23 @@ fn extents_at_their_limits(rt: HostRuntime) {
         );
     }
 }
+
+/// No contract says how large a limit is, so that each is pinned here.
+#[test]
+fn every_limit(rt: HostRuntime) {
+    assert_eq!(rt; MAX_NODES, 16);
+    assert_eq!(rt; MAX_LINES, 64);
+    assert_eq!(rt; MAX_SLOTS, 8);
+    assert_eq!(rt; WORDS_PER_LINE, 8);
+    assert_eq!(rt; LINE_BYTES, 64);
+    assert_eq!(rt; MAX_OPERATIONS, 65_536);
+    assert_eq!(rt; CONTROLS, 65_536);
+    assert_eq!(rt; MAX_TEXT_LINE_BYTES, 256);
+    assert_eq!(rt; MAX_INPUT_BYTES, 134_217_728);
+    assert_eq!(rt; MAX_EVENTS, 500_000);
+    assert_eq!(rt; MAX_TURNS, 1_000_000_000);
+    assert_eq!(rt; LANE_CELLS, 4);
+    assert_eq!(rt; FORMAT_1_NODES, 8);
+    assert_eq!(rt; FORMAT_1_SERIALS, 4_096);
+    assert_eq!(rt; FORMAT_1_ENTRIES, 4_096);
+}

@@ -2,7 +2,7 @@ use Rattle.std.proofs.Common.{◌≡◌, ℕ, ◌<◌, length, take, get_or, Non
 use Rattle.std.specs.List.{filter}
 use Rattle.sci_words.specs.declared.limits.TheConstants.{MAX_NODES}
 use Rattle.sci_history.specs.Placed.{is_of_node}
-use Rattle.sci_history.specs.Audit.{entries_of, is_out_of_order, last_of}
+use Rattle.sci_history.specs.Audit.{entries_of, is_out_of_order, last_entry}
 use Rattle.sci_history.proofs.AuditFinds.{FailsLater}
 use Rattle.sci_history.proofs.faults.out_of_order.Given as goal
 
@@ -10,6 +10,6 @@ use Rattle.sci_history.proofs.faults.out_of_order.Given as goal
 abbrev pub invariant-loop-entry : goal.invariant-loop-entry
 invariant-loop-entry l = record {
   sixteen : length l.latest ≡ MAX_NODES;
-  latest : (node : ℕ) → node < MAX_NODES → get_or l.latest node None ≡ last_of None (filter (is_of_node node) (take l.entry-index (entries_of l.entries)));
+  latest : (node : ℕ) → node < MAX_NODES → get_or l.latest node None ≡ last_entry None (filter (is_of_node node) (take l.entry-index (entries_of l.entries)));
   ordered : FailsLater is_out_of_order l.entries l.entry-index;
 }

@@ -1,7 +1,8 @@
 -- The words of the memory run as the stamped lines do.
 use Rattle.std.proofs.Common.{◌≡◌, sym, ◌∙◌, ap}
+use Rattle.sci_words.specs.Stamped.{reply_of}
 use Rattle.sci_words.specs.declared.stamped.Stamped.{Stamped}
-use Rattle.sci_history.specs.Memory.{words_of, stamped_at, contents_after, reply_of}
+use Rattle.sci_history.specs.Memory.{words_of_lines, stamped_at, contents_after}
 use Rattle.sci_history.proofs.Runs.{line_at-words_of, words_of-contents_after}
 use Rattle.sci_history.proofs.memory.Memory.do_op.Goals as goal
 
@@ -14,6 +15,6 @@ returns-clause-run c =
     let left : c.set.new.self ≡ contents_after old op = cc in (
       c.after-after.ensures.reply
           ∙ ap (λ words. reply_of words op) (ap (λ (s : Stamped). s.line) was ∙ sym (line_at-words_of old op.line)),
-      ap words_of left
+      ap words_of_lines left
           ∙ words_of-contents_after old op,
     )

@@ -1,5 +1,5 @@
 -- What a state would ask, with a slot where it needs one, is what the line would ask.
-use Rattle.std.proofs.Common.{◌≡◌, ℕ, ◌&&◌, not, Bool, false, if◌then◌else◌, Some, None, Ok, Err, Option, Result, option_map, refl, sym, ap, subst, ◌∙◌}
+use Rattle.std.proofs.Common.{◌≡◌, ℕ, ◌&&◌, not, Bool, true, false, ◌⊎◌, inl, inr, if◌then◌else◌, Some, None, Ok, Err, Option, Result, option_map, refl, sym, ap, subst, ◌∙◌}
 use Rattle.sci_words.specs.declared.event.AskKind.{AskKind}
 use Rattle.sci_packets.specs.declared.body.Body.{Body}
 use Rattle.sci_cache.specs.declared.fault.AskFault.{AskFault}
@@ -8,7 +8,7 @@ use Rattle.sci_cache.specs.State.{CacheState, is_out}
 use Rattle.sci_cache.specs.Asking.{Asked, asking}
 use Rattle.sci_cache.specs.Held.{state_of}
 use Rattle.sci_cache.specs.Line.{LineState, line_asking}
-use Rattle.sci_cache.proofs.line.CachedLine.question.Goals as goal
+use Rattle.sci_cache.proofs.line.CachedLine.asked.Goals as goal
 
 asked_from : (asked : Option Asked) (to : Option ℕ) (request : Body)
     → ◌≡◌ {A = Option (Option ℕ × Body)} (Some (to, request)) (option_map (λ (a : Asked). (a.to, a.request)) asked)
@@ -35,7 +35,15 @@ made_for now state kind free lacks to request same asks is refuses =
     let r = asked_from (asking now.state kind) to request here in
     (r.0, with_slot (is_out now.state) free (asking now.state kind) _ r.1 (sym is ∙ refuses))
 
+has_slot : (out free : Bool) {is_out : Bool} → is_out ≡ out → ((is_out ≡ true) × (free ≡ true)) ⊎ (is_out ≡ false) → (out && not free) ≡ false
+has_slot true free e (inl h) = rw h.1 refl
+has_slot true free e (inr h) = cc
+has_slot false free e h = refl
+
 pub returns-clause-made : goal.returns-clause-made
 returns-clause-made c =
-    made_for c.args.self.now (state_of c.self.inside.held) c.args.kind c.args.free c.lacks_slot.result c.in_ok-to.to c.in_ok-to.request
-    (ap (λ (l : LineState). l.state) c.self.view_is) (sym c.in_ok-to.was ∙ c.request.ensures) c.lacks_slot.ensures c.if-lacks_slot.false
+    let now = c.args.self.now in
+    let state = state_of c.self.inside.held in
+    made_for now state c.args.kind c.args.free _ c.in-Some.to c.in-Some.request
+    (ap (λ (l : LineState). l.state) c.self.view_is) (sym c.in-Some.is ∙ c.asked.ensures) refl
+    (has_slot (is_out now.state) c.args.free (c.is_out.ensures ∙ ap (λ (l : LineState). is_out l.state) c.self.view_is) c.else-is_out.either)

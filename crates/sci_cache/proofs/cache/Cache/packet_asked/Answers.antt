@@ -8,7 +8,7 @@ use Rattle.sci_cache.specs.Asking.{Asked}
 use Rattle.sci_cache.specs.Line.{LineState}
 use Rattle.sci_cache.specs.Line.{line_asking, line_asked, untouched}
 use Rattle.sci_cache.specs.Cache.{CacheOf, Letter, line_of, has_slot, with_line, letter_asking, target_of, cache_asking}
-use Rattle.sci_cache.proofs.cache.Cache.asked.Goals as goal
+use Rattle.sci_cache.proofs.cache.Cache.packet_asked.Goals as goal
 
 asks_by : (cache : CacheOf) (line : ℕ) (made : Result Asked AskFault) (asked : Asked) → made ≡ Ok asked
     → (letter : Letter) → letter ≡ letter_asking cache line asked
