@@ -7,11 +7,10 @@ use Rattle.std.proofs.lemmas.List.Sums.{length-filter}
 use Rattle.sci_words.specs.declared.limits.TheConstants.{MAX_NODES, MAX_OPERATIONS, MAX_INPUT_BYTES}
 use Rattle.sci_words.specs.declared.operation.Op.{Op}
 use Rattle.sci_history.specs.declared.entry.Entry.{Entry}
-use Rattle.sci_history.specs.Lawful.{Lawful}
 use Rattle.sci_history.specs.Placed.{is_of_node}
 use Rattle.sci_history.specs.Oracle.{Issue, IsInRange, entry_after, done_after, oracle_entries, oracle_logs, oracle_last}
 use Rattle.sci_history.proofs.Order.{all_weaker, all-append}
-use Rattle.sci_history.proofs.Oracles.{Traced, stamped_of, traced_none, traced_all, log_of-logs_of}
+use Rattle.sci_history.proofs.Oracles.{oracle-lawful, stamped_of, traced_none, traced_all, log_of-logs_of}
 use Rattle.sci_history.proofs.OracleSteps.{Ran, ran_serial}
 use Rattle.sci_text.specs.Script.{ScriptValue, IsScript, IsWithin, machine_line, operation_line, script_text}
 use Rattle.sci_text.specs.LogValue.{AreLogs, IsLogs}
@@ -82,8 +81,8 @@ oracle_are_logs s good few =
 
 -- ---- what an oracle writes
 
-oracle_is : (input text : List ℕ) (s : ScriptValue) → IsScript s → length (script_text s) ≤ MAX_INPUT_BYTES → Lawful (oracle_logs s.lines s.operations) (oracle_last s.lines s.operations) → input ≡ script_text s → text ≡ oracle_text s → IsOracleOf input text
-oracle_is input text s good few lawful read written =
+oracle_is : (input text : List ℕ) (s : ScriptValue) → IsScript s → length (script_text s) ≤ MAX_INPUT_BYTES → input ≡ script_text s → text ≡ oracle_text s → IsOracleOf input text
+oracle_is input text s good few read written =
     let logs = oracle_logs s.lines s.operations in
     let last = oracle_last s.lines s.operations in
     record {
@@ -92,11 +91,11 @@ oracle_is input text s good few lawful read written =
       read = read;
       written = written;
       says = subst (λ (bytes : List ℕ). IsLogs bytes s.nodes logs last) (sym written) (written_again s.nodes logs last (oracle_are_logs s good few));
-      lawful = lawful;
+      lawful = oracle-lawful s.lines s.operations (in_range s good);
     }
 
 -- the same for an input that was read
-pub oracle_if : (known : Option (List ℕ)) (text : List ℕ) (s : ScriptValue) → IsScript s → length (script_text s) ≤ MAX_INPUT_BYTES → Lawful (oracle_logs s.lines s.operations) (oracle_last s.lines s.operations) → IfSome known (λ input. input ≡ script_text s) → text ≡ oracle_text s
+pub oracle_if : (known : Option (List ℕ)) (text : List ℕ) (s : ScriptValue) → IsScript s → length (script_text s) ≤ MAX_INPUT_BYTES → IfSome known (λ input. input ≡ script_text s) → text ≡ oracle_text s
     → IfSome known (λ input. (length input ≤ MAX_INPUT_BYTES) × IsOracleOf input text)
-oracle_if None text s good few lawful read written = tt
-oracle_if (Some input) text s good few lawful read written = (omega (arith, few, ap length read), oracle_is input text s good few lawful read written)
+oracle_if None text s good few read written = tt
+oracle_if (Some input) text s good few read written = (omega (arith, few, ap length read), oracle_is input text s good few read written)
