@@ -95,13 +95,15 @@ fn a_read_is_passed_on_once(rt: HostRuntime) {
     for with in KINDS {
         let mut inner = Noting::new(rt.alloc(), b"ab", 1, with);
         let mut tap = Tap::new(&mut inner);
-        let mut block = [0u8; 100];
-        assert_eq!(rt; tap.read(&mut block).ok(), Some(1));
+        let mut long = [0u8; 100];
+        let mut middle = [0u8; 60];
+        let mut short = [0u8; 7];
+        assert_eq!(rt; tap.read(&mut long).ok(), Some(1));
         assert!(rt; !tap.failed());
-        assert!(rt; tap.read(&mut block[..60]).is_err());
+        assert!(rt; tap.read(&mut middle).is_err());
         assert!(rt; tap.failed());
         assert!(rt; !tap.called_again());
-        assert_eq!(rt; tap.read(&mut block[..7]).ok(), Some(1));
+        assert_eq!(rt; tap.read(&mut short).ok(), Some(1));
         assert!(rt; tap.failed());
         assert!(rt; tap.called_again());
         assert_eq!(rt; inner.sizes.as_slice(), [100, 60, 7].as_slice());
