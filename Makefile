@@ -2,17 +2,24 @@
 
 NEED_RT = command -v rt > /dev/null || { echo "rt is missing: put the bin folder of a Rattle kit (rattle-kit-13b or later) on your PATH"; exit 1; }
 
-.PHONY: run test check fmt clean
+.PHONY: run test cases check fmt clean
 
 # Builds the program and runs its stored example.
 run:
 	@$(NEED_RT)
 	@if [ -f crates/scimem/src/main.rt ]; then cd crates/scimem && rt run -- $$(cat args) < stdin; else echo "scimem isn't built yet: there is nothing to run"; fi
 
-# The gate: every proof from nothing, the edits that must fail, the tests and the program.
+# The gate: every proof from nothing, the edits that must fail, and the tests; then the program that it built, on the
+# stored cases. The last line is 'N passed, M failed'.
 test:
 	@$(NEED_RT)
-	@rt ci
+	@scripts/test.sh
+
+# Builds the program over what earlier checks kept, and runs it on the stored cases alone.
+cases:
+	@$(NEED_RT)
+	@cd crates/scimem && rt run -- $$(cat args) < stdin > /dev/null
+	@scripts/run_cases.sh
 
 # Every crate, over what earlier checks kept.
 check:

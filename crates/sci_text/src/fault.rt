@@ -2,6 +2,8 @@
 
 ghost use Rattle.std.specs.Prelude.{◌≡◌};
 
+use std::alloc::AllocError;
+
 /// What is wrong. On one line Syntax comes before Range, and Range before TooMany.
 #[derive(Clone, Copy, Debug, PartialEq, Eq)]
 pub enum TextFaultKind {
@@ -28,6 +30,21 @@ pub struct TextFault {
     pub kind: TextFaultKind,
 }
 
+/// An allocation that failed is a fault of the whole input.
+impl From<AllocError> for TextFault {
+    ghost use Rattle.std.specs.Prelude.{◌≡◌};
+    ghost use Rattle.sci_text.specs.declared.fault.TextFaultKind.TheVariants.{Memory};
+
+    ghost from_gives = { λ error fault. (fault.line ≡ 0) × (fault.kind ≡ Memory) };
+
+    fn from(_error: AllocError) -> TextFault {
+        TextFault {
+            line: 0,
+            kind: TextFaultKind::Memory,
+        }
+    }
+}
+
 impl TextFault {
     /// A fault of the whole input.
     pub(crate) fn of_input(kind: TextFaultKind) -> TextFault
@@ -37,7 +54,7 @@ impl TextFault {
         TextFault { line: 0, kind }
     }
 
-    /// A fault of a line, but for want of memory, which is the whole input's.
+    /// A fault of this line, or of the whole input if it is Memory.
     pub(crate) fn at(line: usize, kind: TextFaultKind) -> TextFault
         ensures kind { result.kind ≡ kind }
         ensures memory { kind ≡ TextFaultKind.Memory → result.line ≡ 0 }

@@ -37,4 +37,6 @@ pub use writing::{logs_text, write_logs, write_text};
 #[cfg(test)]
 mod schedule_tests;
 #[cfg(test)]
+mod tap_tests;
+#[cfg(test)]
 mod tests;

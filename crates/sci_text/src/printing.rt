@@ -1,6 +1,6 @@
 //! Texts, appended to a buffer piece by piece.
 
-ghost use Rattle.std.specs.Prelude.{◌≡◌, ◌+◌, ◌≤◌, ◌++◌, ◌∷◌, [], length, OnOk};
+ghost use Rattle.std.specs.Prelude.{◌≡◌, ◌+◌, ◌≤◌, ◌++◌, ◌∷◌, [], length, OnErr, OnOk};
 ghost use Rattle.std.specs.List.{flat_map};
 ghost use Rattle.sci_words.specs.declared.limits.TheConstants.{MAX_TEXT_LINE_BYTES};
 ghost use Rattle.sci_text.specs.Number.{number as number_text, field as field_text};
@@ -15,7 +15,8 @@ use std::alloc::AllocError;
 
 /// Appends a word of the grammar.
 pub fn push_text(out: &mut Vec<u8>, text: &str) -> Result<(), AllocError>
-    ensures { OnOk result (out.new.items ≡ out.old.items ++ text.now) }
+    ensures text { OnOk result (out.new.items ≡ out.old.items ++ text.now) }
+    ensures same { OnErr result (out.new.items ≡ out.old.items) }
 {
     out.extend_from_slice(text.as_bytes())
 }
@@ -23,7 +24,8 @@ pub fn push_text(out: &mut Vec<u8>, text: &str) -> Result<(), AllocError>
 /// Appends a number in decimal digits.
 #[tactic(auto, using(crate::proofs::Digits::number_decimal))]
 pub fn push_number(out: &mut Vec<u8>, n: u64) -> Result<(), AllocError>
-    ensures { OnOk result (out.new.items ≡ out.old.items ++ number_text n) }
+    ensures text { OnOk result (out.new.items ≡ out.old.items ++ number_text n) }
+    ensures same { OnErr result (out.new.items ≡ out.old.items) }
 {
     let mut digits = Buffer::new();
     out.extend_from_slice(digits.format(n).as_bytes())
@@ -32,10 +34,16 @@ pub fn push_number(out: &mut Vec<u8>, n: u64) -> Result<(), AllocError>
 /// Appends a space and a number.
 #[tactic(auto, unfolding(crate::specs::Number::field))]
 pub fn push_field(out: &mut Vec<u8>, n: u64) -> Result<(), AllocError>
-    ensures { OnOk result (out.new.items ≡ out.old.items ++ field_text n) }
+    ensures text { OnOk result (out.new.items ≡ out.old.items ++ field_text n) }
+    ensures same { OnErr result (out.new.items ≡ out.old.items) }
 {
+    let end = out.len();
     out.push(b' ')?;
-    push_number(out, n)
+    let pushed = push_number(out, n);
+    if pushed.is_err() {
+        out.truncate(end);
+    }
+    pushed
 }
 
 fn lock_word(lock: LockOp) -> &'static str

@@ -5,7 +5,7 @@ ghost use Rattle.sci_history.specs.declared.entry.Entry.{Entry};
 ghost use Rattle.std.specs.Prelude.{ℕ, List, ◌≡◌, ◌≤◌, false, length, IfOk, OnOk, IfErr, IfSome, Some};
 ghost use Rattle.std.specs.Io.KnownBytes.{IsAtEnd};
 ghost use Rattle.sci_words.specs.declared.limits.TheConstants.{MAX_INPUT_BYTES};
-ghost use Rattle.sci_text.specs.Tap.{tapped, has_failed};
+ghost use Rattle.sci_text.specs.Tap.{tapped, has_failed, is_called_again};
 ghost use Rattle.sci_text.specs.Script.{ScriptValue, IsScript, script_text};
 ghost use Rattle.sci_text.specs.LogValue.{AreLogs, IsLogs, IsLogsReadAs, IsLogTold};
 ghost use Rattle.sci_text.specs.Fault.{IsInputFault, IsTold, IsReadAs};
@@ -34,6 +34,7 @@ pub fn read_input<R: Read>(alloc: Global, reader: &mut Tap<R>) -> Result<Vec<u8>
     ensures unfailed { OnOk result (has_failed reader.new ≡ false) }
     ensures line { IfErr result (λ fault. fault.line ≡ 0) }
     ensures fault { IfErr result (λ fault. IsInputFault fault.kind (R.remaining (tapped reader.old)) (has_failed reader.new)) }
+    ensures again { is_called_again reader.new ≡ is_called_again reader.old }
 {
     let mut input = Vec::new(alloc);
     let mut block = [0u8; BLOCK_BYTES];
@@ -47,9 +48,7 @@ pub fn read_input<R: Read>(alloc: Global, reader: &mut Tap<R>) -> Result<Vec<u8>
         if count > MAX_INPUT_BYTES - input.len() {
             return Err(TextFault::of_input(TextFaultKind::TooMany));
         }
-        let Ok(()) = input.extend_from_slice(&block[..count]) else {
-            return Err(TextFault::of_input(TextFaultKind::Memory));
-        };
+        input.extend_from_slice(&block[..count])?;
     }
 }
 
@@ -73,6 +72,7 @@ pub fn read_script<R: Read>(alloc: Global, reader: &mut Tap<R>) -> Result<Script
 
     // Else the first fault is told.
     ensures fault { IfErr result (λ fault. IsTold fault.kind (R.remaining (tapped reader.old)) (has_failed reader.new) fault.line) }
+    ensures again { is_called_again reader.new ≡ is_called_again reader.old }
 {
     let input = read_input(alloc, reader)?;
     lines::script(alloc, &input)
@@ -96,6 +96,7 @@ pub fn read_logs<R: Read>(alloc: Global, reader: &mut Tap<R>) -> Result<(u8, Log
 
     // Else the first fault is told.
     ensures fault { IfErr result (λ fault. IsLogTold fault.kind (R.remaining (tapped reader.old)) (has_failed reader.new) fault.line) }
+    ensures again { is_called_again reader.new ≡ is_called_again reader.old }
 {
     one_log();
     no_log_fault();

@@ -3,7 +3,7 @@
 ghost use Rattle.std.specs.Prelude.{◌≡◌, ◌≤◌, false, length, IfOk, OnOk, IfErr, IfSome, Some};
 ghost use Rattle.std.specs.Io.KnownBytes.{IsAtEnd};
 ghost use Rattle.sci_words.specs.declared.limits.TheConstants.{MAX_INPUT_BYTES};
-ghost use Rattle.sci_text.specs.Tap.{tapped, has_failed};
+ghost use Rattle.sci_text.specs.Tap.{tapped, has_failed, is_called_again};
 ghost use Rattle.sci_text.specs.Schedule.{ScheduleValue, IsSchedule, schedule_text};
 ghost use Rattle.sci_text.specs.ScheduleFault.{IsToldOfSchedule, IsScheduleReadAs};
 
@@ -35,6 +35,7 @@ pub fn read_schedule<R: Read>(alloc: Global, reader: &mut Tap<R>) -> Result<Sche
 
     // Else the first fault is told.
     ensures fault { IfErr result (λ fault. IsToldOfSchedule fault.kind (R.remaining (tapped reader.old)) (has_failed reader.new) fault.line) }
+    ensures again { is_called_again reader.new ≡ is_called_again reader.old }
 {
     let input = read_input(alloc, reader)?;
     schedule(alloc, &input)

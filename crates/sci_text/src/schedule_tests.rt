@@ -219,7 +219,7 @@ fn too_long_a_schedule(rt: HostRuntime) {
     assert_eq!(rt; more.err(), at(0, TextFaultKind::TooMany));
 }
 
-/// Gives one byte at a time, and fails at the read of this number.
+/// Gives one byte at a time, and fails at the read of this number alone.
 #[derive(Drop)]
 struct Dripping<'a> {
     rest: &'a [u8],
@@ -229,10 +229,11 @@ struct Dripping<'a> {
 
 impl Read for Dripping<'_> {
     fn read(&mut self, buf: &mut [u8]) -> io::Result<usize> {
-        if self.reads == self.fails_at {
+        let fails = self.reads == self.fails_at;
+        self.reads = self.reads.saturating_add(1);
+        if fails {
             return Err(io::Error::from(ErrorKind::Other));
         }
-        self.reads = self.reads.saturating_add(1);
         let Some((first, rest)) = self.rest.split_first() else {
             return Ok(0);
         };

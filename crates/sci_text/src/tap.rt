@@ -3,26 +3,30 @@
 use std::io;
 use std::io::{Read, Write};
 
-/// A reader or a writer that passes its calls on, and remembers whether one of them failed: by an error, an
-/// interrupted call too, or by a write that took nothing of a buffer that has bytes.
+/// A reader or a writer that passes each call on, once, and remembers whether a call failed and whether another call
+/// came after that. A call fails if it answers an error (an interrupted call too), or if a write takes nothing of a
+/// buffer that has bytes.
 #[derive(Debug, Drop)]
 pub struct Tap<T> {
     inner: T,
     failed: bool,
+    called_again: bool,
 }
 
 impl<T> Tap<T> {
     ghost use Rattle.std.specs.Prelude.{◌≡◌, false};
-    ghost use Rattle.sci_text.specs.Tap.{tapped, has_failed};
+    ghost use Rattle.sci_text.specs.Tap.{tapped, has_failed, is_called_again};
 
     /// A tap on `inner` that has not failed.
     pub fn new(inner: T) -> Tap<T>
         ensures inner { tapped result ≡ inner }
         ensures fresh { has_failed result ≡ false }
+        ensures quiet { is_called_again result ≡ false }
     {
         Tap {
             inner,
             failed: false,
+            called_again: false,
         }
     }
 
@@ -32,13 +36,20 @@ impl<T> Tap<T> {
     {
         self.failed
     }
+
+    /// Whether a call came after one that failed.
+    pub fn called_again(&self) -> bool
+        ensures { result ≡ is_called_again self.now }
+    {
+        self.called_again
+    }
 }
 
 impl<R: Read> Read for Tap<R> {
     ghost use Rattle.std.specs.Prelude.{◌≡◌, ◌||◌, is_err};
     ghost use Rattle.std.specs.Io.{ReadsAtMost};
     ghost use Rattle.std.specs.Io.KnownBytes.{ReadConsumes};
-    ghost use Rattle.sci_text.specs.Tap.{tapped, has_failed};
+    ghost use Rattle.sci_text.specs.Tap.{tapped, has_failed, is_called_again};
 
     ghost remaining = { λ tap. R.remaining (tapped tap) };
 
@@ -46,7 +57,9 @@ impl<R: Read> Read for Tap<R> {
         ensures bound { ReadsAtMost result buf.new }
         ensures bytes { ReadConsumes (R.remaining (tapped self.old)) (R.remaining (tapped self.new)) result buf.new }
         ensures failed { has_failed self.new ≡ (has_failed self.old || is_err result) }
+        ensures again { is_called_again self.new ≡ (is_called_again self.old || has_failed self.old) }
     {
+        self.called_again = self.called_again || self.failed;
         let result = self.inner.read(buf);
         if result.is_err() {
             self.failed = true;
@@ -59,7 +72,7 @@ impl<W: Write> Write for Tap<W> {
     ghost use Rattle.std.specs.Prelude.{◌≡◌, ◌||◌, is_err};
     ghost use Rattle.std.specs.Io.{WritesAtMost};
     ghost use Rattle.std.specs.Io.KnownBytes.{WriteAppends, Keeps};
-    ghost use Rattle.sci_text.specs.Tap.{tapped, has_failed, write_fails};
+    ghost use Rattle.sci_text.specs.Tap.{tapped, has_failed, is_called_again, write_fails};
 
     ghost contents = { λ tap. W.contents (tapped tap) };
 
@@ -67,7 +80,9 @@ impl<W: Write> Write for Tap<W> {
         ensures bound { WritesAtMost result buf.now }
         ensures bytes { WriteAppends (W.contents (tapped self.old)) (W.contents (tapped self.new)) result buf.now }
         ensures failed { has_failed self.new ≡ (has_failed self.old || write_fails result buf.now) }
+        ensures again { is_called_again self.new ≡ (is_called_again self.old || has_failed self.old) }
     {
+        self.called_again = self.called_again || self.failed;
         let result = self.inner.write(buf);
         let failed = match &result {
             Ok(count) => *count == 0 && !buf.is_empty(),
@@ -82,7 +97,9 @@ impl<W: Write> Write for Tap<W> {
     fn flush(&mut self) -> io::Result<()>
         ensures bytes { Keeps (W.contents (tapped self.old)) (W.contents (tapped self.new)) }
         ensures failed { has_failed self.new ≡ (has_failed self.old || is_err result) }
+        ensures again { is_called_again self.new ≡ (is_called_again self.old || has_failed self.old) }
     {
+        self.called_again = self.called_again || self.failed;
         let result = self.inner.flush();
         if result.is_err() {
             self.failed = true;

@@ -4,7 +4,7 @@ use crate::*;
 use sci_words::{Act, Extent, LockOp, Op};
 use std::alloc::{AllocError, Global};
 use std::io;
-use std::io::{ErrorKind, Read, Write};
+use std::io::{ErrorKind, Read};
 use std::test::Fail;
 
 const STORE_THEN_LOAD: &[u8] = b"machine 2 1 1\np 0 store 0 0 7\np 1 load 0 0\n";
@@ -254,7 +254,7 @@ fn too_long(rt: HostRuntime) {
     assert_eq!(rt; more.err(), at(0, TextFaultKind::TooMany));
 }
 
-/// Gives one byte at a time, and fails at the read of this number.
+/// Gives one byte at a time, and fails at the read of this number alone.
 #[derive(Drop)]
 struct Dripping<'a> {
     rest: &'a [u8],
@@ -265,10 +265,11 @@ struct Dripping<'a> {
 
 impl Read for Dripping<'_> {
     fn read(&mut self, buf: &mut [u8]) -> io::Result<usize> {
-        if self.reads == self.fails_at {
+        let fails = self.reads == self.fails_at;
+        self.reads = self.reads.saturating_add(1);
+        if fails {
             return Err(io::Error::from(self.with));
         }
-        self.reads = self.reads.saturating_add(1);
         let Some((first, rest)) = self.rest.split_first() else {
             return Ok(0);
         };
@@ -330,45 +331,6 @@ fn each_read_fails_in_turn(rt: HostRuntime) {
     }
 }
 
-/// Takes this many bytes of each write, or fails.
-#[derive(Drop)]
-struct Taking(Option<usize>);
-
-impl Write for Taking {
-    fn write(&mut self, buf: &[u8]) -> io::Result<usize> {
-        match self.0 {
-            Some(count) => Ok(count.min(buf.len())),
-            None => Err(io::Error::from(ErrorKind::Other)),
-        }
-    }
-
-    fn flush(&mut self) -> io::Result<()> {
-        match self.0 {
-            Some(_) => Ok(()),
-            None => Err(io::Error::from(ErrorKind::Other)),
-        }
-    }
-}
-
-#[test]
-fn taps_on_writers(rt: HostRuntime) {
-    let table: [(Option<usize>, &[u8], bool); 5] = [
-        (Some(2), b"abc", false),
-        (Some(0), b"", false),
-        (Some(0), b"abc", true),
-        (None, b"abc", true),
-        (None, b"", true),
-    ];
-    for (takes, bytes, fails) in table {
-        let mut tap = Tap::new(Taking(takes));
-        let _ = tap.write(bytes);
-        assert_eq!(rt; tap.failed(), fails, "{takes:?} {bytes:?}");
-        let mut tap = Tap::new(Taking(takes));
-        let _ = tap.flush();
-        assert_eq!(rt; tap.failed(), takes.is_none());
-    }
-}
-
 #[test]
 fn pushes(rt: HostRuntime) -> Result<(), Fail> {
     let extent = Extent::new(2, 3, 1).ok_or("an extent")?;
@@ -379,4 +341,24 @@ fn pushes(rt: HostRuntime) -> Result<(), Fail> {
     assert_eq!(rt; script.push(1, op(2, 8, Act::Load)), Err(PushFault::Range));
     assert_eq!(rt; script.operations(), [(1, op(2, 7, Act::Load))].as_slice());
     Ok(())
+}
+
+#[test]
+fn constants_of_the_limits(rt: HostRuntime) {
+    assert_eq!(rt; sci_words::MAX_NODES, 16);
+    assert_eq!(rt; sci_words::MAX_LINES, 64);
+    assert_eq!(rt; sci_words::MAX_SLOTS, 8);
+    assert_eq!(rt; sci_words::WORDS_PER_LINE, 8);
+    assert_eq!(rt; sci_words::LINE_BYTES, 64);
+    assert_eq!(rt; sci_words::MAX_OPERATIONS, 65_536);
+    assert_eq!(rt; sci_words::MAX_VERSION, 1_048_576);
+    assert_eq!(rt; sci_words::CONTROLS, 65_536);
+    assert_eq!(rt; sci_words::MAX_TEXT_LINE_BYTES, 256);
+    assert_eq!(rt; sci_words::MAX_INPUT_BYTES, 134_217_728);
+    assert_eq!(rt; sci_words::MAX_EVENTS, 500_000);
+    assert_eq!(rt; sci_words::MAX_TURNS, 1_000_000_000);
+    assert_eq!(rt; sci_words::LANE_CELLS, 4);
+    assert_eq!(rt; sci_words::FORMAT_1_NODES, 8);
+    assert_eq!(rt; sci_words::FORMAT_1_SERIALS, 4_096);
+    assert_eq!(rt; sci_words::FORMAT_1_ENTRIES, 4_096);
 }

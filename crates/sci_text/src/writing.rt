@@ -4,9 +4,11 @@ ghost use Rattle.std.specs.Prelude.{◌≡◌, ◌++◌, ◌<◌, ◌≤◌, [],
 ghost use Rattle.std.specs.Io.KnownBytes.{Appends};
 ghost use Rattle.sci_text.specs.Log.{IsWriteFault, entry_line as entry_text, entry_lines, last_lines, log_line as log_line_text, log_text};
 ghost use Rattle.std.specs.List.{flat_map};
-ghost use Rattle.sci_text.specs.Tap.{has_failed, tapped};
+ghost use Rattle.sci_text.specs.LogValue.{AreLogs, IsLogs};
+ghost use Rattle.sci_text.specs.Tap.{has_failed, is_called_again, tapped};
 
 use crate::fault::{TextFault, TextFaultKind};
+use crate::laws::written_again;
 use crate::printing::{push_entry_line, push_field, push_last_line, push_text};
 use crate::tap::Tap;
 use sci_history::{Entry, Last, Logs};
@@ -50,10 +52,13 @@ fn push_logs(out: &mut Vec<u8>, logs: &Logs) -> Result<(), AllocError>
     Ok(())
 }
 
-/// The text of logs with last contents in format 2, for a machine of that many nodes.
+/// The text of logs with last contents in format 2, for a machine of that many nodes. For logs within the limits of a
+/// text it is read back as these logs and no others. Refused only if an allocation failed.
 pub fn logs_text(alloc: Global, nodes: u8, logs: &Logs, last: &Last) -> Result<Vec<u8>, AllocError>
-    ensures { IfOk result (λ text. text.items ≡ log_text nodes logs.now last.now) }
+    ensures text { IfOk result (λ text. text.items ≡ log_text nodes logs.now last.now) }
+    ensures says { AreLogs nodes logs.now last.now → IfOk result (λ text. IsLogs text.items nodes logs.now last.now) }
 {
+    written_again();
     let mut text = Vec::new(alloc);
     push_log_line(&mut text, nodes, last.lines())?;
     push_last(&mut text, last)?;
@@ -70,6 +75,7 @@ pub fn write_text<W: Write>(writer: &mut Tap<W>, text: &[u8]) -> Result<(), Text
     ensures line { IfErr result (λ fault. fault.line ≡ 0) }
     ensures kind { IfErr result (λ fault. fault.kind ≡ TextFaultKind.Write) }
     ensures fault { IfErr result (λ fault. IsWriteFault fault.kind (W.contents (tapped writer.old)) (W.contents (tapped writer.new)) (has_failed writer.new) text.now) }
+    ensures again { is_called_again writer.new ≡ is_called_again writer.old }
 {
     let mut written = 0;
     'writes: while written < text.len() {
@@ -94,12 +100,12 @@ pub fn write_logs<W: Write>(
 ) -> Result<(), TextFault>
     requires { has_failed writer.old ≡ false }
     ensures text { OnOk result (Appends (W.contents (tapped writer.old)) (W.contents (tapped writer.new)) (log_text nodes logs.now last.now)) }
+    ensures says { OnOk result (AreLogs nodes logs.now last.now → IsLogs (log_text nodes logs.now last.now) nodes logs.now last.now) }
     ensures unfailed { OnOk result (has_failed writer.new ≡ false) }
     ensures line { IfErr result (λ fault. fault.line ≡ 0) }
     ensures fault { IfErr result (λ fault. IsWriteFault fault.kind (W.contents (tapped writer.old)) (W.contents (tapped writer.new)) (has_failed writer.new) (log_text nodes logs.now last.now)) }
+    ensures again { is_called_again writer.new ≡ is_called_again writer.old }
 {
-    let Ok(text) = logs_text(alloc, nodes, logs, last) else {
-        return Err(TextFault::of_input(TextFaultKind::Memory));
-    };
+    let text = logs_text(alloc, nodes, logs, last)?;
     write_text(writer, &text)
 }

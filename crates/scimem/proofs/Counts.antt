@@ -1,4 +1,4 @@
--- What the oracle's answer rests on: how many operations each node has, and what is written of a script.
+-- How many operations each node of a script has.
 use Rattle.std.proofs.Common.{◌≡◌, ℕ, ◌≤◌, cond, eqb, List, [], ◌∷◌, refl, ap, subst, ◌∙◌, arith, inl, inr}
 use Rattle.std.specs.Prelude.{count_by}
 use Rattle.std.specs.List.{AllByRecursion}
@@ -33,16 +33,3 @@ few_of_each s h node =
           let none = none_of s.nodes s.lines node s.operations (recursion_from_All (λ p. IsWithin s.nodes s.lines p.0 p.1) s.operations h.within) past in
           omega arith
     ]
-
--- what is written for a script that was read
-pub oracle_of : (s : ScriptValue) (input text : List ℕ) (nodes lines : ℕ) (operations : List (ℕ × Op)) (logs : List (List Entry)) (last : List Stamped) → IsScript s → input ≡ script_text s → nodes ≡ s.nodes → lines ≡ s.lines → operations ≡ s.operations → logs ≡ oracle_logs lines operations → last ≡ oracle_last lines operations → Lawful logs last → text ≡ log_text nodes logs last → IsOracleOf input text
-oracle_of s input text nodes lines operations logs last good read nodes-are lines-are operations-are logs-are last-is lawful written =
-    let logged : logs ≡ oracle_logs s.lines s.operations = logs-are ∙ ap (λ l. oracle_logs l operations) lines-are ∙ ap (oracle_logs s.lines) operations-are in
-    let left : last ≡ oracle_last s.lines s.operations = last-is ∙ ap (λ l. oracle_last l operations) lines-are ∙ ap (oracle_last s.lines) operations-are in
-    record {
-      script = s;
-      good = good;
-      read = read;
-      written = written ∙ ap (λ n. log_text n logs last) nodes-are ∙ ap (λ ls. log_text s.nodes ls last) logged ∙ ap (log_text s.nodes (oracle_logs s.lines s.operations)) left;
-      lawful = subst (λ (ls : List (List Entry)). Lawful ls (oracle_last s.lines s.operations)) logged (subst (λ (l : List Stamped). Lawful logs l) left lawful);
-    }

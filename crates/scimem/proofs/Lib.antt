@@ -6,3 +6,6 @@ pub mod Counts
 pub mod Refusals
 pub mod Replays
 pub mod ReplayLogs
+pub mod DoneLogs
+pub mod OracleLogs
+pub mod Audited

@@ -1,8 +1,5 @@
 -- A refusal that was written is that of the fault that is told.
 use Rattle.std.proofs.Common.{◌≡◌, ℕ, ◌<◌, List, Bool, Option, refl, inl, inr, arith}
-use Rattle.std.specs.Prelude.{IfSome}
-use Rattle.sci_history.specs.declared.verdict.Verdict.{Verdict}
-use Rattle.sci_history.specs.declared.verdict.Verdict.TheVariants as verdicts
 use Rattle.sci_text.specs.declared.fault.TextFault.{TextFault}
 use Rattle.sci_text.specs.declared.fault.TextFaultKind.{TextFaultKind}
 use Rattle.sci_text.specs.declared.fault.TextFaultKind.TheVariants.{Syntax, Range, TooMany, Read, Write, Memory}
@@ -10,8 +7,9 @@ use Rattle.sci_text.specs.Fault.{IsTold}
 use Rattle.sci_text.specs.LogValue.{IsLogTold}
 use Rattle.scimem.specs.declared.outcome.Outcome.{Outcome}
 use Rattle.scimem.specs.declared.outcome.Outcome.TheVariants.{Done, Unlawful, Refused}
+use Rattle.scimem.specs.Input.{IsReadAs}
 use Rattle.scimem.specs.Refusal.{Refuses, IsRefusalBy}
-use Rattle.scimem.specs.LogAnswer.{IsAuditOf, IsAuditAnswer, outcome_of}
+use Rattle.scimem.specs.LogAnswer.{IsAuditOf, IsAuditAnswer}
 
 pub refused_as : (told : TextFaultKind → ℕ → Type 0) (fault : TextFault) (text : List ℕ) → told fault.kind fault.line → (0 < fault.line → told Memory 0) → Refuses fault text → IsRefusalBy told text
 refused_as told fault text h memory (inl is) = record { line = fault.line; kind = fault.kind; is_told = h; written = is }
@@ -35,11 +33,7 @@ log_told_memory Write known failed line h lt = absurd h
 
 -- ---- the answer of an audit
 
-pub never_refused : (verdict : Verdict) → outcome_of verdict ≡ Refused → ⊥
-never_refused verdicts.Lawful e = absurd cc
-never_refused (verdicts.Fault line kind named) e = absurd cc
-
-pub audit_answer : (known : Option (List ℕ)) (failed : Bool) (text : List ℕ) (outcome : Outcome) → (outcome ≡ Refused → ⊥) → IfSome known (λ bytes. IsAuditOf bytes text outcome) → IsAuditAnswer known failed text outcome
+pub audit_answer : (known : Option (List ℕ)) (failed : Bool) (text : List ℕ) (outcome : Outcome) → (outcome ≡ Refused → ⊥) → IsReadAs known failed (λ bytes. IsAuditOf bytes text outcome) → IsAuditAnswer known failed text outcome
 audit_answer known failed text Done other h = h
 audit_answer known failed text Unlawful other h = h
 audit_answer known failed text Refused other h = absurd (other refl)

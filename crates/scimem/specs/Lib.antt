@@ -1,5 +1,7 @@
 pub mod Choice
+pub mod CommandAnswer
 pub mod Decoding
+pub mod Input
 pub mod PacketLine
 pub mod Status
 pub mod Writing

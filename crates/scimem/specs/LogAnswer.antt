@@ -1,5 +1,5 @@
 -- What `audit` and `upgrade` write for their input.
-use Rattle.std.specs.Prelude.{◌≡◌, ◌↔◌, ℕ, Bool, List, [], ◌∷◌, ◌++◌, codes, Option, Some, None, IfSome}
+use Rattle.std.specs.Prelude.{◌≡◌, ◌↔◌, ℕ, Bool, List, [], ◌∷◌, ◌++◌, codes, Option, Some, None}
 use Rattle.sci_words.specs.declared.stamped.Stamped.{Stamped}
 use Rattle.sci_history.specs.declared.entry.Entry.{Entry}
 use Rattle.sci_history.specs.declared.verdict.FaultKind.{FaultKind}
@@ -11,6 +11,7 @@ use Rattle.sci_history.specs.Audit.{IsVerdict}
 use Rattle.sci_text.specs.Number.{field}
 use Rattle.sci_text.specs.Log.{log_text}
 use Rattle.sci_text.specs.LogValue.{IsLogs, IsLogTold}
+use Rattle.scimem.specs.Input.{IsReadAs}
 use Rattle.scimem.specs.Refusal.{IsRefusalBy}
 use Rattle.scimem.specs.declared.outcome.Outcome.{Outcome}
 use Rattle.scimem.specs.declared.outcome.Outcome.TheVariants.{Done, Unlawful, Refused}
@@ -52,8 +53,8 @@ pub record IsAuditOf (input text : List ℕ) (outcome : Outcome) : Type 0 where
 
 -- what `audit` writes, and how it ends, for the bytes of a reader, which has failed or not
 abbrev pub IsAuditAnswer : Option (List ℕ) → Bool → List ℕ → Outcome → Type 0
-IsAuditAnswer input failed text Done = IfSome input (λ bytes. IsAuditOf bytes text Done)
-IsAuditAnswer input failed text Unlawful = IfSome input (λ bytes. IsAuditOf bytes text Unlawful)
+IsAuditAnswer input failed text Done = IsReadAs input failed (λ bytes. IsAuditOf bytes text Done)
+IsAuditAnswer input failed text Unlawful = IsReadAs input failed (λ bytes. IsAuditOf bytes text Unlawful)
 IsAuditAnswer input failed text Refused = IsRefusalBy (λ kind line. IsLogTold kind input failed line) text
 
 -- the input is the text of logs with last contents, whose text in format 2 is written: the same logs have that text too
@@ -67,6 +68,6 @@ pub record IsUpgradeOf (input text : List ℕ) : Type 0 where
 
 -- what `upgrade` writes, and how it ends
 abbrev pub IsUpgradeAnswer : Option (List ℕ) → Bool → List ℕ → Outcome → Type 0
-IsUpgradeAnswer input failed text Done = IfSome input (λ bytes. IsUpgradeOf bytes text)
+IsUpgradeAnswer input failed text Done = IsReadAs input failed (λ bytes. IsUpgradeOf bytes text)
 IsUpgradeAnswer input failed text Unlawful = ⊥
 IsUpgradeAnswer input failed text Refused = IsRefusalBy (λ kind line. IsLogTold kind input failed line) text

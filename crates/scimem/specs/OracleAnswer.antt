@@ -1,10 +1,12 @@
 -- What `oracle` writes for its input.
-use Rattle.std.specs.Prelude.{◌≡◌, ℕ, Bool, List, Option, IfSome}
+use Rattle.std.specs.Prelude.{◌≡◌, ℕ, Bool, List, Option}
 use Rattle.sci_history.specs.Lawful.{Lawful}
 use Rattle.sci_history.specs.Oracle.{oracle_logs, oracle_last}
 use Rattle.sci_text.specs.Script.{ScriptValue, IsScript, script_text}
 use Rattle.sci_text.specs.Fault.{IsTold}
 use Rattle.sci_text.specs.Log.{log_text}
+use Rattle.sci_text.specs.LogValue.{IsLogs}
+use Rattle.scimem.specs.Input.{IsReadAs}
 use Rattle.scimem.specs.Refusal.{IsRefusalBy}
 use Rattle.scimem.specs.declared.outcome.Outcome.{Outcome}
 use Rattle.scimem.specs.declared.outcome.Outcome.TheVariants.{Done, Unlawful, Refused}
@@ -13,16 +15,17 @@ use Rattle.scimem.specs.declared.outcome.Outcome.TheVariants.{Done, Unlawful, Re
 abbrev pub oracle_text : ScriptValue → List ℕ
 oracle_text s = log_text s.nodes (oracle_logs s.lines s.operations) (oracle_last s.lines s.operations)
 
--- the input is the text of a script, whose oracle's text is written, and its logs are lawful
+-- the input is the text of a script, and the oracle's text of it is written; it says lawful logs, and no others
 pub record IsOracleOf (input text : List ℕ) : Type 0 where
   pub script : ScriptValue
   pub good : IsScript script
   pub read : input ≡ script_text script
   pub written : text ≡ oracle_text script
+  pub says : IsLogs text script.nodes (oracle_logs script.lines script.operations) (oracle_last script.lines script.operations)
   pub lawful : Lawful (oracle_logs script.lines script.operations) (oracle_last script.lines script.operations)
 
 -- what is written, and how the command ends, for the bytes of a reader, which has failed or not
 abbrev pub IsOracleAnswer : Option (List ℕ) → Bool → List ℕ → Outcome → Type 0
-IsOracleAnswer input failed text Done = IfSome input (λ bytes. IsOracleOf bytes text)
+IsOracleAnswer input failed text Done = IsReadAs input failed (λ bytes. IsOracleOf bytes text)
 IsOracleAnswer input failed text Refused = IsRefusalBy (λ kind line. IsTold kind input failed line) text
 IsOracleAnswer input failed text Unlawful = ⊥

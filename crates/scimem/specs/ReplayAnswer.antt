@@ -1,5 +1,5 @@
 -- What `replay` writes for its input.
-use Rattle.std.specs.Prelude.{◌≡◌, ℕ, Bool, List, Option, IfSome}
+use Rattle.std.specs.Prelude.{◌≡◌, ℕ, Bool, List, Option}
 use Rattle.sci_words.specs.declared.limits.TheConstants.{MAX_OPERATIONS}
 use Rattle.sci_history.specs.Lawful.{Lawful}
 use Rattle.sci_core.specs.Core.{Core, run}
@@ -9,6 +9,7 @@ use Rattle.sci_text.specs.Schedule.{ScheduleValue, IsSchedule, schedule_text}
 use Rattle.sci_text.specs.ScheduleFault.{IsToldOfSchedule}
 use Rattle.sci_text.specs.Log.{log_text}
 use Rattle.sci_text.specs.LogValue.{IsLogs}
+use Rattle.scimem.specs.Input.{IsReadAs}
 use Rattle.scimem.specs.Refusal.{IsRefusalBy}
 use Rattle.scimem.specs.declared.outcome.Outcome.{Outcome}
 use Rattle.scimem.specs.declared.outcome.Outcome.TheVariants.{Done, Unlawful, Refused}
@@ -32,6 +33,6 @@ pub record IsReplayOf (input text : List ℕ) : Type 0 where
 
 -- what is written, and how the command ends, for the bytes of a reader, which has failed or not
 abbrev pub IsReplayAnswer : Option (List ℕ) → Bool → List ℕ → Outcome → Type 0
-IsReplayAnswer input failed text Done = IfSome input (λ bytes. IsReplayOf bytes text)
+IsReplayAnswer input failed text Done = IsReadAs input failed (λ bytes. IsReplayOf bytes text)
 IsReplayAnswer input failed text Refused = IsRefusalBy (λ kind line. IsToldOfSchedule kind input failed line) text
 IsReplayAnswer input failed text Unlawful = ⊥

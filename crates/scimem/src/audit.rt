@@ -1,15 +1,16 @@
 //! The command `audit`: whether a log is lawful, or the first rule that it breaks.
 
-ghost use Rattle.std.specs.Prelude.{◌≡◌, ◌++◌, ℕ, List, false, true, IfOk, IfErr, IfSome, OnOk};
+ghost use Rattle.std.specs.Prelude.{◌≡◌, ◌++◌, ℕ, List, false, true, IfOk, IfErr, OnOk};
 ghost use Rattle.std.specs.Io.KnownBytes.{Appends};
 ghost use Rattle.sci_text.specs.LogValue.{IsLogTold};
-ghost use Rattle.sci_text.specs.Tap.{has_failed, tapped};
+ghost use Rattle.sci_text.specs.Tap.{has_failed, is_called_again, tapped};
 ghost use Rattle.scimem.specs.declared.outcome.Outcome.{Outcome};
 ghost use Rattle.scimem.specs.LogAnswer.{IsAuditAnswer, IsAuditOf, kind_text, named_text, outcome_of, verdict_text};
+ghost use Rattle.scimem.specs.Input.{IsReadAs};
 ghost use Rattle.scimem.specs.Writing.{WritesFront};
 
 use crate::outcome::Outcome;
-use crate::refusal::{refuse, refused_for_memory};
+use crate::refusal::refuse;
 use crate::writing::write_answer;
 use sci_history::{FaultKind, Verdict, audit};
 use sci_text::{Tap, TextFault, push_field, push_text, read_logs};
@@ -78,20 +79,14 @@ fn end_of(verdict: Verdict) -> Outcome
 /// The line for the log that the reader gives and how the audit ends, or its fault.
 fn answer<R: Read>(alloc: Global, reader: &mut Tap<R>) -> Result<(Vec<u8>, Outcome), TextFault>
     requires { has_failed reader.old ≡ false }
-    ensures text { IfOk result (λ x. IfSome (R.remaining (tapped reader.old)) (λ input. IsAuditOf input x.0.items x.1)) }
+    ensures text { IfOk result (λ x. IsReadAs (R.remaining (tapped reader.old)) (has_failed reader.new) (λ input. IsAuditOf input x.0.items x.1)) }
     ensures judged { IfOk result (λ x. x.1 ≡ Outcome.Refused → ⊥) }
     ensures fault { IfErr result (λ fault. IsLogTold fault.kind (R.remaining (tapped reader.old)) (has_failed reader.new) fault.line) }
+    ensures again { is_called_again reader.new ≡ is_called_again reader.old }
 {
-    let (_, logs, last) = match read_logs(alloc, reader) {
-        Ok(read) => read,
-        Err(fault) => return Err(fault),
-    };
-    let Ok(verdict) = audit(alloc, &logs, &last) else {
-        return Err(refused_for_memory());
-    };
-    let Ok(text) = verdict_line(alloc, verdict) else {
-        return Err(refused_for_memory());
-    };
+    let (_, logs, last) = read_logs(alloc, reader)?;
+    let verdict = audit(alloc, &logs, &last)?;
+    let text = verdict_line(alloc, verdict)?;
     Ok((text, end_of(verdict)))
 }
 
@@ -118,6 +113,8 @@ pub fn audit_text<R: Read, W: Write>(
         × WritesFront (W.contents (tapped writer.old)) (W.contents (tapped writer.new)) text
         × IsAuditAnswer (R.remaining (tapped reader.old)) (has_failed reader.new) text outcome }
     ensures failed { has_failed writer.new ≡ true → result ≡ Outcome.Refused }
+    ensures read_no_more { is_called_again reader.new ≡ is_called_again reader.old }
+    ensures wrote_no_more { is_called_again writer.new ≡ is_called_again writer.old }
 {
     match answer(alloc, reader) {
         Ok((text, outcome)) => write_answer(writer, &text, outcome),

@@ -2,7 +2,7 @@
 
 ghost use Rattle.std.specs.Prelude.{◌≡◌, ◌++◌, ℕ, List, false, true, OnOk, IfOk, IfErr};
 ghost use Rattle.std.specs.Io.KnownBytes.{Appends};
-ghost use Rattle.sci_text.specs.Tap.{tapped, has_failed};
+ghost use Rattle.sci_text.specs.Tap.{has_failed, is_called_again, tapped};
 ghost use Rattle.scimem.specs.declared.outcome.Outcome.{Outcome};
 ghost use Rattle.scimem.specs.Writing.{WritesFront};
 ghost use Rattle.sci_text.specs.Fault.{IsInputFault};
@@ -14,7 +14,7 @@ use crate::packet_line::push_packet;
 use crate::printing::push_labelled;
 use crate::writing::write_answer;
 use sci_packets::{PacketFault, decode};
-use sci_text::{Tap, TextFaultKind, read_input};
+use sci_text::{Tap, TextFault, TextFaultKind, read_input};
 use std::alloc::{AllocError, Global};
 use std::io::{Read, Write};
 
@@ -80,20 +80,15 @@ fn text_of(alloc: Global, input: &[u8]) -> Result<(Vec<u8>, Outcome), AllocError
 }
 
 /// The text for the input that the reader gives, read to its end, and how the command ends.
-fn answer<R: Read>(alloc: Global, reader: &mut Tap<R>) -> Result<(Vec<u8>, Outcome), TextFaultKind>
+fn answer<R: Read>(alloc: Global, reader: &mut Tap<R>) -> Result<(Vec<u8>, Outcome), TextFault>
     requires { has_failed reader.old ≡ false }
     ensures text { IfOk result (λ x. IsInputDecoded (R.remaining (tapped reader.old)) x.0.items x.1) }
     ensures unfailed { OnOk result (has_failed reader.new ≡ false) }
-    ensures fault { IfErr result (λ kind. IsInputFault kind (R.remaining (tapped reader.old)) (has_failed reader.new)) }
+    ensures fault { IfErr result (λ fault. IsInputFault fault.kind (R.remaining (tapped reader.old)) (has_failed reader.new)) }
+    ensures again { is_called_again reader.new ≡ is_called_again reader.old }
 {
-    let input = match read_input(alloc, reader) {
-        Ok(input) => input,
-        Err(fault) => return Err(fault.kind),
-    };
-    match text_of(alloc, &input) {
-        Ok(answer) => Ok(answer),
-        Err(_) => Err(TextFaultKind::Memory),
-    }
+    let input = read_input(alloc, reader)?;
+    Ok(text_of(alloc, &input)?)
 }
 
 /// Reads the input to its end, and writes a line for each packet: `NAME to T from S control K line L`, then
@@ -123,9 +118,11 @@ pub fn decode_bytes<R: Read, W: Write>(
         × WritesFront (W.contents (tapped writer.old)) (W.contents (tapped writer.new)) text
         × IsAnswer (R.remaining (tapped reader.old)) (has_failed reader.new) text outcome }
     ensures failed { has_failed writer.new ≡ true → result ≡ Outcome.Refused }
+    ensures read_no_more { is_called_again reader.new ≡ is_called_again reader.old }
+    ensures wrote_no_more { is_called_again writer.new ≡ is_called_again writer.old }
 {
     match answer(alloc, reader) {
         Ok((text, outcome)) => write_answer(writer, &text, outcome),
-        Err(kind) => write_answer(writer, input_refusal(kind), Outcome::Refused),
+        Err(fault) => write_answer(writer, input_refusal(fault.kind), Outcome::Refused),
     }
 }

@@ -15,7 +15,7 @@ impl Read for Many {
     }
 }
 
-/// Gives one byte at a time, and fails at the read of this number.
+/// Gives one byte at a time, and fails at the read of this number alone.
 #[derive(Drop)]
 pub struct Dripping<'a> {
     pub rest: &'a [u8],
@@ -26,10 +26,11 @@ pub struct Dripping<'a> {
 
 impl Read for Dripping<'_> {
     fn read(&mut self, buf: &mut [u8]) -> io::Result<usize> {
-        if self.reads == self.fails_at {
+        let fails = self.reads == self.fails_at;
+        self.reads = self.reads.saturating_add(1);
+        if fails {
             return Err(io::Error::from(self.with));
         }
-        self.reads = self.reads.saturating_add(1);
         let Some((first, rest)) = self.rest.split_first() else {
             return Ok(0);
         };
@@ -42,7 +43,7 @@ impl Read for Dripping<'_> {
     }
 }
 
-/// Takes up to ten bytes of a write, and at the call of this number fails or takes nothing.
+/// Takes up to ten bytes of a write, and at the call of this number alone fails or takes nothing.
 #[derive(Drop)]
 pub struct Failing {
     pub written: Vec<u8>,

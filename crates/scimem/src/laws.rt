@@ -4,6 +4,7 @@ ghost use Rattle.std.specs.Prelude.{◌≡◌, ℕ, List};
 ghost use Rattle.scimem.specs.declared.outcome.Outcome.{Outcome};
 ghost use Rattle.scimem.specs.Decoding.{IsDecoded};
 ghost use Rattle.scimem.specs.LogAnswer.{IsAuditOf, verdict_text};
+ghost use Rattle.scimem.specs.OracleAnswer.{IsOracleOf};
 ghost use Rattle.scimem.specs.ReplayAnswer.{IsReplayOf};
 ghost use Rattle.sci_history.specs.declared.verdict.Verdict.TheVariants as verdicts;
 
@@ -22,6 +23,13 @@ pub fn one_decoding()
 /// What `replay` writes for any schedule an audit finds lawful.
 pub fn replays_are_lawful()
     ensures { (input text said : List ℕ) (outcome : Outcome) → IsReplayOf input text → IsAuditOf text said outcome → (said ≡ verdict_text verdicts.Lawful) × (outcome ≡ Outcome.Done) }
+{
+    one_partition();
+}
+
+/// What `oracle` writes for any script an audit finds lawful.
+pub fn oracles_are_lawful()
+    ensures { (input text said : List ℕ) (outcome : Outcome) → IsOracleOf input text → IsAuditOf text said outcome → (said ≡ verdict_text verdicts.Lawful) × (outcome ≡ Outcome.Done) }
 {
     one_partition();
 }

@@ -2,6 +2,7 @@
 #![tactic(auto)]
 
 mod audit;
+mod carrying_out;
 mod choice;
 mod decode;
 mod laws;
@@ -14,14 +15,10 @@ mod replay;
 mod upgrade;
 mod writing;
 
-use audit::audit_text;
-use choice::{Command, USAGE, asked};
-use decode::decode_bytes;
-use oracle::oracle as oracle_of;
-use replay::replay as replay_of;
+use carrying_out::carried_out;
+use choice::{USAGE, asked};
 use sci_text::Tap;
 use std::process::ExitCode;
-use upgrade::upgrade as upgrade_of;
 
 #[cfg(test)]
 mod devices;
@@ -43,12 +40,5 @@ fn main(rt: HostRuntime) -> ExitCode {
     };
     let mut reader = Tap::new(rt.stdin());
     let mut writer = Tap::new(rt.stdout());
-    let outcome = match command {
-        Command::Oracle => oracle_of(rt.alloc(), &mut reader, &mut writer),
-        Command::Replay => replay_of(rt.alloc(), &mut reader, &mut writer),
-        Command::Decode => decode_bytes(rt.alloc(), &mut reader, &mut writer),
-        Command::Audit => audit_text(rt.alloc(), &mut reader, &mut writer),
-        Command::Upgrade => upgrade_of(rt.alloc(), &mut reader, &mut writer),
-    };
-    ExitCode::from(outcome.status())
+    carried_out(rt.alloc(), command, &mut reader, &mut writer)
 }

@@ -1,15 +1,16 @@
 //! The command `oracle`: the log of one memory that does a script's operations in text order.
 
-ghost use Rattle.std.specs.Prelude.{◌≡◌, ◌⊎◌, ◌++◌, ℕ, List, false, true, IfOk, IfErr, IfSome, OnOk};
+ghost use Rattle.std.specs.Prelude.{◌≡◌, ◌⊎◌, ◌++◌, ℕ, List, false, true, IfOk, IfErr, OnOk};
 ghost use Rattle.std.specs.Io.KnownBytes.{Appends};
 ghost use Rattle.sci_text.specs.Fault.{IsTold};
-ghost use Rattle.sci_text.specs.Tap.{has_failed, tapped};
+ghost use Rattle.sci_text.specs.Tap.{has_failed, is_called_again, tapped};
 ghost use Rattle.scimem.specs.declared.outcome.Outcome.{Outcome};
 ghost use Rattle.scimem.specs.OracleAnswer.{IsOracleAnswer, IsOracleOf};
+ghost use Rattle.scimem.specs.Input.{IsReadAs};
 ghost use Rattle.scimem.specs.Writing.{WritesFront};
 
 use crate::outcome::Outcome;
-use crate::refusal::{refuse, refused_for_memory};
+use crate::refusal::refuse;
 use crate::writing::write_answer;
 use sci_history::run_oracle;
 use sci_text::{Tap, TextFault, logs_text, read_script};
@@ -19,22 +20,15 @@ use std::io::{Read, Write};
 /// The text of the log of the script that the reader gives, or its fault.
 fn answer<R: Read>(alloc: Global, reader: &mut Tap<R>) -> Result<Vec<u8>, TextFault>
     requires { has_failed reader.old ≡ false }
-    ensures text { IfOk result (λ text. IfSome (R.remaining (tapped reader.old)) (λ input. IsOracleOf input text.items)) }
+    ensures text { IfOk result (λ text. IsReadAs (R.remaining (tapped reader.old)) (has_failed reader.new) (λ input. IsOracleOf input text.items)) }
     ensures fault { IfErr result (λ fault. IsTold fault.kind (R.remaining (tapped reader.old)) (has_failed reader.new) fault.line) }
+    ensures again { is_called_again reader.new ≡ is_called_again reader.old }
 {
-    let script = match read_script(alloc, reader) {
-        Ok(script) => script,
-        Err(fault) => return Err(fault),
-    };
+    let script = read_script(alloc, reader)?;
     let extent = script.extent();
-    let Ok((logs, last)) = run_oracle(alloc, extent.lines, script.operations()) else {
-        return Err(refused_for_memory());
-    };
+    let (logs, last) = run_oracle(alloc, extent.lines, script.operations())?;
     drop(script);
-    let Ok(text) = logs_text(alloc, extent.nodes, &logs, &last) else {
-        return Err(refused_for_memory());
-    };
-    Ok(text)
+    Ok(logs_text(alloc, extent.nodes, &logs, &last)?)
 }
 
 /// Reads a script to its end, does its operations in text order on one memory of one thread, and writes their log
@@ -57,6 +51,8 @@ pub fn oracle<R: Read, W: Write>(alloc: Global, reader: &mut Tap<R>, writer: &mu
         × WritesFront (W.contents (tapped writer.old)) (W.contents (tapped writer.new)) text
         × IsOracleAnswer (R.remaining (tapped reader.old)) (has_failed reader.new) text outcome }
     ensures failed { has_failed writer.new ≡ true → result ≡ Outcome.Refused }
+    ensures read_no_more { is_called_again reader.new ≡ is_called_again reader.old }
+    ensures wrote_no_more { is_called_again writer.new ≡ is_called_again writer.old }
 {
     match answer(alloc, reader) {
         Ok(text) => write_answer(writer, &text, Outcome::Done),

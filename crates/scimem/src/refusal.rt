@@ -2,7 +2,7 @@
 
 ghost use Rattle.std.specs.Prelude.{◌≡◌, ◌++◌, ℕ, List, false, IfOk};
 ghost use Rattle.std.specs.Io.KnownBytes.{Appends};
-ghost use Rattle.sci_text.specs.Tap.{has_failed, tapped};
+ghost use Rattle.sci_text.specs.Tap.{has_failed, is_called_again, tapped};
 ghost use Rattle.scimem.specs.Refusal.{Refuses, kind_word, line_refusal};
 ghost use Rattle.scimem.specs.Writing.{WritesFront};
 
@@ -54,24 +54,14 @@ fn input_refusal(kind: TextFaultKind) -> &'static [u8]
     }
 }
 
-/// The fault of want of memory.
-pub fn refused_for_memory() -> TextFault
-    ensures line { result.line ≡ 0 }
-    ensures kind { result.kind ≡ TextFaultKind.Memory }
-{
-    TextFault {
-        line: 0,
-        kind: TextFaultKind::Memory,
-    }
-}
-
-/// Writes the refusal of a fault, or of the memory that it would take.
+/// Writes the error line of a fault, or the out-of-memory line if there is no memory to build it.
 pub fn refuse<W: Write>(alloc: Global, writer: &mut Tap<W>, fault: TextFault) -> Outcome
     ensures whole { has_failed writer.new ≡ false → (text : List ℕ)
         × Appends (W.contents (tapped writer.old)) (W.contents (tapped writer.new)) text × Refuses fault text }
     ensures front { (text : List ℕ)
         × WritesFront (W.contents (tapped writer.old)) (W.contents (tapped writer.new)) text × Refuses fault text }
     ensures refused { result ≡ Outcome.Refused }
+    ensures again { is_called_again writer.new ≡ is_called_again writer.old }
 {
     if fault.line == 0 {
         let _ = write_answer(writer, input_refusal(fault.kind), Outcome::Refused);

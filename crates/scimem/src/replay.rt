@@ -1,15 +1,16 @@
 //! The command `replay`: the log of the machine where a schedule leads.
 
-ghost use Rattle.std.specs.Prelude.{◌≡◌, ℕ, List, false, true, IfOk, IfErr, IfSome};
+ghost use Rattle.std.specs.Prelude.{◌≡◌, ℕ, List, false, true, IfOk, IfErr};
 ghost use Rattle.std.specs.Io.KnownBytes.{Appends};
 ghost use Rattle.sci_text.specs.ScheduleFault.{IsToldOfSchedule};
-ghost use Rattle.sci_text.specs.Tap.{has_failed, tapped};
+ghost use Rattle.sci_text.specs.Tap.{has_failed, is_called_again, tapped};
 ghost use Rattle.scimem.specs.declared.outcome.Outcome.{Outcome};
 ghost use Rattle.scimem.specs.ReplayAnswer.{IsReplayAnswer, IsReplayOf};
+ghost use Rattle.scimem.specs.Input.{IsReadAs};
 ghost use Rattle.scimem.specs.Writing.{WritesFront};
 
 use crate::outcome::Outcome;
-use crate::refusal::{refuse, refused_for_memory};
+use crate::refusal::refuse;
 use crate::writing::write_answer;
 use sci_core::Machine;
 use sci_text::{Tap, TextFault, logs_text, read_schedule};
@@ -20,30 +21,19 @@ use std::io::{Read, Write};
 /// The text of the log of where the schedule that the reader gives leads, or its fault.
 fn answer<R: Read>(alloc: Global, reader: &mut Tap<R>) -> Result<Vec<u8>, TextFault>
     requires { has_failed reader.old ≡ false }
-    ensures text { IfOk result (λ text. IfSome (R.remaining (tapped reader.old)) (λ input. IsReplayOf input text.items)) }
+    ensures text { IfOk result (λ text. IsReadAs (R.remaining (tapped reader.old)) (has_failed reader.new) (λ input. IsReplayOf input text.items)) }
     ensures fault { IfErr result (λ fault. IsToldOfSchedule fault.kind (R.remaining (tapped reader.old)) (has_failed reader.new) fault.line) }
+    ensures again { is_called_again reader.new ≡ is_called_again reader.old }
 {
-    let schedule = match read_schedule(alloc, reader) {
-        Ok(schedule) => schedule,
-        Err(fault) => return Err(fault),
-    };
+    let schedule = read_schedule(alloc, reader)?;
     let extent = schedule.extent();
-    let Ok(mut machine) = Machine::new(alloc, extent, MAX_OPERATIONS) else {
-        return Err(refused_for_memory());
-    };
-    let Ok(()) = machine.run(schedule.events()) else {
-        return Err(refused_for_memory());
-    };
+    let mut machine = Machine::new(alloc, extent, MAX_OPERATIONS)?;
+    machine.run(schedule.events())?;
     drop(schedule);
-    let Ok(logs) = machine.logs(alloc) else {
-        return Err(refused_for_memory());
-    };
+    let logs = machine.logs(alloc)?;
     let last = machine.last();
     drop(machine);
-    let Ok(text) = logs_text(alloc, extent.nodes, &logs, &last) else {
-        return Err(refused_for_memory());
-    };
-    Ok(text)
+    Ok(logs_text(alloc, extent.nodes, &logs, &last)?)
 }
 
 /// Reads a schedule to its end, applies its events in text order to a new machine whose nodes may each issue
@@ -67,6 +57,8 @@ pub fn replay<R: Read, W: Write>(alloc: Global, reader: &mut Tap<R>, writer: &mu
         × WritesFront (W.contents (tapped writer.old)) (W.contents (tapped writer.new)) text
         × IsReplayAnswer (R.remaining (tapped reader.old)) (has_failed reader.new) text outcome }
     ensures failed { has_failed writer.new ≡ true → result ≡ Outcome.Refused }
+    ensures read_no_more { is_called_again reader.new ≡ is_called_again reader.old }
+    ensures wrote_no_more { is_called_again writer.new ≡ is_called_again writer.old }
 {
     match answer(alloc, reader) {
         Ok(text) => write_answer(writer, &text, Outcome::Done),

@@ -1,35 +1,30 @@
 //! The command `upgrade`: the same log in format 2.
 
-ghost use Rattle.std.specs.Prelude.{◌≡◌, ℕ, List, false, true, IfOk, IfErr, IfSome};
+ghost use Rattle.std.specs.Prelude.{◌≡◌, ℕ, List, false, true, IfOk, IfErr};
 ghost use Rattle.std.specs.Io.KnownBytes.{Appends};
 ghost use Rattle.sci_text.specs.LogValue.{IsLogTold};
-ghost use Rattle.sci_text.specs.Tap.{has_failed, tapped};
+ghost use Rattle.sci_text.specs.Tap.{has_failed, is_called_again, tapped};
 ghost use Rattle.scimem.specs.declared.outcome.Outcome.{Outcome};
 ghost use Rattle.scimem.specs.LogAnswer.{IsUpgradeAnswer, IsUpgradeOf};
+ghost use Rattle.scimem.specs.Input.{IsReadAs};
 ghost use Rattle.scimem.specs.Writing.{WritesFront};
 
 use crate::outcome::Outcome;
-use crate::refusal::{refuse, refused_for_memory};
+use crate::refusal::refuse;
 use crate::writing::write_answer;
-use sci_text::{Tap, TextFault, logs_text, read_logs, written_again};
+use sci_text::{Tap, TextFault, logs_text, read_logs};
 use std::alloc::Global;
 use std::io::{Read, Write};
 
 /// The text in format 2 of the log that the reader gives, or its fault.
 fn answer<R: Read>(alloc: Global, reader: &mut Tap<R>) -> Result<Vec<u8>, TextFault>
     requires { has_failed reader.old ≡ false }
-    ensures text { IfOk result (λ text. IfSome (R.remaining (tapped reader.old)) (λ input. IsUpgradeOf input text.items)) }
+    ensures text { IfOk result (λ text. IsReadAs (R.remaining (tapped reader.old)) (has_failed reader.new) (λ input. IsUpgradeOf input text.items)) }
     ensures fault { IfErr result (λ fault. IsLogTold fault.kind (R.remaining (tapped reader.old)) (has_failed reader.new) fault.line) }
+    ensures again { is_called_again reader.new ≡ is_called_again reader.old }
 {
-    let (nodes, logs, last) = match read_logs(alloc, reader) {
-        Ok(read) => read,
-        Err(fault) => return Err(fault),
-    };
-    let Ok(text) = logs_text(alloc, nodes, &logs, &last) else {
-        return Err(refused_for_memory());
-    };
-    written_again();
-    Ok(text)
+    let (nodes, logs, last) = read_logs(alloc, reader)?;
+    Ok(logs_text(alloc, nodes, &logs, &last)?)
 }
 
 /// Reads a log to its end, and writes it in format 2: Done. It isn't judged, and its entries stay in their order. A text
@@ -53,6 +48,8 @@ pub fn upgrade<R: Read, W: Write>(
         × WritesFront (W.contents (tapped writer.old)) (W.contents (tapped writer.new)) text
         × IsUpgradeAnswer (R.remaining (tapped reader.old)) (has_failed reader.new) text outcome }
     ensures failed { has_failed writer.new ≡ true → result ≡ Outcome.Refused }
+    ensures read_no_more { is_called_again reader.new ≡ is_called_again reader.old }
+    ensures wrote_no_more { is_called_again writer.new ≡ is_called_again writer.old }
 {
     match answer(alloc, reader) {
         Ok(text) => write_answer(writer, &text, Outcome::Done),

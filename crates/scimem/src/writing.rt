@@ -3,7 +3,7 @@
 ghost use Rattle.std.specs.Prelude.{◌≡◌, false, true};
 ghost use Rattle.std.specs.Io.KnownBytes.{Appends};
 ghost use Rattle.scimem.specs.Writing.{WritesFront};
-ghost use Rattle.sci_text.specs.Tap.{tapped, has_failed};
+ghost use Rattle.sci_text.specs.Tap.{has_failed, is_called_again, tapped};
 
 use crate::outcome::Outcome;
 use sci_text::{Tap, write_text};
@@ -15,6 +15,7 @@ pub fn write_answer<W: Write>(writer: &mut Tap<W>, text: &[u8], outcome: Outcome
     ensures whole { has_failed writer.new ≡ false → Appends (W.contents (tapped writer.old)) (W.contents (tapped writer.new)) text.now }
     ensures unfailed { has_failed writer.new ≡ false → result ≡ outcome }
     ensures failed { has_failed writer.new ≡ true → result ≡ Outcome.Refused }
+    ensures again { is_called_again writer.new ≡ is_called_again writer.old }
 {
     if writer.failed() {
         return Outcome::Refused;

@@ -9,5 +9,5 @@ pub returns-in-Err-clause-written : goal.returns-in-Err-clause-written
 returns-in-Err-clause-written g c = λ unfailed.
     let known = g.R.Read.remaining (tapped c.args.reader.now) in
     let failed = has_failed c.answer.new.reader in
-    let told : IsAnswer known failed (refusal 0 (kind_word c.in-Err.kind)) Refused = refused known failed c.in-Err.kind c.in-Err.ensures.fault in
+    let told : IsAnswer known failed (refusal 0 (kind_word c.in-Err.fault.kind)) Refused = refused known failed c.in-Err.fault.kind c.in-Err.ensures.fault in
     (c.input_refusal.result.now, c.write_answer-in-Err.ensures.whole unfailed, rw (c.input_refusal.ensures, c.write_answer-in-Err.ensures.unfailed unfailed) told)

@@ -5,4 +5,6 @@ use Rattle.scimem.proofs.ReplayLogs.{replay_if}
 use Rattle.scimem.proofs.replay.answer.Goals as goal
 
 pub returns-clause-text : goal.returns-clause-text
-returns-clause-text g c = replay_if (g.R.Read.remaining (tapped c.args.reader.now)) c.in-Ok-logs_text.text.items c.in-Ok.schedule c.in-Ok.ensures.good c.in-Ok.ensures.text (search rules)
+returns-clause-text g c =
+    let schedule = c.in_ok-schedule.schedule in
+    (c.in_ok-schedule.ensures.unfailed, replay_if (g.R.Read.remaining (tapped c.args.reader.now)) c.in_ok-logs_text.field-0.items schedule c.in_ok-schedule.ensures.good c.in_ok-schedule.ensures.few c.in_ok-schedule.ensures.text (search rules))

@@ -1,0 +1,1 @@
+head -c 134217728 /dev/zero

@@ -1,0 +1,1 @@
+head -c 134217729 /dev/zero

@@ -1,0 +1,257 @@
+-- Logs and last contents of entries that took effect line by line can be written as a text.
+use Rattle.std.proofs.Common.{◌≡◌, ℕ, zero, suc, ◌+◌, ◌^◌, ◌<◌, ◌≤◌, Bool, true, false, if◌then◌else◌, List, [], ◌∷◌, All, length, map, filter, get_or, replicate, length-set, refl, sym, ap, subst, ◌∙◌, arith, inl, inr}
+use Rattle.std.specs.Prelude.{◌==◌, bit_and}
+use Rattle.std.specs.Int.{bit_not, w64}
+use Rattle.std.specs.List.{AllByRecursion, range_with_len}
+use Rattle.std.proofs.Math.Nat.{mod-lt}
+use Rattle.std.proofs.lemmas.Nat.{or_lt, and_le_l}
+use Rattle.std.proofs.lemmas.Bool.{cases_Bool, cases_eq, cases_lt, eq-eqb, ne_eqb, eqb-true}
+use Rattle.std.proofs.lemmas.List.{get_or_past}
+use Rattle.std.proofs.lemmas.List.Elements.{All-set, All-from_recursion}
+use Rattle.std.proofs.lemmas.List.FromFn.{get_or-map-range_with_len, length-map-range_with_len}
+use Rattle.sci_words.specs.declared.limits.TheConstants.{WORDS_PER_LINE, MAX_NODES, MAX_OPERATIONS}
+use Rattle.sci_words.specs.declared.operation.Act.{Act}
+use Rattle.sci_words.specs.declared.operation.Act.TheVariants.{Load, Store, Lock}
+use Rattle.sci_words.specs.declared.operation.LockOp.{LockOp}
+use Rattle.sci_words.specs.declared.operation.LockOp.TheVariants.{MaskSwap, CompareSwap, FetchAdd, BoundedAdd, WrapAdd}
+use Rattle.sci_words.specs.declared.operation.Op.{Op}
+use Rattle.sci_words.specs.declared.operation.Reply.{Reply}
+use Rattle.sci_words.specs.declared.stamped.Stamped.{Stamped}
+use Rattle.sci_words.specs.Operation.{word_sum, locked_word, effect_of_act, is_maker}
+use Rattle.sci_words.specs.Stamped.{after, line_after, zero_line, zero_stamped}
+use Rattle.sci_history.specs.declared.entry.Entry.{Entry}
+use Rattle.sci_history.specs.History.{IsHistory}
+use Rattle.sci_history.specs.Placed.{log_of, is_of_node, is_on_line}
+use Rattle.sci_history.proofs.Histories.{versions-within}
+use Rattle.sci_history.proofs.Order.{filter_yes, filter_no, all_weaker, all_both, all-filter, all-passes}
+use Rattle.sci_text.specs.Operation.{LockFits, ActFits}
+use Rattle.sci_text.specs.Script.{IsWithin}
+use Rattle.sci_text.specs.LogValue.{IsSize, format_2, StampedFits, Answers, ReplyFits, EntryFits, AreLogs}
+
+-- ---- what an operation gives
+
+sum_fits : (a b : ℕ) → word_sum a b < 2 ^ 64
+sum_fits a b = mod-lt (a + b) (omega arith)
+
+if_fits : (b : Bool) (x y : ℕ) → x < 2 ^ 64 → y < 2 ^ 64 → (if b then x else y) < 2 ^ 64
+if_fits true x y h k = h
+if_fits false x y h k = k
+
+lock_fits : (lock : LockOp) (old : ℕ) → LockFits lock → old < 2 ^ 64 → locked_word lock old < 2 ^ 64
+lock_fits (MaskSwap arg datum) old fits lt =
+    let first = and_le_l datum arg in
+    let second = and_le_l old (bit_not w64 arg) in
+    let small = fits.1 in
+    or_lt 64 (bit_and datum arg) (bit_and old (bit_not w64 arg)) (omega arith) (omega arith)
+lock_fits (CompareSwap arg datum) old fits lt = if_fits (old == arg) datum old fits.1 lt
+lock_fits (FetchAdd datum) old fits lt = sum_fits old datum
+lock_fits (BoundedAdd arg datum) old fits lt = if_fits (old == arg) old (word_sum old datum) lt (sum_fits old datum)
+lock_fits (WrapAdd arg datum) old fits lt = if_fits (old == arg) datum (word_sum old datum) fits.1 (sum_fits old datum)
+
+record Gives (act : Act) (given : ℕ × Reply) : Type 0 where
+  pub word : given.0 < 2 ^ 64
+  pub answers : Answers act given.1
+  pub reply : ReplyFits given.1
+
+act_gives : (act : Act) (old : ℕ) → ActFits act → old < 2 ^ 64 → Gives act (effect_of_act act old)
+act_gives Load old fits lt = record { word = lt; answers = tt; reply = lt }
+act_gives (Store word) old fits lt = record { word = fits; answers = tt; reply = tt }
+act_gives (Lock lock) old fits lt = record { word = lock_fits lock old fits lt; answers = tt; reply = lt }
+
+-- ---- along a history
+
+-- eight words of 64 bits
+record IsLine (words : List ℕ) : Type 0 where
+  pub eight : length words ≡ WORDS_PER_LINE
+  pub words_fit : All (λ word. word < 2 ^ 64) words
+
+abbrev OpFits : Entry → Type 0
+OpFits entry = (entry.op.word < WORDS_PER_LINE) × ActFits entry.op.act
+
+abbrev ReplyIsRight : Entry → Type 0
+ReplyIsRight entry = Answers entry.op.act entry.reply × ReplyFits entry.reply
+
+op_gives : (words : List ℕ) (op : Op) → IsLine words → op.word < WORDS_PER_LINE → ActFits op.act → Gives op.act (effect_of_act op.act (get_or words op.word 0))
+op_gives words op line lt fits = let long = line.eight in act_gives op.act (get_or words op.word 0) fits (line.words_fit op.word 0 (omega arith))
+
+line_fits : (words : List ℕ) (op : Op) → IsLine words → op.word < WORDS_PER_LINE → ActFits op.act → IsLine (line_after words op)
+line_fits words op line lt fits = record {
+  eight = length-set words op.word (effect_of_act op.act (get_or words op.word 0)).0 ∙ line.eight;
+  words_fit = All-set (λ word. word < 2 ^ 64) words op.word (effect_of_act op.act (get_or words op.word 0)).0 (op_gives words op line lt fits).word line.words_fit;
+}
+
+history_fits : (entries : List Entry) (c d : Stamped) → IsHistory entries c d → IsLine c.line → AllByRecursion OpFits entries → IsLine d.line × AllByRecursion ReplyIsRight entries
+history_fits [] c d history line all = (subst (λ (s : Stamped). IsLine s.line) (sym history) line, tt)
+history_fits (entry ∷ entries) c d history line all =
+    let gives = op_gives c.line entry.op line all.0.0 all.0.1 in
+    let rest = history_fits entries (after c entry.op) d history.2 (line_fits c.line entry.op line all.0.0 all.0.1) all.1 in
+    let right : ReplyIsRight entry = subst (λ (reply : Reply). Answers entry.op.act reply × ReplyFits reply) (sym history.0) (gives.answers, gives.reply) in
+    (rest.0, (right, rest.1))
+
+-- a history makes no more versions than it has entries
+version_if : (makes : Bool) (v : ℕ) → (if makes then v + 1 else v) ≤ v + 1
+version_if true v = omega arith
+version_if false v = omega arith
+
+version_step : (c : Stamped) (op : Op) → (after c op).version ≤ c.version + 1
+version_step c op = version_if (is_maker op) c.version
+
+history_short : (entries : List Entry) (c d : Stamped) → IsHistory entries c d → d.version ≤ c.version + length entries
+history_short [] c d history = let same : d.version ≡ c.version = ap (λ (s : Stamped). s.version) history in omega arith
+history_short (entry ∷ entries) c d history =
+    let step = version_step c entry.op in
+    let rest = history_short entries (after c entry.op) d history.2 in
+    omega arith
+
+-- ---- from each line to all
+
+head_of_line : (P : Entry → Type 0) (line : ℕ) (entry : Entry) (entries : List Entry) → entry.op.line ≡ line → AllByRecursion P (filter (is_on_line line) (entry ∷ entries)) → P entry × AllByRecursion P (filter (is_on_line line) entries)
+head_of_line P line entry entries here all = subst (AllByRecursion P) (filter_yes (is_on_line line) entry entries (eq-eqb entry.op.line line here)) all
+
+rest_of_line : (P : Entry → Type 0) (line : ℕ) (entry : Entry) (entries : List Entry) → AllByRecursion P (filter (is_on_line line) (entry ∷ entries)) → AllByRecursion P (filter (is_on_line line) entries)
+rest_of_line P line entry entries all =
+    elim (cases_eq entry.op.line line) [
+      | inl here ↦ (head_of_line P line entry entries here all).1
+      | inr other ↦ subst (AllByRecursion P) (filter_no (is_on_line line) entry entries (ne_eqb entry.op.line line other)) all
+    ]
+
+from_lines : (P : Entry → Type 0) (lines : ℕ) (entries : List Entry) → AllByRecursion (λ entry. entry.op.line < lines) entries → ((line : ℕ) → line < lines → AllByRecursion P (filter (is_on_line line) entries)) → AllByRecursion P entries
+from_lines P lines [] within each = tt
+from_lines P lines (entry ∷ entries) within each =
+    ((head_of_line P entry.op.line entry entries refl (each entry.op.line within.0)).0, from_lines P lines entries within.1 (λ line lt. rest_of_line P line entry entries (each line lt)))
+
+-- ---- entries of a machine
+
+-- entries within a machine's size, that are each line's history from zero words to its last contents
+pub record AreDone (nodes lines : ℕ) (entries : List Entry) (last_at : ℕ → Stamped) : Type 0 where
+  pub within : AllByRecursion (λ entry. IsWithin nodes lines entry.node entry.op) entries
+  pub histories : (line : ℕ) → line < lines → IsHistory (filter (is_on_line line) entries) zero_stamped (last_at line)
+  pub few : length entries < 2 ^ 64
+  pub serials : (node : ℕ) → node < MAX_NODES → AllByRecursion (λ entry. entry.serial < MAX_OPERATIONS) (filter (is_of_node node) entries)
+  pub short : (node : ℕ) → node < MAX_NODES → length (filter (is_of_node node) entries) ≤ MAX_OPERATIONS
+
+filter_short : (p : Entry → Bool) (entries : List Entry) → length (filter p entries) ≤ length entries
+filter_short p [] = omega arith
+filter_short p (entry ∷ entries) =
+    let rest = filter_short p entries in
+    elim (cases_Bool (p entry)) [
+      | inl yes_ ↦ subst (λ (es : List Entry). length es ≤ length (entry ∷ entries)) (sym (filter_yes p entry entries yes_)) (omega arith)
+      | inr no_ ↦ subst (λ (es : List Entry). length es ≤ length (entry ∷ entries)) (sym (filter_no p entry entries no_)) (omega arith)
+    ]
+
+zeros_fit : (count : ℕ) → AllByRecursion (λ (word : ℕ). word < 2 ^ 64) (replicate count 0)
+zeros_fit zero = tt
+zeros_fit (suc count) = (omega arith, zeros_fit count)
+
+zero_is_line : IsLine zero_line
+zero_is_line = record { eight = refl; words_fit = All-from_recursion (λ (word : ℕ). word < 2 ^ 64) zero_line (zeros_fit 8) }
+
+-- what is right in an entry beside its operation and its serial
+abbrev IsRight : Entry → Type 0
+IsRight entry = ReplyIsRight entry × (entry.version < 2 ^ 64)
+
+record LineIsRight (entries : List Entry) (last : Stamped) (line : ℕ) : Type 0 where
+  pub last_line : IsLine last.line
+  pub last_version : last.version < 2 ^ 64
+  pub right : AllByRecursion IsRight (filter (is_on_line line) entries)
+
+line_right : (nodes lines : ℕ) (entries : List Entry) (last_at : ℕ → Stamped) (line : ℕ) → AreDone nodes lines entries last_at → line < lines → LineIsRight entries (last_at line) line
+line_right nodes lines entries last_at line h inside =
+    let on = filter (is_on_line line) entries in
+    let last = last_at line in
+    let history = h.histories line inside in
+    let ops = all_weaker (λ (entry : Entry). IsWithin nodes lines entry.node entry.op) OpFits (λ entry w. (w.known_word, w.words)) entries h.within in
+    let right = history_fits on zero_stamped last history zero_is_line (all-filter OpFits (is_on_line line) entries ops) in
+    let end = history_short on zero_stamped last history in
+    let part = filter_short (is_on_line line) entries in
+    let few = h.few in
+    let small : last.version < 2 ^ 64 = omega arith in
+    let versions = all_weaker (λ (entry : Entry). entry.version ≤ last.version) (λ entry. entry.version < 2 ^ 64) (λ entry le. omega arith) on (versions-within on zero_stamped last history) in
+    record { last_line = right.0; last_version = small; right = all_both ReplyIsRight (λ (entry : Entry). entry.version < 2 ^ 64) on right.1 versions }
+
+all_right : (nodes lines : ℕ) (entries : List Entry) (last_at : ℕ → Stamped) → AreDone nodes lines entries last_at → AllByRecursion IsRight entries
+all_right nodes lines entries last_at h =
+    let on = all_weaker (λ (entry : Entry). IsWithin nodes lines entry.node entry.op) (λ entry. entry.op.line < lines) (λ entry w. w.known_line) entries h.within in
+    from_lines IsRight lines entries on (λ line lt. (line_right nodes lines entries last_at line h lt).right)
+
+entry_fits : (nodes lines : ℕ) (entry : Entry) → IsWithin nodes lines entry.node entry.op × (IsRight entry × (entry.serial < MAX_OPERATIONS)) → EntryFits (format_2 nodes lines) lines entry
+entry_fits nodes lines entry h = record {
+  numbers = record { node = h.0.known_node; serial = h.1.1; line = h.0.known_line; word = h.0.known_word };
+  operands = h.0.words;
+  answers = h.1.0.0.0;
+  reply = h.1.0.0.1;
+  version = h.1.0.1;
+}
+
+log_fits : (nodes lines : ℕ) (entries : List Entry) (last_at : ℕ → Stamped) (node : ℕ) → AreDone nodes lines entries last_at → node < MAX_NODES → AllByRecursion (EntryFits (format_2 nodes lines) lines) (filter (is_of_node node) entries)
+log_fits nodes lines entries last_at node h low =
+    let log = filter (is_of_node node) entries in
+    let Within = λ (entry : Entry). IsWithin nodes lines entry.node entry.op in
+    let Both = λ (entry : Entry). IsRight entry × (entry.serial < MAX_OPERATIONS) in
+    let within = all-filter Within (is_of_node node) entries h.within in
+    let right = all-filter IsRight (is_of_node node) entries (all_right nodes lines entries last_at h) in
+    let both = all_both IsRight (λ (entry : Entry). entry.serial < MAX_OPERATIONS) log right (h.serials node low) in
+    all_weaker (λ entry. Within entry × Both entry) (EntryFits (format_2 nodes lines) lines) (entry_fits nodes lines) log (all_both Within Both log within both)
+
+own_log : (entries : List Entry) (node : ℕ) → AllByRecursion (λ entry. entry.node ≡ node) (filter (is_of_node node) entries)
+own_log entries node = all_weaker (λ (entry : Entry). is_of_node node entry ≡ true) (λ entry. entry.node ≡ node) (λ entry e. eqb-true entry.node node e) (filter (is_of_node node) entries) (all-passes (is_of_node node) entries)
+
+-- ---- all logs, and the last contents
+
+-- each node's log has its entries, and the last contents are those of each line
+pub record AreLogged (lines : ℕ) (entries : List Entry) (last_at : ℕ → Stamped) (logs : List (List Entry)) (last : List Stamped) : Type 0 where
+  pub sixteen : length logs ≡ MAX_NODES
+  pub logged : (node : ℕ) → node < MAX_NODES → log_of logs node ≡ filter (is_of_node node) entries
+  pub left : last ≡ map last_at (range_with_len 0 lines)
+
+-- what holds of each node's log holds of each log
+each_log : (P : List Entry → Type 0) (entries : List Entry) (logs : List (List Entry)) (node : ℕ) → length logs ≡ MAX_NODES → ((n : ℕ) → n < MAX_NODES → log_of logs n ≡ filter (is_of_node n) entries)
+    → P [] → ((n : ℕ) → n < MAX_NODES → P (filter (is_of_node n) entries)) → P (log_of logs node)
+each_log P entries logs node long logged none some =
+    elim (cases_lt node MAX_NODES) [
+      | inl lt ↦ subst P (sym (logged node lt)) (some node lt)
+      | inr past ↦ subst P (sym (get_or_past logs node [] (omega arith))) none
+    ]
+
+abbrev LastFits : Stamped → Type 0
+LastFits stamped = (length stamped.line ≡ WORDS_PER_LINE) × StampedFits stamped
+
+all_mapped : (P : Stamped → Type 0) (f : ℕ → Stamped) (count : ℕ) → ((i : ℕ) → i < count → P (f i)) → All P (map f (range_with_len 0 count))
+all_mapped P f count h i d lt =
+    let long = length-map-range_with_len f 0 count in
+    let below : i < count = omega arith in
+    subst P (sym (get_or-map-range_with_len f 0 count i i d below (omega arith))) (h i below)
+
+-- entries that took effect line by line, with the last contents, can be written as a text
+pub are_logs : (nodes lines : ℕ) (entries : List Entry) (last_at : ℕ → Stamped) (logs : List (List Entry)) (last : List Stamped) → IsSize nodes lines → AreDone nodes lines entries last_at → AreLogged lines entries last_at logs last → AreLogs nodes logs last
+are_logs nodes lines entries last_at logs last size h l =
+    let long : length last ≡ lines = ap length l.left ∙ length-map-range_with_len last_at 0 lines in
+    let few = size.few_lines in
+    let form = format_2 nodes lines in
+    let fits : All LastFits (map last_at (range_with_len 0 lines)) = all_mapped LastFits last_at lines (λ line lt. (
+    let right = line_right nodes lines entries last_at line h lt in
+    (right.last_line.eight, record { words = right.last_line.words_fit; version = right.last_version }))) in
+    let each : (P : List Entry → Type 0) (node : ℕ) → P [] → ((n : ℕ) → n < MAX_NODES → P (filter (is_of_node n) entries)) → P (log_of logs node) = λ P node none some. each_log P entries logs node l.sixteen l.logged none some in (
+      form,
+      record {
+        good = record {
+          form = inr (lines, refl, size);
+          last = subst (All LastFits) (sym l.left) fits;
+          few_lines = omega arith;
+          no_extra = omega arith;
+          last_first = λ some. long;
+          sixteen = l.sixteen;
+          own = λ node. each_own node;
+          entries = λ node. subst (λ (count : ℕ). All (EntryFits form count) (log_of logs node)) (sym long) (each (All (EntryFits form lines)) node (All-from_recursion (EntryFits form lines) [] tt) (λ n lt. All-from_recursion (EntryFits form lines) (filter (is_of_node n) entries) (log_fits nodes lines entries last_at n h lt)));
+          few_entries = λ node. each (λ log. length log ≤ MAX_OPERATIONS) node (omega arith) h.short;
+        };
+        whole = long;
+        nodes_is = refl;
+      },
+    )
+  where
+    each_own : (node : ℕ) → All (λ entry. entry.node ≡ node) (log_of logs node)
+    each_own node = elim (cases_lt node MAX_NODES) [
+      | inl lt ↦ subst (All (λ entry. entry.node ≡ node)) (sym (l.logged node lt)) (All-from_recursion (λ entry. entry.node ≡ node) (filter (is_of_node node) entries) (own_log entries node))
+      | inr past ↦ (let long = l.sixteen in subst (All (λ entry. entry.node ≡ node)) (sym (get_or_past logs node [] (omega arith))) (All-from_recursion (λ entry. entry.node ≡ node) [] tt))
+    ]

@@ -1,0 +1,17 @@
+-- What each command writes for its input, and how it ends.
+use Rattle.std.specs.Prelude.{ℕ, Bool, List, Option}
+use Rattle.scimem.specs.declared.choice.Command.{Command}
+use Rattle.scimem.specs.declared.choice.Command.TheVariants as commands
+use Rattle.scimem.specs.declared.outcome.Outcome.{Outcome}
+use Rattle.scimem.specs.Decoding.{IsAnswer}
+use Rattle.scimem.specs.LogAnswer.{IsAuditAnswer, IsUpgradeAnswer}
+use Rattle.scimem.specs.OracleAnswer.{IsOracleAnswer}
+use Rattle.scimem.specs.ReplayAnswer.{IsReplayAnswer}
+
+-- the text that a command writes, and how it ends, for the bytes of a reader, which has failed or not
+abbrev pub IsAnswerTo : Command → Option (List ℕ) → Bool → List ℕ → Outcome → Type 0
+IsAnswerTo commands.Oracle input failed text outcome = IsOracleAnswer input failed text outcome
+IsAnswerTo commands.Replay input failed text outcome = IsReplayAnswer input failed text outcome
+IsAnswerTo commands.Decode input failed text outcome = IsAnswer input failed text outcome
+IsAnswerTo commands.Audit input failed text outcome = IsAuditAnswer input failed text outcome
+IsAnswerTo commands.Upgrade input failed text outcome = IsUpgradeAnswer input failed text outcome
