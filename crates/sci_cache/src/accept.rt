@@ -1,9 +1,9 @@
 //! What each state does with an answer.
 
-ghost use Rattle.std.specs.Prelude.{◌≡◌, IfErr};
+ghost use Rattle.std.specs.Prelude.{◌≡◌, option_map};
 ghost use Rattle.sci_cache.specs.State.{Asking as Asking_of, Joining as Joining_of, FreshJoining as FreshJoining_of, Purging as Purging_of, Claiming as Claiming_of, Clearing as Clearing_of, Returning as Returning_of, Rolling as Rolling_of, Telling as Telling_of, Fading as Fading_of};
 ghost use Rattle.sci_cache.specs.Accepting.{accepting};
-ghost use Rattle.sci_cache.specs.Held.{held_in};
+ghost use Rattle.sci_cache.specs.Held.{state_of};
 
 use crate::held::Held;
 use crate::states::*;
@@ -23,140 +23,132 @@ fn fresh_head(forward: Option<NodeId>, contents: Stamped) -> Held
 }
 
 impl Asking {
-    /// Takes the home's answer. An answer that is not awaited gives the state back.
-    pub(crate) fn accept(self, answer: &Body) -> Result<Held, Held>
-        ensures case { accepting Asking_of answer.now ≡ held_in result }
-        ensures same { IfErr result (λ held. held ≡ Held.Asking self) }
+    /// Takes the home's answer. None if it isn't awaited.
+    pub(crate) fn accept(self, answer: &Body) -> Option<Held>
+        ensures { accepting Asking_of answer.now ≡ option_map state_of result }
     {
         match *answer {
-            Body::Mdata(contents) => Ok(head(None, contents)),
-            Body::Mgone { old_head } => Ok(Held::Joining(Joining {
+            Body::Mdata(contents) => Some(head(None, contents)),
+            Body::Mgone { old_head } => Some(Held::Joining(Joining {
                 old_head,
                 sent: false,
             })),
             Body::Fdata {
                 old_head: None,
                 contents,
-            } => Ok(fresh_head(None, contents)),
+            } => Some(fresh_head(None, contents)),
             Body::Fdata {
                 old_head: Some(old_head),
                 contents,
-            } => Ok(Held::FreshJoining(FreshJoining {
+            } => Some(Held::FreshJoining(FreshJoining {
                 old_head,
                 sent: false,
                 contents,
             })),
-            Body::Busy => Ok(Held::Out(OutState)),
-            _ => Err(Held::Asking(self)),
+            Body::Busy => Some(Held::Out(OutState)),
+            _ => None,
         }
     }
 }
 
 impl Joining {
-    /// Takes the old head's answer. An answer that is not awaited gives the state back.
-    pub(crate) fn accept(self, answer: &Body) -> Result<Held, Held>
-        ensures case { accepting (Joining_of self.old_head self.sent) answer.now ≡ held_in result }
-        ensures same { IfErr result (λ held. held ≡ Held.Joining self) }
+    /// Takes the old head's answer. None if it isn't awaited.
+    pub(crate) fn accept(self, answer: &Body) -> Option<Held>
+        ensures { accepting (Joining_of self.old_head self.sent) answer.now ≡ option_map state_of result }
     {
         if !self.sent {
-            return Err(Held::Joining(self));
+            return None;
         }
         match *answer {
-            Body::Cdata(contents) => Ok(head(Some(self.old_head), contents)),
-            Body::Busy => Ok(Held::Joining(Joining {
+            Body::Cdata(contents) => Some(head(Some(self.old_head), contents)),
+            Body::Busy => Some(Held::Joining(Joining {
                 old_head: self.old_head,
                 sent: false,
             })),
-            _ => Err(Held::Joining(self)),
+            _ => None,
         }
     }
 }
 
 impl FreshJoining {
-    /// Takes the old head's answer. An answer that is not awaited gives the state back.
-    pub(crate) fn accept(self, answer: &Body) -> Result<Held, Held>
-        ensures case { accepting (FreshJoining_of self.old_head self.sent self.contents) answer.now ≡ held_in result }
-        ensures same { IfErr result (λ held. held ≡ Held.FreshJoining self) }
+    /// Takes the old head's answer. None if it isn't awaited.
+    pub(crate) fn accept(self, answer: &Body) -> Option<Held>
+        ensures { accepting (FreshJoining_of self.old_head self.sent self.contents) answer.now ≡ option_map state_of result }
     {
         if !self.sent {
-            return Err(Held::FreshJoining(self));
+            return None;
         }
         match *answer {
-            Body::Cdata(_) => Ok(fresh_head(Some(self.old_head), self.contents)),
-            Body::Busy => Ok(Held::FreshJoining(FreshJoining {
+            Body::Cdata(_) => Some(fresh_head(Some(self.old_head), self.contents)),
+            Body::Busy => Some(Held::FreshJoining(FreshJoining {
                 old_head: self.old_head,
                 sent: false,
                 contents: self.contents,
             })),
-            _ => Err(Held::FreshJoining(self)),
+            _ => None,
         }
     }
 }
 
 impl Purging {
-    /// Takes the answer of the entry that was told to leave. An answer that is not awaited gives the state back.
-    pub(crate) fn accept(self, answer: &Body) -> Result<Held, Held>
-        ensures case { accepting (Purging_of self.next self.contents) answer.now ≡ held_in result }
-        ensures same { IfErr result (λ held. held ≡ Held.Purging self) }
+    /// Takes the answer of the entry that was told to leave. None if it isn't awaited.
+    pub(crate) fn accept(self, answer: &Body) -> Option<Held>
+        ensures { accepting (Purging_of self.next self.contents) answer.now ≡ option_map state_of result }
     {
         match *answer {
-            Body::Purged { forward } => Ok(head(forward, self.contents)),
-            Body::Busy => Ok(head(Some(self.next), self.contents)),
-            _ => Err(Held::Purging(self)),
+            Body::Purged { forward } => Some(head(forward, self.contents)),
+            Body::Busy => Some(head(Some(self.next), self.contents)),
+            _ => None,
         }
     }
 }
 
 impl Claiming {
-    /// Takes the home's answer. An answer that is not awaited gives the state back.
-    pub(crate) fn accept(self, answer: &Body) -> Result<Held, Held>
-        ensures case { accepting (Claiming_of self.forward self.contents) answer.now ≡ held_in result }
-        ensures same { IfErr result (λ held. held ≡ Held.Claiming self) }
+    /// Takes the home's answer. None if it isn't awaited.
+    pub(crate) fn accept(self, answer: &Body) -> Option<Held>
+        ensures { accepting (Claiming_of self.forward self.contents) answer.now ≡ option_map state_of result }
     {
         match *answer {
-            Body::Wbok => Ok(head(self.forward, self.contents)),
-            Body::Wbno | Body::Busy => Ok(fresh_head(self.forward, self.contents)),
-            _ => Err(Held::Claiming(self)),
+            Body::Wbok => Some(head(self.forward, self.contents)),
+            Body::Wbno | Body::Busy => Some(fresh_head(self.forward, self.contents)),
+            _ => None,
         }
     }
 }
 
 impl Clearing {
-    /// Takes the home's answer. An answer that is not awaited gives the state back.
-    pub(crate) fn accept(self, answer: &Body) -> Result<Held, Held>
-        ensures case { accepting (Clearing_of self.contents) answer.now ≡ held_in result }
-        ensures same { IfErr result (λ held. held ≡ Held.Clearing self) }
+    /// Takes the home's answer. None if it isn't awaited.
+    pub(crate) fn accept(self, answer: &Body) -> Option<Held>
+        ensures { accepting (Clearing_of self.contents) answer.now ≡ option_map state_of result }
     {
         match *answer {
-            Body::Wbok => Ok(Held::Out(OutState)),
-            Body::Wbno | Body::Busy => Ok(fresh_head(None, self.contents)),
-            _ => Err(Held::Clearing(self)),
+            Body::Wbok => Some(Held::Out(OutState)),
+            Body::Wbno | Body::Busy => Some(fresh_head(None, self.contents)),
+            _ => None,
         }
     }
 }
 
 impl Returning {
-    /// Takes the home's answer. An answer that is not awaited gives the state back.
-    pub(crate) fn accept(self, answer: &Body) -> Result<Held, Held>
-        ensures case { accepting (Returning_of self.contents) answer.now ≡ held_in result }
-        ensures same { IfErr result (λ held. held ≡ Held.Returning self) }
+    /// Takes the home's answer. None if it isn't awaited.
+    pub(crate) fn accept(self, answer: &Body) -> Option<Held>
+        ensures { accepting (Returning_of self.contents) answer.now ≡ option_map state_of result }
     {
         match *answer {
-            Body::Wbok => Ok(Held::Out(OutState)),
-            Body::Wbno | Body::Busy => Ok(head(None, self.contents)),
-            _ => Err(Held::Returning(self)),
+            Body::Wbok => Some(Held::Out(OutState)),
+            Body::Wbno | Body::Busy => Some(head(None, self.contents)),
+            _ => None,
         }
     }
 }
 
 impl Rolling {
-    /// Takes the answer of the entry before. An answer that is not awaited gives the state back.
-    pub(crate) fn accept(self, answer: &Body) -> Result<Held, Held>
-        ensures case { accepting (Rolling_of self.forward self.backward self.contents) answer.now ≡ held_in result }
-        ensures same { IfErr result (λ held. held ≡ Held.Rolling self) }
+    /// Takes the answer of the entry before. None if it isn't awaited.
+    pub(crate) fn accept(self, answer: &Body) -> Option<Held>
+        ensures { accepting (Rolling_of self.forward self.backward self.contents) answer.now ≡ option_map state_of result }
     {
         match *answer {
-            Body::Rolled => Ok(match self.forward {
+            Body::Rolled => Some(match self.forward {
                 None => Held::Out(OutState),
                 Some(behind) => Held::Telling(Telling {
                     behind,
@@ -164,41 +156,39 @@ impl Rolling {
                     sent: false,
                 }),
             }),
-            Body::Busy => Ok(Held::Below(Below {
+            Body::Busy => Some(Held::Below(Below {
                 forward: self.forward,
                 backward: self.backward,
                 contents: self.contents,
             })),
-            _ => Err(Held::Rolling(self)),
+            _ => None,
         }
     }
 }
 
 impl Telling {
-    /// Takes the answer of the entry behind. An answer that is not awaited gives the state back.
-    pub(crate) fn accept(self, answer: &Body) -> Result<Held, Held>
-        ensures case { accepting (Telling_of self.behind self.before self.sent) answer.now ≡ held_in result }
-        ensures same { IfErr result (λ held. held ≡ Held.Telling self) }
+    /// Takes the answer of the entry behind. None if it isn't awaited.
+    pub(crate) fn accept(self, answer: &Body) -> Option<Held>
+        ensures { accepting (Telling_of self.behind self.before self.sent) answer.now ≡ option_map state_of result }
     {
         if !self.sent {
-            return Err(Held::Telling(self));
+            return None;
         }
         match *answer {
-            Body::Told => Ok(Held::Out(OutState)),
-            _ => Err(Held::Telling(self)),
+            Body::Told => Some(Held::Out(OutState)),
+            _ => None,
         }
     }
 }
 
 impl Fading {
-    /// Takes the answer to its Roll. An answer that is not awaited gives the state back.
-    pub(crate) fn accept(self, answer: &Body) -> Result<Held, Held>
-        ensures case { accepting Fading_of answer.now ≡ held_in result }
-        ensures same { IfErr result (λ held. held ≡ Held.Fading self) }
+    /// Takes the answer to its Roll. None if it isn't awaited.
+    pub(crate) fn accept(self, answer: &Body) -> Option<Held>
+        ensures { accepting Fading_of answer.now ≡ option_map state_of result }
     {
         match *answer {
-            Body::Busy => Ok(Held::Out(OutState)),
-            _ => Err(Held::Fading(self)),
+            Body::Busy => Some(Held::Out(OutState)),
+            _ => None,
         }
     }
 }

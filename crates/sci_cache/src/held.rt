@@ -4,6 +4,7 @@ ghost use Rattle.std.specs.Prelude.{◌≡◌, option_map, false};
 ghost use Rattle.sci_cache.specs.Asking.{asking};
 ghost use Rattle.sci_cache.specs.State.{Joining as Joining_of};
 
+use crate::fault::NotAwaited;
 use crate::states::*;
 use sci_packets::{Body, NodeId};
 use sci_words::AskKind;
@@ -28,11 +29,11 @@ pub enum Held {
 }
 
 impl Held {
-    ghost use Rattle.std.specs.Prelude.{◌≡◌, IfSome, IsSome, IfErr, option_map};
+    ghost use Rattle.std.specs.Prelude.{◌≡◌, IfSome, IsSome, IfOk, IsErr, Some, None, option_map};
     ghost use Rattle.sci_cache.specs.State.{is_out as is_out_of};
     ghost use Rattle.sci_cache.specs.Asking.{asking};
     ghost use Rattle.sci_cache.specs.Accepting.{accepting};
-    ghost use Rattle.sci_cache.specs.Held.{state_of, held_in};
+    ghost use Rattle.sci_cache.specs.Held.{state_of};
 
     /// Whether the line has no entry.
     pub fn is_out(&self) -> bool
@@ -82,32 +83,30 @@ impl Held {
         }
     }
 
-    /// The state after the request of this kind, whose answer is awaited then. The caller sees to it that the state
-    /// makes the request.
-    #[inline(never)]
-    pub(crate) fn ask(self, kind: AskKind) -> Held
-        requires { IsSome (asking (state_of self) kind) }
-        ensures { IfSome (asking (state_of self) kind) (λ asked. state_of result ≡ asked.next) }
+    /// Makes the request of this kind, whose answer is awaited then. The caller sees to it that the state makes it.
+    pub(crate) fn ask(&mut self, kind: AskKind)
+        requires { IsSome (asking (state_of self.old) kind) }
+        ensures { IfSome (asking (state_of self.old) kind) (λ asked. state_of self.new ≡ asked.next) }
     {
         match self {
-            Held::Out(state) => state.ask(),
-            Held::Joining(state) => state.ask(),
-            Held::FreshJoining(state) => state.ask(),
-            Held::Head(state) => state.ask(),
-            Held::FreshHead(state) => state.ask(kind),
-            Held::Below(state) => state.ask(),
-            Held::Telling(state) => state.ask(),
-            held => held,
+            Held::Out(state) => *self = state.ask(),
+            Held::Joining(state) => *self = state.ask(),
+            Held::FreshJoining(state) => *self = state.ask(),
+            Held::Head(state) => *self = state.ask(),
+            Held::FreshHead(state) => *self = state.ask(kind),
+            Held::Below(state) => *self = state.ask(),
+            Held::Telling(state) => *self = state.ask(),
+            _ => {}
         }
     }
 
-    /// Takes an answer. A state that doesn't list the answer is given back.
-    #[inline(never)]
-    pub(crate) fn accept(self, answer: &Body) -> Result<Held, Held>
-        ensures case { accepting (state_of self) answer.now ≡ held_in result }
-        ensures same { IfErr result (λ held. held ≡ self) }
+    /// Takes an answer. Refused, unchanged, if the state doesn't list the answer.
+    pub(crate) fn accept(&mut self, answer: &Body) -> Result<(), NotAwaited>
+        ensures taken { IfOk result (λ _. accepting (state_of self.old) answer.now ≡ Some (state_of self.new)) }
+        ensures refused { IsErr result → accepting (state_of self.old) answer.now ≡ None }
+        ensures same { IsErr result → self.new ≡ self.old }
     {
-        match self {
+        let accepted = match self {
             Held::Asking(state) => state.accept(answer),
             Held::Joining(state) => state.accept(answer),
             Held::FreshJoining(state) => state.accept(answer),
@@ -118,7 +117,14 @@ impl Held {
             Held::Rolling(state) => state.accept(answer),
             Held::Telling(state) => state.accept(answer),
             Held::Fading(state) => state.accept(answer),
-            held => Err(held),
+            _ => None,
+        };
+        match accepted {
+            Some(next) => {
+                *self = next;
+                Ok(())
+            }
+            None => Err(NotAwaited),
         }
     }
 }

@@ -6,7 +6,6 @@ use crate::states::OutState;
 use sci_packets::{Body, NodeId};
 use sci_words::{AskKind, Op, Reply};
 use std::marker::Model;
-use std::mem;
 
 /// A cache's part for one line: its state, and its asks counted modulo `CONTROLS`.
 #[derive(Debug, Drop)]
@@ -68,14 +67,6 @@ impl CachedLine {
         self.held.is_out()
     }
 
-    /// The line, with an untouched one left in its place.
-    fn take(&mut self) -> CachedLine
-        ensures taken { result ≡ self.old }
-        ensures left { self.new ≡ untouched }
-    {
-        mem::replace(self, CachedLine::new())
-    }
-
     /// The request of this kind; `free` says whether a version slot is free.
     pub(crate) fn asked(&self, kind: AskKind, free: bool) -> Result<Question, AskFault>
         ensures made { IfOk result (λ question. (next : CacheState) × (line_asking self.now kind free ≡ Ok (record { to = question.to; request = question.request; next = next }))) }
@@ -100,11 +91,8 @@ impl CachedLine {
         requires { IsSome (asking self.old.state kind) }
         ensures { IfSome (asking self.old.state kind) (λ asked. self.new ≡ line_asked self.old asked) }
     {
-        let CachedLine { held, asks } = self.take();
-        *self = CachedLine {
-            held: held.ask(kind),
-            asks: asks.wrapping_add(1),
-        };
+        self.held.ask(kind);
+        self.asks = self.asks.wrapping_add(1);
     }
 
     /// Serves a request of `sender`, a Cread, Purge, Roll or Setback, and gives the answer.
@@ -113,10 +101,7 @@ impl CachedLine {
         ensures case { serving self.old.state sender request.now ≡ Some (self.new.state, result) }
         ensures asks { self.new.asks ≡ self.old.asks }
     {
-        let CachedLine { held, asks } = self.take();
-        let (held, answer) = held.serve(sender, request);
-        *self = CachedLine { held, asks };
-        answer
+        self.held.serve(sender, request)
     }
 
     /// Takes an answer with this control number. Unchanged on refusal.
@@ -129,13 +114,7 @@ impl CachedLine {
         if control != self.asks.wrapping_sub(1) {
             return Err(NotAwaited);
         }
-        let CachedLine { held, asks } = self.take();
-        let (held, taken) = match held.accept(answer) {
-            Ok(held) => (held, Ok(())),
-            Err(held) => (held, Err(NotAwaited)),
-        };
-        *self = CachedLine { held, asks };
-        taken
+        self.held.accept(answer)
     }
 
     /// Performs an operation: its reply, and the version that it read or made. None, unchanged, if the state doesn't

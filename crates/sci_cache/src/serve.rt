@@ -1,84 +1,104 @@
 //! What each state does with a request of another cache.
 
 ghost use Rattle.std.specs.Prelude.{◌≡◌, if◌then◌else◌, ◌==◌, Some};
-ghost use Rattle.sci_cache.specs.State.{Below as Below_of};
 ghost use Rattle.sci_cache.specs.Serving.{IsForCache, serving, serving_cread, serving_purge, serving_roll, serving_setback, is_next};
-ghost use Rattle.sci_cache.specs.Held.{state_of, served_of};
+ghost use Rattle.sci_cache.specs.Held.{state_of};
 
 use crate::held::Held;
 use crate::states::*;
 use sci_packets::{Body, NodeId};
-use sci_words::Stamped;
 
 impl Held {
     /// Serves a request of `sender`, a Cread, Purge, Roll or Setback, and gives the answer.
-    #[inline(never)]
-    pub(crate) fn serve(self, sender: NodeId, request: &Body) -> (Held, Body)
+    pub(crate) fn serve(&mut self, sender: NodeId, request: &Body) -> Body
         requires { IsForCache request.now }
-        ensures { serving (state_of self) sender request.now ≡ Some (served_of result) }
+        ensures { serving (state_of self.old) sender request.now ≡ Some (state_of self.new, result) }
     {
         match *request {
             Body::Cread => self.serve_cread(sender),
             Body::Purge => self.serve_purge(),
             Body::Roll { forward } => self.serve_roll(sender, forward),
-            Body::Setback { backward } => (self.serve_setback(sender, backward), Body::Told),
+            Body::Setback { backward } => self.serve_setback(sender, backward),
             _ => unreachable!(),
         }
     }
 
-    fn serve_cread(self, joiner: NodeId) -> (Held, Body)
-        ensures { served_of result ≡ serving_cread (state_of self) joiner }
+    fn serve_cread(&mut self, joiner: NodeId) -> Body
+        ensures { (state_of self.new, result) ≡ serving_cread (state_of self.old) joiner }
+    {
+        let below = match self {
+            Held::Head(state) => state.join(joiner),
+            Held::FreshHead(state) => state.join(joiner),
+            _ => return Body::Busy,
+        };
+        let answer = Body::Cdata(below.contents);
+        *self = Held::Below(below);
+        answer
+    }
+
+    fn serve_purge(&mut self) -> Body
+        ensures { (state_of self.new, result) ≡ serving_purge (state_of self.old) }
     {
         match self {
-            Held::Head(state) => join(state.forward, joiner, &state.contents),
-            Held::FreshHead(state) => join(state.forward, joiner, &state.contents),
-            held => (held, Body::Busy),
+            Held::Below(state) => {
+                let forward = state.forward;
+                *self = Held::Out(OutState);
+                Body::Purged { forward }
+            }
+            Held::Rolling(state) => {
+                let forward = state.forward;
+                *self = Held::Fading(Fading);
+                Body::Purged { forward }
+            }
+            _ => Body::Busy,
         }
     }
 
-    fn serve_purge(self) -> (Held, Body)
-        ensures { served_of result ≡ serving_purge (state_of self) }
+    fn serve_roll(&mut self, leaver: NodeId, behind: Option<NodeId>) -> Body
+        ensures { (state_of self.new, result) ≡ serving_roll (state_of self.old) leaver behind }
     {
         match self {
-            Held::Below(state) => (Held::Out(OutState), purged(state.forward)),
-            Held::Rolling(state) => (Held::Fading(Fading), purged(state.forward)),
-            held => (held, Body::Busy),
+            Held::Head(state) => pass_on(&mut state.forward, leaver, behind),
+            Held::FreshHead(state) => pass_on(&mut state.forward, leaver, behind),
+            Held::Below(state) => pass_on(&mut state.forward, leaver, behind),
+            _ => Body::Busy,
         }
     }
 
-    fn serve_roll(self, leaver: NodeId, behind: Option<NodeId>) -> (Held, Body)
-        ensures { served_of result ≡ serving_roll (state_of self) leaver behind }
+    fn serve_setback(&mut self, leaver: NodeId, before: NodeId) -> Body
+        ensures { (state_of self.new, result) ≡ serving_setback (state_of self.old) leaver before }
     {
         match self {
-            Held::Head(mut state) => {
-                let answer = pass_on(&mut state.forward, leaver, behind);
-                (Held::Head(state), answer)
-            }
-            Held::FreshHead(mut state) => {
-                let answer = pass_on(&mut state.forward, leaver, behind);
-                (Held::FreshHead(state), answer)
-            }
-            Held::Below(mut state) => {
-                let answer = pass_on(&mut state.forward, leaver, behind);
-                (Held::Below(state), answer)
-            }
-            held => (held, Body::Busy),
+            Held::Below(state) => set_back(&mut state.backward, leaver, before),
+            Held::Rolling(state) => set_back(&mut state.backward, leaver, before),
+            _ => {}
+        }
+        Body::Told
+    }
+}
+
+impl HeadState {
+    /// Lets `joiner` join before this head.
+    fn join(self, joiner: NodeId) -> Below
+        ensures { result ≡ record { forward = self.forward; backward = joiner; contents = self.contents } }
+    {
+        Below {
+            forward: self.forward,
+            backward: joiner,
+            contents: self.contents,
         }
     }
+}
 
-    fn serve_setback(self, leaver: NodeId, before: NodeId) -> Held
-        ensures { (state_of result, Body.Told) ≡ serving_setback (state_of self) leaver before }
+impl FreshHead {
+    /// Lets `joiner` join before this head.
+    fn join(self, joiner: NodeId) -> Below
+        ensures { result ≡ record { forward = self.forward; backward = joiner; contents = self.contents } }
     {
-        match self {
-            Held::Below(mut state) => {
-                set_back(&mut state.backward, leaver, before);
-                Held::Below(state)
-            }
-            Held::Rolling(mut state) => {
-                set_back(&mut state.backward, leaver, before);
-                Held::Rolling(state)
-            }
-            held => held,
+        Below {
+            forward: self.forward,
+            backward: joiner,
+            contents: self.contents,
         }
     }
 }
@@ -104,23 +124,4 @@ fn set_back(backward: &mut NodeId, leaver: NodeId, before: NodeId)
     if backward.get() == leaver.get() {
         *backward = before;
     }
-}
-
-/// A head that `joiner` has joined before, and the answer with the contents.
-fn join(forward: Option<NodeId>, joiner: NodeId, contents: &Stamped) -> (Held, Body)
-    ensures { served_of result ≡ (Below_of forward joiner contents.now, Body.Cdata contents.now) }
-{
-    let next = Held::Below(Below {
-        forward,
-        backward: joiner,
-        contents: *contents,
-    });
-    (next, Body::Cdata(*contents))
-}
-
-/// The answer of an entry that has left the list.
-fn purged(forward: Option<NodeId>) -> Body
-    ensures { result ≡ Body.Purged forward }
-{
-    Body::Purged { forward }
 }

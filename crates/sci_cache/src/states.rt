@@ -5,22 +5,22 @@ use sci_packets::NodeId;
 use sci_words::Stamped;
 
 /// No entry in the line's list.
-#[derive(Debug, PartialEq, Eq, Drop)]
+#[derive(Clone, Copy, Debug, PartialEq, Eq)]
 pub struct OutState;
 
 /// An Mread or Fread is sent to the home.
-#[derive(Debug, PartialEq, Eq, Drop)]
+#[derive(Clone, Copy, Debug, PartialEq, Eq)]
 pub struct Asking;
 
 /// Told who the old head is: a Cread is sent to it, or not yet.
-#[derive(Debug, PartialEq, Eq, Drop)]
+#[derive(Clone, Copy, Debug, PartialEq, Eq)]
 pub struct Joining {
     pub old_head: NodeId,
     pub sent: bool,
 }
 
 /// Told the contents and who the old head is: a Cread is sent to it, or not yet.
-#[derive(Debug, PartialEq, Eq, Drop)]
+#[derive(Clone, Copy, Debug, PartialEq, Eq)]
 pub struct FreshJoining {
     pub old_head: NodeId,
     pub sent: bool,
@@ -28,21 +28,21 @@ pub struct FreshJoining {
 }
 
 /// The head of a list that may write (ONLY_DIRTY where there is no next entry, else HEAD_DIRTY).
-#[derive(Debug, PartialEq, Eq, Drop)]
+#[derive(Clone, Copy, Debug, PartialEq, Eq)]
 pub struct HeadState {
     pub forward: Option<NodeId>,
     pub contents: Stamped,
 }
 
 /// The head of a list whose home is fresh (ONLY_FRESH where there is no next entry, else HEAD_FRESH).
-#[derive(Debug, PartialEq, Eq, Drop)]
+#[derive(Clone, Copy, Debug, PartialEq, Eq)]
 pub struct FreshHead {
     pub forward: Option<NodeId>,
     pub contents: Stamped,
 }
 
 /// An entry behind another (TAIL_VALID where there is no next entry, else MID_VALID).
-#[derive(Debug, PartialEq, Eq, Drop)]
+#[derive(Clone, Copy, Debug, PartialEq, Eq)]
 pub struct Below {
     pub forward: Option<NodeId>,
     pub backward: NodeId,
@@ -50,33 +50,33 @@ pub struct Below {
 }
 
 /// The head, with a Purge sent to the next entry.
-#[derive(Debug, PartialEq, Eq, Drop)]
+#[derive(Clone, Copy, Debug, PartialEq, Eq)]
 pub struct Purging {
     pub next: NodeId,
     pub contents: Stamped,
 }
 
 /// The head of a fresh list, with a Claim sent to the home.
-#[derive(Debug, PartialEq, Eq, Drop)]
+#[derive(Clone, Copy, Debug, PartialEq, Eq)]
 pub struct Claiming {
     pub forward: Option<NodeId>,
     pub contents: Stamped,
 }
 
 /// The only entry of a fresh list, with a Clear sent to the home.
-#[derive(Debug, PartialEq, Eq, Drop)]
+#[derive(Clone, Copy, Debug, PartialEq, Eq)]
 pub struct Clearing {
     pub contents: Stamped,
 }
 
 /// The only entry of a list, with a Wback sent to the home.
-#[derive(Debug, PartialEq, Eq, Drop)]
+#[derive(Clone, Copy, Debug, PartialEq, Eq)]
 pub struct Returning {
     pub contents: Stamped,
 }
 
 /// An entry behind another, with a Roll sent to the entry before it.
-#[derive(Debug, PartialEq, Eq, Drop)]
+#[derive(Clone, Copy, Debug, PartialEq, Eq)]
 pub struct Rolling {
     pub forward: Option<NodeId>,
     pub backward: NodeId,
@@ -85,7 +85,7 @@ pub struct Rolling {
 
 /// Out of the list, and must tell `behind` that `before` is now the entry before it: a Setback is sent, or not
 /// yet.
-#[derive(Debug, PartialEq, Eq, Drop)]
+#[derive(Clone, Copy, Debug, PartialEq, Eq)]
 pub struct Telling {
     pub behind: NodeId,
     pub before: NodeId,
@@ -93,5 +93,5 @@ pub struct Telling {
 }
 
 /// Purged while its Roll was unanswered.
-#[derive(Debug, PartialEq, Eq, Drop)]
+#[derive(Clone, Copy, Debug, PartialEq, Eq)]
 pub struct Fading;
