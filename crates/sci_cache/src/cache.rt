@@ -131,6 +131,7 @@ impl Cache {
         ensures asked { IfSome result (λ packet. (next : CacheOf) × (cache_asking self.now line kind ≡ Ok (next, letter_of packet))) }
         ensures refused { result ≡ None → IsErr (cache_asking self.now line kind) }
     {
+        // In place of `ok()`, for which the toolchain builds no proof here.
         match self.packet_asked(line, kind) {
             Ok(packet) => Some(packet),
             Err(_) => None,

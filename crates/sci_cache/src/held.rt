@@ -45,7 +45,8 @@ impl Held {
     /// The request of this kind that the state makes, with its target (None for the line's home), or None if it makes
     /// none.
     pub(crate) fn asked(&self, kind: AskKind) -> Option<(Option<NodeId>, Body)>
-        ensures { result ≡ option_map (λ asked. (asked.to, asked.request)) (asking (state_of self.now) kind) }
+        ensures request { result ≡ option_map (λ asked. (asked.to, asked.request)) (asking (state_of self.now) kind) }
+        ensures made { IfSome result (λ _. IsSome (asking (state_of self.now) kind)) }
     {
         match self {
             Held::Out(_) => match kind {

@@ -51,15 +51,6 @@ list_more lists log base i line old new ref lt at below was pushed h =
 abbrev pub front_on_line : ℕ → ℕ → List (List Entry) → List Entry
 front_on_line line nodes logs = filter (is_on_line line) (flat_map same_log (take nodes logs))
 
-pub front_on_line-more : (line node : ℕ) (logs : List (List Entry)) → node < length logs → front_on_line line (node + 1) logs ≡ front_on_line line node logs ++ filter (is_on_line line) (log_of logs node)
-front_on_line-more line node logs lt =
-    let joined : flat_map same_log (take (node + 1) logs) ≡ flat_map same_log (take node logs) ++ log_of logs node =
-    rw (take_more logs node [] lt, flat_map-append same_log (take node logs) (log_of logs node ∷ []), append-nil (log_of logs node)) refl in
-    ap (filter (is_on_line line)) joined ∙ filter-append (is_on_line line) (flat_map same_log (take node logs)) (log_of logs node)
-
-pub front_on_line-all : (line nodes : ℕ) (logs : List (List Entry)) → length logs ≤ nodes → front_on_line line nodes logs ≡ on_line line logs
-front_on_line-all line nodes logs le = ap (λ (ls : List (List Entry)). filter (is_on_line line) (flat_map same_log ls)) (take_all nodes logs le)
-
 pub list_at : (lists : List (Vec (Bor Entry))) (line : ℕ) (list : Vec (Bor Entry)) (refs : List (Bor Entry)) → line < length lists → list ≡ get_or lists line list → refs ≡ list.items → entries_of refs ≡ get_or (lists_of lists) line []
 list_at lists line list refs lt at is =
     let f : Vec (Bor Entry) → List Entry = λ list. entries_of list.items in
