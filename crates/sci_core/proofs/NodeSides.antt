@@ -1,25 +1,22 @@
 -- What each event does at its node: to the standing of the node's lines, to its homes, and to the answer that waits.
-use Rattle.std.proofs.Common.{◌≡◌, ℕ, ◌<◌, nat_lt, not, ◌&&◌, Bool, true, false, if◌then◌else◌, Option, Some, None, Result, Ok, Err, refl, sym, subst, inl, inr}
+use Rattle.std.proofs.Common.{◌≡◌, ℕ, ◌<◌, nat_lt, not, ◌&&◌, Bool, true, false, if◌then◌else◌, Option, Some, None, refl, sym, subst, inl, inr}
 use Rattle.std.specs.Prelude.{IfSome, is_some, ◌==◌, slice_set, option_map}
 use Rattle.std.proofs.lemmas.Bool.{cases_Bool}
 use Rattle.std.proofs.lemmas.List.{get_or-set_same}
 use Rattle.sci_words.specs.declared.event.AskKind.{AskKind}
 use Rattle.sci_words.specs.declared.operation.Op.{Op}
-use Rattle.sci_words.specs.declared.operation.Reply.{Reply}
 use Rattle.sci_packets.specs.declared.body.Body.{Body}
 use Rattle.sci_packets.specs.declared.body.Body.TheVariants.{Busy}
 use Rattle.sci_history.specs.declared.entry.Entry.{Entry}
 use Rattle.sci_home.specs.declared.state.HomeState.{HomeState}
 use Rattle.sci_home.specs.Serving.{is_for_home, home_serving as serving_of_home}
-use Rattle.sci_cache.specs.declared.fault.AskFault.{AskFault}
-use Rattle.sci_cache.specs.declared.fault.AskFault.TheVariants.{NoSlot, NotNow}
 use Rattle.sci_cache.specs.State.{CacheState, is_out}
 use Rattle.sci_cache.specs.Asking.{Asked, asking}
 use Rattle.sci_cache.specs.Serving.{serving}
 use Rattle.sci_cache.specs.Accepting.{accepting}
 use Rattle.sci_cache.specs.Performing.{Performed, performing}
 use Rattle.sci_cache.specs.Line.{LineState, untouched, last_control, line_in, line_asked, ask_or_fault}
-use Rattle.sci_cache.specs.Cache.{CacheOf, Letter, line_of, with_line, has_slot, letter_asking, cache_asking, cache_asked}
+use Rattle.sci_cache.specs.Cache.{CacheOf, Letter, line_of, with_line, has_slot, cache_asking, cache_asked}
 use Rattle.sci_core.specs.declared.pending.Pending.{Pending}
 use Rattle.sci_core.specs.Node.{NodeOf, lines_of, home_place, home_of, pending_on, entry_of, node_logged, may_issue, node_issued, node_issuing, performed_by, performing_pending, node_performing, asked_by, node_asking, with_answer, served_at_home, served_in_cache, serving_at_home, serving_in_cache, serving_request, answered_by, node_serving, is_setback, node_refusing, replied_by, node_replying, accepted_by, node_accepting}
 use Rattle.sci_core.proofs.Lists.{if_either, at_place_set}
