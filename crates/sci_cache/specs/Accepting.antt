@@ -1,10 +1,12 @@
--- What a cache does with each answer that comes.
+-- What a cache does with each answer that comes. As in IEEE Std 1596-1992, a new sharer that memory names an old head
+-- comes to stand before it, and a purged entry answers with its forward identifier. The answers and the states between
+-- are this project's profile.
 use Rattle.std.specs.Prelude.{true, false, Option, Some, None}
 use Rattle.sci_packets.specs.declared.body.Body.{Body}
 use Rattle.sci_packets.specs.declared.body.Body.TheVariants.{Mdata, Mgone, Cdata, Purged, Rolled, Wbok, Wbno, Told, Busy, Fdata}
 use Rattle.sci_cache.specs.State.{CacheState, Out, Asking, Joining, FreshJoining, Head, FreshHead, Below, Purging, Claiming, Clearing, Returning, Rolling, Telling, Fading}
 
--- the next state of a cache that takes an answer, or none where the state doesn't list the answer
+-- the next state of a cache that takes an answer; none if the state doesn't list the answer
 abbrev pub accepting : CacheState → Body → Option CacheState
 accepting Asking (Mdata c) = Some (Head None c)
 accepting Asking (Mgone p) = Some (Joining p false)

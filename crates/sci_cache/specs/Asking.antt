@@ -1,4 +1,6 @@
--- What a cache asks in each state.
+-- What a cache asks in each state. From IEEE Std 1596-1992 are the reads of a new sharer (mread64 to memory, then cread64
+-- to the old head), that the head alone purges the others, and that an entry that leaves tells its neighbours. Which
+-- state asks what, and every other request, is this project's profile.
 use Rattle.std.specs.Prelude.{ℕ, true, false, Option, Some, None}
 use Rattle.sci_words.specs.declared.event.AskKind.{AskKind}
 use Rattle.sci_words.specs.declared.event.AskKind.TheVariants as kind
@@ -15,7 +17,7 @@ pub record Asked : Type 0 where
 abbrev asks : Option ℕ → Body → CacheState → Option Asked
 asks to request next = Some (record { to = to; request = request; next = next })
 
--- what a state asks of this kind, or none
+-- what a state asks of this kind, or none. A head with a next entry purges it before it does anything else (the profile).
 abbrev pub asking : CacheState → AskKind → Option Asked
 asking Out kind.Mread = asks None body.Mread Asking
 asking Out kind.Fread = asks None body.Fread Asking

@@ -1,5 +1,6 @@
 -- A node's cache: its number, the size of the machine, and its part for each line.
-use Rattle.std.specs.Prelude.{ℕ, Bool, not, ◌%◌, nat_lt, List, count_by, slice_index_or, slice_set, Option, Some, None, Result, Ok, Err}
+use Rattle.std.specs.Prelude.{ℕ, Bool, not, ◌%◌, nat_lt, List, count_by, slice_index_or, slice_set, Option, option_map, Some, None, Result}
+use Rattle.std.specs.Result.{result_map_both}
 use Rattle.sci_words.specs.declared.event.AskKind.{AskKind}
 use Rattle.sci_words.specs.declared.operation.Op.{Op}
 use Rattle.sci_words.specs.declared.operation.Reply.{Reply}
@@ -10,7 +11,7 @@ use Rattle.sci_cache.specs.State.{is_out}
 use Rattle.sci_cache.specs.Asking.{Asked}
 use Rattle.sci_cache.specs.Serving.{serving}
 use Rattle.sci_cache.specs.Performing.{performing}
-use Rattle.sci_cache.specs.Line.{LineState, untouched, line_asking, line_asked, line_in, line_accepting}
+use Rattle.sci_cache.specs.Line.{LineState, untouched, line_asking, line_asked, line_in, line_accepting, next_control}
 
 pub record CacheOf : Type 0 where
   pub me : ℕ
@@ -34,7 +35,7 @@ slots_taken lines = count_by (λ line. not (is_out line.state)) lines
 abbrev pub has_slot : CacheOf → Bool
 has_slot cache = nat_lt (slots_taken cache.lines) cache.slots
 
--- the node that has the home of a line, or another node that is named
+-- the node that has the home of a line (line modulo nodes, this project's profile), or another node that is named
 abbrev pub target_of : CacheOf → ℕ → Option ℕ → ℕ
 target_of cache line None = line % cache.nodes
 target_of cache line (Some node) = node
@@ -55,39 +56,31 @@ abbrev pub letter_asking : CacheOf → ℕ → Asked → Letter
 letter_asking cache line asked = record {
   target = target_of cache line asked.to;
   source = cache.me;
-  control = (line_of cache line).asks;
+  control = next_control (line_of cache line);
   line = line;
   body = asked.request;
 }
 
+-- the cache and its request after what a line asks, if it asks
+abbrev pub cache_asked : CacheOf → ℕ → Result Asked AskFault → Result (CacheOf × Letter) AskFault
+cache_asked cache line made =
+    result_map_both (λ asked. (with_line cache line (line_asked (line_of cache line) asked), letter_asking cache line asked)) (λ fault. fault) made
+
 -- the cache after an ask of this kind, and its request
 abbrev pub cache_asking : CacheOf → ℕ → AskKind → Result (CacheOf × Letter) AskFault
-cache_asking cache line kind =
-    elim (line_asking (line_of cache line) kind (has_slot cache)) [
-      | Err fault ↦ Err fault
-      | Ok asked ↦ Ok (with_line cache line (line_asked (line_of cache line) asked), letter_asking cache line asked)
-    ]
+cache_asking cache line kind = cache_asked cache line (line_asking (line_of cache line) kind (has_slot cache))
 
 -- the cache after a request from node n about a line, and its answer
 abbrev pub cache_serving : CacheOf → ℕ → ℕ → Body → Option (CacheOf × Body)
 cache_serving cache line n request =
-    elim (serving (line_of cache line).state n request) [
-      | None ↦ None
-      | Some served ↦ Some (with_line cache line (line_in (line_of cache line) served.0), served.1)
-    ]
+    option_map (λ served. (with_line cache line (line_in (line_of cache line) served.0), served.1)) (serving (line_of cache line).state n request)
 
--- the cache after an answer about a line with this control, or none where it isn't awaited
+-- the cache after an answer about a line with this control, or none if it isn't awaited
 abbrev pub cache_accepting : CacheOf → ℕ → ℕ → Body → Option CacheOf
 cache_accepting cache line control answer =
-    elim (line_accepting (line_of cache line) control answer) [
-      | None ↦ None
-      | Some state ↦ Some (with_line cache line (line_in (line_of cache line) state))
-    ]
+    option_map (λ state. with_line cache line (line_in (line_of cache line) state)) (line_accepting (line_of cache line) control answer)
 
--- the cache after an operation, its reply and the version that it read or made, or none where it isn't allowed
+-- the cache after an operation, its reply and the version that it read or made, or none if it isn't allowed
 abbrev pub cache_performing : CacheOf → Op → Option (CacheOf × Reply × ℕ)
 cache_performing cache op =
-    elim (performing (line_of cache op.line).state op) [
-      | None ↦ None
-      | Some done ↦ Some (with_line cache op.line (line_in (line_of cache op.line) done.next), done.reply, done.version)
-    ]
+    option_map (λ done. (with_line cache op.line (line_in (line_of cache op.line) done.next), done.reply, done.version)) (performing (line_of cache op.line).state op)

@@ -1,8 +1,6 @@
 -- The state that each value of the program holds.
-use Rattle.std.specs.Prelude.{Result, Ok, Err, Option, Some, None}
 use Rattle.sci_cache.specs.declared.held.Held.{Held}
 use Rattle.sci_cache.specs.declared.held.Held.TheVariants as held
-use Rattle.sci_packets.specs.declared.body.Body.{Body}
 use Rattle.sci_cache.specs.State.{CacheState, Out, Asking, Joining, FreshJoining, Head, FreshHead, Below, Purging, Claiming, Clearing, Returning, Rolling, Telling, Fading}
 
 abbrev pub state_of : Held → CacheState
@@ -20,12 +18,3 @@ state_of (held.Returning s) = Returning s.contents
 state_of (held.Rolling s) = Rolling s.forward s.backward s.contents
 state_of (held.Telling s) = Telling s.behind s.before s.sent
 state_of (held.Fading s) = Fading
-
--- what an answer of the program's says of the state after it
-abbrev pub held_in : {E : Type 0} → Result Held E → Option CacheState
-held_in (Ok held) = Some (state_of held)
-held_in (Err same) = None
-
--- a state and an answer
-abbrev pub served_of : Held × Body → CacheState × Body
-served_of (held, answer) = (state_of held, answer)

@@ -1,8 +1,9 @@
--- Which lines are members of a sharing list, and which entry is behind each.
-use Rattle.std.specs.Prelude.{ℕ, Bool, IsTrue, is_some, Option, Some, None}
+-- Which lines are members of a sharing list, and which entry is behind each. Lists along forward identifiers are those of
+-- IEEE Std 1596-1992; when a line counts as a member is this project's profile.
+use Rattle.std.specs.Prelude.{ℕ, Option, Some, None}
 use Rattle.sci_packets.specs.declared.body.Body.{Body}
 use Rattle.sci_packets.specs.declared.body.Body.TheVariants.{Mdata, Mgone, Purged, Wbok, Wbno, Busy, Fdata}
-use Rattle.sci_cache.specs.State.{CacheState, Asking, Joining, FreshJoining, Head, FreshHead, Below, Purging, Claiming, Clearing, Returning, Rolling, contents_of}
+use Rattle.sci_cache.specs.State.{CacheState, Asking, Joining, FreshJoining, Head, FreshHead, Below, Purging, Claiming, Clearing, Returning, Rolling}
 
 -- the entry behind a member, or none at a list's end, by its state and the answer that is under way to it, if any;
 -- None for a line that is no member
@@ -31,17 +32,3 @@ link_of (Returning c) (Some Busy) = Some None
 link_of (Rolling f b c) None = Some f
 link_of (Rolling f b c) (Some Busy) = Some f
 link_of _ _ = None
-
--- whether a line is a member of its list
-abbrev pub is_member : CacheState → Option Body → Bool
-is_member state answer = is_some (link_of state answer)
-
-abbrev pub IsMember : CacheState → Option Body → Type 0
-IsMember state answer = IsTrue (is_member state answer)
-
--- whether a state has contents
-abbrev pub has_contents : CacheState → Bool
-has_contents state = is_some (contents_of state)
-
-abbrev pub HasContents : CacheState → Type 0
-HasContents state = IsTrue (has_contents state)

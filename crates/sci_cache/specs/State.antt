@@ -1,6 +1,7 @@
--- The states of a node's cache for one line. The names in brackets are those of IEEE Std 1596-1992 for its stable
--- states; the others, and all cases, are this project's own profile.
-use Rattle.std.specs.Prelude.{ℕ, Bool, true, false, IsTrue, Option, Some, None}
+-- The states of a node's cache for one line. From IEEE Std 1596-1992 are its stable states, whose names stand in brackets,
+-- and the forward and backward identifier of an entry. The other states, and all that is defined below, are this
+-- project's profile.
+use Rattle.std.specs.Prelude.{ℕ, Bool, true, false, Option, Some, None}
 use Rattle.sci_words.specs.declared.stamped.Stamped.{Stamped}
 
 -- f is the forward identifier, b the backward identifier, c the contents, p the old head, q the next in the list
@@ -13,11 +14,11 @@ pub data CacheState : Type 0 where
   Joining : (p : ℕ) (sent : Bool) → CacheState
   -- told the contents, and that p is the old head; Cread is sent to p, or not yet
   FreshJoining : (p : ℕ) (sent : Bool) (c : Stamped) → CacheState
-  -- head of a list that may write [ONLY_DIRTY where f is none, else HEAD_DIRTY]
+  -- head of a list that may write [ONLY_DIRTY if f is none, else HEAD_DIRTY]
   Head : (f : Option ℕ) (c : Stamped) → CacheState
-  -- head of a list under a fresh home [ONLY_FRESH where f is none, else HEAD_FRESH]
+  -- head of a list under a fresh home [ONLY_FRESH if f is none, else HEAD_FRESH]
   FreshHead : (f : Option ℕ) (c : Stamped) → CacheState
-  -- an entry behind another [TAIL_VALID where f is none, else MID_VALID]
+  -- an entry behind another [TAIL_VALID if f is none, else MID_VALID]
   Below : (f : Option ℕ) (b : ℕ) (c : Stamped) → CacheState
   -- Purge is sent to q
   Purging : (q : ℕ) (c : Stamped) → CacheState
@@ -34,7 +35,7 @@ pub data CacheState : Type 0 where
   -- purged while its Roll was unanswered
   Fading : CacheState
 
--- whether a line waits for an answer
+-- whether a line awaits an answer: one transaction at a time (the profile)
 abbrev pub waits : CacheState → Bool
 waits Asking = true
 waits (Joining p sent) = sent
@@ -48,18 +49,12 @@ waits (Telling r w sent) = sent
 waits Fading = true
 waits _ = false
 
-abbrev pub Waits : CacheState → Type 0
-Waits state = IsTrue (waits state)
-
--- whether a line has an entry, and so takes one of the node's version slots
+-- whether a line has no entry, and so takes none of the node's version slots (the profile)
 abbrev pub is_out : CacheState → Bool
 is_out Out = true
 is_out _ = false
 
-abbrev pub IsOut : CacheState → Type 0
-IsOut state = IsTrue (is_out state)
-
--- the contents that a state has
+-- the contents that a state has (the profile)
 abbrev pub contents_of : CacheState → Option Stamped
 contents_of (FreshJoining p sent c) = Some c
 contents_of (Head f c) = Some c

@@ -78,6 +78,22 @@ impl Cache {
         })
     }
 
+    /// A copy of the cache. Refused if memory is.
+    pub fn try_clone(&self, alloc: Global) -> Result<Cache, AllocError>
+        ensures { IfOk result (λ cache. cache ≡ self.now) }
+    {
+        let mut lines = Vec::with_capacity(alloc, self.lines.len())?;
+        for line in &self.lines {
+            lines.push(line.copy())?;
+        }
+        Ok(Cache {
+            me: self.me,
+            extent: self.extent,
+            lines,
+            taken: self.taken,
+        })
+    }
+
     /// The number of lines.
     #[cfg(test)]
     pub(crate) fn lines(&self) -> u64
@@ -131,6 +147,7 @@ impl Cache {
         ensures asked { IfSome result (λ packet. (next : CacheOf) × (cache_asking self.now line kind ≡ Ok (next, letter_of packet))) }
         ensures refused { result ≡ None → IsErr (cache_asking self.now line kind) }
     {
+        // In place of `ok()`, for which the toolchain builds no proof here.
         match self.packet_asked(line, kind) {
             Ok(packet) => Some(packet),
             Err(_) => None,

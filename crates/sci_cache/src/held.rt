@@ -35,6 +35,28 @@ impl Held {
     ghost use Rattle.sci_cache.specs.Accepting.{accepting};
     ghost use Rattle.sci_cache.specs.Held.{state_of};
 
+    /// The same state.
+    pub(crate) fn copy(&self) -> Held
+        ensures { result ≡ self.now }
+    {
+        match self {
+            Held::Out(state) => Held::Out(*state),
+            Held::Asking(state) => Held::Asking(*state),
+            Held::Joining(state) => Held::Joining(*state),
+            Held::FreshJoining(state) => Held::FreshJoining(*state),
+            Held::Head(state) => Held::Head(*state),
+            Held::FreshHead(state) => Held::FreshHead(*state),
+            Held::Below(state) => Held::Below(*state),
+            Held::Purging(state) => Held::Purging(*state),
+            Held::Claiming(state) => Held::Claiming(*state),
+            Held::Clearing(state) => Held::Clearing(*state),
+            Held::Returning(state) => Held::Returning(*state),
+            Held::Rolling(state) => Held::Rolling(*state),
+            Held::Telling(state) => Held::Telling(*state),
+            Held::Fading(state) => Held::Fading(*state),
+        }
+    }
+
     /// Whether the line has no entry.
     pub fn is_out(&self) -> bool
         ensures { result ≡ is_out_of (state_of self.now) }
@@ -45,7 +67,8 @@ impl Held {
     /// The request of this kind that the state makes, with its target (None for the line's home), or None if it makes
     /// none.
     pub(crate) fn asked(&self, kind: AskKind) -> Option<(Option<NodeId>, Body)>
-        ensures { result ≡ option_map (λ asked. (asked.to, asked.request)) (asking (state_of self.now) kind) }
+        ensures request { result ≡ option_map (λ asked. (asked.to, asked.request)) (asking (state_of self.now) kind) }
+        ensures made { IfSome result (λ _. IsSome (asking (state_of self.now) kind)) }
     {
         match self {
             Held::Out(_) => match kind {

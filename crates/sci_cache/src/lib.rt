@@ -1,4 +1,5 @@
-//! The cache part of a node's controller: for each line a typed state, whose transitions consume it.
+//! The cache part of a node's controller: for each line a typed state. A transition takes its state by value and gives
+//! the next, which is put in its place.
 #![tactic(auto)]
 
 mod accept;

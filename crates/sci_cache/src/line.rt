@@ -53,6 +53,16 @@ impl CachedLine {
         }
     }
 
+    /// The same line.
+    pub(crate) fn copy(&self) -> CachedLine
+        ensures { result ≡ self.now }
+    {
+        CachedLine {
+            held: self.held.copy(),
+            asks: self.asks,
+        }
+    }
+
     /// The state.
     pub(crate) fn held(&self) -> &Held
         ensures { state_of result.now ≡ self.now.state }

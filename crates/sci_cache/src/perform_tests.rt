@@ -27,17 +27,17 @@ fn head_with(word: u64, version: u64) -> Held {
 }
 
 /// Whether the state answers this reply and version, and becomes `next`.
-fn performs(held: Held, op: Op, reply: Reply, version: u64, next: Held) -> bool {
+fn performs(mut held: Held, op: Op, reply: Reply, version: u64, next: Held) -> bool {
     op.word < 8
         && match held.perform(op) {
-            Ok(done) => done.reply == reply && done.version == version && done.next == next,
-            Err(_) => false,
+            Some(done) => done.0 == reply && done.1 == version && held == next,
+            None => false,
         }
 }
 
 /// Whether the state doesn't allow the operation.
-fn refuses(held: Held, op: Op) -> bool {
-    op.word < 8 && held.perform(op).is_err()
+fn refuses(mut held: Held, op: Op) -> bool {
+    op.word < 8 && held.perform(op).is_none()
 }
 
 #[test]

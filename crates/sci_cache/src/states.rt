@@ -1,5 +1,5 @@
 //! The states of a cache for one line, each a type of its own. The names in brackets are those of IEEE Std
-//! 1596-1992 for its stable states; the others are this project's own.
+//! 1596-1992 for its stable states; the others are this project's own. They are `Copy`, so that a line changes in place.
 
 use sci_packets::NodeId;
 use sci_words::Stamped;
@@ -27,21 +27,21 @@ pub struct FreshJoining {
     pub contents: Stamped,
 }
 
-/// The head of a list that may write (ONLY_DIRTY where there is no next entry, else HEAD_DIRTY).
+/// The head of a list that may write (ONLY_DIRTY if there is no next entry, else HEAD_DIRTY).
 #[derive(Clone, Copy, Debug, PartialEq, Eq)]
 pub struct HeadState {
     pub forward: Option<NodeId>,
     pub contents: Stamped,
 }
 
-/// The head of a list whose home is fresh (ONLY_FRESH where there is no next entry, else HEAD_FRESH).
+/// The head of a list whose home is fresh (ONLY_FRESH if there is no next entry, else HEAD_FRESH).
 #[derive(Clone, Copy, Debug, PartialEq, Eq)]
 pub struct FreshHead {
     pub forward: Option<NodeId>,
     pub contents: Stamped,
 }
 
-/// An entry behind another (TAIL_VALID where there is no next entry, else MID_VALID).
+/// An entry behind another (TAIL_VALID if there is no next entry, else MID_VALID).
 #[derive(Clone, Copy, Debug, PartialEq, Eq)]
 pub struct Below {
     pub forward: Option<NodeId>,

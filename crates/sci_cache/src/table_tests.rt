@@ -98,26 +98,26 @@ pub(crate) fn out() -> Held {
     Held::Out(OutState)
 }
 
-fn accepts(held: Held, answer: Body, next: Held) -> bool {
-    match held.accept(&answer) {
-        Ok(after) => after == next,
-        Err(_) => false,
-    }
+fn accepts(mut held: Held, answer: Body, next: Held) -> bool {
+    held.accept(&answer).is_ok() && held == next
 }
 
-fn asks(held: Held, kind: AskKind, to: Option<NodeId>, request: Body, next: Held) -> bool {
-    match held.ask(kind) {
-        Ok(ask) => ask.to == to && ask.request == request && ask.next == next,
-        Err(_) => false,
+fn asks(mut held: Held, kind: AskKind, to: Option<NodeId>, request: Body, next: Held) -> bool {
+    match held.asked(kind) {
+        Some(asked) => {
+            held.ask(kind);
+            asked.0 == to && asked.1 == request && held == next
+        }
+        None => false,
     }
 }
 
 /// Whether the state answers a request of node 3 so.
-fn serves(held: Held, request: Body, next: Held, answer: Body) -> Result<bool, Fail> {
+fn serves(mut held: Held, request: Body, next: Held, answer: Body) -> Result<bool, Fail> {
     match request {
         Body::Cread | Body::Purge | Body::Roll { .. } | Body::Setback { .. } => {
-            let (after, given) = held.serve(node(3)?, &request);
-            Ok(after == next && given == answer)
+            let given = held.serve(node(3)?, &request);
+            Ok(held == next && given == answer)
         }
         _ => Ok(false),
     }

@@ -40,6 +40,20 @@ fn asked(cache: &mut Cache, kind: AskKind) -> Result<Packet, Fail> {
     Ok(cache.ask(0, kind).ok().ok_or("it is refused")?)
 }
 
+/// What a cache asks about line 0 by a look and an act.
+fn asked_in_two_calls(cache: &mut Cache, kind: AskKind) -> Result<Packet, Fail> {
+    if cache.lines() == 0 {
+        return Err(Fail::from("no such line"));
+    }
+    match cache.asked(0, kind) {
+        Some(packet) => {
+            cache.apply_ask(0, kind);
+            Ok(packet)
+        }
+        None => Err(Fail::from("it is refused")),
+    }
+}
+
 /// What a cache asks about line 1.
 fn asked_other(cache: &mut Cache, kind: AskKind) -> Result<Result<Packet, AskFault>, Fail> {
     if cache.lines() < 2 {
@@ -133,6 +147,21 @@ fn controllers_refuse(rt: HostRuntime) -> Result<(), Fail> {
     let mut second = cache(rt.alloc(), 1)?;
     assert_eq!(rt; served(&mut second, &roll)?.body, Body::Busy);
     assert!(rt; is_held(&second, &Held::Out(OutState)));
+    Ok(())
+}
+
+#[test]
+fn an_ask_in_two_calls(rt: HostRuntime) -> Result<(), Fail> {
+    let home = node(0)?;
+    let mut alone = one_slot(rt.alloc())?;
+    let mread = asked_in_two_calls(&mut alone, AskKind::Mread)?;
+    assert_eq!(rt; mread.target, home);
+    assert_eq!(rt; mread.body, Body::Mread);
+    assert!(rt; is_held(&alone, &Held::Asking(Asking)));
+    assert_eq!(rt;
+        asked_other(&mut alone, AskKind::Fread)?.err(),
+        Some(AskFault::NoSlot)
+    );
     Ok(())
 }
 

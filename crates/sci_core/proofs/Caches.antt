@@ -1,6 +1,6 @@
 -- What a cache's calls leave as it was: its number, its sizes, and how many lines it has.
 use Rattle.std.proofs.Common.{◌≡◌, ℕ, Some, None, Ok, Err, Option, Result, length, refl, sym, subst}
-use Rattle.std.specs.Prelude.{IfOk, IsErr}
+use Rattle.std.specs.Prelude.{IfOk, IsErr, option_map}
 use Rattle.std.proofs.lemmas.List.{length-set}
 use Rattle.sci_words.specs.declared.event.AskKind.{AskKind}
 use Rattle.sci_words.specs.declared.operation.Op.{Op}
@@ -12,7 +12,7 @@ use Rattle.sci_cache.specs.Asking.{Asked}
 use Rattle.sci_cache.specs.Serving.{serving}
 use Rattle.sci_cache.specs.Performing.{Performed, performing}
 use Rattle.sci_cache.specs.Line.{LineState, line_in, line_asked, line_asking, line_accepting}
-use Rattle.sci_cache.specs.Cache.{CacheOf, Letter, line_of, with_line, has_slot, letter_asking, cache_asking, cache_serving, cache_accepting, cache_performing}
+use Rattle.sci_cache.specs.Cache.{CacheOf, Letter, line_of, with_line, has_slot, letter_asking, cache_asking, cache_serving, cache_accepting, cache_performing, cache_asked}
 
 pub record SameSizes (old new : CacheOf) : Type 0 where
   pub me : new.me ≡ old.me
@@ -24,7 +24,7 @@ pub same_line : (cache : CacheOf) (line : ℕ) (part : LineState) → SameSizes 
 same_line cache line part = record { me = refl; nodes = refl; slots = refl; lines = length-set cache.lines line part }
 
 accepted_same : (cache : CacheOf) (line : ℕ) (state : Option CacheState) (new : CacheOf)
-    → (elim state as (λ _. Option CacheOf) [ None ↦ None | Some s ↦ Some (with_line cache line (line_in (line_of cache line) s)) ]) ≡ Some new
+    → option_map (λ s. with_line cache line (line_in (line_of cache line) s)) state ≡ Some new
     → SameSizes cache new
 accepted_same cache line None new e = cc
 accepted_same cache line (Some s) new e =
@@ -35,7 +35,7 @@ pub same_accepting : (cache : CacheOf) (line control : ℕ) (body : Body) (new :
 same_accepting cache line control body = accepted_same cache line (line_accepting (line_of cache line) control body)
 
 performed_same : (cache : CacheOf) (line : ℕ) (done : Option Performed) (new : CacheOf) (reply : Reply) (version : ℕ)
-    → (elim done as (λ _. Option (CacheOf × Reply × ℕ)) [ None ↦ None | Some d ↦ Some (with_line cache line (line_in (line_of cache line) d.next), d.reply, d.version) ]) ≡ Some (new, reply, version)
+    → option_map {U = CacheOf × Reply × ℕ} (λ d. (with_line cache line (line_in (line_of cache line) d.next), d.reply, d.version)) done ≡ Some (new, reply, version)
     → SameSizes cache new
 performed_same cache line None new reply version e = cc
 performed_same cache line (Some d) new reply version e =
@@ -46,7 +46,7 @@ pub same_performing : (cache : CacheOf) (op : Op) (new : CacheOf) (reply : Reply
 same_performing cache op = performed_same cache op.line (performing (line_of cache op.line).state op)
 
 asked_same : (cache : CacheOf) (line : ℕ) (made : Result Asked AskFault) (new : CacheOf) (letter : Letter)
-    → (elim made as (λ _. Result (CacheOf × Letter) AskFault) [ Err fault ↦ Err fault | Ok a ↦ Ok (with_line cache line (line_asked (line_of cache line) a), letter_asking cache line a) ]) ≡ Ok (new, letter)
+    → cache_asked cache line made ≡ Ok (new, letter)
     → SameSizes cache new
 asked_same cache line (Err fault) new letter e = cc
 asked_same cache line (Ok a) new letter e =

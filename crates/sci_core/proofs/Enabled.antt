@@ -1,6 +1,6 @@
 -- What comes by a lane of a reached state is taken, and is waited for.
 use Rattle.std.proofs.Common.{◌≡◌, ℕ, ◌<◌, ◌%◌, Bool, true, false, if◌then◌else◌, List, [], ◌∷◌, length, Option, Some, None, refl, sym, ap, subst, ◌∙◌, inl, inr, arith}
-use Rattle.std.specs.Prelude.{◌==◌, IsSome, is_some, slice_get}
+use Rattle.std.specs.Prelude.{option_map, ◌==◌, IsSome, is_some, slice_get}
 use Rattle.std.proofs.lemmas.Bool.{cases_Bool, eq-eqb}
 use Rattle.sci_packets.specs.declared.body.Body.{Body}
 use Rattle.sci_packets.specs.declared.body.Body.TheVariants as body
@@ -53,7 +53,7 @@ home_served node line None some = cc
 home_served node line (Some served) some = refl
 
 cache_served : (node : NodeOf) (line : ℕ) (served : Option (CacheState × Body)) → IsSome served
-    → IsSome (served_in_cache node (elim served as (λ _. Option (CacheOf × Body)) [ None ↦ None | Some s ↦ Some (with_line node.cache line (line_in (line_of node.cache line) s.0), s.1) ]))
+    → IsSome (served_in_cache node (option_map (λ s. (with_line node.cache line (line_in (line_of node.cache line) s.0), s.1)) served))
 cache_served node line None some = cc
 cache_served node line (Some served) some = refl
 
@@ -115,7 +115,7 @@ only_packet core kind from to n letter rest reached f t lt about front asker =
 -- ---- answers
 
 accepts_it : (node : NodeOf) (line control : ℕ) (answer : Body) → control ≡ last_control (line_of node.cache line) → IsSome (accepting (line_of node.cache line).state answer) → (awaited : Bool) → (control == last_control (line_of node.cache line)) ≡ awaited → (next : Option CacheState) → accepting (line_of node.cache line).state answer ≡ next
-    → IsSome (accepted_by node (elim (if awaited then next else None) as (λ _. Option CacheOf) [ None ↦ None | Some s ↦ Some (with_line node.cache line (line_in (line_of node.cache line) s)) ]))
+    → IsSome (accepted_by node (option_map (λ s. with_line node.cache line (line_in (line_of node.cache line) s)) (if awaited then next else None)))
 accepts_it node line control answer numbered some true e (Some next) is = refl
 accepts_it node line control answer numbered some true e None is = let not = subst IsSome is some in cc
 accepts_it node line control answer numbered some false e next is = let equal = eq-eqb control (last_control (line_of node.cache line)) numbered in cc

@@ -39,7 +39,6 @@ pub mod Works
 pub mod Histories
 pub mod ShapeClauses
 pub mod ReachedLaws
-pub mod Operations
 pub mod Sides
 pub mod Enabled
 pub mod Ranges

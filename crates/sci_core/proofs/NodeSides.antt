@@ -1,25 +1,22 @@
 -- What each event does at its node: to the standing of the node's lines, to its homes, and to the answer that waits.
-use Rattle.std.proofs.Common.{◌≡◌, ℕ, ◌<◌, nat_lt, not, ◌&&◌, Bool, true, false, if◌then◌else◌, Option, Some, None, Result, Ok, Err, refl, sym, subst, inl, inr}
-use Rattle.std.specs.Prelude.{IfSome, is_some, ◌==◌, slice_set}
+use Rattle.std.proofs.Common.{◌≡◌, ℕ, ◌<◌, nat_lt, not, ◌&&◌, Bool, true, false, if◌then◌else◌, Option, Some, None, refl, sym, subst, inl, inr}
+use Rattle.std.specs.Prelude.{IfSome, is_some, ◌==◌, slice_set, option_map}
 use Rattle.std.proofs.lemmas.Bool.{cases_Bool}
 use Rattle.std.proofs.lemmas.List.{get_or-set_same}
 use Rattle.sci_words.specs.declared.event.AskKind.{AskKind}
 use Rattle.sci_words.specs.declared.operation.Op.{Op}
-use Rattle.sci_words.specs.declared.operation.Reply.{Reply}
 use Rattle.sci_packets.specs.declared.body.Body.{Body}
 use Rattle.sci_packets.specs.declared.body.Body.TheVariants.{Busy}
 use Rattle.sci_history.specs.declared.entry.Entry.{Entry}
 use Rattle.sci_home.specs.declared.state.HomeState.{HomeState}
 use Rattle.sci_home.specs.Serving.{is_for_home, home_serving as serving_of_home}
-use Rattle.sci_cache.specs.declared.fault.AskFault.{AskFault}
-use Rattle.sci_cache.specs.declared.fault.AskFault.TheVariants.{NoSlot, NotNow}
 use Rattle.sci_cache.specs.State.{CacheState, is_out}
 use Rattle.sci_cache.specs.Asking.{Asked, asking}
 use Rattle.sci_cache.specs.Serving.{serving}
 use Rattle.sci_cache.specs.Accepting.{accepting}
 use Rattle.sci_cache.specs.Performing.{Performed, performing}
-use Rattle.sci_cache.specs.Line.{LineState, untouched, last_control, line_in, line_asked}
-use Rattle.sci_cache.specs.Cache.{CacheOf, Letter, line_of, with_line, has_slot, letter_asking, cache_asking}
+use Rattle.sci_cache.specs.Line.{LineState, untouched, last_control, line_in, line_asked, ask_or_fault}
+use Rattle.sci_cache.specs.Cache.{CacheOf, Letter, line_of, with_line, has_slot, cache_asking, cache_asked}
 use Rattle.sci_core.specs.declared.pending.Pending.{Pending}
 use Rattle.sci_core.specs.Node.{NodeOf, lines_of, home_place, home_of, pending_on, entry_of, node_logged, may_issue, node_issued, node_issuing, performed_by, performing_pending, node_performing, asked_by, node_asking, with_answer, served_at_home, served_in_cache, serving_at_home, serving_in_cache, serving_request, answered_by, node_serving, is_setback, node_refusing, replied_by, node_replying, accepted_by, node_accepting}
 use Rattle.sci_core.proofs.Lists.{if_either, at_place_set}
@@ -56,7 +53,7 @@ pub record PerformedAs (part : NodeOf) (line : ℕ) (done : NodeOf × Entry) : T
   pub entry : entry_of part pending did.reply did.version ≡ done.1
 
 performed_as : (part : NodeOf) (line : ℕ) (pending : Pending) (done : Option Performed) → pending_on part line ≡ Some pending → performing (line_of part.cache pending.op.line).state pending.op ≡ done
-    → IfSome (performed_by part line pending (elim done as (λ _. Option (CacheOf × Reply × ℕ)) [ None ↦ None | Some d ↦ Some (with_line part.cache pending.op.line (line_in (line_of part.cache pending.op.line) d.next), d.reply, d.version) ]))
+    → IfSome (performed_by part line pending (option_map (λ d. (with_line part.cache pending.op.line (line_in (line_of part.cache pending.op.line) d.next), d.reply, d.version)) done))
     (PerformedAs part line)
 performed_as part line pending None here is = tt
 performed_as part line pending (Some d) here is = record { pending = pending; here = here; did = d; performs = is; next = refl; entry = refl }
@@ -75,10 +72,7 @@ pub record AsksAlike (part : NodeOf) (sent : NodeOf × Letter) : Type 0 where
   pub same : SameHomes part sent.0
 
 asked_alike : (part : NodeOf) (line : ℕ) (lacks : Bool) (made : Option Asked) → IfSome made (λ (a : Asked). Alike (line_of part.cache line).state None a.next None)
-    → IfSome (asked_by part (elim (elim made as (λ _. Result Asked AskFault) [ None ↦ Err NotNow | Some a ↦ if lacks then Err NoSlot else Ok a ]) as (λ _. Result (CacheOf × Letter) AskFault) [
-      | Err fault ↦ Err fault
-      | Ok a ↦ Ok (with_line part.cache line (line_asked (line_of part.cache line) a), letter_asking part.cache line a)
-    ])) (AsksAlike part)
+    → IfSome (asked_by part (cache_asked part.cache line (ask_or_fault made lacks))) (AsksAlike part)
 asked_alike part line lacks None keeps = tt
 asked_alike part line true (Some asked) keeps = tt
 asked_alike part line false (Some asked) keeps = record {
@@ -106,7 +100,7 @@ home_served part request None asks is = tt
 home_served part request (Some served) asks is = At_home served asks is refl
 
 cache_served : (part : NodeOf) (request : Letter) (served : Option (CacheState × Body)) → serving (line_of part.cache request.line).state request.source request.body ≡ served
-    → IfSome (answered_by request (served_in_cache part (elim served as (λ _. Option (CacheOf × Body)) [ None ↦ None | Some s ↦ Some (with_line part.cache request.line (line_in (line_of part.cache request.line) s.0), s.1) ]))) (ServedAs part request)
+    → IfSome (answered_by request (served_in_cache part (option_map (λ s. (with_line part.cache request.line (line_in (line_of part.cache request.line) s.0), s.1)) served))) (ServedAs part request)
 cache_served part request None is = tt
 cache_served part request (Some served) is = In_cache served is refl
 

@@ -1,12 +1,11 @@
 -- Each side of an event leaves a node's part well formed, and makes packets that are.
-use Rattle.std.proofs.Common.{◌≡◌, ℕ, ◌+◌, ◌<◌, ◌%◌, ◌&&◌, not, nat_lt, Bool, true, false, if◌then◌else◌, set, Option, Some, None, Result, Ok, Err, refl, sym, subst, ◌∙◌, mod-lt, arith}
-use Rattle.std.specs.Prelude.{◌==◌, IfSome, is_some}
+use Rattle.std.proofs.Common.{◌≡◌, ℕ, ◌+◌, ◌<◌, ◌%◌, ◌&&◌, not, nat_lt, Bool, true, false, if◌then◌else◌, set, Option, Some, None, refl, sym, subst, ◌∙◌, mod-lt, arith}
+use Rattle.std.specs.Prelude.{◌==◌, IfSome, is_some, option_map}
 use Rattle.std.proofs.lemmas.Bool.{cases_Bool, ltb-true}
 use Rattle.std.proofs.Common.{inl, inr}
 use Rattle.std.proofs.lemmas.List.{length-set}
 use Rattle.sci_words.specs.declared.event.AskKind.{AskKind}
 use Rattle.sci_words.specs.declared.operation.Op.{Op}
-use Rattle.sci_words.specs.declared.operation.Reply.{Reply}
 use Rattle.sci_words.specs.declared.limits.TheConstants.{CONTROLS}
 use Rattle.sci_packets.specs.declared.body.Body.{Body}
 use Rattle.sci_packets.specs.declared.body.Body.TheVariants.{Busy}
@@ -14,15 +13,13 @@ use Rattle.sci_packets.specs.Table.{is_request}
 use Rattle.sci_history.specs.declared.entry.Entry.{Entry}
 use Rattle.sci_home.specs.declared.state.HomeState.{HomeState}
 use Rattle.sci_home.specs.Serving.{opening_home, is_for_home, home_serving as serving_at_home_of}
-use Rattle.sci_cache.specs.declared.fault.AskFault.{AskFault}
-use Rattle.sci_cache.specs.declared.fault.AskFault.TheVariants.{NoSlot, NotNow}
 use Rattle.sci_cache.specs.State.{CacheState, is_out}
 use Rattle.sci_cache.specs.Asking.{Asked, asking}
 use Rattle.sci_cache.specs.Serving.{serving}
 use Rattle.sci_cache.specs.Accepting.{accepting}
 use Rattle.sci_cache.specs.Performing.{Performed, performing}
-use Rattle.sci_cache.specs.Line.{LineState, untouched, line_in, line_asked, last_control}
-use Rattle.sci_cache.specs.Cache.{CacheOf, Letter, line_of, with_line, has_slot, target_of, letter_asking, cache_asking}
+use Rattle.sci_cache.specs.Line.{LineState, untouched, line_in, line_asked, last_control, ask_or_fault}
+use Rattle.sci_cache.specs.Cache.{CacheOf, Letter, line_of, with_line, has_slot, target_of, letter_asking, cache_asking, cache_asked}
 use Rattle.sci_core.specs.declared.pending.Pending.{Pending}
 use Rattle.sci_core.specs.Node.{NodeOf, lines_of, home_of, home_place, pending_on, may_issue, node_issued, node_issuing, node_logged, entry_of, performed_by, performing_pending, node_performing, asked_by, node_asking, answering, with_answer, served_at_home, served_in_cache, serving_at_home, serving_in_cache, serving_request, answered_by, node_serving, is_setback, node_refusing, replied_by, node_replying, accepted_by, node_accepting}
 use Rattle.sci_core.specs.WellFormed.{IsBelow, NamesNodes, HomeNamesNodes, BodyNamesNodes, IsRequestLetter, IsAnswerLetter, IsPart}
@@ -136,7 +133,7 @@ logged_part size n part line pending place state entry at names small mine is =
     }
 
 performed_part : (size : Size) (n : ℕ) (part : NodeOf) (line : ℕ) (pending : Pending) (done : Option Performed) → pending_on part line ≡ Some pending → IsPart size n part → IfSome done (λ (d : Performed). NamesNodes size.nodes d.next)
-    → IfSome (performed_by part line pending (elim done as (λ _. Option (CacheOf × Reply × ℕ)) [ None ↦ None | Some d ↦ Some (with_line part.cache pending.op.line (line_in (line_of part.cache pending.op.line) d.next), d.reply, d.version) ]))
+    → IfSome (performed_by part line pending (option_map (λ d. (with_line part.cache pending.op.line (line_in (line_of part.cache pending.op.line) d.next), d.reply, d.version)) done))
     (λ (x : NodeOf × Entry). IsPart size n x.0)
 performed_part size n part line pending None at is names = tt
 performed_part size n part line pending (Some d) at is names =
@@ -186,10 +183,7 @@ asked_part size n part line asked some lt below asks is = record {
 }
 
 made_part : (size : Size) (n : ℕ) (part : NodeOf) (line : ℕ) (lacks : Bool) (made : Option Asked) → 0 < size.nodes → n < size.nodes → line < size.lines → IfSome made (AsksWell size.nodes) → IsPart size n part
-    → IfSome (asked_by part (elim (elim made as (λ _. Result Asked AskFault) [ None ↦ Err NotNow | Some a ↦ if lacks then Err NoSlot else Ok a ]) as (λ _. Result (CacheOf × Letter) AskFault) [
-      | Err fault ↦ Err fault
-      | Ok a ↦ Ok (with_line part.cache line (line_asked (line_of part.cache line) a), letter_asking part.cache line a)
-    ])) (SendsWell size n)
+    → IfSome (asked_by part (cache_asked part.cache line (ask_or_fault made lacks))) (SendsWell size n)
 made_part size n part line lacks None some lt below asks is = tt
 made_part size n part line true (Some asked) some lt below asks is = tt
 made_part size n part line false (Some asked) some lt below asks is = asked_part size n part line asked some lt below asks is
@@ -217,7 +211,7 @@ home_served_part size n part request (Some served) asks to well is = record {
 }
 
 cache_served_part : (size : Size) (n : ℕ) (part : NodeOf) (request : Letter) (served : Option (CacheState × Body)) → IsRequestLetter size.nodes size.lines request → request.target ≡ n → IfSome served (ServesWell size.nodes) → IsPart size n part
-    → IfSome (served_in_cache part (elim served as (λ _. Option (CacheOf × Body)) [ None ↦ None | Some s ↦ Some (with_line part.cache request.line (line_in (line_of part.cache request.line) s.0), s.1) ])) (ServedWell size n request)
+    → IfSome (served_in_cache part (option_map (λ s. (with_line part.cache request.line (line_in (line_of part.cache request.line) s.0), s.1)) served)) (ServedWell size n request)
 cache_served_part size n part request None asks to well is = tt
 cache_served_part size n part request (Some served) asks to well is = record {
   next = part_with_line size n part request.line (line_in (line_of part.cache request.line) served.0) well.next (is.asks request.line) is;

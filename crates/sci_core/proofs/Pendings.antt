@@ -1,6 +1,6 @@
 -- Where an Issue and a Perform put an operation and its entry, and which operations can be performed.
 use Rattle.std.proofs.Common.{◌≡◌, ◌≢◌, ℕ, ◌-◌, ◌^◌, ◌%◌, ◌<◌, nat_lt, Bool, true, false, if◌then◌else◌, List, [], Option, Some, None, refl, sym, ap, subst, ◌∙◌, arith}
-use Rattle.std.specs.Prelude.{◌&&◌, IfSome, IsSome, is_some, is_none}
+use Rattle.std.specs.Prelude.{option_map, ◌&&◌, IfSome, IsSome, is_some, is_none}
 use Rattle.std.proofs.lemmas.Bool.{and_parts, ltb-true, lt-ltb}
 use Rattle.std.proofs.lemmas.List.{get_or-set_same, get_or-set_other}
 use Rattle.sci_words.specs.declared.limits.TheConstants.{WORDS_PER_LINE}
@@ -79,7 +79,7 @@ perform_puts node next line entry is some =
     subst (λ (n : NodeOf). IsLogged node n line entry) does.next (subst (λ (e : Entry). IsLogged node after line e) does.entry logged)
 
 is_done : (node : NodeOf) (line : ℕ) (pending : Pending) (done : Option Performed)
-    → is_some (performed_by node line pending (elim done as (λ _. Option (CacheOf × Reply × ℕ)) [ None ↦ None | Some d ↦ Some (with_line node.cache pending.op.line (line_in (line_of node.cache pending.op.line) d.next), d.reply, d.version) ])) ≡ is_some done
+    → is_some (performed_by node line pending (option_map (λ d. (with_line node.cache pending.op.line (line_in (line_of node.cache pending.op.line) d.next), d.reply, d.version)) done)) ≡ is_some done
 is_done node line pending None = refl
 is_done node line pending (Some done) = refl
 

@@ -73,7 +73,7 @@ act_gives (Lock lock) old fits lt = (lock_fits lock old fits lt, lt)
 
 -- ---- along a history
 
-abbrev HasWords : Entry → Type 0
+abbrev pub HasWords : Entry → Type 0
 HasWords entry = (entry.op.word < WORDS_PER_LINE) × IsTrue (has_words entry.op.act)
 
 op_gives : (words : List ℕ) (op : Op) → IsLine words → op.word < WORDS_PER_LINE → IsTrue (has_words op.act) → ((effect_of_act op.act (get_or words op.word 0)).0 < 2 ^ 64) × IsReply (effect_of_act op.act (get_or words op.word 0)).1
@@ -85,7 +85,7 @@ line_fits words op line lt fits = record {
   words_fit = All-set (λ word. word < 2 ^ 64) words op.word (effect_of_act op.act (get_or words op.word 0)).0 (op_gives words op line lt fits).0 line.words_fit;
 }
 
-history_fits : (entries : List Entry) (c d : Stamped) → IsHistory entries c d → IsLine c.line → AllByRecursion HasWords entries → IsLine d.line × AllByRecursion (λ entry. IsReply entry.reply) entries
+pub history_fits : (entries : List Entry) (c d : Stamped) → IsHistory entries c d → IsLine c.line → AllByRecursion HasWords entries → IsLine d.line × AllByRecursion (λ entry. IsReply entry.reply) entries
 history_fits [] c d history line all = (subst (λ (s : Stamped). IsLine s.line) (sym history) line, tt)
 history_fits (entry ∷ entries) c d history line all =
     let gives = op_gives c.line entry.op line all.0.0 all.0.1 in
@@ -96,7 +96,7 @@ zeros_fit : (count : ℕ) → AllByRecursion (λ (word : ℕ). word < 2 ^ 64) (r
 zeros_fit zero = tt
 zeros_fit (suc count) = (omega arith, zeros_fit count)
 
-zero_is_line : IsLine zero_line
+pub zero_is_line : IsLine zero_line
 zero_is_line = record { eight = refl; words_fit = All-from_recursion (λ (word : ℕ). word < 2 ^ 64) zero_line (zeros_fit 8) }
 
 -- ---- how many versions
@@ -109,7 +109,7 @@ flat_short (log ∷ logs) all =
     let long = length-append log (flat_map (λ (l : List Entry). l) logs) in
     omega arith
 
-all_mapped : {X : Type 0} (P : X → Type 0) (f : ℕ → X) (count : ℕ) → ((i : ℕ) → i < count → P (f i)) → All P (map f (range_with_len 0 count))
+pub all_mapped : {X : Type 0} (P : X → Type 0) (f : ℕ → X) (count : ℕ) → ((i : ℕ) → i < count → P (f i)) → All P (map f (range_with_len 0 count))
 all_mapped P f count h i d lt =
     let long = length-map-range_with_len f 0 count in
     let below : i < count = omega arith in
@@ -183,7 +183,7 @@ rest_of_line P line entry entries all =
       | inr other ↦ subst (AllByRecursion P) (filter_no (is_on_line line) entry entries (ne_eqb entry.op.line line other)) all
     ]
 
-from_lines : (P : Entry → Type 0) (lines : ℕ) (entries : List Entry) → AllByRecursion (λ entry. entry.op.line < lines) entries → ((line : ℕ) → line < lines → AllByRecursion P (filter (is_on_line line) entries)) → AllByRecursion P entries
+pub from_lines : (P : Entry → Type 0) (lines : ℕ) (entries : List Entry) → AllByRecursion (λ entry. entry.op.line < lines) entries → ((line : ℕ) → line < lines → AllByRecursion P (filter (is_on_line line) entries)) → AllByRecursion P entries
 from_lines P lines [] within each = tt
 from_lines P lines (entry ∷ entries) within each =
     ((head_of_line P entry.op.line entry entries refl (each entry.op.line within.0)).0, from_lines P lines entries within.1 (λ line lt. rest_of_line P line entry entries (each line lt)))

@@ -114,10 +114,12 @@ reached_tidy core reached =
     let some = reached.size.extent.has_node in
     subst IsTidy reached.leads (run_tidy (opening core.size) reached.schedule (opening_well core.size (omega arith) reached.size.few_operations) (opening_tidy core.size))
 
+pub run_size : (size : Size) (schedule : List Event) → IsSize size → (run size schedule).size ≡ size
+run_size size schedule sizes = let first = sizes.extent.has_node in (run_well (opening size) schedule (opening_well size (omega arith) sizes.few_operations)).same
+
 pub run_reached : (size : Size) (schedule : List Event) → IsSize size → IsReached (run size schedule)
 run_reached size schedule sizes =
-    let first = sizes.extent.has_node in
-    let same = (run_well (opening size) schedule (opening_well size (omega arith) sizes.few_operations)).same in
+    let same = run_size size schedule sizes in
     record {
       size = subst IsSize (sym same) sizes;
       schedule = schedule;

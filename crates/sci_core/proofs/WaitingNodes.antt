@@ -1,25 +1,22 @@
 -- What each side of an event does with the waits of a node.
-use Rattle.std.proofs.Common.{◌≡◌, ℕ, ◌%◌, ◌<◌, ◌≢◌, ◌&&◌, not, Bool, true, false, if◌then◌else◌, Option, Some, None, Result, Ok, Err, refl, sym, ap, subst, ◌∙◌}
-use Rattle.std.specs.Prelude.{◌==◌, IfSome, is_some}
+use Rattle.std.proofs.Common.{◌≡◌, ℕ, ◌%◌, ◌<◌, ◌≢◌, ◌&&◌, not, Bool, true, false, if◌then◌else◌, Option, Some, None, refl, sym, ap, subst, ◌∙◌}
+use Rattle.std.specs.Prelude.{◌==◌, IfSome, is_some, option_map}
 use Rattle.std.proofs.lemmas.List.{get_or-set_same, get_or-set_other}
 use Rattle.sci_words.specs.declared.limits.TheConstants.{CONTROLS}
 use Rattle.sci_words.specs.declared.event.AskKind.{AskKind}
 use Rattle.sci_words.specs.declared.operation.Op.{Op}
-use Rattle.sci_words.specs.declared.operation.Reply.{Reply}
 use Rattle.sci_packets.specs.declared.body.Body.{Body}
 use Rattle.sci_packets.specs.declared.body.Body.TheVariants.{Busy}
 use Rattle.sci_history.specs.declared.entry.Entry.{Entry}
 use Rattle.sci_home.specs.declared.state.HomeState.{HomeState}
 use Rattle.sci_home.specs.Serving.{is_for_home, home_serving as serving_at_home_of}
-use Rattle.sci_cache.specs.declared.fault.AskFault.{AskFault}
-use Rattle.sci_cache.specs.declared.fault.AskFault.TheVariants.{NoSlot, NotNow}
 use Rattle.sci_cache.specs.State.{CacheState, waits, is_out}
 use Rattle.sci_cache.specs.Asking.{Asked, asking}
 use Rattle.sci_cache.specs.Serving.{serving}
 use Rattle.sci_cache.specs.Accepting.{accepting}
 use Rattle.sci_cache.specs.Performing.{Performed, performing}
-use Rattle.sci_cache.specs.Line.{LineState, untouched, last_control, line_in, line_asked}
-use Rattle.sci_cache.specs.Cache.{CacheOf, Letter, line_of, with_line, has_slot, target_of, letter_asking, cache_asking}
+use Rattle.sci_cache.specs.Line.{LineState, untouched, last_control, line_in, line_asked, ask_or_fault}
+use Rattle.sci_cache.specs.Cache.{CacheOf, Letter, line_of, with_line, has_slot, target_of, letter_asking, cache_asking, cache_asked}
 use Rattle.sci_core.specs.declared.pending.Pending.{Pending}
 use Rattle.sci_core.specs.Node.{NodeOf, lines_of, home_of, pending_on, may_issue, node_issued, node_issuing, performed_by, performing_pending, node_performing, asked_by, node_asking, answering, served_at_home, served_in_cache, serving_at_home, serving_in_cache, serving_request, answered_by, node_serving, is_setback, with_answer, node_refusing, replied_by, node_replying, accepted_by, node_accepting}
 use Rattle.sci_core.specs.Tidy.{IsAwaited}
@@ -50,7 +47,7 @@ issue_stays nodes part op =
     if_either (λ (o : Option NodeOf). IfSome o (Stays nodes part)) (may_issue part op) (Some (node_issued part op)) None (record { lines = keeps_all nodes part.cache; waiting = refl }) tt
 
 performed_stays : (nodes : ℕ) (part : NodeOf) (line : ℕ) (pending : Pending) (done : Option Performed) → IfSome done (λ (d : Performed). KeepsWait (line_of part.cache pending.op.line).state d.next)
-    → IfSome (performed_by part line pending (elim done as (λ _. Option (CacheOf × Reply × ℕ)) [ None ↦ None | Some d ↦ Some (with_line part.cache pending.op.line (line_in (line_of part.cache pending.op.line) d.next), d.reply, d.version) ]))
+    → IfSome (performed_by part line pending (option_map (λ d. (with_line part.cache pending.op.line (line_in (line_of part.cache pending.op.line) d.next), d.reply, d.version)) done))
     (λ (x : NodeOf × Entry). Stays nodes part x.0)
 performed_stays nodes part line pending None wait = tt
 performed_stays nodes part line pending (Some d) wait = record { lines = keeps_line nodes part.cache pending.op.line d.next wait; waiting = refl }
@@ -101,10 +98,7 @@ asked_once nodes line part asked below all small begins =
     }
 
 made_once : (nodes line : ℕ) (part : NodeOf) (lacks : Bool) (made : Option Asked) → line < lines_of part → part.cache.nodes ≡ nodes → (line_of part.cache line).asks < CONTROLS → IfSome made (BeginsToWait (line_of part.cache line).state)
-    → IfSome (asked_by part (elim (elim made as (λ _. Result Asked AskFault) [ None ↦ Err NotNow | Some a ↦ if lacks then Err NoSlot else Ok a ]) as (λ _. Result (CacheOf × Letter) AskFault) [
-      | Err fault ↦ Err fault
-      | Ok a ↦ Ok (with_line part.cache line (line_asked (line_of part.cache line) a), letter_asking part.cache line a)
-    ])) (AsksOnce nodes line part)
+    → IfSome (asked_by part (cache_asked part.cache line (ask_or_fault made lacks))) (AsksOnce nodes line part)
 made_once nodes line part lacks None below all small begins = tt
 made_once nodes line part true (Some asked) below all small begins = tt
 made_once nodes line part false (Some asked) below all small begins = asked_once nodes line part asked below all small begins
@@ -130,7 +124,7 @@ home_serves nodes part line None = tt
 home_serves nodes part line (Some served) = record { lines = keeps_all nodes part.cache }
 
 cache_serves : (nodes : ℕ) (part : NodeOf) (line : ℕ) (served : Option (CacheState × Body)) → IfSome served (λ (s : CacheState × Body). KeepsWait (line_of part.cache line).state s.0)
-    → IfSome (served_in_cache part (elim served as (λ _. Option (CacheOf × Body)) [ None ↦ None | Some s ↦ Some (with_line part.cache line (line_in (line_of part.cache line) s.0), s.1) ])) (ServesLines nodes part)
+    → IfSome (served_in_cache part (option_map (λ s. (with_line part.cache line (line_in (line_of part.cache line) s.0), s.1)) served)) (ServesLines nodes part)
 cache_serves nodes part line None wait = tt
 cache_serves nodes part line (Some served) wait = record { lines = keeps_line nodes part.cache line served.0 wait }
 

@@ -41,6 +41,27 @@ impl Lane {
         }
     }
 
+    /// A copy of the lane. Refused if memory is.
+    pub fn try_clone(&self, alloc: Global) -> Result<Lane, AllocError>
+        ensures { IfOk result (λ lane. lane ≡ self.now) }
+    {
+        let mut lane = Lane::new(alloc);
+        let (older, newer) = self.slices();
+        lane.send_all(older)?;
+        lane.send_all(newer)?;
+        Ok(lane)
+    }
+
+    /// Sends packets, one after another.
+    fn send_all(&mut self, packets: &[Packet]) -> Result<(), AllocError>
+        ensures { OnOk result (self.new ≡ self.old ++ map letter_of packets.now) }
+    {
+        for packet in packets {
+            self.send(packet)?;
+        }
+        Ok(())
+    }
+
     /// Sends a packet: it ends the lane. Unchanged where memory is refused.
     pub fn send(&mut self, packet: &Packet) -> Result<(), AllocError>
         ensures ok { OnOk result (self.new ≡ self.old ++ letter_of packet.now ∷ []) }

@@ -105,6 +105,15 @@ impl Machine {
         }
     }
 
+    /// A copy of the machine, whose logs have room for as many operations. Refused if memory is.
+    pub fn try_clone(&self, alloc: Global) -> Result<Machine, AllocError>
+        ensures { IfOk result (λ machine. machine ≡ self.now) }
+    {
+        Ok(Machine {
+            state: self.state.try_clone(alloc)?,
+        })
+    }
+
     /// The size of the machine.
     pub fn extent(&self) -> Extent
         ensures nodes { result.nodes ≡ self.now.size.nodes }

@@ -101,6 +101,32 @@ impl Node {
         })
     }
 
+    /// A copy of the node, whose log has room for as many operations. Refused if memory is.
+    pub fn try_clone(&self, alloc: Global) -> Result<Node, AllocError>
+        ensures { IfOk result (λ node. node ≡ self.now) }
+    {
+        let mut homes = Vec::with_capacity(alloc, self.homes.len())?;
+        for home in &self.homes {
+            homes.push(home.copy())?;
+        }
+        let mut pending = Vec::with_capacity(alloc, self.pending.len())?;
+        pending.extend_from_slice(&self.pending)?;
+        let mut log = Vec::with_capacity(alloc, self.limit as usize)?;
+        log.extend_from_slice(&self.log)?;
+        let cache = self.cache.try_clone(alloc)?;
+        Ok(Node {
+            me: self.me,
+            extent: self.extent,
+            limit: self.limit,
+            cache,
+            homes,
+            pending,
+            issued: self.issued,
+            log,
+            waiting: self.waiting,
+        })
+    }
+
     /// Takes the answer that waits, to be sent to its target. None, unchanged, where none waits.
     pub fn take_answer(&mut self) -> Option<Packet>
         ensures taken { IfSome result (λ answer. node_replying self.old ≡ Some (self.new, letter_of answer)) }

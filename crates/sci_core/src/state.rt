@@ -87,6 +87,26 @@ impl State {
         }
     }
 
+    /// A copy of all nodes and lanes. Refused if memory is.
+    pub(crate) fn try_clone(&self, alloc: Global) -> Result<State, AllocError>
+        ensures { IfOk result (λ state. state ≡ self.now) }
+    {
+        let mut nodes = Vec::with_capacity(alloc, self.nodes.len())?;
+        for node in &self.nodes {
+            nodes.push(node.try_clone(alloc)?)?;
+        }
+        let mut lanes = Vec::with_capacity(alloc, self.lanes.len())?;
+        for lane in &self.lanes {
+            lanes.push(lane.try_clone(alloc)?)?;
+        }
+        Ok(State {
+            extent: self.extent,
+            limit: self.limit,
+            nodes,
+            lanes,
+        })
+    }
+
     /// How many nodes, lines and version slots there are.
     pub(crate) fn extent(&self) -> Extent
         ensures nodes { result.nodes ≡ self.now.size.nodes }

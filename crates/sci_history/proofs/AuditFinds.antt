@@ -1,6 +1,6 @@
 -- What a loop over a line's entries has found so far.
 use Rattle.std.proofs.Common.{◌≡◌, ℕ, ◌+◌, ◌<◌, ◌≤◌, Bool, true, false, cond, List, [], ◌∷◌, ◌++◌, length, get_or, take, drop, Some, None, refl, sym, ap, ◌∙◌, subst, add-one, ◌-◌, set, arith, inl, inr}
-use Rattle.std.proofs.lemmas.List.{take_more, drop_all, length-map, get_or-map, get_or_default, get_or-set_same, get_or-set_other}
+use Rattle.std.proofs.lemmas.List.{take_more, length-map, get_or-map, get_or_default, get_or-set_same, get_or-set_other}
 use Rattle.std.proofs.Math.Seq.{drop-cons}
 use denote.Ref.{Bor}
 use Rattle.std.specs.Prelude.{All, IsTrue}
@@ -36,9 +36,6 @@ entry_at refs n = (get_or refs n no_ref).now
 pub record FailsLater (fails : List Entry → Entry → Bool) (refs : List (Bor Entry)) (n : ℕ) : Type 0 where
   pub is : first_failing fails [] (entries_of refs) ≡ first_failing fails (take n (entries_of refs)) (drop n (entries_of refs))
 
-pub later_none : (fails : List Entry → Entry → Bool) (refs : List (Bor Entry)) → FailsLater fails refs 0
-later_none fails refs = record { is = refl }
-
 next_or : (fails : List Entry → Entry → Bool) (entries : List Entry) (n : ℕ) (d : Entry) → n < length entries →
     first_failing fails (take n entries) (drop n entries) ≡ cond (fails (take n entries) (get_or entries n d)) (Some (get_or entries n d)) (first_failing fails (take (n + 1) entries) (drop (n + 1) entries))
 next_or fails entries n d lt = ap (first_failing fails (take n entries)) (drop-cons entries n d lt) ∙ rw (take_more entries n d lt, add-one) refl
@@ -62,11 +59,6 @@ later_more fails refs n lt passes h = record { is = h.is ∙ next_of fails refs 
 
 pub later_here : (fails : List Entry → Entry → Bool) (refs : List (Bor Entry)) (n : ℕ) → n < length refs → fails (take n (entries_of refs)) (entry_at refs n) ≡ true → FailsLater fails refs n → Some (entry_at refs n) ≡ first_failing fails [] (entries_of refs)
 later_here fails refs n lt here h = sym (h.is ∙ next_of fails refs n lt ∙ rw here refl)
-
-pub later_end : (fails : List Entry → Entry → Bool) (refs : List (Bor Entry)) (n : ℕ) → length refs ≤ n → FailsLater fails refs n → None ≡ first_failing fails [] (entries_of refs)
-later_end fails refs n le h =
-    let past : length (entries_of refs) ≤ n = rw length-map le in
-    sym (h.is ∙ rw (drop_all n (entries_of refs) past) refl)
 
 pub all_at : (P : Entry → Type 0) (refs : List (Bor Entry)) (n : ℕ) → n < length refs → All P (entries_of refs) → P (entry_at refs n)
 all_at P refs n lt h =

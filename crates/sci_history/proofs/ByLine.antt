@@ -1,14 +1,13 @@
 -- Entries that are put into the lists of their lines.
-use Rattle.std.proofs.Common.{◌≡◌, ℕ, ◌+◌, ◌<◌, ◌≤◌, List, [], ◌∷◌, ◌++◌, length, get_or, set, take, refl, sym, ap, ◌∙◌, append_assoc, inl, inr}
+use Rattle.std.proofs.Common.{◌≡◌, ℕ, ◌+◌, ◌<◌, List, [], ◌∷◌, ◌++◌, length, get_or, set, take, sym, ap, ◌∙◌, append_assoc, inl, inr}
 use Rattle.std.specs.List.{filter, flat_map}
 use Rattle.std.specs.Global.{Vec}
 use Rattle.std.proofs.lemmas.Bool.{cases_eq, eq-eqb, ne_eqb}
-use Rattle.std.proofs.lemmas.List.{append-nil, length-map, map-append, map-set, get_or-map, get_or-set_same, get_or-set_other, take_more, take_all}
-use Rattle.std.proofs.lemmas.List.Concat.{flat_map-append}
+use Rattle.std.proofs.lemmas.List.{append-nil, length-map, map-append, map-set, get_or-map, get_or-set_same, get_or-set_other, take_more}
 use Rattle.std.proofs.lemmas.List.Elements.{filter-append}
 use denote.Ref.{Bor}
 use Rattle.sci_history.specs.declared.entry.Entry.{Entry}
-use Rattle.sci_history.specs.Placed.{log_of, is_on_line, on_line}
+use Rattle.sci_history.specs.Placed.{is_on_line}
 use Rattle.sci_history.specs.Audit.{entries_of, lists_of}
 use Rattle.sci_history.proofs.Order.{filter_yes, filter_no}
 use Rattle.sci_history.proofs.AuditFinds.{no_entry}
@@ -50,15 +49,6 @@ list_more lists log base i line old new ref lt at below was pushed h =
 -- the entries on a line of the first logs
 abbrev pub front_on_line : ℕ → ℕ → List (List Entry) → List Entry
 front_on_line line nodes logs = filter (is_on_line line) (flat_map same_log (take nodes logs))
-
-pub front_on_line-more : (line node : ℕ) (logs : List (List Entry)) → node < length logs → front_on_line line (node + 1) logs ≡ front_on_line line node logs ++ filter (is_on_line line) (log_of logs node)
-front_on_line-more line node logs lt =
-    let joined : flat_map same_log (take (node + 1) logs) ≡ flat_map same_log (take node logs) ++ log_of logs node =
-    rw (take_more logs node [] lt, flat_map-append same_log (take node logs) (log_of logs node ∷ []), append-nil (log_of logs node)) refl in
-    ap (filter (is_on_line line)) joined ∙ filter-append (is_on_line line) (flat_map same_log (take node logs)) (log_of logs node)
-
-pub front_on_line-all : (line nodes : ℕ) (logs : List (List Entry)) → length logs ≤ nodes → front_on_line line nodes logs ≡ on_line line logs
-front_on_line-all line nodes logs le = ap (λ (ls : List (List Entry)). filter (is_on_line line) (flat_map same_log ls)) (take_all nodes logs le)
 
 pub list_at : (lists : List (Vec (Bor Entry))) (line : ℕ) (list : Vec (Bor Entry)) (refs : List (Bor Entry)) → line < length lists → list ≡ get_or lists line list → refs ≡ list.items → entries_of refs ≡ get_or (lists_of lists) line []
 list_at lists line list refs lt at is =

@@ -87,6 +87,13 @@ impl Home {
         self.state
     }
 
+    /// A home in the same state.
+    pub fn copy(&self) -> Home
+        ensures { result ≡ self.now }
+    {
+        Home { state: self.state }
+    }
+
     /// The contents of the line where the home has them (HOME or FRESH), and else None.
     pub fn current(&self) -> Option<Stamped>
         ensures { result ≡ current_of self.now }

@@ -14,7 +14,7 @@ use sci_words::{Line, Stamped, WORDS_PER_LINE, Word};
 pub const LONG: usize = 88;
 
 /// The words of a line.
-pub fn words_of(line: &Line) -> [Word; WORDS_PER_LINE]
+pub fn words_in(line: &Line) -> [Word; WORDS_PER_LINE]
     ensures same { result ≡ line.now }
     ensures width { length line.now ≡ WORDS_PER_LINE }
     ensures fits { (i : ℕ) → slice_index line.now i < 2 ^ 64 }
@@ -62,5 +62,5 @@ pub fn write_contents(stamped: &Stamped, to: &mut [u8; LONG])
 {
     let version = stamped.version;
     BigEndian::write_u64(&mut to[16..], version);
-    BigEndian::write_u64_into(&words_of(&stamped.line), &mut to[24..]);
+    BigEndian::write_u64_into(&words_in(&stamped.line), &mut to[24..]);
 }

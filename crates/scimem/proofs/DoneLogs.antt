@@ -1,11 +1,8 @@
 -- Logs and last contents of entries that took effect line by line can be written as a text.
 use Rattle.std.proofs.Common.{◌≡◌, ℕ, zero, suc, ◌+◌, ◌^◌, ◌<◌, ◌≤◌, Bool, true, false, if◌then◌else◌, List, [], ◌∷◌, All, length, map, filter, get_or, replicate, length-set, refl, sym, ap, subst, ◌∙◌, arith, inl, inr}
-use Rattle.std.specs.Prelude.{◌==◌, bit_and}
-use Rattle.std.specs.Int.{bit_not, w64}
+use Rattle.std.specs.Prelude.{◌&&◌, IsTrue}
 use Rattle.std.specs.List.{AllByRecursion, range_with_len}
-use Rattle.std.proofs.Math.Nat.{mod-lt}
-use Rattle.std.proofs.lemmas.Nat.{or_lt, and_le_l}
-use Rattle.std.proofs.lemmas.Bool.{cases_Bool, cases_eq, cases_lt, eq-eqb, ne_eqb, eqb-true}
+use Rattle.std.proofs.lemmas.Bool.{cases_Bool, cases_lt, and_from, and_parts, lt-ltb, ltb-true, eqb-true}
 use Rattle.std.proofs.lemmas.List.{get_or_past}
 use Rattle.std.proofs.lemmas.List.Elements.{All-set, All-from_recursion}
 use Rattle.std.proofs.lemmas.List.FromFn.{get_or-map-range_with_len, length-map-range_with_len}
@@ -16,77 +13,71 @@ use Rattle.sci_words.specs.declared.operation.LockOp.{LockOp}
 use Rattle.sci_words.specs.declared.operation.LockOp.TheVariants.{MaskSwap, CompareSwap, FetchAdd, BoundedAdd, WrapAdd}
 use Rattle.sci_words.specs.declared.operation.Op.{Op}
 use Rattle.sci_words.specs.declared.operation.Reply.{Reply}
+use Rattle.sci_words.specs.declared.operation.Reply.TheVariants.{Stored, Got}
 use Rattle.sci_words.specs.declared.stamped.Stamped.{Stamped}
-use Rattle.sci_words.specs.Operation.{word_sum, locked_word, effect_of_act, is_maker}
+use Rattle.sci_words.specs.Operation.{effect_of_act, is_maker, is_word, are_words, has_words}
 use Rattle.sci_words.specs.Stamped.{after, line_after, zero_line, zero_stamped}
 use Rattle.sci_history.specs.declared.entry.Entry.{Entry}
 use Rattle.sci_history.specs.History.{IsHistory}
 use Rattle.sci_history.specs.Placed.{log_of, is_of_node, is_on_line}
 use Rattle.sci_history.proofs.Histories.{versions-within}
 use Rattle.sci_history.proofs.Order.{filter_yes, filter_no, all_weaker, all_both, all-filter, all-passes}
+use Rattle.sci_core.specs.InRange.{IsLine, IsReply}
+use Rattle.sci_core.proofs.Ranges.{HasWords, history_fits, zero_is_line, from_lines, all_mapped}
 use Rattle.sci_text.specs.Operation.{LockFits, ActFits}
 use Rattle.sci_text.specs.Script.{IsWithin}
 use Rattle.sci_text.specs.LogValue.{IsSize, format_2, StampedFits, Answers, ReplyFits, EntryFits, AreLogs}
 
--- ---- what an operation gives
+-- ---- operands and replies
 
-sum_fits : (a b : ℕ) → word_sum a b < 2 ^ 64
-sum_fits a b = mod-lt (a + b) (omega arith)
+both_words : (a b : ℕ) → (a < 2 ^ 64) × (b < 2 ^ 64) → IsTrue (is_word a && is_word b)
+both_words a b h = and_from (is_word a) (is_word b) (lt-ltb a (2 ^ 64) h.0) (lt-ltb b (2 ^ 64) h.1)
 
-if_fits : (b : Bool) (x y : ℕ) → x < 2 ^ 64 → y < 2 ^ 64 → (if b then x else y) < 2 ^ 64
-if_fits true x y h k = h
-if_fits false x y h k = k
+both_fit : (a b : ℕ) → IsTrue (is_word a && is_word b) → (a < 2 ^ 64) × (b < 2 ^ 64)
+both_fit a b are = let parts = and_parts (is_word a) (is_word b) are in (ltb-true a (2 ^ 64) parts.0, ltb-true b (2 ^ 64) parts.1)
 
-lock_fits : (lock : LockOp) (old : ℕ) → LockFits lock → old < 2 ^ 64 → locked_word lock old < 2 ^ 64
-lock_fits (MaskSwap arg datum) old fits lt =
-    let first = and_le_l datum arg in
-    let second = and_le_l old (bit_not w64 arg) in
-    let small = fits.1 in
-    or_lt 64 (bit_and datum arg) (bit_and old (bit_not w64 arg)) (omega arith) (omega arith)
-lock_fits (CompareSwap arg datum) old fits lt = if_fits (old == arg) datum old fits.1 lt
-lock_fits (FetchAdd datum) old fits lt = sum_fits old datum
-lock_fits (BoundedAdd arg datum) old fits lt = if_fits (old == arg) old (word_sum old datum) lt (sum_fits old datum)
-lock_fits (WrapAdd arg datum) old fits lt = if_fits (old == arg) datum (word_sum old datum) fits.1 (sum_fits old datum)
+lock_words : (lock : LockOp) → LockFits lock → IsTrue (are_words lock)
+lock_words (MaskSwap arg datum) fits = both_words arg datum fits
+lock_words (CompareSwap arg datum) fits = both_words arg datum fits
+lock_words (FetchAdd datum) fits = lt-ltb datum (2 ^ 64) fits
+lock_words (BoundedAdd arg datum) fits = both_words arg datum fits
+lock_words (WrapAdd arg datum) fits = both_words arg datum fits
 
-record Gives (act : Act) (given : ℕ × Reply) : Type 0 where
-  pub word : given.0 < 2 ^ 64
-  pub answers : Answers act given.1
-  pub reply : ReplyFits given.1
+lock_fits : (lock : LockOp) → IsTrue (are_words lock) → LockFits lock
+lock_fits (MaskSwap arg datum) are = both_fit arg datum are
+lock_fits (CompareSwap arg datum) are = both_fit arg datum are
+lock_fits (FetchAdd datum) are = ltb-true datum (2 ^ 64) are
+lock_fits (BoundedAdd arg datum) are = both_fit arg datum are
+lock_fits (WrapAdd arg datum) are = both_fit arg datum are
 
-act_gives : (act : Act) (old : ℕ) → ActFits act → old < 2 ^ 64 → Gives act (effect_of_act act old)
-act_gives Load old fits lt = record { word = lt; answers = tt; reply = lt }
-act_gives (Store word) old fits lt = record { word = fits; answers = tt; reply = tt }
-act_gives (Lock lock) old fits lt = record { word = lock_fits lock old fits lt; answers = tt; reply = lt }
+-- operands fit that are words, and no others
+operands_words : (act : Act) → ActFits act → IsTrue (has_words act)
+operands_words Load fits = refl
+operands_words (Store word) fits = lt-ltb word (2 ^ 64) fits
+operands_words (Lock lock) fits = lock_words lock fits
 
--- ---- along a history
+pub operands_fit : (act : Act) → IsTrue (has_words act) → ActFits act
+operands_fit Load are = tt
+operands_fit (Store word) are = ltb-true word (2 ^ 64) are
+operands_fit (Lock lock) are = lock_fits lock are
 
--- eight words of 64 bits
-record IsLine (words : List ℕ) : Type 0 where
-  pub eight : length words ≡ WORDS_PER_LINE
-  pub words_fit : All (λ word. word < 2 ^ 64) words
+reply_fits : (reply : Reply) → IsReply reply → ReplyFits reply
+reply_fits Stored is = tt
+reply_fits (Got word) is = is
 
-abbrev OpFits : Entry → Type 0
-OpFits entry = (entry.op.word < WORDS_PER_LINE) × ActFits entry.op.act
+-- a store is answered as stored, and all else with a word
+answers_it : (act : Act) (old : ℕ) → Answers act (effect_of_act act old).1
+answers_it Load old = tt
+answers_it (Store word) old = tt
+answers_it (Lock lock) old = tt
+
+history_answers : (entries : List Entry) (c d : Stamped) → IsHistory entries c d → AllByRecursion (λ entry. Answers entry.op.act entry.reply) entries
+history_answers [] c d history = tt
+history_answers (entry ∷ entries) c d history =
+    (subst (Answers entry.op.act) (sym history.0) (answers_it entry.op.act (get_or c.line entry.op.word 0)), history_answers entries (after c entry.op) d history.2)
 
 abbrev ReplyIsRight : Entry → Type 0
 ReplyIsRight entry = Answers entry.op.act entry.reply × ReplyFits entry.reply
-
-op_gives : (words : List ℕ) (op : Op) → IsLine words → op.word < WORDS_PER_LINE → ActFits op.act → Gives op.act (effect_of_act op.act (get_or words op.word 0))
-op_gives words op line lt fits = let long = line.eight in act_gives op.act (get_or words op.word 0) fits (line.words_fit op.word 0 (omega arith))
-
-line_fits : (words : List ℕ) (op : Op) → IsLine words → op.word < WORDS_PER_LINE → ActFits op.act → IsLine (line_after words op)
-line_fits words op line lt fits = record {
-  eight = length-set words op.word (effect_of_act op.act (get_or words op.word 0)).0 ∙ line.eight;
-  words_fit = All-set (λ word. word < 2 ^ 64) words op.word (effect_of_act op.act (get_or words op.word 0)).0 (op_gives words op line lt fits).word line.words_fit;
-}
-
-history_fits : (entries : List Entry) (c d : Stamped) → IsHistory entries c d → IsLine c.line → AllByRecursion OpFits entries → IsLine d.line × AllByRecursion ReplyIsRight entries
-history_fits [] c d history line all = (subst (λ (s : Stamped). IsLine s.line) (sym history) line, tt)
-history_fits (entry ∷ entries) c d history line all =
-    let gives = op_gives c.line entry.op line all.0.0 all.0.1 in
-    let rest = history_fits entries (after c entry.op) d history.2 (line_fits c.line entry.op line all.0.0 all.0.1) all.1 in
-    let right : ReplyIsRight entry = subst (λ (reply : Reply). Answers entry.op.act reply × ReplyFits reply) (sym history.0) (gives.answers, gives.reply) in
-    (rest.0, (right, rest.1))
 
 -- a history makes no more versions than it has entries
 version_if : (makes : Bool) (v : ℕ) → (if makes then v + 1 else v) ≤ v + 1
@@ -102,23 +93,6 @@ history_short (entry ∷ entries) c d history =
     let step = version_step c entry.op in
     let rest = history_short entries (after c entry.op) d history.2 in
     omega arith
-
--- ---- from each line to all
-
-head_of_line : (P : Entry → Type 0) (line : ℕ) (entry : Entry) (entries : List Entry) → entry.op.line ≡ line → AllByRecursion P (filter (is_on_line line) (entry ∷ entries)) → P entry × AllByRecursion P (filter (is_on_line line) entries)
-head_of_line P line entry entries here all = subst (AllByRecursion P) (filter_yes (is_on_line line) entry entries (eq-eqb entry.op.line line here)) all
-
-rest_of_line : (P : Entry → Type 0) (line : ℕ) (entry : Entry) (entries : List Entry) → AllByRecursion P (filter (is_on_line line) (entry ∷ entries)) → AllByRecursion P (filter (is_on_line line) entries)
-rest_of_line P line entry entries all =
-    elim (cases_eq entry.op.line line) [
-      | inl here ↦ (head_of_line P line entry entries here all).1
-      | inr other ↦ subst (AllByRecursion P) (filter_no (is_on_line line) entry entries (ne_eqb entry.op.line line other)) all
-    ]
-
-from_lines : (P : Entry → Type 0) (lines : ℕ) (entries : List Entry) → AllByRecursion (λ entry. entry.op.line < lines) entries → ((line : ℕ) → line < lines → AllByRecursion P (filter (is_on_line line) entries)) → AllByRecursion P entries
-from_lines P lines [] within each = tt
-from_lines P lines (entry ∷ entries) within each =
-    ((head_of_line P entry.op.line entry entries refl (each entry.op.line within.0)).0, from_lines P lines entries within.1 (λ line lt. rest_of_line P line entry entries (each line lt)))
 
 -- ---- entries of a machine
 
@@ -139,13 +113,6 @@ filter_short p (entry ∷ entries) =
       | inr no_ ↦ subst (λ (es : List Entry). length es ≤ length (entry ∷ entries)) (sym (filter_no p entry entries no_)) (omega arith)
     ]
 
-zeros_fit : (count : ℕ) → AllByRecursion (λ (word : ℕ). word < 2 ^ 64) (replicate count 0)
-zeros_fit zero = tt
-zeros_fit (suc count) = (omega arith, zeros_fit count)
-
-zero_is_line : IsLine zero_line
-zero_is_line = record { eight = refl; words_fit = All-from_recursion (λ (word : ℕ). word < 2 ^ 64) zero_line (zeros_fit 8) }
-
 -- what is right in an entry beside its operation and its serial
 abbrev IsRight : Entry → Type 0
 IsRight entry = ReplyIsRight entry × (entry.version < 2 ^ 64)
@@ -160,14 +127,17 @@ line_right nodes lines entries last_at line h inside =
     let on = filter (is_on_line line) entries in
     let last = last_at line in
     let history = h.histories line inside in
-    let ops = all_weaker (λ (entry : Entry). IsWithin nodes lines entry.node entry.op) OpFits (λ entry w. (w.known_word, w.words)) entries h.within in
-    let right = history_fits on zero_stamped last history zero_is_line (all-filter OpFits (is_on_line line) entries ops) in
+    let words = all_weaker (λ (entry : Entry). IsWithin nodes lines entry.node entry.op) HasWords (λ entry w. (w.known_word, operands_words entry.op.act w.words)) entries h.within in
+    let fits = history_fits on zero_stamped last history zero_is_line (all-filter HasWords (is_on_line line) entries words) in
+    let Given = λ (entry : Entry). Answers entry.op.act entry.reply in
+    let Fits = λ (entry : Entry). IsReply entry.reply in
+    let right = all_weaker (λ entry. Given entry × Fits entry) ReplyIsRight (λ entry r. (r.0, reply_fits entry.reply r.1)) on (all_both Given Fits on (history_answers on zero_stamped last history) fits.1) in
     let end = history_short on zero_stamped last history in
     let part = filter_short (is_on_line line) entries in
     let few = h.few in
     let small : last.version < 2 ^ 64 = omega arith in
     let versions = all_weaker (λ (entry : Entry). entry.version ≤ last.version) (λ entry. entry.version < 2 ^ 64) (λ entry le. omega arith) on (versions-within on zero_stamped last history) in
-    record { last_line = right.0; last_version = small; right = all_both ReplyIsRight (λ (entry : Entry). entry.version < 2 ^ 64) on right.1 versions }
+    record { last_line = fits.0; last_version = small; right = all_both ReplyIsRight (λ (entry : Entry). entry.version < 2 ^ 64) on right versions }
 
 all_right : (nodes lines : ℕ) (entries : List Entry) (last_at : ℕ → Stamped) → AreDone nodes lines entries last_at → AllByRecursion IsRight entries
 all_right nodes lines entries last_at h =
@@ -215,12 +185,6 @@ each_log P entries logs node long logged none some =
 
 abbrev LastFits : Stamped → Type 0
 LastFits stamped = (length stamped.line ≡ WORDS_PER_LINE) × StampedFits stamped
-
-all_mapped : (P : Stamped → Type 0) (f : ℕ → Stamped) (count : ℕ) → ((i : ℕ) → i < count → P (f i)) → All P (map f (range_with_len 0 count))
-all_mapped P f count h i d lt =
-    let long = length-map-range_with_len f 0 count in
-    let below : i < count = omega arith in
-    subst P (sym (get_or-map-range_with_len f 0 count i i d below (omega arith))) (h i below)
 
 -- entries that took effect line by line, with the last contents, can be written as a text
 pub are_logs : (nodes lines : ℕ) (entries : List Entry) (last_at : ℕ → Stamped) (logs : List (List Entry)) (last : List Stamped) → IsSize nodes lines → AreDone nodes lines entries last_at → AreLogged lines entries last_at logs last → AreLogs nodes logs last

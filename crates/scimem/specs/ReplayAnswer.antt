@@ -2,6 +2,7 @@
 use Rattle.std.specs.Prelude.{◌≡◌, ℕ, Bool, List, Option}
 use Rattle.sci_words.specs.declared.limits.TheConstants.{MAX_OPERATIONS}
 use Rattle.sci_history.specs.Lawful.{Lawful}
+use Rattle.sci_core.specs.Size.{Size}
 use Rattle.sci_core.specs.Core.{Core, run}
 use Rattle.sci_core.specs.Outcome.{logs_of}
 use Rattle.sci_core.specs.Sharing.{last_of}
@@ -14,9 +15,13 @@ use Rattle.scimem.specs.Refusal.{IsRefusalBy}
 use Rattle.scimem.specs.declared.outcome.Outcome.{Outcome}
 use Rattle.scimem.specs.declared.outcome.Outcome.TheVariants.{Done, Unlawful, Refused}
 
--- where a schedule leads a machine of its size, whose nodes may each issue 65,536 operations
+-- a machine of the schedule's size, whose nodes may each issue 65,536 operations
+abbrev pub replay_size : ScheduleValue → Size
+replay_size s = record { nodes = s.nodes; lines = s.lines; slots = s.slots; limit = MAX_OPERATIONS }
+
+-- where the schedule leads it
 abbrev pub replayed : ScheduleValue → Core
-replayed s = run s.nodes s.lines s.slots MAX_OPERATIONS s.events
+replayed s = run (replay_size s) s.events
 
 -- the text of the logs and the last contents there
 abbrev pub replay_text : ScheduleValue → List ℕ

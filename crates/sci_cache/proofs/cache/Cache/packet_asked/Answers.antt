@@ -7,15 +7,12 @@ use Rattle.sci_cache.specs.declared.fault.AskFault.{AskFault}
 use Rattle.sci_cache.specs.Asking.{Asked}
 use Rattle.sci_cache.specs.Line.{LineState}
 use Rattle.sci_cache.specs.Line.{line_asking, line_asked, untouched}
-use Rattle.sci_cache.specs.Cache.{CacheOf, Letter, line_of, has_slot, with_line, letter_asking, target_of, cache_asking}
+use Rattle.sci_cache.specs.Cache.{CacheOf, Letter, line_of, has_slot, with_line, letter_asking, target_of, cache_asked, cache_asking}
 use Rattle.sci_cache.proofs.cache.Cache.packet_asked.Goals as goal
 
 asks_by : (cache : CacheOf) (line : ℕ) (made : Result Asked AskFault) (asked : Asked) → made ≡ Ok asked
     → (letter : Letter) → letter ≡ letter_asking cache line asked
-    → (next : CacheOf) × ((elim made as (λ _. Result (CacheOf × Letter) AskFault) [
-      | Err fault ↦ Err fault
-      | Ok a ↦ Ok (with_line cache line (line_asked (line_of cache line) a), letter_asking cache line a)
-    ]) ≡ Ok (next, letter))
+    → (next : CacheOf) × (cache_asked cache line made ≡ Ok (next, letter))
 asks_by cache line (Err fault) asked e letter is = cc
 asks_by cache line (Ok a) asked e letter is =
     let same : a ≡ asked = cc in

@@ -1,13 +1,11 @@
 -- What a state would ask, with a slot where it needs one, is what the line would ask.
-use Rattle.std.proofs.Common.{◌≡◌, ℕ, ◌&&◌, not, Bool, true, false, ◌⊎◌, inl, inr, if◌then◌else◌, Some, None, Ok, Err, Option, Result, option_map, refl, sym, ap, subst, ◌∙◌}
+use Rattle.std.proofs.Common.{◌≡◌, ℕ, ◌&&◌, not, Bool, true, false, ◌⊎◌, inl, inr, Some, None, Ok, Option, option_map, refl, sym, ap, subst, ◌∙◌}
 use Rattle.sci_words.specs.declared.event.AskKind.{AskKind}
 use Rattle.sci_packets.specs.declared.body.Body.{Body}
-use Rattle.sci_cache.specs.declared.fault.AskFault.{AskFault}
-use Rattle.sci_cache.specs.declared.fault.AskFault.TheVariants.{NoSlot, NotNow}
 use Rattle.sci_cache.specs.State.{CacheState, is_out}
 use Rattle.sci_cache.specs.Asking.{Asked, asking}
 use Rattle.sci_cache.specs.Held.{state_of}
-use Rattle.sci_cache.specs.Line.{LineState, line_asking}
+use Rattle.sci_cache.specs.Line.{LineState, ask_or_fault, line_asking}
 use Rattle.sci_cache.proofs.line.CachedLine.asked.Goals as goal
 
 asked_from : (asked : Option Asked) (to : Option ℕ) (request : Body)
@@ -21,7 +19,7 @@ asked_from (Some asked) to request e =
     (asked.next, rw (p, q) refl)
 
 with_slot : (out free : Bool) (made : Option Asked) (asked : Asked) → made ≡ Some asked → (out && not free) ≡ false
-    → (elim made as (λ _. Result Asked AskFault) [ None ↦ Err NotNow | Some a ↦ if out && not free then Err NoSlot else Ok a ]) ≡ Ok asked
+    → ask_or_fault made (out && not free) ≡ Ok asked
 with_slot out free None asked e f = cc
 with_slot out free (Some a) asked e f = rw f (cc)
 
@@ -45,5 +43,5 @@ returns-clause-made c =
     let now = c.args.self.now in
     let state = state_of c.self.inside.held in
     made_for now state c.args.kind c.args.free _ c.in-Some.to c.in-Some.request
-    (ap (λ (l : LineState). l.state) c.self.view_is) (sym c.in-Some.is ∙ c.asked.ensures) refl
+    (ap (λ (l : LineState). l.state) c.self.view_is) (sym c.in-Some.is ∙ c.asked.ensures.request) refl
     (has_slot (is_out now.state) c.args.free (c.is_out.ensures ∙ ap (λ (l : LineState). is_out l.state) c.self.view_is) c.else-is_out.either)

@@ -1,6 +1,6 @@
 use Rattle.std.proofs.Common.{◌≡◌, ◌<◌, ◌^◌, ℕ, length, get_or}
 use Rattle.sci_words.specs.declared.limits.TheConstants.{WORDS_PER_LINE}
-use Rattle.sci_packets.proofs.contents.words_of.Given as goal
+use Rattle.sci_packets.proofs.contents.words_in.Given as goal
 
 abbrev pub invariant-loop-i : goal.invariant-loop-i
 invariant-loop-i l = record {
