@@ -11,7 +11,7 @@ use Rattle.sci_text.specs.declared.script.PushFault.{PushFault}
 use Rattle.sci_text.specs.declared.script.PushFault.TheVariants as push
 use Rattle.sci_text.specs.Script.{kind_of, machine_line}
 use Rattle.sci_text.specs.Schedule.{ScheduleValue, IsSchedule, IsEventWithin, EventRefusal, with_event, event_line, event_lines, schedule_text, AddsEvent}
-use Rattle.sci_text.specs.Fault.{Says}
+use Rattle.sci_text.specs.FirstFault.{Says}
 use Rattle.sci_text.specs.ScheduleFault.{EventFault}
 use Rattle.sci_text.specs.EventReading.{event_line_read}
 use Rattle.sci_text.proofs.Events.{EventFits, event_line_again, event_line_found}

@@ -7,8 +7,9 @@ ghost use Rattle.std.specs.Io.KnownBytes.{IsAtEnd};
 ghost use Rattle.sci_words.specs.declared.limits.TheConstants.{MAX_INPUT_BYTES};
 ghost use Rattle.sci_text.specs.Tap.{tapped, has_failed, is_called_again};
 ghost use Rattle.sci_text.specs.Script.{ScriptValue, IsScript, script_text};
-ghost use Rattle.sci_text.specs.LogValue.{AreLogs, IsLogs, IsLogsReadAs, IsLogTold};
-ghost use Rattle.sci_text.specs.Fault.{IsInputFault, IsTold, IsReadAs};
+ghost use Rattle.sci_text.specs.LogValue.{AreLogs, IsLogFault, IsLogs};
+ghost use Rattle.sci_text.specs.FirstFault.{IsInputFault, IsTold, IsReadAs};
+ghost use Rattle.sci_text.specs.ScriptFault.{IsScriptFault};
 
 use crate::fault::{TextFault, TextFaultKind};
 use crate::laws::{no_log_fault, one_log};
@@ -71,7 +72,7 @@ pub fn read_script<R: Read>(alloc: Global, reader: &mut Tap<R>) -> Result<Script
         → R.remaining (tapped reader.old) ≡ Some (script_text script) → IsReadAs script result }
 
     // Else the first fault is told.
-    ensures fault { IfErr result (λ fault. IsTold fault.kind (R.remaining (tapped reader.old)) (has_failed reader.new) fault.line) }
+    ensures fault { IfErr result (λ fault. IsTold IsScriptFault fault.kind (R.remaining (tapped reader.old)) (has_failed reader.new) fault.line) }
     ensures again { is_called_again reader.new ≡ is_called_again reader.old }
 {
     let input = read_input(alloc, reader)?;
@@ -92,10 +93,10 @@ pub fn read_logs<R: Read>(alloc: Global, reader: &mut Tap<R>) -> Result<(u8, Log
 
     // Where it is a text of logs, those are read.
     ensures only { (input : List ℕ) (nodes : ℕ) (logs : List (List Entry)) (last : List Stamped) → IsLogs input nodes logs last
-        → length input ≤ MAX_INPUT_BYTES → R.remaining (tapped reader.old) ≡ Some input → IsLogsReadAs nodes logs last result }
+        → length input ≤ MAX_INPUT_BYTES → R.remaining (tapped reader.old) ≡ Some input → IsReadAs (nodes, logs, last) result }
 
     // Else the first fault is told.
-    ensures fault { IfErr result (λ fault. IsLogTold fault.kind (R.remaining (tapped reader.old)) (has_failed reader.new) fault.line) }
+    ensures fault { IfErr result (λ fault. IsTold IsLogFault fault.kind (R.remaining (tapped reader.old)) (has_failed reader.new) fault.line) }
     ensures again { is_called_again reader.new ≡ is_called_again reader.old }
 {
     one_log();

@@ -1,5 +1,5 @@
 -- A text is one script's alone, and has no fault.
-use Rattle.std.proofs.Common.{cond, eqb, ◌≡◌, ℕ, zero, suc, ◌+◌, ◌^◌, ◌<◌, ◌≤◌, List, [], ◌∷◌, ◌++◌, length, Option, Some, None, refl, sym, ap, subst, ◌∙◌, append_assoc, arith, inl, inr}
+use Rattle.std.proofs.Common.{cond, eqb, ◌≡◌, ℕ, zero, suc, ◌+◌, ◌^◌, ◌<◌, ◌≤◌, List, [], ◌∷◌, ◌++◌, length, Option, Some, None, Result, Ok, Err, refl, sym, ap, subst, ◌∙◌, append_assoc, arith, inl, inr}
 use Rattle.std.specs.Option.{SomeIff}
 use Rattle.std.specs.List.{flat_map, AllByRecursion}
 use Rattle.std.specs.Int.Digits.{digits_of}
@@ -9,19 +9,22 @@ use Rattle.std.proofs.lemmas.List.Elements.{recursion_from_All}
 use Rattle.std.proofs.lemmas.List.Sums.{sum_by-append}
 use Rattle.std.proofs.lemmas.Bool.{eq-eqb}
 use Rattle.std.proofs.lemmas.Option.{some_pair_parts, same_Some}
+use Rattle.sci_words.specs.declared.limits.TheConstants.{MAX_OPERATIONS}
 use Rattle.sci_words.specs.declared.operation.Op.{Op}
 use Rattle.sci_words.specs.Extent.{AreWithinLimits}
+use Rattle.sci_text.specs.declared.fault.TextFault.{TextFault}
 use Rattle.sci_text.specs.declared.fault.TextFaultKind.{TextFaultKind}
-use Rattle.sci_text.specs.declared.fault.TextFaultKind.TheVariants.{Syntax, Range, TooMany, Read, Write, Memory}
 use Rattle.sci_text.specs.Number.{number, field}
 use Rattle.sci_text.specs.Reading.{fitting, machine_line_read, operation_line_read}
-use Rattle.std.specs.Prelude.{codes}
+use Rattle.std.specs.Prelude.{codes, IfOk, IfErr}
 use Rattle.sci_words.specs.declared.operation.LockOp.TheVariants.{MaskSwap, CompareSwap, FetchAdd, BoundedAdd, WrapAdd}
 use Rattle.sci_words.specs.declared.operation.Act.{Act}
 use Rattle.sci_words.specs.declared.operation.Act.TheVariants.{Load, Store, Lock}
 use Rattle.sci_text.specs.Operation.{act_word, act_operands, ActFits, operation}
 use Rattle.sci_text.specs.Script.{ScriptValue, IsScript, IsWithin, count_of, machine_line, operation_line, script_text, IsShort}
-use Rattle.sci_text.specs.Fault.{MachineFault, OperationFault, IsLineFault}
+use Rattle.sci_text.specs.FirstFault.{Says, IsRefusal, IsReadAs}
+use Rattle.sci_text.specs.ScriptFault.{MachineFault, OperationFault, BeginsScript, IsScriptFault}
+use Rattle.sci_text.proofs.FirstFaults.{SaysOne, one_line_fault, no_line_fault, GoesOnWith, meet_lists, GoesRight, Meets, IsGrammar, one_first_fault, no_first_fault, read_as}
 use Rattle.sci_text.proofs.Numbers.{fitting_below}
 use Rattle.sci_text.proofs.LineFaults.{fitting_some}
 use Rattle.sci_text.proofs.Operations.{OpFits}
@@ -63,25 +66,8 @@ same_operation p node op rest rest' fits e =
     let parts = some_pair_parts one.0 two.0 rest rest' (sym one.1 ∙ ap operation_line_read e ∙ two.1) in
     (both_are one.0 two.0 p (node, op) _ fits one.2 two.2 parts.0, parts.1)
 
-pub record Shares (P : ℕ × Op → Type 0) (all front : List (ℕ × Op)) (rest : List ℕ) : Type 0 where
-  pub more : List (ℕ × Op)
-  pub parts : all ≡ front ++ more
-  pub left : rest ≡ flat_map line_of more
-  pub each : AllByRecursion P more
-
 line_length : (p : ℕ × Op) → 0 < length (line_of p)
 line_length p = line_nonempty p.0 p.1
-
--- Where the lines of operations that fit begin with the lines of others, they begin with those operations.
-shares : (P : ℕ × Op → Type 0) (fits : (p : ℕ × Op) → P p → LineFits p) (all front : List (ℕ × Op)) (rest : List ℕ) → AllByRecursion P all
-    → flat_map line_of all ≡ flat_map line_of front ++ rest → Shares P all front rest
-shares P fits all [] rest each e = record { more = all; parts = refl; left = sym e; each = each }
-shares P fits [] (b ∷ front) rest each e =
-    absurd (omega (arith, ap length e, length-append (line_of b ++ flat_map line_of front) rest, length-append (line_of b) (flat_map line_of front), line_length b))
-shares P fits (a ∷ all) (b ∷ front) rest each e =
-    let one = same_operation a b.0 b.1 (flat_map line_of all) (flat_map line_of front ++ rest) (fits a each.0) (e ∙ append_assoc (line_of b) (flat_map line_of front) rest) in
-    let later = shares P fits all front rest each.1 one.1 in
-    record { more = later.more; parts = ap (λ (x : ℕ × Op). x ∷ all) one.0 ∙ ap (λ (l : List (ℕ × Op)). b ∷ l) later.parts; left = later.left; each = later.each }
 
 pub within_fits : (s : ScriptValue) → IsScript s → (p : ℕ × Op) → IsWithin s.nodes s.lines p.0 p.1 → LineFits p
 within_fits s good p within =
@@ -90,30 +76,8 @@ within_fits s good p within =
 abbrev pub Within : ScriptValue → ℕ × Op → Type 0
 Within s p = IsWithin s.nodes s.lines p.0 p.1
 
--- a script whose text begins with the text of another, of the same machine
-pub record Extends (s b : ScriptValue) (rest : List ℕ) : Type 0 where
-  pub nodes : s.nodes ≡ b.nodes
-  pub lines : s.lines ≡ b.lines
-  pub slots : s.slots ≡ b.slots
-  pub shared : Shares (Within s) s.operations b.operations rest
-
 pub fitting_same : (n m : ℕ) → m < 2 ^ 64 → Some n ≡ fitting m → n ≡ m
 fitting_same n m below e = same_Some n m (e ∙ fitting_below m below)
-
-extends : (s b : ScriptValue) (rest : List ℕ) → IsScript s → IsScript b → script_text s ≡ script_text b ++ rest → Extends s b rest
-extends s b rest good other e =
-    let size = same_size s.nodes s.lines s.slots b.nodes b.lines b.slots (flat_map line_of s.operations) (flat_map line_of b.operations ++ rest) good.size
-    (e ∙ append_assoc (machine_line b.nodes b.lines b.slots) (flat_map line_of b.operations) rest) in
-    record {
-      nodes = fitting_same s.nodes b.nodes (omega (arith, other.size.few_nodes)) size.0;
-      lines = fitting_same s.lines b.lines (omega (arith, other.size.few_lines)) size.1;
-      slots = fitting_same s.slots b.slots (omega (arith, other.size.few_slots)) size.2;
-      shared = shares (Within s) (within_fits s good) s.operations b.operations rest (recursion_from_All (Within s) s.operations good.within) size.3;
-    }
-
-none_left : (more : List (ℕ × Op)) → [] ≡ flat_map line_of more → more ≡ []
-none_left [] e = refl
-none_left (p ∷ more) e = absurd (omega (arith, ap length e, length-append (line_of p) (flat_map line_of more), line_length p))
 
 value_of : ℕ → ℕ → ℕ → List (ℕ × Op) → ScriptValue
 value_of nodes lines slots operations = record { nodes = nodes; lines = lines; slots = slots; operations = operations }
@@ -123,11 +87,6 @@ unfolding value_of
 same_value a b nodes lines slots operations =
     ap (λ (n : ℕ). value_of n a.lines a.slots a.operations) nodes ∙ ap (λ (n : ℕ). value_of b.nodes n a.slots a.operations) lines
     ∙ ap (λ (n : ℕ). value_of b.nodes b.lines n a.operations) slots ∙ ap (λ (l : List (ℕ × Op)). value_of b.nodes b.lines b.slots l) operations
-
-pub one_script : (a b : ScriptValue) → IsScript a → IsScript b → script_text a ≡ script_text b → a ≡ b
-one_script a b good other e =
-    let x = extends a b [] good other (e ∙ sym (append-nil (script_text b))) in
-    same_value a b x.nodes x.lines x.slots (x.shared.parts ∙ ap (λ (l : List (ℕ × Op)). b.operations ++ l) (none_left x.shared.more x.shared.left) ∙ append-nil b.operations)
 
 -- ---- lines of scripts are short
 
@@ -194,21 +153,38 @@ unfolding operation_line
 line_is_short p fits =
     omega (arith, length-append (field p.0) (codes " " ++ (operation p.1 ++ 10 ∷ [])), length-append (operation p.1) (10 ∷ []), field_short p.0 (omega (arith, fits.0)), operation_short p.1 fits.1)
 
--- ---- no fault
+-- ---- the line of the size has one fault
+
+abbrev Size : Type 0
+Size = ℕ × ℕ × ℕ
+
+abbrev says_size : List ℕ → Size → Type 0
+says_size bytes size = Says bytes (machine_line size.0 size.1 size.2)
+
+abbrev is_size : Size → Type 0
+is_size size = AreWithinLimits size.0 size.1 size.2
+
+same_parts : (a b : Size) → a.0 ≡ b.0 → a.1 ≡ b.1 → a.2 ≡ b.2 → a ≡ b
+same_parts a b x y z =
+    let first : ℕ → Size = λ n. (n, a.1, a.2) in
+    let second : ℕ → Size = λ n. (b.0, n, a.2) in
+    let third : ℕ → Size = λ n. (b.0, b.1, n) in
+    ap first x ∙ ap second y ∙ ap third z
+
+one_size : (bytes : List ℕ) → SaysOne (says_size bytes) is_size
+one_size bytes a b f limits g =
+    let same = same_size a.0 a.1 a.2 b.0 b.1 b.2 f.rest g.rest limits (sym f.parts ∙ g.parts) in
+    same_parts a b (sym (fitting_some b.0 a.0 (sym same.0))) (sym (fitting_some b.1 a.1 (sym same.1))) (sym (fitting_some b.2 a.2 (sym same.2)))
+
+pub one_machine_fault : (bytes : List ℕ) (k j : TextFaultKind) → MachineFault bytes k → MachineFault bytes j → k ≡ j
+one_machine_fault bytes k j f g = one_line_fault (says_size bytes) is_size (λ size. ⊥) (one_size bytes) k j f g
 
 -- bytes that begin with the line of a size within its limits have no fault there
 pub machine_faultless : (n m c : ℕ) (tail bytes : List ℕ) (kind : TextFaultKind) → AreWithinLimits n m c → bytes ≡ machine_line n m c ++ tail → MachineFault bytes kind → ⊥
-machine_faultless n m c tail bytes Syntax limits parts fault = fault n m c (record { rest = tail; parts = parts; short = machine_short n m c limits })
-machine_faultless n m c tail bytes Range limits parts fault =
-    let same = same_size n m c fault.0 fault.1 fault.2 tail fault.3.rest limits (sym parts ∙ fault.3.parts) in
-    let nodes = fitting_some fault.0 n (sym same.0) in
-    let lines = fitting_some fault.1 m (sym same.1) in
-    let slots = fitting_some fault.2 c (sym same.2) in
-    fault.4 (rw (nodes, lines, slots) limits)
-machine_faultless n m c tail bytes TooMany limits parts fault = fault
-machine_faultless n m c tail bytes Read limits parts fault = fault
-machine_faultless n m c tail bytes Write limits parts fault = fault
-machine_faultless n m c tail bytes Memory limits parts fault = fault
+machine_faultless n m c tail bytes kind limits parts fault =
+    no_line_fault (says_size bytes) is_size (λ size. ⊥) (one_size bytes) (n, m, c) (record { rest = tail; parts = parts; short = machine_short n m c limits }) limits (λ no. no) kind fault
+
+-- ---- a script goes on with lines that are right
 
 count_front : (m : ℕ) (front more : List (ℕ × Op)) (p : ℕ × Op) → p.0 ≡ m → count_of m front < count_of m (front ++ p ∷ more)
 count_front m front more p same =
@@ -216,30 +192,92 @@ count_front m front more p same =
     let one : f p ≡ 1 = ap (λ b. cond b 1 0) (eq-eqb p.0 m same) in
     omega (arith, sum_by-append f front (p ∷ more), sum_by-append f (p ∷ []) more, one)
 
--- where a script goes on with an operation, its line has no fault
-pub goes_on_faultless : (s b : ScriptValue) (p : ℕ × Op) (more : List (ℕ × Op)) (tail rest : List ℕ) (kind : TextFaultKind) → IsScript s → s.nodes ≡ b.nodes → s.lines ≡ b.lines
-    → s.operations ≡ b.operations ++ p ∷ more → rest ≡ line_of p ++ tail → Within s p → OperationFault b rest kind → ⊥
-goes_on_faultless s b p more tail rest Syntax good en em parts left within fault = fault p.0 p.1 (record { rest = tail; parts = left; short = line_is_short p (within_fits s good p within) })
-goes_on_faultless s b p more tail rest Range good en em parts left within fault =
-    let same = same_operation p fault.0 fault.1 tail fault.2.rest (within_fits s good p within) (sym left ∙ fault.2.parts) in
-    fault.3 (subst (λ (q : ℕ × Op). IsWithin b.nodes b.lines q.0 q.1) same.0 (rw (← en, ← em) within))
-goes_on_faultless s b p more tail rest TooMany good en em parts left within fault =
-    let same = same_operation p fault.0 fault.1 tail fault.2.rest (within_fits s good p within) (sym left ∙ fault.2.parts) in
-    let node : p.0 ≡ fault.0 = ap (λ (q : ℕ × Op). q.0) same.0 in
-    let fewer : count_of fault.0 b.operations < count_of fault.0 s.operations = rw parts (count_front fault.0 b.operations more p node) in
-    let known : fault.0 < s.nodes = rw (← node) within.known_node in
-    absurd (omega (arith, good.counts fault.0 known, fewer, fault.4))
-goes_on_faultless s b p more tail rest Read good en em parts left within fault = fault
-goes_on_faultless s b p more tail rest Write good en em parts left within fault = fault
-goes_on_faultless s b p more tail rest Memory good en em parts left within fault = fault
+abbrev says_operation : List ℕ → ℕ × Op → Type 0
+says_operation bytes p = Says bytes (operation_line p.0 p.1)
 
-after_faultless : (s b : ScriptValue) (more : List (ℕ × Op)) (rest : List ℕ) (kind : TextFaultKind) → IsScript s → s.nodes ≡ b.nodes → s.lines ≡ b.lines
-    → s.operations ≡ b.operations ++ more → rest ≡ flat_map line_of more → AllByRecursion (Within s) more → 0 < length rest → OperationFault b rest kind → ⊥
-after_faultless s b [] rest kind good en em parts left each goes_on fault = absurd (omega (arith, ap length left))
-after_faultless s b (p ∷ more) rest kind good en em parts left each goes_on fault = goes_on_faultless s b p more (flat_map line_of more) rest kind good en em parts left each.0 fault
+abbrev is_full : ScriptValue → ℕ × Op → Type 0
+is_full s p = MAX_OPERATIONS ≤ count_of p.0 s.operations
 
-pub no_fault : (s : ScriptValue) (line : ℕ) (kind : TextFaultKind) → IsScript s → IsLineFault (script_text s) line kind → ⊥
-no_fault s line kind good (inl first) = machine_faultless s.nodes s.lines s.slots (flat_map line_of s.operations) (script_text s) kind good.size refl first.1
-no_fault s line kind good (inr f) =
-    let x = extends s f.before f.rest good f.good f.parts in
-    after_faultless s f.before x.shared.more f.rest kind good x.nodes x.lines x.shared.parts x.shared.left x.shared.each f.goes_on f.fault
+one_operation : (s : ScriptValue) (bytes : List ℕ) → IsScript s → SaysOne (says_operation bytes) (Within s)
+one_operation s bytes good x y f within g = (same_operation x y.0 y.1 f.rest g.rest (within_fits s good x within) (sym f.parts ∙ g.parts)).0
+
+in_back : (P : ℕ × Op → Type 0) (front : List (ℕ × Op)) (p : ℕ × Op) (more : List (ℕ × Op)) → AllByRecursion P (front ++ p ∷ more) → P p
+in_back P [] p more each = each.0
+in_back P (q ∷ front) p more each = in_back P front p more each.1
+
+goes_right : (s b : ScriptValue) (rest : List ℕ) → IsScript s → IsScript b → s.nodes ≡ b.nodes → s.lines ≡ b.lines → GoesOnWith line_of s.operations b.operations rest → GoesRight OperationFault b rest
+goes_right s b rest good other en em n =
+    let p = n.next in
+    let within : Within s p = in_back (Within s) b.operations p n.more (rw n.parts at (recursion_from_All (Within s) s.operations good.within)) in
+    let here : Within b p = rw (← en, ← em) within in
+    let fewer : count_of p.0 b.operations < count_of p.0 s.operations = rw n.parts (count_front p.0 b.operations n.more p refl) in
+    let counts = good.counts p.0 within.known_node in
+    record {
+      some = omega (arith, ap length n.left, length-append (line_of p) n.tail, line_length p);
+      right = λ kind fault. no_line_fault (says_operation rest) (Within b) (is_full b) (one_operation b rest other) p (record { rest = n.tail; parts = n.left; short = line_is_short p (within_fits s good p within) }) here (λ full. absurd (omega arith)) kind fault;
+    }
+
+all_fit : (s : ScriptValue) (ops : List (ℕ × Op)) → IsScript s → AllByRecursion (Within s) ops → AllByRecursion LineFits ops
+all_fit s [] good each = tt
+all_fit s (p ∷ ops) good each = (within_fits s good p each.0, all_fit s ops good each.1)
+
+operations_fit : (s : ScriptValue) → IsScript s → AllByRecursion LineFits s.operations
+operations_fit s good = all_fit s s.operations good (recursion_from_All (Within s) s.operations good.within)
+
+meets : (input : List ℕ) (v w : ScriptValue) (r t : List ℕ) → BeginsScript input v r → BeginsScript input w t → Meets OperationFault v w r t
+meets input v w r t f g =
+    let lines = flat_map line_of v.operations in
+    let others = flat_map line_of w.operations in
+    let grouped = sym (append_assoc (machine_line v.nodes v.lines v.slots) lines r) ∙ (sym f.1 ∙ g.1) ∙ append_assoc (machine_line w.nodes w.lines w.slots) others t in
+    let size = same_size v.nodes v.lines v.slots w.nodes w.lines w.slots (lines ++ r) (others ++ t) f.0.size grouped in
+    let en = fitting_same v.nodes w.nodes (omega (arith, g.0.size.few_nodes)) size.0 in
+    let em = fitting_same v.lines w.lines (omega (arith, g.0.size.few_lines)) size.1 in
+    let ec = fitting_same v.slots w.slots (omega (arith, g.0.size.few_slots)) size.2 in
+    elim (meet_lists line_of LineFits (λ x y a b fit other e. same_operation x y.0 y.1 a b fit e) v.operations w.operations r t (operations_fit v f.0) (operations_fit w g.0) size.3) [
+      | inl same ↦ inl (same_value v w en em ec same.0, same.1)
+      | inr goes ↦
+          elim goes [
+            | inl n ↦ inr (inl (goes_right w v r g.0 f.0 (sym en) (sym em) n))
+            | inr n ↦ inr (inr (goes_right v w t f.0 g.0 en em n))
+          ]
+    ]
+
+grammar : IsGrammar MachineFault BeginsScript OperationFault
+grammar = record {
+  one_opening = one_machine_fault;
+  opened = λ input k s r fault h. machine_faultless s.nodes s.lines s.slots (flat_map line_of s.operations ++ r) input k h.0.size (h.1 ∙ append_assoc (machine_line s.nodes s.lines s.slots) (flat_map line_of s.operations) r) fault;
+  one_fault = λ input s r k j h f g. one_line_fault (says_operation r) (Within s) (is_full s) (one_operation s r h.0) k j f g;
+  meets = meets;
+}
+
+-- ---- the laws
+
+whole : (s : ScriptValue) → IsScript s → BeginsScript (script_text s) s []
+whole s good = (good, sym (append-nil (script_text s)))
+
+pub one_script : (a b : ScriptValue) → IsScript a → IsScript b → script_text a ≡ script_text b → a ≡ b
+one_script a b good other e =
+    elim (meets (script_text a) a b [] [] (whole a good) (other, e ∙ sym (append-nil (script_text b)))) [
+      | inl same ↦ same.0
+      | inr goes ↦ elim goes [
+        | inl right ↦ (let some = right.some in absurd (omega arith))
+        | inr right ↦ (let some = right.some in absurd (omega arith))
+      ]
+    ]
+
+pub no_fault : (s : ScriptValue) (line : ℕ) (kind : TextFaultKind) → IsScript s → IsScriptFault (script_text s) line kind → ⊥
+no_fault s line kind good fault =
+    no_first_fault MachineFault BeginsScript (λ s rest. 0 < length rest) (λ s. length s.operations + 1) OperationFault grammar (script_text s) s (whole s good) (λ some. absurd (omega arith)) line kind fault
+
+pub one_fault : (input : List ℕ) (l m : ℕ) (k j : TextFaultKind) → IsScriptFault input l k → IsScriptFault input m j → (l ≡ m) × (k ≡ j)
+one_fault input l m k j f g = one_first_fault MachineFault BeginsScript (λ s rest. 0 < length rest) (λ s. length s.operations + 1) OperationFault grammar input l m k j f g
+
+-- what comes of a script's text in memory
+pub script_read_as : (s : ScriptValue) (input : List ℕ) (result : Result ScriptValue TextFault) → IsScript s → input ≡ script_text s
+    → IfOk result (λ read. input ≡ script_text read) → IfOk result IsScript → IfErr result (IsRefusal IsScriptFault input) → IsReadAs s result
+script_read_as s input result good is text other fault =
+    read_as IsScriptFault input (λ line kind f. no_fault s line kind good (subst (λ (bytes : List ℕ). IsScriptFault bytes line kind) is f)) s result (read_is result text other) fault
+  where
+    read_is : (result : Result ScriptValue TextFault) → IfOk result (λ read. input ≡ script_text read) → IfOk result IsScript → IfOk result (λ read. read ≡ s)
+    read_is (Ok read) text other = sym (one_script s read good other (sym is ∙ text))
+    read_is (Err f) text other = tt

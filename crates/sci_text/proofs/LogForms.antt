@@ -1,4 +1,4 @@
--- The text of a log has no line with a fault.
+-- The first line of a log: it has one fault, and two fronts of the same bytes have one form.
 use Rattle.std.proofs.Common.{◌≡◌, ℕ, ◌<◌, ◌≤◌, ◌^◌, List, [], ◌++◌, length, get_or, None, refl, sym, ap, subst, ◌∙◌, append_assoc, arith, inl, inr, ◌⊎◌}
 use Rattle.std.proofs.lemmas.List.{append-nil}
 use Rattle.std.proofs.lemmas.Option.{none-some, some_pair_parts}
@@ -6,16 +6,16 @@ use Rattle.sci_words.specs.declared.stamped.Stamped.{Stamped}
 use Rattle.sci_history.specs.declared.entry.Entry.{Entry}
 use Rattle.sci_text.specs.declared.form.Form.{Form}
 use Rattle.sci_text.specs.declared.fault.TextFaultKind.{TextFaultKind}
-use Rattle.sci_text.specs.declared.fault.TextFaultKind.TheVariants.{Syntax, Range, TooMany, Read, Write, Memory}
 use Rattle.sci_text.specs.Log.{log_line, last_lines, entry_lines}
-use Rattle.sci_text.specs.LogValue.{format_1, format_2, IsSize, IsForm, front_of, IsFront, HasAllLines, IsLogs, BeginsLast, BeginsLog, LogLineFault, SizeFault, IsLogFault}
+use Rattle.sci_text.specs.LogValue.{format_1, format_2, IsSize, IsForm, front_of, IsFront, HasAllLines, BeginsLast, BeginsLog, SizeFault}
+use Rattle.sci_text.specs.FirstFault.{Says}
 use Rattle.sci_text.specs.Reading.{fitting, log_line_read}
+use Rattle.sci_text.proofs.FirstFaults.{SaysOne, one_line_fault, no_line_fault}
 use Rattle.sci_text.proofs.LineFaults.{fitting_some}
 use Rattle.sci_text.proofs.Numbers.{fitting_below}
 use Rattle.sci_text.proofs.LogReads.{SizeSaid, log_line_again}
 use Rattle.sci_text.proofs.LogShort.{size_short}
 use Rattle.sci_text.proofs.LogUnique.{begins_last, text_of, apart}
-use Rattle.sci_text.proofs.LogMeets.{OwnEntries, MeetsFront, meet_fronts}
 
 -- ---- the first line
 
@@ -58,27 +58,26 @@ text_log f lines last logs input rest q is = is ∙ ap (λ (h : Form). text_of h
 abbrev pub IsFirst : Form → List ℕ → Type 0
 IsFirst f input = f.lines ≡ None → BeginsLog input → ⊥
 
-fault_begins : (input : List ℕ) (kind : TextFaultKind) → SizeFault input kind → BeginsLog input
-fault_begins input Syntax fault = fault.0
-fault_begins input Range fault = subst BeginsLog (sym fault.2.parts) (log_begins fault.0 fault.1 fault.2.rest)
-fault_begins input TooMany fault = absurd fault
-fault_begins input Read fault = absurd fault
-fault_begins input Write fault = absurd fault
-fault_begins input Memory fault = absurd fault
+abbrev says_size : List ℕ → ℕ × ℕ → Type 0
+says_size bytes size = Says bytes (log_line size.0 size.1)
+
+abbrev is_size : ℕ × ℕ → Type 0
+is_size size = IsSize size.0 size.1
+
+one_size : (bytes : List ℕ) → SaysOne (says_size bytes) is_size
+one_size bytes a b f size g =
+    let same = same_sizes b.0 b.1 a.0 a.1 g.rest f.rest size (sym g.parts ∙ f.parts) in
+    let first : ℕ → ℕ × ℕ = λ n. (n, a.1) in
+    let second : ℕ → ℕ × ℕ = λ m. (b.0, m) in
+    ap first (sym same.nodes) ∙ ap second (sym same.lines)
 
 -- the line of a size within the limits has no fault
 size_of_2 : (n m : ℕ) (input rest : List ℕ) (kind : TextFaultKind) → IsSize n m → input ≡ log_line n m ++ rest → SizeFault input kind → ⊥
-size_of_2 n m input rest Syntax size is fault = fault.1 n m (record { rest = rest; parts = is; short = size_short n m size })
-size_of_2 n m input rest Range size is fault =
-    let same = same_sizes fault.0 fault.1 n m fault.2.rest rest size (sym fault.2.parts ∙ is) in
-    fault.3 (rw (same.nodes, same.lines) size)
-size_of_2 n m input rest TooMany size is fault = fault
-size_of_2 n m input rest Read size is fault = fault
-size_of_2 n m input rest Write size is fault = fault
-size_of_2 n m input rest Memory size is fault = fault
+size_of_2 n m input rest kind size is fault =
+    no_line_fault (says_size input) is_size (λ s. ⊥) (one_size input) (n, m) (record { rest = rest; parts = is; short = size_short n m size }) size (λ no. no) kind fault.1
 
 pub size_right : (f : Form) (last : List Stamped) (logs : List (List Entry)) (input rest : List ℕ) (kind : TextFaultKind) → IsForm f → IsFirst f input → input ≡ text_of f last logs ++ rest → SizeFault input kind → ⊥
-size_right f last logs input rest kind (inl q) first is fault = first (ap (λ (h : Form). h.lines) q) (fault_begins input kind fault)
+size_right f last logs input rest kind (inl q) first is fault = first (ap (λ (h : Form). h.lines) q) fault.0
 size_right f last logs input rest kind (inr q) first is fault = size_of_2 f.nodes q.0 input (behind last logs rest) kind q.2 (text_log f q.0 last logs input rest q.1 is) fault
 
 -- two fronts of the same bytes have one form
@@ -94,36 +93,9 @@ same_forms f g x y old logs input r t (inr p) (inr q) first other before is =
     let same = same_sizes f.nodes p.0 g.nodes q.0 (behind x old r) (behind y logs t) q.2 (sym (text_log f p.0 x old input r p.1 before) ∙ text_log g q.0 y logs input t q.1 is) in
     (p.1 ∙ ap (λ (n : ℕ). format_2 n p.0) same.nodes ∙ ap (λ (m : ℕ). format_2 g.nodes m) same.lines ∙ sym q.1, same.rest)
 
-whole_first : (f : Form) (last : List Stamped) (logs : List (List Entry)) (input : List ℕ) → IsForm f → HasAllLines f.lines (length last) → input ≡ text_of f last logs → IsFirst f input
+pub whole_first : (f : Form) (last : List Stamped) (logs : List (List Entry)) (input : List ℕ) → IsForm f → HasAllLines f.lines (length last) → input ≡ text_of f last logs → IsFirst f input
 whole_first f last logs input (inl q) whole is = λ none begins. log_or_last input begins (subst BeginsLast (sym is) (text_last f last logs q whole))
 whole_first f last logs input (inr q) whole is = λ none begins. none-some q.0 (sym none ∙ ap (λ (h : Form). h.lines) q.1)
 
--- ---- no fault
-
--- a front of a whole text goes on with what is right
-no_fault_behind : (f : Form) (x y : List Stamped) (old logs : List (List Entry)) (rest : List ℕ) (kind : TextFaultKind) → HasAllLines f.lines (length y) → MeetsFront f x y old logs rest []
-    → (0 < length rest) ⊎ (HasAllLines f.lines (length x) → ⊥) → LogLineFault (front_of f x old) rest kind → ⊥
-no_fault_behind f x y old logs rest kind whole (inl same) (inl some) fault = absurd (omega (arith, ap length same.rest))
-no_fault_behind f x y old logs rest kind whole (inl same) (inr few) fault = few (subst (λ (l : List Stamped). HasAllLines f.lines (length l)) (sym same.last) whole)
-no_fault_behind f x y old logs rest kind whole (inr (inl right)) goes_on fault = right.right kind fault
-no_fault_behind f x y old logs rest kind whole (inr (inr right)) goes_on fault = let some = right.some in absurd (omega arith)
-
--- what is wrong after a front, in the form of that front
-record FaultOf (f : Form) (x : List Stamped) (old : List (List Entry)) (rest : List ℕ) (kind : TextFaultKind) : Type 0 where
-  good : IsFront (front_of f x old)
-  goes_on : (0 < length rest) ⊎ (HasAllLines f.lines (length x) → ⊥)
-  fault : LogLineFault (front_of f x old) rest kind
-
-no_fault_after : OwnEntries → (f : Form) (x y : List Stamped) (old logs : List (List Entry)) (rest : List ℕ) (kind : TextFaultKind) → FaultOf f x old rest kind → IsFront (front_of f y logs) → HasAllLines f.lines (length y) → behind x old rest ≡ behind y logs [] → ⊥
-no_fault_after own f x y old logs rest kind h other whole e = no_fault_behind f x y old logs rest kind whole (meet_fronts own f x y old logs rest [] h.good other e) h.goes_on h.fault
-
-pub no_log_fault : OwnEntries → (input : List ℕ) (nodes : ℕ) (logs : List (List Entry)) (last : List Stamped) (line : ℕ) (kind : TextFaultKind) → IsLogs input nodes logs last → IsLogFault input line kind → ⊥
-no_log_fault own input nodes logs last line kind h (inl f) =
-    let g = h.0 in
-    size_right g last logs input [] kind h.1.good.form (whole_first g last logs input h.1.good.form h.1.whole h.2) (h.2 ∙ sym (append-nil (text_of g last logs))) f.1
-no_log_fault own input nodes logs last line kind h (inr f) =
-    let b = f.before in
-    let g = h.0 in
-    let same = same_forms b.form g b.last last b.logs logs input f.rest [] f.good.form h.1.good.form f.first (whole_first g last logs input h.1.good.form h.1.whole h.2) f.parts (h.2 ∙ sym (append-nil (text_of g last logs))) in
-    let fault : FaultOf b.form b.last b.logs f.rest kind = record { good = f.good; goes_on = f.goes_on; fault = f.fault } in
-    no_fault_after own g b.last last b.logs logs f.rest kind (subst (λ (k : Form). FaultOf k b.last b.logs f.rest kind) same.0 fault) h.1.good h.1.whole same.1
+pub one_size_fault : (bytes : List ℕ) (k j : TextFaultKind) → SizeFault bytes k → SizeFault bytes j → k ≡ j
+one_size_fault bytes k j f g = one_line_fault (says_size bytes) is_size (λ s. ⊥) (one_size bytes) k j f.1 g.1
