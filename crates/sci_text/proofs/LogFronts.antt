@@ -80,9 +80,6 @@ none_extra : (lines : Option ℕ) → HasNoExtra lines 0
 none_extra None = tt
 none_extra (Some lines) = omega arith
 
-pub last_front_none : (form : Form) → IsFrontOf form []
-last_front_none form = record { last = λ k d lt. absurd (omega arith); few = omega arith; no_extra = none_extra form.lines }
-
 one_more : (lines : Option ℕ) (old new : ℕ) → HasRoom lines old → new ≡ old + 1 → HasNoExtra lines new
 one_more None old new room more = tt
 one_more (Some lines) old new room more = omega arith

@@ -1,12 +1,12 @@
 -- A text is one schedule's alone, and has no fault; bytes have one first faulty line and one fault there.
-use Rattle.std.proofs.Common.{◌≡◌, ℕ, ◌+◌, ◌<◌, ◌≤◌, List, [], ◌∷◌, ◌++◌, length, Option, Some, None, Result, Ok, Err, refl, sym, ap, subst, ◌∙◌, append_assoc, arith, inl, inr, ◌⊎◌}
+use Rattle.std.proofs.Common.{◌≡◌, ℕ, ◌+◌, ◌*◌, ◌<◌, ◌≤◌, List, [], ◌∷◌, ◌++◌, length, Option, Some, None, Result, Ok, Err, refl, sym, ap, subst, ◌∙◌, append_assoc, arith, inl, inr, ◌⊎◌}
 use Rattle.std.specs.Prelude.{codes, IfOk, IfErr}
 use Rattle.std.specs.Option.{SomeIff}
 use Rattle.std.specs.List.{AllByRecursion}
 use Rattle.std.proofs.lemmas.List.{append-nil, length-append}
 use Rattle.std.proofs.lemmas.List.Elements.{recursion_from_All}
 use Rattle.std.proofs.lemmas.Option.{some_pair_parts, same_Some}
-use Rattle.sci_words.specs.declared.limits.TheConstants.{MAX_EVENTS}
+use Rattle.sci_words.specs.declared.limits.TheConstants.{MAX_EVENTS, MAX_INPUT_BYTES, MAX_TEXT_LINE_BYTES}
 use Rattle.sci_words.specs.declared.event.AskKind.{AskKind}
 use Rattle.sci_words.specs.declared.event.AskKind.TheVariants.{Mread, Fread, Cread, Claim, Clear, Purge, Roll, Wback, Setback}
 use Rattle.sci_words.specs.declared.event.Event.{Event}
@@ -24,7 +24,7 @@ use Rattle.sci_text.specs.ScheduleFault.{EventFault, BeginsSchedule, IsScheduleF
 use Rattle.sci_text.proofs.Events.{EventFits, event_line_again}
 use Rattle.sci_text.proofs.EventLines.{fits, line_nonempty}
 use Rattle.sci_text.proofs.FirstFaults.{SaysOne, one_line_fault, no_line_fault, GoesOnWith, meet_lists, GoesRight, Meets, IsGrammar, one_first_fault, no_first_fault, read_as}
-use Rattle.sci_text.proofs.ScriptUnique.{same_size, fitting_same, one_machine_fault, machine_faultless, field_short, operation_short}
+use Rattle.sci_text.proofs.ScriptUnique.{same_size, fitting_same, one_machine_fault, machine_faultless, machine_short, field_short, operation_short}
 
 -- ---- one line
 
@@ -165,6 +165,14 @@ grammar = record {
 }
 
 -- ---- the laws
+
+lines_short : (events : List Event) → AllByRecursion EventFits events → length (event_lines events) ≤ (MAX_TEXT_LINE_BYTES + 1) * length events
+lines_short [] fit = omega arith
+lines_short (x ∷ events) fit = omega (arith, line_is_short x fit.0, lines_short events fit.1, length-append (event_line x) (event_lines events))
+
+pub schedule_short : (s : ScheduleValue) → IsSchedule s → length (schedule_text s) ≤ MAX_INPUT_BYTES
+schedule_short s good =
+    omega (arith, good.few, machine_short s.nodes s.lines s.slots good.size, lines_short s.events (events_fit s good), length-append (machine_line s.nodes s.lines s.slots) (event_lines s.events))
 
 whole : (s : ScheduleValue) → IsSchedule s → BeginsSchedule (schedule_text s) s []
 whole s good = (good, sym (append-nil (schedule_text s)))
