@@ -55,8 +55,7 @@ size_le bytes a b rest e = let f = log_line_found bytes a b rest e in line_le by
 pub size_range : (bytes : List ℕ) (a b : Option ℕ) (rest : List ℕ) → (after (codes "log ") bytes ≡ None → ⊥) → log_line_read bytes ≡ Some ((a, b), rest) → length bytes - length rest ≤ MAX_TEXT_LINE_BYTES + 1
     → ((n m : ℕ) → a ≡ Some n → b ≡ Some m → IsSize n m → ⊥) → SizeFault bytes Range
 size_range bytes a b rest begins e short outside =
-    let f = log_line_found bytes a b rest e in
-    (
+    let f = log_line_found bytes a b rest e in (
       begins_found bytes (after (codes "log ") bytes) refl begins,
       (
         (f.0, f.1),

@@ -1,13 +1,12 @@
 -- The first line of a log: it has one fault, and two fronts of the same bytes have one form.
-use Rattle.std.proofs.Common.{◌≡◌, ℕ, ◌<◌, ◌≤◌, ◌^◌, List, [], ◌++◌, length, get_or, None, refl, sym, ap, subst, ◌∙◌, append_assoc, arith, inl, inr, ◌⊎◌}
-use Rattle.std.proofs.lemmas.List.{append-nil}
+use Rattle.std.proofs.Common.{◌≡◌, ℕ, ◌<◌, ◌≤◌, ◌^◌, List, ◌++◌, length, get_or, None, refl, sym, ap, subst, ◌∙◌, append_assoc, arith, inl, inr}
 use Rattle.std.proofs.lemmas.Option.{none-some, some_pair_parts}
 use Rattle.sci_words.specs.declared.stamped.Stamped.{Stamped}
 use Rattle.sci_history.specs.declared.entry.Entry.{Entry}
 use Rattle.sci_text.specs.declared.form.Form.{Form}
 use Rattle.sci_text.specs.declared.fault.TextFaultKind.{TextFaultKind}
 use Rattle.sci_text.specs.Log.{log_line, last_lines, entry_lines}
-use Rattle.sci_text.specs.LogValue.{format_1, format_2, IsSize, IsForm, front_of, IsFront, HasAllLines, BeginsLast, BeginsLog, SizeFault}
+use Rattle.sci_text.specs.LogValue.{format_1, format_2, IsSize, IsForm, HasAllLines, BeginsLast, BeginsLog, SizeFault}
 use Rattle.sci_text.specs.FirstFault.{Says}
 use Rattle.sci_text.specs.Reading.{fitting, log_line_read}
 use Rattle.sci_text.proofs.FirstFaults.{SaysOne, one_line_fault, no_line_fault}

@@ -1,5 +1,5 @@
 -- The text of a log has no line with a fault, and bytes have one first line that is faulty in a log, and one fault there.
-use Rattle.std.proofs.Common.{◌≡◌, ℕ, ◌+◌, ◌<◌, List, [], length, Result, Ok, Err, refl, sym, ap, subst, ◌∙◌, arith, inl, inr, ◌⊎◌}
+use Rattle.std.proofs.Common.{◌≡◌, ℕ, ◌<◌, List, [], length, Result, Ok, Err, refl, sym, ap, subst, ◌∙◌, arith, inl, inr, ◌⊎◌}
 use Rattle.std.specs.Prelude.{IfOk, IfErr}
 use Rattle.std.proofs.lemmas.List.{append-nil}
 use Rattle.sci_words.specs.declared.stamped.Stamped.{Stamped}
@@ -106,8 +106,10 @@ log_read_as one none input bytes nodes logs last result is same text fault =
   where
     here : IsLogs bytes nodes logs last
     here = subst (λ (l : List ℕ). IsLogs l nodes logs last) (sym same) is
+
     value_of : ℕ → List (List Entry) → List Stamped → Log
     value_of n ls l = (n, ls, l)
+
     read_is : (result : Result Log TextFault) → IfOk result (λ x. IsLogs bytes x.0 x.1 x.2) → IfOk {T = Log} result (λ read. read ≡ (nodes, logs, last))
     read_is (Ok read) text =
         let is_one = one bytes read.0 nodes read.1 logs read.2 last text here in

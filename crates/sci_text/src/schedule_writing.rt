@@ -76,7 +76,11 @@ fn put_details(line: &mut LineEnd, event: Event)
             line.put_text(" ");
         }
         Event::Perform { line: number, .. } => line.put_field(u64::from(number)),
-        Event::Ask { line: number, kind, .. } => {
+        Event::Ask {
+            line: number,
+            kind,
+            ..
+        } => {
             line.put_text(kind_word(kind));
             line.put_text(" ");
             line.put_field(u64::from(number));
