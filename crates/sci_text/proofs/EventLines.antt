@@ -11,7 +11,7 @@ use Rattle.sci_text.specs.declared.script.PushFault.{PushFault}
 use Rattle.sci_text.specs.declared.script.PushFault.TheVariants as push
 use Rattle.sci_text.specs.Script.{kind_of, machine_line}
 use Rattle.sci_text.specs.Schedule.{ScheduleValue, IsSchedule, IsEventWithin, EventRefusal, with_event, event_line, event_lines, schedule_text, AddsEvent}
-use Rattle.sci_text.specs.Fault.{Says}
+use Rattle.sci_text.specs.FirstFault.{Says}
 use Rattle.sci_text.specs.ScheduleFault.{EventFault}
 use Rattle.sci_text.specs.EventReading.{event_line_read}
 use Rattle.sci_text.proofs.Events.{EventFits, event_line_again, event_line_found}
@@ -96,7 +96,3 @@ line_nonempty (Accept from node) = omega arith
 
 pub line_shrinks : (old new : ScheduleValue) (bytes rest : List ℕ) → AddsEvent old new bytes rest → length rest < length bytes
 line_shrinks old new bytes rest adds = omega (arith, ap length adds.parts, length-append (event_line adds.event) rest, line_nonempty adds.event)
-
-pub text_goes_on : (input : List ℕ) (old new : ScheduleValue) (bytes rest : List ℕ) → input ≡ schedule_text old ++ bytes → AddsEvent old new bytes rest → input ≡ schedule_text new ++ rest
-text_goes_on input old new bytes rest so_far adds =
-    so_far ∙ ap (λ (l : List ℕ). schedule_text old ++ l) adds.parts ∙ sym (text_grows old adds.event rest) ∙ ap (λ (s : ScheduleValue). schedule_text s ++ rest) (sym adds.added)

@@ -5,14 +5,13 @@ pub mod Scripts
 pub mod LineLaws
 pub mod LineFaults
 pub mod ScriptText
-pub mod Unique
-pub mod Told
-pub mod OneFault
+pub mod FirstFaults
+pub mod ScriptUnique
 pub mod Digits
 pub mod LogLines
 pub mod Events
 pub mod EventLines
-pub mod Schedules
+pub mod ScheduleUnique
 pub mod LogReads
 pub mod LogFaults
 pub mod LogFronts
@@ -20,6 +19,5 @@ pub mod LogLaws
 pub mod LogUnique
 pub mod LogShort
 pub mod LogMeets
-pub mod LogNoFault
+pub mod LogForms
 pub mod LogOneFault
-pub mod LogTold

@@ -10,27 +10,26 @@ use Rattle.sci_text.specs.declared.script.PushFault.{PushFault}
 use Rattle.sci_text.specs.declared.script.PushFault.TheVariants as push
 use Rattle.sci_text.specs.Reading.{fitting, machine_line_read, operation_line_read}
 use Rattle.sci_text.specs.Script.{ScriptValue, IsScript, IsWithin, PushRefusal, kind_of, with_operation, machine_line, operation_line, AddsLine}
-use Rattle.sci_text.specs.Fault.{Says, MachineFault, OperationFault}
+use Rattle.sci_text.specs.FirstFault.{Says}
+use Rattle.sci_text.specs.ScriptFault.{MachineFault, OperationFault}
 use Rattle.sci_text.proofs.Numbers.{fitting_below}
 use Rattle.sci_text.proofs.Operations.{OpFits}
 use Rattle.sci_text.proofs.LineLaws.{Sizes, machine_line_again, machine_line_found, operation_line_again, operation_line_found, line_le, line_short, line_long}
 
 -- ---- the line of the size
 
-abbrev SizeRead : Type 0
-SizeRead = Option (Sizes × List ℕ)
-
 -- what is read where bytes say this size
 said_size : (bytes : List ℕ) (n m c : ℕ) (says : Says bytes (machine_line n m c)) → machine_line_read bytes ≡ Some ((fitting n, fitting m, fitting c), says.rest)
 said_size bytes n m c says = ap machine_line_read says.parts ∙ machine_line_again n m c says.rest
 
 pub machine_none : (bytes : List ℕ) → machine_line_read bytes ≡ None → MachineFault bytes Syntax
-machine_none bytes e = λ n m c says. none-some ((fitting n, fitting m, fitting c), says.rest) (sym e ∙ said_size bytes n m c says)
+machine_none bytes e = λ size says. none-some ((fitting size.0, fitting size.1, fitting size.2), says.rest) (sym e ∙ said_size bytes size.0 size.1 size.2 says)
 
 pub machine_long : (bytes : List ℕ) (sizes : Sizes) (rest : List ℕ) → machine_line_read bytes ≡ Some (sizes, rest) → MAX_TEXT_LINE_BYTES + 1 < length bytes - length rest → MachineFault bytes Syntax
-machine_long bytes sizes rest e long = λ n m c says.
-    let same = some_pair_parts (fitting n, fitting m, fitting c) sizes says.rest rest (sym (said_size bytes n m c says) ∙ e) in
-    line_long bytes (machine_line n m c) rest (says.parts ∙ ap (λ (l : List ℕ). machine_line n m c ++ l) same.1) long says.short
+machine_long bytes sizes rest e long = λ size says.
+    let line = machine_line size.0 size.1 size.2 in
+    let same = some_pair_parts (fitting size.0, fitting size.1, fitting size.2) sizes says.rest rest (sym (said_size bytes size.0 size.1 size.2 says) ∙ e) in
+    line_long bytes line rest (says.parts ∙ ap (λ (l : List ℕ). line ++ l) same.1) long says.short
 
 pub machine_le : (bytes : List ℕ) (a b c : Option ℕ) (rest : List ℕ) → machine_line_read bytes ≡ Some ((a, b, c), rest) → length rest ≤ length bytes
 machine_le bytes a b c rest e =
@@ -41,9 +40,7 @@ pub machine_range : (bytes : List ℕ) (a b c : Option ℕ) (rest : List ℕ) �
     → ((n m k : ℕ) → a ≡ Some n → b ≡ Some m → c ≡ Some k → AreWithinLimits n m k → ⊥) → MachineFault bytes Range
 machine_range bytes a b c rest e short outside =
     let f = machine_line_found bytes a b c rest e in (
-      f.0,
-      f.1,
-      f.2,
+      (f.0, f.1, f.2),
       record { rest = rest; parts = f.3; short = line_short bytes (machine_line f.0 f.1 f.2) rest f.3 short },
       λ limits. outside f.0 f.1 f.2 (f.4 ∙ fitting_below f.0 (omega (arith, limits.few_nodes))) (f.5 ∙ fitting_below f.1 (omega (arith, limits.few_lines))) (f.6 ∙ fitting_below f.2 (omega (arith, limits.few_slots))) limits,
     )
@@ -73,14 +70,14 @@ said_same bytes o rest node op e says =
     (same.1, subst (λ (v : Said). SomeIff v ((node < 256) × OpFits op) (node, op)) same.0 again.2)
 
 pub operation_none : (s : ScriptValue) (bytes : List ℕ) → operation_line_read bytes ≡ None → OperationFault s bytes Syntax
-operation_none s bytes e = λ node op says.
-    let again = operation_line_again node op says.rest in
+operation_none s bytes e = λ p says.
+    let again = operation_line_again p.0 p.1 says.rest in
     none-some (again.0, says.rest) (sym e ∙ (ap operation_line_read says.parts ∙ again.1))
 
 pub operation_long : (s : ScriptValue) (bytes : List ℕ) (o : Said) (rest : List ℕ) → operation_line_read bytes ≡ Some (o, rest) → MAX_TEXT_LINE_BYTES + 1 < length bytes - length rest → OperationFault s bytes Syntax
-operation_long s bytes o rest e long = λ node op says.
-    let same = said_same bytes o rest node op e says in
-    line_long bytes (operation_line node op) rest (says.parts ∙ ap (λ (l : List ℕ). operation_line node op ++ l) same.0) long says.short
+operation_long s bytes o rest e long = λ p says.
+    let same = said_same bytes o rest p.0 p.1 e says in
+    line_long bytes (operation_line p.0 p.1) rest (says.parts ∙ ap (λ (l : List ℕ). operation_line p.0 p.1 ++ l) same.0) long says.short
 
 pub operation_le : (bytes : List ℕ) (o : Said) (rest : List ℕ) → operation_line_read bytes ≡ Some (o, rest) → length rest ≤ length bytes
 operation_le bytes o rest e =
@@ -94,7 +91,7 @@ fits_within s node op good within =
 pub operation_unfit : (s : ScriptValue) (bytes rest : List ℕ) → IsScript s → operation_line_read bytes ≡ Some (None, rest) → length bytes - length rest ≤ MAX_TEXT_LINE_BYTES + 1 → OperationFault s bytes Range
 operation_unfit s bytes rest good e short =
     let f = operation_line_found bytes None rest e in
-    (f.0, f.1, record { rest = rest; parts = f.2; short = line_short bytes (operation_line f.0 f.1) rest f.2 short }, λ within. f.3 (fits_within s f.0 f.1 good within))
+    ((f.0, f.1), record { rest = rest; parts = f.2; short = line_short bytes (operation_line f.0 f.1) rest f.2 short }, λ within. f.3 (fits_within s f.0 f.1 good within))
 
 said_is : (bytes rest : List ℕ) (node : ℕ) (op : Op) → operation_line_read bytes ≡ Some (Some (node, op), rest) → bytes ≡ operation_line node op ++ rest
 said_is bytes rest node op e =
@@ -105,8 +102,8 @@ pub operation_ok : (old new : ScriptValue) (bytes rest : List ℕ) (node : ℕ) 
 operation_ok old new bytes rest node op e added = record { node = node; op = op; parts = said_is bytes rest node op e; added = added }
 
 refused_says : (s : ScriptValue) (bytes : List ℕ) (node : ℕ) (op : Op) (fault : PushFault) → Says bytes (operation_line node op) → PushRefusal s node op fault → (kind_of fault ≡ Memory) ⊎ OperationFault s bytes (kind_of fault)
-refused_says s bytes node op push.Range says refused = inr (node, op, says, refused)
-refused_says s bytes node op push.TooMany says refused = inr (node, op, says, refused.0, refused.1)
+refused_says s bytes node op push.Range says refused = inr ((node, op), says, refused)
+refused_says s bytes node op push.TooMany says refused = inr ((node, op), says, refused.0, refused.1)
 refused_says s bytes node op push.Memory says refused = inl refl
 
 pub operation_refused : (s : ScriptValue) (bytes rest : List ℕ) (node : ℕ) (op : Op) (fault : PushFault) → operation_line_read bytes ≡ Some (Some (node, op), rest) → length bytes - length rest ≤ MAX_TEXT_LINE_BYTES + 1

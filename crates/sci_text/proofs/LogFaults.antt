@@ -13,7 +13,7 @@ use Rattle.sci_words.specs.declared.stamped.Stamped.{Stamped}
 use Rattle.sci_history.specs.declared.entry.Entry.{Entry}
 use Rattle.sci_text.specs.declared.form.Form.{Form}
 use Rattle.sci_text.specs.declared.fault.TextFaultKind.TheVariants.{Syntax, Range, TooMany}
-use Rattle.sci_text.specs.Fault.{Says}
+use Rattle.sci_text.specs.FirstFault.{Says}
 use Rattle.sci_text.specs.Number.{number, field}
 use Rattle.sci_text.specs.Operation.{operation}
 use Rattle.sci_text.specs.Log.{log_line, last_line, entry_line, issue_text, outcome_text}
@@ -38,24 +38,31 @@ pub begins_not : (bytes : List ℕ) → after (codes "log ") bytes ≡ None → 
 begins_not bytes e h = none-some h.0 (sym e ∙ (ap (after (codes "log ")) h.1 ∙ after_again (codes "log ") h.0))
 
 pub size_none : (bytes : List ℕ) → (after (codes "log ") bytes ≡ None → ⊥) → log_line_read bytes ≡ None → SizeFault bytes Syntax
-size_none bytes begins e = (begins_found bytes (after (codes "log ") bytes) refl begins, λ n m says. none-some ((fitting n, fitting m), says.rest) (sym e ∙ said_size bytes n m says))
+size_none bytes begins e = (begins_found bytes (after (codes "log ") bytes) refl begins, λ size says. none-some ((fitting size.0, fitting size.1), says.rest) (sym e ∙ said_size bytes size.0 size.1 says))
 
 pub size_long : (bytes : List ℕ) (sizes : SizeSaid) (rest : List ℕ) → (after (codes "log ") bytes ≡ None → ⊥) → log_line_read bytes ≡ Some (sizes, rest) → MAX_TEXT_LINE_BYTES + 1 < length bytes - length rest → SizeFault bytes Syntax
 size_long bytes sizes rest begins e long = (
   begins_found bytes (after (codes "log ") bytes) refl begins,
-  λ n m says.
-      let same = some_pair_parts (fitting n, fitting m) sizes says.rest rest (sym (said_size bytes n m says) ∙ e) in
-      line_long bytes (log_line n m) rest (says.parts ∙ ap (λ (l : List ℕ). log_line n m ++ l) same.1) long says.short,
+  λ size says.
+      let line = log_line size.0 size.1 in
+      let same = some_pair_parts (fitting size.0, fitting size.1) sizes says.rest rest (sym (said_size bytes size.0 size.1 says) ∙ e) in
+      line_long bytes line rest (says.parts ∙ ap (λ (l : List ℕ). line ++ l) same.1) long says.short,
 )
 
 pub size_le : (bytes : List ℕ) (a b : Option ℕ) (rest : List ℕ) → log_line_read bytes ≡ Some ((a, b), rest) → length rest ≤ length bytes
 size_le bytes a b rest e = let f = log_line_found bytes a b rest e in line_le bytes (log_line f.0 f.1) rest f.2
 
-pub size_range : (bytes : List ℕ) (a b : Option ℕ) (rest : List ℕ) → log_line_read bytes ≡ Some ((a, b), rest) → length bytes - length rest ≤ MAX_TEXT_LINE_BYTES + 1
+pub size_range : (bytes : List ℕ) (a b : Option ℕ) (rest : List ℕ) → (after (codes "log ") bytes ≡ None → ⊥) → log_line_read bytes ≡ Some ((a, b), rest) → length bytes - length rest ≤ MAX_TEXT_LINE_BYTES + 1
     → ((n m : ℕ) → a ≡ Some n → b ≡ Some m → IsSize n m → ⊥) → SizeFault bytes Range
-size_range bytes a b rest e short outside =
-    let f = log_line_found bytes a b rest e in
-    (f.0, f.1, record { rest = rest; parts = f.2; short = line_short bytes (log_line f.0 f.1) rest f.2 short }, λ size. outside f.0 f.1 (f.3 ∙ fitting_below f.0 (omega (arith, size.few_nodes))) (f.4 ∙ fitting_below f.1 (omega (arith, size.few_lines))) size)
+size_range bytes a b rest begins e short outside =
+    let f = log_line_found bytes a b rest e in (
+      begins_found bytes (after (codes "log ") bytes) refl begins,
+      (
+        (f.0, f.1),
+        record { rest = rest; parts = f.2; short = line_short bytes (log_line f.0 f.1) rest f.2 short },
+        λ size. outside f.0 f.1 (f.3 ∙ fitting_below f.0 (omega (arith, size.few_nodes))) (f.4 ∙ fitting_below f.1 (omega (arith, size.few_lines))) size,
+      ),
+    )
 
 pub size_ok : (bytes : List ℕ) (a b : Option ℕ) (rest : List ℕ) (n m : ℕ) → log_line_read bytes ≡ Some ((a, b), rest) → a ≡ Some n → b ≡ Some m → bytes ≡ log_line n m ++ rest
 size_ok bytes a b rest n m e an bm =

@@ -15,9 +15,10 @@ use Rattle.sci_text.specs.declared.form.Form.{Form}
 use Rattle.sci_text.specs.declared.fault.TextFault.{TextFault}
 use Rattle.sci_text.specs.declared.fault.TextFaultKind.{TextFaultKind}
 use Rattle.sci_text.specs.declared.fault.TextFaultKind.TheVariants.{Syntax, Range, TooMany, Read, Write, Memory}
+use Rattle.sci_text.specs.FirstFault.{IsRefusalOf, IsRefusal}
 use Rattle.sci_text.specs.Number.{number, field}
 use Rattle.sci_text.specs.Log.{last_line, last_lines, issue_text, entry_line, entry_lines}
-use Rattle.sci_text.specs.LogValue.{StampedFits, EntryFits, Front, front_of, IsFront, IsForm, HasAllLines, HasRoom, HasNoExtra, first_line, first_lines, front_text, entry_count, BeginsLog, BeginsLast, NoLast, LogLineFault, IsLogRefusalOf, IsLogRefusal, IsRefusalAfter, AddsLast, AddsEntry, IsLatest, no_logs}
+use Rattle.sci_text.specs.LogValue.{StampedFits, EntryFits, Front, front_of, IsFront, IsForm, HasAllLines, HasRoom, HasNoExtra, first_line, first_lines, front_text, entry_count, BeginsLog, BeginsLast, NoLast, LogLineFault, IsLogFault, IsRefusalAfter, AddsLast, AddsEntry, IsLatest, no_logs}
 
 -- ---- `last` lines
 
@@ -79,9 +80,6 @@ none_extra : (lines : Option ℕ) → HasNoExtra lines 0
 none_extra None = tt
 none_extra (Some lines) = omega arith
 
-pub last_front_none : (form : Form) → IsFrontOf form []
-last_front_none form = record { last = λ k d lt. absurd (omega arith); few = omega arith; no_extra = none_extra form.lines }
-
 one_more : (lines : Option ℕ) (old new : ℕ) → HasRoom lines old → new ≡ old + 1 → HasNoExtra lines new
 one_more None old new room more = tt
 one_more (Some lines) old new room more = omega arith
@@ -96,10 +94,10 @@ last_front_more form old new bytes rest h a = rw a.added (record {
 -- ---- faults
 
 refusal_of : (kind : TextFaultKind) (input : List ℕ) (line : ℕ) (front : Front) (rest : List ℕ) → IsFront front → input ≡ front_text front ++ rest → (front.form.lines ≡ None → BeginsLog input → ⊥) → (0 < length rest) ⊎ (HasAllLines front.form.lines (length front.last) → ⊥)
-    → line ≡ first_lines front.form.lines + length front.last + entry_count front.logs + 1 → (kind ≡ Memory → ⊥) → LogLineFault front rest kind → IsLogRefusalOf kind input line
-refusal_of Syntax input line front rest good parts first goes_on place other fault = inr (record { before = front; rest = rest; good = good; parts = parts; first = first; goes_on = goes_on; place = place; fault = fault })
-refusal_of Range input line front rest good parts first goes_on place other fault = inr (record { before = front; rest = rest; good = good; parts = parts; first = first; goes_on = goes_on; place = place; fault = fault })
-refusal_of TooMany input line front rest good parts first goes_on place other fault = inr (record { before = front; rest = rest; good = good; parts = parts; first = first; goes_on = goes_on; place = place; fault = fault })
+    → line ≡ first_lines front.form.lines + length front.last + entry_count front.logs + 1 → (kind ≡ Memory → ⊥) → LogLineFault front rest kind → IsRefusalOf IsLogFault kind input line
+refusal_of Syntax input line front rest good parts first goes_on place other fault = inr (record { before = front; rest = rest; right = record { good = good; parts = parts; first = first }; more = goes_on; place = place; wrong = fault })
+refusal_of Range input line front rest good parts first goes_on place other fault = inr (record { before = front; rest = rest; right = record { good = good; parts = parts; first = first }; more = goes_on; place = place; wrong = fault })
+refusal_of TooMany input line front rest good parts first goes_on place other fault = inr (record { before = front; rest = rest; right = record { good = good; parts = parts; first = first }; more = goes_on; place = place; wrong = fault })
 refusal_of Read input line front rest good parts first goes_on place other fault = absurd fault
 refusal_of Write input line front rest good parts first goes_on place other fault = absurd fault
 refusal_of Memory input line front rest good parts first goes_on place other fault = absurd (other refl)
@@ -111,12 +109,12 @@ pub record IsAt (fault : TextFault) (line : ℕ) (kind : TextFaultKind) : Type 0
   pub other : (kind ≡ Memory → ⊥) → fault.line ≡ line
 
 refusal_at : (kind : TextFaultKind) (input : List ℕ) (fault : TextFault) (line : ℕ) (front : Front) (rest : List ℕ) → IsAt fault line kind → IsFront front → input ≡ front_text front ++ rest → (front.form.lines ≡ None → BeginsLog input → ⊥)
-    → (0 < length rest) ⊎ (HasAllLines front.form.lines (length front.last) → ⊥) → line ≡ first_lines front.form.lines + length front.last + entry_count front.logs + 1 → (kind ≡ Memory) ⊎ LogLineFault front rest kind → IsLogRefusal input fault
-refusal_at kind input fault line front rest at good parts first goes_on place (inl memory) = subst (λ (k : TextFaultKind). IsLogRefusalOf k input fault.line) (sym (at.kind_is ∙ memory)) (at.memory memory)
+    → (0 < length rest) ⊎ (HasAllLines front.form.lines (length front.last) → ⊥) → line ≡ first_lines front.form.lines + length front.last + entry_count front.logs + 1 → (kind ≡ Memory) ⊎ LogLineFault front rest kind → IsRefusal IsLogFault input fault
+refusal_at kind input fault line front rest at good parts first goes_on place (inl memory) = subst (λ (k : TextFaultKind). IsRefusalOf IsLogFault k input fault.line) (sym (at.kind_is ∙ memory)) (at.memory memory)
 refusal_at kind input fault line front rest at good parts first goes_on place (inr faulty) =
     let other : kind ≡ Memory → ⊥ = λ e. subst (LogLineFault front rest) e faulty in
     let told = refusal_of kind input line front rest good parts first goes_on place other faulty in
-    subst (λ (k : TextFaultKind). IsLogRefusalOf k input fault.line) (sym at.kind_is) (subst (IsLogRefusalOf kind input) (sym (at.other other)) told)
+    subst (λ (k : TextFaultKind). IsRefusalOf IsLogFault k input fault.line) (sym at.kind_is) (subst (λ (l : ℕ). IsRefusalOf IsLogFault kind input l) (sym (at.other other)) told)
 
 -- a faulty `last` line
 pub last_refused : (form : Form) (last : List Stamped) (bytes rest : List ℕ) (kind : TextFaultKind) (line : ℕ) (fault : TextFault) → IsForm form → IsFrontOf form last → bytes ≡ last_lines 0 last ++ rest → BeginsLast rest → IsAt fault line kind

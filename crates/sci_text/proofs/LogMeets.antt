@@ -17,6 +17,7 @@ use Rattle.sci_text.specs.declared.fault.TextFaultKind.TheVariants.{Syntax, Rang
 use Rattle.sci_text.specs.Log.{last_line, last_lines, entry_line, entry_lines}
 use Rattle.sci_text.specs.LogValue.{StampedFits, EntryFits, Front, front_of, IsFront, HasAllLines, HasRoom, HasNoExtra, BeginsLast, SaysEntry, IsEntryPlace, LogLineFault, entry_count}
 use Rattle.sci_text.specs.Reading.{fitting, last_line_read, entry_line_read}
+use Rattle.sci_text.proofs.FirstFaults.{GoesRight}
 use Rattle.sci_text.proofs.LogReads.{LastSaid, last_line_again, EntrySaid, EntryReads, entry_line_again}
 use Rattle.sci_text.proofs.LogFaults.{fits_reads, entry_not_last}
 use Rattle.sci_text.proofs.LogFronts.{GoodLast, last_begins, entry_nonempty, node_below}
@@ -221,13 +222,8 @@ room_for own f x y old logs e more good other low parts =
 
 -- ---- fronts that go on
 
--- the bytes go on behind the front with a line that is right there
-pub record GoesRight (front : Front) (rest : List ℕ) : Type 0 where
-  pub some : 0 < length rest
-  pub right : (kind : TextFaultKind) → LogLineFault front rest kind → ⊥
-
 entry_goes_right : OwnEntries → (f : Form) (last : List Stamped) (old logs : List (List Entry)) (rest tail : List ℕ) (e : Entry) (more : List Entry) → IsFront (front_of f last old) → IsFront (front_of f last logs)
-    → flat_map same_log logs ≡ flat_map same_log old ++ e ∷ more → rest ≡ flat_map entry_line (e ∷ more) ++ tail → GoesRight (front_of f last old) rest
+    → flat_map same_log logs ≡ flat_map same_log old ++ e ∷ more → rest ≡ flat_map entry_line (e ∷ more) ++ tail → GoesRight LogLineFault (front_of f last old) rest
 entry_goes_right own f last old logs rest tail e more good other parts left =
     let fits = (all_back (EntryFits f (length last)) (flat_map same_log old) (e ∷ more) (subst (AllByRecursion (EntryFits f (length last))) parts (all_in (EntryFits f (length last)) logs other.entries))).0 in
     let reads = fits_reads (front_of f last logs) e other.form other.few_lines fits in
@@ -248,7 +244,7 @@ room_of : (lines : Option ℕ) (n m : ℕ) → HasNoExtra lines m → n < m → 
 room_of None n m few lt = tt
 room_of (Some lines) n m few lt = omega arith
 
-last_goes_right : (f : Form) (x y : List Stamped) (old logs : List (List Entry)) (rest : List ℕ) → IsFront (front_of f y logs) → NextLast 0 x y (entry_lines old ++ rest) → GoesRight (front_of f x old) rest
+last_goes_right : (f : Form) (x y : List Stamped) (old logs : List (List Entry)) (rest : List ℕ) → IsFront (front_of f y logs) → NextLast 0 x y (entry_lines old ++ rest) → GoesRight LogLineFault (front_of f x old) rest
 last_goes_right f x y old logs rest other next =
     let s = next.stamped in
     let front : flat_map entry_line (flat_map same_log old) ++ rest ≡ last_line (0 + length x) s ++ next.tail = ap (λ (t : List ℕ). t ++ rest) (sym (all_lines old)) ∙ next.left in
@@ -270,10 +266,10 @@ pub record SameFront (x y : List Stamped) (old logs : List (List Entry)) (r t : 
   pub rest : r ≡ t
 
 abbrev pub MeetsFront : Form → List Stamped → List Stamped → List (List Entry) → List (List Entry) → List ℕ → List ℕ → Type 0
-MeetsFront f x y old logs r t = SameFront x y old logs r t ⊎ (GoesRight (front_of f x old) r ⊎ GoesRight (front_of f y logs) t)
+MeetsFront f x y old logs r t = SameFront x y old logs r t ⊎ (GoesRight LogLineFault (front_of f x old) r ⊎ GoesRight LogLineFault (front_of f y logs) t)
 
 longer : OwnEntries → (f : Form) (last : List Stamped) (long short : List (List Entry)) (after rest : List ℕ) (more : List Entry) → IsFront (front_of f last long) → IsFront (front_of f last short)
-    → flat_map same_log long ≡ flat_map same_log short ++ more → rest ≡ flat_map entry_line more ++ after → ((flat_map same_log long ≡ flat_map same_log short) × (after ≡ rest)) ⊎ GoesRight (front_of f last short) rest
+    → flat_map same_log long ≡ flat_map same_log short ++ more → rest ≡ flat_map entry_line more ++ after → ((flat_map same_log long ≡ flat_map same_log short) × (after ≡ rest)) ⊎ GoesRight LogLineFault (front_of f last short) rest
 longer own f last long short after rest [] good other parts left = inl (parts ∙ append-nil (flat_map same_log short), sym left)
 longer own f last long short after rest (e ∷ more) good other parts left = inr (entry_goes_right own f last short long rest after e more other good parts left)
 

@@ -1,32 +1,23 @@
--- Bytes have one first line that is faulty in a log, and one fault there.
-use Rattle.std.proofs.Common.{◌≡◌, ℕ, ◌+◌, List, length, refl, sym, ap, subst, ◌∙◌, inl, inr}
+-- The text of a log has no line with a fault, and bytes have one first line that is faulty in a log, and one fault there.
+use Rattle.std.proofs.Common.{◌≡◌, ℕ, ◌<◌, List, [], length, Result, Ok, Err, refl, sym, ap, subst, ◌∙◌, arith, inl, inr, ◌⊎◌}
+use Rattle.std.specs.Prelude.{IfOk, IfErr}
+use Rattle.std.proofs.lemmas.List.{append-nil}
 use Rattle.sci_words.specs.declared.stamped.Stamped.{Stamped}
 use Rattle.sci_history.specs.declared.entry.Entry.{Entry}
 use Rattle.sci_text.specs.declared.form.Form.{Form}
+use Rattle.sci_text.specs.declared.fault.TextFault.{TextFault}
 use Rattle.sci_text.specs.declared.fault.TextFaultKind.{TextFaultKind}
 use Rattle.sci_text.specs.declared.fault.TextFaultKind.TheVariants.{Syntax, Range, TooMany, Read, Write, Memory}
-use Rattle.sci_text.specs.LogValue.{EntryFits, Front, front_of, IsFront, BeginsLast, LogLineFault, LogFaultAfter, SizeFault, IsLogFault, entry_count, first_lines}
+use Rattle.sci_text.specs.FirstFault.{IsRefusal, IsReadAs}
+use Rattle.sci_text.specs.LogValue.{EntryFits, Front, front_of, front_text, IsFront, HasAllLines, IsLogs, BeginsLast, BeginsFront, GoesOn, line_count, LogLineFault, SizeFault, IsLogFault}
+use Rattle.sci_text.proofs.FirstFaults.{GoesRight, Meets, IsGrammar, one_first_fault, no_first_fault, read_as}
 use Rattle.sci_text.proofs.LogFaults.{fits_reads, entry_not_last}
 use Rattle.sci_text.proofs.LogFronts.{last_begins}
 use Rattle.sci_text.proofs.LogUnique.{OnePartition}
-use Rattle.sci_text.proofs.LogMeets.{OwnEntries, MeetsFront, SameFront, meet_fronts, said_is}
-use Rattle.sci_text.proofs.LogNoFault.{size_right, same_forms}
+use Rattle.sci_text.proofs.LogMeets.{OwnEntries, meet_fronts, said_is}
+use Rattle.sci_text.proofs.LogForms.{one_size_fault, size_right, same_forms, whole_first}
 
 -- ---- one fault of a line
-
-one_size_fault : (bytes : List ℕ) (k j : TextFaultKind) → SizeFault bytes k → SizeFault bytes j → k ≡ j
-one_size_fault bytes Syntax Syntax f g = refl
-one_size_fault bytes Syntax Range f g = absurd (f.1 g.0 g.1 g.2)
-one_size_fault bytes Range Syntax f g = absurd (g.1 f.0 f.1 f.2)
-one_size_fault bytes Range Range f g = refl
-one_size_fault bytes k TooMany f g = absurd g
-one_size_fault bytes k Read f g = absurd g
-one_size_fault bytes k Write f g = absurd g
-one_size_fault bytes k Memory f g = absurd g
-one_size_fault bytes TooMany j f g = absurd f
-one_size_fault bytes Read j f g = absurd f
-one_size_fault bytes Write j f g = absurd f
-one_size_fault bytes Memory j f g = absurd f
 
 syntax_or_range : (front : Front) (bytes : List ℕ) → LogLineFault front bytes Syntax → LogLineFault front bytes Range → ⊥
 syntax_or_range front bytes f (inl g) = f.0 g.0 g.1 g.2
@@ -55,50 +46,72 @@ one_line_fault front bytes Read j good f g = absurd f
 one_line_fault front bytes Write j good f g = absurd f
 one_line_fault front bytes Memory j good f g = absurd f
 
--- ---- one first faulty line
+-- ---- the first faulty line
 
--- a front and a fault of what is behind it
-record Faulty (f : Form) (x : List Stamped) (old : List (List Entry)) (rest : List ℕ) (kind : TextFaultKind) : Type 0 where
-  good : IsFront (front_of f x old)
-  fault : LogLineFault (front_of f x old) rest kind
+-- two fronts of the same bytes are one, or one goes on from the other
+log_meets : OnePartition → OwnEntries → (input : List ℕ) (v w : Front) (r t : List ℕ) → BeginsFront input v r → BeginsFront input w t → Meets LogLineFault v w r t
+log_meets one own input v w r t f g =
+    let same = same_forms v.form w.form v.last w.last v.logs w.logs input r t f.good.form g.good.form f.first g.first f.parts g.parts in
+    let here : IsFront (front_of w.form v.last v.logs) = subst (λ (h : Form). IsFront (front_of h v.last v.logs)) same.0 f.good in
+    elim (meet_fronts own w.form v.last w.last v.logs w.logs r t here g.good same.1) [
+      | inl is ↦
+          let entries : v.logs ≡ w.logs = one v.logs w.logs f.good.own g.good.own f.good.sixteen g.good.sixteen is.entries in
+          inl (
+            ap (λ (h : Form). front_of h v.last v.logs) same.0 ∙ ap (λ (l : List Stamped). front_of w.form l v.logs) is.last ∙ ap (λ (ls : List (List Entry)). front_of w.form w.last ls) entries,
+            is.rest,
+          )
+      | inr goes ↦
+          elim goes [
+            | inl right ↦ inr (inl (subst (λ (h : Form). GoesRight LogLineFault (front_of h v.last v.logs) r) (sym same.0) right))
+            | inr right ↦ inr (inr right)
+          ]
+    ]
 
-abbrev place_of : Form → List Stamped → List (List Entry) → ℕ
-place_of f x old = first_lines f.lines + length x + entry_count old + 1
-
-abbrev IsOne : Form → List Stamped → List Stamped → List (List Entry) → List (List Entry) → TextFaultKind → TextFaultKind → Type 0
-IsOne f x y old logs k j = (place_of f x old ≡ place_of f y logs) × (k ≡ j)
-
-same_front : OnePartition → (f : Form) (x y : List Stamped) (old logs : List (List Entry)) (r t : List ℕ) (k j : TextFaultKind) → Faulty f x old r k → Faulty f y logs t j → SameFront x y old logs r t → IsOne f x y old logs k j
-same_front one f x y old logs r t k j a b same =
-    let entries : old ≡ logs = one old logs a.good.own b.good.own a.good.sixteen b.good.sixteen same.entries in
-    let in_y : Faulty f y old r k = subst (λ (l : List Stamped). Faulty f l old r k) same.last a in
-    let in_logs : Faulty f y logs r k = subst (λ (l : List (List Entry)). Faulty f y l r k) entries in_y in
-    let in_t : Faulty f y logs t k = subst (λ (l : List ℕ). Faulty f y logs l k) same.rest in_logs in (
-      ap (λ (l : List Stamped). place_of f l old) same.last ∙ ap (λ (l : List (List Entry)). place_of f y l) entries,
-      one_line_fault (front_of f y logs) t k j b.good in_t.fault b.fault,
-    )
-
-one_of_two : OnePartition → (f : Form) (x y : List Stamped) (old logs : List (List Entry)) (r t : List ℕ) (k j : TextFaultKind) → Faulty f x old r k → Faulty f y logs t j → MeetsFront f x y old logs r t → IsOne f x y old logs k j
-one_of_two one f x y old logs r t k j a b (inl same) = same_front one f x y old logs r t k j a b same
-one_of_two one f x y old logs r t k j a b (inr (inl right)) = absurd (right.right k a.fault)
-one_of_two one f x y old logs r t k j a b (inr (inr right)) = absurd (right.right j b.fault)
-
-one_after : OnePartition → OwnEntries → (input : List ℕ) (l m : ℕ) (k j : TextFaultKind) → LogFaultAfter input l k → LogFaultAfter input m j → (l ≡ m) × (k ≡ j)
-one_after one own input l m k j f g =
-    let a = f.before in
-    let b = g.before in
-    let same = same_forms a.form b.form a.last b.last a.logs b.logs input f.rest g.rest f.good.form g.good.form f.first g.first f.parts g.parts in
-    let left : Faulty a.form a.last a.logs f.rest k = record { good = f.good; fault = f.fault } in
-    let here : Faulty b.form a.last a.logs f.rest k = subst (λ (h : Form). Faulty h a.last a.logs f.rest k) same.0 left in
-    let other : Faulty b.form b.last b.logs g.rest j = record { good = g.good; fault = g.fault } in
-    let two = one_of_two one b.form a.last b.last a.logs b.logs f.rest g.rest k j here other (meet_fronts own b.form a.last b.last a.logs b.logs f.rest g.rest here.good other.good same.1) in
-    (f.place ∙ ap (λ (h : Form). place_of h a.last a.logs) same.0 ∙ two.0 ∙ sym g.place, two.1)
-
-not_both : (input : List ℕ) (m : ℕ) (k j : TextFaultKind) → SizeFault input k → LogFaultAfter input m j → ⊥
-not_both input m k j size f = let b = f.before in size_right b.form b.last b.logs input f.rest k f.good.form f.first f.parts size
+grammar : OnePartition → OwnEntries → IsGrammar SizeFault BeginsFront LogLineFault
+grammar one own = record {
+  one_opening = one_size_fault;
+  opened = λ input k v r fault h. size_right v.form v.last v.logs input r k h.good.form h.first h.parts fault;
+  one_fault = λ input v r k j h f g. one_line_fault v r k j h.good f g;
+  meets = log_meets one own;
+}
 
 pub one_log_fault : OnePartition → OwnEntries → (input : List ℕ) (l m : ℕ) (k j : TextFaultKind) → IsLogFault input l k → IsLogFault input m j → (l ≡ m) × (k ≡ j)
-one_log_fault one own input l m k j (inl f) (inl g) = (f.0 ∙ sym g.0, one_size_fault input k j f.1 g.1)
-one_log_fault one own input l m k j (inl f) (inr g) = absurd (not_both input m k j f.1 g)
-one_log_fault one own input l m k j (inr f) (inl g) = absurd (not_both input l j k g.1 f)
-one_log_fault one own input l m k j (inr f) (inr g) = one_after one own input l m k j f g
+one_log_fault one own input l m k j f g = one_first_fault SizeFault BeginsFront GoesOn line_count LogLineFault (grammar one own) input l m k j f g
+
+pub no_log_fault : OnePartition → OwnEntries → (input : List ℕ) (nodes : ℕ) (logs : List (List Entry)) (last : List Stamped) (line : ℕ) (kind : TextFaultKind) → IsLogs input nodes logs last → IsLogFault input line kind → ⊥
+no_log_fault one own input nodes logs last line kind h fault =
+    let f = h.0 in
+    let front = front_of f last logs in
+    let right : BeginsFront input front [] = record { good = h.1.good; parts = h.2 ∙ sym (append-nil (front_text front)); first = whole_first f last logs input h.1.good.form h.1.whole h.2 } in
+    no_first_fault SizeFault BeginsFront GoesOn line_count LogLineFault (grammar one own) input front right (ended f last h.1.whole) line kind fault
+  where
+    ended : (f : Form) (last : List Stamped) → HasAllLines f.lines (length last) → (0 < length {A = ℕ} []) ⊎ (HasAllLines f.lines (length last) → ⊥) → ⊥
+    ended f last whole (inl some) = absurd (omega arith)
+    ended f last whole (inr few) = few whole
+
+-- what comes of a log's text in memory
+abbrev Log : Type 0
+Log = ℕ × List (List Entry) × List Stamped
+
+abbrev OneLog : Type 0
+OneLog = (input : List ℕ) (n m : ℕ) (a b : List (List Entry)) (x y : List Stamped) → IsLogs input n a x → IsLogs input m b y → (n ≡ m) × (a ≡ b) × (x ≡ y)
+
+abbrev NoLogFault : Type 0
+NoLogFault = (input : List ℕ) (nodes : ℕ) (logs : List (List Entry)) (last : List Stamped) (line : ℕ) (kind : TextFaultKind) → IsLogs input nodes logs last → IsLogFault input line kind → ⊥
+
+pub log_read_as : OneLog → NoLogFault → (input bytes : List ℕ) (nodes : ℕ) (logs : List (List Entry)) (last : List Stamped) (result : Result (ℕ × List (List Entry) × List Stamped) TextFault) → IsLogs input nodes logs last → bytes ≡ input
+    → IfOk result (λ x. IsLogs bytes x.0 x.1 x.2) → IfErr result (IsRefusal IsLogFault bytes) → IsReadAs {T = ℕ × List (List Entry) × List Stamped} (nodes, logs, last) result
+log_read_as one none input bytes nodes logs last result is same text fault =
+    read_as IsLogFault bytes (λ line kind f. none bytes nodes logs last line kind here f) (nodes, logs, last) result (read_is result text) fault
+  where
+    here : IsLogs bytes nodes logs last
+    here = subst (λ (l : List ℕ). IsLogs l nodes logs last) (sym same) is
+
+    value_of : ℕ → List (List Entry) → List Stamped → Log
+    value_of n ls l = (n, ls, l)
+
+    read_is : (result : Result Log TextFault) → IfOk result (λ x. IsLogs bytes x.0 x.1 x.2) → IfOk {T = Log} result (λ read. read ≡ (nodes, logs, last))
+    read_is (Ok read) text =
+        let is_one = one bytes read.0 nodes read.1 logs read.2 last text here in
+        ap (λ (n : ℕ). value_of n read.1 read.2) is_one.0 ∙ ap (λ (ls : List (List Entry)). value_of nodes ls read.2) is_one.1 ∙ ap (value_of nodes logs) is_one.2
+    read_is (Err f) text = tt

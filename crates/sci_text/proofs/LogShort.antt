@@ -15,7 +15,7 @@ use Rattle.sci_text.specs.LogValue.{IsSize, ReplyFits}
 use Rattle.sci_text.specs.Script.{IsShort}
 use Rattle.sci_text.proofs.LogReads.{EntryReads}
 use Rattle.sci_text.proofs.LogFronts.{GoodLast}
-use Rattle.sci_text.proofs.Unique.{number_short, field_short, operation_short}
+use Rattle.sci_text.proofs.ScriptUnique.{number_short, field_short, operation_short}
 
 version_short : (version : ℕ) → version < 2 ^ 64 → length (version_text version) ≤ 22
 unfolding version_text

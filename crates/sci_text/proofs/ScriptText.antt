@@ -1,5 +1,5 @@
 -- The text of a script grows by the line of each operation.
-use Rattle.std.proofs.Common.{◌≡◌, ℕ, ◌<◌, List, [], ◌∷◌, ◌++◌, length, sym, ap, ◌∙◌, append_assoc, arith}
+use Rattle.std.proofs.Common.{◌≡◌, ℕ, ◌<◌, List, [], ◌∷◌, ◌++◌, length, ap, ◌∙◌, append_assoc, arith}
 use Rattle.std.specs.List.{flat_map}
 use Rattle.std.proofs.lemmas.List.{append-nil, length-append}
 use Rattle.std.proofs.lemmas.List.Concat.{flat_map-append}
@@ -8,10 +8,6 @@ use Rattle.sci_text.specs.Script.{ScriptValue, machine_line, operation_line, scr
 
 abbrev pub line_of : ℕ × Op → List ℕ
 line_of p = operation_line p.0 p.1
-
--- the script of a machine with no operation
-pub text_empty : (nodes lines slots : ℕ) → script_text (record { nodes = nodes; lines = lines; slots = slots; operations = [] }) ≡ machine_line nodes lines slots
-text_empty nodes lines slots = append-nil (machine_line nodes lines slots)
 
 pub text_grows : (s : ScriptValue) (node : ℕ) (op : Op) (rest : List ℕ) → script_text (with_operation s node op) ++ rest ≡ script_text s ++ (operation_line node op ++ rest)
 text_grows s node op rest =
@@ -26,7 +22,3 @@ line_nonempty node op = omega arith
 
 pub line_shrinks : (old new : ScriptValue) (bytes rest : List ℕ) → AddsLine old new bytes rest → length rest < length bytes
 line_shrinks old new bytes rest adds = omega (arith, ap length adds.parts, length-append (operation_line adds.node adds.op) rest, line_nonempty adds.node adds.op)
-
-pub text_goes_on : (input : List ℕ) (old new : ScriptValue) (bytes rest : List ℕ) → input ≡ script_text old ++ bytes → AddsLine old new bytes rest → input ≡ script_text new ++ rest
-text_goes_on input old new bytes rest so_far adds =
-    so_far ∙ ap (λ (l : List ℕ). script_text old ++ l) adds.parts ∙ sym (text_grows old adds.node adds.op rest) ∙ ap (λ (s : ScriptValue). script_text s ++ rest) (sym adds.added)

@@ -1,4 +1,4 @@
-pub mod Fault
+pub mod FirstFault
 pub mod Number
 pub mod Operation
 pub mod Reading
@@ -7,5 +7,6 @@ pub mod Tap
 pub mod Log
 pub mod Schedule
 pub mod ScheduleFault
+pub mod ScriptFault
 pub mod EventReading
 pub mod LogValue

@@ -1,7 +1,7 @@
 -- Logs that are read from a text, in both formats, and the lines that say them.
-use Rattle.std.specs.Prelude.{◌≡◌, ℕ, ◌+◌, ◌<◌, ◌≤◌, ◌^◌, ◌⊎◌, List, [], ◌∷◌, ◌++◌, length, codes, All, Option, Some, None, IfSome, Bool, true, false, Result, Ok, Err, replicate, slice_set}
+use Rattle.std.specs.Prelude.{◌≡◌, ℕ, ◌+◌, ◌<◌, ◌≤◌, ◌^◌, ◌⊎◌, List, [], ◌∷◌, ◌++◌, length, codes, All, Option, Some, None, replicate, slice_set}
 use Rattle.std.specs.List.{flat_map}
-use Rattle.sci_words.specs.declared.limits.TheConstants.{MAX_NODES, MAX_LINES, MAX_OPERATIONS, MAX_INPUT_BYTES, WORDS_PER_LINE, FORMAT_1_NODES, FORMAT_1_SERIALS, FORMAT_1_ENTRIES}
+use Rattle.sci_words.specs.declared.limits.TheConstants.{MAX_NODES, MAX_LINES, MAX_OPERATIONS, WORDS_PER_LINE, FORMAT_1_NODES, FORMAT_1_SERIALS, FORMAT_1_ENTRIES}
 use Rattle.sci_words.specs.declared.operation.Act.{Act}
 use Rattle.sci_words.specs.declared.operation.Act.TheVariants.{Load, Store, Lock}
 use Rattle.sci_words.specs.declared.operation.Reply.{Reply}
@@ -15,7 +15,7 @@ use Rattle.sci_text.specs.declared.fault.TextFault.{TextFault}
 use Rattle.sci_text.specs.declared.form.Form.{Form}
 use Rattle.sci_text.specs.Operation.{ActFits}
 use Rattle.sci_text.specs.Log.{log_line, last_line, last_lines, entry_line, entry_lines}
-use Rattle.sci_text.specs.Fault.{Says}
+use Rattle.sci_text.specs.FirstFault.{Says, LineFault, IsFirstFault, IsRefusal}
 
 abbrev pub format_1 : Form
 format_1 = record { nodes = FORMAT_1_NODES; serials = FORMAT_1_SERIALS; entries = FORMAT_1_ENTRIES; lines = None }
@@ -185,70 +185,34 @@ LogLineFault front bytes Memory = ⊥
 
 -- what is wrong with a first line that begins with `log `
 abbrev pub SizeFault : List ℕ → TextFaultKind → Type 0
-SizeFault bytes Syntax = BeginsLog bytes × ((nodes lines : ℕ) → Says bytes (log_line nodes lines) → ⊥)
-SizeFault bytes Range = (nodes : ℕ) × (lines : ℕ) × Says bytes (log_line nodes lines) × (IsSize nodes lines → ⊥)
-SizeFault bytes TooMany = ⊥
-SizeFault bytes Read = ⊥
-SizeFault bytes Write = ⊥
-SizeFault bytes Memory = ⊥
+SizeFault bytes kind = BeginsLog bytes × LineFault {X = ℕ × ℕ} (λ size. Says bytes (log_line size.0 size.1)) (λ size. IsSize size.0 size.1) (λ size. ⊥) kind
 
 -- how many lines come before those of the last contents
 abbrev pub first_lines : Option ℕ → ℕ
 first_lines None = 0
 first_lines (Some lines) = 1
 
--- the input begins with lines that are right, and goes on with one that has a fault, or ends too early
-pub record LogFaultAfter (input : List ℕ) (line : ℕ) (kind : TextFaultKind) : Type 0 where
-  pub before : Front
-  pub rest : List ℕ
-  pub good : IsFront before
-  pub parts : input ≡ front_text before ++ rest
-  pub first : before.form.lines ≡ None → BeginsLog input → ⊥
-  pub goes_on : (0 < length rest) ⊎ (HasAllLines before.form.lines (length before.last) → ⊥)
-  pub place : line ≡ first_lines before.form.lines + length before.last + entry_count before.logs + 1
-  pub fault : LogLineFault before rest kind
+-- the input begins with these lines, in format 1 if there is no first line
+pub record BeginsFront (input : List ℕ) (front : Front) (rest : List ℕ) : Type 0 where
+  pub good : IsFront front
+  pub parts : input ≡ front_text front ++ rest
+  pub first : front.form.lines ≡ None → BeginsLog input → ⊥
+
+-- there is more, or `last` lines are missing
+abbrev pub GoesOn : Front → List ℕ → Type 0
+GoesOn front rest = (0 < length rest) ⊎ (HasAllLines front.form.lines (length front.last) → ⊥)
+
+abbrev pub line_count : Front → ℕ
+line_count front = first_lines front.form.lines + length front.last + entry_count front.logs
 
 -- the first line of a log that has a fault, and the fault
 abbrev pub IsLogFault : List ℕ → ℕ → TextFaultKind → Type 0
-IsLogFault input line kind = ((line ≡ 1) × SizeFault input kind) ⊎ LogFaultAfter input line kind
-
--- why bytes in memory are refused: they have a faulty line, or memory was refused
-abbrev pub IsLogRefusalOf : TextFaultKind → List ℕ → ℕ → Type 0
-IsLogRefusalOf Syntax input line = IsLogFault input line Syntax
-IsLogRefusalOf Range input line = IsLogFault input line Range
-IsLogRefusalOf TooMany input line = IsLogFault input line TooMany
-IsLogRefusalOf Read input line = ⊥
-IsLogRefusalOf Write input line = ⊥
-IsLogRefusalOf Memory input line = line ≡ 0
-
-abbrev pub IsLogRefusal : List ℕ → TextFault → Type 0
-IsLogRefusal input fault = IsLogRefusalOf fault.kind input fault.line
+IsLogFault input line kind = IsFirstFault SizeFault BeginsFront GoesOn line_count LogLineFault input line kind
 
 -- the fault of every input that goes on from its first line with these bytes
 abbrev pub IsRefusalAfter : Form → List ℕ → TextFault → Type 0
 IsRefusalAfter form bytes fault =
-    (input : List ℕ) → input ≡ first_line form ++ bytes → (form.lines ≡ None → BeginsLog input → ⊥) → IsLogRefusal input fault
-
--- ---- the whole input
-
-abbrev pub IsFaultyLogLine : List ℕ → ℕ → TextFaultKind → Type 0
-IsFaultyLogLine input line kind = (length input ≤ MAX_INPUT_BYTES) × IsLogFault input line kind
-
--- What is told, and at which line, of a log whose bytes are known or not, by a reader that then has failed or not. The
--- whole input comes first, then the first line with a fault.
-abbrev pub IsLogTold : TextFaultKind → Option (List ℕ) → Bool → ℕ → Type 0
-IsLogTold Read known failed line = (failed ≡ true) × (line ≡ 0)
-IsLogTold Memory known failed line = (failed ≡ false) × (line ≡ 0)
-IsLogTold Syntax known failed line = (failed ≡ false) × IfSome known (λ input. IsFaultyLogLine input line Syntax)
-IsLogTold Range known failed line = (failed ≡ false) × IfSome known (λ input. IsFaultyLogLine input line Range)
-IsLogTold TooMany known failed line =
-    (failed ≡ false) × IfSome known (λ input. ((MAX_INPUT_BYTES < length input) × (line ≡ 0)) ⊎ IsFaultyLogLine input line TooMany)
-IsLogTold Write known failed line = ⊥
-
--- the logs are read, unless the reader failed or memory was refused
-abbrev pub IsLogsReadAs : ℕ → List (List Entry) → List Stamped → Result (ℕ × List (List Entry) × List Stamped) TextFault → Type 0
-IsLogsReadAs nodes logs last (Ok read) = (read.0 ≡ nodes) × (read.1 ≡ logs) × (read.2 ≡ last)
-IsLogsReadAs nodes logs last (Err fault) = (fault.kind ≡ Read) ⊎ (fault.kind ≡ Memory)
+    (input : List ℕ) → input ≡ first_line form ++ bytes → (form.lines ≡ None → BeginsLog input → ⊥) → IsRefusal IsLogFault input fault
 
 -- ---- what the readers of lines do
 

@@ -7,7 +7,7 @@ ghost use Rattle.sci_text.specs.Log.{log_text};
 ghost use Rattle.sci_text.specs.LogValue.{AreLogs, IsLogFault, IsLogs};
 ghost use Rattle.sci_text.specs.declared.fault.TextFaultKind.{TextFaultKind};
 ghost use Rattle.sci_text.specs.Script.{ScriptValue, IsScript, script_text};
-ghost use Rattle.sci_text.specs.Fault.{IsLineFault};
+ghost use Rattle.sci_text.specs.ScriptFault.{IsScriptFault};
 
 use sci_history::one_partition;
 
@@ -18,12 +18,12 @@ pub fn one_script()
 
 /// The text of a script has no line with a fault.
 pub fn no_fault()
-    ensures { (s : ScriptValue) (line : ℕ) (kind : TextFaultKind) → IsScript s → IsLineFault (script_text s) line kind → ⊥ }
+    ensures { (s : ScriptValue) (line : ℕ) (kind : TextFaultKind) → IsScript s → IsScriptFault (script_text s) line kind → ⊥ }
 {}
 
 /// Bytes have at most one first faulty line, and one fault there.
 pub fn one_fault()
-    ensures { (input : List ℕ) (l m : ℕ) (k j : TextFaultKind) → IsLineFault input l k → IsLineFault input m j → (l ≡ m) × (k ≡ j) }
+    ensures { (input : List ℕ) (l m : ℕ) (k j : TextFaultKind) → IsScriptFault input l k → IsScriptFault input m j → (l ≡ m) × (k ≡ j) }
 {}
 
 /// Logs and last contents that a text in either format says are those of their text in format 2.

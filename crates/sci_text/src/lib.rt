@@ -17,6 +17,7 @@ mod schedule;
 mod schedule_laws;
 mod schedule_lines;
 mod schedule_reading;
+mod schedule_writing;
 mod script;
 mod tap;
 mod writing;
@@ -28,8 +29,9 @@ pub use laws::{
 pub use printing::{push_field, push_number, push_text};
 pub use reading::{read_input, read_logs, read_script};
 pub use schedule::Schedule;
-pub use schedule_laws::{no_schedule_fault, one_schedule, one_schedule_fault};
+pub use schedule_laws::{no_schedule_fault, one_schedule, one_schedule_fault, schedules_are_short};
 pub use schedule_reading::read_schedule;
+pub use schedule_writing::write_schedule;
 pub use script::{PushFault, Script};
 pub use tap::Tap;
 pub use writing::{logs_text, write_logs, write_text};

@@ -5,7 +5,8 @@ ghost use Rattle.sci_text.specs.declared.fault.TextFaultKind.TheVariants.{Memory
 ghost use Rattle.sci_words.specs.Extent.{AreWithinLimits};
 ghost use Rattle.sci_text.specs.Reading.{Gives, machine_line_read, operation_line_read};
 ghost use Rattle.sci_text.specs.Script.{IsScript, machine_line, script_text, AddsLine, IsShort};
-ghost use Rattle.sci_text.specs.Fault.{MachineFault, OperationFault, IsRefusal};
+ghost use Rattle.sci_text.specs.FirstFault.{IsRefusal};
+ghost use Rattle.sci_text.specs.ScriptFault.{IsScriptFault, MachineFault, OperationFault};
 
 use crate::fault::{TextFault, TextFaultKind};
 use crate::number::{Number, field};
@@ -96,7 +97,7 @@ fn push_line<'a>(script: &mut Script, bytes: &'a [u8]) -> Result<&'a [u8], TextF
 pub fn script(alloc: Global, input: &[u8]) -> Result<Script, TextFault>
     ensures ok { IfOk result (λ s. input.now ≡ script_text s) }
     ensures good { IfOk result IsScript }
-    ensures fault { IfErr result (IsRefusal input.now) }
+    ensures fault { IfErr result (IsRefusal IsScriptFault input.now) }
 {
     let (extent, first) = match machine(input) {
         Ok(read) => read,

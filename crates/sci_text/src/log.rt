@@ -4,8 +4,9 @@ ghost use Rattle.std.specs.Prelude.{◌≡◌, ◌<◌, ◌≤◌, ◌⊎◌, �
 ghost use Rattle.std.specs.Bool.{OnTrue, OnFalse};
 ghost use Rattle.sci_words.specs.declared.limits.TheConstants.{MAX_LINES};
 ghost use Rattle.sci_text.specs.declared.fault.TextFaultKind.TheVariants.{Memory};
+ghost use Rattle.sci_text.specs.FirstFault.{IsRefusal};
 ghost use Rattle.sci_text.specs.Log.{entry_lines, last_lines};
-ghost use Rattle.sci_text.specs.LogValue.{AddsEntry, AddsLast, AreLogs, BeginsLast, HasAllLines, IsForm, IsFront, IsLatest, IsLogRefusal, IsLogs, IsRefusalAfter, LogLineFault, NoLast, front_of, no_logs};
+ghost use Rattle.sci_text.specs.LogValue.{AddsEntry, AddsLast, AreLogs, BeginsLast, HasAllLines, IsForm, IsFront, IsLatest, IsLogFault, IsLogs, IsRefusalAfter, LogLineFault, NoLast, front_of, no_logs};
 
 use crate::fault::{TextFault, TextFaultKind};
 use crate::form::{Form, form_of};
@@ -191,7 +192,7 @@ fn last_of(contents: &[Stamped]) -> Last
 pub fn logs(alloc: Global, input: &[u8]) -> Result<(u8, Logs, Last), TextFault>
     ensures ok { IfOk result (λ x. IsLogs input.now x.0 x.1 x.2) }
     ensures good { IfOk result (λ x. AreLogs x.0 x.1 x.2) }
-    ensures fault { IfErr result (IsLogRefusal input.now) }
+    ensures fault { IfErr result (IsRefusal IsLogFault input.now) }
 {
     let (form, rest) = match form_of(input) {
         Ok(read) => read,

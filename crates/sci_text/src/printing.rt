@@ -100,7 +100,7 @@ fn put_operands(line: &mut LineEnd, act: Act)
 }
 
 #[tactic(auto, unfolding(crate::specs::Operation::operation))]
-fn put_operation(line: &mut LineEnd, op: Op)
+pub fn put_operation(line: &mut LineEnd, op: Op)
     requires { 96 + length line.old ≤ MAX_TEXT_LINE_BYTES }
     ensures text { line.new ≡ operation_text op ++ line.old }
     ensures short { length line.new ≤ 96 + length line.old }

@@ -2,13 +2,14 @@
 
 ghost use Rattle.sci_words.specs.declared.stamped.Stamped.{Stamped};
 ghost use Rattle.sci_history.specs.declared.entry.Entry.{Entry};
-ghost use Rattle.std.specs.Prelude.{ℕ, List, ◌≡◌, ◌≤◌, false, length, IfOk, OnOk, IfErr, IfSome, Some};
+ghost use Rattle.std.specs.Prelude.{ℕ, List, ◌≡◌, ◌<◌, ◌≤◌, false, length, IfOk, OnOk, IfErr, IfSome, Some};
 ghost use Rattle.std.specs.Io.KnownBytes.{IsAtEnd};
 ghost use Rattle.sci_words.specs.declared.limits.TheConstants.{MAX_INPUT_BYTES};
 ghost use Rattle.sci_text.specs.Tap.{tapped, has_failed, is_called_again};
 ghost use Rattle.sci_text.specs.Script.{ScriptValue, IsScript, script_text};
-ghost use Rattle.sci_text.specs.LogValue.{AreLogs, IsLogs, IsLogsReadAs, IsLogTold};
-ghost use Rattle.sci_text.specs.Fault.{IsInputFault, IsTold, IsReadAs};
+ghost use Rattle.sci_text.specs.LogValue.{AreLogs, IsLogFault, IsLogs};
+ghost use Rattle.sci_text.specs.FirstFault.{IsInputFault, IsTold, IsReadAs};
+ghost use Rattle.sci_text.specs.ScriptFault.{IsScriptFault};
 
 use crate::fault::{TextFault, TextFaultKind};
 use crate::laws::{no_log_fault, one_log};
@@ -17,11 +18,20 @@ use crate::tap::Tap;
 use crate::{lines, log};
 use sci_history::{Last, Logs};
 use sci_words::MAX_INPUT_BYTES;
-use std::alloc::Global;
+use std::alloc::{AllocError, Global};
 use std::io::Read;
 
 /// Bytes that are asked for in one read.
 const BLOCK_BYTES: usize = 65_536;
+
+/// Room for the bytes of one read, on the heap.
+fn empty_block(alloc: Global) -> Result<Vec<u8>, AllocError>
+    ensures { IfOk result (λ block. 0 < length block.items) }
+{
+    let mut block = Vec::new(alloc);
+    block.resize(BLOCK_BYTES, 0)?;
+    Ok(block)
+}
 
 /// All bytes that the reader has. A refusal is Read where the reader failed, TooMany for an input above
 /// 134,217,728 bytes, and Memory where a growth was refused; each has line 0. The caller sees to it that the tap has
@@ -37,7 +47,7 @@ pub fn read_input<R: Read>(alloc: Global, reader: &mut Tap<R>) -> Result<Vec<u8>
     ensures again { is_called_again reader.new ≡ is_called_again reader.old }
 {
     let mut input = Vec::new(alloc);
-    let mut block = [0u8; BLOCK_BYTES];
+    let mut block = empty_block(alloc)?;
     'reads: loop {
         let Ok(count) = reader.read(&mut block) else {
             return Err(TextFault::of_input(TextFaultKind::Read));
@@ -71,7 +81,7 @@ pub fn read_script<R: Read>(alloc: Global, reader: &mut Tap<R>) -> Result<Script
         → R.remaining (tapped reader.old) ≡ Some (script_text script) → IsReadAs script result }
 
     // Else the first fault is told.
-    ensures fault { IfErr result (λ fault. IsTold fault.kind (R.remaining (tapped reader.old)) (has_failed reader.new) fault.line) }
+    ensures fault { IfErr result (λ fault. IsTold IsScriptFault fault.kind (R.remaining (tapped reader.old)) (has_failed reader.new) fault.line) }
     ensures again { is_called_again reader.new ≡ is_called_again reader.old }
 {
     let input = read_input(alloc, reader)?;
@@ -92,10 +102,10 @@ pub fn read_logs<R: Read>(alloc: Global, reader: &mut Tap<R>) -> Result<(u8, Log
 
     // Where it is a text of logs, those are read.
     ensures only { (input : List ℕ) (nodes : ℕ) (logs : List (List Entry)) (last : List Stamped) → IsLogs input nodes logs last
-        → length input ≤ MAX_INPUT_BYTES → R.remaining (tapped reader.old) ≡ Some input → IsLogsReadAs nodes logs last result }
+        → length input ≤ MAX_INPUT_BYTES → R.remaining (tapped reader.old) ≡ Some input → IsReadAs (nodes, logs, last) result }
 
     // Else the first fault is told.
-    ensures fault { IfErr result (λ fault. IsLogTold fault.kind (R.remaining (tapped reader.old)) (has_failed reader.new) fault.line) }
+    ensures fault { IfErr result (λ fault. IsTold IsLogFault fault.kind (R.remaining (tapped reader.old)) (has_failed reader.new) fault.line) }
     ensures again { is_called_again reader.new ≡ is_called_again reader.old }
 {
     one_log();

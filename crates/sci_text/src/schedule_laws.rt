@@ -1,6 +1,7 @@
 //! Laws of schedules' texts, each the contract of a function that does nothing.
 
-ghost use Rattle.std.specs.Prelude.{◌≡◌, ℕ, List};
+ghost use Rattle.std.specs.Prelude.{◌≡◌, ◌≤◌, ℕ, List, length};
+ghost use Rattle.sci_words.specs.declared.limits.TheConstants.{MAX_INPUT_BYTES};
 ghost use Rattle.sci_text.specs.declared.fault.TextFaultKind.{TextFaultKind};
 ghost use Rattle.sci_text.specs.Schedule.{ScheduleValue, IsSchedule, schedule_text};
 ghost use Rattle.sci_text.specs.ScheduleFault.{IsScheduleFault};
@@ -18,4 +19,9 @@ pub fn no_schedule_fault()
 /// Bytes have at most one first line that is faulty in a schedule, and one fault there.
 pub fn one_schedule_fault()
     ensures { (input : List ℕ) (l m : ℕ) (k j : TextFaultKind) → IsScheduleFault input l k → IsScheduleFault input m j → (l ≡ m) × (k ≡ j) }
+{}
+
+/// The text of a schedule is not too long to be read.
+pub fn schedules_are_short()
+    ensures { (s : ScheduleValue) → IsSchedule s → length (schedule_text s) ≤ MAX_INPUT_BYTES }
 {}

@@ -3,7 +3,8 @@
 ghost use Rattle.std.specs.Prelude.{◌≡◌, ◌≤◌, ◌⊎◌, ◌++◌, IfOk, IfErr, OnErr};
 ghost use Rattle.sci_text.specs.declared.fault.TextFaultKind.TheVariants.{Memory};
 ghost use Rattle.sci_text.specs.Schedule.{IsSchedule, schedule_text, AddsEvent};
-ghost use Rattle.sci_text.specs.ScheduleFault.{EventFault, IsScheduleRefusal};
+ghost use Rattle.sci_text.specs.FirstFault.{IsRefusal};
+ghost use Rattle.sci_text.specs.ScheduleFault.{EventFault, IsScheduleFault};
 
 use crate::event::event_line;
 use crate::fault::{TextFault, TextFaultKind};
@@ -39,7 +40,7 @@ fn push_event<'a>(schedule: &mut Schedule, bytes: &'a [u8]) -> Result<&'a [u8], 
 pub fn schedule(alloc: Global, input: &[u8]) -> Result<Schedule, TextFault>
     ensures ok { IfOk result (λ s. input.now ≡ schedule_text s) }
     ensures good { IfOk result IsSchedule }
-    ensures fault { IfErr result (IsScheduleRefusal input.now) }
+    ensures fault { IfErr result (IsRefusal IsScheduleFault input.now) }
 {
     let (extent, first) = match machine(input) {
         Ok(read) => read,

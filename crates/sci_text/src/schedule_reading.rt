@@ -5,7 +5,8 @@ ghost use Rattle.std.specs.Io.KnownBytes.{IsAtEnd};
 ghost use Rattle.sci_words.specs.declared.limits.TheConstants.{MAX_INPUT_BYTES};
 ghost use Rattle.sci_text.specs.Tap.{tapped, has_failed, is_called_again};
 ghost use Rattle.sci_text.specs.Schedule.{ScheduleValue, IsSchedule, schedule_text};
-ghost use Rattle.sci_text.specs.ScheduleFault.{IsToldOfSchedule, IsScheduleReadAs};
+ghost use Rattle.sci_text.specs.FirstFault.{IsTold, IsReadAs};
+ghost use Rattle.sci_text.specs.ScheduleFault.{IsScheduleFault};
 
 use crate::fault::TextFault;
 use crate::reading::read_input;
@@ -31,10 +32,10 @@ pub fn read_schedule<R: Read>(alloc: Global, reader: &mut Tap<R>) -> Result<Sche
 
     // Where it is the text of a schedule, that schedule is read.
     ensures only { (schedule : ScheduleValue) → IsSchedule schedule → length (schedule_text schedule) ≤ MAX_INPUT_BYTES
-        → R.remaining (tapped reader.old) ≡ Some (schedule_text schedule) → IsScheduleReadAs schedule result }
+        → R.remaining (tapped reader.old) ≡ Some (schedule_text schedule) → IsReadAs schedule result }
 
     // Else the first fault is told.
-    ensures fault { IfErr result (λ fault. IsToldOfSchedule fault.kind (R.remaining (tapped reader.old)) (has_failed reader.new) fault.line) }
+    ensures fault { IfErr result (λ fault. IsTold IsScheduleFault fault.kind (R.remaining (tapped reader.old)) (has_failed reader.new) fault.line) }
     ensures again { is_called_again reader.new ≡ is_called_again reader.old }
 {
     let input = read_input(alloc, reader)?;

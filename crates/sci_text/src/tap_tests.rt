@@ -88,6 +88,7 @@ impl Write for Taking {
 }
 
 const SCRIPT: &[u8] = b"machine 1 1 1\n";
+
 const KINDS: [ErrorKind; 2] = [ErrorKind::Other, ErrorKind::Interrupted];
 
 #[test]

@@ -2,7 +2,7 @@
 use Rattle.std.proofs.Common.{ℕ, List, Bool, Option, inr, refl}
 use Rattle.scimem.specs.declared.outcome.Outcome.TheVariants.{Refused}
 use Rattle.sci_text.specs.declared.fault.TextFaultKind.{TextFaultKind}
-use Rattle.sci_text.specs.Fault.{IsInputFault}
+use Rattle.sci_text.specs.FirstFault.{IsInputFault}
 use Rattle.scimem.specs.Decoding.{IsInputRefusal, IsAnswer, refusal}
 use Rattle.scimem.specs.Refusal.{kind_word}
 

@@ -4,7 +4,6 @@ pub mod Runs
 pub mod Written
 pub mod Counts
 pub mod Refusals
-pub mod Replays
 pub mod ReplayLogs
 pub mod DoneLogs
 pub mod OracleLogs

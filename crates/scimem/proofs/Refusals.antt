@@ -3,33 +3,26 @@ use Rattle.std.proofs.Common.{◌≡◌, ℕ, ◌<◌, List, Bool, Option, refl,
 use Rattle.sci_text.specs.declared.fault.TextFault.{TextFault}
 use Rattle.sci_text.specs.declared.fault.TextFaultKind.{TextFaultKind}
 use Rattle.sci_text.specs.declared.fault.TextFaultKind.TheVariants.{Syntax, Range, TooMany, Read, Write, Memory}
-use Rattle.sci_text.specs.Fault.{IsTold}
-use Rattle.sci_text.specs.LogValue.{IsLogTold}
+use Rattle.sci_text.specs.FirstFault.{IsTold}
 use Rattle.scimem.specs.declared.outcome.Outcome.{Outcome}
 use Rattle.scimem.specs.declared.outcome.Outcome.TheVariants.{Done, Unlawful, Refused}
 use Rattle.scimem.specs.Input.{IsReadAs}
 use Rattle.scimem.specs.Refusal.{Refuses, IsRefusalBy}
 use Rattle.scimem.specs.LogAnswer.{IsAuditOf, IsAuditAnswer}
 
-pub refused_as : (told : TextFaultKind → ℕ → Type 0) (fault : TextFault) (text : List ℕ) → told fault.kind fault.line → (0 < fault.line → told Memory 0) → Refuses fault text → IsRefusalBy told text
-refused_as told fault text h memory (inl is) = record { line = fault.line; kind = fault.kind; is_told = h; written = is }
-refused_as told fault text h memory (inr m) = record { line = 0; kind = Memory; is_told = memory m.0; written = m.1 }
+-- a fault that is told of a line leaves room for the one that memory was refused
+told_memory : (is_first : List ℕ → ℕ → TextFaultKind → Type 0) (kind : TextFaultKind) (known : Option (List ℕ)) (failed : Bool) (line : ℕ) → IsTold is_first kind known failed line → 0 < line → IsTold is_first Memory known failed 0
+told_memory is_first Read known failed line h lt = let zero_line = h.1 in absurd (omega arith)
+told_memory is_first Memory known failed line h lt = (h.0, refl)
+told_memory is_first Syntax known failed line h lt = (h.0, refl)
+told_memory is_first Range known failed line h lt = (h.0, refl)
+told_memory is_first TooMany known failed line h lt = (h.0, refl)
+told_memory is_first Write known failed line h lt = absurd h
 
-pub told_memory : (kind : TextFaultKind) (known : Option (List ℕ)) (failed : Bool) (line : ℕ) → IsTold kind known failed line → 0 < line → IsTold Memory known failed 0
-told_memory Read known failed line h lt = let zero_line = h.1 in absurd (omega arith)
-told_memory Memory known failed line h lt = (h.0, refl)
-told_memory Syntax known failed line h lt = (h.0, refl)
-told_memory Range known failed line h lt = (h.0, refl)
-told_memory TooMany known failed line h lt = (h.0, refl)
-told_memory Write known failed line h lt = absurd h
-
-pub log_told_memory : (kind : TextFaultKind) (known : Option (List ℕ)) (failed : Bool) (line : ℕ) → IsLogTold kind known failed line → 0 < line → IsLogTold Memory known failed 0
-log_told_memory Read known failed line h lt = let zero_line = h.1 in absurd (omega arith)
-log_told_memory Memory known failed line h lt = (h.0, refl)
-log_told_memory Syntax known failed line h lt = (h.0, refl)
-log_told_memory Range known failed line h lt = (h.0, refl)
-log_told_memory TooMany known failed line h lt = (h.0, refl)
-log_told_memory Write known failed line h lt = absurd h
+-- what was written as a refusal is that of the fault that is told, or of memory
+pub refused_told : (is_first : List ℕ → ℕ → TextFaultKind → Type 0) (known : Option (List ℕ)) (failed : Bool) (fault : TextFault) (text : List ℕ) → IsTold is_first fault.kind known failed fault.line → Refuses fault text → IsRefusalBy (λ kind line. IsTold is_first kind known failed line) text
+refused_told is_first known failed fault text told (inl is) = record { line = fault.line; kind = fault.kind; is_told = told; written = is }
+refused_told is_first known failed fault text told (inr m) = record { line = 0; kind = Memory; is_told = told_memory is_first fault.kind known failed fault.line told m.0; written = m.1 }
 
 -- ---- the answer of an audit
 

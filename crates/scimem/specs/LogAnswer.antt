@@ -10,7 +10,8 @@ use Rattle.sci_history.specs.Lawful.{Lawful}
 use Rattle.sci_history.specs.Audit.{IsVerdict}
 use Rattle.sci_text.specs.Number.{field}
 use Rattle.sci_text.specs.Log.{log_text}
-use Rattle.sci_text.specs.LogValue.{IsLogs, IsLogTold}
+use Rattle.sci_text.specs.FirstFault.{IsTold}
+use Rattle.sci_text.specs.LogValue.{IsLogs, IsLogFault}
 use Rattle.scimem.specs.Input.{IsReadAs}
 use Rattle.scimem.specs.Refusal.{IsRefusalBy}
 use Rattle.scimem.specs.declared.outcome.Outcome.{Outcome}
@@ -55,7 +56,7 @@ pub record IsAuditOf (input text : List ℕ) (outcome : Outcome) : Type 0 where
 abbrev pub IsAuditAnswer : Option (List ℕ) → Bool → List ℕ → Outcome → Type 0
 IsAuditAnswer input failed text Done = IsReadAs input failed (λ bytes. IsAuditOf bytes text Done)
 IsAuditAnswer input failed text Unlawful = IsReadAs input failed (λ bytes. IsAuditOf bytes text Unlawful)
-IsAuditAnswer input failed text Refused = IsRefusalBy (λ kind line. IsLogTold kind input failed line) text
+IsAuditAnswer input failed text Refused = IsRefusalBy (λ kind line. IsTold IsLogFault kind input failed line) text
 
 -- the input is the text of logs with last contents, whose text in format 2 is written: the same logs have that text too
 pub record IsUpgradeOf (input text : List ℕ) : Type 0 where
@@ -70,4 +71,4 @@ pub record IsUpgradeOf (input text : List ℕ) : Type 0 where
 abbrev pub IsUpgradeAnswer : Option (List ℕ) → Bool → List ℕ → Outcome → Type 0
 IsUpgradeAnswer input failed text Done = IsReadAs input failed (λ bytes. IsUpgradeOf bytes text)
 IsUpgradeAnswer input failed text Unlawful = ⊥
-IsUpgradeAnswer input failed text Refused = IsRefusalBy (λ kind line. IsLogTold kind input failed line) text
+IsUpgradeAnswer input failed text Refused = IsRefusalBy (λ kind line. IsTold IsLogFault kind input failed line) text

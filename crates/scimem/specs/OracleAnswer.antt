@@ -3,7 +3,8 @@ use Rattle.std.specs.Prelude.{◌≡◌, ℕ, Bool, List, Option}
 use Rattle.sci_history.specs.Lawful.{Lawful}
 use Rattle.sci_history.specs.Oracle.{oracle_logs, oracle_last}
 use Rattle.sci_text.specs.Script.{ScriptValue, IsScript, script_text}
-use Rattle.sci_text.specs.Fault.{IsTold}
+use Rattle.sci_text.specs.FirstFault.{IsTold}
+use Rattle.sci_text.specs.ScriptFault.{IsScriptFault}
 use Rattle.sci_text.specs.Log.{log_text}
 use Rattle.sci_text.specs.LogValue.{IsLogs}
 use Rattle.scimem.specs.Input.{IsReadAs}
@@ -27,5 +28,5 @@ pub record IsOracleOf (input text : List ℕ) : Type 0 where
 -- what is written, and how the command ends, for the bytes of a reader, which has failed or not
 abbrev pub IsOracleAnswer : Option (List ℕ) → Bool → List ℕ → Outcome → Type 0
 IsOracleAnswer input failed text Done = IsReadAs input failed (λ bytes. IsOracleOf bytes text)
-IsOracleAnswer input failed text Refused = IsRefusalBy (λ kind line. IsTold kind input failed line) text
+IsOracleAnswer input failed text Refused = IsRefusalBy (λ kind line. IsTold IsScriptFault kind input failed line) text
 IsOracleAnswer input failed text Unlawful = ⊥

@@ -7,7 +7,8 @@ use Rattle.sci_core.specs.Core.{Core, run}
 use Rattle.sci_core.specs.Outcome.{logs_of}
 use Rattle.sci_core.specs.Sharing.{last_of}
 use Rattle.sci_text.specs.Schedule.{ScheduleValue, IsSchedule, schedule_text}
-use Rattle.sci_text.specs.ScheduleFault.{IsToldOfSchedule}
+use Rattle.sci_text.specs.FirstFault.{IsTold}
+use Rattle.sci_text.specs.ScheduleFault.{IsScheduleFault}
 use Rattle.sci_text.specs.Log.{log_text}
 use Rattle.sci_text.specs.LogValue.{IsLogs}
 use Rattle.scimem.specs.Input.{IsReadAs}
@@ -39,5 +40,5 @@ pub record IsReplayOf (input text : List ℕ) : Type 0 where
 -- what is written, and how the command ends, for the bytes of a reader, which has failed or not
 abbrev pub IsReplayAnswer : Option (List ℕ) → Bool → List ℕ → Outcome → Type 0
 IsReplayAnswer input failed text Done = IsReadAs input failed (λ bytes. IsReplayOf bytes text)
-IsReplayAnswer input failed text Refused = IsRefusalBy (λ kind line. IsToldOfSchedule kind input failed line) text
+IsReplayAnswer input failed text Refused = IsRefusalBy (λ kind line. IsTold IsScheduleFault kind input failed line) text
 IsReplayAnswer input failed text Unlawful = ⊥

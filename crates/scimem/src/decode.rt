@@ -5,7 +5,7 @@ ghost use Rattle.std.specs.Io.KnownBytes.{Appends};
 ghost use Rattle.sci_text.specs.Tap.{has_failed, is_called_again, tapped};
 ghost use Rattle.scimem.specs.declared.outcome.Outcome.{Outcome};
 ghost use Rattle.scimem.specs.Writing.{WritesFront};
-ghost use Rattle.sci_text.specs.Fault.{IsInputFault};
+ghost use Rattle.sci_text.specs.FirstFault.{IsInputFault};
 ghost use Rattle.scimem.specs.Decoding.{IsDecoded, IsInputDecoded, IsAnswer, refusal, fault_word};
 ghost use Rattle.scimem.specs.Refusal.{kind_word};
 

@@ -16,7 +16,7 @@ pub returns-then-bytes-rest-clause-fault : goal.returns-then-bytes-rest-clause-f
 returns-then-bytes-rest-clause-fault c = size_long c.args.bytes.now (c.in-Some.nodes, c.in-Some.lines) c.in-Some.rest.now (gives_some c.after.result (after (codes "log ") c.args.bytes.now) c.after.ensures c.if-is_none.ensures) c.in-Some.ensures c.if-bytes-rest.true
 
 pub returns-in_default-log_size-clause-fault : goal.returns-in_default-log_size-clause-fault
-returns-in_default-log_size-clause-fault c = size_range c.args.bytes.now c.in-Some.nodes c.in-Some.lines c.in-Some.rest.now c.in-Some.ensures c.if-bytes-rest.false c.in_default-log_size.ensures.none
+returns-in_default-log_size-clause-fault c = size_range c.args.bytes.now c.in-Some.nodes c.in-Some.lines c.in-Some.rest.now (gives_some c.after.result (after (codes "log ") c.args.bytes.now) c.after.ensures c.if-is_none.ensures) c.in-Some.ensures c.if-bytes-rest.false c.in_default-log_size.ensures.none
 
 pub returns-clause-text : goal.returns-clause-text
 returns-clause-text c =

@@ -1,4 +1,4 @@
-use Rattle.sci_text.proofs.Unique.{no_fault}
+use Rattle.sci_text.proofs.ScriptUnique.{no_fault}
 use Rattle.sci_text.proofs.laws.no_fault.Goals as goal
 
 pub returns : goal.returns

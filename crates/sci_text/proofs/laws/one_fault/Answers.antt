@@ -1,4 +1,4 @@
-use Rattle.sci_text.proofs.OneFault.{one_fault}
+use Rattle.sci_text.proofs.ScriptUnique.{one_fault}
 use Rattle.sci_text.proofs.laws.one_fault.Goals as goal
 
 pub returns : goal.returns

@@ -1,4 +1,4 @@
-use Rattle.sci_text.proofs.Unique.{one_script}
+use Rattle.sci_text.proofs.ScriptUnique.{one_script}
 use Rattle.sci_text.proofs.laws.one_script.Goals as goal
 
 pub returns : goal.returns

@@ -1,4 +1,4 @@
-use Rattle.std.proofs.Common.{◌≡◌, ◌-◌, ◌≤◌, false, length}
+use Rattle.std.proofs.Common.{◌≡◌, ◌-◌, ◌<◌, ◌≤◌, false, length}
 use Rattle.std.specs.Io.KnownBytes.{Consumes}
 use Rattle.sci_words.specs.declared.limits.TheConstants.{MAX_INPUT_BYTES}
 use Rattle.sci_text.specs.Tap.{tapped, has_failed, is_called_again}
@@ -10,6 +10,7 @@ invariant-reads g l = record {
   unfailed : has_failed l.reader ≡ false;
   again : is_called_again l.reader ≡ is_called_again l.fn.reader;
   taken : Consumes (g.R.Read.remaining (tapped l.fn.reader)) (g.R.Read.remaining (tapped l.reader)) l.input.items;
+  block : 0 < length l.block.items;
   few : length l.input.items ≤ MAX_INPUT_BYTES;
 }
 

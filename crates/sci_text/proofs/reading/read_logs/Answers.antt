@@ -1,5 +1,5 @@
 use Rattle.std.proofs.Common.{◌≡◌, ◌∙◌}
-use Rattle.sci_text.proofs.LogTold.{log_read_as}
+use Rattle.sci_text.proofs.LogOneFault.{log_read_as}
 use Rattle.sci_text.proofs.reading.read_logs.Goals as goal
 
 pub returns-clause-only : goal.returns-clause-only

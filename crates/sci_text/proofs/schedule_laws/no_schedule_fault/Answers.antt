@@ -1,4 +1,4 @@
-use Rattle.sci_text.proofs.Schedules.{no_fault}
+use Rattle.sci_text.proofs.ScheduleUnique.{no_fault}
 use Rattle.sci_text.proofs.schedule_laws.no_schedule_fault.Goals as goal
 
 pub returns : goal.returns

@@ -1,4 +1,4 @@
-use Rattle.sci_text.proofs.Schedules.{one_fault}
+use Rattle.sci_text.proofs.ScheduleUnique.{one_fault}
 use Rattle.sci_text.proofs.schedule_laws.one_schedule_fault.Goals as goal
 
 pub returns : goal.returns

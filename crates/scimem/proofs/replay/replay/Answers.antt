@@ -1,8 +1,7 @@
 -- What is written is the answer, or the refusal of the fault that is told.
-use Rattle.sci_text.specs.ScheduleFault.{IsToldOfSchedule}
+use Rattle.sci_text.specs.ScheduleFault.{IsScheduleFault}
 use Rattle.sci_text.specs.Tap.{tapped, has_failed}
-use Rattle.scimem.proofs.Refusals.{refused_as}
-use Rattle.scimem.proofs.Replays.{schedule_told_memory}
+use Rattle.scimem.proofs.Refusals.{refused_told}
 use Rattle.scimem.proofs.replay.replay.Goals as goal
 
 pub returns-in-Err-clause-written : goal.returns-in-Err-clause-written
@@ -11,5 +10,5 @@ returns-in-Err-clause-written g c = λ unfailed.
     let known = g.R.Read.remaining (tapped c.args.reader.now) in
     let failed = has_failed c.answer.new.reader in
     let w = c.refuse.ensures.whole unfailed in
-    let refused = refused_as (λ kind line. IsToldOfSchedule kind known failed line) fault w.0 c.in-Err.ensures.fault (schedule_told_memory fault.kind known failed fault.line c.in-Err.ensures.fault) w.2 in
+    let refused = refused_told IsScheduleFault known failed fault w.0 c.in-Err.ensures.fault w.2 in
     (w.0, w.1, rw c.refuse.ensures.refused refused)
