@@ -90,3 +90,18 @@ fn a_run_skips_what_is_not_enabled(rt: HostRuntime) -> Result<(), Fail> {
     }
     Ok(())
 }
+
+#[test]
+fn a_copy_goes_its_own_way(rt: HostRuntime) -> Result<(), Fail> {
+    let extent = Extent::new(1, 1, 1).ok_or("an extent")?;
+    let mut machine = Machine::new(rt.alloc(), extent, 1).ok().ok_or("no memory")?;
+    let events = schedule();
+    assert_eq!(rt; machine.run(&events[..2]), Ok(()));
+    let mut copy = machine.try_clone(rt.alloc()).ok().ok_or("no memory")?;
+    assert_eq!(rt; copy.run(&events[2..]), Ok(()));
+    let logs = copy.logs(rt.alloc()).ok().ok_or("no memory")?;
+    assert_eq!(rt; logs.of(0).len(), 1);
+    let logs = machine.logs(rt.alloc()).ok().ok_or("no memory")?;
+    assert_eq!(rt; logs.of(0).len(), 0);
+    Ok(())
+}

@@ -13,12 +13,10 @@ use sci_words::{Event, Extent};
 use std::alloc::Global;
 use std::test::*;
 
-/// A machine, and how many nodes it has.
+/// A machine that is asked by tests.
 #[derive(Drop)]
 pub struct Bounded {
-    nodes: u8,
     machine: Machine,
-    ghost has_nodes: { nodes ≤ machine.nodes },
 }
 
 impl Bounded {
@@ -28,7 +26,6 @@ impl Bounded {
         requires few { limit ≤ MAX_OPERATIONS }
     {
         Ok(Bounded {
-            nodes: extent.nodes,
             machine: Machine::new(alloc, extent, limit)?,
         })
     }
@@ -44,12 +41,12 @@ impl Bounded {
 
     /// How many nodes there are.
     pub fn nodes(&self) -> u8 {
-        self.nodes
+        self.machine.extent().nodes
     }
 
     /// The state of a line at a node.
     pub fn held(&self, n: u8, line: u8) -> Option<&Held> {
-        if n >= self.nodes {
+        if n >= self.machine.extent().nodes {
             return None;
         }
         let node = self.machine.node(n);
@@ -61,19 +58,16 @@ impl Bounded {
 
     /// The home of a line.
     pub fn home(&self, line: u8) -> Option<&Home> {
-        if self.nodes == 0 {
+        let extent = self.machine.extent();
+        if line >= extent.lines {
             return None;
         }
-        let node = self.machine.node(line % self.nodes);
-        if line >= node.extent().lines {
-            return None;
-        }
-        node.home(line)
+        self.machine.node(line % extent.nodes).home(line)
     }
 
     /// The operation that is pending on a line at a node.
     pub fn pending(&self, n: u8, line: u8) -> Option<Pending> {
-        if n >= self.nodes {
+        if n >= self.machine.extent().nodes {
             return None;
         }
         self.machine.node(n).pending(line)
@@ -81,7 +75,7 @@ impl Bounded {
 
     /// The answer that waits at a node.
     pub fn waiting(&self, n: u8) -> Option<Packet> {
-        if n >= self.nodes {
+        if n >= self.machine.extent().nodes {
             return None;
         }
         self.machine.node(n).waiting().copied()
@@ -89,7 +83,7 @@ impl Bounded {
 
     /// How many entries a node's log has.
     pub fn entries(&self, n: u8) -> usize {
-        if n >= self.nodes {
+        if n >= self.machine.extent().nodes {
             return 0;
         }
         self.machine.node(n).log().len()
@@ -97,7 +91,8 @@ impl Bounded {
 
     /// The oldest packet of a lane.
     pub fn front(&self, kind: LaneKind, from: u8, to: u8) -> Option<&Packet> {
-        if from >= self.nodes || to >= self.nodes {
+        let nodes = self.machine.extent().nodes;
+        if from >= nodes || to >= nodes {
             return None;
         }
         self.machine.front(kind, from, to)
@@ -105,7 +100,8 @@ impl Bounded {
 
     /// How many packets a lane has.
     pub fn count(&self, kind: LaneKind, from: u8, to: u8) -> usize {
-        if from >= self.nodes || to >= self.nodes {
+        let nodes = self.machine.extent().nodes;
+        if from >= nodes || to >= nodes {
             return 0;
         }
         self.machine.count(kind, from, to)
@@ -119,6 +115,6 @@ impl Bounded {
     /// The text of the logs and the last contents.
     pub fn text(&self, alloc: Global) -> Result<Vec<u8>, Fail> {
         let logs = self.machine.logs(alloc)?;
-        Ok(logs_text(alloc, self.nodes, &logs, &self.machine.last())?)
+        Ok(logs_text(alloc, self.machine.extent().nodes, &logs, &self.machine.last())?)
     }
 }
