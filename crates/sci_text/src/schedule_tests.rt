@@ -284,3 +284,20 @@ fn pushed_events(rt: HostRuntime) -> Result<(), Fail> {
     assert_eq!(rt; schedule.events(), [event].as_slice());
     Ok(())
 }
+
+#[test]
+fn a_schedule_is_written_as_it_was_read(rt: HostRuntime) -> Result<(), Fail> {
+    let text = b"machine 16 64 8\n\
+        issue 15 store 63 7 18446744073709551615\n\
+        perform 0 1\n\
+        ask 1 2 setback\n\
+        serve 3 4\n\
+        refuse 5 6\n\
+        reply 7\n\
+        accept 8 9\n";
+    let schedule = read(rt.alloc(), text)?;
+    let mut written = Vec::new(rt.alloc());
+    write_schedule(rt.alloc(), &mut Tap::new(&mut written), &schedule)?;
+    assert_eq!(rt; written.as_slice(), text.as_slice());
+    Ok(())
+}
