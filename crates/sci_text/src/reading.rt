@@ -33,9 +33,8 @@ fn empty_block(alloc: Global) -> Result<Vec<u8>, AllocError>
     Ok(block)
 }
 
-/// All bytes that the reader has. A refusal is Read where the reader failed, TooMany for an input above
-/// 134,217,728 bytes, and Memory where a growth was refused; each has line 0. The caller sees to it that the tap has
-/// not failed before.
+/// All bytes that the reader has. A refusal is Read if the reader failed, TooMany for an input above 134,217,728
+/// bytes, and Memory if an allocation failed; each has line 0.
 pub fn read_input<R: Read>(alloc: Global, reader: &mut Tap<R>) -> Result<Vec<u8>, TextFault>
     requires { has_failed reader.old ≡ false }
     ensures bytes { IfOk result (λ bytes. IfSome (R.remaining (tapped reader.old)) (λ input. bytes.items ≡ input)) }
@@ -62,10 +61,9 @@ pub fn read_input<R: Read>(alloc: Global, reader: &mut Tap<R>) -> Result<Vec<u8>
     }
 }
 
-/// The script that the reader gives, read to its end. A refusal names the first fault and its line: Read where
-/// the reader failed, TooMany for an input above 134,217,728 bytes and Memory, all for the whole input; else
-/// the first faulty line, with Syntax before Range before TooMany. Memory is answered only where a growth was
-/// refused. The caller sees to it that the tap has not failed before.
+/// The script that the reader gives, read to its end. A refusal names the first fault and its line: Read if the
+/// reader failed, TooMany for an input above 134,217,728 bytes and Memory, all for the whole input; else the first
+/// faulty line, with Syntax before Range before TooMany. Memory is answered only if an allocation failed.
 pub fn read_script<R: Read>(alloc: Global, reader: &mut Tap<R>) -> Result<Script, TextFault>
     requires { has_failed reader.old ≡ false }
 
@@ -76,7 +74,7 @@ pub fn read_script<R: Read>(alloc: Global, reader: &mut Tap<R>) -> Result<Script
     ensures end { OnOk result (IsAtEnd (R.remaining (tapped reader.new))) }
     ensures unfailed { OnOk result (has_failed reader.new ≡ false) }
 
-    // Where it is the text of a script, that script is read.
+    // If it is the text of a script, that script is read.
     ensures only { (script : ScriptValue) → IsScript script → length (script_text script) ≤ MAX_INPUT_BYTES
         → R.remaining (tapped reader.old) ≡ Some (script_text script) → IsReadAs script result }
 
@@ -88,9 +86,9 @@ pub fn read_script<R: Read>(alloc: Global, reader: &mut Tap<R>) -> Result<Script
     lines::script(alloc, &input)
 }
 
-/// The logs and last contents whose text the reader gives, read to its end, with the number of nodes: in format 2 where
-/// the first line begins with `log `, else in format 1, which has 8 nodes. A refusal names the first fault and its line,
-/// as `read_script` does. The caller sees to it that the tap has not failed before.
+/// The logs and last contents whose text the reader gives, read to its end, with the number of nodes: in format 2
+/// where the first line begins with `log `, else in format 1, which has 8 nodes. A refusal names the first fault and
+/// its line, as `read_script` does.
 pub fn read_logs<R: Read>(alloc: Global, reader: &mut Tap<R>) -> Result<(u8, Logs, Last), TextFault>
     requires { has_failed reader.old ≡ false }
 
@@ -100,7 +98,7 @@ pub fn read_logs<R: Read>(alloc: Global, reader: &mut Tap<R>) -> Result<(u8, Log
     ensures end { OnOk result (IsAtEnd (R.remaining (tapped reader.new))) }
     ensures unfailed { OnOk result (has_failed reader.new ≡ false) }
 
-    // Where it is a text of logs, those are read.
+    // If it is a text of logs, those are read.
     ensures only { (input : List ℕ) (nodes : ℕ) (logs : List (List Entry)) (last : List Stamped) → IsLogs input nodes logs last
         → length input ≤ MAX_INPUT_BYTES → R.remaining (tapped reader.old) ≡ Some input → IsReadAs (nodes, logs, last) result }
 

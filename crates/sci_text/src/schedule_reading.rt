@@ -16,10 +16,9 @@ use crate::tap::Tap;
 use std::alloc::Global;
 use std::io::Read;
 
-/// The schedule that the reader gives, read to its end. A refusal names the first fault and its line: Read where
-/// the reader failed, TooMany for an input above 134,217,728 bytes and Memory, all for the whole input; else
-/// the first faulty line, with Syntax before Range before TooMany. Memory is answered only where a growth was
-/// refused. The caller sees to it that the tap has not failed before.
+/// The schedule that the reader gives, read to its end. A refusal names the first fault and its line: Read if the
+/// reader failed, TooMany for an input above 134,217,728 bytes and Memory, all for the whole input; else the first
+/// faulty line, with Syntax before Range before TooMany. Memory is answered only if an allocation failed.
 pub fn read_schedule<R: Read>(alloc: Global, reader: &mut Tap<R>) -> Result<Schedule, TextFault>
     requires { has_failed reader.old ≡ false }
 
@@ -30,7 +29,7 @@ pub fn read_schedule<R: Read>(alloc: Global, reader: &mut Tap<R>) -> Result<Sche
     ensures end { OnOk result (IsAtEnd (R.remaining (tapped reader.new))) }
     ensures unfailed { OnOk result (has_failed reader.new ≡ false) }
 
-    // Where it is the text of a schedule, that schedule is read.
+    // If it is the text of a schedule, that schedule is read.
     ensures only { (schedule : ScheduleValue) → IsSchedule schedule → length (schedule_text schedule) ≤ MAX_INPUT_BYTES
         → R.remaining (tapped reader.old) ≡ Some (schedule_text schedule) → IsReadAs schedule result }
 

@@ -66,8 +66,8 @@ pub fn logs_text(alloc: Global, nodes: u8, logs: &Logs, last: &Last) -> Result<V
     Ok(text)
 }
 
-/// Writes all of a text, or tells that the writer failed: some of the text's front may have gone out then, and
-/// nothing more is written. The caller sees to it that the tap has not failed before.
+/// Writes all of a text, or tells that the writer failed: a prefix of the text may have gone out then, and nothing
+/// more is written.
 pub fn write_text<W: Write>(writer: &mut Tap<W>, text: &[u8]) -> Result<(), TextFault>
     requires { has_failed writer.old ≡ false }
     ensures text { OnOk result (Appends (W.contents (tapped writer.old)) (W.contents (tapped writer.new)) text.now) }
@@ -87,10 +87,9 @@ pub fn write_text<W: Write>(writer: &mut Tap<W>, text: &[u8]) -> Result<(), Text
     Ok(())
 }
 
-/// Writes the text of logs with last contents in format 2, for a machine of that many nodes: the whole text is
-/// made before its first byte is written. A refusal is Write where the writer failed, and some of the text's
-/// front may have gone out then; or Memory where a growth was refused, and nothing has. Both have line 0. The
-/// caller sees to it that the tap has not failed before.
+/// Writes the text of logs with last contents in format 2, for a machine of that many nodes: the whole text is made
+/// before its first byte is written. A refusal is Write if the writer failed, and a prefix of the text may have gone
+/// out then; or Memory if an allocation failed, and nothing has. Both have line 0.
 pub fn write_logs<W: Write>(
     alloc: Global,
     writer: &mut Tap<W>,

@@ -92,10 +92,10 @@ fn answer<R: Read>(alloc: Global, reader: &mut Tap<R>) -> Result<(Vec<u8>, Outco
 }
 
 /// Reads a log to its end and judges it: `lawful` is Done, and `fault K NAME line L node N serial S` is Unlawful, the
-/// first fault of the lowest line that has one (without node and serial where the last contents differ). A text with a
-/// fault is Refused, with the line `refused at line K: KIND` alone, as are a reader that fails, too long an input and
-/// want of memory, at line 0. The line is made before its first byte is written. After a failed write nothing more is
-/// written, and it is Refused. The caller sees to it that neither tap has failed before.
+/// first fault of the lowest line that has one (without node and serial where the last contents differ). A text with
+/// a fault is Refused, with the line `refused at line K: KIND` alone, as are a reader that fails, too long an input
+/// and running out of memory, at line 0. The line is made before its first byte is written. After a failed read or
+/// write nothing more is read or written; after a failed write it is Refused.
 pub fn audit_text<R: Read, W: Write>(
     alloc: Global,
     reader: &mut Tap<R>,
@@ -109,7 +109,7 @@ pub fn audit_text<R: Read, W: Write>(
         × Appends (W.contents (tapped writer.old)) (W.contents (tapped writer.new)) text
         × IsAuditAnswer (R.remaining (tapped reader.old)) (has_failed reader.new) text result }
 
-    // Where a write fails, a front of it is.
+    // If a write fails, a prefix of it is.
     ensures front { (text : List ℕ) × (outcome : Outcome)
         × WritesFront (W.contents (tapped writer.old)) (W.contents (tapped writer.new)) text
         × IsAuditAnswer (R.remaining (tapped reader.old)) (has_failed reader.new) text outcome }

@@ -96,10 +96,10 @@ fn answer<R: Read>(alloc: Global, reader: &mut Tap<R>) -> Result<(Vec<u8>, Outco
 /// carries contents, all in decimal. A run of packets is Done.
 ///
 /// Refused, with one more line: `refused at byte K: KIND` at the first byte of what is no packet, where KIND is
-/// `short`, `unknown-command`, `bad-offset` or `bad-identifier`; and, with no line before it, `refused at byte
-/// 0: KIND` where the reader fails (`read`), for an input of more than 134,217,728 bytes (`too-many`), and where
-/// memory is refused (`memory`). After a failed write nothing more is written, and it is Refused. The caller
-/// sees to it that neither tap has failed before.
+/// `short`, `unknown-command`, `bad-offset` or `bad-identifier`; and, with no line before it, `refused at byte 0:
+/// KIND` if a read fails (`read`), for an input of more than 134,217,728 bytes (`too-many`), and if an allocation
+/// fails (`memory`). After a failed read or write nothing more is read or written; after a failed write it is
+/// Refused.
 pub fn decode_bytes<R: Read, W: Write>(
     alloc: Global,
     reader: &mut Tap<R>,
@@ -113,7 +113,7 @@ pub fn decode_bytes<R: Read, W: Write>(
         × Appends (W.contents (tapped writer.old)) (W.contents (tapped writer.new)) text
         × IsAnswer (R.remaining (tapped reader.old)) (has_failed reader.new) text result }
 
-    // Where a write fails, a front of it is.
+    // If a write fails, a prefix of it is.
     ensures front { (text : List ℕ) × (outcome : Outcome)
         × WritesFront (W.contents (tapped writer.old)) (W.contents (tapped writer.new)) text
         × IsAnswer (R.remaining (tapped reader.old)) (has_failed reader.new) text outcome }

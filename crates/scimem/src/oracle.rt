@@ -32,12 +32,11 @@ fn answer<R: Read>(alloc: Global, reader: &mut Tap<R>) -> Result<Vec<u8>, TextFa
     Ok(logs_text(alloc, extent.nodes, &logs, &last)?)
 }
 
-/// Reads a script to its end, does its operations in text order on one memory of one thread, and writes their log
-/// in format 2: Done. A script with a fault is Refused, with the line `refused at line K: KIND` alone, where KIND
-/// is `syntax`, `range` or `too-many`; and, with K = 0, where the reader fails (`read`), for an input of more than
-/// 134,217,728 bytes (`too-many`), and where memory is refused (`memory`). The whole text is made before its first
-/// byte is written. After a failed write nothing more is written, and it is Refused. The caller sees to it that
-/// neither tap has failed before.
+/// Reads a script to its end, does its operations in text order on one memory of one thread, and writes their log in
+/// format 2: Done. A script with a fault is Refused, with the line `refused at line K: KIND` alone, where KIND is
+/// `syntax`, `range` or `too-many`; and, with K = 0, if a read fails (`read`), for an input of more than 134,217,728
+/// bytes (`too-many`), and if an allocation fails (`memory`). The whole text is made before its first byte is
+/// written. After a failed read or write nothing more is read or written; after a failed write it is Refused.
 pub fn oracle<R: Read, W: Write>(alloc: Global, reader: &mut Tap<R>, writer: &mut Tap<W>) -> Outcome
     requires reader { has_failed reader.old ≡ false }
     requires writer { has_failed writer.old ≡ false }
@@ -47,7 +46,7 @@ pub fn oracle<R: Read, W: Write>(alloc: Global, reader: &mut Tap<R>, writer: &mu
         × Appends (W.contents (tapped writer.old)) (W.contents (tapped writer.new)) text
         × IsOracleAnswer (R.remaining (tapped reader.old)) (has_failed reader.new) text result }
 
-    // Where a write fails, a front of it is.
+    // If a write fails, a prefix of it is.
     ensures front { (text : List ℕ) × (outcome : Outcome)
         × WritesFront (W.contents (tapped writer.old)) (W.contents (tapped writer.new)) text
         × IsOracleAnswer (R.remaining (tapped reader.old)) (has_failed reader.new) text outcome }

@@ -28,9 +28,9 @@ fn answer<R: Read>(alloc: Global, reader: &mut Tap<R>) -> Result<Vec<u8>, TextFa
     Ok(logs_text(alloc, nodes, &logs, &last)?)
 }
 
-/// Reads a log to its end, and writes it in format 2: Done. It isn't judged, and its entries stay in their order. A text
-/// with a fault is Refused, as by `audit`. The whole text is made before its first byte is written. After a failed
-/// write nothing more is written, and it is Refused. The caller sees to it that neither tap has failed before.
+/// Reads a log to its end, and writes it in format 2: Done. It isn't judged, and its entries stay in their order. A
+/// text with a fault is Refused, as by `audit`. The whole text is made before its first byte is written. After a
+/// failed read or write nothing more is read or written; after a failed write it is Refused.
 pub fn upgrade<R: Read, W: Write>(
     alloc: Global,
     reader: &mut Tap<R>,
@@ -44,7 +44,7 @@ pub fn upgrade<R: Read, W: Write>(
         × Appends (W.contents (tapped writer.old)) (W.contents (tapped writer.new)) text
         × IsUpgradeAnswer (R.remaining (tapped reader.old)) (has_failed reader.new) text result }
 
-    // Where a write fails, a front of it is.
+    // If a write fails, a prefix of it is.
     ensures front { (text : List ℕ) × (outcome : Outcome)
         × WritesFront (W.contents (tapped writer.old)) (W.contents (tapped writer.new)) text
         × IsUpgradeAnswer (R.remaining (tapped reader.old)) (has_failed reader.new) text outcome }
