@@ -28,7 +28,7 @@ use Rattle.sci_history.specs.Memory.{stamped_at}
 use Rattle.sci_history.specs.Placed.{log_of, is_of_node, is_on_line, is_making, maker_count, on_line}
 use Rattle.sci_history.proofs.Histories.{versions-within}
 use Rattle.sci_history.proofs.Order.{filter_yes, filter_no, all_weaker, all_both, all-filter}
-use Rattle.sci_core.specs.Size.{Size, IsSize}
+use Rattle.sci_core.specs.Size.{Size, IsMachineSize}
 use Rattle.sci_core.specs.Node.{NodeOf, no_node}
 use Rattle.sci_core.specs.Core.{Core, node_at, run}
 use Rattle.sci_core.specs.Done.{done}

@@ -37,11 +37,11 @@ use Rattle.sci_core.proofs.ShapeClauses.{last_is, shape_of}
 use Rattle.sci_core.proofs.Works.{HasSerials, opening_serials}
 use Rattle.sci_core.proofs.Histories.{run_follows, RunLogged, run_logged, IsKnown}
 use Rattle.sci_core.specs.Size.{Size}
-use Rattle.sci_core.specs.Size.{IsSize}
+use Rattle.sci_core.specs.Size.{IsMachineSize}
 
 -- ---- from the opening on
 
-pub opened : (size : Size) → IsSize size → IsWellFormed (opening size)
+pub opened : (size : Size) → IsMachineSize size → IsWellFormed (opening size)
 opened size sizes = let some = sizes.extent.has_node in opening_well size (omega arith) sizes.few_operations
 
 -- a line's shape where a schedule leads, and its history
@@ -50,13 +50,13 @@ record Traced (size : Size) (schedule : List Event) (line : ℕ) : Type 0 where
   pub shaped : ShapedAt (run size schedule) line contents
   pub history : IsHistory (filter (is_on_line line) (done size schedule)) zero_stamped contents
 
-traced : (size : Size) (schedule : List Event) (line : ℕ) → IsSize size → line < size.lines → Traced size schedule line
+traced : (size : Size) (schedule : List Event) (line : ℕ) → IsMachineSize size → line < size.lines → Traced size schedule line
 traced size schedule line sizes inside =
     let trace = run_follows (opening size) schedule (opened size sizes) (opening_tidy size) line inside zero_stamped (opening_shaped size line) in
     record { contents = trace.0; shaped = trace.1; history = trace.2 }
 
 -- the entries of a schedule on a line are a history of it, from zero words to its last contents
-pub schedule_history : (size : Size) (schedule : List Event) (line : ℕ) → IsSize size → line < size.lines
+pub schedule_history : (size : Size) (schedule : List Event) (line : ℕ) → IsMachineSize size → line < size.lines
     → IsHistory (filter (is_on_line line) (done size schedule)) zero_stamped (last_at (run size schedule) line)
 schedule_history size schedule line sizes inside =
     let trace = traced size schedule line sizes inside in
@@ -99,14 +99,14 @@ opening_log : (size : Size) (n : ℕ) → (node_at (opening size) n).log ≡ []
 opening_log size n = each_mapped (λ (part : NodeOf). part.log ≡ []) (λ (m : ℕ). opening_node m size) no_node 0 size.nodes n (λ m. refl) refl
 
 -- what a schedule logs
-pub schedule_logged : (size : Size) (schedule : List Event) → IsSize size → RunLogged (opening size) (done size schedule) (run size schedule)
+pub schedule_logged : (size : Size) (schedule : List Event) → IsMachineSize size → RunLogged (opening size) (done size schedule) (run size schedule)
 schedule_logged size schedule sizes =
     let first = opening size in
     let serials : (n : ℕ) → HasSerials (node_at first n) = λ n. each_mapped HasSerials (λ (m : ℕ). opening_node m size) no_node 0 size.nodes n (λ m. opening_serials m size) (opening_serials 0 (record { nodes = 1; lines = 0; slots = 0; limit = 0 })) in
     run_logged first schedule (opened size sizes) serials
 
 -- each log has its own node's entries of the schedule
-pub schedule_log : (size : Size) (schedule : List Event) (node : ℕ) → IsSize size → (node_at (run size schedule) node).log ≡ filter (is_of_node node) (done size schedule)
+pub schedule_log : (size : Size) (schedule : List Event) (node : ℕ) → IsMachineSize size → (node_at (run size schedule) node).log ≡ filter (is_of_node node) (done size schedule)
 schedule_log size schedule node sizes =
     (schedule_logged size schedule sizes).logs node ∙ ap (λ (es : List Entry). es ++ filter (is_of_node node) (done size schedule)) (opening_log size node)
 

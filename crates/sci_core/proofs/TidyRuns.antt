@@ -25,7 +25,7 @@ use Rattle.sci_core.proofs.WaitingNodes.{Stays, AsksOnce, Answers, Replies, Acce
 use Rattle.sci_core.proofs.Steps.{Taken, Stepped, By_issue, By_perform, By_ask, By_serve, By_refuse, By_reply, By_accept, stepping_stepped}
 use Rattle.sci_core.proofs.TidySteps.{changed_tidy, asked_tidy, replied_tidy, served_tidy, accepted_tidy}
 use Rattle.sci_core.specs.Size.{Size}
-use Rattle.sci_core.specs.Size.{IsSize}
+use Rattle.sci_core.specs.Size.{IsMachineSize}
 
 pub node_below : (core : Core) (n : ℕ) → IsWellFormed core → n < core.size.nodes → n < length core.parts
 node_below core n well lt = let long = well.sizes.parts_long in omega arith
@@ -114,14 +114,14 @@ reached_tidy core reached =
     let some = reached.size.extent.has_node in
     subst IsTidy reached.leads (run_tidy (opening core.size) reached.schedule (opening_well core.size (omega arith) reached.size.few_operations) (opening_tidy core.size))
 
-pub run_size : (size : Size) (schedule : List Event) → IsSize size → (run size schedule).size ≡ size
+pub run_size : (size : Size) (schedule : List Event) → IsMachineSize size → (run size schedule).size ≡ size
 run_size size schedule sizes = let first = sizes.extent.has_node in (run_well (opening size) schedule (opening_well size (omega arith) sizes.few_operations)).same
 
-pub run_reached : (size : Size) (schedule : List Event) → IsSize size → IsReached (run size schedule)
+pub run_reached : (size : Size) (schedule : List Event) → IsMachineSize size → IsReached (run size schedule)
 run_reached size schedule sizes =
     let same = run_size size schedule sizes in
     record {
-      size = subst IsSize (sym same) sizes;
+      size = subst IsMachineSize (sym same) sizes;
       schedule = schedule;
       leads = ap (λ (k : Size). run k schedule) same;
     }

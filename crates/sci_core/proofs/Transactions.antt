@@ -28,7 +28,7 @@ use Rattle.sci_core.proofs.TidySteps.{about_line, about_asker, request_asker, ab
 use Rattle.sci_core.proofs.Steps.{lane_below}
 use Rattle.sci_core.proofs.TidyRuns.{node_below, waiting_answers, step_tidy, opening_none, opening_tidy}
 use Rattle.sci_core.specs.Size.{Size}
-use Rattle.sci_core.specs.Size.{IsSize}
+use Rattle.sci_core.specs.Size.{IsMachineSize}
 
 -- how far the transaction is whose packets are under way
 abbrev pub phase_of : List Letter → Phase
@@ -263,7 +263,7 @@ run_alternates core (e ∷ events) n line well tidy lt below =
     (by_case core (stepping core e) (mark_of core e) n line (stepping_advances core e well tidy) lt below)
     (run_alternates (step core e) events n line next.well (step_tidy core e well tidy) (subst (λ (size : Size). n < size.nodes) (sym next.same) lt) (subst (λ (size : Size). line < size.lines) (sym next.same) below))
 
-pub runs_alternate : (size : Size) (schedule : List Event) (n line : ℕ) → IsSize size → n < size.nodes → line < size.lines → Alternates size schedule n line
+pub runs_alternate : (size : Size) (schedule : List Event) (n line : ℕ) → IsMachineSize size → n < size.nodes → line < size.lines → Alternates size schedule n line
 runs_alternate size schedule n line sizes lt below =
     let first = sizes.extent.has_node in
     let core = opening size in

@@ -26,7 +26,7 @@ use Rattle.sci_core.proofs.Options.{if_below}
 use Rattle.sci_core.proofs.Places.{place_to, place_from, place_requests, place_answers}
 use Rattle.sci_core.proofs.Parts.{SendsWell, RepliesWell, part_issuing, part_performing, part_asking, part_serving, part_refusing, part_replying, part_accepting}
 use Rattle.sci_core.specs.Size.{Size}
-use Rattle.sci_core.specs.Size.{IsSize}
+use Rattle.sci_core.specs.Size.{IsMachineSize}
 
 pub record StepsWell (old new : Core) : Type 0 where
   pub well : IsWellFormed new
@@ -231,7 +231,7 @@ reached_stepping core next e reached steps =
     let leads : run core.size all ≡ next =
     fold-append step (opening core.size) reached.schedule (e ∷ []) ∙ (ap (λ (k : Core). step k e) reached.leads ∙ ap (λ (o : Option Core). unwrap_or o core) steps) in
     record {
-      size = subst IsSize (sym kept.same) reached.size;
+      size = subst IsMachineSize (sym kept.same) reached.size;
       schedule = all;
       leads = subst (λ (size : Size). run size all ≡ next) (sym kept.same) leads;
     }

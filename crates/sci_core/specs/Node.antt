@@ -1,6 +1,6 @@
 -- A node's part of the machine, and its side of each event. Each side is a function of the part alone, and of the
 -- packet that it takes; None says that this side is not enabled.
-use Rattle.std.specs.Prelude.{IsTrue, ◌≡◌, ℕ, ◌+◌, ◌/◌, ◌%◌, ◌<◌, ◌≤◌, replicate, count_by, IfSome, Bool, true, false, nat_lt, ◌&&◌, if◌then◌else◌, List, [], ◌∷◌, ◌++◌, length, slice_index_or, slice_set, Option, Some, None, is_some, is_none, Result, Ok, Err}
+use Rattle.std.specs.Prelude.{IsTrue, ◌≡◌, ℕ, ◌+◌, ◌/◌, ◌%◌, ◌<◌, ◌≤◌, replicate, count_by, IfSome, Bool, true, false, nat_lt, ◌&&◌, if◌then◌else◌, List, [], ◌∷◌, ◌++◌, length, slice_index_or, slice_set, Option, Some, None, is_some, is_none, option_map, Result, Ok, Err}
 use Rattle.sci_words.specs.declared.limits.TheConstants.{WORDS_PER_LINE, MAX_OPERATIONS}
 use Rattle.sci_words.specs.declared.event.AskKind.{AskKind}
 use Rattle.sci_words.specs.declared.operation.Op.{Op}
@@ -78,9 +78,8 @@ node_logged node line cache entry = record node {
 }
 
 abbrev pub performed_by : NodeOf → ℕ → Pending → Option (CacheOf × Reply × ℕ) → Option (NodeOf × Entry)
-performed_by node line pending None = None
-performed_by node line pending (Some done) =
-    Some (node_logged node line done.0 (entry_of node pending done.1 done.2), entry_of node pending done.1 done.2)
+performed_by node line pending =
+    option_map (λ done. (node_logged node line done.0 (entry_of node pending done.1 done.2), entry_of node pending done.1 done.2))
 
 abbrev pub performing_pending : NodeOf → ℕ → Option Pending → Option (NodeOf × Entry)
 performing_pending node line None = None
@@ -109,12 +108,10 @@ abbrev pub with_answer : NodeOf → Letter → Body → NodeOf
 with_answer node request body = record node { waiting = Some (answering request body) }
 
 abbrev pub served_at_home : NodeOf → ℕ → Option (HomeState × Body) → Option (NodeOf × Body)
-served_at_home node line None = None
-served_at_home node line (Some served) = Some (record node { homes = slice_set node.homes (home_place node line) served.0 }, served.1)
+served_at_home node line = option_map (λ served. (record node { homes = slice_set node.homes (home_place node line) served.0 }, served.1))
 
 abbrev pub served_in_cache : NodeOf → Option (CacheOf × Body) → Option (NodeOf × Body)
-served_in_cache node None = None
-served_in_cache node (Some served) = Some (record node { cache = served.0 }, served.1)
+served_in_cache node = option_map (λ served. (record node { cache = served.0 }, served.1))
 
 abbrev pub serving_at_home : NodeOf → Letter → Option (NodeOf × Body)
 serving_at_home node request = served_at_home node request.line (home_serving (home_of node request.line) request.source request.body)
@@ -127,8 +124,7 @@ abbrev pub serving_request : NodeOf → Letter → Option (NodeOf × Body)
 serving_request node request = if is_for_home request.body then serving_at_home node request else serving_in_cache node request
 
 abbrev pub answered_by : Letter → Option (NodeOf × Body) → Option NodeOf
-answered_by request None = None
-answered_by request (Some served) = Some (with_answer served.0 request served.1)
+answered_by request = option_map (λ served. with_answer served.0 request served.1)
 
 -- the node after it has served a request: the answer waits
 abbrev pub node_serving : NodeOf → Letter → Option NodeOf
@@ -145,8 +141,7 @@ node_refusing node request = if is_some node.waiting then None else (if is_setba
 -- ---- Reply
 
 abbrev pub replied_by : NodeOf → Option Letter → Option (NodeOf × Letter)
-replied_by node None = None
-replied_by node (Some answer) = Some (record node { waiting = None }, answer)
+replied_by node = option_map (λ answer. (record node { waiting = None }, answer))
 
 -- the node without the answer that waits, and that answer
 abbrev pub node_replying : NodeOf → Option (NodeOf × Letter)
@@ -155,8 +150,7 @@ node_replying node = replied_by node node.waiting
 -- ---- Accept
 
 abbrev pub accepted_by : NodeOf → Option CacheOf → Option NodeOf
-accepted_by node None = None
-accepted_by node (Some cache) = Some (record node { cache = cache })
+accepted_by node = option_map (λ cache. record node { cache = cache })
 
 abbrev pub node_accepting : NodeOf → Letter → Option NodeOf
 node_accepting node answer = accepted_by node (cache_accepting node.cache answer.line answer.control answer.body)

@@ -2,12 +2,12 @@
 use Rattle.std.specs.Prelude.{◌≡◌, ◌<◌, ℕ, List}
 use Rattle.sci_words.specs.declared.event.Event.{Event}
 use Rattle.sci_core.specs.Core.{Core, node_at, run}
-use Rattle.sci_core.specs.Size.{IsSize}
+use Rattle.sci_core.specs.Size.{IsMachineSize}
 use Rattle.sci_core.specs.Node.{NodeOf}
 
 -- a schedule is any finite list of events
 pub record IsReached (core : Core) : Type 0 where
-  pub size : IsSize core.size
+  pub size : IsMachineSize core.size
   pub schedule : List Event
   pub leads : run core.size schedule ≡ core
 

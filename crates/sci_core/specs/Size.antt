@@ -15,7 +15,7 @@ abbrev pub size_of : Extent → ℕ → Size
 size_of extent limit = record { nodes = extent.nodes; lines = extent.lines; slots = extent.slots; limit = limit }
 
 -- a size within the limits
-pub record IsSize (size : Size) : Type 0 where
+pub record IsMachineSize (size : Size) : Type 0 where
   pub extent : AreWithinLimits size.nodes size.lines size.slots
   pub some_operation : 1 ≤ size.limit
   pub few_operations : size.limit ≤ MAX_OPERATIONS

@@ -24,7 +24,7 @@ ghost use Rattle.sci_cache.specs.State.{Head};
 ghost use Rattle.sci_core.specs.Coherent.{IsCoherent};
 ghost use Rattle.sci_core.specs.Done.{LastChanges, done, made_by};
 ghost use Rattle.sci_core.specs.Outcome.{logs_of};
-ghost use Rattle.sci_core.specs.Size.{Size, IsSize};
+ghost use Rattle.sci_core.specs.Size.{Size, IsMachineSize};
 ghost use Rattle.sci_core.specs.Reached.{IsReached, IsReachedNode};
 ghost use Rattle.sci_core.specs.WellFormed.{IsPart, IsWellFormed};
 ghost use Rattle.sci_core.specs.Shape.{HasShapes};
@@ -34,7 +34,7 @@ ghost use Rattle.sci_core.specs.Alternates.{Alternates};
 
 /// Every state that a schedule leads to is reached, and no other is.
 pub fn schedules_reach()
-    ensures { (size : Size) (schedule : List Event) → IsSize size → IsReached (run size schedule) }
+    ensures { (size : Size) (schedule : List Event) → IsMachineSize size → IsReached (run size schedule) }
 {}
 
 /// In every reached state each packet is between two nodes of the machine, about one of its lines, in the lane of
@@ -91,7 +91,7 @@ pub fn operations_take_effect()
 /// The entries that a schedule makes on a line are, in its order, the line's history from zero words to its last
 /// contents: a run of one memory of one thread.
 pub fn schedules_are_histories()
-    ensures { (size : Size) (schedule : List Event) (line : ℕ) → IsSize size → line < size.lines →
+    ensures { (size : Size) (schedule : List Event) (line : ℕ) → IsMachineSize size → line < size.lines →
         IsHistory (filter (is_on_line line) (done size schedule)) zero_stamped (last_at (run size schedule) line) }
 {}
 
@@ -111,7 +111,7 @@ pub fn reached_states_are_coherent()
 /// an ask and its answer exactly one Serve or Refuse takes the request; and all three have one control number. So
 /// no transaction is answered twice.
 pub fn transactions_alternate()
-    ensures { (size : Size) (schedule : List Event) (n line : ℕ) → IsSize size → n < size.nodes → line < size.lines → Alternates size schedule n line }
+    ensures { (size : Size) (schedule : List Event) (n line : ℕ) → IsMachineSize size → n < size.nodes → line < size.lines → Alternates size schedule n line }
 {}
 
 /// In every reached state the last contents of each line are eight words below 2^64, and their version is at most
@@ -133,7 +133,7 @@ pub fn entries_are_in_range()
 
 /// The log of each node is what the schedule makes on that node, in its order.
 pub fn logs_are_done()
-    ensures { (size : Size) (schedule : List Event) (node : ℕ) → IsSize size → (node_at (run size schedule) node).log ≡ filter (is_of_node node) (done size schedule) }
+    ensures { (size : Size) (schedule : List Event) (node : ℕ) → IsMachineSize size → (node_at (run size schedule) node).log ≡ filter (is_of_node node) (done size schedule) }
 {}
 
 /// An operation that a node issues is pending on its line with the node's next serial; nothing was pending there

@@ -88,6 +88,7 @@ impl Machine {
                 Err(ApplyFault::Memory(refused)) => return Err(refused),
             }
         }
+        // Read once more, so that the prover knows that the state is reached.
         let _reached = &self.state;
         Ok(())
     }

@@ -209,6 +209,7 @@ impl Node {
         if line >= self.extent.lines {
             return None;
         }
+        // By a `match`: the prover isn't told of the types inside a packet at `.ok()`.
         match self.cache.ask(line, kind) {
             Ok(packet) => Some(packet),
             Err(_) => None,

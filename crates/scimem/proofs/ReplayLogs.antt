@@ -6,7 +6,7 @@ use Rattle.sci_words.specs.declared.limits.TheConstants.{MAX_OPERATIONS, MAX_INP
 use Rattle.sci_history.specs.declared.entry.Entry.{Entry}
 use Rattle.sci_history.specs.Placed.{is_of_node}
 use Rattle.sci_history.proofs.Order.{all_weaker, all_both}
-use Rattle.sci_core.specs.Size.{Size, IsSize}
+use Rattle.sci_core.specs.Size.{Size, IsMachineSize}
 use Rattle.sci_core.specs.Core.{Core, node_at, opening}
 use Rattle.sci_core.specs.Done.{done}
 use Rattle.sci_core.specs.InRange.{IsEntryOf}
@@ -25,7 +25,7 @@ use Rattle.sci_text.proofs.LogLaws.{written_again}
 use Rattle.scimem.specs.ReplayAnswer.{replay_size, replayed, replay_text, IsReplayOf}
 use Rattle.scimem.proofs.DoneLogs.{AreDone, AreLogged, operands_fit, are_logs}
 
-within_limits : (s : ScheduleValue) → IsSchedule s → IsSize (replay_size s)
+within_limits : (s : ScheduleValue) → IsSchedule s → IsMachineSize (replay_size s)
 within_limits s is = record { extent = is.size; some_operation = omega arith; few_operations = omega arith }
 
 -- what a schedule makes, line by line

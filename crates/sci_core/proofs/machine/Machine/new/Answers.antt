@@ -5,12 +5,12 @@ use Rattle.sci_core.specs.Core.{opening}
 use Rattle.sci_core.proofs.TidyRuns.{run_reached}
 use Rattle.sci_core.proofs.ReachedLaws.{reached_coherent}
 use Rattle.sci_core.proofs.machine.Machine.new.Goals as goal
-use Rattle.sci_core.specs.Size.{IsSize, size_of}
+use Rattle.sci_core.specs.Size.{IsMachineSize, size_of}
 
 pub returns-clause-coherent : goal.returns-clause-coherent
 returns-clause-coherent c =
     let extent = c.args.extent in
-    let sizes : IsSize (size_of extent c.args.limit) = record {
+    let sizes : IsMachineSize (size_of extent c.args.limit) = record {
       extent = record {
         has_node = extent.has_node;
         few_nodes = extent.few_nodes;
