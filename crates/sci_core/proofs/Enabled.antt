@@ -140,10 +140,10 @@ request_enabled core from n reached f lt =
       served = λ letter rest front free. serve_enabled (node_at core n) letter (front_comes core from n Requests letter well f lt (front_of letter rest front)).0.asks free;
       refused = λ letter rest front free other. refuse_enabled (node_at core n) letter other free;
       waited = λ letter rest front. (
-      let comes = front_comes core from n Requests letter well f lt (front_of letter rest front) in
-      let place = lane_place core.size.nodes Requests from n in
-      let in_lane = front_holds (IsInLane core.size.nodes core.size.lines place) (lane_of core Requests from n) letter (front_of letter rest front) (well.each_lane place) in
-      let source = in_lane.from ∙ place_from core.size.nodes Requests from n f lt in
-      let only = only_packet core Requests from n from letter rest reached f lt f comes.0.letter_ok.about front (request_asker letter comes.0.asks ∙ source) in
-      (only.about, only.waiting));
+          let comes = front_comes core from n Requests letter well f lt (front_of letter rest front) in
+          let place = lane_place core.size.nodes Requests from n in
+          let in_lane = front_holds (IsInLane core.size.nodes core.size.lines place) (lane_of core Requests from n) letter (front_of letter rest front) (well.each_lane place) in
+          let source = in_lane.from ∙ place_from core.size.nodes Requests from n f lt in
+          let only = only_packet core Requests from n from letter rest reached f lt f comes.0.letter_ok.about front (request_asker letter comes.0.asks ∙ source) in
+          (only.about, only.waiting));
     }

@@ -49,11 +49,23 @@ fn read_words(act: Act)
         Act::Load => {}
         Act::Store(_word) => {}
         Act::Lock(lock) => match lock {
-            LockOp::MaskSwap { arg: _arg, datum: _datum } => {}
-            LockOp::CompareSwap { arg: _arg, datum: _datum } => {}
+            LockOp::MaskSwap {
+                arg: _arg,
+                datum: _datum,
+            } => {}
+            LockOp::CompareSwap {
+                arg: _arg,
+                datum: _datum,
+            } => {}
             LockOp::FetchAdd { datum: _datum } => {}
-            LockOp::BoundedAdd { arg: _arg, datum: _datum } => {}
-            LockOp::WrapAdd { arg: _arg, datum: _datum } => {}
+            LockOp::BoundedAdd {
+                arg: _arg,
+                datum: _datum,
+            } => {}
+            LockOp::WrapAdd {
+                arg: _arg,
+                datum: _datum,
+            } => {}
         },
     }
 }

@@ -58,11 +58,11 @@ impl Bounded {
 
     /// The home of a line.
     pub fn home(&self, line: u8) -> Option<&Home> {
-        let extent = self.machine.extent();
-        if line >= extent.lines {
+        let node = self.machine.node(line % self.machine.extent().nodes);
+        if line >= node.extent().lines {
             return None;
         }
-        self.machine.node(line % extent.nodes).home(line)
+        node.home(line)
     }
 
     /// The operation that is pending on a line at a node.
@@ -115,6 +115,11 @@ impl Bounded {
     /// The text of the logs and the last contents.
     pub fn text(&self, alloc: Global) -> Result<Vec<u8>, Fail> {
         let logs = self.machine.logs(alloc)?;
-        Ok(logs_text(alloc, self.machine.extent().nodes, &logs, &self.machine.last())?)
+        Ok(logs_text(
+            alloc,
+            self.machine.extent().nodes,
+            &logs,
+            &self.machine.last(),
+        )?)
     }
 }

@@ -18,7 +18,6 @@ returns-in_default-clause-refused c =
     let none = ap (λ (node : NodeOf). node_asking node c.args.line c.args.kind) (sym c.node.ensures) ∙ c.asked.ensures.none c.in_default.is in
     stepping_idle c.args.self.now (event.Ask c.args.n c.args.line c.args.kind) c.requires.n (ap (sends Requests) none)
 
-
 pub send-requires-clause-to : goal.send-requires-clause-to
 send-requires-clause-to c =
     let made = c.in-Some.ensures.asked in
