@@ -342,23 +342,3 @@ fn pushes(rt: HostRuntime) -> Result<(), Fail> {
     assert_eq!(rt; script.operations(), [(1, op(2, 7, Act::Load))].as_slice());
     Ok(())
 }
-
-#[test]
-fn constants_of_the_limits(rt: HostRuntime) {
-    assert_eq!(rt; sci_words::MAX_NODES, 16);
-    assert_eq!(rt; sci_words::MAX_LINES, 64);
-    assert_eq!(rt; sci_words::MAX_SLOTS, 8);
-    assert_eq!(rt; sci_words::WORDS_PER_LINE, 8);
-    assert_eq!(rt; sci_words::LINE_BYTES, 64);
-    assert_eq!(rt; sci_words::MAX_OPERATIONS, 65_536);
-    assert_eq!(rt; sci_words::MAX_VERSION, 1_048_576);
-    assert_eq!(rt; sci_words::CONTROLS, 65_536);
-    assert_eq!(rt; sci_words::MAX_TEXT_LINE_BYTES, 256);
-    assert_eq!(rt; sci_words::MAX_INPUT_BYTES, 134_217_728);
-    assert_eq!(rt; sci_words::MAX_EVENTS, 500_000);
-    assert_eq!(rt; sci_words::MAX_TURNS, 1_000_000_000);
-    assert_eq!(rt; sci_words::LANE_CELLS, 4);
-    assert_eq!(rt; sci_words::FORMAT_1_NODES, 8);
-    assert_eq!(rt; sci_words::FORMAT_1_SERIALS, 4_096);
-    assert_eq!(rt; sci_words::FORMAT_1_ENTRIES, 4_096);
-}
