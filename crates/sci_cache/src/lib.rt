@@ -1,5 +1,5 @@
-//! The cache part of a node's controller: for each line a typed state. A transition takes its state by value and gives
-//! the next, which is put in its place.
+//! The cache part of a node's controller: for each line a typed state. An ask, an acceptance and a join take the state
+//! by value and give the next, which is put in its place; other changes are made in place.
 #![tactic(auto)]
 
 mod accept;

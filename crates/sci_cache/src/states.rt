@@ -34,7 +34,8 @@ pub struct HeadState {
     pub contents: Stamped,
 }
 
-/// The head of a list whose home is fresh (ONLY_FRESH if there is no next entry, else HEAD_FRESH).
+/// The head of a list that began under a fresh home (ONLY_FRESH if there is no next entry, else HEAD_FRESH). A later
+/// mread makes the home GONE.
 #[derive(Clone, Copy, Debug, PartialEq, Eq)]
 pub struct FreshHead {
     pub forward: Option<NodeId>,

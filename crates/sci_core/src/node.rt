@@ -281,8 +281,8 @@ impl Node {
         self.cache.serve(request)
     }
 
-    /// Answers a request as busy, which changes nothing else. False, unchanged, where an answer waits already
-    /// or the request is a Setback. The caller sees to it that the request is for this node.
+    /// Answers a request as busy, which changes nothing else. False, unchanged, if an answer waits already or the
+    /// request is a Setback. The condition on the request is that of `serve`.
     pub fn refuse(&mut self, request: &Packet) -> bool
         requires { IsServable self.old (letter_of request.now) }
         ensures refused { IsTrue result → node_refusing self.old (letter_of request.now) ≡ Some self.new }
