@@ -1,19 +1,19 @@
 -- What the calls of an event do, one after another, is the step.
-use Rattle.std.proofs.Common.{◌≡◌, ℕ, ◌<◌, ◌%◌, List, [], ◌∷◌, ◌++◌, Option, Some, None, refl, sym, ap, subst, ◌∙◌, drop}
+use Rattle.std.proofs.Common.{◌≡◌, ℕ, ◌<◌, ◌%◌, List, [], ◌∷◌, Option, Some, None, length, get_or, set, refl, sym, ap, subst, ◌∙◌}
 use Rattle.std.specs.Prelude.{slice_get, IfSome, IsSome}
 use Rattle.std.specs.List.{All}
 use Rattle.std.proofs.lemmas.List.Elements.{All-head}
 use Rattle.sci_words.specs.declared.event.Event.{Event}
 use Rattle.sci_words.specs.declared.event.AskKind.{AskKind}
-use Rattle.sci_packets.specs.declared.packet.Packet.{Packet}
-use Rattle.sci_cache.specs.Cache.{Letter, letter_of}
+use Rattle.sci_cache.specs.Cache.{Letter}
 use Rattle.sci_core.specs.declared.lane.LaneKind.{LaneKind}
 use Rattle.sci_core.specs.declared.lane.LaneKind.TheVariants.{Requests, Answers}
 use Rattle.sci_core.specs.Node.{NodeOf, IsForNode, IsServable, node_asking, replied_by, node_replying}
-use Rattle.sci_core.specs.Core.{Core, node_at, with_node, lane_place, lane_of, with_lane, Takes, sends, side, node_of, stepping}
+use Rattle.sci_core.specs.Core.{Core, node_at, lane_place, lane_of, with_sent, sends, side, node_of, stepping}
 use Rattle.sci_core.specs.WellFormed.{IsInLane, IsWellFormed}
 use Rattle.sci_core.proofs.Parts.{SendsWell, part_asking}
 use Rattle.sci_core.proofs.WellFormedSteps.{Comes, comes_from_lane}
+use Rattle.sci_core.proofs.States.{read_node}
 use Rattle.sci_core.proofs.Stepping.{stepping_sent}
 
 -- ---- packets that come
@@ -50,32 +50,19 @@ target_below core n line kind next letter well lt e =
     (part_asking core.size n (node_at core n) line kind well.sizes.some_node lt (well.each_part n lt)) in
     sent.request.letter_ok.target
 
-sent_into : (core new : Core) (e : Event) (kind : LaneKind) (sending : NodeOf → Option (NodeOf × Letter)) (request : Letter) (result : Option Packet) → node_of e < core.size.nodes
-    → ((node : NodeOf) → side node e ≡ sends kind (sending node))
-    → (x : NodeOf) → sending (node_at core (node_of e)) ≡ Some (x, request)
-    → IfSome result (λ packet. (next : NodeOf) × (sending (node_at core (node_of e)) ≡ Some (next, letter_of packet)) × (new ≡ with_node (with_lane core (lane_place core.size.nodes kind (node_of e) request.target) (lane_of core kind (node_of e) request.target ++ request ∷ [])) (node_of e) next))
-    → (result ≡ None → sending (node_at core (node_of e)) ≡ None)
-    → stepping core e ≡ Some new
-sent_into core new e kind sending request None lt is x made done none = let not = none refl in cc
-sent_into core new e kind sending request (Some packet) lt is x made done none =
-    let next = done.0 in
-    let one : ◌≡◌ {A = NodeOf × Letter} (x, request) (next, letter_of packet) = cc in
-    let letter : request ≡ letter_of packet = ap (λ (p : NodeOf × Letter). p.1) one in
-    let sends_it : sending (node_at core (node_of e)) ≡ Some (next, request) = done.1 ∙ ap (λ (l : Letter). Some (next, l)) (sym letter) in
-    stepping_sent core new e kind next request lt (is (node_at core (node_of e)) ∙ ap (sends kind) sends_it) done.2
+-- the node that sends is the same once its packet is in the lane
+pub read_sent : (core mid : Core) (kind : LaneKind) (i n : ℕ) (letter : Letter) (old : NodeOf) → mid ≡ with_sent core kind n letter → i ≡ n → n < length mid.parts → old ≡ get_or mid.parts i old → old ≡ node_at core n
+read_sent core mid kind i n letter old sent is below read = subst (λ (m : Core). old ≡ node_at m n) sent (read_node mid i n old is below read)
 
 -- the packet ends its lane, and then the node changes
-pub sent_done : (core mid new : Core) (e : Event) (kind : LaneKind) (sending : NodeOf → Option (NodeOf × Letter)) (request : Letter) (result : Option Packet) → node_of e < core.size.nodes
+pub sent_done : (core mid : Core) (e : Event) (kind : LaneKind) (sending : NodeOf → Option (NodeOf × Letter)) (i : ℕ) (old new next : NodeOf) (letter : Letter) → node_of e < core.size.nodes
     → ((node : NodeOf) → side node e ≡ sends kind (sending node))
-    → (x : NodeOf) → sending (node_at core (node_of e)) ≡ Some (x, request)
-    → mid ≡ with_lane core (lane_place core.size.nodes kind (node_of e) request.target) (lane_of core kind (node_of e) request.target ++ request ∷ [])
-    → IfSome result (λ packet. (next : NodeOf) × (sending (node_at mid (node_of e)) ≡ Some (next, letter_of packet)) × (new ≡ with_node mid (node_of e) next))
-    → (result ≡ None → sending (node_at mid (node_of e)) ≡ None)
-    → stepping core e ≡ Some new
-sent_done core mid new e kind sending request result lt is x made sent done none =
-    sent_into core new e kind sending request result lt is x made
-    (subst (λ (m : Core). IfSome result (λ packet. (next : NodeOf) × (sending (node_at m (node_of e)) ≡ Some (next, letter_of packet)) × (new ≡ with_node m (node_of e) next))) sent done)
-    (λ e_none. subst (λ (m : Core). sending (node_at m (node_of e)) ≡ None) sent (none e_none))
+    → sending (node_at core (node_of e)) ≡ Some (next, letter) → mid ≡ with_sent core kind (node_of e) letter → i ≡ node_of e
+    → old ≡ node_at core (node_of e) → IfSome (sending old) (λ sent. new ≡ sent.0)
+    → stepping core e ≡ Some (record mid { parts = set mid.parts i new })
+sent_done core mid e kind sending i old new next letter lt is made sent at here done =
+    let same : new ≡ next = subst (λ (o : Option (NodeOf × Letter)). IfSome o (λ x. new ≡ x.0)) (ap sending here ∙ made) done in
+    stepping_sent core (record mid { parts = set mid.parts i new }) e kind next letter lt (is (node_at core (node_of e)) ∙ ap (sends kind) made) (rw (sent, at, same) refl)
 
 pub sent_enabled : (core : Core) (e : Event) (kind : LaneKind) (sending : NodeOf → Option (NodeOf × Letter)) → node_of e < core.size.nodes → ((node : NodeOf) → side node e ≡ sends kind (sending node))
     → (x : NodeOf) (request : Letter) → sending (node_at core (node_of e)) ≡ Some (x, request) → IsSome (stepping core e)

@@ -1,6 +1,6 @@
 -- What a cache's calls leave as it was: its number, its sizes, and how many lines it has.
 use Rattle.std.proofs.Common.{◌≡◌, ℕ, Some, None, Ok, Err, Option, Result, length, refl, sym, subst}
-use Rattle.std.specs.Prelude.{IfOk, IsErr, option_map}
+use Rattle.std.specs.Prelude.{IfOk, IsOk, IsErr, option_map}
 use Rattle.std.proofs.lemmas.List.{length-set}
 use Rattle.sci_words.specs.declared.event.AskKind.{AskKind}
 use Rattle.sci_words.specs.declared.operation.Op.{Op}
@@ -9,10 +9,9 @@ use Rattle.sci_packets.specs.declared.body.Body.{Body}
 use Rattle.sci_cache.specs.declared.fault.AskFault.{AskFault}
 use Rattle.sci_cache.specs.State.{CacheState}
 use Rattle.sci_cache.specs.Asking.{Asked}
-use Rattle.sci_cache.specs.Serving.{serving}
 use Rattle.sci_cache.specs.Performing.{Performed, performing}
 use Rattle.sci_cache.specs.Line.{LineState, line_in, line_asked, line_asking, line_accepting}
-use Rattle.sci_cache.specs.Cache.{CacheOf, Letter, line_of, with_line, has_slot, letter_asking, cache_asking, cache_serving, cache_accepting, cache_performing, cache_asked}
+use Rattle.sci_cache.specs.Cache.{CacheOf, Letter, line_of, with_line, has_slot, letter_asking, cache_asking, cache_accepting, cache_performing, cache_asked}
 
 pub record SameSizes (old new : CacheOf) : Type 0 where
   pub me : new.me ≡ old.me
@@ -55,6 +54,13 @@ asked_same cache line (Ok a) new letter e =
 
 pub same_asking : (cache : CacheOf) (line : ℕ) (kind : AskKind) (new : CacheOf) (letter : Letter) → cache_asking cache line kind ≡ Ok (new, letter) → SameSizes cache new
 same_asking cache line kind = asked_same cache line (line_asking (line_of cache line) kind (has_slot cache))
+
+same_made : (cache : CacheOf) (line : ℕ) (kind : AskKind) (made : Result (CacheOf × Letter) AskFault) (new : CacheOf) → cache_asking cache line kind ≡ made → IsOk made → IfOk made (λ asked. new ≡ asked.0) → SameSizes cache new
+same_made cache line kind (Ok asked) new e ok is = subst (SameSizes cache) (sym is) (same_asking cache line kind asked.0 asked.1 e)
+same_made cache line kind (Err fault) new e ok is = cc
+
+pub same_asked : (cache : CacheOf) (line : ℕ) (kind : AskKind) (new : CacheOf) → IsOk (cache_asking cache line kind) → IfOk (cache_asking cache line kind) (λ asked. new ≡ asked.0) → SameSizes cache new
+same_asked cache line kind new = same_made cache line kind (cache_asking cache line kind) new refl
 
 pub same_itself : (cache : CacheOf) → SameSizes cache cache
 same_itself cache = record { me = refl; nodes = refl; slots = refl; lines = refl }

@@ -1,26 +1,26 @@
 -- What comes by a lane of a reached state is taken, and is waited for.
-use Rattle.std.proofs.Common.{◌≡◌, ℕ, ◌<◌, ◌%◌, Bool, true, false, if◌then◌else◌, List, [], ◌∷◌, length, Option, Some, None, refl, sym, ap, subst, ◌∙◌, inl, inr, arith}
+use Rattle.std.proofs.Common.{◌≡◌, ℕ, ◌<◌, ◌%◌, Bool, true, false, if◌then◌else◌, List, [], ◌∷◌, Option, Some, None, refl, sym, ap, subst, ◌∙◌, inl, inr}
 use Rattle.std.specs.Prelude.{option_map, ◌==◌, IsSome, is_some, slice_get}
 use Rattle.std.proofs.lemmas.Bool.{cases_Bool, eq-eqb}
 use Rattle.sci_packets.specs.declared.body.Body.{Body}
 use Rattle.sci_packets.specs.declared.body.Body.TheVariants as body
-use Rattle.sci_packets.specs.Table.{is_request, IsRequest}
+use Rattle.sci_packets.specs.Table.{IsRequest}
 use Rattle.sci_home.specs.declared.state.HomeState.{HomeState}
 use Rattle.sci_home.specs.Serving.{is_for_home, home_serving}
 use Rattle.sci_cache.specs.State.{CacheState, waits}
 use Rattle.sci_cache.specs.Serving.{serving}
 use Rattle.sci_cache.specs.Accepting.{accepting}
-use Rattle.sci_cache.specs.Line.{LineState, last_control, line_in, line_accepting}
-use Rattle.sci_cache.specs.Cache.{CacheOf, Letter, line_of, with_line, cache_serving}
+use Rattle.sci_cache.specs.Line.{last_control, line_in}
+use Rattle.sci_cache.specs.Cache.{Letter, line_of, with_line}
 use Rattle.sci_core.specs.declared.lane.LaneKind.{LaneKind}
 use Rattle.sci_core.specs.declared.lane.LaneKind.TheVariants.{Requests, Answers}
-use Rattle.sci_core.specs.Node.{NodeOf, home_of, served_at_home, served_in_cache, serving_at_home, serving_in_cache, serving_request, answered_by, node_serving, node_refusing, with_answer, is_setback, accepted_by, node_accepting}
+use Rattle.sci_core.specs.Node.{NodeOf, home_of, served_at_home, served_in_cache, serving_at_home, serving_in_cache, serving_request, answered_by, node_serving, node_refusing, with_answer, is_setback, accepted_by}
 use Rattle.sci_core.specs.Core.{Core, node_at, lane_place, lane_of}
 use Rattle.sci_core.specs.Enabled.{IsAcceptedAt, AreServedAt}
 use Rattle.sci_core.specs.Reached.{IsReached}
 use Rattle.sci_core.specs.Sharing.{asker_of, packets_of, answer_in, answer_to}
-use Rattle.sci_core.specs.Tidy.{HasItsPackets, IsAccepted}
-use Rattle.sci_core.specs.WellFormed.{IsInLane, IsWellFormed}
+use Rattle.sci_core.specs.Tidy.{IsAccepted}
+use Rattle.sci_core.specs.WellFormed.{IsInLane}
 use Rattle.sci_core.proofs.Applied.{front_holds, front_comes}
 use Rattle.sci_core.proofs.Packets.{lane_has, packets_accepted}
 use Rattle.sci_core.proofs.Places.{place_from}
@@ -28,7 +28,7 @@ use Rattle.sci_core.proofs.ReachedLaws.{reached_accepted}
 use Rattle.sci_core.proofs.Steps.{lane_below}
 use Rattle.sci_core.proofs.TidyRuns.{reached_tidy, node_below}
 use Rattle.sci_core.proofs.TidySteps.{about_from, request_asker, answer_asker}
-use Rattle.sci_core.proofs.Waits.{HasOne, some_has_one}
+use Rattle.sci_core.proofs.Waits.{some_has_one}
 use Rattle.sci_core.proofs.WellFormedSteps.{reached_well}
 
 -- ---- requests

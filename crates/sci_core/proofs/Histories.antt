@@ -14,7 +14,7 @@ use Rattle.sci_history.specs.History.{IsHistory}
 use Rattle.sci_history.specs.Placed.{is_of_node, is_on_line}
 use Rattle.sci_history.proofs.Order.{filter_yes, filter_no}
 use Rattle.sci_cache.specs.Cache.{Letter}
-use Rattle.sci_core.specs.Node.{NodeOf, opening_node, node_issuing, node_performing, node_asking, node_serving, node_refusing, node_replying, node_accepting, pending_on, IsPendingOn, no_node}
+use Rattle.sci_core.specs.Node.{NodeOf, node_issuing, node_performing, node_asking, node_serving, node_refusing, node_replying, node_accepting, pending_on, IsPendingOn, no_node}
 use Rattle.sci_core.specs.Core.{Core, node_at, with_node, stepping, step, run_from}
 use Rattle.sci_core.specs.Done.{performed, ChangesBy, made_by, done_from}
 use Rattle.sci_core.specs.Tidy.{IsTidy}

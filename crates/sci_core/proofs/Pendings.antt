@@ -1,24 +1,20 @@
 -- Where an Issue and a Perform put an operation and its entry, and which operations can be performed.
-use Rattle.std.proofs.Common.{◌≡◌, ◌≢◌, ℕ, ◌-◌, ◌^◌, ◌%◌, ◌<◌, nat_lt, Bool, true, false, if◌then◌else◌, List, [], Option, Some, None, refl, sym, ap, subst, ◌∙◌, arith}
-use Rattle.std.specs.Prelude.{option_map, ◌&&◌, IfSome, IsSome, is_some, is_none}
+use Rattle.std.proofs.Common.{◌≡◌, ℕ, ◌-◌, ◌^◌, ◌%◌, ◌<◌, nat_lt, Bool, true, false, if◌then◌else◌, Option, Some, None, refl, ap, subst, ◌∙◌, arith}
+use Rattle.std.specs.Prelude.{option_map, ◌&&◌, IsSome, is_some, is_none}
 use Rattle.std.proofs.lemmas.Bool.{and_parts, ltb-true, lt-ltb}
 use Rattle.std.proofs.lemmas.List.{get_or-set_same, get_or-set_other}
 use Rattle.sci_words.specs.declared.limits.TheConstants.{WORDS_PER_LINE}
 use Rattle.sci_words.specs.declared.operation.Op.{Op}
-use Rattle.sci_words.specs.declared.operation.Reply.{Reply}
 use Rattle.sci_words.specs.declared.stamped.Stamped.{Stamped}
 use Rattle.sci_words.specs.Operation.{has_words, is_maker}
-use Rattle.sci_words.specs.Stamped.{after}
-use Rattle.sci_packets.specs.declared.body.Body.{Body}
 use Rattle.sci_history.specs.declared.entry.Entry.{Entry}
 use Rattle.sci_cache.specs.State.{CacheState, Head, waits}
-use Rattle.sci_cache.specs.Performing.{Performed, performing, making}
+use Rattle.sci_cache.specs.Performing.{Performed, performing}
 use Rattle.sci_cache.specs.Line.{line_in}
-use Rattle.sci_cache.specs.Cache.{CacheOf, Letter, line_of, with_line}
+use Rattle.sci_cache.specs.Cache.{line_of, with_line}
 use Rattle.sci_core.specs.declared.pending.Pending.{Pending}
 use Rattle.sci_core.specs.Node.{NodeOf, IsNode, IsPendingOn, lines_of, pending_on, is_in_range, may_issue, node_issued, node_issuing, entry_of, node_logged, performed_by, performing_pending, node_performing}
 use Rattle.sci_core.specs.Core.{Core, node_at}
-use Rattle.sci_core.specs.InRange.{IsStamped}
 use Rattle.sci_core.specs.Reached.{IsReached}
 use Rattle.sci_core.specs.Sharing.{packets_of, answer_in, answer_to, sharer_of, authority_contents, contents_held, last_at}
 use Rattle.sci_core.specs.Work.{IsIssued, IsLogged}

@@ -14,7 +14,7 @@ use Rattle.sci_cache.specs.State.{CacheState, waits}
 use Rattle.sci_cache.specs.Serving.{serving}
 use Rattle.sci_cache.specs.Line.{LineState, untouched, line_in}
 use Rattle.sci_cache.specs.Cache.{Letter, line_of, with_line}
-use Rattle.sci_core.specs.Node.{NodeOf, is_setback, opening_node, lines_of, home_of, home_place, answering, with_answer, no_node}
+use Rattle.sci_core.specs.Node.{NodeOf, is_setback, lines_of, home_of, home_place, answering, with_answer, no_node}
 use Rattle.sci_core.specs.Core.{Core, node_at, with_node, lane_at, with_lane}
 use Rattle.sci_core.specs.Sharing.{is_about, packets_of, answer_in, home_at, answer_to as told}
 use Rattle.sci_core.specs.Tidy.{IsSentIn, IsTidy}

@@ -12,7 +12,7 @@ use Rattle.sci_home.specs.Serving.{opening_home}
 use Rattle.sci_cache.specs.Performing.{Performed}
 use Rattle.sci_cache.specs.Line.{LineState}
 use Rattle.sci_cache.specs.Cache.{Letter, line_of}
-use Rattle.sci_core.specs.Node.{NodeOf, opening_node, lines_of, home_of, no_node}
+use Rattle.sci_core.specs.Node.{NodeOf, lines_of, home_of, no_node}
 use Rattle.sci_core.specs.Core.{Core, node_at, with_node, lane_at, with_lane}
 use Rattle.sci_core.specs.Sharing.{is_about, packets_of, answer_in, home_at, answer_to as told}
 use Rattle.sci_core.specs.Tidy.{IsTidy}

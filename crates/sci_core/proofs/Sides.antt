@@ -1,5 +1,5 @@
 -- Each event is its node's side, with its one packet.
-use Rattle.std.proofs.Common.{◌≡◌, ℕ, ◌<◌, List, [], ◌∷◌, Option, Some, None, refl, ap, ◌∙◌}
+use Rattle.std.proofs.Common.{◌≡◌, ℕ, ◌<◌, List, Option, Some, None, refl, ap, ◌∙◌}
 use Rattle.std.specs.Prelude.{option_map}
 use Rattle.sci_words.specs.declared.event.Event.{Event}
 use Rattle.sci_words.specs.declared.event.Event.TheVariants as event
@@ -8,7 +8,7 @@ use Rattle.sci_cache.specs.Cache.{Letter}
 use Rattle.sci_core.specs.declared.lane.LaneKind.{LaneKind}
 use Rattle.sci_core.specs.declared.lane.LaneKind.TheVariants.{Requests, Answers}
 use Rattle.sci_core.specs.Node.{NodeOf, node_issuing, node_performing, node_asking, node_serving, node_refusing, node_replying, node_accepting}
-use Rattle.sci_core.specs.Core.{Core, node_at, with_node, lane_place, lane_of, Takes, changes, performs, sends, side, node_of, sent_by, taken_as, taken_from, step_by, stepping}
+use Rattle.sci_core.specs.Core.{Core, node_at, with_node, lane_place, Takes, changes, performs, sends, side, node_of, sent_by, taken_as, taken_from, step_by}
 use Rattle.sci_core.specs.Sides.{taken_to, TakesFront, StepsBySides}
 use Rattle.sci_core.proofs.Stepping.{stepping_side, stepping_takes}
 

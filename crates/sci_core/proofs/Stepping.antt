@@ -6,7 +6,7 @@ use Rattle.sci_words.specs.declared.event.Event.{Event}
 use Rattle.sci_cache.specs.Cache.{Letter}
 use Rattle.sci_core.specs.declared.lane.LaneKind.{LaneKind}
 use Rattle.sci_core.specs.Node.{NodeOf}
-use Rattle.sci_core.specs.Core.{Core, node_at, with_node, lane_place, lane_of, with_lane, Side, Idle, Changes, Sends, Takes, side, node_of, sent_by, taken_as, taken_from, step_by, stepping}
+use Rattle.sci_core.specs.Core.{Core, node_at, with_node, lane_place, lane_of, Side, Idle, Changes, Sends, Takes, side, node_of, sent_by, taken_as, taken_from, step_by, stepping}
 
 pub if_true : {X : Type 0} (b : Bool) (x y : X) → b ≡ true → (if b then x else y) ≡ x
 if_true true x y e = refl

@@ -8,7 +8,7 @@ use Rattle.sci_packets.specs.Table.{is_request}
 use Rattle.sci_cache.specs.State.{waits}
 use Rattle.sci_cache.specs.Line.{LineState}
 use Rattle.sci_cache.specs.Cache.{Letter, line_of}
-use Rattle.sci_core.specs.Node.{NodeOf, opening_node, lines_of, answering, no_node}
+use Rattle.sci_core.specs.Node.{NodeOf, lines_of, answering, no_node}
 use Rattle.sci_core.specs.Core.{Core, node_at, with_node, lane_at, with_lane}
 use Rattle.sci_core.specs.Sharing.{asker_of, is_about, packets_of}
 use Rattle.sci_core.specs.Tidy.{IsAwaited, HasItsPackets, IsTidy}

@@ -1,5 +1,5 @@
 -- Where a run stands that memory stopped.
-use Rattle.std.specs.Prelude.{◌≡◌, ℕ, List, take, slice_get, Some, IsSome, IsTrue}
+use Rattle.std.specs.Prelude.{◌≡◌, ℕ, List, take, slice_get, Some, IsTrue}
 use Rattle.sci_words.specs.declared.event.Event.{Event}
 use Rattle.sci_core.specs.Core.{Core, IsEnabled, run_from}
 use Rattle.sci_core.specs.Fault.{is_sending}

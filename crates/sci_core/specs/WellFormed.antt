@@ -1,5 +1,5 @@
 -- Plain facts of a machine's state: sizes, senders and receivers, and numbers in range.
-use Rattle.std.specs.Prelude.{◌≡◌, ℕ, ◌*◌, ◌/◌, ◌%◌, ◌<◌, ◌≤◌, false, length, slice_index_or, Option, IfSome}
+use Rattle.std.specs.Prelude.{◌≡◌, ℕ, ◌*◌, ◌/◌, ◌%◌, ◌<◌, ◌≤◌, false, slice_index_or, Option, IfSome}
 use Rattle.std.specs.List.{All}
 use Rattle.sci_words.specs.declared.limits.TheConstants.{CONTROLS}
 use Rattle.sci_packets.specs.declared.body.Body.{Body}

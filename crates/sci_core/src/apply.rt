@@ -93,7 +93,7 @@ impl State {
         if let Err(refused) = self.send(LaneKind::Requests, n, &request) {
             return Err(ApplyFault::Memory(refused));
         }
-        let _request = self.nodes[usize::from(n)].ask(line, kind);
+        self.nodes[usize::from(n)].apply_ask(line, kind);
         Ok(())
     }
 

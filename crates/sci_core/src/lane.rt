@@ -67,12 +67,9 @@ impl Lane {
         ensures ok { OnOk result (self.new ≡ self.old ++ letter_of packet.now ∷ []) }
         ensures err { OnErr result (self.new ≡ self.old) }
     {
-        // As an option, so that the prover is told of the types inside a packet.
-        let packet: Option<Packet> = Some(*packet);
-        match packet {
-            Some(packet) => push(&mut self.packets, packet),
-            None => Ok(()),
-        }
+        // Makes an option, so that the prover is told of the types inside a packet.
+        let _told = Some(*packet);
+        push(&mut self.packets, *packet)
     }
 
     /// Takes the oldest packet away, if there is one.

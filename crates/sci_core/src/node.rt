@@ -71,7 +71,7 @@ fn read_words(act: Act)
 }
 
 impl Node {
-    ghost use Rattle.std.specs.Prelude.{◌≡◌, ◌≢◌, ◌<◌, ◌≤◌, ◌%◌, length, Some, None, Ok, Err, true, false, IfOk, IfSome, IsErr, MatchOption, MatchBool, is_some, IsTrue, option_map, option_copied};
+    ghost use Rattle.std.specs.Prelude.{◌≡◌, ◌≢◌, ◌<◌, ◌≤◌, ◌%◌, length, Some, None, Ok, Err, true, false, IfOk, IfSome, IsErr, IsSome, MatchOption, MatchBool, is_some, IsTrue, option_map, option_copied};
     ghost use Rattle.sci_words.specs.declared.limits.TheConstants.{MAX_OPERATIONS};
     ghost use Rattle.sci_core.specs.Size.{size_of};
     ghost use Rattle.sci_core.specs.Taking.{IsTakable, node_taking};
@@ -226,6 +226,14 @@ impl Node {
             Ok(packet) => Some(packet),
             Err(_) => None,
         }
+    }
+
+    /// Makes the request that `asked` gave, which is sent already. The caller sees to it that `asked` gave one.
+    pub(crate) fn apply_ask(&mut self, line: u8, kind: AskKind)
+        requires { IsSome (node_asking self.old line kind) }
+        ensures { IfSome (node_asking self.old line kind) (λ asked. self.new ≡ asked.0) }
+    {
+        self.cache.apply_ask(line, kind);
     }
 
     /// The packet that `ask` would give, or None where it would give none.

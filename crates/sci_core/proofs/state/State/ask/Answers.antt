@@ -1,16 +1,14 @@
 -- The packet that is sent is the one that the ask makes.
-use Rattle.std.proofs.Common.{◌≡◌, None, Some, length, set, refl, ap, sym, subst, ◌∙◌, ◌<◌, arith}
-use Rattle.std.specs.Prelude.{IfSome}
+use Rattle.std.proofs.Common.{length, refl, ap, sym, subst, ◌∙◌, ◌<◌, arith}
+use Rattle.std.specs.Prelude.{IsSome}
 use Rattle.sci_words.specs.declared.event.Event.TheVariants as event
-use Rattle.sci_packets.specs.declared.packet.Packet.{Packet}
 use Rattle.sci_cache.specs.Cache.{letter_of}
 use Rattle.sci_core.specs.declared.lane.LaneKind.TheVariants.{Requests}
 use Rattle.sci_core.specs.Node.{NodeOf, node_asking}
-use Rattle.sci_core.specs.Core.{Core, sends, node_at}
+use Rattle.sci_core.specs.Core.{Core, sends}
 use Rattle.sci_core.specs.contracts.state.State.{the_view}
-use Rattle.sci_core.proofs.States.{read_node, Gives, gives_some}
 use Rattle.sci_core.proofs.Stepping.{stepping_idle}
-use Rattle.sci_core.proofs.Applied.{target_below, sent_done, sent_enabled}
+use Rattle.sci_core.proofs.Applied.{target_below, read_sent, sent_done, sent_enabled}
 use Rattle.sci_core.proofs.state.State.ask.Goals as goal
 
 pub returns-in_default-clause-refused : goal.returns-in_default-clause-refused
@@ -33,20 +31,26 @@ returns-in-Err-clause-refused c =
       refl,
     )
 
-pub returns-clause-done : goal.returns-clause-done
-returns-clause-done c =
-    let made = c.in-Some.ensures.asked in
-    let asks : NodeOf → Packet → NodeOf → Type 0 = λ old packet next. node_asking old c.args.line c.args.kind ≡ Some (next, letter_of packet) in
+pub apply_ask-requires : goal.apply_ask-requires
+apply_ask-requires c =
     let mid = the_view c.self.inside in
     let long = c.self.invariant.parts_long in
     let view = ap (λ (core : Core). core.size.nodes) c.self.view_is in
     let size = ap (λ (core : Core). core.size.nodes) (c.in_default-send.ensures.ok) in
     let given = c.requires.n in
     let below : c.args.n < length mid.parts = omega arith in
-    let after : Core = record mid { parts = set mid.parts c.from.result c.ask-request.new.self } in
-    let done = subst (λ (k : Core). IfSome c.ask-request.result (Gives asks k after c.args.n)) c.self.view_is
-    (gives_some asks mid c.from.result c.args.n c.index_mut.result.now c.ask-request.new.self c.ask-request.result c.from.ensures below c.index_mut.ensures.value c.ask-request.ensures.asked) in
-    let none = λ (e : c.ask-request.result ≡ None). subst (λ (k : Core). node_asking (node_at k c.args.n) c.args.line c.args.kind ≡ None) c.self.view_is
-    (ap (λ (node : NodeOf). node_asking node c.args.line c.args.kind) (sym (read_node mid c.from.result c.args.n c.index_mut.result.now c.from.ensures below c.index_mut.ensures.value)) ∙ c.ask-request.ensures.none e) in
-    sent_done c.args.self.now c.send.new.self after (event.Ask c.args.n c.args.line c.args.kind) Requests (λ node. node_asking node c.args.line c.args.kind) (letter_of c.in-Some.request) c.ask-request.result c.requires.n (λ node. refl) made.0
-    (ap (λ (node : NodeOf). node_asking node c.args.line c.args.kind) (sym c.node.ensures) ∙ made.1) c.in_default-send.ensures.ok done none
+    let here = read_sent c.args.self.now mid Requests c.from.result c.args.n (letter_of c.in-Some.request) c.index_mut.result.now (c.self.view_is ∙ c.in_default-send.ensures.ok) c.from.ensures below c.index_mut.ensures.value in
+    subst IsSome (sym (ap (λ (node : NodeOf). node_asking node c.args.line c.args.kind) here ∙ (ap (λ (node : NodeOf). node_asking node c.args.line c.args.kind) (sym c.node.ensures) ∙ c.in-Some.ensures.asked.1))) refl
+
+pub returns-clause-done : goal.returns-clause-done
+returns-clause-done c =
+    let mid = the_view c.self.inside in
+    let long = c.self.invariant.parts_long in
+    let view = ap (λ (core : Core). core.size.nodes) c.self.view_is in
+    let size = ap (λ (core : Core). core.size.nodes) (c.in_default-send.ensures.ok) in
+    let given = c.requires.n in
+    let below : c.args.n < length mid.parts = omega arith in
+    let sent = c.self.view_is ∙ c.in_default-send.ensures.ok in
+    sent_done c.args.self.now mid (event.Ask c.args.n c.args.line c.args.kind) Requests (λ node. node_asking node c.args.line c.args.kind) c.from.result c.index_mut.result.now c.apply_ask.new.self _ (letter_of c.in-Some.request)
+    c.requires.n (λ node. refl) (ap (λ (node : NodeOf). node_asking node c.args.line c.args.kind) (sym c.node.ensures) ∙ c.in-Some.ensures.asked.1) sent c.from.ensures
+    (read_sent c.args.self.now mid Requests c.from.result c.args.n (letter_of c.in-Some.request) c.index_mut.result.now sent c.from.ensures below c.index_mut.ensures.value) c.apply_ask.ensures

@@ -1,5 +1,5 @@
 -- The node's call is the step.
-use Rattle.std.proofs.Common.{◌≡◌, ◌<◌, None, Some, length, set, sym, ap, subst, ◌∙◌, arith}
+use Rattle.std.proofs.Common.{◌≡◌, None, Some, set, sym, ap, subst, ◌∙◌, arith}
 use Rattle.std.proofs.lemmas.Option.{IfSome_then}
 use Rattle.sci_words.specs.declared.event.Event.TheVariants as event
 use Rattle.sci_core.specs.Core.{Core, performs, stepping}

@@ -1,11 +1,11 @@
 -- What the node does with the oldest packet is the step.
-use Rattle.std.proofs.Common.{◌≡◌, List, None, Some, get_or, set, drop, sym, ap, subst, ◌∙◌, arith}
+use Rattle.std.proofs.Common.{◌≡◌, List, get_or, set, drop, sym, ap, subst, ◌∙◌, arith}
 use Rattle.std.specs.Prelude.{option_map, slice_get}
 use Rattle.sci_cache.specs.Cache.{Letter, letter_of}
 use Rattle.sci_core.specs.declared.lane.LaneKind.{LaneKind}
 use Rattle.sci_core.specs.Node.{NodeOf}
 use Rattle.sci_core.specs.Core.{Core, lane_place, lane_of, with_lane}
-use Rattle.sci_core.specs.Taking.{lane_kind, IsTakable}
+use Rattle.sci_core.specs.Taking.{IsTakable}
 use Rattle.sci_core.proofs.States.{read_node}
 use Rattle.sci_core.proofs.Takings.{taking_from_nobody, taking_empty, takable, taking_untaken, taking_done}
 use Rattle.sci_core.proofs.state.State.take.Goals as goal
