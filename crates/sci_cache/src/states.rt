@@ -22,46 +22,46 @@ pub struct Joining {
 /// Told the contents and who the old head is: a Cread is sent to it, or not yet.
 #[derive(Clone, Copy, Debug, PartialEq, Eq)]
 pub struct FreshJoining {
+    pub contents: Stamped,
     pub old_head: NodeId,
     pub sent: bool,
-    pub contents: Stamped,
 }
 
 /// The head of a list that may write (ONLY_DIRTY if there is no next entry, else HEAD_DIRTY).
 #[derive(Clone, Copy, Debug, PartialEq, Eq)]
 pub struct HeadState {
-    pub forward: Option<NodeId>,
     pub contents: Stamped,
+    pub forward: Option<NodeId>,
 }
 
 /// The head of a list that began under a fresh home (ONLY_FRESH if there is no next entry, else HEAD_FRESH). A later
 /// mread makes the home GONE.
 #[derive(Clone, Copy, Debug, PartialEq, Eq)]
 pub struct FreshHead {
-    pub forward: Option<NodeId>,
     pub contents: Stamped,
+    pub forward: Option<NodeId>,
 }
 
 /// An entry behind another (TAIL_VALID if there is no next entry, else MID_VALID).
 #[derive(Clone, Copy, Debug, PartialEq, Eq)]
 pub struct Below {
+    pub contents: Stamped,
     pub forward: Option<NodeId>,
     pub backward: NodeId,
-    pub contents: Stamped,
 }
 
 /// The head, with a Purge sent to the next entry.
 #[derive(Clone, Copy, Debug, PartialEq, Eq)]
 pub struct Purging {
-    pub next: NodeId,
     pub contents: Stamped,
+    pub next: NodeId,
 }
 
 /// The head of a fresh list, with a Claim sent to the home.
 #[derive(Clone, Copy, Debug, PartialEq, Eq)]
 pub struct Claiming {
-    pub forward: Option<NodeId>,
     pub contents: Stamped,
+    pub forward: Option<NodeId>,
 }
 
 /// The only entry of a fresh list, with a Clear sent to the home.
@@ -79,9 +79,9 @@ pub struct Returning {
 /// An entry behind another, with a Roll sent to the entry before it.
 #[derive(Clone, Copy, Debug, PartialEq, Eq)]
 pub struct Rolling {
+    pub contents: Stamped,
     pub forward: Option<NodeId>,
     pub backward: NodeId,
-    pub contents: Stamped,
 }
 
 /// Out of the list, and must tell `behind` that `before` is now the entry before it: a Setback is sent, or not

@@ -59,10 +59,20 @@ details_read verbs.Refuse first bytes = numbered_read events.Refuse first bytes
 details_read verbs.Reply first bytes = Some (option_map (λ node. events.Reply node) (byte first), bytes)
 details_read verbs.Accept first bytes = numbered_read events.Accept first bytes
 
+-- an event, and the bytes after its line feed
+abbrev pub ended_read : Option Event → List ℕ → Option (Option Event × List ℕ)
+ended_read event bytes = do
+  rest ← after (10 ∷ []) bytes
+  Some (event, rest)
+
+-- the event whose word and first node stood before the bytes, and the bytes after its line
+abbrev pub line_after_read : Verb → Option ℕ → List ℕ → Option (Option Event × List ℕ)
+line_after_read verb first bytes = do
+  said ← details_read verb first bytes
+  ended_read said.0 said.1
+
 unfoldable pub event_line_read : List ℕ → Option (Option Event × List ℕ)
 event_line_read bytes = do
   verb ← verb_read bytes
   first ← field_read verb.1
-  said ← details_read verb.0 first.0 first.1
-  rest ← after (10 ∷ []) said.1
-  Some (said.0, rest)
+  line_after_read verb.0 first.0 first.1

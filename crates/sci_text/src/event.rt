@@ -2,7 +2,7 @@
 
 ghost use Rattle.std.specs.Prelude.{◌≡◌};
 ghost use Rattle.sci_text.specs.Reading.{Gives, byte};
-ghost use Rattle.sci_text.specs.EventReading.{kind_read, verb_read, details_read, event_line_read, paired};
+ghost use Rattle.sci_text.specs.EventReading.{kind_read, verb_read, ended_read, details_read, line_after_read, event_line_read, paired};
 
 use crate::number::{Number, field};
 use crate::operation::{after, byte, operation};
@@ -87,11 +87,22 @@ fn bytes_of(first: Number, second: Number) -> Option<(u8, u8)>
     byte(first).zip(byte(second))
 }
 
-/// The event of this word and first node whose details stand at the front of `bytes`, or None where one of its
-/// numbers doesn't fit an `Event`, and the bytes after them.
+/// The event and the bytes after a line feed, which stands at the front of `bytes`.
+#[tactic(auto, unfolding(crate::specs::Reading::after))]
+fn ended(event: Option<Event>, bytes: &[u8]) -> Option<(Option<Event>, &[u8])>
+    ensures { Gives (λ x. (x.0, x.1.now)) result (ended_read event bytes.now) }
+{
+    match bytes {
+        [b'\n', rest @ ..] => Some((event, rest)),
+        _ => None,
+    }
+}
+
+/// The event of this word and first node whose details stand at the front of `bytes` and end its line, or None where
+/// one of its numbers doesn't fit an `Event`, and the bytes after the line.
 #[tactic(auto, unfolding(crate::specs::EventReading::details_read, crate::specs::EventReading::numbered_read))]
 fn details(verb: Verb, first: Number, bytes: &[u8]) -> Option<(Option<Event>, &[u8])>
-    ensures { Gives (λ x. (x.0, x.1.now)) result (details_read verb first bytes.now) }
+    ensures { Gives (λ x. (x.0, x.1.now)) result (line_after_read verb first bytes.now) }
 {
     match verb {
         Verb::Issue => {
@@ -99,37 +110,37 @@ fn details(verb: Verb, first: Number, bytes: &[u8]) -> Option<(Option<Event>, &[
             let event = byte(first)
                 .zip(op)
                 .map(|(node, op)| Event::Issue { node, op });
-            Some((event, rest))
+            ended(event, rest)
         }
         Verb::Perform => {
             let (line, rest) = field(bytes)?;
             let event = bytes_of(first, line).map(|(node, line)| Event::Perform { node, line });
-            Some((event, rest))
+            ended(event, rest)
         }
         Verb::Ask => {
             let (line, rest) = field(bytes)?;
             let (kind, rest) = kind_of(after(rest, b" ")?)?;
             let event = bytes_of(first, line).map(|(node, line)| Event::Ask { node, line, kind });
-            Some((event, rest))
+            ended(event, rest)
         }
         Verb::Serve => {
             let (node, rest) = field(bytes)?;
             let event = bytes_of(first, node).map(|(from, node)| Event::Serve { from, node });
-            Some((event, rest))
+            ended(event, rest)
         }
         Verb::Refuse => {
             let (node, rest) = field(bytes)?;
             let event = bytes_of(first, node).map(|(from, node)| Event::Refuse { from, node });
-            Some((event, rest))
+            ended(event, rest)
         }
         Verb::Reply => {
             let event = byte(first).map(|node| Event::Reply { node });
-            Some((event, bytes))
+            ended(event, bytes)
         }
         Verb::Accept => {
             let (node, rest) = field(bytes)?;
             let event = bytes_of(first, node).map(|(from, node)| Event::Accept { from, node });
-            Some((event, rest))
+            ended(event, rest)
         }
     }
 }
@@ -142,7 +153,5 @@ pub fn event_line(bytes: &[u8]) -> Option<(Option<Event>, &[u8])>
 {
     let (verb, rest) = verb_of(bytes)?;
     let (first, rest) = field(rest)?;
-    let (event, rest) = details(verb, first, rest)?;
-    let rest = after(rest, b"\n")?;
-    Some((event, rest))
+    details(verb, first, rest)
 }

@@ -35,12 +35,12 @@ pub enum Act {
 /// An operation of a processor on one word.
 #[derive(Clone, Copy, Debug, PartialEq, Eq)]
 pub struct Op {
+    /// What is done.
+    pub act: Act,
     /// The number of the line, from 0.
     pub line: u8,
     /// The place of the word in its line, 0 to 7.
     pub word: u8,
-    /// What is done.
-    pub act: Act,
 }
 
 /// What an operation answers.
