@@ -46,15 +46,10 @@ flat_from_none f xs i d v below none =
 
 alone_before : {Y : Type 0} (xs ys : List Y) (y z : Y) (zs : List Y) → xs ++ (z ∷ zs ++ ys) ≡ y ∷ [] → xs ≡ []
 alone_before [] ys y z zs e = refl
-alone_before (x ∷ xs) ys y z zs e =
-    let rest : xs ++ (z ∷ zs ++ ys) ≡ [] = cc in
-    let none = nothing_after xs _ rest in
-    cc
+alone_before (x ∷ xs) ys y z zs e = grind (arith, nothing_after)
 
 alone_after : {Y : Type 0} (ys : List Y) (y z : Y) (zs : List Y) → z ∷ zs ++ ys ≡ y ∷ [] → (zs ≡ []) × (ys ≡ []) × (z ≡ y)
-alone_after ys y z zs e =
-    let rest : zs ++ ys ≡ [] = cc in
-    (nothing_before zs ys rest, nothing_after zs ys rest, cc)
+alone_after ys y z zs e = grind (arith, nothing_before, nothing_after)
 
 -- where one thing is given, by this part, all that is given then is what the new part gives
 pub flat_from_one : {X Y : Type 0} (f : X → List Y) (xs : List X) (i : ℕ) (d v : X) (y z : Y) (zs : List Y) → i < length xs → flat_map f xs ≡ y ∷ [] → f (get_or xs i d) ≡ z ∷ zs

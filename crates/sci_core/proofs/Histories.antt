@@ -1,5 +1,5 @@
 -- The entries of a schedule on a line are the line's history, and the nodes' logs are theirs.
-use Rattle.std.proofs.Common.{◌≡◌, ℕ, ◌+◌, ◌≤◌, ◌<◌, List, [], ◌∷◌, ◌++◌, length, filter, append_assoc, Option, Some, None, refl, sym, ap, subst, ◌∙◌, arith, inl, inr}
+use Rattle.std.proofs.Common.{◌≡◌, ℕ, ◌+◌, ◌≤◌, ◌<◌, List, [], ◌∷◌, ◌++◌, length, filter, append_assoc, Option, Some, None, refl, sym, ap, subst, ◌∙◌, arith}
 use Rattle.std.specs.Prelude.{IsTrue, IfSome, unwrap_or, option_to_list}
 use Rattle.std.proofs.lemmas.Option.{IfSome_then}
 use Rattle.std.specs.List.{AllByRecursion}
@@ -36,16 +36,7 @@ use Rattle.sci_words.specs.Operation.{has_words}
 -- an entry on the line comes first in its history, and any other isn't in it
 history_made : (made : Option Entry) (line : ℕ) (c d e : Stamped) (rest : List Entry) → ChangesBy made line c d → IsHistory (filter (is_on_line line) rest) d e → IsHistory (filter (is_on_line line) (option_to_list made ++ rest)) c e
 history_made None line c d e rest changes history = subst (λ (s : Stamped). IsHistory (filter (is_on_line line) rest) s e) changes history
-history_made (Some entry) line c d e rest changes history =
-    elim (cases_eq entry.op.line line) [
-      | inl here ↦
-          let effect = changes.here here in
-          subst (λ (es : List Entry). IsHistory es c e) (sym (filter_yes (is_on_line line) entry rest (eq-eqb entry.op.line line here)))
-          (effect.reply, effect.version, subst (λ (s : Stamped). IsHistory (filter (is_on_line line) rest) s e) effect.contents history)
-      | inr other ↦
-          subst (λ (es : List Entry). IsHistory es c e) (sym (filter_no (is_on_line line) entry rest (ne_eqb entry.op.line line other)))
-          (subst (λ (s : Stamped). IsHistory (filter (is_on_line line) rest) s e) (changes.elsewhere other) history)
-    ]
+history_made (Some entry) line c d e rest changes history = grind (arith, cases_eq, filter_yes, eq-eqb, filter_no, ne_eqb)
 
 pub run_follows : (core : Core) (events : List Event) → IsWellFormed core → IsTidy core → (line : ℕ) → line < core.size.lines → (c : Stamped) → ShapedAt core line c
     → (d : Stamped) × ShapedAt (run_from core events) line d × IsHistory (filter (is_on_line line) (done_from core events)) c d
@@ -83,20 +74,7 @@ same_logged : (core : Core) (n : ℕ) (next : NodeOf) (made : Option Entry) → 
 same_logged core n next made none same = none_logged core n next made none same.log (λ all. same_serials (node_at core n) next same (all n))
 
 some_logged : (core : Core) (n : ℕ) (next : NodeOf) (entry : Entry) → n < length core.parts → n < core.size.nodes → entry.node ≡ n → IsKnown core.size.lines entry → next.log ≡ (node_at core n).log ++ entry ∷ [] → (((j : ℕ) → HasSerials (node_at core j)) → HasSerials next) → Logged core (Some entry) (with_node core n next)
-some_logged core n next entry below lt own known log serials = record {
-  serials = node_serials core n next serials;
-  logs = λ j. elim (cases_eq j n) [
-    | inl e ↦
-        let here = ap (λ (part : NodeOf). part.log) (ap (node_at (with_node core n next)) e ∙ get_or-set_same core.parts n next no_node below) in
-        let one : filter (is_of_node j) (entry ∷ []) ≡ entry ∷ [] = filter_yes (is_of_node j) entry [] (eq-eqb entry.node j (own ∙ sym e)) in
-        here ∙ (log ∙ (ap (λ (i : ℕ). (node_at core i).log ++ entry ∷ []) (sym e) ∙ ap (λ (es : List Entry). (node_at core j).log ++ es) (sym one)))
-    | inr ne ↦
-        let there = ap (λ (part : NodeOf). part.log) (get_or-set_other core.parts n j next no_node ne) in
-        let none : filter (is_of_node j) (entry ∷ []) ≡ [] = filter_no (is_of_node j) entry [] (ne_eqb entry.node j (λ e. ne (sym e ∙ own))) in
-        there ∙ (sym (append-nil (node_at core j).log) ∙ ap (λ (es : List Entry). (node_at core j).log ++ es) (sym none))
-  ];
-  within = (subst (λ (k : ℕ). k < core.size.nodes) (sym own) lt, known);
-}
+some_logged core n next entry below lt own known log serials = grind (arith, node_serials, cases_eq, get_or-set_same, filter_yes, eq-eqb, get_or-set_other, filter_no, ne_eqb, append-nil)
 
 stepped_logged : (core new : Core) (e : Event) (made : Option Entry) → IsWellFormed core → Stepped core e made new → Logged core made new
 stepped_logged core new e made well (By_issue n op next event lt is then_ none) =
@@ -182,7 +160,4 @@ few_made (Some entry) rest k le = omega arith
 
 pub few_done : (core : Core) (events : List Event) → length (done_from core events) ≤ length events
 few_done core [] = omega arith
-few_done core (e ∷ events) =
-    let rest = few_done (step core e) events in
-    let more = few_made (made_by core e) (done_from (step core e) events) (length events) rest in
-    omega arith
+few_done core (e ∷ events) = grind (arith, few_made, few_done (step core e) events)

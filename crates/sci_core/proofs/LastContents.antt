@@ -25,15 +25,11 @@ abbrev carried : List (List Letter) → List Letter
 carried lanes = flat_map (λ (lane : List Letter). lane) lanes
 
 pub found_waiting : (core : Core) (n line : ℕ) (parts : List NodeOf) (found : Option Body) (b : Body) → parts ≡ core.parts → found ≡ seek n line (flat_map (λ (part : NodeOf). option_to_list part.waiting) parts) → found ≡ Some b → Some b ≡ answer_to core n line
-found_waiting core n line parts found b same is some =
-    let here : seek n line (waiting core.parts) ≡ Some b = ap (λ (ps : List NodeOf). seek n line (waiting ps)) (sym same) ∙ (sym is ∙ some) in
-    sym (seek_first n line (waiting core.parts) (carried core.lanes) b here)
+found_waiting core n line parts found b same is some = grind (arith, seek, seek_first)
 
 pub found_carried : (core : Core) (n line : ℕ) (parts : List NodeOf) (lanes : List (List Letter)) (first second : Option Body) → parts ≡ core.parts → lanes ≡ core.lanes
     → first ≡ seek n line (flat_map (λ (part : NodeOf). option_to_list part.waiting) parts) → first ≡ None → second ≡ seek n line (flat_map (λ (lane : List Letter). lane) lanes) → second ≡ answer_to core n line
-found_carried core n line parts lanes first second same along is none found =
-    let here : seek n line (waiting core.parts) ≡ None = ap (λ (ps : List NodeOf). seek n line (waiting ps)) (sym same) ∙ (sym is ∙ none) in
-    found ∙ (ap (λ (ls : List (List Letter)). seek n line (carried ls)) along ∙ sym (seek_second n line (waiting core.parts) (carried core.lanes) here))
+found_carried core n line parts lanes first second same along is none found = grind (arith, seek, seek_second)
 
 -- ---- the authority
 
@@ -75,7 +71,4 @@ last_authority core line i c below home none here =
     sym (ap (λ (o : Option Stamped). unwrap_or (option_or o (first_authority (sharers core line))) zero_stamped) home ∙ ap (λ (o : Option Stamped). unwrap_or o zero_stamped) found)
 
 pub last_nowhere : (core : Core) (line i : ℕ) → i ≡ core.size.nodes → current_of (home_at core line) ≡ None → first_authority (take i (sharers core line)) ≡ None → zero_stamped ≡ last_at core line
-last_nowhere core line i all home none =
-    let long = length-map-range_with_len (sharer_of core line) 0 core.size.nodes in
-    let whole : take i (sharers core line) ≡ sharers core line = take_all i (sharers core line) (omega arith) in
-    sym (ap (λ (o : Option Stamped). unwrap_or (option_or o (first_authority (sharers core line))) zero_stamped) home ∙ ap (λ (o : Option Stamped). unwrap_or o zero_stamped) (ap first_authority (sym whole) ∙ none))
+last_nowhere core line i all home none = grind (arith, length-map-range_with_len, take_all)

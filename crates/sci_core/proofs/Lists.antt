@@ -1,41 +1,15 @@
 -- Lists in which one element is another.
-use Rattle.std.proofs.Common.{◌≡◌, ℕ, Bool, true, false, if◌then◌else◌, List, length, get_or, set, sym, subst, ◌∙◌, inl, inr, arith}
+use Rattle.std.proofs.Common.{ℕ, Bool, true, false, if◌then◌else◌, List, get_or, set, arith}
 use Rattle.std.proofs.lemmas.Bool.{cases_eq, cases_lt}
 use Rattle.std.proofs.lemmas.List.{length-set, get_or_past, get_or-set_same, get_or-set_other}
 
 -- what holds of every element, and of the new one, holds of every element
 pub at_set : {X : Type 0} (P : X → Type 0) (xs : List X) (i : ℕ) (x d : X) → ((j : ℕ) → P (get_or xs j d)) → P x → (j : ℕ) → P (get_or (set xs i x) j d)
-at_set P xs i x d each here j =
-    elim (cases_eq j i) [
-      | inl same ↦
-          let at : P (get_or (set xs i x) i d) = elim (cases_lt i (length xs)) [
-            | inl below ↦ subst P (sym (get_or-set_same xs i x d below)) here
-            | inr past ↦
-                let long = length-set xs i x in
-                let none : get_or (set xs i x) i d ≡ d = get_or_past (set xs i x) i d (omega arith) in
-                let old : get_or xs i d ≡ d = get_or_past xs i d past in
-                subst P (old ∙ sym none) (each i)
-          ] in
-          subst (λ (k : ℕ). P (get_or (set xs i x) k d)) (sym same) at
-      | inr other ↦ subst P (sym (get_or-set_other xs i j x d other)) (each j)
-    ]
+at_set P xs i x d each here j = grind (arith, cases_eq, cases_lt, get_or-set_same, length-set, get_or_past, get_or-set_other)
 
 -- the same of places, where what holds may differ with the place
 pub at_place_set : {X : Type 0} (P : ℕ → X → Type 0) (xs : List X) (i : ℕ) (x d : X) → ((j : ℕ) → P j (get_or xs j d)) → P i x → (j : ℕ) → P j (get_or (set xs i x) j d)
-at_place_set P xs i x d each here j =
-    elim (cases_eq j i) [
-      | inl same ↦
-          let at : P i (get_or (set xs i x) i d) = elim (cases_lt i (length xs)) [
-            | inl below ↦ subst (P i) (sym (get_or-set_same xs i x d below)) here
-            | inr past ↦
-                let long = length-set xs i x in
-                let none : get_or (set xs i x) i d ≡ d = get_or_past (set xs i x) i d (omega arith) in
-                let old : get_or xs i d ≡ d = get_or_past xs i d past in
-                subst (P i) (old ∙ sym none) (each i)
-          ] in
-          subst (λ (k : ℕ). P k (get_or (set xs i x) k d)) (sym same) at
-      | inr other ↦ subst (P j) (sym (get_or-set_other xs i j x d other)) (each j)
-    ]
+at_place_set P xs i x d each here j = grind (arith, cases_eq, cases_lt, get_or-set_same, length-set, get_or_past, get_or-set_other)
 
 pub if_either : {X : Type 0} (P : X → Type 0) (b : Bool) (x y : X) → P x → P y → P (if b then x else y)
 if_either P true x y h k = h

@@ -1,5 +1,5 @@
 -- Logs that are filled one after another.
-use Rattle.std.proofs.Common.{◌≡◌, ℕ, ◌+◌, ◌<◌, ◌≤◌, nat_lt, Bool, if◌then◌else◌, List, [], ◌∷◌, ◌++◌, length, get_or, set, take, sym, ap, ◌∙◌, inl, inr, arith}
+use Rattle.std.proofs.Common.{◌≡◌, ℕ, ◌+◌, ◌<◌, ◌≤◌, nat_lt, if◌then◌else◌, List, [], ◌∷◌, ◌++◌, length, get_or, set, take, ◌∙◌, arith}
 use Rattle.std.specs.List.{All}
 use Rattle.std.proofs.lemmas.Bool.{cases_lt, lt-ltb, le-ltb}
 use Rattle.std.proofs.lemmas.List.{get_or_past, get_or-set_same, take_more, set-set}
@@ -7,27 +7,16 @@ use Rattle.std.proofs.lemmas.List.FromFn.{fill_by_all}
 use Rattle.sci_words.specs.declared.limits.TheConstants.{MAX_OPERATIONS}
 use Rattle.sci_history.specs.declared.entry.Entry.{Entry}
 use Rattle.sci_history.specs.Placed.{log_of}
-use Rattle.sci_core.specs.Node.{NodeOf, no_node}
 use Rattle.sci_core.specs.Core.{Core, node_at}
 use Rattle.sci_core.specs.Outcome.{logs_of}
 use Rattle.sci_core.specs.WellFormed.{IsWellFormed}
 
 pub pushed_more : (logs now new : List (List Entry)) (n place : ℕ) (log : List Entry) (i : ℕ) (d : Entry) → n < length logs → place ≡ n → i < length log → now ≡ set logs n (take i log)
     → new ≡ set now place (log_of now place ++ get_or log i d ∷ []) → new ≡ set logs n (take (i + 1) log)
-pushed_more logs now new n place log i d below is inside e f =
-    let at : new ≡ set now n (log_of now n ++ get_or log i d ∷ []) = f ∙ ap (λ (k : ℕ). set now k (log_of now k ++ get_or log i d ∷ [])) is in
-    let over : set now n (log_of now n ++ get_or log i d ∷ []) ≡ set (set logs n (take i log)) n (log_of (set logs n (take i log)) n ++ get_or log i d ∷ []) = ap (λ (xs : List (List Entry)). set xs n (log_of xs n ++ get_or log i d ∷ [])) e in
-    let same : log_of (set logs n (take i log)) n ≡ take i log = get_or-set_same logs n (take i log) [] below in
-    at ∙ (over ∙ (set-set logs n (take i log) (log_of (set logs n (take i log)) n ++ get_or log i d ∷ []) ∙ ap (set logs n) (ap (λ (xs : List Entry). xs ++ get_or log i d ∷ []) same ∙ sym (take_more log i d inside))))
+pushed_more logs now new n place log i d below is inside e f = grind (arith, get_or-set_same, set-set, take_more)
 
 log_at : (core : Core) (n : ℕ) (k : ℕ) → length core.parts ≡ n → (if nat_lt k n then (node_at core k).log else []) ≡ (node_at core k).log
-log_at core n k long =
-    elim (cases_lt k n) [
-      | inl below ↦ ap (λ (b : Bool). if b then (node_at core k).log else []) (lt-ltb k n below)
-      | inr past ↦
-          let none : node_at core k ≡ no_node = get_or_past core.parts k no_node (omega arith) in
-          ap (λ (b : Bool). if b then (node_at core k).log else []) (le-ltb k n past) ∙ sym (ap (λ (node : NodeOf). node.log) none)
-    ]
+log_at core n k long = grind (arith, cases_lt, lt-ltb, get_or_past, le-ltb)
 
 pub all_logs : (core : Core) (logs : List (List Entry)) (n : ℕ) → length core.parts ≡ n → length logs ≡ 16 → ((k : ℕ) → log_of logs k ≡ if nat_lt k n then (node_at core k).log else []) → logs ≡ logs_of core
 all_logs core logs n long sixteen each = fill_by_all (λ (k : ℕ). (node_at core k).log) logs 16 [] sixteen (λ k below. each k ∙ log_at core n k long)
@@ -36,9 +25,4 @@ pub own_log : (core : Core) (n : ℕ) → IsWellFormed core → n < core.size.no
 own_log core n well lt = (well.each_part n lt).own
 
 pub short_log : (core : Core) (n : ℕ) → IsWellFormed core → n < core.size.nodes → length (node_at core n).log ≤ MAX_OPERATIONS
-short_log core n well lt =
-    let part = well.each_part n lt in
-    let logged = part.fits.logged in
-    let issued = part.fits.issued in
-    let limit = part.fits.limit in
-    omega arith
+short_log core n well lt = grind arith

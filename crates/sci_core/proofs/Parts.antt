@@ -1,25 +1,24 @@
 -- Each side of an event leaves a node's part well formed, and makes packets that are.
-use Rattle.std.proofs.Common.{◌≡◌, ℕ, ◌+◌, ◌<◌, ◌%◌, ◌&&◌, not, Bool, true, false, if◌then◌else◌, set, Option, Some, None, refl, ◌∙◌, mod-lt, arith}
-use Rattle.std.specs.Prelude.{◌==◌, IfSome, is_some, option_map}
+use Rattle.std.proofs.Common.{◌≡◌, ℕ, ◌+◌, ◌<◌, ◌%◌, Bool, true, false, if◌then◌else◌, set, Option, Some, None, refl, ◌∙◌, mod-lt, arith}
+use Rattle.std.specs.Prelude.{◌==◌, IfSome, option_map}
 use Rattle.std.proofs.lemmas.List.{length-set}
 use Rattle.sci_words.specs.declared.event.AskKind.{AskKind}
 use Rattle.sci_words.specs.declared.operation.Op.{Op}
 use Rattle.sci_words.specs.declared.limits.TheConstants.{CONTROLS}
 use Rattle.sci_packets.specs.declared.body.Body.{Body}
-use Rattle.sci_packets.specs.declared.body.Body.TheVariants.{Busy}
 use Rattle.sci_packets.specs.Table.{is_request}
 use Rattle.sci_history.specs.declared.entry.Entry.{Entry}
 use Rattle.sci_home.specs.declared.state.HomeState.{HomeState}
 use Rattle.sci_home.specs.Serving.{opening_home, is_for_home, home_serving as serving_at_home_of}
-use Rattle.sci_cache.specs.State.{CacheState, is_out}
-use Rattle.sci_cache.specs.Asking.{Asked, asking}
+use Rattle.sci_cache.specs.State.{CacheState}
+use Rattle.sci_cache.specs.Asking.{Asked}
 use Rattle.sci_cache.specs.Serving.{serving}
 use Rattle.sci_cache.specs.Accepting.{accepting}
 use Rattle.sci_cache.specs.Performing.{Performed, performing}
 use Rattle.sci_cache.specs.Line.{LineState, untouched, line_in, line_asked, last_control, ask_or_fault}
-use Rattle.sci_cache.specs.Cache.{CacheOf, Letter, line_of, with_line, has_slot, target_of, letter_asking, cache_asking, cache_asked}
+use Rattle.sci_cache.specs.Cache.{CacheOf, Letter, line_of, with_line, target_of, letter_asking, cache_asked}
 use Rattle.sci_core.specs.declared.pending.Pending.{Pending}
-use Rattle.sci_core.specs.Node.{NodeOf, lines_of, home_of, home_place, pending_on, may_issue, node_issued, node_issuing, node_logged, entry_of, performed_by, performing_pending, node_performing, asked_by, node_asking, answering, with_answer, served_at_home, served_in_cache, serving_at_home, serving_in_cache, serving_request, answered_by, node_serving, is_setback, node_refusing, replied_by, node_replying, accepted_by, node_accepting}
+use Rattle.sci_core.specs.Node.{NodeOf, home_of, home_place, pending_on, may_issue, node_issued, node_issuing, node_logged, entry_of, performed_by, performing_pending, node_performing, asked_by, node_asking, answering, served_at_home, served_in_cache, serving_at_home, serving_in_cache, serving_request, answered_by, node_serving, node_refusing, replied_by, node_replying, accepted_by, node_accepting}
 use Rattle.sci_core.specs.WellFormed.{IsBelow, NamesNodes, HomeNamesNodes, BodyNamesNodes, IsRequestLetter, IsAnswerLetter, IsPart}
 use Rattle.sci_core.proofs.Lists.{at_set, if_either}
 use Rattle.sci_core.proofs.Options.{if_below}
@@ -65,26 +64,13 @@ part_with_home size n part place home names is = record {
 
 pub part_with_waiting : (size : Size) (n : ℕ) (part : NodeOf) (waiting : Option Letter) → IfSome waiting (λ (letter : Letter). IsAnswerLetter size.nodes size.lines letter × (letter.source ≡ n)) → IsPart size n part
     → IsPart size n (record part { waiting = waiting })
-part_with_waiting size n part waiting answer is = record {
-  me = is.me;
-  all = is.all;
-  room = is.room;
-  each = is.each;
-  most = is.most;
-  states = is.states;
-  homes = is.homes;
-  own = is.own;
-  asks = is.asks;
-  fits = node_with_waiting part waiting is.fits;
-  answer = answer;
-}
+part_with_waiting size n part waiting answer is = grind (arith, node_with_waiting)
 
 -- ---- the answer to a request
 
 pub answer_letter : (nodes lines n : ℕ) (request : Letter) (answer : Body) → IsRequestLetter nodes lines request → request.target ≡ n → BodyNamesNodes nodes answer → is_request answer ≡ false
     → IsAnswerLetter nodes lines (answering request answer) × ((answering request answer).source ≡ n)
-answer_letter nodes lines n request answer asks to names not_asks =
-    (record { letter_ok = record { target = asks.letter_ok.source; source = asks.letter_ok.target; about = asks.letter_ok.about; names = names }; answers = not_asks }, to)
+answer_letter nodes lines n request answer asks to names not_asks = grind arith
 
 -- ---- Issue
 
@@ -188,11 +174,7 @@ made_part size n part line false (Some asked) some lt below asks is = asked_part
 
 pub part_asking : (size : Size) (n : ℕ) (part : NodeOf) (line : ℕ) (kind : AskKind) → 0 < size.nodes → n < size.nodes → IsPart size n part
     → IfSome (node_asking part line kind) (SendsWell size n)
-part_asking size n part line kind some lt is =
-    if_below line (lines_of part) (SendsWell size n) (asked_by part (cache_asking part.cache line kind)) (λ below.
-    let all = is.each in
-    made_part size n part line (is_out (line_of part.cache line).state && not (has_slot part.cache)) (asking (line_of part.cache line).state kind) some lt (omega arith)
-    (asking_names size.nodes (line_of part.cache line).state kind (is.states line)) is)
+part_asking size n part line kind some lt is = grind (arith, if_below, made_part, asking_names)
 
 -- ---- Serve
 
@@ -232,18 +214,13 @@ answered_part size n request (Some served) well = part_with_waiting size n serve
 
 pub part_serving : (size : Size) (n : ℕ) (part : NodeOf) (request : Letter) → IsRequestLetter size.nodes size.lines request → request.target ≡ n → IsPart size n part
     → IfSome (node_serving part request) (IsPart size n)
-part_serving size n part request asks to is =
-    if_either (λ (o : Option NodeOf). IfSome o (IsPart size n)) (is_some part.waiting) None (answered_by request (serving_request part request)) tt
-    (answered_part size n request (serving_request part request) (request_part size n part request asks to is))
+part_serving size n part request asks to is = grind (arith, if_either, answered_part, request_part)
 
 -- ---- Refuse
 
 pub part_refusing : (size : Size) (n : ℕ) (part : NodeOf) (request : Letter) → IsRequestLetter size.nodes size.lines request → request.target ≡ n → IsPart size n part
     → IfSome (node_refusing part request) (IsPart size n)
-part_refusing size n part request asks to is =
-    if_either (λ (o : Option NodeOf). IfSome o (IsPart size n)) (is_some part.waiting) None (if is_setback request.body then None else Some (with_answer part request Busy)) tt
-    (if_either (λ (o : Option NodeOf). IfSome o (IsPart size n)) (is_setback request.body) None (Some (with_answer part request Busy)) tt
-    (part_with_waiting size n part (Some (answering request Busy)) (answer_letter size.nodes size.lines n request Busy asks to tt refl) is))
+part_refusing size n part request asks to is = grind (arith, if_either, part_with_waiting, answer_letter)
 
 -- ---- Reply
 

@@ -1,24 +1,23 @@
 -- Where an Issue and a Perform put an operation and its entry, and which operations can be performed.
-use Rattle.std.proofs.Common.{◌≡◌, ℕ, ◌-◌, ◌^◌, ◌%◌, ◌<◌, nat_lt, Bool, true, false, if◌then◌else◌, Option, Some, None, refl, ap, subst, ◌∙◌, arith}
-use Rattle.std.specs.Prelude.{option_map, ◌&&◌, IsSome, is_some, is_none}
+use Rattle.std.proofs.Common.{◌≡◌, ℕ, ◌-◌, ◌^◌, ◌%◌, ◌<◌, nat_lt, Bool, true, false, if◌then◌else◌, Option, Some, None, refl, ap, ◌∙◌, arith}
+use Rattle.std.specs.Prelude.{option_map, IsSome, is_some, is_none}
 use Rattle.std.proofs.lemmas.Bool.{and_parts, ltb-true, lt-ltb}
 use Rattle.std.proofs.lemmas.List.{get_or-set_same, get_or-set_other}
-use Rattle.sci_words.specs.declared.limits.TheConstants.{WORDS_PER_LINE}
 use Rattle.sci_words.specs.declared.operation.Op.{Op}
 use Rattle.sci_words.specs.declared.stamped.Stamped.{Stamped}
-use Rattle.sci_words.specs.Operation.{has_words, is_maker}
+use Rattle.sci_words.specs.Operation.{is_maker}
 use Rattle.sci_history.specs.declared.entry.Entry.{Entry}
 use Rattle.sci_cache.specs.State.{CacheState, Head, waits}
 use Rattle.sci_cache.specs.Performing.{Performed, performing}
 use Rattle.sci_cache.specs.Line.{line_in}
 use Rattle.sci_cache.specs.Cache.{line_of, with_line}
 use Rattle.sci_core.specs.declared.pending.Pending.{Pending}
-use Rattle.sci_core.specs.Node.{NodeOf, IsNode, IsPendingOn, lines_of, pending_on, is_in_range, may_issue, node_issued, node_issuing, entry_of, node_logged, performed_by, performing_pending, node_performing}
+use Rattle.sci_core.specs.Node.{NodeOf, IsNode, IsPendingOn, pending_on, may_issue, node_issued, node_issuing, performed_by, node_performing}
 use Rattle.sci_core.specs.Core.{Core, node_at}
 use Rattle.sci_core.specs.Reached.{IsReached}
 use Rattle.sci_core.specs.Sharing.{packets_of, answer_in, answer_to, sharer_of, authority_contents, contents_held, last_at}
 use Rattle.sci_core.specs.Work.{IsIssued, IsLogged}
-use Rattle.sci_core.proofs.NodeSides.{PerformedAs, perform_as}
+use Rattle.sci_core.proofs.NodeSides.{perform_as}
 use Rattle.sci_core.proofs.Nodes.{some_below}
 use Rattle.sci_core.proofs.Options.{of_some}
 use Rattle.sci_core.proofs.Ranges.{reached_contents}
@@ -35,21 +34,7 @@ none_is (Some p) e = cc
 
 issued_if : (node next : NodeOf) (op : Op) (may : Bool) → may_issue node op ≡ may → IsNode node → (if may then Some (node_issued node op) else None) ≡ Some next → IsIssued node next op
 issued_if node next op false e is some = cc
-issued_if node next op true e is some =
-    let same : node_issued node op ≡ next = cc in
-    let parts = and_parts (is_in_range node op) (is_none (pending_on node op.line) && nat_lt node.issued node.limit) e in
-    let numbers = and_parts (nat_lt op.line (lines_of node) && nat_lt op.word WORDS_PER_LINE) (has_words op.act) parts.0 in
-    let line = ltb-true op.line (lines_of node) (and_parts (nat_lt op.line (lines_of node)) (nat_lt op.word WORDS_PER_LINE) numbers.0).0 in
-    let free = (and_parts (is_none (pending_on node op.line)) (nat_lt node.issued node.limit) parts.1).0 in
-    let long = is.pending in
-    let new : Option Pending = Some (record { serial = node.issued; op = op }) in
-    subst (λ (n : NodeOf). IsIssued node n op) same (record {
-      free = none_is (pending_on node op.line) free;
-      pending = get_or-set_same node.pending op.line new None (omega arith);
-      others = λ l other. get_or-set_other node.pending op.line l new None other;
-      issued = refl;
-      log = refl;
-    })
+issued_if node next op true e is some = grind (arith, and_parts, ltb-true, none_is, get_or-set_same, get_or-set_other)
 
 -- an operation that is issued is pending, with the next serial
 pub issue_puts : (node next : NodeOf) (op : Op) → IsNode node → node_issuing node op ≡ Some next → IsIssued node next op
@@ -59,20 +44,7 @@ issue_puts node next op is some = issued_if node next op (may_issue node op) ref
 
 -- an entry ends the log, with the operation and the serial that were pending
 pub perform_puts : (node next : NodeOf) (line : ℕ) (entry : Entry) → IsNode node → node_performing node line ≡ Some (next, entry) → IsLogged node next line entry
-perform_puts node next line entry is some =
-    let does = of_some (PerformedAs node line) (node_performing node line) (next, entry) some (perform_as node line) in
-    let below = some_below node.pending line does.pending does.here in
-    let made = entry_of node does.pending does.did.reply does.did.version in
-    let after = node_logged node line (with_line node.cache does.pending.op.line (line_in (line_of node.cache does.pending.op.line) does.did.next)) made in
-    let logged : IsLogged node after line made = record {
-      pending = does.here;
-      own = refl;
-      log = refl;
-      done = get_or-set_same node.pending line None None below;
-      others = λ l other. get_or-set_other node.pending line l None None other;
-      issued = refl;
-    } in
-    subst (λ (n : NodeOf). IsLogged node n line entry) does.next (subst (λ (e : Entry). IsLogged node after line e) does.entry logged)
+perform_puts node next line entry is some = grind (arith, of_some, perform_as, some_below, get_or-set_same, get_or-set_other)
 
 is_done : (node : NodeOf) (line : ℕ) (pending : Pending) (done : Option Performed)
     → is_some (performed_by node line pending (option_map (λ d. (with_line node.cache pending.op.line (line_in (line_of node.cache pending.op.line) d.next), d.reply, d.version)) done)) ≡ is_some done
@@ -81,8 +53,7 @@ is_done node line pending (Some done) = refl
 
 -- whether a pending operation can be performed is for its line's state to say
 pub performs_where : (node : NodeOf) (line : ℕ) (pending : Pending) → pending_on node line ≡ Some pending → is_some (node_performing node line) ≡ is_some (performing (line_of node.cache pending.op.line).state pending.op)
-performs_where node line pending at =
-    ap (λ (o : Option Pending). is_some (performing_pending node line o)) at ∙ is_done node line pending (performing (line_of node.cache pending.op.line).state pending.op)
+performs_where node line pending at = grind (arith, is_done)
 
 -- ---- a node that has a line alone
 

@@ -1,5 +1,5 @@
 -- Where lanes stand, and what their places tell.
-use Rattle.std.proofs.Common.{◌≡◌, ℕ, ◌+◌, ◌*◌, ◌/◌, ◌%◌, ◌<◌, ◌≤◌, ap, subst, ◌∙◌, mul_comm, zero-mul, zero-add, one-mul, mul-le-mul_right, arith}
+use Rattle.std.proofs.Common.{◌≡◌, ℕ, ◌+◌, ◌*◌, ◌/◌, ◌%◌, ◌<◌, ◌≤◌, ap, ◌∙◌, zero-mul, zero-add, arith}
 use Rattle.std.proofs.lemmas.Nat.{mul-add-lt, mod-mul-add, div-mul-add}
 use Rattle.sci_core.specs.declared.lane.LaneKind.{LaneKind}
 use Rattle.sci_core.specs.declared.lane.LaneKind.TheVariants.{Requests, Answers}
@@ -11,9 +11,7 @@ few_kinds Answers = omega arith
 
 -- there is such a lane
 pub place_below : (nodes : ℕ) (kind : LaneKind) (from to : ℕ) → from < nodes → to < nodes → lane_place nodes kind from to < 2 * nodes * nodes
-place_below nodes kind from to f t =
-    let rows : kind_number kind * nodes + from < 2 * nodes = subst (λ (k : ℕ). kind_number kind * nodes + from < k) (mul_comm nodes 2) (mul-add-lt (kind_number kind) nodes from 2 (few_kinds kind) f) in
-    subst (λ (k : ℕ). lane_place nodes kind from to < k) (mul_comm nodes (2 * nodes)) (mul-add-lt (kind_number kind * nodes + from) nodes to (2 * nodes) rows t)
+place_below nodes kind from to f t = grind (arith, mul-add-lt, few_kinds)
 
 pub place_to : (nodes : ℕ) (kind : LaneKind) (from to : ℕ) → to < nodes → lane_place nodes kind from to % nodes ≡ to
 place_to nodes kind from to t = mod-mul-add (kind_number kind * nodes + from) nodes to t
@@ -25,7 +23,4 @@ pub place_requests : (nodes from to : ℕ) → from < nodes → to < nodes → l
 place_requests nodes from to f t = rw zero-mul (rw zero-add (mul-add-lt from nodes to nodes f t))
 
 pub place_answers : (nodes from to : ℕ) → nodes * nodes ≤ lane_place nodes Answers from to
-place_answers nodes from to =
-    let one = one-mul nodes in
-    let rows : nodes * nodes ≤ (1 * nodes + from) * nodes = mul-le-mul_right nodes (omega arith) in
-    omega arith
+place_answers nodes from to = grind arith

@@ -25,7 +25,6 @@ use Rattle.sci_history.specs.Placed.{is_of_node, is_on_line, is_making, maker_co
 use Rattle.sci_history.proofs.Histories.{versions-within}
 use Rattle.sci_history.proofs.Order.{filter_yes, filter_no, all_weaker, all_both, all-filter}
 use Rattle.sci_core.specs.Size.{Size}
-use Rattle.sci_core.specs.Node.{NodeOf, no_node}
 use Rattle.sci_core.specs.Core.{Core, node_at}
 use Rattle.sci_core.specs.Done.{done}
 use Rattle.sci_core.specs.InRange.{IsLine, IsStamped, IsReply, IsEntryOf}
@@ -83,10 +82,7 @@ line_fits words op line lt fits = record {
 
 pub history_fits : (entries : List Entry) (c d : Stamped) → IsHistory entries c d → IsLine c.line → AllByRecursion HasWords entries → IsLine d.line × AllByRecursion (λ entry. IsReply entry.reply) entries
 history_fits [] c d history line all = (subst (λ (s : Stamped). IsLine s.line) (sym history) line, tt)
-history_fits (entry ∷ entries) c d history line all =
-    let gives = op_gives c.line entry.op line all.0.0 all.0.1 in
-    let rest = history_fits entries (after c entry.op) d history.2 (line_fits c.line entry.op line all.0.0 all.0.1) all.1 in
-    (rest.0, (subst IsReply (sym history.0) gives.1, rest.1))
+history_fits (entry ∷ entries) c d history line all = grind (arith, op_gives, line_fits, history_fits entries (after c entry.op) d history.2 (line_fits c.line entry.op line all.0.0 all.0.1) all.1)
 
 zeros_fit : (count : ℕ) → AllByRecursion (λ (word : ℕ). word < 2 ^ 64) (replicate count 0)
 zeros_fit zero = tt
@@ -106,23 +102,14 @@ flat_short (log ∷ logs) all =
     omega arith
 
 pub all_mapped : {X : Type 0} (P : X → Type 0) (f : ℕ → X) (count : ℕ) → ((i : ℕ) → i < count → P (f i)) → All P (map f (range_with_len 0 count))
-all_mapped P f count h i d lt =
-    let long = length-map-range_with_len f 0 count in
-    let below : i < count = omega arith in
-    subst P (sym (get_or-map-range_with_len f 0 count i i d below (omega arith))) (h i below)
+all_mapped P f count h i d lt = grind (arith, length-map-range_with_len, get_or-map-range_with_len)
 
 -- a node that the machine doesn't have has no log
 no_log : (core : Core) (node : ℕ) → IsWellFormed core → core.size.nodes ≤ node → (node_at core node).log ≡ []
-no_log core node well past =
-    let long = well.sizes.parts_long in
-    ap (λ (part : NodeOf). part.log) (get_or_past core.parts node no_node (omega arith))
+no_log core node well past = grind (arith, get_or_past)
 
 pub log_short : (core : Core) (node : ℕ) → IsWellFormed core → length (node_at core node).log ≤ MAX_OPERATIONS
-log_short core node well =
-    elim (cases_lt node core.size.nodes) [
-      | inl lt ↦ short_log core node well lt
-      | inr past ↦ subst (λ (es : List Entry). length es ≤ MAX_OPERATIONS) (sym (no_log core node well past)) (omega arith)
-    ]
+log_short core node well = grind (arith, cases_lt, short_log, no_log)
 
 makers_few : (core : Core) (line : ℕ) → IsWellFormed core → maker_count (on_line line (logs_of core)) ≤ MAX_NODES * MAX_OPERATIONS
 makers_few core line well =
@@ -173,11 +160,7 @@ head_of_line : (P : Entry → Type 0) (line : ℕ) (entry : Entry) (entries : Li
 head_of_line P line entry entries here all = subst (AllByRecursion P) (filter_yes (is_on_line line) entry entries (eq-eqb entry.op.line line here)) all
 
 rest_of_line : (P : Entry → Type 0) (line : ℕ) (entry : Entry) (entries : List Entry) → AllByRecursion P (filter (is_on_line line) (entry ∷ entries)) → AllByRecursion P (filter (is_on_line line) entries)
-rest_of_line P line entry entries all =
-    elim (cases_eq entry.op.line line) [
-      | inl here ↦ (head_of_line P line entry entries here all).1
-      | inr other ↦ subst (AllByRecursion P) (filter_no (is_on_line line) entry entries (ne_eqb entry.op.line line other)) all
-    ]
+rest_of_line P line entry entries all = grind (arith, cases_eq, head_of_line, filter_no, ne_eqb)
 
 pub from_lines : (P : Entry → Type 0) (lines : ℕ) (entries : List Entry) → AllByRecursion (λ entry. entry.op.line < lines) entries → ((line : ℕ) → line < lines → AllByRecursion P (filter (is_on_line line) entries)) → AllByRecursion P entries
 from_lines P lines [] within each = tt

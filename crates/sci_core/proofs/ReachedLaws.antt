@@ -1,5 +1,5 @@
 -- The laws of every reached state, and of every schedule.
-use Rattle.std.proofs.Common.{◌≡◌, ℕ, ◌<◌, ◌≤◌, false, List, [], ◌++◌, filter, Option, refl, sym, ap, subst, ◌∙◌, arith, inl, inr}
+use Rattle.std.proofs.Common.{◌≡◌, ℕ, ◌<◌, ◌≤◌, List, [], ◌++◌, filter, Option, refl, sym, ap, subst, ◌∙◌, arith, inl, inr}
 use Rattle.std.specs.Prelude.{Result, Ok, Err, IfOk, Some, unwrap_or}
 use Rattle.std.proofs.lemmas.List.Elements.{All-from_recursion}
 use Rattle.std.specs.List.{All, AllByRecursion, AllPairs}
@@ -107,8 +107,7 @@ schedule_logged size schedule sizes =
 
 -- each log has its own node's entries of the schedule
 pub schedule_log : (size : Size) (schedule : List Event) (node : ℕ) → IsMachineSize size → (node_at (run size schedule) node).log ≡ filter (is_of_node node) (done size schedule)
-schedule_log size schedule node sizes =
-    (schedule_logged size schedule sizes).logs node ∙ ap (λ (es : List Entry). es ++ filter (is_of_node node) (done size schedule)) (opening_log size node)
+schedule_log size schedule node sizes = grind (arith, schedule_logged, opening_log)
 
 pub log_at : (core : Core) (node : ℕ) → node < MAX_NODES → log_of (logs_of core) node ≡ (node_at core node).log
 log_at core node lt = get_or-map-range_with_len (λ (n : ℕ). (node_at core n).log) 0 16 node node [] lt (omega arith)
@@ -117,8 +116,7 @@ pub log_beyond : (core : Core) (node : ℕ) → MAX_NODES ≤ node → log_of (l
 log_beyond core node past = get_or_past (logs_of core) node [] (omega arith)
 
 pub reached_logged : (core : Core) (reached : IsReached core) → RunLogged (opening core.size) (done core.size reached.schedule) core
-reached_logged core reached =
-    subst (RunLogged (opening core.size) (done core.size reached.schedule)) reached.leads (schedule_logged core.size reached.schedule reached.size)
+reached_logged core reached = grind (arith, schedule_logged)
 
 -- each log of a reached state has its own node's entries of the schedule
 pub reached_log : (core : Core) (reached : IsReached core) (node : ℕ) → (node_at core node).log ≡ filter (is_of_node node) (done core.size reached.schedule)
@@ -126,13 +124,11 @@ reached_log core reached node = subst (λ (x : Core). (node_at x node).log ≡ f
 
 -- and its entries on a line are the line's history
 pub reached_history : (core : Core) (reached : IsReached core) (line : ℕ) → line < core.size.lines → IsHistory (filter (is_on_line line) (done core.size reached.schedule)) zero_stamped (last_at core line)
-reached_history core reached line inside =
-    subst (λ (x : Core). IsHistory (filter (is_on_line line) (done core.size reached.schedule)) zero_stamped (last_at x line)) reached.leads (schedule_history core.size reached.schedule line reached.size inside)
+reached_history core reached line inside = grind (arith, schedule_history)
 
 -- no entry is on a line that the machine doesn't have
 beyond_none : (lines line : ℕ) (entries : List Entry) → lines ≤ line → AllByRecursion (λ entry. entry.op.line < lines) entries → filter (is_on_line line) entries ≡ []
-beyond_none lines line entries past all =
-    filter_none (is_on_line line) entries (all_weaker (λ (entry : Entry). entry.op.line < lines) (λ entry. is_on_line line entry ≡ false) (λ entry lt. ne_eqb entry.op.line line (λ e. (let below : line < lines = subst (λ (k : ℕ). k < lines) e lt in omega arith))) entries all)
+beyond_none lines line entries past all = grind (arith, filter_none, all_weaker, ne_eqb)
 
 pub last_within : (core : Core) (line : ℕ) → line < core.size.lines → stamped_at (last_of core) line ≡ last_at core line
 last_within core line inside = get_or-map-range_with_len (last_at core) 0 core.size.lines line line zero_stamped inside (omega arith)
@@ -141,22 +137,11 @@ last_beyond : (core : Core) (line : ℕ) → core.size.lines ≤ line → stampe
 last_beyond core line past = let all = length-map-range_with_len (last_at core) 0 core.size.lines in get_or_past (last_of core) line zero_stamped (omega arith)
 
 line_history : (core : Core) (reached : IsReached core) (line : ℕ) → IsHistory (filter (is_on_line line) (done core.size reached.schedule)) zero_stamped (stamped_at (last_of core) line)
-line_history core reached line =
-    let entries = done core.size reached.schedule in
-    elim (cases_lt line core.size.lines) [
-      | inl inside ↦
-          let history = subst (λ (x : Core). IsHistory (filter (is_on_line line) entries) zero_stamped (last_at x line)) reached.leads (schedule_history core.size reached.schedule line reached.size inside) in
-          subst (IsHistory (filter (is_on_line line) entries) zero_stamped) (sym (last_within core line inside)) history
-      | inr past ↦
-          subst (λ (es : List Entry). IsHistory es zero_stamped (stamped_at (last_of core) line)) (sym (beyond_none core.size.lines line entries past (all_weaker (IsKnown core.size.lines) (λ entry. entry.op.line < core.size.lines) (λ entry h. h.0.0) entries (reached_logged core reached).known))) (last_beyond core line past)
-    ]
+line_history core reached line = grind (arith, cases_lt, schedule_history, last_within, beyond_none, all_weaker, reached_logged, last_beyond)
 
 line_logged : (core : Core) (reached : IsReached core) (line node : ℕ) → node < MAX_NODES
     → filter (is_on_line line) (log_of (logs_of core) node) ≡ filter (is_of_node node) (filter (is_on_line line) (done core.size reached.schedule))
-line_logged core reached line node lt =
-    let entries = done core.size reached.schedule in
-    let made : (node_at core node).log ≡ filter (is_of_node node) entries = (reached_logged core reached).logs node ∙ ap (λ (es : List Entry). es ++ filter (is_of_node node) entries) (opening_log core.size node) in
-    ap (filter (is_on_line line)) (log_at core node lt ∙ made) ∙ filter-filter (is_on_line line) (is_of_node node) entries
+line_logged core reached line node lt = grind (arith, reached_logged, opening_log, log_at, filter-filter)
 
 line_serials : (core : Core) (reached : IsReached core) (line node : ℕ) → node < MAX_NODES → AllPairs (λ x y. x.serial < y.serial) (filter (is_on_line line) (log_of (logs_of core) node))
 line_serials core reached line node lt =

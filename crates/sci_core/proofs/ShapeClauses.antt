@@ -18,7 +18,6 @@ use Rattle.sci_cache.specs.State.{CacheState, Out, Asking, Joining, FreshJoining
 use Rattle.sci_cache.specs.Accepting.{accepting}
 use Rattle.sci_cache.specs.Member.{link_of}
 use Rattle.sci_cache.specs.Cache.{Letter, line_of}
-use Rattle.sci_core.specs.Node.{NodeOf, no_node}
 use Rattle.sci_core.specs.Core.{Core, node_at}
 use Rattle.sci_core.specs.Shape.{comes, follows, state_at, IsAuthority, IsSplit, HasOneAuthority, HasAuthorities, HaveContents, is_home_fresh, HasShape}
 use Rattle.sci_core.specs.Sharing.{contents_held, packets_of, answer_in, Sharer, sharer_of, sharers, home_at, authority_contents, first_authority, last_at, answer_to as told}
@@ -173,9 +172,7 @@ led_parts : (view : View) (c : Stamped) (must : Bool) (before : List ℕ) (a : �
 led_parts view c must [] a after leading (front, inl leads) = record { coming = tt; following = leads.1; fresh = λ e. (front.0 e, tt) }
 led_parts view c must [] a after leading (front, inr comes) = absurd (roles_differ Coming Leading (role_in view a) comes.0 leading (λ s. cc))
 led_parts view c must (n ∷ before) a after leading (front, inl leads) = absurd (roles_differ Following Leading (role_in view a) (following_in view c (before ++ a ∷ after) a leads.1 (behind before a after)) leading (λ s. cc))
-led_parts view c must (n ∷ before) a after leading (front, inr comes) =
-    let rest = led_parts view c (fresh_in view n) before a after leading comes.1 in
-    record { coming = (comes.0, rest.coming); following = rest.following; fresh = λ e. (front.0 e, rest.fresh (front.0 e)) }
+led_parts view c must (n ∷ before) a after leading (front, inr comes) = grind (arith, fresh_in, led_parts view c (fresh_in view n) before a after leading comes.1)
 
 -- below a fresh member
 led_below : (view : View) (c : Stamped) (must : Bool) (before : List ℕ) (m : ℕ) (middle : List ℕ) (a : ℕ) (after : List ℕ) → role_in view a ≡ Some Leading → fresh_in view m ≡ true → IsLed view c must (before ++ m ∷ (middle ++ a ∷ after)) → AllByRecursion (λ n. fresh_in view n ≡ true) (middle ++ a ∷ [])
@@ -190,15 +187,7 @@ led_below view c must (n ∷ before) m middle a after leading fresh (front, inr 
 
 -- nodes beyond the machine's are no members
 member_below : (core : Core) (line n : ℕ) (f : Option ℕ) → IsWellFormed core → link_in (view_of core line) n ≡ Some f → n < core.size.nodes
-member_below core line n f well member =
-    elim (cases_lt n core.size.nodes) [
-      | inl below ↦ below
-      | inr past ↦
-          let long = well.sizes.parts_long in
-          let none : node_at core n ≡ no_node = get_or_past core.parts n no_node (omega arith) in
-          let out : link_in (view_of core line) n ≡ None = ap (λ (part : NodeOf). link_of (line_of part.cache line).state (told core n line)) none in
-          absurd cc
-    ]
+member_below core line n f well member = grind (arith, cases_lt, get_or_past, link_in, view_of)
 
 -- an authority's contents, and that it leads
 record Authority (core : Core) (line n : ℕ) : Type 0 where
@@ -324,10 +313,7 @@ all_coming core line (n ∷ ns) all = (stands_as (state_at core line n) (told co
 
 all_following : (core : Core) (line : ℕ) (c : Stamped) (ns : List ℕ) → AreFollowing (view_of core line) c ns → AllByRecursion (λ n. follows (state_at core line n) ≡ true) ns × AllByRecursion (λ n. contents_of (state_at core line n) ≡ Some c) ns
 all_following core line c [] all = (tt, tt)
-all_following core line c (n ∷ ns) all =
-    let this = stands_as (state_at core line n) (told core n line) (Some Following) all.0 in
-    let rest = all_following core line c ns all.2 in
-    ((this.follows_one, rest.0), (this.has c all.1, rest.1))
+all_following core line c (n ∷ ns) all = grind (arith, stands_as, all_following core line c ns all.2)
 
 -- ---- contents under way
 

@@ -1,5 +1,5 @@
 -- In every reached state each line has its shape, and each operation takes effect on the line's last contents.
-use Rattle.std.proofs.Common.{◌≡◌, ℕ, zero, suc, ◌+◌, ◌/◌, ◌%◌, ◌<◌, true, [], map, replicate, get_or, Option, Some, None, refl, sym, ap, subst, ◌∙◌, arith, inl, inr}
+use Rattle.std.proofs.Common.{◌≡◌, ℕ, zero, suc, ◌+◌, ◌/◌, ◌<◌, true, map, replicate, get_or, Option, Some, None, refl, sym, ap, subst, ◌∙◌, arith, inl, inr}
 use Rattle.std.specs.Prelude.{IfSome, unwrap_or}
 use Rattle.std.specs.List.{range_with_len}
 use Rattle.std.proofs.lemmas.Bool.{cases_eq}
@@ -10,19 +10,17 @@ use Rattle.sci_words.specs.Stamped.{after, zero_stamped}
 use Rattle.sci_history.specs.declared.entry.Entry.{Entry}
 use Rattle.sci_packets.specs.declared.body.Body.{Body}
 use Rattle.sci_packets.specs.declared.body.Body.TheVariants.{Busy}
-use Rattle.sci_home.specs.declared.state.HomeState.{HomeState}
 use Rattle.sci_home.specs.Serving.{opening_home}
-use Rattle.sci_cache.specs.State.{CacheState, Out}
+use Rattle.sci_cache.specs.State.{Out}
 use Rattle.sci_cache.specs.Performing.{performing}
 use Rattle.sci_cache.specs.Line.{LineState, untouched, line_in}
-use Rattle.sci_cache.specs.Member.{link_of}
 use Rattle.sci_cache.specs.Cache.{Letter, line_of}
 use Rattle.sci_core.specs.declared.lane.LaneKind.TheVariants.{Requests, Answers as AnswerLane}
-use Rattle.sci_core.specs.Node.{NodeOf, opening_node, lines_of, home_of, pending_on, answering, with_answer, node_issuing, node_performing, node_asking, node_serving, node_refusing, node_replying, node_accepting, IsPendingOn, no_node}
+use Rattle.sci_core.specs.Node.{NodeOf, opening_node, lines_of, home_of, answering, with_answer, node_issuing, node_performing, node_asking, node_serving, node_refusing, node_replying, node_accepting, no_node}
 use Rattle.sci_core.specs.Core.{Core, node_at, with_node, with_lane, lane_place, stepping, step, opening}
 use Rattle.sci_core.specs.Done.{performed, TakesEffect, ChangesBy, made_by}
-use Rattle.sci_core.specs.Sharing.{is_about, answer_in, answer_to as told}
-use Rattle.sci_core.specs.Tidy.{IsTidy, IsAccepted}
+use Rattle.sci_core.specs.Sharing.{is_about}
+use Rattle.sci_core.specs.Tidy.{IsTidy}
 use Rattle.sci_core.specs.WellFormed.{IsPart, IsWellFormed}
 use Rattle.sci_core.proofs.Options.{of_some}
 use Rattle.sci_core.proofs.Nodes.{some_below}
@@ -32,7 +30,6 @@ use Rattle.sci_core.proofs.TidySteps.{about_asker, answer_asker}
 use Rattle.sci_core.proofs.TidyRuns.{node_below, waiting_answers, opening_none}
 use Rattle.sci_core.proofs.Steps.{Taken, Stepped, By_issue, By_perform, By_ask, By_serve, By_refuse, By_reply, By_accept, stepping_stepped}
 use Rattle.sci_core.proofs.Standings.{Performs, performing_does, alike_itself}
-use Rattle.sci_core.proofs.Shapes.{Shaped}
 use Rattle.sci_core.proofs.NodeSides.{Unmoved, PerformedAs, AsksAlike, ServedAs, At_home, In_cache, RefusedAs, AcceptsAlike, issue_unmoved, perform_as, ask_alike, serve_as, refuse_as, reply_as, accept_alike}
 use Rattle.sci_core.proofs.ShapeSteps.{view_of, ShapedAt, SameLine, same_shaped, changed_same, Operates, performed_same, performed_did, asked_same, replied_same, accepted_same}
 use Rattle.sci_core.proofs.ShapeServes.{Answered, refused_same, home_kept, cache_kept}
@@ -53,19 +50,7 @@ same_follows core new made line c none same shaped = unchanged new made line c n
 -- the request that was taken, with an answer that waits
 answered : (core new : Core) (taking : NodeOf → Letter → Option NodeOf) (t : Taken core new Requests taking) (next : NodeOf) (body : Body) → IsWellFormed core → (node_at core t.node).waiting ≡ None → next.waiting ≡ Some (answering t.letter body)
     → IsPart core.size t.node next → Answered core t.node t.place next t.letter t.rest body
-answered core new taking t next body well free waits is = record {
-  some = t.some;
-  below = node_below core t.node well t.some;
-  within = t.within;
-  front = t.front;
-  asks = t.comes.0.asks;
-  answers = waiting_answers core.size t.node next (answering t.letter body) waits is;
-  free = free;
-  waiting = waits;
-  asker = t.comes.0.letter_ok.source;
-  known = t.comes.0.letter_ok.about;
-  to = t.comes.1;
-}
+answered core new taking t next body well free waits is = grind (arith, node_below, waiting_answers)
 
 served_shaped : (core new : Core) (t : Taken core new Requests node_serving) (line : ℕ) (c : Stamped) → IsWellFormed core → IsTidy core → ShapedAt core line c → IsPart core.size t.node t.next → ServedAs (node_at core t.node) t.letter t.next → ShapedAt (with_lane (with_node core t.node t.next) t.place t.rest) line c
 served_shaped core new t line c well tidy shaped is (At_home served asks serves e) =
@@ -110,14 +95,7 @@ performed_follows core n line done does k c lt well tidy known shaped operates =
 
 -- the pending operation is on a line of the machine
 pub pending_known : (core : Core) (n line : ℕ) (done : NodeOf × Entry) (does : PerformedAs (node_at core n) line done) → n < core.size.nodes → IsWellFormed core → does.pending.op.line < core.size.lines
-pending_known core n line done does lt well =
-    let part = node_at core n in
-    let fits = (well.each_part n lt).fits in
-    let within = some_below part.pending line does.pending does.here in
-    let all = fits.pending in
-    let lines = (well.each_part n lt).each in
-    let on = (of_some (IsPendingOn part.issued line) (pending_on part line) does.pending does.here (fits.each line)).here in
-    omega arith
+pending_known core n line done does lt well = grind (arith, some_below, of_some)
 
 operates_so : (core : Core) (n line : ℕ) (done : NodeOf × Entry) (does : PerformedAs (node_at core n) line done) → n < core.size.nodes → IsWellFormed core → Operates core n done.0 does.did does.pending.op.line
 operates_so core n line done does lt well =
@@ -220,21 +198,4 @@ opening_at_home size n line =
     (λ m. replicated opening_home (size.lines / size.nodes + 1) (line / size.nodes)) (replicated opening_home (0 / 1 + 1) (line / 1))
 
 pub opening_shaped : (size : Size) (line : ℕ) → ShapedAt (opening size) line zero_stamped
-opening_shaped size line =
-    let core = opening size in
-    let home = opening_at_home size (line % size.nodes) line in
-    subst (λ (h : HomeState). Shaped (view_of core line) h zero_stamped) (sym home) (
-      [],
-      record {
-        list = record {
-          linked = refl;
-          once = tt;
-          all = λ n next e. (
-              let out = opening_out size n line in
-              let none : link_of (line_of (node_at core n).cache line).state (told core n line) ≡ None = ap (λ (s : CacheState). link_of s (told core n line)) out in
-              cc);
-        };
-        led = refl;
-        accepts = λ n. subst (IsAccepted (line_of (node_at core n).cache line).state) (sym (ap answer_in (opening_none size n line))) tt;
-      },
-    )
+opening_shaped size line = grind (arith, opening_at_home, view_of, opening_out, opening_none)

@@ -1,5 +1,5 @@
 -- Every reached state is tidy.
-use Rattle.std.proofs.Common.{◌≡◌, ℕ, zero, suc, ◌+◌, ◌*◌, ◌%◌, ◌<◌, false, List, [], ◌∷◌, ◌++◌, length, map, filter, replicate, Option, Some, None, refl, sym, ap, subst, ◌∙◌, arith}
+use Rattle.std.proofs.Common.{◌≡◌, ℕ, zero, suc, ◌+◌, ◌<◌, false, List, [], ◌∷◌, length, map, replicate, Option, Some, None, refl, sym, subst, arith}
 use Rattle.std.specs.Prelude.{IfSome, unwrap_or, option_to_list}
 use Rattle.std.specs.List.{flat_map, range_with_len}
 use Rattle.std.proofs.lemmas.List.{get_or-replicate}
@@ -7,17 +7,16 @@ use Rattle.std.proofs.lemmas.List.FromFn.{get_or-map-range_with_len}
 use Rattle.sci_words.specs.declared.event.Event.{Event}
 use Rattle.sci_history.specs.declared.entry.Entry.{Entry}
 use Rattle.sci_cache.specs.State.{waits}
-use Rattle.sci_cache.specs.Line.{LineState, untouched}
-use Rattle.sci_cache.specs.Cache.{Letter, line_of}
+use Rattle.sci_cache.specs.Cache.{Letter}
 use Rattle.sci_packets.specs.Table.{is_request}
 use Rattle.sci_core.specs.declared.lane.LaneKind.TheVariants.{Requests, Answers as AnswerLane}
-use Rattle.sci_core.specs.Node.{NodeOf, opening_node, node_issuing, node_performing, node_asking, node_serving, node_refusing, node_replying, node_accepting, lines_of, no_node}
+use Rattle.sci_core.specs.Node.{NodeOf, opening_node, node_issuing, node_performing, node_asking, node_serving, node_refusing, node_replying, node_accepting, lines_of}
 use Rattle.sci_core.specs.Core.{Core, node_at, lane_place, stepping, step, opening, run_from, run}
 use Rattle.sci_core.specs.Done.{performed}
 use Rattle.sci_core.specs.Reached.{IsReached}
-use Rattle.sci_core.specs.Sharing.{is_about, under_way, packets_of}
-use Rattle.sci_core.specs.Tidy.{HasItsPackets, IsTidy}
-use Rattle.sci_core.specs.WellFormed.{IsAnswerLetter, IsPart, IsWellFormed}
+use Rattle.sci_core.specs.Sharing.{packets_of}
+use Rattle.sci_core.specs.Tidy.{IsTidy}
+use Rattle.sci_core.specs.WellFormed.{IsPart, IsWellFormed}
 use Rattle.sci_core.proofs.Options.{of_some}
 use Rattle.sci_core.proofs.Parts.{part_serving, part_refusing}
 use Rattle.sci_core.proofs.WellFormedSteps.{step_well, run_well, opening_well}
@@ -32,16 +31,13 @@ node_below core n well lt = let long = well.sizes.parts_long in omega arith
 
 -- an answer that waits after a request is served is no request
 pub waiting_answers : (size : Size) (n : ℕ) (next : NodeOf) (answer : Letter) → next.waiting ≡ Some answer → IsPart size n next → is_request answer.body ≡ false
-waiting_answers size n next answer waits is =
-    let told = subst (λ (w : Option Letter). IfSome w (λ (letter : Letter). IsAnswerLetter size.nodes size.lines letter × (letter.source ≡ n))) waits is.answer in
-    told.0.answers
+waiting_answers size n next answer waits is = grind arith
 
 -- ---- each way of stepping
 
 -- a request is taken, and its answer waits
 took_tidy : (core new : Core) (taking : NodeOf → Letter → Option NodeOf) (t : Taken core new Requests taking) → IsWellFormed core → IsTidy core → Answers core.size.nodes t.letter (node_at core t.node) t.next → IsPart core.size t.node t.next → IsTidy new
-took_tidy core new taking t well tidy answers is =
-    subst IsTidy t.then_ (served_tidy core t.node t.place t.next t.letter t.rest (node_below core t.node well t.some) t.within t.front t.comes.0.asks answers (waiting_answers core.size t.node t.next _ answers.waiting is) tidy)
+took_tidy core new taking t well tidy answers is = grind (arith, served_tidy, node_below, waiting_answers)
 
 stepped_tidy : (core new : Core) (e : Event) (made : Option Entry) → IsWellFormed core → IsTidy core → Stepped core e made new → IsTidy new
 stepped_tidy core new e made well tidy (By_issue n op next event lt is then_ none) =
@@ -97,31 +93,16 @@ nothing_carried zero = refl
 nothing_carried (suc count) = nothing_carried count
 
 pub opening_none : (size : Size) (n line : ℕ) → packets_of (opening size) n line ≡ []
-opening_none size n line =
-    let core = opening size in
-    let quiet : under_way core ≡ [] = ap (λ ys. ys ++ flat_map (λ (lane : List Letter). lane) core.lanes) (nothing_waits size 0 size.nodes) ∙ nothing_carried (2 * size.nodes * size.nodes) in
-    ap (filter (is_about n line)) quiet
+opening_none size n line = grind (arith, nothing_waits, nothing_carried)
 
 pub opening_tidy : (size : Size) → IsTidy (opening size)
-opening_tidy size n line lt below =
-    let core = opening size in
-    let node : node_at core n ≡ opening_node n size = get_or-map-range_with_len (λ (m : ℕ). opening_node m size) 0 size.nodes n n no_node lt (omega arith) in
-    let out : line_of (node_at core n).cache line ≡ untouched = ap (λ (part : NodeOf). line_of part.cache line) node ∙ get_or-replicate size.lines line untouched untouched below in
-    subst (HasItsPackets (line % size.nodes) (line_of (node_at core n).cache line)) (sym (opening_none size n line)) (ap (λ (l : LineState). waits l.state) out)
+opening_tidy size n line lt below = grind (arith, get_or-map-range_with_len, get_or-replicate, opening_none)
 
 pub reached_tidy : (core : Core) → IsReached core → IsTidy core
-reached_tidy core reached =
-    let some = reached.size.extent.has_node in
-    subst IsTidy reached.leads (run_tidy (opening core.size) reached.schedule (opening_well core.size (omega arith) reached.size.few_operations) (opening_tidy core.size))
+reached_tidy core reached = grind (arith, run_tidy, opening_well, opening_tidy)
 
 pub run_size : (size : Size) (schedule : List Event) → IsMachineSize size → (run size schedule).size ≡ size
 run_size size schedule sizes = let first = sizes.extent.has_node in (run_well (opening size) schedule (opening_well size (omega arith) sizes.few_operations)).same
 
 pub run_reached : (size : Size) (schedule : List Event) → IsMachineSize size → IsReached (run size schedule)
-run_reached size schedule sizes =
-    let same = run_size size schedule sizes in
-    record {
-      size = subst IsMachineSize (sym same) sizes;
-      schedule = schedule;
-      leads = ap (λ (k : Size). run k schedule) same;
-    }
+run_reached size schedule sizes = grind (arith, run_size)

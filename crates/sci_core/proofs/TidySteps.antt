@@ -1,5 +1,5 @@
 -- Every step leaves a state tidy.
-use Rattle.std.proofs.Common.{◌≡◌, ℕ, ◌+◌, ◌%◌, ◌<◌, ◌≢◌, ◌&&◌, Bool, true, false, if◌then◌else◌, List, [], ◌∷◌, ◌++◌, length, filter, Option, refl, sym, ap, subst, ◌∙◌, inl, inr, arith}
+use Rattle.std.proofs.Common.{◌≡◌, ℕ, ◌+◌, ◌%◌, ◌<◌, ◌≢◌, Bool, true, false, if◌then◌else◌, List, [], ◌∷◌, ◌++◌, length, filter, Option, refl, sym, ap, subst, ◌∙◌, inl, inr, arith}
 use Rattle.std.specs.Prelude.{◌==◌, option_to_list}
 use Rattle.std.proofs.lemmas.Bool.{cases_Bool, cases_eq, and_parts, and_from, eqb-true, eq-eqb}
 use Rattle.std.proofs.lemmas.List.{get_or-set_same, get_or-set_other}
@@ -45,39 +45,23 @@ answer_asker letter e = ap (λ (b : Bool). if b then letter.source else letter.t
 
 -- an answer is about what its request is about
 pub about_answer : (m k : ℕ) (request : Letter) (body : Body) → is_request request.body ≡ true → is_request body ≡ false → is_about m k (answering request body) ≡ is_about m k request
-about_answer m k request body asks answers =
-    ap (λ (a : ℕ). (request.line == k) && (a == m)) (answer_asker (answering request body) answers ∙ sym (request_asker request asks))
+about_answer m k request body asks answers = grind (arith, answer_asker, request_asker)
 
 -- ---- Issue and Perform
 
 pub changed_tidy : (core : Core) (n : ℕ) (next : NodeOf) → n < core.size.nodes → IsWellFormed core → Stays core.size.nodes (node_at core n) next → IsTidy core → IsTidy (with_node core n next)
-changed_tidy core n next lt well stays tidy m k below within =
-    let long = well.sizes.parts_long in
-    subst (HasItsPackets (k % core.size.nodes) (line_of (node_at (with_node core n next) m).cache k)) (sym (packets_changed core n next m k (omega arith) stays.waiting))
-    (keeps_packets (k % core.size.nodes) (line_of (node_at core m).cache k) (line_of (node_at (with_node core n next) m).cache k) (packets_of core m k) (keeps_node core n next stays.lines m k) (tidy m k below within))
+changed_tidy core n next lt well stays tidy m k below within = grind (arith, packets_changed, keeps_packets, keeps_node)
 
 -- ---- other nodes and other lines, when one line of one node changes
 
 pub same_line : (core : Core) (n line : ℕ) (next : NodeOf) (m k : ℕ) → ((j : ℕ) → j ≢ line → line_of next.cache j ≡ line_of (node_at core n).cache j) → n < length core.parts → ((m ≡ n) × (k ≡ line) → ⊥) → line_of (node_at (with_node core n next) m).cache k ≡ line_of (node_at core m).cache k
-same_line core n line next m k others below not =
-    elim (cases_eq m n) [
-      | inl here ↦
-          let at : node_at (with_node core n next) m ≡ next = ap (node_at (with_node core n next)) here ∙ get_or-set_same core.parts n next no_node below in
-          ap (λ (part : NodeOf). line_of part.cache k) at ∙ (others k (λ e. not (here, e)) ∙ ap (λ (j : ℕ). line_of (node_at core j).cache k) (sym here))
-      | inr other ↦ ap (λ (part : NodeOf). line_of part.cache k) (get_or-set_other core.parts n m next no_node other)
-    ]
+same_line core n line next m k others below not = grind (arith, cases_eq, get_or-set_same, get_or-set_other)
 
 -- ---- Ask
 
 asked_here : (core : Core) (n line place : ℕ) (next : NodeOf) (letter : Letter) → n < length core.parts → place < length core.lanes → is_request letter.body ≡ true → letter.source ≡ n → AsksOnce core.size.nodes line (node_at core n) (next, letter)
     → TidyAt core n line → TidyAt (with_lane (with_node core n next) place (lane_at core place ++ letter ∷ [])) n line
-asked_here core n line place next letter below within asks from once tidy =
-    let about = about_from n line letter once.about (request_asker letter asks ∙ from) in
-    let none = idle_has_none (line % core.size.nodes) (line_of (node_at core n).cache line) (packets_of core n line) once.idle tidy in
-    let one = packets_asked core n next place letter n line below within once.waiting about none in
-    let at : node_at (with_node core n next) n ≡ next = get_or-set_same core.parts n next no_node below in
-    subst (HasItsPackets (line % core.size.nodes) (line_of (node_at (with_node core n next) n).cache line)) (sym one)
-    (subst (λ (part : NodeOf). IsAwaited (line % core.size.nodes) (line_of part.cache line) letter) (sym at) once.awaited)
+asked_here core n line place next letter below within asks from once tidy = grind (arith, about_from, request_asker, idle_has_none, packets_asked, get_or-set_same)
 
 pub asked_tidy : (core : Core) (n line place : ℕ) (next : NodeOf) (letter : Letter) → n < length core.parts → place < length core.lanes → is_request letter.body ≡ true → letter.source ≡ n → AsksOnce core.size.nodes line (node_at core n) (next, letter) → IsTidy core
     → IsTidy (with_lane (with_node core n next) place (lane_at core place ++ letter ∷ []))
@@ -101,21 +85,7 @@ asked_tidy core n line place next letter below within asks from once tidy m k mb
 
 pub replied_tidy : (core : Core) (n place : ℕ) (next : NodeOf) (letter : Letter) → n < length core.parts → place < length core.lanes → Replies core.size.nodes (node_at core n) (next, letter) → IsTidy core
     → IsTidy (with_lane (with_node core n next) place (lane_at core place ++ letter ∷ []))
-replied_tidy core n place next letter below within replies tidy m k mb kb =
-    let keeps = keeps_node core n next replies.lines m k in
-    let old = line_of (node_at core m).cache k in
-    let line = line_of (node_at (with_node core n next) m).cache k in
-    elim (cases_Bool (is_about m k letter)) [
-      | inl about ↦
-          let one = some_has_one (k % core.size.nodes) old (packets_of core m k) (node_has core n letter m k below replies.waited about) (tidy m k mb kb) in
-          let then_ = packets_replied core n next place letter one.letter m k below within replies.waited replies.gone about one.one in
-          subst (HasItsPackets (k % core.size.nodes) line) (sym then_) (keeps_packets (k % core.size.nodes) old line (one.letter ∷ []) keeps one.awaited)
-      | inr other ↦
-          let waits : filter (is_about m k) (option_to_list next.waiting) ≡ filter (is_about m k) (option_to_list (node_at core n).waiting) =
-          ap (λ (w : Option Letter). filter (is_about m k) (option_to_list w)) replies.gone ∙ (sym (filter_one m k letter other) ∙ ap (λ (w : Option Letter). filter (is_about m k) (option_to_list w)) (sym replies.waited)) in
-          let packets = packets_same core n next place (lane_at core place ++ letter ∷ []) m k below within waits (filter_joined m k (lane_at core place) letter other) in
-          subst (HasItsPackets (k % core.size.nodes) line) (sym packets) (keeps_packets (k % core.size.nodes) old line (packets_of core m k) keeps (tidy m k mb kb))
-    ]
+replied_tidy core n place next letter below within replies tidy m k mb kb = grind (arith, keeps_node, cases_Bool, some_has_one, node_has, packets_replied, keeps_packets, filter_one, packets_same, filter_joined)
 
 -- ---- Serve and Refuse
 

@@ -10,10 +10,9 @@ use Rattle.sci_words.specs.declared.event.Event.TheVariants as event
 use Rattle.sci_packets.specs.Table.{is_request}
 use Rattle.sci_cache.specs.Cache.{Letter}
 use Rattle.sci_history.specs.declared.entry.Entry.{Entry}
-use Rattle.sci_cache.specs.State.{waits}
 use Rattle.sci_cache.specs.Cache.{line_of}
 use Rattle.sci_core.specs.declared.lane.LaneKind.TheVariants.{Requests, Answers as AnswerLane}
-use Rattle.sci_core.specs.Node.{NodeOf, answering, node_issuing, node_performing, node_asking, node_serving, node_refusing, node_replying, node_accepting}
+use Rattle.sci_core.specs.Node.{NodeOf, answering, node_issuing, node_performing, node_accepting}
 use Rattle.sci_core.specs.Core.{Core, node_at, with_node, lane_place, lane_at, lane_of, with_lane, changes, performs, sends, side, Takes, node_of, taken_as, taken_from, step_by, stepping, step, opening}
 use Rattle.sci_core.specs.Sharing.{is_about, packets_of}
 use Rattle.sci_core.specs.Tidy.{IsTidy}
@@ -66,10 +65,7 @@ no_mark : (about : Bool) (mark : Mark) (ps qs : List Letter) → about ≡ false
 no_mark about mark ps qs e same = subst (λ (b : Bool). Advances (phase_of ps) (if b then mark ∷ [] else []) (phase_of qs)) (sym e) (still (phase_of ps) (phase_of qs) (ap phase_of same))
 
 asked_mark : (about : Bool) (letter : Letter) (ps qs : List Letter) → about ≡ true → is_request letter.body ≡ true → ps ≡ [] → qs ≡ letter ∷ [] → Advances (phase_of ps) (if about then Asked letter.control ∷ [] else []) (phase_of qs)
-asked_mark about letter ps qs e asks before after =
-    subst (λ (b : Bool). Advances (phase_of ps) (if b then Asked letter.control ∷ [] else []) (phase_of qs)) (sym e)
-    (subst (λ (xs : List Letter). Advances (phase_of xs) (Asked letter.control ∷ []) (phase_of qs)) (sym before)
-    (ap phase_of after ∙ ap (λ (b : Bool). if b then Sent letter.control else Served letter.control) asks))
+asked_mark about letter ps qs e asks before after = grind arith
 
 one_request : (letter : Letter) → is_request letter.body ≡ true → phase_of (letter ∷ []) ≡ Sent letter.control
 one_request letter asks = ap (λ (b : Bool). if b then Sent letter.control else Served letter.control) asks
@@ -79,17 +75,10 @@ one_answer letter answers = ap (λ (b : Bool). if b then Sent letter.control els
 
 taken_mark : (about : Bool) (request answer : Letter) (ps qs : List Letter) → about ≡ true → is_request request.body ≡ true → is_request answer.body ≡ false → answer.control ≡ request.control → ps ≡ request ∷ [] → qs ≡ answer ∷ []
     → Advances (phase_of ps) (if about then Taken request.control ∷ [] else []) (phase_of qs)
-taken_mark about request answer ps qs e asks answers same before after =
-    let from = ap phase_of before ∙ one_request request asks in
-    let to = ap phase_of after ∙ (one_answer answer answers ∙ ap Served same) in
-    subst (λ (b : Bool). Advances (phase_of ps) (if b then Taken request.control ∷ [] else []) (phase_of qs)) (sym e)
-    (subst (λ (p : Phase). Advances p (Taken request.control ∷ []) (phase_of qs)) (sym from) (refl, to))
+taken_mark about request answer ps qs e asks answers same before after = grind (arith, one_request, one_answer)
 
 accepted_mark : (about : Bool) (answer : Letter) (ps qs : List Letter) → about ≡ true → is_request answer.body ≡ false → ps ≡ answer ∷ [] → qs ≡ [] → Advances (phase_of ps) (if about then Accepted answer.control ∷ [] else []) (phase_of qs)
-accepted_mark about answer ps qs e answers before after =
-    let from = ap phase_of before ∙ one_answer answer answers in
-    subst (λ (b : Bool). Advances (phase_of ps) (if b then Accepted answer.control ∷ [] else []) (phase_of qs)) (sym e)
-    (subst (λ (p : Phase). Advances p (Accepted answer.control ∷ []) (phase_of qs)) (sym from) (refl, ap phase_of after))
+accepted_mark about answer ps qs e answers before after = grind (arith, one_answer)
 
 -- ---- the steps
 
@@ -98,40 +87,15 @@ abbrev Advanced : Core → Option (Mark × Letter) → Core → Type 0
 Advanced core mark new = (n line : ℕ) → n < core.size.nodes → line < core.size.lines → Advances (phase_of (packets_of core n line)) (marks_about n line mark) (phase_of (packets_of new n line))
 
 changed_advance : (core : Core) (n : ℕ) (next : NodeOf) → n < core.size.nodes → IsWellFormed core → next.waiting ≡ (node_at core n).waiting → Advanced core None (with_node core n next)
-changed_advance core n next lt well same m k mb kb =
-    let long = well.sizes.parts_long in
-    still (phase_of (packets_of core m k)) (phase_of (packets_of (with_node core n next) m k)) (ap phase_of (packets_changed core n next m k (omega arith) same))
+changed_advance core n next lt well same m k mb kb = grind (arith, still, packets_changed)
 
 asked_advance : (core : Core) (n line place : ℕ) (next : NodeOf) (letter : Letter) → n < length core.parts → place < length core.lanes → is_request letter.body ≡ true → letter.source ≡ n → AsksOnce core.size.nodes line (node_at core n) (next, letter) → IsTidy core
     → Advanced core (Some (Asked letter.control, letter)) (with_lane (with_node core n next) place (lane_at core place ++ letter ∷ []))
-asked_advance core n line place next letter below within asks from once tidy m k mb kb =
-    let new = with_lane (with_node core n next) place (lane_at core place ++ letter ∷ []) in
-    elim (cases_Bool (is_about m k letter)) [
-      | inl about ↦
-          let node : n ≡ m = sym from ∙ (sym (request_asker letter asks) ∙ about_asker m k letter about) in
-          let here : line ≡ k = sym once.about ∙ about_line m k letter about in
-          let idle : waits (line_of (node_at core m).cache k).state ≡ false = subst (λ (j : ℕ). waits (line_of (node_at core j).cache k).state ≡ false) node (subst (λ (j : ℕ). waits (line_of (node_at core n).cache j).state ≡ false) here once.idle) in
-          let none = idle_has_none (k % core.size.nodes) (line_of (node_at core m).cache k) (packets_of core m k) idle (tidy m k mb kb) in
-          asked_mark (is_about m k letter) letter (packets_of core m k) (packets_of new m k) about asks none (packets_asked core n next place letter m k below within once.waiting about none)
-      | inr other ↦
-          no_mark (is_about m k letter) (Asked letter.control) (packets_of core m k) (packets_of new m k) other
-          (packets_same core n next place (lane_at core place ++ letter ∷ []) m k below within (ap (λ (w : Option Letter). filter (is_about m k) (option_to_list w)) once.waiting) (filter_joined m k (lane_at core place) letter other))
-    ]
+asked_advance core n line place next letter below within asks from once tidy m k mb kb = grind (arith, cases_Bool, request_asker, about_asker, about_line, idle_has_none, asked_mark, packets_asked, no_mark, packets_same, filter_joined)
 
 replied_advance : (core : Core) (n place : ℕ) (next : NodeOf) (letter : Letter) → n < length core.parts → place < length core.lanes → Replies core.size.nodes (node_at core n) (next, letter) → IsTidy core
     → Advanced core None (with_lane (with_node core n next) place (lane_at core place ++ letter ∷ []))
-replied_advance core n place next letter below within replies tidy m k mb kb =
-    let new = with_lane (with_node core n next) place (lane_at core place ++ letter ∷ []) in
-    let same : packets_of new m k ≡ packets_of core m k = elim (cases_Bool (is_about m k letter)) [
-      | inl about ↦
-          let one = some_has_one (k % core.size.nodes) (line_of (node_at core m).cache k) (packets_of core m k) (node_has core n letter m k below replies.waited about) (tidy m k mb kb) in
-          packets_replied core n next place letter one.letter m k below within replies.waited replies.gone about one.one ∙ sym one.one
-      | inr other ↦
-          packets_same core n next place (lane_at core place ++ letter ∷ []) m k below within
-          (ap (λ (w : Option Letter). filter (is_about m k) (option_to_list w)) replies.gone ∙ (sym (filter_one m k letter other) ∙ ap (λ (w : Option Letter). filter (is_about m k) (option_to_list w)) (sym replies.waited)))
-          (filter_joined m k (lane_at core place) letter other)
-    ] in
-    still (phase_of (packets_of core m k)) (phase_of (packets_of new m k)) (ap phase_of same)
+replied_advance core n place next letter below within replies tidy m k mb kb = grind (arith, cases_Bool, some_has_one, node_has, packets_replied, packets_same, filter_one, filter_joined, still)
 
 served_advance : (core : Core) (n place : ℕ) (next : NodeOf) (request : Letter) (rest : List Letter) → n < length core.parts → place < length core.lanes → lane_at core place ≡ request ∷ rest → is_request request.body ≡ true
     → (answers : Answers core.size.nodes request (node_at core n) next) → is_request answers.body ≡ false → IsTidy core → Advanced core (Some (Taken request.control, request)) (with_lane (with_node core n next) place rest)
@@ -190,8 +154,7 @@ replies_advance core n (Some sent) lt well tidy replies sends_well =
 took_request : (core : Core) (n place : ℕ) (letter : Letter) (rest : List Letter) (next : Option NodeOf) → n < length core.parts → place < length core.lanes → lane_at core place ≡ letter ∷ rest → Comes core n Requests letter
     → IfSome next (Answers core.size.nodes letter (node_at core n)) → IfSome next (IsPart core.size n) → IsTidy core → IfSome (taken_as core n place rest next) (Advanced core (Some (Taken letter.control, letter)))
 took_request core n place letter rest None below within front comes answers is tidy = tt
-took_request core n place letter rest (Some next) below within front comes answers is tidy =
-    served_advance core n place next letter rest below within front comes.0.asks answers (waiting_answers core.size n next _ answers.waiting is) tidy
+took_request core n place letter rest (Some next) below within front comes answers is tidy = grind (arith, served_advance, waiting_answers)
 
 takes_request : (core : Core) (n place : ℕ) (taking : Letter → Option NodeOf) (lane : List Letter) → n < length core.parts → place < length core.lanes → lane_at core place ≡ lane → ((letter : Letter) → IsInLane core.size.nodes core.size.lines place letter → Comes core n Requests letter)
     → ((letter : Letter) → IfSome (taking letter) (Answers core.size.nodes letter (node_at core n))) → ((letter : Letter) → Comes core n Requests letter → IfSome (taking letter) (IsPart core.size n)) → IsWellFormed core → IsTidy core
@@ -232,16 +195,10 @@ answer_taken core n from taking lt accepts well tidy =
 side_advances : (core : Core) (e : Event) → node_of e < core.size.nodes → IsWellFormed core → IsTidy core → IfSome (step_by core (node_of e) (side (node_at core (node_of e)) e)) (Advanced core (mark_of core e))
 side_advances core (event.Issue n op) lt well tidy = changes_advance core n (node_issuing (node_at core n) op) lt well (issue_stays core.size.nodes (node_at core n) op)
 side_advances core (event.Perform n line) lt well tidy = performs_advance core n (node_performing (node_at core n) line) lt well (perform_stays core.size.nodes (node_at core n) line)
-side_advances core (event.Ask n line kind) lt well tidy =
-    let part = well.each_part n lt in
-    asks_advance core n line (node_asking (node_at core n) line kind) lt well tidy (ask_once core.size.nodes (node_at core n) line kind part.all (part.asks line))
-    (part_asking core.size n (node_at core n) line kind well.sizes.some_node lt part)
-side_advances core (event.Serve from n) lt well tidy =
-    request_taken core n from (node_serving (node_at core n)) lt (serve_answers core.size.nodes (node_at core n)) (λ letter comes. part_serving core.size n (node_at core n) letter comes.0 comes.1 (well.each_part n lt)) well tidy
-side_advances core (event.Refuse from n) lt well tidy =
-    request_taken core n from (node_refusing (node_at core n)) lt (refuse_answers core.size.nodes (node_at core n)) (λ letter comes. part_refusing core.size n (node_at core n) letter comes.0 comes.1 (well.each_part n lt)) well tidy
-side_advances core (event.Reply n) lt well tidy =
-    replies_advance core n (node_replying (node_at core n)) lt well tidy (reply_replies core.size.nodes (node_at core n)) (part_replying core.size n (node_at core n) (well.each_part n lt))
+side_advances core (event.Ask n line kind) lt well tidy = grind (arith, asks_advance, ask_once, part_asking)
+side_advances core (event.Serve from n) lt well tidy = grind (arith, request_taken, serve_answers, part_serving)
+side_advances core (event.Refuse from n) lt well tidy = grind (arith, request_taken, refuse_answers, part_refusing)
+side_advances core (event.Reply n) lt well tidy = grind (arith, replies_advance, reply_replies, part_replying)
 side_advances core (event.Accept from n) lt well tidy = answer_taken core n from (node_accepting (node_at core n)) lt (accept_accepts (node_at core n)) well tidy
 
 stepping_advances : (core : Core) (e : Event) → IsWellFormed core → IsTidy core → IfSome (stepping core e) (Advanced core (mark_of core e))

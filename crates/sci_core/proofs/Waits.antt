@@ -1,13 +1,12 @@
 -- Each row of the tables, as far as it tells who waits and for which request.
-use Rattle.std.proofs.Common.{◌≡◌, ℕ, ◌+◌, ◌%◌, ◌<◌, nat_lt, Bool, true, false, if◌then◌else◌, List, [], ◌∷◌, Some, None, refl, sym, ap, ◌∙◌, inl, inr, arith}
+use Rattle.std.proofs.Common.{◌≡◌, ℕ, ◌+◌, ◌%◌, ◌<◌, Bool, true, false, if◌then◌else◌, List, [], ◌∷◌, Some, None, refl, ◌∙◌, inl, inr, arith}
 use Rattle.std.specs.Prelude.{◌==◌, IfSome}
 use Rattle.sci_words.specs.declared.limits.TheConstants.{CONTROLS}
 use Rattle.sci_words.specs.declared.event.AskKind.{AskKind}
 use Rattle.sci_words.specs.declared.event.AskKind.TheVariants as kind
 use Rattle.sci_words.specs.declared.operation.Op.{Op}
-use Rattle.std.proofs.Common.{◌-◌, ◌^◌}
 use Rattle.sci_words.specs.Operation.{is_maker}
-use Rattle.sci_words.specs.Stamped.{after, reply_of}
+use Rattle.sci_words.specs.Stamped.{reply_of}
 use Rattle.sci_packets.specs.declared.body.Body.{Body}
 use Rattle.sci_packets.specs.declared.body.Body.TheVariants as body
 use Rattle.sci_cache.specs.State.{CacheState, Out, Asking, Joining, FreshJoining, Head, FreshHead, Below, Purging, Claiming, Clearing, Returning, Rolling, Telling, Fading, waits}
@@ -91,9 +90,7 @@ makes_or_loads state true false made read h k = tt
 makes_or_loads state false room made read h k = k
 
 pub performing_waits : (state : CacheState) (op : Op) → IfSome (performing state op) (λ (done : Performed). KeepsWait state done.next)
-performing_waits (Head None c) op =
-    makes_or_loads (Head None c) (is_maker op) (nat_lt c.version (2 ^ 64 - 1)) (record { reply = reply_of c.line op; version = (after c op).version; next = Head None (after c op) }) (record { reply = reply_of c.line op; version = c.version; next = Head None c })
-    (record { wait = refl; sent = λ home letter h. elim h [ ] }) (same_wait (Head None c))
+performing_waits (Head None c) op = grind (arith, makes_or_loads, same_wait)
 performing_waits (Head (Some q) c) op = loads (Head (Some q) c) (is_maker op) (record { reply = reply_of c.line op; version = c.version; next = Head (Some q) c }) (same_wait (Head (Some q) c))
 performing_waits (FreshHead f c) op = loads (FreshHead f c) (is_maker op) (record { reply = reply_of c.line op; version = c.version; next = FreshHead f c }) (same_wait (FreshHead f c))
 performing_waits (Below f b c) op = loads (Below f b c) (is_maker op) (record { reply = reply_of c.line op; version = c.version; next = Below f b c }) (same_wait (Below f b c))
@@ -137,11 +134,7 @@ accepting_waits _ _ = tt
 
 pub keeps_packets : (home : ℕ) (old new : LineState) (packets : List Letter) → Keeps home old new → HasItsPackets home old packets → HasItsPackets home new packets
 keeps_packets home old new [] keeps has = keeps.wait ∙ has
-keeps_packets home old new (letter ∷ []) keeps has = record {
-  waiting = keeps.wait ∙ has.waiting;
-  numbered = has.numbered ∙ ap (λ (k : ℕ). (k + 65535) % 65536) (sym keeps.asks);
-  sent = λ asks. keeps.sent letter (has.sent asks);
-}
+keeps_packets home old new (letter ∷ []) keeps has = grind arith
 keeps_packets home old new (letter ∷ another ∷ letters) keeps has = has
 
 pub idle_has_none : (home : ℕ) (line : LineState) (packets : List Letter) → waits line.state ≡ false → HasItsPackets home line packets → packets ≡ []

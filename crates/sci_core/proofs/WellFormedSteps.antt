@@ -16,7 +16,7 @@ use Rattle.sci_cache.specs.Cache.{Letter}
 use Rattle.sci_core.specs.declared.lane.LaneKind.{LaneKind}
 use Rattle.sci_core.specs.declared.lane.LaneKind.TheVariants.{Requests, Answers}
 use Rattle.sci_core.specs.Node.{NodeOf, opening_node, node_issuing, node_performing, node_asking, node_replying, no_node}
-use Rattle.sci_core.specs.Core.{Core, node_at, with_node, lane_place, lane_of, with_lane, Side, Idle, Changes, Sends, Takes, changes, performs, sends, side, node_of, sent_by, taken_as, taken_from, step_by, stepping, step, opening, run_from, run}
+use Rattle.sci_core.specs.Core.{Core, with_node, lane_place, lane_of, with_lane, Side, Idle, Changes, Sends, Takes, changes, performs, sends, side, node_of, sent_by, taken_as, taken_from, step_by, stepping, step, opening, run_from, run}
 use Rattle.sci_core.specs.Reached.{IsReachedNode, IsReached}
 use Rattle.sci_core.specs.WellFormed.{NamesNodes, HomeNamesNodes, IsRequestLetter, IsAnswerLetter, IsInLane, IsPart, IsWellFormed}
 use Rattle.sci_words.specs.declared.limits.TheConstants.{CONTROLS, MAX_OPERATIONS}
@@ -154,9 +154,7 @@ side_well core part (event.Accept from n) some lt is = λ letter comes. part_acc
 
 pub stepping_well : (core : Core) (e : Event) → IsWellFormed core → IfSome (stepping core e) (StepsWell core)
 unfolding stepping
-stepping_well core e well =
-    if_below (node_of e) core.size.nodes (StepsWell core) (step_by core (node_of e) (side (node_at core (node_of e)) e)) (λ lt.
-    step_by_well core (node_of e) (side (node_at core (node_of e)) e) lt (side_well core (node_at core (node_of e)) e well.sizes.some_node lt (well.each_part (node_of e) lt)) well)
+stepping_well core e well = grind (arith, if_below, step_by_well, side_well)
 
 -- ---- runs
 
@@ -218,9 +216,7 @@ opening_well size some few = record {
 }
 
 pub reached_well : (core : Core) → IsReached core → IsWellFormed core
-reached_well core reached =
-    let some = reached.size.extent.has_node in
-    subst IsWellFormed reached.leads (run_well (opening core.size) reached.schedule (opening_well core.size (omega arith) reached.size.few_operations)).well
+reached_well core reached = grind (arith, run_well, opening_well)
 
 -- one event more
 pub reached_stepping : (core next : Core) (e : Event) → IsReached core → stepping core e ≡ Some next → IsReached next

@@ -1,5 +1,5 @@
 -- What each event does to a node's work: its pending operations, its count of issues and its log. Serials rise.
-use Rattle.std.proofs.Common.{◌≡◌, ◌≢◌, ℕ, ◌+◌, ◌<◌, nat_lt, List, [], ◌∷◌, ◌++◌, filter, get_or, set, Option, Some, None, Result, Ok, Err, refl, sym, ap, subst, ◌∙◌, arith, inl, inr}
+use Rattle.std.proofs.Common.{◌≡◌, ◌≢◌, ℕ, ◌+◌, ◌<◌, List, [], ◌∷◌, ◌++◌, filter, get_or, set, Option, Some, None, Result, Ok, Err, refl, sym, ap, subst, ◌∙◌, arith, inl, inr}
 use Rattle.std.specs.Prelude.{IfSome}
 use Rattle.std.specs.List.{AllByRecursion, AllPairs}
 use Rattle.std.proofs.lemmas.Bool.{cases_eq, eq-eqb, ne_eqb}
@@ -13,9 +13,9 @@ use Rattle.sci_history.specs.Placed.{is_on_line}
 use Rattle.sci_history.proofs.Oracles.{filter_push_yes, filter_push_no}
 use Rattle.sci_history.proofs.Order.{all_weaker, all-append, all-filter}
 use Rattle.sci_cache.specs.declared.fault.AskFault.{AskFault}
-use Rattle.sci_cache.specs.Cache.{CacheOf, Letter, cache_asking, cache_accepting}
+use Rattle.sci_cache.specs.Cache.{CacheOf, Letter, cache_accepting}
 use Rattle.sci_core.specs.declared.pending.Pending.{Pending}
-use Rattle.sci_core.specs.Node.{NodeOf, opening_node, lines_of, pending_on, entry_of, node_logged, may_issue, node_issued, node_issuing, asked_by, node_asking, accepted_by, node_accepting, IsPendingOn, IsNode}
+use Rattle.sci_core.specs.Node.{NodeOf, opening_node, pending_on, entry_of, node_logged, may_issue, node_issued, node_issuing, asked_by, node_asking, accepted_by, node_accepting, IsPendingOn, IsNode}
 use Rattle.sci_core.proofs.Nodes.{some_below}
 use Rattle.sci_core.proofs.Lists.{if_either, at_place_set}
 use Rattle.sci_core.proofs.Options.{none_in, of_some}
@@ -34,8 +34,7 @@ asked_work part (Err fault) = tt
 asked_work part (Ok made) = record { pending = refl; issued = refl; log = refl }
 
 pub ask_work : (part : NodeOf) (line : ℕ) (kind : AskKind) → IfSome (node_asking part line kind) (λ (sent : NodeOf × Letter). SameWork part sent.0)
-ask_work part line kind =
-    if_either (λ (o : Option (NodeOf × Letter)). IfSome o (λ (sent : NodeOf × Letter). SameWork part sent.0)) (nat_lt line (lines_of part)) (asked_by part (cache_asking part.cache line kind)) None (asked_work part (cache_asking part.cache line kind)) tt
+ask_work part line kind = grind (arith, if_either, asked_work)
 
 pub serve_work : (part : NodeOf) (request : Letter) (next : NodeOf) → ServedAs part request next → SameWork part next
 serve_work part request next (At_home served asks serves e) = subst (SameWork part) e (record { pending = refl; issued = refl; log = refl })
@@ -85,11 +84,7 @@ issue_log part op = if_either (λ (o : Option NodeOf). IfSome o (λ next. next.l
 
 -- a log with one entry more, seen on one line
 logged_line : (k : ℕ) (log : List Entry) (entry : Entry) (P : List Entry → Type 0) → (entry.op.line ≡ k → P (filter (is_on_line k) log ++ entry ∷ [])) → (entry.op.line ≢ k → P (filter (is_on_line k) log)) → P (filter (is_on_line k) (log ++ entry ∷ []))
-logged_line k log entry P here there =
-    elim (cases_eq entry.op.line k) [
-      | inl e ↦ subst P (sym (filter_push_yes (is_on_line k) log entry (eq-eqb entry.op.line k e))) (here e)
-      | inr ne ↦ subst P (sym (filter_push_no (is_on_line k) log entry (ne_eqb entry.op.line k ne))) (there ne)
-    ]
+logged_line k log entry P here there = grind (arith, cases_eq, filter_push_yes, eq-eqb, filter_push_no, ne_eqb)
 
 -- the operation that was pending on a line is logged
 logged_serials : (part : NodeOf) (line : ℕ) (p : Pending) (cache : CacheOf) (entry : Entry) → entry.op.line ≡ line → entry.serial ≡ p.serial → pending_on part line ≡ Some p → p.serial < part.issued → HasSerials part → HasSerials (node_logged part line cache entry)
@@ -131,8 +126,4 @@ none_below : (j : ℕ) → j < 0 → ⊥
 none_below j lt = omega arith
 
 pub opening_serials : (me : ℕ) (size : Size) → HasSerials (opening_node me size)
-opening_serials me size = record {
-  below = tt;
-  rising = λ line. (λ i j d lt long. absurd (none_below j long));
-  pending = λ line. none_in (λ (p : Pending). AllByRecursion (λ (entry : Entry). entry.serial < p.serial) []) size.lines line;
-}
+opening_serials me size = grind (arith, none_below, none_in)

@@ -1,5 +1,5 @@
 -- What a loop over a line's entries has found so far.
-use Rattle.std.proofs.Common.{◌≡◌, ℕ, ◌+◌, ◌<◌, ◌≤◌, Bool, true, false, cond, List, [], ◌∷◌, ◌++◌, length, get_or, take, drop, Some, None, refl, sym, ap, ◌∙◌, subst, add-one, ◌-◌, set, arith, inl, inr}
+use Rattle.std.proofs.Common.{◌≡◌, ℕ, ◌+◌, ◌<◌, ◌≤◌, Bool, true, false, cond, List, [], ◌∷◌, ◌++◌, length, get_or, take, drop, Some, None, refl, sym, ap, ◌∙◌, subst, add-one, ◌-◌, set, arith}
 use Rattle.std.proofs.lemmas.List.{take_more, length-map, get_or-map, get_or_default, get_or-set_same, get_or-set_other}
 use Rattle.std.proofs.Math.Seq.{drop-cons}
 use denote.Ref.{Bor}
@@ -83,8 +83,7 @@ or_true true = refl
 or_true false = refl
 
 marked_same : (marks : List Bool) (refs : List (Bor Entry)) (n below : ℕ) → n < length refs → makes (below + 1) (entry_at refs n) ≡ false → get_or marks below false ≡ list_any (makes (below + 1)) (take n (entries_of refs)) → get_or marks below false ≡ list_any (makes (below + 1)) (take (n + 1) (entries_of refs))
-marked_same marks refs n below lt other h =
-    h ∙ sym (made_more refs n (below + 1) lt ∙ rw other (or_false (list_any (makes (below + 1)) (take n (entries_of refs)))))
+marked_same marks refs n below lt other h = grind (arith, made_more, or_false)
 
 -- a load leaves the marks
 pub marked_load : (marks : List Bool) (refs : List (Bor Entry)) (n makers : ℕ) → n < length refs → is_making (entry_at refs n) ≡ false → HasMarked marks refs n makers → HasMarked marks refs (n + 1) makers
@@ -92,30 +91,11 @@ marked_load marks refs n makers lt load h = λ below low. marked_same marks refs
 
 -- a maker sets its own
 pub marked_maker : (marks : List Bool) (refs : List (Bor Entry)) (n makers : ℕ) → n < length refs → is_making (entry_at refs n) ≡ true → length marks ≡ makers → (1 ≤ (entry_at refs n).version) × ((entry_at refs n).version ≤ makers) → HasMarked marks refs n makers → HasMarked (set marks ((entry_at refs n).version - 1) true) refs (n + 1) makers
-marked_maker marks refs n makers lt maker long within h = λ below low.
-    let version = (entry_at refs n).version in
-    let least = within.0 in
-    let most = within.1 in
-    elim (cases_eq version (below + 1)) [
-      | inl own ↦
-          let at : version - 1 ≡ below = omega arith in
-          let makes_it : makes (below + 1) (entry_at refs n) ≡ true = rw (maker, eq-eqb version (below + 1) own) refl in
-          ap (λ (k : ℕ). get_or (set marks k true) below false) at
-          ∙ get_or-set_same marks below true false (omega arith)
-          ∙ sym (made_more refs n (below + 1) lt ∙ rw makes_it (or_true (list_any (makes (below + 1)) (take n (entries_of refs)))))
-      | inr other ↦
-          let makes_not : makes (below + 1) (entry_at refs n) ≡ false = rw (maker, ne_eqb version (below + 1) other) refl in
-          get_or-set_other marks (version - 1) below true false (λ is. absurd (omega arith))
-          ∙ marked_same marks refs n below lt makes_not (h below low)
-    ]
+marked_maker marks refs n makers lt maker long within h = grind (arith, cases_eq, eq-eqb, get_or-set_same, made_more, or_true, ne_eqb, get_or-set_other, marked_same)
 
 -- what is marked for a version, as the code reads it
 pub mark_is : (marks : List Bool) (refs : List (Bor Entry)) (n makers version : ℕ) → length marks ≡ makers → (1 ≤ version) × (version ≤ makers) → HasMarked marks refs n makers → (d : Bool) → get_or marks (version - 1) d ≡ list_any (makes version) (take n (entries_of refs))
-mark_is marks refs n makers version long within h d =
-    let least = within.0 in
-    let most = within.1 in
-    let next : version - 1 + 1 ≡ version = omega arith in
-    get_or_default marks (version - 1) d false (omega arith) ∙ h (version - 1) (omega arith) ∙ ap (λ (v : ℕ). list_any (makes v) (take n (entries_of refs))) next
+mark_is marks refs n makers version long within h d = grind (arith, get_or_default)
 
 -- where no version is missing, a maker's is from 1 to the number of makers
 pub maker_within : (refs : List (Bor Entry)) (n makers : ℕ) → n < length refs → first_failing (is_version_missing makers) [] (entries_of refs) ≡ None → is_making (entry_at refs n) ≡ true → (1 ≤ (entry_at refs n).version) × ((entry_at refs n).version ≤ makers)
@@ -133,16 +113,7 @@ words_more refs n lt = ap words_after (take_entries_more refs n lt) ∙ words_af
 -- ---- each node's latest entry
 
 pub latest_own : (refs : List (Bor Entry)) (n node : ℕ) → n < length refs → (entry_at refs n).node ≡ node → last_entry None (filter (is_of_node node) (take (n + 1) (entries_of refs))) ≡ Some (entry_at refs n)
-latest_own refs n node lt own =
-    let p = is_of_node node in
-    let before = take n (entries_of refs) in
-    ap (λ (es : List Entry). last_entry None (filter p es)) (take_entries_more refs n lt)
-    ∙ ap (last_entry None) (filter-append p before (entry_at refs n ∷ []) ∙ ap (λ (es : List Entry). filter p before ++ es) (filter_yes p (entry_at refs n) [] (eq-eqb (entry_at refs n).node node own)))
-    ∙ last_of-push None (filter p before) (entry_at refs n)
+latest_own refs n node lt own = grind (arith, take_entries_more, filter-append, filter_yes, eq-eqb, last_of-push)
 
 pub latest_other : (refs : List (Bor Entry)) (n node : ℕ) → n < length refs → ((entry_at refs n).node ≡ node → ⊥) → last_entry None (filter (is_of_node node) (take (n + 1) (entries_of refs))) ≡ last_entry None (filter (is_of_node node) (take n (entries_of refs)))
-latest_other refs n node lt other =
-    let p = is_of_node node in
-    let before = take n (entries_of refs) in
-    ap (λ (es : List Entry). last_entry None (filter p es)) (take_entries_more refs n lt)
-    ∙ ap (last_entry None) (filter-append p before (entry_at refs n ∷ []) ∙ ap (λ (es : List Entry). filter p before ++ es) (filter_no p (entry_at refs n) [] (ne_eqb (entry_at refs n).node node other)) ∙ append-nil (filter p before))
+latest_other refs n node lt other = grind (arith, take_entries_more, filter-append, filter_no, ne_eqb, append-nil)

@@ -84,8 +84,7 @@ lawful_more logs last line below here = below_more (λ (other : ℕ). IsLawfulLi
 -- ---- the verdict
 
 pub fault_found : (logs : List (List Entry)) (last : List Stamped) (line : ℕ) (entries : List Entry) (fault : LineFault) → line < length last → ((other : ℕ) → other < line → IsLawfulLine logs other (stamped_at last other)) → entries ≡ on_line line logs → IsLineFault entries (stamped_at last line) fault.kind fault.at → IsFault logs last line fault.kind fault.at
-fault_found logs last line entries fault lt below is found =
-    record { in_range = lt; below = below; fault = subst (λ (es : List Entry). IsLineFault es (stamped_at last line) fault.kind fault.at) is found }
+fault_found logs last line entries fault lt below is found = grind arith
 
 faulty_not : (logs : List (List Entry)) (last : List Stamped) (line : ℕ) (kind : FaultKind) (at : Option (ℕ × ℕ)) → AreOwn logs → length logs ≡ MAX_NODES → IsFault logs last line kind at → Lawful logs last → ⊥
 faulty_not logs last line kind at own sixteen h lawful =
@@ -96,8 +95,7 @@ verdict_faulty line kind at e = absurd cc
 
 pub verdict_is : (logs : List (List Entry)) (last : List Stamped) (verdict : Verdict) → AreOwn logs → length logs ≡ MAX_NODES → IsVerdict logs last verdict → (verdict ≡ verdicts.Lawful) ↔ Lawful logs last
 verdict_is logs last verdicts.Lawful own sixteen h = (λ e. h, λ lawful. refl)
-verdict_is logs last (verdicts.Fault line kind at) own sixteen h =
-    (λ e. absurd (verdict_faulty line kind at e), λ lawful. absurd (faulty_not logs last line kind at own sixteen h lawful))
+verdict_is logs last (verdicts.Fault line kind at) own sixteen h = grind (arith, verdict_faulty, faulty_not)
 
 pub found_as : (entries : List Entry) (a b : Stamped) (o p : Option LineFault) → a ≡ b → o ≡ p → IsFound entries a o → IsFound entries b p
 found_as entries a b o p e f h = subst (λ (s : Stamped). IsFound entries s p) e (subst (IsFound entries a) f h)

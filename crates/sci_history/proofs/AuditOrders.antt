@@ -1,12 +1,12 @@
 -- What an audit's fourth kind says: each node's entries stand in order.
-use Rattle.std.proofs.Common.{◌≡◌, ℕ, zero, suc, ◌+◌, ◌<◌, ◌≤◌, true, false, ltb, ◌&&◌, not, List, [], ◌∷◌, ◌++◌, length, get_or, Option, Some, None, refl, sym, ap, ◌∙◌, subst, append_assoc, arith, inl, inr}
+use Rattle.std.proofs.Common.{◌≡◌, ℕ, zero, suc, ◌<◌, ◌≤◌, true, false, ltb, not, List, [], ◌∷◌, ◌++◌, length, get_or, Option, Some, None, refl, sym, ap, ◌∙◌, subst, append_assoc, arith}
 use Rattle.std.specs.Prelude.{AllPairs, IfSome}
 use Rattle.std.specs.List.{filter, AllByRecursion}
 use Rattle.std.proofs.lemmas.Bool.{cases_Bool, cases_eq, cases_order, eq-eqb, ne_eqb, ltb-true, lt-ltb, le-ltb, le-leb, and_parts, and_from, not-false, both_ways}
 use Rattle.std.proofs.lemmas.List.{append-nil}
 use Rattle.std.proofs.lemmas.List.Elements.{filter-append, All-from_recursion}
 use Rattle.sci_history.specs.declared.entry.Entry.{Entry}
-use Rattle.sci_history.specs.Placed.{is_of_node, is_making}
+use Rattle.sci_history.specs.Placed.{is_of_node}
 use Rattle.sci_history.specs.Audit.{last_entry, is_placed_before, breaks_order, is_out_of_order, first_disordered}
 use Rattle.sci_history.proofs.Order.{IsInOrder, filter_yes, filter_no, all_weaker}
 use Rattle.sci_history.proofs.Placement.{place, pairs-head, pairs-tail}
@@ -16,74 +16,17 @@ use Rattle.sci_history.proofs.AuditVersions.{NoneFail, none_fail, from_none_fail
 
 -- Of two entries with rising serials, the first is placed before the second exactly where its place isn't above.
 place_from_before : (p e : Entry) → p.serial < e.serial → is_placed_before p e ≡ true → place p ≤ place e
-place_from_before p e lt h =
-    elim (cases_order p.version e.version) [
-      | inl same ↦
-          elim (cases_Bool (is_making p)) [
-            | inl pm ↦ elim (cases_Bool (is_making e)) [ inl em ↦ rw (pm, em) (omega arith) | inr el ↦ rw (pm, el) (omega arith) ]
-            | inr pl ↦
-                elim (cases_Bool (is_making e)) [
-                  | inl em ↦
-                      absurd (both_ways (is_placed_before p e) (rw (le-ltb p.version e.version (omega arith), eq-eqb p.version e.version same, pl, em) refl) h)
-                  | inr el ↦ rw (pl, el) (omega arith)
-                ]
-          ]
-      | inr apart ↦
-          elim apart [
-            | inl less ↦
-                elim (cases_Bool (is_making p)) [
-                  | inl pm ↦ elim (cases_Bool (is_making e)) [ inl em ↦ rw (pm, em) (omega arith) | inr el ↦ rw (pm, el) (omega arith) ]
-                  | inr pl ↦ elim (cases_Bool (is_making e)) [ inl em ↦ rw (pl, em) (omega arith) | inr el ↦ rw (pl, el) (omega arith) ]
-                ]
-            | inr more ↦
-                absurd (both_ways (is_placed_before p e) (rw (le-ltb p.version e.version (omega arith), ne_eqb p.version e.version (λ is. absurd (omega arith))) refl) h)
-          ]
-    ]
+place_from_before p e lt h = grind (arith, cases_order, cases_Bool, both_ways, le-ltb, eq-eqb, ne_eqb)
 
 before_from_place : (p e : Entry) → p.serial < e.serial → place p ≤ place e → is_placed_before p e ≡ true
-before_from_place p e lt le =
-    elim (cases_order p.version e.version) [
-      | inl same ↦
-          elim (cases_Bool (is_making p)) [
-            | inl pm ↦
-                elim (cases_Bool (is_making e)) [
-                  | inl em ↦ rw (le-ltb p.version e.version (omega arith), eq-eqb p.version e.version same, pm, em, le-leb p.serial e.serial (omega arith)) refl
-                  | inr el ↦ rw (le-ltb p.version e.version (omega arith), eq-eqb p.version e.version same, pm, el) refl
-                ]
-            | inr pl ↦
-                elim (cases_Bool (is_making e)) [
-                  | inl em ↦ let above : p.version + p.version + 1 ≤ e.version + e.version + 0 = (rw (pl, em) at le) in absurd (omega arith)
-                  | inr el ↦ rw (le-ltb p.version e.version (omega arith), eq-eqb p.version e.version same, pl, el, le-leb p.serial e.serial (omega arith)) refl
-                ]
-          ]
-      | inr apart ↦
-          elim apart [
-            | inl less ↦ rw (lt-ltb p.version e.version less) refl
-            | inr more ↦
-                elim (cases_Bool (is_making p)) [
-                  | inl pm ↦
-                      elim (cases_Bool (is_making e)) [
-                        | inl em ↦ let above : p.version + p.version + 0 ≤ e.version + e.version + 0 = (rw (pm, em) at le) in absurd (omega arith)
-                        | inr el ↦ let above : p.version + p.version + 0 ≤ e.version + e.version + 1 = (rw (pm, el) at le) in absurd (omega arith)
-                      ]
-                  | inr pl ↦
-                      elim (cases_Bool (is_making e)) [
-                        | inl em ↦ let above : p.version + p.version + 1 ≤ e.version + e.version + 0 = (rw (pl, em) at le) in absurd (omega arith)
-                        | inr el ↦ let above : p.version + p.version + 1 ≤ e.version + e.version + 1 = (rw (pl, el) at le) in absurd (omega arith)
-                      ]
-                ]
-          ]
-    ]
+before_from_place p e lt le = grind (arith, cases_order, cases_Bool, le-ltb, eq-eqb, le-leb, lt-ltb)
 
 -- serial and place rise from one to the other
 abbrev pub Follows : Entry → Entry → Type 0
 Follows p e = (p.serial < e.serial) × (place p ≤ place e)
 
 follows : (p e : Entry) → breaks_order (Some p) e ≡ false → Follows p e
-follows p e h =
-    let parts = and_parts (ltb p.serial e.serial) (is_placed_before p e) (not-false (ltb p.serial e.serial && is_placed_before p e) h) in
-    let lt = ltb-true p.serial e.serial parts.0 in
-    (lt, place_from_before p e lt parts.1)
+follows p e h = grind (arith, and_parts, not-false, ltb-true, place_from_before)
 
 from_follows : (p e : Entry) → Follows p e → breaks_order (Some p) e ≡ false
 from_follows p e h = ap not (and_from (ltb p.serial e.serial) (is_placed_before p e) (lt-ltb p.serial e.serial h.0) (before_from_place p e h.0 h.1))
@@ -100,22 +43,7 @@ last_of-push found (first ∷ before) entry = last_of-push (Some first) before e
 
 linked : (node : ℕ) (before entries : List Entry) → NoneFail is_out_of_order before entries → Linked (last_entry None (filter (is_of_node node) before)) (filter (is_of_node node) entries)
 linked node before [] h = tt
-linked node before (entry ∷ entries) h =
-    let p = is_of_node node in
-    let rest = linked node (before ++ entry ∷ []) entries h.1 in
-    let pushed = filter-append p before (entry ∷ []) in
-    elim (cases_eq entry.node node) [
-      | inl own ↦
-          let is : p entry ≡ true = eq-eqb entry.node node own in
-          let last : last_entry None (filter p (before ++ entry ∷ [])) ≡ Some entry =
-          ap (last_entry None) (pushed ∙ ap (λ es. filter p before ++ es) (filter_yes p entry [] is)) ∙ last_of-push None (filter p before) entry in
-          let here : breaks_order (last_entry None (filter p before)) entry ≡ false = subst (λ (n : ℕ). breaks_order (last_entry None (filter (is_of_node n) before)) entry ≡ false) own h.0 in
-          rw (filter_yes p entry entries is) (here, subst (λ (o : Option Entry). Linked o (filter p entries)) last rest)
-      | inr other ↦
-          let isnt : p entry ≡ false = ne_eqb entry.node node other in
-          let same : filter p (before ++ entry ∷ []) ≡ filter p before = pushed ∙ ap (λ es. filter p before ++ es) (filter_no p entry [] isnt) ∙ append-nil (filter p before) in
-          rw (filter_no p entry entries isnt) (subst (λ (es : List Entry). Linked (last_entry None es) (filter p entries)) same rest)
-    ]
+linked node before (entry ∷ entries) h = grind (arith, filter-append, cases_eq, eq-eqb, filter_yes, last_of-push, ne_eqb, filter_no, append-nil, linked node (before ++ entry ∷ []) entries h.1)
 
 abbrev pub RisesFrom : Entry → List Entry → Type 0
 RisesFrom previous entries = AllByRecursion (λ e. Follows previous e) entries
@@ -127,10 +55,7 @@ Rises (entry ∷ entries) = RisesFrom entry entries × Rises entries
 
 rises_from : (previous : Entry) (entries : List Entry) → Linked (Some previous) entries → RisesFrom previous entries × Rises entries
 rises_from previous [] h = (tt, tt)
-rises_from previous (entry ∷ entries) h =
-    let rest = rises_from entry entries h.1 in
-    let step = follows previous entry h.0 in
-    ((step, all_weaker (λ e. Follows entry e) (λ e. Follows previous e) (λ e f. (let low = step.0 in let high = f.0 in omega arith, let low = step.1 in let high = f.1 in omega arith)) entries rest.0), (rest.0, rest.1))
+rises_from previous (entry ∷ entries) h = grind (arith, follows, all_weaker, rises_from entry entries h.1)
 
 rises : (entries : List Entry) → Linked None entries → Rises entries
 rises [] h = tt
@@ -156,8 +81,7 @@ pairs-cons entry entries h k (suc i) (suc j) d lt long = k i j d (omega arith) (
 
 pub pairs_from_rises : (entries : List Entry) → Rises entries → AllPairs (λ x y. x.serial < y.serial) entries
 pairs_from_rises [] h = λ i j d lt long. absurd (omega arith)
-pairs_from_rises (entry ∷ entries) h =
-    pairs-cons entry entries (all_weaker (λ e. Follows entry e) (λ e. entry.serial < e.serial) (λ e f. f.0) entries h.0) (pairs_from_rises entries h.1)
+pairs_from_rises (entry ∷ entries) h = grind (arith, pairs-cons, all_weaker, pairs_from_rises entries h.1)
 
 -- ---- and back
 

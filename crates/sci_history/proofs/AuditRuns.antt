@@ -1,6 +1,5 @@
 -- What an audit's third kind says: placed entries are a history, once their versions are whole.
-use Rattle.std.proofs.Common.{◌≡◌, ℕ, zero, suc, ◌+◌, ◌<◌, ◌≤◌, true, false, cond, eqb, not, List, [], ◌∷◌, ◌++◌, length, map, None, refl, sym, ap, ◌∙◌, subst, arith, inl, inr}
-use Rattle.std.specs.Prelude.{IsTrue}
+use Rattle.std.proofs.Common.{◌≡◌, ℕ, zero, suc, ◌+◌, ◌<◌, ◌≤◌, true, cond, eqb, not, List, [], ◌∷◌, ◌++◌, length, map, None, refl, sym, ap, ◌∙◌, subst, arith}
 use Rattle.std.specs.List.{filter, AllByRecursion}
 use Rattle.std.proofs.lemmas.Bool.{cases_Bool, eqb-true, eq-eqb, and_parts, not-true, not-false}
 use Rattle.std.proofs.lemmas.List.{map-append}
@@ -10,8 +9,7 @@ use Rattle.sci_words.specs.declared.operation.Op.{Op}
 use Rattle.sci_words.specs.declared.operation.Reply.{Reply}
 use Rattle.sci_words.specs.declared.operation.Reply.TheVariants.{Stored, Got}
 use Rattle.sci_words.specs.declared.stamped.Stamped.{Stamped}
-use Rattle.sci_words.specs.Operation.{is_maker}
-use Rattle.sci_words.specs.Stamped.{line_after, after, zero_line, zero_stamped, reply_of}
+use Rattle.sci_words.specs.Stamped.{line_after, zero_line, zero_stamped, reply_of}
 use Rattle.sci_history.specs.declared.entry.Entry.{Entry}
 use Rattle.sci_history.specs.Memory.{IsLineRun}
 use Rattle.sci_history.specs.Placed.{is_making, makes, reads, maker_count, by_node_and_serial, by_version, placed_entries, pair_of}
@@ -48,14 +46,11 @@ line_after_all-push words [] op = refl
 line_after_all-push words (first ∷ ops) op = line_after_all-push (line_after words first) ops op
 
 pub words_after-push : (before : List Entry) (entry : Entry) → words_after (before ++ entry ∷ []) ≡ line_after (words_after before) entry.op
-words_after-push before entry =
-    ap (line_after_all zero_line) (map-append (λ e. e.op) before (entry ∷ [])) ∙ line_after_all-push zero_line (ops_of before) entry.op
+words_after-push before entry = grind (arith, map-append, line_after_all-push)
 
 replied : (before entries : List Entry) → NoneFail is_reply_wrong before entries → Replied (words_after before) entries
 replied before [] h = tt
-replied before (entry ∷ entries) h =
-    let same = not-false (same_reply entry.reply (reply_of (words_after before) entry.op)) h.0 in
-    (reply_is entry.reply (reply_of (words_after before) entry.op) same, rw (← words_after-push before entry) (replied (before ++ entry ∷ []) entries h.1))
+replied before (entry ∷ entries) h = grind (arith, not-false, reply_is, words_after-push, replied (before ++ entry ∷ []) entries h.1)
 
 from_run : (before entries : List Entry) (new : List ℕ) → IsLineRun (map pair_of entries) (words_after before) new → NoneFail is_reply_wrong before entries
 from_run before [] new h = tt
@@ -79,11 +74,7 @@ versioned-append (x ∷ xs) ys old mid new h k = (h.0, versioned-append xs ys x.
 
 versioned_loads : (version : ℕ) (entries : List Entry) → AllByRecursion (λ e. reads version e ≡ true) entries → Versioned version entries version
 versioned_loads version [] h = refl
-versioned_loads version (entry ∷ entries) h =
-    let parts = and_parts (not (is_making entry)) (eqb entry.version version) h.0 in
-    let load = not-true (is_making entry) parts.0 in
-    let at : entry.version ≡ version = eqb-true entry.version version parts.1 in
-    (at ∙ rw load (omega arith), subst (λ (v : ℕ). Versioned v entries version) (sym at) (versioned_loads version entries h.1))
+versioned_loads version (entry ∷ entries) h = grind (arith, and_parts, not-true, eqb-true, versioned_loads version entries h.1)
 
 reads_group : (version : ℕ) (entries : List Entry) → AllByRecursion (λ e. reads version e ≡ true) (by_node_and_serial (filter (reads version) entries))
 reads_group version entries = all-by_node_and_serial (λ e. reads version e ≡ true) (filter (reads version) entries) (all-passes (reads version) entries)
@@ -94,16 +85,7 @@ single (entry ∷ []) e = (entry, refl)
 single (entry ∷ other ∷ entries) e = absurd (omega arith)
 
 no_maker_of_zero : (entries : List Entry) → HasWholeVersions entries → filter (makes 0) entries ≡ []
-no_maker_of_zero entries h =
-    filter_none (makes 0) entries (all_weaker (λ e. IsTrue (is_making e) → 1 ≤ e.version) (λ e. makes 0 e ≡ false) (λ e low.
-    elim (cases_Bool (makes 0 e)) [
-      | inl made ↦
-          let parts = and_parts (is_making e) (eqb e.version 0) made in
-          let at : e.version ≡ 0 = eqb-true e.version 0 parts.1 in
-          let above = low parts.0 in
-          absurd (omega arith)
-      | inr other ↦ other
-    ]) entries h.makers)
+no_maker_of_zero entries h = grind (arith, filter_none, all_weaker, cases_Bool, and_parts, eqb-true)
 
 versioned_maker : (version : ℕ) (entries : List Entry) → HasWholeVersions entries → AllByRecursion (λ e. e.node < MAX_NODES) entries → suc version ≤ maker_count entries → Versioned version (by_node_and_serial (filter (makes (suc version)) entries)) (suc version)
 versioned_maker version entries h nodes le =
@@ -129,11 +111,7 @@ versioned (suc version) entries h nodes le =
 
 history_of : (entries : List Entry) (words : List ℕ) (old new : ℕ) → Replied words entries → Versioned old entries new → IsHistory entries (record { line = words; version = old }) (record { line = line_after_all words (ops_of entries); version = new })
 history_of [] words old new replies versions = same_stamped (record { line = words; version = new }) (record { line = words; version = old }) refl versions
-history_of (entry ∷ entries) words old new replies versions =
-    let before : Stamped = record { line = words; version = old } in
-    let next : entry.version ≡ (after before entry.op).version =
-    versions.0 ∙ elim (cases_Bool (is_maker entry.op)) [ inl maker ↦ rw maker refl | inr load ↦ rw load (omega arith) ] in
-    (replies.0, next, subst (λ (v : ℕ). IsHistory entries (record { line = line_after words entry.op; version = v }) (record { line = line_after_all (line_after words entry.op) (ops_of entries); version = new })) next (history_of entries (line_after words entry.op) entry.version new replies.1 versions.1))
+history_of (entry ∷ entries) words old new replies versions = grind (arith, cases_Bool, history_of entries (line_after words entry.op) entry.version new replies.1 versions.1)
 
 pub history_found : (entries : List Entry) (last : Stamped) → HasWholeVersions entries → AllByRecursion (λ e. e.node < MAX_NODES) entries → first_wrong entries ≡ None → last.line ≡ words_after (placed_entries entries) → last.version ≡ maker_count entries → IsHistory (placed_entries entries) zero_stamped last
 history_found entries last h nodes right line version =

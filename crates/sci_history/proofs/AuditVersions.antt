@@ -55,18 +55,7 @@ abbrev pub HasOneEach : List Entry → Type 0
 HasOneEach entries = (version : ℕ) → length (filter (makes version) entries) ≤ 1
 
 one_more : (before : List Entry) (entry : Entry) → HasOneEach before → is_version_twice before entry ≡ false → HasOneEach (before ++ entry ∷ [])
-one_more before entry one fails_not version =
-    let before_one = one version in
-    rw (filter-append (makes version) before (entry ∷ [])) (
-    elim (cases_Bool (makes version entry)) [
-      | inl passes ↦
-          let parts = and_parts (is_making entry) (eqb entry.version version) passes in
-          let at : entry.version ≡ version = eqb-true entry.version version parts.1 in
-          let none_before : list_any (makes entry.version) before ≡ false = (rw parts.0 at fails_not) in
-          let gone : filter (makes version) before ≡ [] = ap (λ v. filter (makes v) before) (sym at) ∙ any_none (makes entry.version) before none_before in
-          rw (gone, filter_yes (makes version) entry [] passes) (omega arith)
-      | inr other ↦ rw (filter_no (makes version) entry [] other, append-nil (filter (makes version) before)) (omega arith)
-    ])
+one_more before entry one fails_not version = grind (arith, filter-append, cases_Bool, and_parts, eqb-true, any_none, filter_yes, filter_no, append-nil)
 
 pub one_each : (before entries : List Entry) → HasOneEach before → NoneFail is_version_twice before entries → HasOneEach (before ++ entries)
 one_each before [] one h = rw (append-nil before) one
@@ -100,19 +89,7 @@ above_zero n ne = elim (cases_lt n 1) [ inl lt ↦ absurd (ne (omega arith)) | i
 
 pub versions_within : (count : ℕ) (before entries : List Entry) → NoneFail (is_version_missing count) before entries → AllByRecursion (λ e. e.version ≤ count) entries × AllByRecursion (λ e. IsTrue (is_making e) → 1 ≤ e.version) entries
 versions_within count before [] h = (tt, tt)
-versions_within count before (entry ∷ entries) h =
-    let rest = versions_within count (before ++ entry ∷ []) entries h.1 in
-    let parts = or_parts (ltb count entry.version) (is_making entry && eqb entry.version 0) h.0 in (
-      (ltb-false count entry.version parts.0, rest.0),
-      (
-        λ maker.
-            elim (cases_eq entry.version 0) [
-              | inl e ↦ absurd (both_ways (is_making entry && eqb entry.version 0) parts.1 (and_from (is_making entry) (eqb entry.version 0) maker (eq-eqb entry.version 0 e)))
-              | inr ne ↦ above_zero entry.version ne
-            ],
-        rest.1,
-      ),
-    )
+versions_within count before (entry ∷ entries) h = grind (arith, or_parts, ltb-false, cases_eq, both_ways, and_from, eq-eqb, above_zero, versions_within count (before ++ entry ∷ []) entries h.1)
 
 pub from_versions_within : (count : ℕ) (before entries : List Entry) → AllByRecursion (λ e. e.version ≤ count) entries → AllByRecursion (λ e. IsTrue (is_making e) → 1 ≤ e.version) entries → NoneFail (is_version_missing count) before entries
 from_versions_within count before [] within makers = tt
@@ -158,12 +135,7 @@ few_below makers one none (suc bound) =
 
 full_below : (makers : List Entry) (count : ℕ) → ((version : ℕ) → length (filter (λ e. eqb e.version version) makers) ≤ 1) → filter (λ e. eqb e.version 0) makers ≡ [] → makers_below makers (suc count) ≡ count → (left bound : ℕ) → bound + left ≡ count → makers_below makers (suc bound) ≡ bound
 full_below makers count one none whole zero bound e = let same : bound ≡ count = omega arith in ap (λ b. makers_below makers (suc b)) same ∙ whole ∙ sym same
-full_below makers count one none whole (suc left) bound e =
-    let next = full_below makers count one none whole left (suc bound) (omega arith) in
-    let more = one_version_more makers (suc bound) in
-    let few = few_below makers one none bound in
-    let here = one (suc bound) in
-    omega arith
+full_below makers count one none whole (suc left) bound e = grind (arith, one_version_more, few_below, full_below makers count one none whole left (suc bound) (omega arith))
 
 each_once : (makers : List Entry) (count version : ℕ) → ((v : ℕ) → length (filter (λ e. eqb e.version v) makers) ≤ 1) → filter (λ e. eqb e.version 0) makers ≡ [] → makers_below makers (suc count) ≡ count → 1 ≤ version → version ≤ count → length (filter (λ e. eqb e.version version) makers) ≡ 1
 each_once makers count zero one none whole low high = absurd (omega arith)
@@ -194,15 +166,7 @@ whole_versions_found entries twice missing =
     }
 
 no_such_maker : (entries : List Entry) (version : ℕ) → HasWholeVersions entries → (version ≡ 0) ⊎ (maker_count entries < version) → filter (makes version) entries ≡ []
-no_such_maker entries version h outside =
-    filter_none (makes version) entries (all_weaker (λ e. (IsTrue (is_making e) → 1 ≤ e.version) × (e.version ≤ maker_count entries)) (λ e. makes version e ≡ false) (λ e facts.
-    elim (cases_Bool (is_making e)) [
-      | inl maker ↦
-          let low = facts.0 maker in
-          let high = facts.1 in
-          and_right (is_making e) (eqb e.version version) (ne_eqb e.version version (λ is. elim outside [ inl zero_is ↦ absurd (omega arith) | inr above ↦ absurd (omega arith) ]))
-      | inr load ↦ and_left (is_making e) (eqb e.version version) load
-    ]) entries (all_both (λ e. IsTrue (is_making e) → 1 ≤ e.version) (λ e. e.version ≤ maker_count entries) entries h.makers h.within))
+no_such_maker entries version h outside = grind (arith, filter_none, all_weaker, cases_Bool, and_right, ne_eqb, and_left, all_both)
 
 one_from_whole : (entries : List Entry) → HasWholeVersions entries → HasOneEach entries
 one_from_whole entries h version =
@@ -219,5 +183,4 @@ pub twice_from_whole : (entries : List Entry) → HasWholeVersions entries → f
 twice_from_whole entries h = from_none_fail is_version_twice [] entries (from_one_each [] entries (one_from_whole entries h))
 
 pub missing_from_whole : (entries : List Entry) → HasWholeVersions entries → first_missing entries ≡ None
-missing_from_whole entries h =
-    from_none_fail (is_version_missing (maker_count entries)) [] entries (from_versions_within (maker_count entries) [] entries h.within h.makers)
+missing_from_whole entries h = grind (arith, from_none_fail, from_versions_within)

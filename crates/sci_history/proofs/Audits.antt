@@ -12,7 +12,7 @@ use Rattle.sci_words.specs.declared.stamped.Stamped.{Stamped}
 use Rattle.sci_history.specs.declared.entry.Entry.{Entry}
 use Rattle.sci_history.specs.declared.verdict.FaultKind.{FaultKind}
 use Rattle.sci_history.specs.declared.verdict.FaultKind.TheVariants.{VersionTwice, VersionMissing, WrongReply, OutOfOrder, LastDiffers}
-use Rattle.sci_history.specs.Placed.{log_of, AreOwn, is_of_node, is_on_line, maker_count, on_line, makes, reads, by_node_and_serial, by_version, placed_entries}
+use Rattle.sci_history.specs.Placed.{log_of, AreOwn, is_of_node, is_on_line, maker_count, on_line, by_version, placed_entries}
 use Rattle.sci_history.specs.Lawful.{IsLawfulLine}
 use Rattle.sci_history.specs.Audit.{first_twice, first_missing, first_wrong, first_disordered, words_after, HasNoFault, IsLineFault, Names}
 use Rattle.sci_history.proofs.Order.{IsInOrder, IsInOrder-filter, filter_all, filter_none, filter-filter, all_weaker, all-append, all-filter}
@@ -70,10 +70,7 @@ nodes_on_line logs line own sixteen =
 pub all-by_version : (P : Entry → Type 0) (bound : ℕ) (entries : List Entry) → AllByRecursion P entries → AllByRecursion P (by_version bound entries)
 unfolding by_version
 all-by_version P zero entries h = tt
-all-by_version P (suc version) entries h =
-    let makers = by_node_and_serial (filter (makes version) entries) in
-    let loads = by_node_and_serial (filter (reads version) entries) in
-    all-append P (by_version version entries) (makers ++ loads) (all-by_version P version entries h) (all-append P makers loads (all-by_node_and_serial P (filter (makes version) entries) (all-filter P (makes version) entries h)) (all-by_node_and_serial P (filter (reads version) entries) (all-filter P (reads version) entries h)))
+all-by_version P (suc version) entries h = grind (arith, all-append, all-by_node_and_serial, all-filter, all-by_version P version entries h)
 
 -- ---- no fault, and so lawful
 

@@ -1,5 +1,5 @@
 -- What follows from lawfulness for whoever reads and writes a line: the words at each version explain all entries.
-use Rattle.std.proofs.Common.{◌≡◌, ◌≢◌, ℕ, zero, suc, ◌+◌, ◌-◌, ◌<◌, ◌≤◌, Bool, true, false, cond, eqb, leb, List, [], ◌∷◌, length, get_or, length-set, refl, sym, ap, ◌∙◌, subst, arith, inl, inr}
+use Rattle.std.proofs.Common.{◌≡◌, ◌≢◌, ℕ, zero, suc, ◌+◌, ◌-◌, ◌<◌, ◌≤◌, Bool, true, false, cond, eqb, List, [], ◌∷◌, length, get_or, length-set, refl, sym, ap, ◌∙◌, subst, arith, inl, inr}
 use Rattle.std.specs.Prelude.{IsTrue}
 use Rattle.std.specs.List.{filter, AllByRecursion}
 use Rattle.std.proofs.lemmas.Bool.{cases_Bool, eq-eqb, eqb-true, and_parts}
@@ -16,7 +16,7 @@ use Rattle.sci_history.specs.declared.entry.Entry.{Entry}
 use Rattle.sci_history.specs.History.{IsHistory}
 use Rattle.sci_history.specs.Lawful.{IsLawfulLine, Lawful}
 use Rattle.sci_history.specs.Memory.{stamped_at}
-use Rattle.sci_history.specs.Placed.{log_of, AreOwn, is_of_node, is_on_line, is_making, makes, maker_count, on_line, placed}
+use Rattle.sci_history.specs.Placed.{AreOwn, is_making, makes, placed}
 use Rattle.sci_history.specs.Seen.{IsAmong, DidOn}
 use Rattle.sci_history.proofs.AuditRuns.{history_found, right_from_run, end_from_run}
 use Rattle.sci_history.proofs.Audits.{nodes_on_line, all-by_version}
@@ -37,12 +37,7 @@ among_more entry e xs ys f (inr h) = inr (f h)
 among_filter : (p : Entry → Bool) (entry : Entry) (entries : List Entry) → p entry ≡ true → IsAmong entry entries → IsAmong entry (filter p entries)
 among_filter p entry [] passes h = h
 among_filter p entry (e ∷ entries) passes (inl same) = subst (IsAmong entry) (sym (filter_yes p e entries (ap p (sym same) ∙ passes))) (inl same)
-among_filter p entry (e ∷ entries) passes (inr h) =
-    let rest = among_filter p entry entries passes h in
-    elim (cases_Bool (p e)) [
-      | inl yes_ ↦ subst (IsAmong entry) (sym (filter_yes p e entries yes_)) (inr rest)
-      | inr no_ ↦ subst (IsAmong entry) (sym (filter_no p e entries no_)) rest
-    ]
+among_filter p entry (e ∷ entries) passes (inr h) = grind (arith, cases_Bool, filter_yes, filter_no, among_filter p entry entries passes h)
 
 among_whole : (p : Entry → Bool) (entry : Entry) (entries : List Entry) → IsAmong entry (filter p entries) → IsAmong entry entries
 among_whole p entry [] h = h
@@ -55,28 +50,15 @@ among_whole p entry (e ∷ entries) h =
 -- ---- the placed entries of a lawful line
 
 placed_history : (logs : List (List Entry)) (line : ℕ) (last : Stamped) → AreOwn logs → length logs ≡ MAX_NODES → IsLawfulLine logs line last → IsHistory (placed logs line) zero_stamped last
-placed_history logs line last own sixteen lawful =
-    let entries = on_line line logs in
-    history_found entries last lawful.versions (nodes_on_line logs line own sixteen) (right_from_run entries last.line lawful.contents.run) (end_from_run entries last.line lawful.contents.run) lawful.contents.version
+placed_history logs line last own sixteen lawful = grind (arith, history_found, nodes_on_line, right_from_run, end_from_run)
 
 -- what a node did on the line is placed
 did_placed : (logs : List (List Entry)) (line node : ℕ) (last : Stamped) (entry : Entry) → IsLawfulLine logs line last → DidOn logs line node entry → IsAmong entry (placed logs line)
-did_placed logs line node last entry lawful did =
-    let own = among_filter (is_on_line line) entry (log_of logs node) (eq-eqb entry.op.line line did.on) did.among in
-    among_whole (is_of_node node) entry (placed logs line) (subst (IsAmong entry) (sym (lawful.order node did.known).order) own)
+did_placed logs line node last entry lawful did = grind (arith, among_filter, eq-eqb, among_whole)
 
 -- and what is placed its node did
 placed_did : (logs : List (List Entry)) (line : ℕ) (last : Stamped) (entry : Entry) → AreOwn logs → length logs ≡ MAX_NODES → IsLawfulLine logs line last → IsAmong entry (placed logs line) → DidOn logs line entry.node entry
-placed_did logs line last entry own sixteen lawful h =
-    let entries = on_line line logs in
-    let known = among_all (λ e. e.node < MAX_NODES) entry (placed logs line) (all-by_version (λ e. e.node < MAX_NODES) (suc (maker_count entries)) entries (nodes_on_line logs line own sixteen)) h in
-    let mine = among_filter (is_of_node entry.node) entry (placed logs line) (eq-eqb entry.node entry.node refl) h in
-    let there = subst (IsAmong entry) (lawful.order entry.node known).order mine in
-    record {
-      known = known;
-      among = among_whole (is_on_line line) entry (log_of logs entry.node) there;
-      on = eqb-true entry.op.line line (among_all (λ e. is_on_line line e ≡ true) entry (filter (is_on_line line) (log_of logs entry.node)) (all-passes (is_on_line line) (log_of logs entry.node)) there);
-    }
+placed_did logs line last entry own sixteen lawful h = grind (arith, among_all, all-by_version, nodes_on_line, among_filter, eq-eqb, among_whole, eqb-true, all-passes)
 
 -- ---- the words at each version
 
@@ -93,9 +75,7 @@ if_long false xs ys k h i = i
 
 words_long : (words : List ℕ) (entries : List Entry) (version : ℕ) → length (words_at words entries version) ≡ length words
 words_long words [] version = refl
-words_long words (entry ∷ entries) version =
-    if_long (leb entry.version version) (words_at (line_after words entry.op) entries version) words (length words)
-    (words_long (line_after words entry.op) entries version ∙ length-set words entry.op.word (effect_of_act entry.op.act (get_or words entry.op.word 0)).0) refl
+words_long words (entry ∷ entries) version = grind (arith, if_long, words_at, words_long (line_after words entry.op) entries version ∙ length-set words entry.op.word (effect_of_act entry.op.act (get_or words entry.op.word 0)).0)
 
 load_replies : (words : List ℕ) (op : Op) → op.act ≡ Load → reply_of words op ≡ Got (get_or words op.word 0)
 load_replies words op load = ap (λ (act : Act). (effect_of_act act (get_or words op.word 0)).1) load

@@ -34,27 +34,17 @@ pub version-maker : (old : Stamped) (op : Op) → is_maker op ≡ true → (afte
 version-maker old op e = rw e refl
 
 pub version-grows : (old : Stamped) (op : Op) → old.version ≤ (after old op).version
-version-grows old op =
-    elim (cases_Bool (is_maker op)) [
-      | inl maker ↦ rw maker (omega arith)
-      | inr load ↦ rw load (omega arith)
-    ]
+version-grows old op = grind (arith, cases_Bool)
 
 -- ---- versions along a history
 
 pub versions-after : (entries : List Entry) (old new : Stamped) → IsHistory entries old new → AllByRecursion (λ entry. old.version ≤ entry.version) entries
 versions-after [] old new h = tt
-versions-after (entry ∷ entries) old new h =
-    let grows = version-grows old entry.op in
-    let is = h.1 in
-    (omega arith, all_weaker (λ e. (after old entry.op).version ≤ e.version) (λ e. old.version ≤ e.version) (λ e le. omega arith) entries (versions-after entries (after old entry.op) new h.2))
+versions-after (entry ∷ entries) old new h = grind (arith, version-grows, all_weaker, versions-after entries (after old entry.op) new h.2)
 
 pub version-end : (entries : List Entry) (old new : Stamped) → IsHistory entries old new → old.version ≤ new.version
 version-end [] old new h = let e : new.version ≡ old.version = ap (λ (s : Stamped). s.version) h in omega arith
-version-end (entry ∷ entries) old new h =
-    let grows = version-grows old entry.op in
-    let rest = version-end entries (after old entry.op) new h.2 in
-    omega arith
+version-end (entry ∷ entries) old new h = grind (arith, version-grows, version-end entries (after old entry.op) new h.2)
 
 pub versions-within : (entries : List Entry) (old new : Stamped) → IsHistory entries old new → AllByRecursion (λ entry. entry.version ≤ new.version) entries
 versions-within [] old new h = tt
@@ -66,29 +56,15 @@ versions-within (entry ∷ entries) old new h =
 -- each maker's version is above the version before it
 pub makers-after : (entries : List Entry) (old new : Stamped) → IsHistory entries old new → AllByRecursion (λ entry. IsTrue (is_making entry) → old.version < entry.version) entries
 makers-after [] old new h = tt
-makers-after (entry ∷ entries) old new h =
-    let grows = version-grows old entry.op in
-    let is = h.1 in
-    (λ maker. let more = version-maker old entry.op maker in omega arith, all_weaker (λ e. IsTrue (is_making e) → (after old entry.op).version < e.version) (λ e. IsTrue (is_making e) → old.version < e.version) (λ e above maker. let lt = above maker in omega arith) entries (makers-after entries (after old entry.op) new h.2))
+makers-after (entry ∷ entries) old new h = grind (arith, version-grows, version-maker, all_weaker, makers-after entries (after old entry.op) new h.2)
 
 -- how many makers there are
 pub makers-counted : (entries : List Entry) (old new : Stamped) → IsHistory entries old new → length (filter is_making entries) + old.version ≡ new.version
 makers-counted [] old new h = let e : new.version ≡ old.version = ap (λ (s : Stamped). s.version) h in omega arith
-makers-counted (entry ∷ entries) old new h =
-    let rest = makers-counted entries (after old entry.op) new h.2 in
-    elim (cases_Bool (is_making entry)) [
-      | inl maker ↦ let more = version-maker old entry.op maker in rw (filter_yes is_making entry entries maker) (omega arith)
-      | inr load ↦ let same = version-load old entry.op load in rw (filter_no is_making entry entries load) (omega arith)
-    ]
+makers-counted (entry ∷ entries) old new h = grind (arith, cases_Bool, version-maker, filter_yes, version-load, filter_no, makers-counted entries (after old entry.op) new h.2)
 
 place-next : (entry other : Entry) → entry.version ≤ other.version → (IsTrue (is_making other) → entry.version < other.version) → place entry ≤ place other
-place-next entry other le above =
-    elim (cases_Bool (is_making other)) [
-      | inl maker ↦
-          let lt = above maker in
-          elim (cases_Bool (is_making entry)) [ inl m ↦ rw (maker, m) (omega arith) | inr l ↦ rw (maker, l) (omega arith) ]
-      | inr load ↦ elim (cases_Bool (is_making entry)) [ inl m ↦ rw (load, m) (omega arith) | inr l ↦ rw (load, l) (omega arith) ]
-    ]
+place-next entry other le above = grind (arith, cases_Bool)
 
 -- entries stand by version, and each maker before the loads at its version
 pub places-rise : (entries : List Entry) (old new : Stamped) → IsHistory entries old new → IsInOrder place entries
@@ -102,21 +78,7 @@ places-rise (entry ∷ entries) old new h =
 
 -- a maker's version is no later maker's
 only_maker : (entry : Entry) (entries : List Entry) (old new : Stamped) (version : ℕ) → IsHistory (entry ∷ entries) old new → old.version < version → version ≤ (after old entry.op).version → filter (makes version) (entry ∷ entries) ≡ entry ∷ []
-only_maker entry entries old new version h above here =
-    let mid = after old entry.op in
-    let is = h.1 in
-    let later : AllByRecursion (λ e. makes version e ≡ false) entries =
-    all_weaker (λ e. IsTrue (is_making e) → mid.version < e.version) (λ e. makes version e ≡ false) (λ e above_mid.
-    elim (cases_Bool (is_making e)) [
-      | inl maker ↦ let lt = above_mid maker in and_right (is_making e) (eqb e.version version) (ne_eqb e.version version (λ same. absurd (omega arith)))
-      | inr load ↦ and_left (is_making e) (eqb e.version version) load
-    ]) entries (makers-after entries mid new h.2) in
-    elim (cases_Bool (is_making entry)) [
-      | inl maker ↦
-          let more = version-maker old entry.op maker in
-          filter_yes (makes version) entry entries (and_from (is_making entry) (eqb entry.version version) maker (eq-eqb entry.version version (omega arith))) ∙ ap (λ (es : List Entry). entry ∷ es) (filter_none (makes version) entries later)
-      | inr load ↦ let same = version-load old entry.op load in absurd (omega arith)
-    ]
+only_maker entry entries old new version h above here = grind (arith, all_weaker, cases_Bool, and_right, ne_eqb, and_left, makers-after, version-maker, filter_yes, and_from, eq-eqb, filter_none, version-load)
 
 pub maker_of : (entries : List Entry) (old new : Stamped) (version : ℕ) → IsHistory entries old new → old.version < version → version ≤ new.version → (maker : Entry) × (filter (makes version) entries ≡ maker ∷ [])
 maker_of [] old new version h above below = let e : new.version ≡ old.version = ap (λ (s : Stamped). s.version) h in absurd (omega arith)

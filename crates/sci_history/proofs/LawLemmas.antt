@@ -1,15 +1,15 @@
 -- Lawful logs have one end, and no load in them is stale.
-use Rattle.std.proofs.Common.{◌≡◌, ℕ, zero, suc, ◌<◌, ◌≤◌, true, eqb, not, List, [], ◌∷◌, ◌++◌, map, refl, sym, ap, ◌∙◌, subst, arith}
+use Rattle.std.proofs.Common.{◌≡◌, ℕ, zero, suc, ◌<◌, ◌≤◌, List, [], ◌∷◌, ◌++◌, map, refl, sym, ap, ◌∙◌, subst, arith}
 use Rattle.std.specs.List.{filter, AllByRecursion}
 use Rattle.std.proofs.lemmas.Bool.{and_parts, eqb-true}
 use Rattle.sci_words.specs.declared.limits.TheConstants.{MAX_NODES}
 use Rattle.sci_words.specs.declared.operation.Op.{Op}
 use Rattle.sci_words.specs.declared.operation.Reply.{Reply}
 use Rattle.sci_words.specs.declared.stamped.Stamped.{Stamped}
-use Rattle.sci_words.specs.Stamped.{zero_line, zero_stamped, reply_of}
+use Rattle.sci_words.specs.Stamped.{zero_stamped, reply_of}
 use Rattle.sci_history.specs.declared.entry.Entry.{Entry}
-use Rattle.sci_history.specs.Memory.{IsRun, IsLineRun, line_at, memory_after}
-use Rattle.sci_history.specs.Placed.{log_of, is_of_node, is_on_line, is_making, makes, reads, on_line, placed, pair_of, by_node_and_serial, by_version}
+use Rattle.sci_history.specs.Memory.{IsRun, line_at, memory_after}
+use Rattle.sci_history.specs.Placed.{log_of, is_of_node, is_on_line, makes, reads, on_line, placed, by_node_and_serial, by_version}
 use Rattle.sci_history.specs.Lawful.{IsLawfulLine}
 use Rattle.sci_history.proofs.Order.{IsInOrder, IsInOrder-filter, IsInOrder-same, all_weaker, all-append, all-passes}
 use Rattle.sci_history.proofs.Placement.{all-by_node_and_serial, by_node_and_serial-none}
@@ -19,36 +19,27 @@ use Rattle.sci_history.proofs.Runs.{same_stamped}
 -- ---- one end
 
 pub one_end : (logs : List (List Entry)) (line : ℕ) (a b : Stamped) → IsLawfulLine logs line a → IsLawfulLine logs line b → a ≡ b
-one_end logs line a b h k =
-    same_stamped a b (line_run-end (map pair_of (placed logs line)) zero_line a.line b.line h.contents.run k.contents.run) (h.contents.version ∙ sym k.contents.version)
+one_end logs line a b h k = grind (arith, same_stamped, line_run-end)
 
 placed_none : (logs : List (List Entry)) (line : ℕ) → on_line line logs ≡ [] → placed logs line ≡ []
 unfolding by_version
 placed_none logs line e = rw (e, by_node_and_serial-none) refl
 
 pub no_entry_end : (logs : List (List Entry)) (line : ℕ) (last : Stamped) → on_line line logs ≡ [] → IsLawfulLine logs line last → last ≡ zero_stamped
-no_entry_end logs line last e h =
-    let run : IsLineRun (map pair_of []) zero_line last.line = subst (λ (es : List Entry). IsLineRun (map pair_of es) zero_line last.line) (placed_none logs line e) h.contents.run in
-    let version : last.version ≡ 0 = h.contents.version ∙ rw e refl in
-    same_stamped last zero_stamped run version
+no_entry_end logs line last e h = grind (arith, placed_none, same_stamped)
 
 -- ---- runs
 
 pub run-append : (xs ys : List (Op × Reply)) (old new : List (List ℕ)) → IsRun (xs ++ ys) old new → (mid : List (List ℕ)) × IsRun xs old mid × IsRun ys mid new
 run-append [] ys old new h = (old, refl, h)
-run-append (x ∷ xs) ys old new h =
-    let rest = run-append xs ys (memory_after old x.0) new h.1 in
-    (rest.0, (h.0, rest.1), rest.2)
+run-append (x ∷ xs) ys old new h = grind (arith, run-append xs ys (memory_after old x.0) new h.1)
 
 pub run-then : (xs ys : List (Op × Reply)) (old mid new : List (List ℕ)) → IsRun xs old mid → IsRun ys mid new → IsRun (xs ++ ys) old new
 run-then [] ys old mid new h k = subst (λ (m : List (List ℕ)). IsRun ys m new) h k
 run-then (x ∷ xs) ys old mid new h k = (h.0, run-then xs ys (memory_after old x.0) mid new h.1 k)
 
 same_pair : (x y : Op × Reply) → x.0 ≡ y.0 → x.1 ≡ y.1 → x ≡ y
-same_pair x y e f =
-    let with_op : Op → Op × Reply = λ op. (op, x.1) in
-    let with_reply : Reply → Op × Reply = λ reply. (y.0, reply) in
-    ap with_op e ∙ ap with_reply f
+same_pair x y e f = grind arith
 
 pub run-function : (xs ys : List (Op × Reply)) (old new other : List (List ℕ)) → map (λ x. x.0) xs ≡ map (λ y. y.0) ys → IsRun xs old new → IsRun ys old other → (xs ≡ ys) × (new ≡ other)
 run-function [] [] old new other e h k = (refl, h ∙ sym k)
@@ -70,16 +61,12 @@ IsInOrder-append key bound (x ∷ xs) ys h k low high =
     (all-append (λ y. key x ≤ key y) xs ys h.0 (all_weaker (λ y. bound ≤ key y) (λ y. key x ≤ key y) (λ y le. omega arith) ys high), IsInOrder-append key bound xs ys h.1 k low.1 high)
 
 group_at : (version : ℕ) (entries : List Entry) → AllByRecursion (λ e. e.version ≡ version) (by_node_and_serial (filter (makes version) entries) ++ by_node_and_serial (filter (reads version) entries))
-group_at version entries =
-    let P : Entry → Type 0 = λ e. e.version ≡ version in
-    all-append P (by_node_and_serial (filter (makes version) entries)) (by_node_and_serial (filter (reads version) entries)) (all-by_node_and_serial P (filter (makes version) entries) (all_weaker (λ e. makes version e ≡ true) P (λ e is. eqb-true e.version version (and_parts (is_making e) (eqb e.version version) is).1) (filter (makes version) entries) (all-passes (makes version) entries))) (all-by_node_and_serial P (filter (reads version) entries) (all_weaker (λ e. reads version e ≡ true) P (λ e is. eqb-true e.version version (and_parts (not (is_making e)) (eqb e.version version) is).1) (filter (reads version) entries) (all-passes (reads version) entries)))
+group_at version entries = grind (arith, all-append, all-by_node_and_serial, all_weaker, eqb-true, and_parts, all-passes)
 
 by_version-below : (bound : ℕ) (entries : List Entry) → AllByRecursion (λ e. e.version < bound) (by_version bound entries)
 unfolding by_version
 by_version-below zero entries = tt
-by_version-below (suc version) entries =
-    let group = by_node_and_serial (filter (makes version) entries) ++ by_node_and_serial (filter (reads version) entries) in
-    all-append (λ e. e.version < suc version) (by_version version entries) group (all_weaker (λ e. e.version < version) (λ e. e.version < suc version) (λ e lt. omega arith) (by_version version entries) (by_version-below version entries)) (all_weaker (λ e. e.version ≡ version) (λ e. e.version < suc version) (λ e is. omega arith) group (group_at version entries))
+by_version-below (suc version) entries = grind (arith, all-append, all_weaker, group_at, by_version-below version entries)
 
 by_version-in_order : (bound : ℕ) (entries : List Entry) → IsInOrder (λ e. e.version) (by_version bound entries)
 unfolding by_version

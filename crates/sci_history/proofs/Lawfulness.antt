@@ -1,5 +1,5 @@
 -- Logs of which each line has a history are lawful.
-use Rattle.std.proofs.Common.{◌≡◌, ℕ, suc, ◌<◌, ◌≤◌, Bool, true, false, eqb, List, [], ◌∷◌, length, map, refl, sym, ap, ◌∙◌, subst, arith, inl, inr}
+use Rattle.std.proofs.Common.{◌≡◌, ℕ, suc, ◌<◌, ◌≤◌, Bool, true, List, [], ◌∷◌, length, map, refl, sym, ap, ◌∙◌, arith}
 use Rattle.std.specs.Prelude.{IsTrue, count_by}
 use Rattle.std.specs.List.{filter, AllByRecursion}
 use Rattle.std.proofs.lemmas.Bool.{and_right, ne_eqb, cases_Bool, and_left, eqb-true}
@@ -25,9 +25,7 @@ abbrev pub HasNodes : List Entry → Type 0
 HasNodes entries = AllByRecursion (λ entry. entry.node < MAX_NODES) entries
 
 one_in_order : (p : Entry → Bool) (entries : List Entry) (entry : Entry) → HasNodes entries → filter p entries ≡ entry ∷ [] → filter p (by_node entries) ≡ entry ∷ []
-one_in_order p entries entry nodes is =
-    let node : HasNodes (entry ∷ []) = subst (λ (es : List Entry). HasNodes es) is (all-filter (λ e. e.node < MAX_NODES) p entries nodes) in
-    filter-in_order p (λ e. e.node) MAX_NODES entries ∙ ap by_node is ∙ in_order-ordered (λ e. e.node) MAX_NODES (entry ∷ []) (tt, tt) node
+one_in_order p entries entry nodes is = grind (arith, all-filter, filter-in_order, in_order-ordered)
 
 counted : (p : Entry → Bool) (entries : List Entry) → HasNodes entries → count_by p (by_node entries) ≡ length (filter p entries)
 counted p entries nodes =
@@ -36,10 +34,7 @@ counted p entries nodes =
     ∙ length-in_order (λ e. e.node) MAX_NODES (filter p entries) (all-filter (λ e. e.node < MAX_NODES) p entries nodes)
 
 maker_count-by_node : (entries : List Entry) (last : Stamped) → HasNodes entries → IsHistory entries zero_stamped last → maker_count (by_node entries) ≡ last.version
-maker_count-by_node entries last nodes h =
-    let all = makers-counted entries zero_stamped last h in
-    let same = counted is_making entries nodes in
-    omega arith
+maker_count-by_node entries last nodes h = grind (arith, makers-counted, counted)
 
 whole_versions : (entries : List Entry) (last : Stamped) → HasNodes entries → IsHistory entries zero_stamped last → HasWholeVersions (by_node entries)
 whole_versions entries last nodes h =
@@ -53,12 +48,7 @@ whole_versions entries last nodes h =
     }
 
 no_maker_of_zero : (entries : List Entry) (last : Stamped) → IsHistory entries zero_stamped last → filter (makes 0) entries ≡ []
-no_maker_of_zero entries last h =
-    filter_none (makes 0) entries (all_weaker (λ e. IsTrue (is_making e) → 0 < e.version) (λ e. makes 0 e ≡ false) (λ e above.
-    elim (cases_Bool (is_making e)) [
-      | inl maker ↦ let lt = above maker in and_right (is_making e) (eqb e.version 0) (ne_eqb e.version 0 (λ same. absurd (omega arith)))
-      | inr load ↦ and_left (is_making e) (eqb e.version 0) load
-    ]) entries (makers-after entries zero_stamped last h))
+no_maker_of_zero entries last h = grind (arith, filter_none, all_weaker, cases_Bool, and_right, ne_eqb, and_left, makers-after)
 
 explained : (entries : List Entry) (last : Stamped) → HasNodes entries → IsHistory entries zero_stamped last → Explains (words_at zero_line entries) last.version (by_node entries)
 explained entries last nodes h =

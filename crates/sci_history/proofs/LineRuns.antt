@@ -1,15 +1,15 @@
 -- Runs over one line: put together, taken apart, and those that placed entries are.
-use Rattle.std.proofs.Common.{◌≡◌, ℕ, zero, suc, ◌<◌, ◌≤◌, true, false, eqb, not, List, [], ◌∷◌, ◌++◌, map, refl, sym, ap, ◌∙◌, subst, arith}
+use Rattle.std.proofs.Common.{◌≡◌, ℕ, zero, suc, ◌<◌, ◌≤◌, true, List, [], ◌∷◌, ◌++◌, map, refl, sym, ◌∙◌, subst, arith}
 use Rattle.std.specs.List.{filter, AllByRecursion}
 use Rattle.std.proofs.lemmas.Bool.{and_parts, eqb-true, not-true}
 use Rattle.std.proofs.lemmas.List.{map-append}
 use Rattle.sci_words.specs.declared.limits.TheConstants.{MAX_NODES}
 use Rattle.sci_words.specs.declared.operation.Op.{Op}
 use Rattle.sci_words.specs.declared.operation.Reply.{Reply}
-use Rattle.sci_words.specs.Stamped.{line_after, reply_of}
+use Rattle.sci_words.specs.Stamped.{line_after}
 use Rattle.sci_history.specs.declared.entry.Entry.{Entry}
 use Rattle.sci_history.specs.Memory.{IsLineRun}
-use Rattle.sci_history.specs.Placed.{is_making, makes, reads, pair_of, by_node_and_serial, by_version}
+use Rattle.sci_history.specs.Placed.{makes, reads, pair_of, by_node_and_serial, by_version}
 use Rattle.sci_history.proofs.Order.{all_both, all-filter, all-passes}
 use Rattle.sci_history.proofs.Placement.{all-by_node_and_serial, by_node_and_serial-one, by_node_and_serial-none}
 use Rattle.sci_history.proofs.Histories.{Agrees, line_after-load}
@@ -27,11 +27,7 @@ line_run-end (x ∷ xs) old new other h k = line_run-end xs (line_after old x.0)
 -- loads at one version leave the line
 loads_run : (words : ℕ → List ℕ) (version : ℕ) (entries : List Entry) → AllByRecursion (λ e. Agrees words e × (reads version e ≡ true)) entries → IsLineRun (map pair_of entries) (words version) (words version)
 loads_run words version [] h = refl
-loads_run words version (entry ∷ entries) h =
-    let parts = and_parts (not (is_making entry)) (eqb entry.version version) h.0.1 in
-    let load : is_making entry ≡ false = not-true (is_making entry) parts.0 in
-    let at : entry.version ≡ version = eqb-true entry.version version parts.1 in
-    (h.0.0.read load ∙ ap (λ v. reply_of (words v) entry.op) at, rw (line_after-load (words version) entry.op load) (loads_run words version entries h.1))
+loads_run words version (entry ∷ entries) h = grind (arith, and_parts, not-true, eqb-true, line_after-load, loads_run words version entries h.1)
 
 -- Entries that agree with the words at each version, with one maker of each version up to a count.
 pub record Explains (words : ℕ → List ℕ) (count : ℕ) (entries : List Entry) : Type 0 where
@@ -46,13 +42,7 @@ group_of words count version entries h =
     loads_run words version (by_node_and_serial own) (all-by_node_and_serial (λ e. Agrees words e × (reads version e ≡ true)) own (all_both (Agrees words) (λ e. reads version e ≡ true) own (all-filter (Agrees words) (reads version) entries h.agree) (all-passes (reads version) entries)))
 
 maker_run : (words : ℕ → List ℕ) (version : ℕ) (entries : List Entry) (maker : Entry) → AllByRecursion (Agrees words) entries → AllByRecursion (λ entry. entry.node < MAX_NODES) entries → filter (makes (suc version)) entries ≡ maker ∷ [] → IsLineRun (map pair_of (by_node_and_serial (filter (makes (suc version)) entries))) (words version) (words (suc version))
-maker_run words version entries maker agree nodes is =
-    let agrees : AllByRecursion (Agrees words) (maker ∷ []) = subst (λ (es : List Entry). AllByRecursion (Agrees words) es) is (all-filter (Agrees words) (makes (suc version)) entries agree) in
-    let node : AllByRecursion (λ e. e.node < MAX_NODES) (maker ∷ []) = subst (λ (es : List Entry). AllByRecursion (λ e. e.node < MAX_NODES) es) is (all-filter (λ e. e.node < MAX_NODES) (makes (suc version)) entries nodes) in
-    let passes : AllByRecursion (λ e. makes (suc version) e ≡ true) (maker ∷ []) = subst (λ (es : List Entry). AllByRecursion (λ e. makes (suc version) e ≡ true) es) is (all-passes (makes (suc version)) entries) in
-    let parts = and_parts (is_making maker) (eqb maker.version (suc version)) passes.0 in
-    let step = agrees.0.made version parts.0 (eqb-true maker.version (suc version) parts.1) in
-    rw (is, by_node_and_serial-one maker node.0) (step.0, step.1)
+maker_run words version entries maker agree nodes is = grind (arith, all-filter, all-passes, and_parts, eqb-true, by_node_and_serial-one)
 
 pub versions_run : (words : ℕ → List ℕ) (count version : ℕ) (entries : List Entry) → Explains words count entries → version ≤ count → IsLineRun (map pair_of (by_version (suc version) entries)) (words 0) (words version)
 unfolding by_version

@@ -1,7 +1,7 @@
 -- A memory that logs each operation as it does it has the oracle's logs and last contents.
 use Rattle.std.proofs.Common.{◌≡◌, ℕ, zero, suc, ◌+◌, ◌<◌, ◌≤◌, Bool, cond, eqb, List, [], ◌∷◌, ◌++◌, length, get_or, set, take, drop, replicate, refl, sym, ap, ◌∙◌, arith, inl, inr}
 use Rattle.std.specs.Prelude.{count_by, All}
-use Rattle.std.specs.List.{filter, AllByRecursion}
+use Rattle.std.specs.List.{AllByRecursion}
 use Rattle.std.proofs.lemmas.Bool.{cases_eq, eq-eqb, ne_eqb}
 use Rattle.std.proofs.lemmas.List.{length-set, length-append, length-replicate, get_or-set_same, get_or-set_other, take-append-drop}
 use Rattle.std.proofs.lemmas.List.Elements.{recursion_from_All, All-take}
@@ -16,7 +16,6 @@ use Rattle.sci_history.specs.declared.entry.Entry.{Entry}
 use Rattle.sci_history.specs.Memory.{line_at, stamped_at, words_of_lines, contents_after}
 use Rattle.sci_history.specs.Placed.{log_of, is_of_node}
 use Rattle.sci_history.specs.Oracle.{Issue, IsInRange, makes_on, memory_of, entry_after, done_after, oracle_entries, logs_by_node, contents_left, oracle_logs, oracle_last}
-use Rattle.sci_words.specs.declared.operation.Reply.{Reply}
 use Rattle.sci_history.proofs.Runs.{line_at-words_of, same_stamped}
 use Rattle.sci_history.proofs.Oracles.{Traced, IsNext, stamped_of, traced_none, traced_all, filter_push_yes, filter_push_no, count_push, log_of-logs_of, line_at-zero, own_stamped, other_stamped}
 
@@ -30,26 +29,10 @@ done_after-push lines done (first ∷ script) issue = done_after-push lines (don
 length-done_after : (lines : ℕ) (done : List Entry) (script : List Issue) → length (done_after lines done script) ≡ length done + length script
 unfolding done_after
 length-done_after lines done [] = omega arith
-length-done_after lines done (issue ∷ script) =
-    let rest = length-done_after lines (done ++ entry_after lines done issue ∷ []) script in
-    omega (arith, length-append done (entry_after lines done issue ∷ []))
+length-done_after lines done (issue ∷ script) = grind (arith, length-append, length-done_after lines (done ++ entry_after lines done issue ∷ []) script)
 
 logs_of-push : (done : List Entry) (entry : Entry) → entry.node < MAX_NODES → set (logs_by_node done) entry.node (log_of (logs_by_node done) entry.node ++ entry ∷ []) ≡ logs_by_node (done ++ entry ∷ [])
-logs_of-push done entry lt =
-    let logs = logs_by_node done in
-    let new = log_of logs entry.node ++ entry ∷ [] in
-    let long : length logs ≡ MAX_NODES = length-map-range_with_len (λ n. filter (is_of_node n) done) 0 MAX_NODES in
-    fill_by_all (λ n. filter (is_of_node n) (done ++ entry ∷ [])) (set logs entry.node new) MAX_NODES [] (length-set logs entry.node new ∙ long) (λ k below.
-    elim (cases_eq k entry.node) [
-      | inl is ↦
-          let own : log_of (set logs entry.node new) k ≡ new = ap (log_of (set logs entry.node new)) is ∙ get_or-set_same logs entry.node new [] (omega arith) in
-          let was : log_of logs entry.node ≡ filter (is_of_node k) done = log_of-logs_of done entry.node lt ∙ ap (λ n. filter (is_of_node n) done) (sym is) in
-          own ∙ ap (λ es. es ++ entry ∷ []) was ∙ sym (filter_push_yes (is_of_node k) done entry (eq-eqb entry.node k (sym is)))
-      | inr other ↦
-          get_or-set_other logs entry.node k new [] other
-          ∙ log_of-logs_of done k below
-          ∙ sym (filter_push_no (is_of_node k) done entry (ne_eqb entry.node k (λ e. other (sym e))))
-    ])
+logs_of-push done entry lt = grind (arith, length-map-range_with_len, fill_by_all, length-set, cases_eq, get_or-set_same, log_of-logs_of, filter_push_yes, eq-eqb, get_or-set_other, filter_push_no, ne_eqb)
 
 stamped_at-below : (lines : ℕ) (done : List Entry) (line : ℕ) → line < lines → stamped_at (contents_left lines done) line ≡ stamped_of lines done line
 stamped_at-below lines done line lt = get_or-map-range_with_len (λ l. stamped_of lines done l) 0 lines line line zero_stamped lt (omega arith)
@@ -95,12 +78,7 @@ pub ran_long : (lines : ℕ) (script : List Issue) (logs : List (List Entry)) (m
 ran_long lines script logs memory h = ap length h.left ∙ length-map-range_with_len (λ l. stamped_of lines (oracle_entries lines script) l) 0 lines
 
 pub ran_version : (lines : ℕ) (script : List Issue) (logs : List (List Entry)) (memory : List Stamped) (line : ℕ) → line < lines → Ran lines script logs memory → (stamped_at memory line).version ≤ length script
-ran_version lines script logs memory line lt h =
-    let done = oracle_entries lines script in
-    let is : (stamped_at memory line).version ≡ count_by (makes_on line) done = ap (λ (m : List Stamped). (stamped_at m line).version) h.left ∙ ap (λ (s : Stamped). s.version) (stamped_at-below lines done line lt) in
-    let few = count_by-le-length (makes_on line) done in
-    let long = length-done_after lines [] script in
-    omega arith
+ran_version lines script logs memory line lt h = grind (arith, stamped_at-below, count_by-le-length, length-done_after)
 
 count_done : (lines node : ℕ) (done : List Entry) (script : List Issue) → count_by (is_of_node node) (done_after lines done script) ≡ count_by (is_of_node node) done + count_by (λ issue. eqb issue.0 node) script
 unfolding done_after
@@ -118,13 +96,7 @@ ran_serial lines script logs memory node lt h =
     ap (λ (ls : List (List Entry)). length (log_of ls node)) h.logged ∙ ap length (log_of-logs_of done node lt) ∙ length-filter (is_of_node node) done ∙ (let all = count_done lines node [] script in omega arith)
 
 same_entry : (a b : Entry) → a.node ≡ b.node → a.serial ≡ b.serial → a.op ≡ b.op → a.reply ≡ b.reply → a.version ≡ b.version → a ≡ b
-same_entry a b node serial op reply version =
-    let with_node : ℕ → Entry = λ n. record { node = n; serial = a.serial; op = a.op; reply = a.reply; version = a.version } in
-    let with_serial : ℕ → Entry = λ n. record { node = b.node; serial = n; op = a.op; reply = a.reply; version = a.version } in
-    let with_op : Op → Entry = λ o. record { node = b.node; serial = b.serial; op = o; reply = a.reply; version = a.version } in
-    let with_reply : Reply → Entry = λ r. record { node = b.node; serial = b.serial; op = b.op; reply = r; version = a.version } in
-    let with_version : ℕ → Entry = λ v. record { node = b.node; serial = b.serial; op = b.op; reply = b.reply; version = v } in
-    ap with_node node ∙ ap with_serial serial ∙ ap with_op op ∙ ap with_reply reply ∙ ap with_version version
+same_entry a b node serial op reply version = grind arith
 
 pub ran_step : (lines : ℕ) (script : List Issue) (issue : Issue) (logs : List (List Entry)) (memory : List Stamped) (entry : Entry) → Ran lines script logs memory → AllByRecursion (IsInRange lines) script → IsInRange lines issue → entry.node ≡ issue.0 → entry.op ≡ issue.1 → entry.serial ≡ length (log_of logs entry.node) → entry.reply ≡ reply_of (line_at (words_of_lines memory) entry.op.line) entry.op → entry.version ≡ (stamped_at memory entry.op.line).version + cond (is_maker entry.op) 1 0 → Ran lines (script ++ issue ∷ []) (set logs entry.node (log_of logs entry.node ++ entry ∷ [])) (contents_after memory entry.op)
 ran_step lines script issue logs memory entry h range here node-is op-is serial reply version =
@@ -162,10 +134,7 @@ pub range-take : (lines : ℕ) (script : List Issue) (i : ℕ) → All (IsInRang
 range-take lines script i h = recursion_from_All (IsInRange lines) (take i script) (All-take (IsInRange lines) i script h)
 
 pub few_logged : (lines limit : ℕ) (script : List Issue) (i node : ℕ) (logs : List (List Entry)) (memory : List Stamped) → node < MAX_NODES → Ran lines (take i script) logs memory → count_by (λ issue. eqb issue.0 node) script ≤ limit → length (log_of logs node) ≤ limit
-few_logged lines limit script i node logs memory lt h few =
-    let is = ran_serial lines (take i script) logs memory node lt h in
-    let part = count-take (λ issue. eqb issue.0 node) script i in
-    omega arith
+few_logged lines limit script i node logs memory lt h few = grind (arith, ran_serial, count-take)
 
 pub fewer_logged : (lines limit : ℕ) (script : List Issue) (i : ℕ) (d : Issue) (logs : List (List Entry)) (memory : List Stamped) → i < length script → (get_or script i d).0 < MAX_NODES → Ran lines (take i script) logs memory → count_by (λ issue. eqb issue.0 (get_or script i d).0) script ≤ limit → length (log_of logs (get_or script i d).0) < limit
 fewer_logged lines limit script i d logs memory here lt h few =

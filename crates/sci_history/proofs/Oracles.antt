@@ -1,5 +1,5 @@
 -- A script's log on one memory is lawful.
-use Rattle.std.proofs.Common.{◌≡◌, ◌≢◌, ℕ, zero, suc, ◌+◌, ◌<◌, ◌≤◌, Bool, true, false, cond, eqb, List, [], ◌∷◌, ◌++◌, length, map, refl, sym, ap, ◌∙◌, subst, arith, inl, inr}
+use Rattle.std.proofs.Common.{◌≡◌, ◌≢◌, ℕ, zero, suc, ◌+◌, ◌<◌, ◌≤◌, Bool, true, false, cond, List, [], ◌∷◌, ◌++◌, length, refl, sym, ap, ◌∙◌, subst, arith, inl, inr}
 use Rattle.std.specs.Prelude.{AllPairs, count_by}
 use Rattle.std.specs.List.{filter, AllByRecursion}
 use Rattle.std.proofs.lemmas.Bool.{cases_Bool, cases_eq, cases_lt, eq-eqb, ne_eqb, and_left}
@@ -36,9 +36,7 @@ pub count_push : (p : Entry → Bool) (done : List Entry) (entry : Entry) → co
 count_push p done entry = sum_by_push (λ e. cond (p e) 1 0) done entry
 
 history_push : (entries : List Entry) (entry : Entry) (old mid : Stamped) → IsHistory entries old mid → entry.reply ≡ reply_of mid.line entry.op → entry.version ≡ (after mid entry.op).version → IsHistory (entries ++ entry ∷ []) old (after mid entry.op)
-history_push [] entry old mid h reply version =
-    let is : old ≡ mid = sym h in
-    subst (λ (s : Stamped). IsHistory (entry ∷ []) s (after mid entry.op)) h (reply, version, refl)
+history_push [] entry old mid h reply version = grind arith
 history_push (first ∷ entries) entry old mid h reply version =
     (h.0, h.1, history_push entries entry (after old first.op) mid h.2 reply version)
 
@@ -47,9 +45,7 @@ memory_after_all-push memory [] op = refl
 memory_after_all-push memory (first ∷ ops) op = memory_after_all-push (memory_after memory first) ops op
 
 pub memory_of-push : (lines : ℕ) (done : List Entry) (entry : Entry) → memory_of lines (done ++ entry ∷ []) ≡ memory_after (memory_of lines done) entry.op
-memory_of-push lines done entry =
-    ap (memory_after_all (zero_memory lines)) (map-append (λ e. e.op) done (entry ∷ []))
-    ∙ memory_after_all-push (zero_memory lines) (map (λ e. e.op) done) entry.op
+memory_of-push lines done entry = grind (arith, map-append, memory_after_all-push)
 
 -- ---- what holds after each entry
 
@@ -70,13 +66,7 @@ line_at-zero (suc lines) zero = refl
 line_at-zero (suc lines) (suc line) = line_at-zero lines line
 
 pub traced_none : (lines : ℕ) → Traced lines []
-traced_none lines = record {
-  in_range = tt;
-  long = length-replicate lines zero_line;
-  histories = λ line lt. same_stamped (stamped_of lines [] line) zero_stamped (line_at-zero lines line) refl;
-  rising = λ node i j d lt long. absurd (omega arith);
-  counted = λ node. tt;
-}
+traced_none lines = grind (arith, length-replicate, same_stamped, line_at-zero)
 
 -- what the entry of an issue says
 pub record IsNext (lines : ℕ) (done : List Entry) (entry : Entry) : Type 0 where
@@ -94,15 +84,7 @@ pub version_push : (done : List Entry) (entry : Entry) → count_by (makes_on en
 version_push done entry = count_push (makes_on entry.op.line) done entry ∙ rw (eq-eqb entry.op.line entry.op.line refl) refl
 
 pub own_stamped : (lines : ℕ) (done : List Entry) (entry : Entry) → Traced lines done → IsNext lines done entry → entry.op.line < lines → stamped_of lines (done ++ entry ∷ []) entry.op.line ≡ after (stamped_of lines done entry.op.line) entry.op
-own_stamped lines done entry h next lt =
-    let line = entry.op.line in
-    let mid = stamped_of lines done line in
-    let version : entry.version ≡ (after mid entry.op).version =
-    next.version ∙ elim (cases_Bool (is_maker entry.op)) [ inl maker ↦ rw maker refl | inr load ↦ rw load (omega arith) ] in
-    let new_line : line_at (memory_of lines (done ++ entry ∷ [])) line ≡ (after mid entry.op).line =
-    ap (λ (m : List (List ℕ)). line_at m line) (memory_of-push lines done entry) ∙ line_at-same (memory_of lines done) entry.op (let long = h.long in omega arith) in
-    let new_version : count_by (makes_on line) (done ++ entry ∷ []) ≡ (after mid entry.op).version = version_push done entry ∙ sym next.version ∙ version in
-    same_stamped (stamped_of lines (done ++ entry ∷ []) line) (after mid entry.op) new_line new_version
+own_stamped lines done entry h next lt = grind (arith, cases_Bool, memory_of-push, line_at-same, version_push, same_stamped)
 
 own_line : (lines : ℕ) (done : List Entry) (entry : Entry) → Traced lines done → IsNext lines done entry → entry.op.line < lines → IsHistory (filter (is_on_line entry.op.line) (done ++ entry ∷ [])) zero_stamped (stamped_of lines (done ++ entry ∷ []) entry.op.line)
 own_line lines done entry h next lt =
@@ -114,24 +96,13 @@ own_line lines done entry h next lt =
     rw (longer, own_stamped lines done entry h next lt) (history_push (filter (is_on_line line) done) entry zero_stamped mid (h.histories line lt) next.reply version)
 
 pub other_stamped : (lines : ℕ) (done : List Entry) (entry : Entry) (line : ℕ) → (line ≢ entry.op.line) → stamped_of lines (done ++ entry ∷ []) line ≡ stamped_of lines done line
-other_stamped lines done entry line ne =
-    let off : eqb entry.op.line line ≡ false = ne_eqb entry.op.line line (λ e. ne (sym e)) in
-    let same_line : line_at (memory_of lines (done ++ entry ∷ [])) line ≡ line_at (memory_of lines done) line =
-    ap (λ (m : List (List ℕ)). line_at m line) (memory_of-push lines done entry) ∙ line_at-other (memory_of lines done) entry.op line ne in
-    let same_version : count_by (makes_on line) (done ++ entry ∷ []) ≡ count_by (makes_on line) done = count_push (makes_on line) done entry ∙ rw off (omega arith) in
-    same_stamped (stamped_of lines (done ++ entry ∷ []) line) (stamped_of lines done line) same_line same_version
+other_stamped lines done entry line ne = grind (arith, ne_eqb, memory_of-push, line_at-other, count_push, same_stamped)
 
 other_line : (lines : ℕ) (done : List Entry) (entry : Entry) (line : ℕ) → Traced lines done → line < lines → (line ≢ entry.op.line) → IsHistory (filter (is_on_line line) (done ++ entry ∷ [])) zero_stamped (stamped_of lines (done ++ entry ∷ []) line)
-other_line lines done entry line h lt ne =
-    rw (filter_push_no (is_on_line line) done entry (ne_eqb entry.op.line line (λ e. ne (sym e))), other_stamped lines done entry line ne) (h.histories line lt)
+other_line lines done entry line h lt ne = grind (arith, filter_push_no, ne_eqb, other_stamped)
 
 step_history : (lines : ℕ) (done : List Entry) (entry : Entry) (line : ℕ) → Traced lines done → IsNext lines done entry → line < lines → IsHistory (filter (is_on_line line) (done ++ entry ∷ [])) zero_stamped (stamped_of lines (done ++ entry ∷ []) line)
-step_history lines done entry line h next lt =
-    elim (cases_eq entry.op.line line) [
-      | inl e ↦
-          subst (λ (l : ℕ). IsHistory (filter (is_on_line l) (done ++ entry ∷ [])) zero_stamped (stamped_of lines (done ++ entry ∷ []) l)) e (own_line lines done entry h next (omega arith))
-      | inr ne ↦ other_line lines done entry line h lt (λ e. ne (sym e))
-    ]
+step_history lines done entry line h next lt = grind (arith, cases_eq, own_line, other_line)
 
 step_rising : (lines : ℕ) (done : List Entry) (entry : Entry) (node : ℕ) → Traced lines done → IsNext lines done entry → AllPairs (λ x y. x.serial < y.serial) (filter (is_of_node node) (done ++ entry ∷ []))
 step_rising lines done entry node h next =
@@ -186,8 +157,7 @@ pub log_of-logs_of : (done : List Entry) (node : ℕ) → node < MAX_NODES → l
 log_of-logs_of done node lt = get_or-map-range_with_len (λ n. filter (is_of_node n) done) 0 MAX_NODES node node [] lt (omega arith)
 
 pub off_line : (lines : ℕ) (done : List Entry) (line : ℕ) → Traced lines done → lines ≤ line → AllByRecursion (λ e. is_on_line line e ≡ false) done
-off_line lines done line h past =
-    all_weaker (λ e. (e.node < MAX_NODES) × (e.op.line < lines)) (λ e. is_on_line line e ≡ false) (λ e range. let lt = range.1 in ne_eqb e.op.line line (λ is. absurd (omega arith))) done h.in_range
+off_line lines done line h past = grind (arith, all_weaker, ne_eqb)
 
 pub past_line : (lines : ℕ) (done : List Entry) (line : ℕ) → Traced lines done → lines ≤ line → stamped_of lines done line ≡ zero_stamped
 past_line lines done line h past =
@@ -197,14 +167,7 @@ past_line lines done line h past =
     same_stamped (stamped_of lines done line) zero_stamped words count
 
 pub stamped_at-contents_of : (lines : ℕ) (done : List Entry) (line : ℕ) → Traced lines done → stamped_at (contents_left lines done) line ≡ stamped_of lines done line
-stamped_at-contents_of lines done line h =
-    elim (cases_lt line lines) [
-      | inl lt ↦ get_or-map-range_with_len (λ l. stamped_of lines done l) 0 lines line line zero_stamped lt (omega arith)
-      | inr past ↦
-          let none : stamped_at (contents_left lines done) line ≡ zero_stamped =
-          get_or_past (contents_left lines done) line zero_stamped (omega (arith, length-map-range_with_len (λ l. stamped_of lines done l) 0 lines)) in
-          none ∙ sym (past_line lines done line h past)
-    ]
+stamped_at-contents_of lines done line h = grind (arith, cases_lt, get_or-map-range_with_len, get_or_past, length-map-range_with_len, past_line)
 
 line_history : (lines : ℕ) (done : List Entry) (line : ℕ) → Traced lines done → IsHistory (filter (is_on_line line) done) zero_stamped (stamped_of lines done line)
 line_history lines done line h =

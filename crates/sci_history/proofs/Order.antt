@@ -17,34 +17,12 @@ filter_no p x xs e = rw e refl
 -- what passes both tests, in either order
 pub filter-filter : {X : Type 0} (p q : X → Bool) (xs : List X) → filter p (filter q xs) ≡ filter q (filter p xs)
 filter-filter p q [] = refl
-filter-filter p q (x ∷ xs) =
-    let rest = filter-filter p q xs in
-    elim (cases_Bool (p x)) [
-      | inl py ↦
-          elim (cases_Bool (q x)) [
-            | inl qy ↦ rw (filter_yes q x xs qy, filter_yes p x xs py, filter_yes p x (filter q xs) py, filter_yes q x (filter p xs) qy, rest) refl
-            | inr qn ↦ rw (filter_no q x xs qn, filter_yes p x xs py, filter_no q x (filter p xs) qn, rest) refl
-          ]
-      | inr pn ↦
-          elim (cases_Bool (q x)) [
-            | inl qy ↦ rw (filter_yes q x xs qy, filter_no p x xs pn, filter_no p x (filter q xs) pn, rest) refl
-            | inr qn ↦ rw (filter_no q x xs qn, filter_no p x xs pn, rest) refl
-          ]
-    ]
+filter-filter p q (x ∷ xs) = grind (arith, cases_Bool, filter_yes, filter_no, filter-filter p q xs)
 
 -- a second test that the first implies
 pub filter-implied : {X : Type 0} (p q : X → Bool) → ((x : X) → p x ≡ true → q x ≡ true) → (xs : List X) → filter p (filter q xs) ≡ filter p xs
 filter-implied p q implies [] = refl
-filter-implied p q implies (x ∷ xs) =
-    let rest = filter-implied p q implies xs in
-    elim (cases_Bool (p x)) [
-      | inl py ↦ rw (filter_yes q x xs (implies x py), filter_yes p x (filter q xs) py, filter_yes p x xs py, rest) refl
-      | inr pn ↦
-          elim (cases_Bool (q x)) [
-            | inl qy ↦ rw (filter_yes q x xs qy, filter_no p x (filter q xs) pn, filter_no p x xs pn, rest) refl
-            | inr qn ↦ rw (filter_no q x xs qn, filter_no p x xs pn, rest) refl
-          ]
-    ]
+filter-implied p q implies (x ∷ xs) = grind (arith, cases_Bool, filter_yes, filter_no, filter-implied p q implies xs)
 
 pub filter_all : {X : Type 0} (p : X → Bool) (xs : List X) → AllByRecursion (λ x. p x ≡ true) xs → filter p xs ≡ xs
 filter_all p [] h = refl
@@ -66,12 +44,7 @@ all-append P (x ∷ xs) ys h k = (h.0, all-append P xs ys h.1 k)
 
 pub all-filter : {X : Type 0} (P : X → Type 0) (p : X → Bool) (xs : List X) → AllByRecursion P xs → AllByRecursion P (filter p xs)
 all-filter P p [] h = tt
-all-filter P p (x ∷ xs) h =
-    let rest = all-filter P p xs h.1 in
-    elim (cases_Bool (p x)) [
-      | inl y ↦ rw (filter_yes p x xs y) (h.0, rest)
-      | inr n ↦ rw (filter_no p x xs n) rest
-    ]
+all-filter P p (x ∷ xs) h = grind (arith, cases_Bool, filter_yes, filter_no, all-filter P p xs h.1)
 
 -- what passes a test, passes it
 pub all-passes : {X : Type 0} (p : X → Bool) (xs : List X) → AllByRecursion (λ x. p x ≡ true) (filter p xs)
@@ -107,20 +80,7 @@ HasKeysBelow key bound xs = AllByRecursion (λ x. key x < bound) xs
 -- those below the bound stand before those at it
 split_at : {X : Type 0} (key : X → ℕ) (bound : ℕ) (xs : List X) → IsInOrder key xs → HasKeysBelow key (suc bound) xs → filter (λ x. ltb (key x) bound) xs ++ filter (λ x. eqb (key x) bound) xs ≡ xs
 split_at key bound [] ordered below = refl
-split_at {X} key bound (x ∷ xs) ordered below =
-    elim (cases_lt (key x) bound) [
-      | inl lt ↦
-          let differs : eqb (key x) bound ≡ false = ne_eqb (key x) bound (λ e. absurd (omega arith)) in
-          rw (filter_yes (λ x. ltb (key x) bound) x xs (lt-ltb (key x) bound lt), filter_no (λ x. eqb (key x) bound) x xs differs) (ap (λ (ys : List X). x ∷ ys) (split_at key bound xs ordered.1 below.1))
-      | inr le ↦
-          let at : AllByRecursion (λ y. (key x ≤ key y) × (key y < suc bound)) xs = all_both (λ y. key x ≤ key y) (λ y. key y < suc bound) xs ordered.0 below.1 in
-          let head : key x < suc bound = below.0 in
-          let none : filter (λ x. ltb (key x) bound) (x ∷ xs) ≡ [] =
-          filter_none (λ x. ltb (key x) bound) (x ∷ xs) (le-ltb (key x) bound le, all_weaker (λ y. (key x ≤ key y) × (key y < suc bound)) (λ y. ltb (key y) bound ≡ false) (λ y h. le-ltb (key y) bound (omega arith)) xs at) in
-          let all : filter (λ x. eqb (key x) bound) (x ∷ xs) ≡ x ∷ xs =
-          filter_all (λ x. eqb (key x) bound) (x ∷ xs) (eq-eqb (key x) bound (omega arith), all_weaker (λ y. (key x ≤ key y) × (key y < suc bound)) (λ y. eqb (key y) bound ≡ true) (λ y h. eq-eqb (key y) bound (omega arith)) xs at) in
-          rw (none, all) refl
-    ]
+split_at {X} key bound (x ∷ xs) ordered below = grind (arith, cases_lt, ne_eqb, filter_yes, lt-ltb, filter_no, all_both, filter_none, le-ltb, all_weaker, filter_all, eq-eqb, split_at key bound xs ordered.1 below.1)
 
 -- ---- in_order
 
@@ -128,21 +88,17 @@ split_at {X} key bound (x ∷ xs) ordered below =
 pub in_order_same : {X : Type 0} (key : X → ℕ) (bound : ℕ) (xs ys : List X) → ((k : ℕ) → k < bound → filter (λ x. eqb (key x) k) xs ≡ filter (λ x. eqb (key x) k) ys) → in_order key bound xs ≡ in_order key bound ys
 unfolding in_order
 in_order_same key zero xs ys same = refl
-in_order_same key (suc bound) xs ys same =
-    rw (in_order_same key bound xs ys (λ k lt. same k (omega arith)), same bound (omega arith)) refl
+in_order_same key (suc bound) xs ys same = grind (arith, in_order_same key bound xs ys (λ k lt. same k (omega arith)), same bound (omega arith))
 
 pub filter-in_order : {X : Type 0} (p : X → Bool) (key : X → ℕ) (bound : ℕ) (xs : List X) → filter p (in_order key bound xs) ≡ in_order key bound (filter p xs)
 unfolding in_order
 filter-in_order p key zero xs = refl
-filter-in_order p key (suc bound) xs =
-    filter-append p (in_order key bound xs) (filter (λ x. eqb (key x) bound) xs)
-    ∙ rw (filter-in_order p key bound xs, filter-filter p (λ x. eqb (key x) bound) xs) refl
+filter-in_order p key (suc bound) xs = grind (arith, filter-append, filter-filter, filter-in_order p key bound xs, filter-filter p (λ x. eqb (key x) bound) xs)
 
 pub all-in_order : {X : Type 0} (P : X → Type 0) (key : X → ℕ) (bound : ℕ) (xs : List X) → AllByRecursion P xs → AllByRecursion P (in_order key bound xs)
 unfolding in_order
 all-in_order P key zero xs h = tt
-all-in_order P key (suc bound) xs h =
-    all-append P (in_order key bound xs) (filter (λ x. eqb (key x) bound) xs) (all-in_order P key bound xs h) (all-filter P (λ x. eqb (key x) bound) xs h)
+all-in_order P key (suc bound) xs h = grind (arith, all-append, all-filter, all-in_order P key bound xs h)
 
 none_below_zero : {X : Type 0} (key : X → ℕ) (xs : List X) → HasKeysBelow key 0 xs → [] ≡ xs
 none_below_zero key [] h = refl

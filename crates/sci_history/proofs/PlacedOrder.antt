@@ -1,9 +1,9 @@
 -- Placed entries stand by version, and each maker before the loads at its version.
-use Rattle.std.proofs.Common.{◌≡◌, ℕ, zero, suc, ◌+◌, ◌<◌, ◌≤◌, true, false, eqb, not, List, ◌++◌, arith}
+use Rattle.std.proofs.Common.{◌≡◌, ℕ, zero, suc, ◌+◌, ◌<◌, ◌≤◌, List, ◌++◌, arith}
 use Rattle.std.specs.List.{filter, AllByRecursion}
 use Rattle.std.proofs.lemmas.Bool.{and_parts, eqb-true, not-true}
 use Rattle.sci_history.specs.declared.entry.Entry.{Entry}
-use Rattle.sci_history.specs.Placed.{is_making, makes, reads, by_node_and_serial, by_version}
+use Rattle.sci_history.specs.Placed.{makes, reads, by_node_and_serial, by_version}
 use Rattle.sci_history.proofs.Order.{IsInOrder, IsInOrder-same, all_weaker, all-append, all-passes}
 use Rattle.sci_history.proofs.Placement.{place, all-by_node_and_serial}
 use Rattle.sci_history.proofs.LawLemmas.{IsInOrder-append}
@@ -15,19 +15,10 @@ abbrev loads_at : ℕ → List Entry → List Entry
 loads_at version entries = by_node_and_serial (filter (reads version) entries)
 
 maker_places : (version : ℕ) (entries : List Entry) → AllByRecursion (λ e. place e ≡ version + version) (makers_at version entries)
-maker_places version entries =
-    all-by_node_and_serial (λ e. place e ≡ version + version) (filter (makes version) entries) (all_weaker (λ e. makes version e ≡ true) (λ e. place e ≡ version + version) (λ e is.
-    let parts = and_parts (is_making e) (eqb e.version version) is in
-    let at : e.version ≡ version = eqb-true e.version version parts.1 in
-    rw parts.0 (omega arith)) (filter (makes version) entries) (all-passes (makes version) entries))
+maker_places version entries = grind (arith, all-by_node_and_serial, place, all_weaker, and_parts, eqb-true, all-passes)
 
 load_places : (version : ℕ) (entries : List Entry) → AllByRecursion (λ e. place e ≡ version + version + 1) (loads_at version entries)
-load_places version entries =
-    all-by_node_and_serial (λ e. place e ≡ version + version + 1) (filter (reads version) entries) (all_weaker (λ e. reads version e ≡ true) (λ e. place e ≡ version + version + 1) (λ e is.
-    let parts = and_parts (not (is_making e)) (eqb e.version version) is in
-    let load : is_making e ≡ false = not-true (is_making e) parts.0 in
-    let at : e.version ≡ version = eqb-true e.version version parts.1 in
-    rw load (omega arith)) (filter (reads version) entries) (all-passes (reads version) entries))
+load_places version entries = grind (arith, all-by_node_and_serial, place, all_weaker, and_parts, not-true, eqb-true, all-passes)
 
 places_below : (bound : ℕ) (entries : List Entry) → AllByRecursion (λ e. place e < bound + bound) (by_version bound entries)
 unfolding by_version

@@ -1,5 +1,5 @@
 -- Stable sorts by serial, by node, and by version with its maker first, put entries in placed order.
-use Rattle.std.proofs.Common.{◌≡◌, ℕ, zero, suc, ◌+◌, ◌/◌, ◌%◌, ◌<◌, ◌≤◌, Bool, cond, ltb, not, List, refl, sym, ap, ◌∙◌, subst, arith, inl, inr}
+use Rattle.std.proofs.Common.{◌≡◌, ℕ, zero, suc, ◌+◌, ◌/◌, ◌%◌, ◌<◌, ◌≤◌, Bool, cond, ltb, not, List, refl, sym, ap, ◌∙◌, subst, arith}
 use Rattle.std.specs.Prelude.{All}
 use Rattle.std.specs.List.Sorted.{IsPermutation, IsSortedBy, IsStableBy}
 use Rattle.std.specs.Ordering.{is_lt, nat_cmp, bool_cmp, ordering_then}
@@ -18,15 +18,7 @@ use Rattle.sci_history.proofs.Placement.{place, place-below, above_serials-above
 use Rattle.sci_history.proofs.Sorting.{Compares, sorted_is, map-in_order, keys_below_map}
 
 is_lt-nat_cmp : (a b : ℕ) → is_lt (nat_cmp a b) ≡ ltb a b
-is_lt-nat_cmp a b =
-    elim (cases_order a b) [
-      | inl same ↦ rw (le-ltb a b (omega arith), eq-eqb a b same) refl
-      | inr apart ↦
-          elim apart [
-            | inl less ↦ rw (lt-ltb a b less) refl
-            | inr more ↦ rw (le-ltb a b (omega arith), ne_eqb a b (λ e. absurd (omega arith))) refl
-          ]
-    ]
+is_lt-nat_cmp a b = grind (arith, cases_order, le-ltb, eq-eqb, lt-ltb, ne_eqb)
 
 ref_to : Entry → Bor Entry
 ref_to entry = record { ref_ptr = (0, 0); now = entry }
@@ -42,30 +34,7 @@ keyed lt key at compares at_is bound xs ys sorted stable moved below =
 
 -- two numbers and two tests, compared as one number
 compares_both : (a b : ℕ) (p q : Bool) → is_lt (ordering_then (nat_cmp a b) (bool_cmp (not p) (not q))) ≡ ltb (a + a + cond p 0 1) (b + b + cond q 0 1)
-compares_both a b p q =
-    elim (cases_order a b) [
-      | inl same ↦
-          elim (cases_Bool p) [
-            | inl pm ↦
-                elim (cases_Bool q) [
-                  | inl qm ↦ rw (pm, qm, le-ltb a b (omega arith), eq-eqb a b same, le-ltb (a + a + 0) (b + b + 0) (omega arith)) refl
-                  | inr ql ↦ rw (pm, ql, le-ltb a b (omega arith), eq-eqb a b same, lt-ltb (a + a + 0) (b + b + 1) (omega arith)) refl
-                ]
-            | inr pl ↦
-                elim (cases_Bool q) [
-                  | inl qm ↦ rw (pl, qm, le-ltb a b (omega arith), eq-eqb a b same, le-ltb (a + a + 1) (b + b + 0) (omega arith)) refl
-                  | inr ql ↦ rw (pl, ql, le-ltb a b (omega arith), eq-eqb a b same, le-ltb (a + a + 1) (b + b + 1) (omega arith)) refl
-                ]
-          ]
-      | inr apart ↦
-          let one : (r : Bool) → cond r 0 1 ≤ 1 = λ r. elim (cases_Bool r) [ inl y ↦ rw y (omega arith) | inr n ↦ rw n (omega arith) ] in
-          let pb = one p in
-          let qb = one q in
-          elim apart [
-            | inl less ↦ rw (lt-ltb a b less, lt-ltb (a + a + cond p 0 1) (b + b + cond q 0 1) (omega arith)) refl
-            | inr more ↦ rw (le-ltb a b (omega arith), ne_eqb a b (λ e. absurd (omega arith)), le-ltb (a + a + cond p 0 1) (b + b + cond q 0 1) (omega arith)) refl
-          ]
-    ]
+compares_both a b p q = grind (arith, cases_order, cases_Bool, le-ltb, eq-eqb, lt-ltb, ne_eqb)
 
 act_of : ℕ → Act
 act_of zero = Store 0

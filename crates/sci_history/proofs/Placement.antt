@@ -1,5 +1,5 @@
 -- What stands where among placed entries.
-use Rattle.std.proofs.Common.{◌≡◌, ℕ, zero, suc, ◌+◌, ◌<◌, ◌≤◌, Bool, true, cond, eqb, List, [], ◌∷◌, ◌++◌, length, take, refl, sym, ap, ◌∙◌, append_assoc, arith, inl, inr}
+use Rattle.std.proofs.Common.{◌≡◌, ℕ, zero, suc, ◌+◌, ◌<◌, ◌≤◌, Bool, true, cond, eqb, List, [], ◌∷◌, ◌++◌, length, take, refl, sym, ap, ◌∙◌, append_assoc, arith}
 use Rattle.std.specs.Prelude.{AllPairs}
 use Rattle.std.specs.List.{filter, flat_map, AllByRecursion}
 use Rattle.std.proofs.lemmas.Bool.{cases_Bool, cases_eq, eq-eqb, ne_eqb, eqb-true}
@@ -53,16 +53,13 @@ above_serials-above [] bound h = tt
 above_serials-above (entry ∷ entries) bound h = (omega arith, above_serials-above entries bound (omega arith))
 
 pub all-by_node_and_serial : (P : Entry → Type 0) (entries : List Entry) → AllByRecursion P entries → AllByRecursion P (by_node_and_serial entries)
-all-by_node_and_serial P entries h =
-    all-in_order P (λ entry. entry.node) MAX_NODES (in_order (λ entry. entry.serial) (above_serials entries) entries) (all-in_order P (λ entry. entry.serial) (above_serials entries) entries h)
+all-by_node_and_serial P entries h = grind (arith, all-in_order)
 
 pub by_node_and_serial-one : (entry : Entry) → entry.node < MAX_NODES → by_node_and_serial (entry ∷ []) ≡ entry ∷ []
-by_node_and_serial-one entry lt =
-    rw (in_order-ordered (λ e. e.serial) (above_serials (entry ∷ [])) (entry ∷ []) (tt, tt) (above_serials-above (entry ∷ []) (above_serials (entry ∷ [])) (omega arith))) (in_order-ordered (λ e. e.node) MAX_NODES (entry ∷ []) (tt, tt) (lt, tt))
+by_node_and_serial-one entry lt = grind (arith, in_order-ordered, above_serials-above)
 
 pub by_node_and_serial-none : by_node_and_serial [] ≡ []
-by_node_and_serial-none =
-    rw (in_order-ordered (λ (e : Entry). e.serial) 0 [] tt tt) (in_order-ordered (λ (e : Entry). e.node) MAX_NODES [] tt tt)
+by_node_and_serial-none = grind (arith, in_order-ordered)
 
 -- the entries of one node stay in order, where their serials don't fall
 pub filter-by_node_and_serial : (node : ℕ) (entries : List Entry) → node < MAX_NODES → IsInOrder (λ entry. entry.serial) (filter (is_of_node node) entries) → filter (is_of_node node) (by_node_and_serial entries) ≡ filter (is_of_node node) entries
@@ -98,26 +95,10 @@ filter-by_version node (suc version) entries lt ordered =
     ∙ rw (filter-append p (by_node_and_serial (filter (makes version) entries)) (by_node_and_serial (filter (reads version) entries)), filter-by_version node version entries lt ordered, group (makes version), group (reads version)) refl
 
 makes-place : (version : ℕ) (entry : Entry) → makes version entry ≡ eqb (place entry) (version + version)
-makes-place version entry =
-    elim (cases_Bool (is_making entry)) [
-      | inl maker ↦
-          elim (cases_eq entry.version version) [
-            | inl e ↦ rw (maker, eq-eqb entry.version version e, eq-eqb (entry.version + entry.version + 0) (version + version) (omega arith)) refl
-            | inr ne ↦ rw (maker, ne_eqb entry.version version ne, ne_eqb (entry.version + entry.version + 0) (version + version) (λ e. ne (omega arith))) refl
-          ]
-      | inr load ↦ rw (load, ne_eqb (entry.version + entry.version + 1) (version + version) (λ e. absurd (omega arith))) refl
-    ]
+makes-place version entry = grind (arith, cases_Bool, cases_eq, eq-eqb, ne_eqb)
 
 reads-place : (version : ℕ) (entry : Entry) → reads version entry ≡ eqb (place entry) (suc (version + version))
-reads-place version entry =
-    elim (cases_Bool (is_making entry)) [
-      | inl maker ↦ rw (maker, ne_eqb (entry.version + entry.version + 0) (suc (version + version)) (λ e. absurd (omega arith))) refl
-      | inr load ↦
-          elim (cases_eq entry.version version) [
-            | inl e ↦ rw (load, eq-eqb entry.version version e, eq-eqb (entry.version + entry.version + 1) (suc (version + version)) (omega arith)) refl
-            | inr ne ↦ rw (load, ne_eqb entry.version version ne, ne_eqb (entry.version + entry.version + 1) (suc (version + version)) (λ e. ne (omega arith))) refl
-          ]
-    ]
+reads-place version entry = grind (arith, cases_Bool, ne_eqb, cases_eq, eq-eqb)
 
 by_place-in_order : (bound : ℕ) (entries : List Entry) → by_place bound entries ≡ in_order place (bound + bound) entries
 unfolding by_place in_order
@@ -129,21 +110,11 @@ by_place-in_order (suc version) entries =
     (sym (append_assoc before (filter (λ entry. eqb (place entry) (version + version)) entries) (filter (λ entry. eqb (place entry) (suc (version + version))) entries)))
 
 pub place-below : (entry : Entry) (version : ℕ) → entry.version ≤ version → place entry < suc version + suc version
-place-below entry version le =
-    elim (cases_Bool (is_making entry)) [
-      | inl maker ↦ rw maker (omega arith)
-      | inr load ↦ rw load (omega arith)
-    ]
+place-below entry version le = grind (arith, cases_Bool)
 
 -- a node's entries stand in order, where they did so by version and by serial
 pub filter-placed : (node version : ℕ) (entries : List Entry) → node < MAX_NODES → IsInOrder (λ entry. entry.serial) (filter (is_of_node node) entries) → IsInOrder place (filter (is_of_node node) entries) → AllByRecursion (λ entry. entry.version ≤ version) (filter (is_of_node node) entries) → filter (is_of_node node) (by_version (suc version) entries) ≡ filter (is_of_node node) entries
-filter-placed node version entries lt serials places below =
-    let own = filter (is_of_node node) entries in
-    let under : HasKeysBelow place (suc version + suc version) own =
-    all_weaker (λ entry. entry.version ≤ version) (λ entry. place entry < suc version + suc version) (λ entry le. place-below entry version le) own below in
-    filter-by_version node (suc version) entries lt serials
-    ∙ by_place-in_order (suc version) own
-    ∙ in_order-ordered place (suc version + suc version) own places under
+filter-placed node version entries lt serials places below = grind (arith, all_weaker, place-below, filter-by_version, by_place-in_order, in_order-ordered)
 
 -- ---- all entries by place
 
@@ -152,16 +123,12 @@ below_filter p entries = all-filter (λ entry. entry.serial < above_serials entr
 
 -- a test's entries among those by node and serial
 by_node_and_serial-filter : (p : Entry → Bool) (entries : List Entry) → by_node_and_serial (filter p entries) ≡ filter p (by_node_and_serial entries)
-by_node_and_serial-filter p entries =
-    let own = filter p entries in
-    sym (filter-in_order p (λ entry. entry.node) MAX_NODES (in_order (λ entry. entry.serial) (above_serials entries) entries)
-    ∙ rw (filter-in_order p (λ entry. entry.serial) (above_serials entries) entries, in_order-bound (λ (entry : Entry). entry.serial) (above_serials entries) (above_serials own) own (below_filter p entries) (above_serials-above own (above_serials own) (omega arith))) refl)
+by_node_and_serial-filter p entries = grind (arith, filter-in_order, in_order-bound, below_filter, above_serials-above)
 
 by_version-place : (bound : ℕ) (entries : List Entry) → by_version bound entries ≡ by_place bound (by_node_and_serial entries)
 unfolding by_version by_place
 by_version-place zero entries = refl
-by_version-place (suc version) entries =
-    rw (by_version-place version entries, by_node_and_serial-filter (makes version) entries, by_node_and_serial-filter (reads version) entries) refl
+by_version-place (suc version) entries = grind (arith, by_node_and_serial-filter, by_version-place version entries, by_node_and_serial-filter (makes version) entries, by_node_and_serial-filter (reads version) entries)
 
 -- placed entries are those by node and serial, by place
 pub by_version-in_order : (bound : ℕ) (entries : List Entry) → by_version bound entries ≡ in_order place (bound + bound) (by_node_and_serial entries)

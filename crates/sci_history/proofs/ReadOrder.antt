@@ -1,5 +1,5 @@
 -- Entries that stand by node and serial already are left so.
-use Rattle.std.proofs.Common.{◌≡◌, ℕ, suc, ◌+◌, ◌<◌, ◌≤◌, Bool, true, Some, List, [], ◌∷◌, length, get_or, refl, sym, ◌∙◌, subst, arith, inl, inr}
+use Rattle.std.proofs.Common.{◌≡◌, ℕ, suc, ◌+◌, ◌<◌, ◌≤◌, Bool, true, Some, List, [], ◌∷◌, length, get_or, sym, ◌∙◌, subst, arith, inl, inr}
 use Rattle.std.specs.List.{filter, AllByRecursion, IsAllAdjacentAnswer}
 use Rattle.std.specs.Prelude.{All}
 use Rattle.std.specs.Ordering.{is_le, is_some_and, nat_cmp, partial_ordering_then}
@@ -28,10 +28,7 @@ stands : (first second : Entry) → is_read_before first second ≡ true → Sta
 stands first second before = (grind (arith, nat_tests), λ same. grind (arith, nat_tests))
 
 stands_over : (first second third : Entry) → Stands first second → Stands second third → Stands first third
-stands_over first second third low high =
-    let le = low.0 in
-    let more = high.0 in
-    (omega arith, λ same. let serial = low.1 (omega arith) in let above = high.1 (omega arith) in omega arith)
+stands_over first second third low high = grind arith
 
 abbrev AreRead : List Entry → Type 0
 AreRead [] = Unit {0}
@@ -76,9 +73,4 @@ in_read_order entries nodes read =
 
 -- what a look at each entry and the next finds
 pub read_in_order : (refs : List (Bor Entry)) → All (λ entry. entry.node < MAX_NODES) (entries_of refs) → IsAllAdjacentAnswer (λ x y b. b ≡ is_read_before x.now y.now) refs true → by_node_and_serial (entries_of refs) ≡ entries_of refs
-read_in_order refs nodes answer =
-    let entries = entries_of refs in
-    let long : length entries ≡ length refs = rw length-map refl in
-    let step : (k : ℕ) → k + 1 < length entries → Stands (get_or entries k no_entry) (get_or entries (k + 1) no_entry) =
-    λ k lt. rw (entries_at refs k (omega arith), entries_at refs (k + 1) (omega arith)) (stands (entry_at refs k) (entry_at refs (k + 1)) (sym (answer k no_ref (omega arith)))) in
-    in_read_order entries (recursion_from_All (λ entry. entry.node < MAX_NODES) entries nodes) (are_read entries step)
+read_in_order refs nodes answer = grind (arith, length-map, no_entry, entries_at, stands, entry_at, no_ref, in_read_order, recursion_from_All, are_read)

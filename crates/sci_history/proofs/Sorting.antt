@@ -1,5 +1,5 @@
 -- A stable sort by a number puts a list in that order.
-use Rattle.std.proofs.Common.{◌≡◌, ℕ, zero, suc, ◌+◌, ◌<◌, ◌≤◌, Bool, false, eqb, ltb, not, ◌&&◌, List, [], ◌∷◌, map, get_or, refl, sym, ap, ◌∙◌, arith, inl, inr}
+use Rattle.std.proofs.Common.{◌≡◌, ℕ, zero, suc, ◌+◌, ◌<◌, ◌≤◌, Bool, false, eqb, ltb, not, ◌&&◌, List, [], ◌∷◌, map, get_or, refl, sym, ap, ◌∙◌, arith}
 use Rattle.std.specs.List.{filter}
 use Rattle.std.specs.List.Sorted.{IsPermutation, IsSortedBy, IsStableBy, IsNonDecreasingBy, ties}
 use Rattle.std.proofs.lemmas.Bool.{cases_Bool, cases_order, eq-eqb, ne_eqb, lt-ltb, le-ltb, ltb-false}
@@ -15,15 +15,7 @@ in_order_from_non_decreasing key (x ∷ xs) h =
     (recursion_from_All (λ y. key x ≤ key y) xs (λ k d lt. h 0 (suc k) d (omega arith) (omega arith)), in_order_from_non_decreasing key xs (λ i j d le lt. h (suc i) (suc j) d (omega arith) (omega arith)))
 
 tie_is : (a b : ℕ) → (not (ltb a b) && not (ltb b a)) ≡ eqb b a
-tie_is a b =
-    elim (cases_order a b) [
-      | inl same ↦ rw (le-ltb a b (omega arith), le-ltb b a (omega arith), eq-eqb b a (sym same)) refl
-      | inr apart ↦
-          elim apart [
-            | inl less ↦ rw (lt-ltb a b less, ne_eqb b a (λ e. absurd (omega arith))) refl
-            | inr more ↦ rw (le-ltb a b (omega arith), lt-ltb b a more, ne_eqb b a (λ e. absurd (omega arith))) refl
-          ]
-    ]
+tie_is a b = grind (arith, cases_order, le-ltb, eq-eqb, lt-ltb, ne_eqb)
 
 -- a test that compares numbers
 abbrev pub Compares : {X : Type 0} → (X → X → Bool) → (X → ℕ) → Type 0
@@ -58,18 +50,12 @@ in_order-bound key a b xs low below =
 
 map-filter : {X Y : Type 0} (f : X → Y) (p : Y → Bool) (xs : List X) → map f (filter (λ x. p (f x)) xs) ≡ filter p (map f xs)
 map-filter f p [] = refl
-map-filter f p (x ∷ xs) =
-    elim (cases_Bool (p (f x))) [
-      | inl passes ↦ rw (filter_yes (λ x. p (f x)) x xs passes, filter_yes p (f x) (map f xs) passes) (ap (λ ys. f x ∷ ys) (map-filter f p xs))
-      | inr fails ↦ rw (filter_no (λ x. p (f x)) x xs fails, filter_no p (f x) (map f xs) fails) (map-filter f p xs)
-    ]
+map-filter f p (x ∷ xs) = grind (arith, cases_Bool, filter_yes, filter_no, map-filter f p xs)
 
 pub map-in_order : {X Y : Type 0} (f : X → Y) (key : Y → ℕ) (bound : ℕ) (xs : List X) → map f (in_order (λ x. key (f x)) bound xs) ≡ in_order key bound (map f xs)
 unfolding in_order
 map-in_order f key zero xs = refl
-map-in_order f key (suc bound) xs =
-    map-append f (in_order (λ x. key (f x)) bound xs) (filter (λ x. eqb (key (f x)) bound) xs)
-    ∙ rw (map-in_order f key bound xs, map-filter f (λ y. eqb (key y) bound) xs) refl
+map-in_order f key (suc bound) xs = grind (arith, map-append, map-filter, map-in_order f key bound xs, map-filter f (λ y. eqb (key y) bound) xs)
 
 pub keys_below_map : {X Y : Type 0} (f : X → Y) (key : Y → ℕ) (bound : ℕ) (xs : List X) → HasKeysBelow key bound (map f xs) → HasKeysBelow (λ x. key (f x)) bound xs
 keys_below_map f key bound [] h = tt
