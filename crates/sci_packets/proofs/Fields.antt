@@ -150,7 +150,4 @@ words_written to first second rest words v len e f len-first len-second =
 pub contents_read : (bytes words line : List ℕ) (version : ℕ) → 88 ≤ length bytes → length words ≡ 8 → ((i : ℕ) → i < length words → get_or words i 0 ≡ big_number 8 (drop (8 * i) (between 24 88 bytes))) → line ≡ words → version ≡ field_at 16 8 bytes
     → (let stamped : Stamped = record { line = line; version = version } in stamped ≡ contents_in bytes)
 unfolding contents_in
-contents_read bytes words line version long len each e f =
-    let g : line ≡ words_at 24 8 bytes = e ∙ words_read bytes words long len each in
-    let made : List ℕ → ℕ → Stamped = λ l v. record { line = l; version = v } in
-    ap (λ (l : List ℕ). made l version) g ∙ ap (λ (v : ℕ). made (words_at 24 8 bytes) v) f
+contents_read bytes words line version long len each e f = grind (arith, words_read)

@@ -24,8 +24,7 @@ field_at-take k n bytes le =
 
 header_in-take : (bytes : List ℕ) → header_in (take 88 bytes) ≡ header_in bytes
 unfolding header_in
-header_in-take bytes =
-    same_header _ _ (field_at-take 0 2 bytes (omega arith)) (field_at-take 2 2 bytes (omega arith)) (field_at-take 4 2 bytes (omega arith)) (field_at-take 6 2 bytes (omega arith)) (field_at-take 8 6 bytes (omega arith)) (field_at-take 14 2 bytes (omega arith))
+header_in-take bytes = grind (arith, same_header, field_at-take)
 
 header_fault-long : (h : Header) (m n : ℕ) → 88 ≤ m → 88 ≤ n → header_fault h m ≡ header_fault h n
 unfolding header_fault body_fault
@@ -73,14 +72,7 @@ abbrev done : Packet × ℕ → Result (Packet × ℕ) PacketFault
 done x = Ok x
 
 divided : (p q : Packet) (len k : ℕ) → done (p, len) ≡ done (q, 8 * k) → done (p, len / 8) ≡ done (q, k)
-divided p q len k e =
-    let pair : Packet × ℕ = (p, len) in
-    let other : Packet × ℕ = (q, 8 * k) in
-    let both : pair ≡ other = cc in
-    let packet : p ≡ q = ap (λ (x : Packet × ℕ). x.0) both in
-    let size : len ≡ 8 * k = ap (λ (x : Packet × ℕ). x.1) both in
-    let count : len / 8 ≡ k = omega arith in
-    ap (λ (x : Packet). done (x, len / 8)) packet ∙ ap (λ (i : ℕ). done (q, i)) count
+divided p q len k e = grind arith
 
 pub only_words : (n : ℕ) (words bytes : List ℕ) (packet : Packet) (len : ℕ) → IsFront n words bytes → Only bytes (Ok (packet, len)) → OnlyInWords words (Ok (packet, len / 8))
 only_words n words bytes packet len f only p k le h =

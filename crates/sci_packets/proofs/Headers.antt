@@ -16,38 +16,11 @@ pub record IsHeader (h : Header) : Type 0 where
 
 pub header_in-fits : (bytes : List ℕ) → IsBytes bytes → IsHeader (header_in bytes)
 unfolding header_in
-header_in-fits bytes fits = record {
-  target = field_at-lt 0 2 bytes fits;
-  command = field_at-lt 2 2 bytes fits;
-  source = field_at-lt 4 2 bytes fits;
-  control = field_at-lt 6 2 bytes fits;
-  offset = field_at-lt 8 6 bytes fits;
-  identifier = field_at-lt 14 2 bytes fits;
-}
+header_in-fits bytes fits = grind (arith, field_at-lt)
 
 pub length-spelled : (h : Header) (rest : List ℕ) → length (spelled h rest) ≡ 16 + length rest
 unfolding spelled
-length-spelled h rest =
-    let f = field 2 h.identifier ++ rest in
-    let e = field 6 h.offset ++ f in
-    let d = field 2 h.control ++ e in
-    let c = field 2 h.source ++ d in
-    let b = field 2 h.command ++ c in
-    omega (
-      arith,
-      length-append (field 2 h.target) b,
-      length-append (field 2 h.command) c,
-      length-append (field 2 h.source) d,
-      length-append (field 2 h.control) e,
-      length-append (field 6 h.offset) f,
-      length-append (field 2 h.identifier) rest,
-      length-field 2 h.target,
-      length-field 2 h.command,
-      length-field 2 h.source,
-      length-field 2 h.control,
-      length-field 6 h.offset,
-      length-field 2 h.identifier,
-    )
+length-spelled h rest = grind (arith, length-append, length-field)
 
 pub spelled-append : (h : Header) (rest more : List ℕ) → spelled h rest ++ more ≡ spelled h (rest ++ more)
 unfolding spelled
@@ -67,8 +40,7 @@ joined : (made : ℕ → ℕ → ℕ → ℕ → ℕ → ℕ → Header) (a b c 
 joined made a b c d e f a' b' c' d' e' f' p q r s t u = cc
 
 pub same_header : (h g : Header) → h.target ≡ g.target → h.command ≡ g.command → h.source ≡ g.source → h.control ≡ g.control → h.offset ≡ g.offset → h.identifier ≡ g.identifier → h ≡ g
-same_header h g =
-    joined (λ t c s k o i. record { target = t; command = c; source = s; control = k; offset = o; identifier = i }) h.target h.command h.source h.control h.offset h.identifier g.target g.command g.source g.control g.offset g.identifier
+same_header h g = grind (arith, joined)
 
 pub header_cancel : (h g : Header) (r s : List ℕ) → IsHeader h → IsHeader g → spelled h r ≡ spelled g s → (h ≡ g) × (r ≡ s)
 unfolding spelled

@@ -1,5 +1,5 @@
 -- Packets and their spellings.
-use Rattle.std.proofs.Common.{◌≡◌, ℕ, ◌+◌, ◌*◌, ◌%◌, ◌^◌, ◌<◌, ◌≤◌, Bool, true, false, not, cond, eqb, ltb, ◌&&◌, ◌||◌, List, [], ◌∷◌, ◌++◌, length, take, drop, Option, Some, None, Result, Ok, Err, refl, sym, ap, subst, ◌∙◌, arith}
+use Rattle.std.proofs.Common.{◌≡◌, ℕ, ◌+◌, ◌*◌, ◌^◌, ◌<◌, ◌≤◌, Bool, true, false, cond, eqb, ltb, ◌&&◌, List, [], ◌∷◌, ◌++◌, length, take, drop, Option, Some, None, Result, Ok, Err, refl, sym, ap, subst, ◌∙◌, arith}
 use Rattle.std.specs.Prelude.{IfSome, IfOk, IsErr, ◌↔◌}
 use Rattle.std.specs.Option.{is_some}
 use Rattle.std.specs.Result.{result_err}
@@ -11,14 +11,14 @@ use Rattle.std.proofs.Props.{props}
 use Rattle.sci_packets.specs.declared.body.Body.{Body}
 use Rattle.sci_words.specs.declared.stamped.Stamped.{Stamped}
 use Rattle.sci_packets.specs.declared.fault.PacketFault.{PacketFault}
-use Rattle.sci_packets.specs.declared.fault.PacketFault.TheVariants.{Short, UnknownCommand, BadOffset, BadIdentifier}
+use Rattle.sci_packets.specs.declared.fault.PacketFault.TheVariants.{Short}
 use Rattle.sci_packets.specs.declared.header.Header.{Header}
 use Rattle.sci_packets.specs.declared.packet.Packet.{Packet}
 use Rattle.sci_packets.specs.declared.table.Parts.{Parts}
 use Rattle.sci_packets.specs.Fault.{header_fault, fault_of}
 use Rattle.sci_packets.specs.Fields.{spelled, header_in, word_bytes, contents_words, contents_in, contents_for}
 use Rattle.sci_packets.specs.Spelling.{IsContents, IsPacket, header_of, spelling, Spells, NoneSpells}
-use Rattle.sci_packets.specs.Table.{parts_of, number_of, identifier_of, is_command, is_misnamed, body_fault, takes_contents}
+use Rattle.sci_packets.specs.Table.{parts_of, number_of, identifier_of, body_fault, takes_contents}
 use Rattle.sci_packets.proofs.Bodies.{is_known, same_body, same_identifier, number_of-lt, contents_cancel}
 use Rattle.sci_packets.proofs.Fields.{IsBytes, length-word_bytes, length-words_at, words_takes, words_at-lt, field_at-lt}
 use Rattle.sci_packets.proofs.Headers.{IsHeader, length-spelled, spelled-append, header_takes, header_cancel, header_in-fits, same_header}
@@ -52,16 +52,7 @@ same_fields p q a b c d e =
 
 -- a packet by its header and its contents
 pub same_packet : (p q : Packet) → IsPacket p → IsPacket q → header_of p ≡ header_of q → (parts_of p.body).contents ≡ (parts_of q.body).contents → p ≡ q
-same_packet p q h k e s =
-    let target : p.target ≡ q.target = ap (λ (x : Header). x.target) e in
-    let source : p.source ≡ q.source = ap (λ (x : Header). x.source) e in
-    let control : p.control ≡ q.control = ap (λ (x : Header). x.control) e in
-    let offset : p.line * 64 ≡ q.line * 64 = ap (λ (x : Header). x.offset) e in
-    let line : p.line ≡ q.line = omega arith in
-    let command : (parts_of p.body).command ≡ (parts_of q.body).command = ap (λ (x : Header). x.command) e in
-    let number : number_of (parts_of p.body).identifier ≡ number_of (parts_of q.body).identifier = ap (λ (x : Header). x.identifier) e in
-    let identifier = same_identifier (parts_of p.body).identifier (parts_of q.body).identifier h.identifier k.identifier number in
-    same_fields p q target source control line (same_body p.body q.body command identifier s)
+same_packet p q h k e s = grind (arith, same_identifier, same_fields, same_body)
 
 -- spellings that agree as far as both go are of one packet
 pub spelling_cancel : (p q : Packet) (r s : List ℕ) → IsPacket p → IsPacket q → spelling p ++ r ≡ spelling q ++ s → (p ≡ q) × (r ≡ s)
@@ -109,9 +100,7 @@ length-contents (Some s) h = omega (arith, length-word_bytes (s.version ∷ s.li
 
 pub length-spelling : (p : Packet) → IsPacket p → length (spelling p) ≡ cond (is_some (parts_of p.body).contents) 88 16
 unfolding spelling
-length-spelling p h =
-    let a = (parts_of p.body).contents in
-    length-spelled (header_of p) (word_bytes (contents_words a)) ∙ ap (λ (n : ℕ). 16 + n) (length-contents a h.contents) ∙ sixteen (is_some a)
+length-spelling p h = grind (arith, length-spelled, length-contents, sixteen)
 
 -- a packet that begins bytes has no fault there
 pub body_known : (p : Packet) (length : ℕ) → IsPacket p → cond (is_some (parts_of p.body).contents) 88 16 ≤ length → body_fault (parts_of p.body).command (parts_of p.body).identifier length ≡ None
@@ -125,18 +114,11 @@ body_known p length h long =
 
 pub header_known : (p : Packet) (length : ℕ) → IsPacket p → cond (is_some (parts_of p.body).contents) 88 16 ≤ length → header_fault (header_of p) length ≡ None
 unfolding header_fault
-header_known p length h long =
-    let k = is_known p.body in
-    let multiple : p.line * 64 % 64 ≡ 0 = omega arith in
-    rw (k.command, multiple, eqb-below p.target h.target, eqb-below p.source h.source, identifier_again (parts_of p.body).identifier h.identifier) (body_known p length h long)
+header_known p length h long = grind (arith, is_known, eqb-below, identifier_again, body_known)
 
 pub none_wrong : (p : Packet) (rest bytes : List ℕ) → IsPacket p → IsBytes bytes → bytes ≡ spelling p ++ rest → fault_of bytes ≡ None
 unfolding fault_of
-none_wrong p rest bytes h fits e =
-    let size = length-spelling p h in
-    let long : cond (is_some (parts_of p.body).contents) 88 16 ≤ length bytes = omega (arith, ap (λ (b : List ℕ). length b) e, length-append (spelling p) rest, size) in
-    let least : 16 ≤ length bytes = omega (arith, long, at_least (is_some (parts_of p.body).contents)) in
-    rw (le-ltb (length bytes) 16 least, header_again p rest bytes h fits e) (header_known p (length bytes) h long)
+none_wrong p rest bytes h fits e = grind (arith, length-spelling, length-append, at_least, le-ltb, header_again, header_known)
 
 -- ---- what is read is spelled so
 
@@ -157,22 +139,13 @@ taken false s t e = absurd cc
 
 tail_takes : (a : Option Stamped) (command : ℕ) (bytes : List ℕ) → IsBytes bytes → a ≡ contents_for command bytes → cond (is_some a) 88 16 ≤ length bytes → drop 16 bytes ≡ word_bytes (contents_words a) ++ drop (cond (is_some a) 88 16) bytes
 tail_takes None command bytes fits e long = refl
-tail_takes (Some s) command bytes fits e long =
-    let same : s ≡ contents_in bytes = taken (takes_contents command) s (contents_in bytes) e in
-    contents_take bytes fits long ∙ ap (λ (t : Stamped). word_bytes (contents_words (Some t)) ++ drop 88 bytes) (sym same)
+tail_takes (Some s) command bytes fits e long = grind (arith, taken, contents_take)
 
 -- the bytes of a packet with the header and the contents that are read
 pub packet_takes : (p : Packet) (bytes : List ℕ) → IsBytes bytes → header_of p ≡ header_in bytes → (parts_of p.body).contents ≡ contents_for (header_in bytes).command bytes → cond (is_some (parts_of p.body).contents) 88 16 ≤ length bytes
     → bytes ≡ spelling p ++ drop (cond (is_some (parts_of p.body).contents) 88 16) bytes
 unfolding spelling
-packet_takes p bytes fits e s long =
-    let a = (parts_of p.body).contents in
-    let rest = drop (cond (is_some a) 88 16) bytes in
-    let least : 16 ≤ length bytes = omega (arith, long, at_least (is_some a)) in
-    header_takes bytes fits least
-    ∙ ap (λ (h : Header). spelled h (drop 16 bytes)) (sym e)
-    ∙ ap (λ (r : List ℕ). spelled (header_of p) r) (tail_takes a (header_in bytes).command bytes fits s long)
-    ∙ sym (spelled-append (header_of p) (word_bytes (contents_words a)) rest)
+packet_takes p bytes fits e s long = grind (arith, at_least, header_takes, tail_takes, spelled-append)
 
 -- ---- how many bytes there are where nothing is wrong
 
@@ -186,27 +159,12 @@ not_short false n le h = le
 
 pub none_long : (bytes : List ℕ) → fault_of bytes ≡ None → cond (takes_contents (header_in bytes).command) 88 16 ≤ length bytes
 unfolding fault_of header_fault body_fault
-none_long bytes none =
-    let n = length bytes in
-    let h = header_in bytes in
-    let a = passed (ltb n 16) Short (header_fault h n) none in
-    let b = passed (not (is_command h.command)) UnknownCommand _ a.1 in
-    let c = passed (not (eqb (h.offset % 64) 0)) BadOffset _ b.1 in
-    let d = passed (eqb h.target 0xFFFF || eqb h.source 0xFFFF) BadIdentifier (body_fault h.command (identifier_of h.identifier) n) c.1 in
-    let e = passed (is_misnamed h.command (identifier_of h.identifier)) BadIdentifier _ d.1 in
-    let f = passed (takes_contents h.command && ltb n 88) Short None e.1 in
-    not_short (takes_contents h.command) n (ltb-false n 16 a.0) f.0
+none_long bytes none = grind (arith, passed, not_short, ltb-false)
 
 -- ---- the clauses of a decoder
 
 pub is_packet : (p : Packet) (bytes : List ℕ) → IsBytes bytes → header_of p ≡ header_in bytes → (parts_of p.body).contents ≡ contents_for (header_in bytes).command bytes → (p.target < 0xFFFF) × (p.source < 0xFFFF) → IfSome (parts_of p.body).identifier (λ id. id < 0xFFFF) → IsPacket p
-is_packet p bytes fits e s nodes identifier = record {
-  target = nodes.0;
-  source = nodes.1;
-  control = subst (λ (h : Header). h.control < 2 ^ 16) (sym e) (header_in-fits bytes fits).control;
-  identifier = identifier;
-  contents = subst (λ (a : Option Stamped). IfSome a IsContents) (sym s) (contents_for-fits (header_in bytes).command bytes fits);
-}
+is_packet p bytes fits e s nodes identifier = grind (arith, header_in-fits, contents_for-fits)
 
 pub record Found (p : Packet) (k : ℕ) (bytes : List ℕ) : Type 0 where
   pub spells : Spells p (take k bytes)
@@ -252,24 +210,15 @@ none_refused bytes r e e' p q fits fault =
 
 pub header_made : (p : Packet) (parts : Parts) (t s i : ℕ) → parts ≡ parts_of p.body → t ≡ p.target → s ≡ p.source → i ≡ number_of parts.identifier
     → (let h : Header = record { target = t; command = parts.command; source = s; control = p.control; offset = p.line * 64; identifier = i } in h ≡ header_of p)
-header_made p parts t s i e f g k =
-    same_header _ (header_of p) f (ap (λ (x : Parts). x.command) e) g refl refl (k ∙ ap (λ (x : Parts). number_of x.identifier) e)
+header_made p parts t s i e f g k = grind (arith, same_header)
 
 pub packet_made : (p : Packet) (parts : Parts) → parts ≡ parts_of p.body → p.target < 0xFFFF → p.source < 0xFFFF → p.control < 2 ^ 16 → IfSome parts.identifier (λ id. id < 0xFFFF) → IfSome parts.contents IsContents → IsPacket p
-packet_made p parts e target source control identifier contents = record {
-  target = target;
-  source = source;
-  control = control;
-  identifier = subst (λ (x : Parts). IfSome x.identifier (λ id. id < 0xFFFF)) e identifier;
-  contents = subst (λ (x : Parts). IfSome x.contents IsContents) e contents;
-}
+packet_made p parts e target source control identifier contents = grind arith
 
 -- the header and nothing more
 pub short_written : (p : Packet) (h : Header) (old new : List ℕ) → h ≡ header_of p → (parts_of p.body).contents ≡ None → new ≡ spelled h (drop 16 old) → new ≡ spelling p ++ drop 16 old
 unfolding spelling
-short_written p h old new e none written =
-    let text : spelling p ≡ spelled (header_of p) [] = ap (λ (a : Option Stamped). spelled (header_of p) (word_bytes (contents_words a))) none in
-    written ∙ ap (λ (x : Header). spelled x (drop 16 old)) e ∙ sym (spelled-append (header_of p) [] (drop 16 old)) ∙ ap (λ (t : List ℕ). t ++ drop 16 old) (sym text)
+short_written p h old new e none written = grind (arith, spelled-append)
 
 -- the header and the contents
 pub long_written : (p : Packet) (h : Header) (stamped : Stamped) (old mid new : List ℕ) → h ≡ header_of p → (parts_of p.body).contents ≡ Some stamped → length old ≡ 88 → mid ≡ spelled h (drop 16 old) → new ≡ take 16 mid ++ word_bytes (stamped.version ∷ stamped.line)

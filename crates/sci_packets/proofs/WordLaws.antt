@@ -40,13 +40,11 @@ field-fits n x = high_first-fits n x
 
 first_bytes : (t c s k : ℕ) → t < 2 ^ 16 → c < 2 ^ 16 → s < 2 ^ 16 → k < 2 ^ 16 → field 8 (((t * 2 ^ 16 + c) * 2 ^ 16 + s) * 2 ^ 16 + k) ≡ field 2 t ++ (field 2 c ++ (field 2 s ++ field 2 k))
 unfolding field
-first_bytes t c s k ht hc hs hk =
-    be_bytes_8 _ _ refl (IsBytes-append (field 2 t) (field 2 c ++ (field 2 s ++ field 2 k)) (field-fits 2 t) (IsBytes-append (field 2 c) (field 2 s ++ field 2 k) (field-fits 2 c) (IsBytes-append (field 2 s) (field 2 k) (field-fits 2 s) (field-fits 2 k)))) (omega arith)
+first_bytes t c s k ht hc hs hk = grind (arith, be_bytes_8, field-fits)
 
 second_bytes : (o i : ℕ) → o < 2 ^ 48 → i < 2 ^ 16 → field 8 (o * 2 ^ 16 + i) ≡ field 6 o ++ field 2 i
 unfolding field
-second_bytes o i ho hi =
-    be_bytes_8 _ _ refl (IsBytes-append (field 6 o) (field 2 i) (field-fits 6 o) (field-fits 2 i)) (omega arith)
+second_bytes o i ho hi = grind (arith, be_bytes_8, field-fits)
 
 header_words : (h : Header) (rest : List ℕ) → IsHeader h → field 8 (first_word h) ++ (field 8 (second_word h) ++ rest) ≡ spelled h rest
 unfolding spelled
@@ -65,11 +63,7 @@ word_bytes-fits [] i = omega arith
 word_bytes-fits (w ∷ words) i = IsBytes-append (field 8 w) (word_bytes words) (field-fits 8 w) (word_bytes-fits words) i
 
 take_fits : (n : ℕ) (words : List ℕ) → ((i : ℕ) → get_or words i 0 < 2 ^ 64) → (i : ℕ) → get_or (take n words) i 0 < 2 ^ 64
-take_fits n words h i =
-    elim (cases_lt i n) [
-      | inl lt ↦ rw (get_or-take n words i 0 lt) (h i)
-      | inr le ↦ rw (get_or_past (take n words) i 0 (omega (arith, length-take n words))) (omega arith)
-    ]
+take_fits n words h i = grind (arith, cases_lt, get_or-take, get_or_past, length-take)
 
 -- ---- the words of a packet
 
@@ -196,6 +190,4 @@ begins_words p len n words bytes f fits le h =
 
 -- the bytes that `from_words` writes
 pub front_of : (n : ℕ) (words dst rest : List ℕ) → n ≡ min (length words) 11 → dst ≡ word_bytes (take n words) → IsFront n words (take (8 * n) (dst ++ rest))
-front_of n words dst rest e f =
-    let size : length dst ≡ 8 * n = ap (λ (b : List ℕ). length b) f ∙ length-word_bytes (take n words) ∙ ap (λ (k : ℕ). 8 * k) (length-take-le n words (omega arith)) in
-    record { within = omega arith; all = smaller n (length words) e; small = omega arith; text = take_at dst rest (8 * n) size ∙ f }
+front_of n words dst rest e f = grind (arith, length-word_bytes, length-take-le, smaller, take_at)
