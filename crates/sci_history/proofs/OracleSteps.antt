@@ -16,7 +16,7 @@ use Rattle.sci_history.specs.declared.entry.Entry.{Entry}
 use Rattle.sci_history.specs.Memory.{line_at, stamped_at, words_of_lines, contents_after}
 use Rattle.sci_history.specs.Placed.{log_of, is_of_node}
 use Rattle.sci_history.specs.Oracle.{Issue, IsInRange, makes_on, memory_of, entry_after, done_after, oracle_entries, logs_by_node, contents_left, oracle_logs, oracle_last}
-use Rattle.sci_history.proofs.Runs.{line_at-words_of, same_stamped}
+use Rattle.sci_history.proofs.Runs.{line_at-words_of_lines, same_stamped}
 use Rattle.sci_history.proofs.Oracles.{Traced, IsNext, stamped_of, traced_none, traced_all, filter_push_yes, filter_push_no, count_push, log_of-logs_of, line_at-zero, own_stamped, other_stamped}
 
 -- ---- the entries of one issue more
@@ -107,7 +107,7 @@ ran_step lines script issue logs memory entry h range here node-is op-is serial 
     let stamped : stamped_at memory entry.op.line ≡ stamped_of lines done entry.op.line =
     ap (λ (m : List Stamped). stamped_at m entry.op.line) h.left ∙ stamped_at-below lines done entry.op.line line in
     let words : line_at (words_of_lines memory) entry.op.line ≡ line_at (memory_of lines done) entry.op.line =
-    line_at-words_of memory entry.op.line ∙ ap (λ (s : Stamped). s.line) stamped in
+    line_at-words_of_lines memory entry.op.line ∙ ap (λ (s : Stamped). s.line) stamped in
     let replied : entry.reply ≡ reply_of (line_at (memory_of lines done) entry.op.line) entry.op = reply ∙ ap (λ w. reply_of w entry.op) words in
     let versioned : entry.version ≡ count_by (makes_on entry.op.line) done + cond (is_maker entry.op) 1 0 =
     version ∙ ap (λ (s : Stamped). s.version + cond (is_maker entry.op) 1 0) stamped in

@@ -1,5 +1,5 @@
 -- How many operations each node of a script has.
-use Rattle.std.proofs.Common.{◌≡◌, ℕ, ◌≤◌, cond, eqb, List, [], ◌∷◌, refl, ap, subst, ◌∙◌, arith, inl, inr}
+use Rattle.std.proofs.Common.{◌≡◌, ℕ, ◌≤◌, cond, eqb, List, [], ◌∷◌, refl, ◌∙◌, arith, inl, inr}
 use Rattle.std.specs.Prelude.{count_by}
 use Rattle.std.specs.List.{AllByRecursion}
 use Rattle.std.proofs.lemmas.Bool.{ne_eqb, cases_lt}
@@ -7,13 +7,7 @@ use Rattle.std.proofs.lemmas.List.Elements.{recursion_from_All}
 use Rattle.std.proofs.lemmas.List.Sums.{sum_by-append}
 use Rattle.sci_words.specs.declared.limits.TheConstants.{MAX_OPERATIONS}
 use Rattle.sci_words.specs.declared.operation.Op.{Op}
-use Rattle.sci_words.specs.declared.stamped.Stamped.{Stamped}
-use Rattle.sci_history.specs.declared.entry.Entry.{Entry}
-use Rattle.sci_history.specs.Lawful.{Lawful}
-use Rattle.sci_history.specs.Oracle.{oracle_logs, oracle_last}
-use Rattle.sci_text.specs.Log.{log_text}
-use Rattle.sci_text.specs.Script.{ScriptValue, IsScript, IsWithin, script_text}
-use Rattle.scimem.specs.OracleAnswer.{IsOracleOf}
+use Rattle.sci_text.specs.Script.{ScriptValue, IsScript, IsWithin}
 
 none_of : (nodes lines node : ℕ) (operations : List (ℕ × Op)) → AllByRecursion (λ p. IsWithin nodes lines p.0 p.1) operations → nodes ≤ node → count_by (λ p. eqb p.0 node) operations ≡ 0
 none_of nodes lines node [] h le = refl

@@ -9,7 +9,7 @@ use Rattle.sci_packets.specs.declared.fault.PacketFault.{PacketFault}
 use Rattle.sci_packets.specs.Fault.{fault_of}
 use Rattle.sci_packets.specs.Spelling.{IsPacket, Spells, NoneSpells, spelling}
 use Rattle.scimem.specs.declared.outcome.Outcome.{Outcome}
-use Rattle.scimem.specs.Decoding.{RunThen, IsRun, IsRunThenFault, IsDecoded, spellings, packet_lines, refusal, fault_word}
+use Rattle.scimem.specs.Decoding.{PacketsThen, ArePackets, ArePacketsThenFault, IsDecoded, spellings, packet_lines, refusal, fault_word}
 use Rattle.scimem.proofs.Runs.{shorter}
 
 abbrev pub NoProperPrefix : Type 0
@@ -69,10 +69,10 @@ same_run no_prefix one (p ∷ ps) (q ∷ qs) r s h k nr ns e =
 none_empty : NoneSpells []
 none_empty p k le s = let pos : 0 < k = shorter [] p k s in absurd (omega arith)
 
-one_input : NoProperPrefix → OnePacket → (input : List ℕ) (ps qs : List Packet) (r s : List ℕ) → RunThen input ps r → RunThen input qs s → NoneSpells r → NoneSpells s → (ps ≡ qs) × (r ≡ s)
+one_input : NoProperPrefix → OnePacket → (input : List ℕ) (ps qs : List Packet) (r s : List ℕ) → PacketsThen input ps r → PacketsThen input qs s → NoneSpells r → NoneSpells s → (ps ≡ qs) × (r ≡ s)
 one_input no_prefix one input ps qs r s h k nr ns = same_run no_prefix one ps qs r s h.each k.each nr ns (sym h.parts ∙ k.parts)
 
-not_both : NoProperPrefix → OnePacket → (input text other : List ℕ) → IsRun input text → IsRunThenFault input other → ⊥
+not_both : NoProperPrefix → OnePacket → (input text other : List ℕ) → ArePackets input text → ArePacketsThenFault input other → ⊥
 not_both no_prefix one input text other h k =
     let same = one_input no_prefix one input h.packets k.packets [] k.rest h.run k.run none_empty k.none in
     let goes_on = k.goes_on in
@@ -81,14 +81,14 @@ not_both no_prefix one input text other h k =
 same_fault : (r s : List ℕ) (f g : PacketFault) → r ≡ s → fault_of r ≡ Some f → fault_of s ≡ Some g → f ≡ g
 same_fault r s f g e h k = let found : fault_of r ≡ fault_of s = ap fault_of e in cc
 
-two_faults : NoProperPrefix → OnePacket → (input text other : List ℕ) → IsRunThenFault input text → IsRunThenFault input other → text ≡ other
+two_faults : NoProperPrefix → OnePacket → (input text other : List ℕ) → ArePacketsThenFault input text → ArePacketsThenFault input other → text ≡ other
 two_faults no_prefix one input text other h k =
     let same = one_input no_prefix one input h.packets k.packets h.rest k.rest h.run k.run h.none k.none in
     let fault = same_fault h.rest k.rest h.fault k.fault same.1 h.found k.found in
     h.lines ∙ ap (λ (ps : List Packet). packet_lines ps ++ refusal (length (spellings ps)) (fault_word h.fault)) same.0
     ∙ ap (λ (f : PacketFault). packet_lines k.packets ++ refusal (length (spellings k.packets)) (fault_word f)) fault ∙ sym k.lines
 
-two_runs : NoProperPrefix → OnePacket → (input text other : List ℕ) → IsRun input text → IsRun input other → text ≡ other
+two_runs : NoProperPrefix → OnePacket → (input text other : List ℕ) → ArePackets input text → ArePackets input other → text ≡ other
 two_runs no_prefix one input text other h k =
     let same = one_input no_prefix one input h.packets k.packets [] [] h.run k.run none_empty none_empty in
     h.lines ∙ ap packet_lines same.0 ∙ sym k.lines

@@ -1,5 +1,5 @@
 -- The logs and the last contents of an oracle can be written as a text, which says them alone.
-use Rattle.std.proofs.Common.{◌≡◌, ℕ, ◌+◌, ◌<◌, ◌≤◌, eqb, List, [], ◌∷◌, ◌++◌, length, filter, refl, sym, ap, subst, ◌∙◌, arith, length-append}
+use Rattle.std.proofs.Common.{◌≡◌, ℕ, ◌+◌, ◌<◌, ◌≤◌, List, [], ◌∷◌, ◌++◌, length, filter, refl, sym, ap, subst, arith, length-append}
 use Rattle.std.specs.Prelude.{Option, Some, None, IfSome, count_by}
 use Rattle.std.specs.List.{AllByRecursion, flat_map}
 use Rattle.std.proofs.lemmas.List.Elements.{recursion_from_All}
@@ -18,7 +18,7 @@ use Rattle.sci_text.proofs.LogLaws.{written_again}
 use Rattle.sci_text.proofs.ScriptText.{line_nonempty}
 use Rattle.scimem.specs.OracleAnswer.{oracle_text, IsOracleOf}
 use Rattle.scimem.proofs.Counts.{few_of_each}
-use Rattle.scimem.proofs.DoneLogs.{AreDone, AreLogged, are_logs}
+use Rattle.scimem.proofs.DoneLogs.{AreDone, are_logs}
 
 -- ---- the entries
 

@@ -7,7 +7,7 @@ use Rattle.sci_history.specs.declared.entry.Entry.{Entry}
 use Rattle.sci_history.specs.Placed.{is_of_node}
 use Rattle.sci_history.proofs.Order.{all_weaker, all_both}
 use Rattle.sci_core.specs.Size.{Size, IsMachineSize}
-use Rattle.sci_core.specs.Core.{Core, node_at, opening}
+use Rattle.sci_core.specs.Core.{node_at, opening}
 use Rattle.sci_core.specs.Done.{done}
 use Rattle.sci_core.specs.InRange.{IsEntryOf}
 use Rattle.sci_core.specs.Outcome.{logs_of}
@@ -23,7 +23,7 @@ use Rattle.sci_text.specs.Schedule.{ScheduleValue, IsSchedule, schedule_text}
 use Rattle.sci_text.specs.LogValue.{AreLogs, IsLogs}
 use Rattle.sci_text.proofs.LogLaws.{written_again}
 use Rattle.scimem.specs.ReplayAnswer.{replay_size, replayed, replay_text, IsReplayOf}
-use Rattle.scimem.proofs.DoneLogs.{AreDone, AreLogged, operands_fit, are_logs}
+use Rattle.scimem.proofs.DoneLogs.{AreDone, operands_fit, are_logs}
 
 within_limits : (s : ScheduleValue) → IsSchedule s → IsMachineSize (replay_size s)
 within_limits s is = record { extent = is.size; some_operation = omega arith; few_operations = omega arith }

@@ -1,5 +1,5 @@
 -- Packets are read one after another, and their lines are written so.
-use Rattle.std.proofs.Common.{◌≡◌, ℕ, zero, suc, ◌-◌, ◌<◌, ◌≤◌, List, [], ◌∷◌, ◌++◌, length, take, drop, refl, sym, ap, ◌∙◌, append_assoc, arith, length-append}
+use Rattle.std.proofs.Common.{◌≡◌, ℕ, zero, suc, ◌-◌, ◌<◌, ◌≤◌, List, [], ◌∷◌, ◌++◌, length, take, drop, sym, ap, ◌∙◌, append_assoc, arith, length-append}
 use Rattle.std.specs.List.{flat_map}
 use Rattle.std.proofs.lemmas.Grind.{flat_map-append}
 use Rattle.std.proofs.lemmas.List.{take-append-drop, append-nil}
@@ -8,16 +8,13 @@ use Rattle.sci_packets.specs.declared.packet.Packet.{Packet}
 use Rattle.sci_packets.specs.Fields.{field, spelled}
 use Rattle.sci_packets.specs.Spelling.{IsPacket, Spells, spelling}
 use Rattle.scimem.specs.PacketLine.{packet_line}
-use Rattle.scimem.specs.Decoding.{RunThen, spellings, packet_lines}
+use Rattle.scimem.specs.Decoding.{PacketsThen, spellings, packet_lines}
 
 -- the text has the lines of the packets that the input begins with, and the rest follows them
 pub record Reads (input rest text : List ℕ) : Type 0 where
   pub packets : List Packet
-  pub run : RunThen input packets rest
+  pub run : PacketsThen input packets rest
   pub lines : text ≡ packet_lines packets
-
-pub reads_none : (input : List ℕ) → Reads input input []
-reads_none input = record { packets = []; run = record { each = All-nil IsPacket; parts = refl }; lines = refl }
 
 one_more : (f : Packet → List ℕ) (ps : List Packet) (p : Packet) → flat_map f (ps ++ p ∷ []) ≡ flat_map f ps ++ f p
 one_more f ps p = flat_map-append f ps (p ∷ []) ∙ ap (λ (l : List ℕ). flat_map f ps ++ l) (append-nil (f p))

@@ -3,10 +3,10 @@ use Rattle.std.specs.Prelude.{ℕ, List, [], ◌∷◌, codes}
 use Rattle.scimem.specs.declared.choice.Command.{Command}
 use Rattle.scimem.specs.declared.choice.Command.TheVariants.{Oracle, Replay, Decode, Audit, Upgrade}
 
--- the words that choose a command
-abbrev pub words_of : Command → List (List ℕ)
-words_of Oracle = codes "oracle" ∷ []
-words_of Replay = codes "replay" ∷ []
-words_of Decode = codes "decode" ∷ []
-words_of Audit = codes "audit" ∷ []
-words_of Upgrade = codes "upgrade" ∷ []
+-- the arguments that choose a command
+abbrev pub arguments_of : Command → List (List ℕ)
+arguments_of Oracle = codes "oracle" ∷ []
+arguments_of Replay = codes "replay" ∷ []
+arguments_of Decode = codes "decode" ∷ []
+arguments_of Audit = codes "audit" ∷ []
+arguments_of Upgrade = codes "upgrade" ∷ []

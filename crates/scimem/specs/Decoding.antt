@@ -35,31 +35,31 @@ abbrev pub packet_lines : List Packet → List ℕ
 packet_lines packets = flat_map packet_line packets
 
 -- bytes begin with packets and go on with the rest
-pub record RunThen (input : List ℕ) (packets : List Packet) (rest : List ℕ) : Type 0 where
+pub record PacketsThen (input : List ℕ) (packets : List Packet) (rest : List ℕ) : Type 0 where
   pub each : All IsPacket packets
   pub parts : input ≡ spellings packets ++ rest
 
--- the bytes are a run of packets, of which the text has the lines
-pub record IsRun (input text : List ℕ) : Type 0 where
+-- the bytes are packets, one after another, and the text has their lines
+pub record ArePackets (input text : List ℕ) : Type 0 where
   pub packets : List Packet
-  pub run : RunThen input packets []
+  pub run : PacketsThen input packets []
   pub lines : text ≡ packet_lines packets
 
 -- Behind packets the bytes go on with what is no packet. The text has the packets' lines, and then the refusal
 -- at the place where the rest begins.
-pub record IsRunThenFault (input text : List ℕ) : Type 0 where
+pub record ArePacketsThenFault (input text : List ℕ) : Type 0 where
   pub packets : List Packet
   pub rest : List ℕ
   pub fault : PacketFault
-  pub run : RunThen input packets rest
+  pub run : PacketsThen input packets rest
   pub goes_on : 0 < length rest
   pub none : NoneSpells rest
   pub found : fault_of rest ≡ Some fault
   pub lines : text ≡ packet_lines packets ++ refusal (length (spellings packets)) (fault_word fault)
 
--- the text for bytes, and how the command ends: Done for a run of packets, else Refused
+-- the text for bytes, and how the command ends: Done for packets alone, else Refused
 abbrev pub IsDecoded : List ℕ → List ℕ → Outcome → Type 0
-IsDecoded input text outcome = (IsRun input text × (outcome ≡ Done)) ⊎ (IsRunThenFault input text × (outcome ≡ Refused))
+IsDecoded input text outcome = (ArePackets input text × (outcome ≡ Done)) ⊎ (ArePacketsThenFault input text × (outcome ≡ Refused))
 
 -- the text is the refusal of an input that can't be read
 pub record IsInputRefusal (known : Option (List ℕ)) (failed : Bool) (text : List ℕ) : Type 0 where

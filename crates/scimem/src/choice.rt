@@ -2,7 +2,7 @@
 
 ghost use Rattle.std.specs.Prelude.{◌≡◌, ◌↔◌, Some, map};
 ghost use Rattle.scimem.specs.declared.choice.Command.{Command};
-ghost use Rattle.scimem.specs.Choice.{words_of};
+ghost use Rattle.scimem.specs.Choice.{arguments_of};
 
 use std::rt::Env;
 use std::{env, io};
@@ -27,7 +27,7 @@ pub enum Command {
 
 /// The command that the words of the command line choose, the program's own name left out.
 pub fn chosen(words: &[&str]) -> Option<Command>
-    ensures { (command : Command) → (result ≡ Some command) ↔ (map (λ word. word.now) words.now ≡ words_of command) }
+    ensures { (command : Command) → (result ≡ Some command) ↔ (map (λ word. word.now) words.now ≡ arguments_of command) }
 {
     match words {
         ["oracle"] => Some(Command::Oracle),

@@ -3,7 +3,7 @@ use Rattle.std.proofs.Common.{◌≡◌, sym, ◌∙◌, ap}
 use Rattle.sci_words.specs.Stamped.{reply_of}
 use Rattle.sci_words.specs.declared.stamped.Stamped.{Stamped}
 use Rattle.sci_history.specs.Memory.{words_of_lines, stamped_at, contents_after}
-use Rattle.sci_history.proofs.Runs.{line_at-words_of, words_of-contents_after}
+use Rattle.sci_history.proofs.Runs.{line_at-words_of_lines, words_of_lines-contents_after}
 use Rattle.sci_history.proofs.memory.Memory.do_op.Goals as goal
 
 pub returns-clause-run : goal.returns-clause-run
@@ -14,7 +14,7 @@ returns-clause-run c =
     c.get-before.ensures ∙ ap (λ m. stamped_at m op.line) c.self.view_is in
     let left : c.set.new.self ≡ contents_after old op = cc in (
       c.after-after.ensures.reply
-          ∙ ap (λ words. reply_of words op) (ap (λ (s : Stamped). s.line) was ∙ sym (line_at-words_of old op.line)),
+          ∙ ap (λ words. reply_of words op) (ap (λ (s : Stamped). s.line) was ∙ sym (line_at-words_of_lines old op.line)),
       ap words_of_lines left
-          ∙ words_of-contents_after old op,
+          ∙ words_of_lines-contents_after old op,
     )
