@@ -28,7 +28,7 @@ abbrev pub marks_about : ℕ → ℕ → Option (Mark × Letter) → List Mark
 marks_about n line None = []
 marks_about n line (Some mark) = if is_about n line mark.1 then mark.0 ∷ [] else []
 
--- the marks of an event on node n and a line: none where it is not enabled
+-- the marks of an event on node n and a line: none if it is not enabled
 abbrev pub marks_of : Core → Event → ℕ → ℕ → List Mark
 marks_of core e n line = elim (stepping core e) [ None ↦ [] | Some next ↦ marks_about n line (mark_of core e) ]
 

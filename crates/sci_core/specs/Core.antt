@@ -105,7 +105,7 @@ abbrev pub taken_as : Core → ℕ → ℕ → List Letter → Option NodeOf →
 taken_as core n place rest None = None
 taken_as core n place rest (Some next) = Some (with_lane (with_node core n next) place rest)
 
--- the front of a lane is taken, where the node takes it
+-- the front of a lane is taken, if the node takes it
 abbrev pub taken_from : Core → ℕ → ℕ → (Letter → Option NodeOf) → List Letter → Option Core
 taken_from core n place taking [] = None
 taken_from core n place taking (letter ∷ rest) = taken_as core n place rest (taking letter)
@@ -119,7 +119,7 @@ step_by core n (Takes kind from taking) =
     then taken_from core n (lane_place core.size.nodes kind from n) taking (lane_of core kind from n)
     else None
 
--- the state after an event, or none where it is not enabled
+-- the state after an event, or none if it is not enabled
 unfoldable pub stepping : Core → Event → Option Core
 stepping core event = if nat_lt (node_of event) core.size.nodes then step_by core (node_of event) (side (node_at core (node_of event)) event) else None
 

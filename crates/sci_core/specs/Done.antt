@@ -17,7 +17,7 @@ abbrev pub performed : Core → Event → Option Entry
 performed core (event.Perform n line) = option_map (λ done. done.1) (node_performing (node_at core n) line)
 performed core _ = None
 
--- the entry that an event makes: none where it isn't an enabled Perform
+-- the entry that an event makes: none if it isn't an enabled Perform
 abbrev pub made_by : Core → Event → Option Entry
 made_by core e = elim (stepping core e) [ None ↦ None | Some next ↦ performed core e ]
 
@@ -38,7 +38,7 @@ pub record TakesEffect (entry : Entry) (old new : Stamped) : Type 0 where
   pub version : entry.version ≡ (after old entry.op).version
   pub contents : new ≡ after old entry.op
 
--- an entry takes effect on its own line; any other line, and every line where none is made, stays as it was
+-- an entry takes effect on its own line; any other line stays as it was, and if none is made every line does
 pub record Changes (entry : Entry) (line : ℕ) (old new : Stamped) : Type 0 where
   pub here : entry.op.line ≡ line → TakesEffect entry old new
   pub elsewhere : (entry.op.line ≡ line → ⊥) → new ≡ old
@@ -47,6 +47,6 @@ abbrev pub ChangesBy : Option Entry → ℕ → Stamped → Stamped → Type 0
 ChangesBy None line old new = new ≡ old
 ChangesBy (Some entry) line old new = Changes entry line old new
 
--- the last contents of each line are those of the state before, but where an entry was made
+-- the last contents of each line are those of the state before, unless an entry was made
 abbrev pub LastChanges : Core → Core → Option Entry → Type 0
 LastChanges old new made = (line : ℕ) → line < old.size.lines → ChangesBy made line (last_at old line) (last_at new line)

@@ -82,7 +82,7 @@ abbrev pub is_home_fresh : HomeState → Bool
 is_home_fresh (at.Fresh p c) = true
 is_home_fresh _ = false
 
--- where the home is fresh, and below any fresh member that stands before the authority, every member down to the
+-- if the home is fresh, and below any fresh member that stands before the authority, every member down to the
 -- authority is fresh
 pub record IsFreshDown (core : Core) (line : ℕ) (nodes : List ℕ) : Type 0 where
   pub home : (before after : List ℕ) (a : ℕ) → IsSplit core line nodes before a after → is_home_fresh (home_at core line) ≡ true → AreFresh core line (before ++ a ∷ [])

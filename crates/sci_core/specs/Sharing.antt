@@ -91,7 +91,7 @@ first_authority (sharer ∷ rest) = option_or (authority_contents sharer) (first
 
 -- ---- the last contents
 
--- the home's contents where nobody may have written since, else the authority's
+-- the home's contents if nobody may have written since, else the authority's
 abbrev pub last_at : Core → ℕ → Stamped
 last_at core line = unwrap_or (option_or (current_of (home_at core line)) (first_authority (sharers core line))) zero_stamped
 

@@ -26,7 +26,7 @@ pub record IsListOf (link : ℕ → Option (Option ℕ)) (first : Option ℕ) (n
 
 -- ---- sharing lists
 
--- the entry behind node n, or none at the list's end; None where n is no member
+-- the entry behind node n, or none at the list's end; None if n is no member
 abbrev pub link_at : Core → ℕ → ℕ → Option (Option ℕ)
 link_at core line n = link_of (sharer_of core line n).state (sharer_of core line n).answer
 

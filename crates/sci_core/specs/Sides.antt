@@ -15,7 +15,7 @@ use Rattle.sci_core.specs.Core.{Core, node_at, with_node, lane_place, lane_of, w
 abbrev pub taken_to : Core → ℕ → LaneKind → ℕ → List Letter → NodeOf → Core
 taken_to core n kind from rest next = with_lane (with_node core n next) (lane_place core.size.nodes kind from n) rest
 
--- An event that takes a packet is what the node does with the front of the lane: enabled exactly where it takes it.
+-- An event that takes a packet is what the node does with the front of the lane: enabled exactly if it takes it.
 pub record TakesFront (core : Core) (n : ℕ) (kind : LaneKind) (taking : NodeOf → Letter → Option NodeOf) (from : ℕ) (e : Event) : Type 0 where
   pub front : (letter : Letter) (rest : List Letter) → lane_of core kind from n ≡ letter ∷ rest → stepping core e ≡ option_map (taken_to core n kind from rest) (taking (node_at core n) letter)
   pub empty : lane_of core kind from n ≡ [] → stepping core e ≡ None

@@ -21,7 +21,7 @@ taking_event Serve from n = event.Serve from n
 taking_event Refuse from n = event.Refuse from n
 taking_event Accept from n = event.Accept from n
 
--- the node after it, or none where it doesn't take the packet
+-- the node after it, or none if it doesn't take the packet
 abbrev pub node_taking : Taking → NodeOf → Letter → Option NodeOf
 node_taking Serve node letter = node_serving node letter
 node_taking Refuse node letter = node_refusing node letter

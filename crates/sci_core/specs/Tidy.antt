@@ -37,7 +37,7 @@ HasItsPackets home line [] = waits line.state ≡ false
 HasItsPackets home line (letter ∷ []) = IsAwaited home line letter
 HasItsPackets home line (letter ∷ another ∷ letters) = ⊥
 
--- for each node and line: exactly one packet of its asks is under way where it waits, and none where it doesn't
+-- for each node and line: exactly one packet of its asks is under way if it waits, and none if it doesn't
 abbrev pub IsTidy : Core → Type 0
 IsTidy core = (n line : ℕ) → n < core.size.nodes → line < core.size.lines → HasItsPackets (line % core.size.nodes) (line_of (node_at core n).cache line) (packets_of core n line)
 

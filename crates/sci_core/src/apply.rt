@@ -32,8 +32,8 @@ impl State {
     ghost use Rattle.sci_core.specs.Taking.{taking_event};
     ghost use Rattle.sci_core.specs.WellFormed.{IsWellFormed};
 
-    /// Applies an event, as the step says. Unchanged on refusal: NotEnabled exactly where the event is not
-    /// enabled, Memory only where it is.
+    /// Applies an event, as the step says. Unchanged on refusal: NotEnabled exactly if the event is not
+    /// enabled, Memory only if it is.
     pub(crate) fn apply(&mut self, event: &Event) -> Result<(), ApplyFault>
         requires { IsWellFormed self.old }
         ensures done { IfOk result (λ _. stepping self.old event.now ≡ Some self.new) }
@@ -59,7 +59,7 @@ impl State {
         }
     }
 
-    /// A node issues an operation. False, unchanged, where it can't.
+    /// A node issues an operation. False, unchanged, if it can't.
     fn issue(&mut self, n: u8, op: Op) -> bool
         requires { n < self.old.size.nodes }
         ensures done { IsTrue result → stepping self.old (event.Issue n op) ≡ Some self.new }
@@ -69,7 +69,7 @@ impl State {
         self.nodes[usize::from(n)].issue(op).is_some()
     }
 
-    /// A node performs the operation that is pending on a line. False, unchanged, where it can't.
+    /// A node performs the operation that is pending on a line. False, unchanged, if it can't.
     fn perform(&mut self, n: u8, line: u8) -> bool
         requires { n < self.old.size.nodes }
         ensures done { IsTrue result → stepping self.old (event.Perform n line) ≡ Some self.new }
@@ -115,7 +115,7 @@ impl State {
         Ok(())
     }
 
-    /// A node takes the oldest packet of a lane to it. False, unchanged, where it can't.
+    /// A node takes the oldest packet of a lane to it. False, unchanged, if it can't.
     fn take(&mut self, taking: Taking, from: u8, n: u8) -> bool
         requires well { IsWellFormed self.old }
         requires n { n < self.old.size.nodes }

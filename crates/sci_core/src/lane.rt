@@ -62,7 +62,7 @@ impl Lane {
         Ok(())
     }
 
-    /// Sends a packet: it ends the lane. Unchanged where memory is refused.
+    /// Sends a packet: it ends the lane. Unchanged if memory is refused.
     pub fn send(&mut self, packet: &Packet) -> Result<(), AllocError>
         ensures ok { OnOk result (self.new ≡ self.old ++ letter_of packet.now ∷ []) }
         ensures err { OnErr result (self.new ≡ self.old) }
@@ -110,7 +110,7 @@ impl Lane {
     }
 }
 
-/// Ends a queue with an item. Unchanged where memory is refused.
+/// Ends a queue with an item. Unchanged if memory is refused.
 fn push<T: Drop>(queue: &mut VecDeque<T>, item: T) -> Result<(), AllocError>
     ensures ok { OnOk result (queue.new.items ≡ queue.old.items ++ item ∷ []) }
     ensures err { OnErr result (queue.new.items ≡ queue.old.items) }

@@ -75,7 +75,7 @@ fn authority(held: &Held, answer: &Option<Body>) -> Option<Stamped>
     }
 }
 
-/// The answer that waits at a node, where it is for node `n` about a line.
+/// The answer that waits at a node, if it is for node `n` and about a line.
 fn waiting_answer(node: &Node, n: u8, line: u8) -> Option<Body>
     ensures { result ≡ answer_in (filter (is_about n line) (option_to_list node.now.waiting)) }
 {
@@ -131,7 +131,7 @@ impl State {
     ghost use Rattle.sci_core.specs.Sharing.{authority_contents, sharer_of, home_at, last_at as last_at_of};
     ghost use Rattle.sci_home.specs.Serving.{current_of};
 
-    /// The contents of a line in node `n`, where it is the one that may change the line or is about to. The
+    /// The contents of a line in node `n`, if it is the one that may change the line or is about to. The
     /// caller sees to it that there are such a node and such a line.
     fn authority(&self, line: u8, n: u8) -> Option<Stamped>
         requires well { IsWellFormed self.now }
@@ -143,7 +143,7 @@ impl State {
         authority(self.node(n).held(line), &answer)
     }
 
-    /// The contents of a line at its home, where nobody may have written since. The caller sees to it that there
+    /// The contents of a line at its home, if nobody may have written since. The caller sees to it that there
     /// is such a line.
     fn home_contents(&self, line: u8) -> Option<Stamped>
         requires well { IsWellFormed self.now }
@@ -156,7 +156,7 @@ impl State {
         }
     }
 
-    /// The last contents of a line: its home's where nobody may have written since, else the authority's. The
+    /// The last contents of a line: its home's if nobody may have written since, else the authority's. The
     /// caller sees to it that there is such a line.
     pub(crate) fn last_at(&self, line: u8) -> Stamped
         requires well { IsWellFormed self.now }

@@ -43,8 +43,8 @@ pub fn reached_states_are_well_formed()
     ensures { (core : Core) → IsReached core → IsWellFormed core }
 {}
 
-/// In every reached state, for each node and line: exactly one packet of its asks is under way where it waits for
-/// an answer, with the control number of its last ask, and none where it doesn't; a request is the one that the
+/// In every reached state, for each node and line: exactly one packet of its asks is under way if it waits for
+/// an answer, with the control number of its last ask, and none if it doesn't. A request is the one that the
 /// state sent.
 pub fn reached_states_are_tidy()
     ensures { (core : Core) → IsReached core → IsTidy core }
@@ -72,11 +72,12 @@ pub fn front_requests_are_served()
     ensures { (core : Core) (from n : ℕ) → IsReached core → from < core.size.nodes → n < core.size.nodes → AreServedAt core from n }
 {}
 
-/// In every reached state, for each line: its members are exactly the nodes of one list, from the home's head along
-/// their links, each of them once; where the home hasn't the line alone, exactly one of them is the authority, which
-/// may change the line or is about to; before it stand only members that come, and after it only members that
-/// follow; all of them have the line's last contents, if any; and where the home is fresh, and below any fresh member
-/// that comes, all are fresh down to the authority.
+/// In every reached state, for each line:
+/// - its members are exactly the nodes of one list, from the home's head along their links, each of them once;
+/// - if the home hasn't the line alone, exactly one of them is the authority, which may change the line or is about to;
+/// - before the authority stand only members that come, and after it only members that follow;
+/// - all of them have the line's last contents, if they have any;
+/// - if the home is fresh, and below any fresh member that comes, all are fresh down to the authority.
 pub fn lines_have_their_shape()
     ensures { (core : Core) → IsReached core → HasShapes core }
 {}

@@ -47,7 +47,7 @@ impl Machine {
 
     /// A machine of this size in which no line was touched: all lines are HOME with zero words at version 0, and
     /// all else is empty. Each node may issue `limit` operations; the caller sees to it that this is 1 to
-    /// 65,536. Refused where memory is.
+    /// 65,536. Refused if memory is.
     pub fn new(alloc: Global, extent: Extent, limit: u32) -> Result<Machine, AllocError>
         requires some { 1 ≤ limit }
         requires few { limit ≤ MAX_OPERATIONS }
@@ -60,8 +60,8 @@ impl Machine {
         })
     }
 
-    /// Applies an event. Unchanged on refusal: NotEnabled exactly where the event is not enabled, and Memory
-    /// only for an Ask or a Reply that is enabled, where its lane could not grow. A Perform answers on its line's
+    /// Applies an event. Unchanged on refusal: NotEnabled exactly if the event is not enabled, and Memory
+    /// only for an Ask or a Reply that is enabled, if its lane could not grow. A Perform answers on its line's
     /// last contents, and changes them as its operation says; no other event changes the last contents of a line.
     pub fn apply(&mut self, event: &Event) -> Result<(), ApplyFault>
         ensures done { IfOk result (λ _. stepping self.old event.now ≡ Some self.new) }
@@ -74,7 +74,7 @@ impl Machine {
         self.state.apply(event)
     }
 
-    /// Applies events in their order; those that are not enabled change nothing. Where memory is refused, the
+    /// Applies events in their order; those that are not enabled change nothing. If memory is refused, the
     /// machine stands where the events before the refused one lead.
     pub fn run(&mut self, events: &[Event]) -> Result<(), AllocError>
         ensures ok { OnOk result (self.new ≡ run_from self.old events.now) }
@@ -149,7 +149,7 @@ impl Machine {
         self.state.lane(kind, from, to)
     }
 
-    /// The oldest packet of a lane, or None where it has none. The caller sees to it that there are such nodes.
+    /// The oldest packet of a lane, or None if it has none. The caller sees to it that there are such nodes.
     pub fn front(&self, kind: LaneKind, from: u8, to: u8) -> Option<&Packet>
         requires from { from < self.now.size.nodes }
         requires to { to < self.now.size.nodes }
@@ -168,7 +168,7 @@ impl Machine {
     }
 
     /// The logs of all nodes; those beyond the machine's are empty. An audit of them with the last contents finds
-    /// them lawful. Refused where memory is.
+    /// them lawful. Refused if memory is.
     pub fn logs(&self, alloc: Global) -> Result<Logs, AllocError>
         ensures logs { IfOk result (λ logs. logs ≡ logs_of self.now) }
         ensures within { IfOk result (AreWithin self.now.size.lines) }
@@ -182,7 +182,7 @@ impl Machine {
         Ok(logs)
     }
 
-    /// The last contents of each line: its home's where nobody may have written since, and else those of the one
+    /// The last contents of each line: its home's if nobody may have written since, and else those of the one
     /// node that may change the line or is about to. The logs are lawful with them.
     pub fn last(&self) -> Last
         ensures last { result ≡ last_of self.now }

@@ -81,7 +81,7 @@ impl Node {
     ghost use Rattle.sci_core.specs.Node.{NodeOf, opening_node, lines_of, home_of, pending_on, IsForNode, IsServable, node_issuing, node_performing, node_asking, node_serving, node_refusing, node_replying, node_accepting, may_issue as may_issue_of, serving_at_home, serving_in_cache, answering};
 
     /// The node with the number `me` in a machine of this size, whose processor may issue `limit` operations.
-    /// The caller sees to it that there is such a node, and that `limit` is 1 to 65,536. Refused where memory
+    /// The caller sees to it that there is such a node, and that `limit` is 1 to 65,536. Refused if memory
     /// is; no later call takes memory.
     pub fn new(alloc: Global, me: u8, extent: Extent, limit: u32) -> Result<Node, AllocError>
         requires me { me < extent.nodes }
@@ -139,7 +139,7 @@ impl Node {
         })
     }
 
-    /// Takes the answer that waits, to be sent to its target. None, unchanged, where none waits.
+    /// Takes the answer that waits, to be sent to its target. None, unchanged, if none waits.
     pub fn take_answer(&mut self) -> Option<Packet>
         ensures taken { IfSome result (λ answer. node_replying self.old ≡ Some (self.new, letter_of answer)) }
         ensures none { result ≡ None → node_replying self.old ≡ None }
@@ -148,7 +148,7 @@ impl Node {
         self.waiting.take()
     }
 
-    /// Issues an operation, and gives its serial: the count of operations issued before. None, unchanged, where
+    /// Issues an operation, and gives its serial: the count of operations issued before. None, unchanged, if
     /// its line or its word is out of range, an operation on the line is pending, or `limit` operations were
     /// issued.
     pub fn issue(&mut self, op: Op) -> Option<u32>
@@ -179,7 +179,7 @@ impl Node {
     }
 
     /// Performs the operation that is pending on a line, and gives its entry, which now ends the log. None,
-    /// unchanged, where none is pending there or the line's state doesn't allow it.
+    /// unchanged, if none is pending there or the line's state doesn't allow it.
     pub fn perform(&mut self, line: u8) -> Option<Entry>
         ensures performed { IfSome result (λ entry. node_performing self.old line ≡ Some (self.new, entry)) }
         ensures none { result ≡ None → node_performing self.old line ≡ None }
@@ -211,7 +211,7 @@ impl Node {
         }
     }
 
-    /// Makes a request of this kind about a line. None, unchanged, where there is no such line, its state
+    /// Makes a request of this kind about a line. None, unchanged, if there is no such line, its state
     /// doesn't ask this kind, or it has no entry and no version slot is free.
     pub fn ask(&mut self, line: u8, kind: AskKind) -> Option<Packet>
         ensures asked { IfSome result (λ packet. node_asking self.old line kind ≡ Some (self.new, letter_of packet)) }
@@ -236,7 +236,7 @@ impl Node {
         self.cache.apply_ask(line, kind);
     }
 
-    /// The packet that `ask` would give, or None where it would give none.
+    /// The packet that `ask` would give, or None if it would give none.
     pub fn asked(&self, line: u8, kind: AskKind) -> Option<Packet>
         ensures asked { IfSome result (λ packet. (next : NodeOf) × (node_asking self.now line kind ≡ Some (next, letter_of packet))) }
         ensures none { result ≡ None → node_asking self.now line kind ≡ None }
@@ -247,9 +247,9 @@ impl Node {
         self.cache.asked(line, kind)
     }
 
-    /// Serves a request: its answer waits then. False, unchanged, where an answer waits already. The caller
+    /// Serves a request: its answer waits then. False, unchanged, if an answer waits already. The caller
     /// sees to it that the request is for this node and about a line of the machine, and that the home of the
-    /// line is here where it is an Mread, Fread, Claim, Clear or Wback.
+    /// line is here if it is an Mread, Fread, Claim, Clear or Wback.
     pub fn serve(&mut self, request: &Packet) -> bool
         requires { IsServable self.old (letter_of request.now) }
         ensures served { IsTrue result → node_serving self.old (letter_of request.now) ≡ Some self.new }
@@ -304,7 +304,7 @@ impl Node {
         true
     }
 
-    /// Takes an answer. False, unchanged, where it isn't awaited. The caller sees to it that the answer is for
+    /// Takes an answer. False, unchanged, if it isn't awaited. The caller sees to it that the answer is for
     /// this node and about a line of the machine.
     pub fn accept(&mut self, answer: &Packet) -> bool
         requires { IsForNode self.old (letter_of answer.now) }
@@ -318,7 +318,7 @@ impl Node {
         }
     }
 
-    /// Serves, refuses or accepts a packet. False, unchanged, where it can't.
+    /// Serves, refuses or accepts a packet. False, unchanged, if it can't.
     pub(crate) fn take(&mut self, taking: Taking, packet: &Packet) -> bool
         requires { IsTakable taking self.old (letter_of packet.now) }
         ensures taken { IsTrue result → node_taking taking self.old (letter_of packet.now) ≡ Some self.new }
@@ -349,7 +349,7 @@ impl Node {
         self.cache.held(line)
     }
 
-    /// The operation that is pending on a line, or None where there is none.
+    /// The operation that is pending on a line, or None if there is none.
     pub fn pending(&self, line: u8) -> Option<Pending>
         ensures { result ≡ pending_on self.now line }
     {
@@ -373,7 +373,7 @@ impl Node {
         &self.log
     }
 
-    /// The home of a line, or None where it is at another node. The caller sees to it that there is such a line.
+    /// The home of a line, or None if it is at another node. The caller sees to it that there is such a line.
     pub fn home(&self, line: u8) -> Option<&Home>
         requires { line < lines_of self.now }
         ensures here { IfSome result (λ home. (home.now ≡ home_of self.now line) × (line % self.now.cache.nodes ≡ self.now.cache.me)) }

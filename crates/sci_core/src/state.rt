@@ -51,7 +51,7 @@ impl State {
         (first * nodes + from) * nodes + to
     }
 
-    /// All lines Out and HOME with zero words at version 0, and all else empty. Refused where memory is.
+    /// All lines Out and HOME with zero words at version 0, and all else empty. Refused if memory is.
     pub(crate) fn new(alloc: Global, extent: Extent, limit: u32) -> Result<State, AllocError>
         requires some { 1 ≤ limit }
         requires few { limit ≤ MAX_OPERATIONS }

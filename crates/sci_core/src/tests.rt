@@ -1,4 +1,4 @@
-//! That a machine does what a small schedule says, and that it finds memory where there is some.
+//! That a machine does what a small schedule says, and that it finds memory if there is some.
 
 use crate::*;
 use sci_history::Entry;
