@@ -1,17 +1,13 @@
 -- An ask that may be made is about a line of the cache, which makes it and keeps its sizes.
-use Rattle.std.proofs.Common.{◌≡◌, subst, sym}
-use Rattle.std.specs.Prelude.{IfSome, IsSome}
+use Rattle.std.proofs.Common.{subst, sym}
+use Rattle.std.specs.Prelude.{IsSome}
 use Rattle.sci_core.specs.Node.{NodeOf, node_asking}
 use Rattle.sci_core.specs.contracts.node.Node.{the_view}
 use Rattle.sci_core.proofs.Caches.{same_asked}
 use Rattle.sci_core.proofs.Nodes.{fits_kept, node_with_cache}
-use Rattle.sci_core.proofs.Asks.{may_ask, asked_with}
+use Rattle.sci_core.proofs.Asks.{may_ask}
 use Rattle.sci_core.proofs.node.Node.apply_ask.Goals as goal
 
-pub apply_ask-requires : goal.apply_ask-requires
-apply_ask-requires c =
-    let may = may_ask (the_view c.self.inside) c.args.line c.args.kind (subst (λ (node : NodeOf). IsSome (node_asking node c.args.line c.args.kind)) (sym c.self.view_is) c.requires) in
-    record { line = may.0; asked = may.1 }
 
 pub invariant_of-self : goal.invariant_of-self
 invariant_of-self c =
@@ -19,7 +15,3 @@ invariant_of-self c =
     let same = same_asked c.self.inside.cache c.args.line c.args.kind c.apply_ask.new.self may.1 c.apply_ask.ensures.asked in
     (fits_kept _ _ _ _ _ _ same c.self.invariant.0, node_with_cache (the_view c.self.inside) _ same c.self.invariant.1)
 
-pub returns : goal.returns
-returns c =
-    subst (λ (node : NodeOf). IfSome (node_asking node c.args.line c.args.kind) (λ asked. the_view (record c.self.inside { cache = c.apply_ask.new.self }) ≡ asked.0)) c.self.view_is
-    (asked_with (the_view c.self.inside) c.args.line c.args.kind c.apply_ask.new.self c.apply_ask.ensures.asked)
