@@ -1,5 +1,5 @@
 -- What was read of an event's line, and its faults; the text of a schedule grows by the line of each event.
-use Rattle.std.proofs.Common.{◌≡◌, ℕ, ◌+◌, ◌-◌, ◌<◌, ◌≤◌, List, [], ◌∷◌, ◌++◌, length, Option, Some, None, refl, sym, ap, ◌∙◌, append_assoc, arith, inl, inr, ◌⊎◌}
+use Rattle.std.proofs.Common.{◌≡◌, ℕ, ◌+◌, ◌<◌, ◌≤◌, List, [], ◌∷◌, ◌++◌, length, Option, Some, None, refl, sym, ap, ◌∙◌, append_assoc, arith, inl, inr, ◌⊎◌}
 use Rattle.std.proofs.lemmas.List.{append-nil, length-append}
 use Rattle.std.proofs.lemmas.List.Concat.{flat_map-append}
 use Rattle.std.proofs.lemmas.Option.{none-some, some_pair_parts}
@@ -15,7 +15,7 @@ use Rattle.sci_text.specs.FirstFault.{Says}
 use Rattle.sci_text.specs.ScheduleFault.{EventFault}
 use Rattle.sci_text.specs.EventReading.{event_line_read}
 use Rattle.sci_text.proofs.Events.{EventFits, event_line_again, event_line_found}
-use Rattle.sci_text.proofs.LineLaws.{line_le, line_short, line_long}
+use Rattle.sci_text.proofs.LineLaws.{line_short, line_long}
 
 -- ---- faults
 
@@ -30,14 +30,9 @@ event_none s bytes e = λ event says.
     let again = event_line_again event says.rest in
     none-some (again.0, says.rest) (sym e ∙ (ap event_line_read says.parts ∙ again.1))
 
-pub event_long : (s : ScheduleValue) (bytes : List ℕ) (o : Option Event) (rest : List ℕ) → event_line_read bytes ≡ Some (o, rest) → MAX_TEXT_LINE_BYTES + 1 < length bytes - length rest → EventFault s bytes Syntax
+pub event_long : (s : ScheduleValue) (bytes : List ℕ) (o : Option Event) (rest : List ℕ) → event_line_read bytes ≡ Some (o, rest) → length rest + MAX_TEXT_LINE_BYTES + 1 < length bytes → EventFault s bytes Syntax
 event_long s bytes o rest e long = λ event says.
     line_long bytes (event_line event) rest (says.parts ∙ ap (λ (l : List ℕ). event_line event ++ l) (said_same bytes o rest event e says)) long says.short
-
-pub event_le : (bytes : List ℕ) (o : Option Event) (rest : List ℕ) → event_line_read bytes ≡ Some (o, rest) → length rest ≤ length bytes
-event_le bytes o rest e =
-    let f = event_line_found bytes o rest e in
-    line_le bytes (event_line f.0) rest f.1
 
 within_fits : (nodes lines : ℕ) (event : Event) → nodes ≤ 16 → lines ≤ 64 → IsEventWithin nodes lines event → EventFits event
 within_fits nodes lines (Issue node op) few less within = (omega (arith, within.known_node), (omega (arith, within.known_line), omega (arith, within.known_word), within.words))
@@ -51,7 +46,7 @@ within_fits nodes lines (Accept from node) few less within = (omega (arith, with
 pub fits : (s : ScheduleValue) → IsSchedule s → (event : Event) → IsEventWithin s.nodes s.lines event → EventFits event
 fits s good event within = within_fits s.nodes s.lines event (omega (arith, good.size.few_nodes)) (omega (arith, good.size.few_lines)) within
 
-pub event_unfit : (s : ScheduleValue) (bytes rest : List ℕ) → IsSchedule s → event_line_read bytes ≡ Some (None, rest) → length bytes - length rest ≤ MAX_TEXT_LINE_BYTES + 1 → EventFault s bytes Range
+pub event_unfit : (s : ScheduleValue) (bytes rest : List ℕ) → IsSchedule s → event_line_read bytes ≡ Some (None, rest) → length bytes ≤ length rest + MAX_TEXT_LINE_BYTES + 1 → EventFault s bytes Range
 event_unfit s bytes rest good e short =
     let f = event_line_found bytes None rest e in
     (f.0, record { rest = rest; parts = f.1; short = line_short bytes (event_line f.0) rest f.1 short }, λ within. f.2 (fits s good f.0 within))
@@ -69,7 +64,7 @@ refused_says s bytes event push.Range says refused = inr (event, says, refused)
 refused_says s bytes event push.TooMany says refused = inr (event, says, refused.0, refused.1)
 refused_says s bytes event push.Memory says refused = inl refl
 
-pub event_refused : (s : ScheduleValue) (bytes rest : List ℕ) (event : Event) (fault : PushFault) → event_line_read bytes ≡ Some (Some event, rest) → length bytes - length rest ≤ MAX_TEXT_LINE_BYTES + 1
+pub event_refused : (s : ScheduleValue) (bytes rest : List ℕ) (event : Event) (fault : PushFault) → event_line_read bytes ≡ Some (Some event, rest) → length bytes ≤ length rest + MAX_TEXT_LINE_BYTES + 1
     → EventRefusal s event fault → (kind_of fault ≡ Memory) ⊎ EventFault s bytes (kind_of fault)
 event_refused s bytes rest event fault e short refused =
     let parts = said_is bytes rest event e in

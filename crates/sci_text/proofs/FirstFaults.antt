@@ -6,7 +6,7 @@ use Rattle.std.specs.List.{flat_map, AllByRecursion}
 use Rattle.sci_text.specs.declared.fault.TextFault.{TextFault}
 use Rattle.sci_text.specs.declared.fault.TextFaultKind.{TextFaultKind}
 use Rattle.sci_text.specs.declared.fault.TextFaultKind.TheVariants.{Syntax, Range, TooMany, Read, Write, Memory}
-use Rattle.sci_text.specs.FirstFault.{LineFault, FaultAfter, IsFirstFault, IsRefusalOf, IsRefusal, IsReadAs}
+use Rattle.sci_text.specs.FirstFault.{LineFault, FaultAfter, IsFirstFault, told_line, IsRefusalOf, IsRefusal, IsReadAs}
 
 -- ---- one line
 
@@ -111,6 +111,48 @@ module _ {V : Type 0} (opening : List ℕ → TextFaultKind → Type 0) (begins 
   pub no_first_fault : (v : V) → begins input v [] → (goes_on v [] → ⊥) → (line : ℕ) (kind : TextFaultKind) → IsFirstFault opening begins goes_on count fault input line kind → ⊥
   no_first_fault v right whole line kind (inl f) = grammar.opened input kind v [] f.1 right
   no_first_fault v right whole line kind (inr f) = none_after v whole line kind f (grammar.meets input v f.before [] f.rest right f.right)
+
+-- ---- what is told of a line
+
+-- the kinds of fault that a line can have
+abbrev pub IsOfLine : TextFaultKind → Type 0
+IsOfLine Syntax = Unit {0}
+IsOfLine Range = Unit {0}
+IsOfLine TooMany = Unit {0}
+IsOfLine Read = ⊥
+IsOfLine Write = ⊥
+IsOfLine Memory = ⊥
+
+pub line_fault_is : {X : Type 0} (says fits is_full : X → Type 0) (kind : TextFaultKind) → LineFault says fits is_full kind → IsOfLine kind
+line_fault_is says fits is_full Syntax f = tt
+line_fault_is says fits is_full Range f = tt
+line_fault_is says fits is_full TooMany f = tt
+line_fault_is says fits is_full Read f = f
+line_fault_is says fits is_full Write f = f
+line_fault_is says fits is_full Memory f = f
+
+-- a fault is told of this line
+pub record IsAt (fault : TextFault) (line : ℕ) (kind : TextFaultKind) : Type 0 where
+  pub kind_is : fault.kind ≡ kind
+  pub line_is : fault.line ≡ told_line line kind
+
+refusal_of : (is_first : List ℕ → ℕ → TextFaultKind → Type 0) (kind : TextFaultKind) (input : List ℕ) (line : ℕ) → (kind ≡ Memory) ⊎ (IsOfLine kind × is_first input line kind) → IsRefusalOf is_first kind input (told_line line kind)
+refusal_of is_first Syntax input line (inl e) = absurd cc
+refusal_of is_first Range input line (inl e) = absurd cc
+refusal_of is_first TooMany input line (inl e) = absurd cc
+refusal_of is_first Read input line (inl e) = absurd cc
+refusal_of is_first Write input line (inl e) = absurd cc
+refusal_of is_first Syntax input line (inr first) = first.1
+refusal_of is_first Range input line (inr first) = first.1
+refusal_of is_first TooMany input line (inr first) = first.1
+refusal_of is_first Read input line (inr first) = first.0
+refusal_of is_first Write input line (inr first) = first.0
+refusal_of is_first Memory input line told = refl
+
+-- the first fault is told, or that memory was refused
+pub told_at : (is_first : List ℕ → ℕ → TextFaultKind → Type 0) (kind : TextFaultKind) (input : List ℕ) (fault : TextFault) (line : ℕ) → IsAt fault line kind → (kind ≡ Memory) ⊎ (IsOfLine kind × is_first input line kind) → IsRefusal is_first input fault
+told_at is_first kind input fault line at found =
+    subst (λ k. IsRefusalOf is_first k input fault.line) (sym at.kind_is) (subst (λ l. IsRefusalOf is_first kind input l) (sym at.line_is) (refusal_of is_first kind input line found))
 
 -- ---- what comes of a text in memory
 

@@ -1,5 +1,5 @@
 -- The faults of a line, from what was read of it.
-use Rattle.std.proofs.Common.{◌≡◌, ℕ, ◌+◌, ◌-◌, ◌^◌, ◌<◌, ◌≤◌, List, ◌++◌, length, Option, Some, None, ltb, refl, sym, ap, subst, ◌∙◌, arith, inl, inr, ◌⊎◌}
+use Rattle.std.proofs.Common.{◌≡◌, ℕ, ◌+◌, ◌^◌, ◌<◌, ◌≤◌, List, ◌++◌, length, Option, Some, None, ltb, refl, sym, ap, subst, ◌∙◌, arith, inl, inr, ◌⊎◌}
 use Rattle.std.specs.Option.{SomeIff}
 use Rattle.std.proofs.lemmas.Option.{none-some, cond_some, some_pair_parts}
 use Rattle.sci_words.specs.declared.limits.TheConstants.{MAX_TEXT_LINE_BYTES}
@@ -14,7 +14,7 @@ use Rattle.sci_text.specs.FirstFault.{Says}
 use Rattle.sci_text.specs.ScriptFault.{MachineFault, OperationFault}
 use Rattle.sci_text.proofs.Numbers.{fitting_below}
 use Rattle.sci_text.proofs.Operations.{OpFits}
-use Rattle.sci_text.proofs.LineLaws.{Sizes, machine_line_again, machine_line_found, operation_line_again, operation_line_found, line_le, line_short, line_long}
+use Rattle.sci_text.proofs.LineLaws.{Sizes, machine_line_again, machine_line_found, operation_line_again, operation_line_found, line_short, line_long}
 
 -- ---- the line of the size
 
@@ -25,18 +25,13 @@ said_size bytes n m c says = ap machine_line_read says.parts ∙ machine_line_ag
 pub machine_none : (bytes : List ℕ) → machine_line_read bytes ≡ None → MachineFault bytes Syntax
 machine_none bytes e = λ size says. none-some ((fitting size.0, fitting size.1, fitting size.2), says.rest) (sym e ∙ said_size bytes size.0 size.1 size.2 says)
 
-pub machine_long : (bytes : List ℕ) (sizes : Sizes) (rest : List ℕ) → machine_line_read bytes ≡ Some (sizes, rest) → MAX_TEXT_LINE_BYTES + 1 < length bytes - length rest → MachineFault bytes Syntax
+pub machine_long : (bytes : List ℕ) (sizes : Sizes) (rest : List ℕ) → machine_line_read bytes ≡ Some (sizes, rest) → length rest + MAX_TEXT_LINE_BYTES + 1 < length bytes → MachineFault bytes Syntax
 machine_long bytes sizes rest e long = λ size says.
     let line = machine_line size.0 size.1 size.2 in
     let same = some_pair_parts (fitting size.0, fitting size.1, fitting size.2) sizes says.rest rest (sym (said_size bytes size.0 size.1 size.2 says) ∙ e) in
     line_long bytes line rest (says.parts ∙ ap (λ (l : List ℕ). line ++ l) same.1) long says.short
 
-pub machine_le : (bytes : List ℕ) (a b c : Option ℕ) (rest : List ℕ) → machine_line_read bytes ≡ Some ((a, b, c), rest) → length rest ≤ length bytes
-machine_le bytes a b c rest e =
-    let f = machine_line_found bytes a b c rest e in
-    line_le bytes (machine_line f.0 f.1 f.2) rest f.3
-
-pub machine_range : (bytes : List ℕ) (a b c : Option ℕ) (rest : List ℕ) → machine_line_read bytes ≡ Some ((a, b, c), rest) → length bytes - length rest ≤ MAX_TEXT_LINE_BYTES + 1
+pub machine_range : (bytes : List ℕ) (a b c : Option ℕ) (rest : List ℕ) → machine_line_read bytes ≡ Some ((a, b, c), rest) → length bytes ≤ length rest + MAX_TEXT_LINE_BYTES + 1
     → ((n m k : ℕ) → a ≡ Some n → b ≡ Some m → c ≡ Some k → AreWithinLimits n m k → ⊥) → MachineFault bytes Range
 machine_range bytes a b c rest e short outside =
     let f = machine_line_found bytes a b c rest e in (
@@ -74,21 +69,16 @@ operation_none s bytes e = λ p says.
     let again = operation_line_again p.0 p.1 says.rest in
     none-some (again.0, says.rest) (sym e ∙ (ap operation_line_read says.parts ∙ again.1))
 
-pub operation_long : (s : ScriptValue) (bytes : List ℕ) (o : Said) (rest : List ℕ) → operation_line_read bytes ≡ Some (o, rest) → MAX_TEXT_LINE_BYTES + 1 < length bytes - length rest → OperationFault s bytes Syntax
+pub operation_long : (s : ScriptValue) (bytes : List ℕ) (o : Said) (rest : List ℕ) → operation_line_read bytes ≡ Some (o, rest) → length rest + MAX_TEXT_LINE_BYTES + 1 < length bytes → OperationFault s bytes Syntax
 operation_long s bytes o rest e long = λ p says.
     let same = said_same bytes o rest p.0 p.1 e says in
     line_long bytes (operation_line p.0 p.1) rest (says.parts ∙ ap (λ (l : List ℕ). operation_line p.0 p.1 ++ l) same.0) long says.short
-
-pub operation_le : (bytes : List ℕ) (o : Said) (rest : List ℕ) → operation_line_read bytes ≡ Some (o, rest) → length rest ≤ length bytes
-operation_le bytes o rest e =
-    let f = operation_line_found bytes o rest e in
-    line_le bytes (operation_line f.0 f.1) rest f.2
 
 fits_within : (s : ScriptValue) (node : ℕ) (op : Op) → IsScript s → IsWithin s.nodes s.lines node op → (node < 256) × OpFits op
 fits_within s node op good within =
     (omega (arith, within.known_node, good.size.few_nodes), (omega (arith, within.known_line, good.size.few_lines), omega (arith, within.known_word), within.words))
 
-pub operation_unfit : (s : ScriptValue) (bytes rest : List ℕ) → IsScript s → operation_line_read bytes ≡ Some (None, rest) → length bytes - length rest ≤ MAX_TEXT_LINE_BYTES + 1 → OperationFault s bytes Range
+pub operation_unfit : (s : ScriptValue) (bytes rest : List ℕ) → IsScript s → operation_line_read bytes ≡ Some (None, rest) → length bytes ≤ length rest + MAX_TEXT_LINE_BYTES + 1 → OperationFault s bytes Range
 operation_unfit s bytes rest good e short =
     let f = operation_line_found bytes None rest e in
     ((f.0, f.1), record { rest = rest; parts = f.2; short = line_short bytes (operation_line f.0 f.1) rest f.2 short }, λ within. f.3 (fits_within s f.0 f.1 good within))
@@ -106,7 +96,7 @@ refused_says s bytes node op push.Range says refused = inr ((node, op), says, re
 refused_says s bytes node op push.TooMany says refused = inr ((node, op), says, refused.0, refused.1)
 refused_says s bytes node op push.Memory says refused = inl refl
 
-pub operation_refused : (s : ScriptValue) (bytes rest : List ℕ) (node : ℕ) (op : Op) (fault : PushFault) → operation_line_read bytes ≡ Some (Some (node, op), rest) → length bytes - length rest ≤ MAX_TEXT_LINE_BYTES + 1
+pub operation_refused : (s : ScriptValue) (bytes rest : List ℕ) (node : ℕ) (op : Op) (fault : PushFault) → operation_line_read bytes ≡ Some (Some (node, op), rest) → length bytes ≤ length rest + MAX_TEXT_LINE_BYTES + 1
     → PushRefusal s node op fault → (kind_of fault ≡ Memory) ⊎ OperationFault s bytes (kind_of fault)
 operation_refused s bytes rest node op fault e short refused =
     let parts = said_is bytes rest node op e in

@@ -1,5 +1,5 @@
 -- A line that is written is read again, and what is read as one was written so.
-use Rattle.std.proofs.Common.{◌≡◌, ℕ, ◌+◌, ◌-◌, ◌<◌, ◌≤◌, List, [], ◌∷◌, ◌++◌, length, Option, Some, refl, sym, ap, subst, ◌∙◌, append_assoc, arith}
+use Rattle.std.proofs.Common.{◌≡◌, ℕ, ◌+◌, ◌<◌, ◌≤◌, List, [], ◌∷◌, ◌++◌, length, Option, Some, refl, sym, ap, subst, ◌∙◌, append_assoc, arith}
 use Rattle.std.specs.Prelude.{codes, option_map}
 use Rattle.std.specs.Option.{SomeIff}
 use Rattle.std.proofs.lemmas.List.{length-append}
@@ -95,11 +95,8 @@ operation_line_found bytes o rest e =
 
 -- ---- how long a line is
 
-pub line_le : (bytes line rest : List ℕ) → bytes ≡ line ++ rest → length rest ≤ length bytes
-line_le bytes line rest e = omega (arith, ap length e, length-append line rest)
-
-pub line_short : (bytes line rest : List ℕ) → bytes ≡ line ++ rest → length bytes - length rest ≤ MAX_TEXT_LINE_BYTES + 1 → IsShort line
+pub line_short : (bytes line rest : List ℕ) → bytes ≡ line ++ rest → length bytes ≤ length rest + MAX_TEXT_LINE_BYTES + 1 → IsShort line
 line_short bytes line rest e short = omega (arith, ap length e, length-append line rest)
 
-pub line_long : (bytes line rest : List ℕ) → bytes ≡ line ++ rest → MAX_TEXT_LINE_BYTES + 1 < length bytes - length rest → IsShort line → ⊥
+pub line_long : (bytes line rest : List ℕ) → bytes ≡ line ++ rest → length rest + MAX_TEXT_LINE_BYTES + 1 < length bytes → IsShort line → ⊥
 line_long bytes line rest e long short = absurd (omega (arith, ap length e, length-append line rest))

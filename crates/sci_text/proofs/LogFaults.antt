@@ -1,5 +1,5 @@
 -- The faults of a log's lines, from what was read of them.
-use Rattle.std.proofs.Common.{◌≡◌, ℕ, ◌+◌, ◌-◌, ◌^◌, ◌<◌, ◌≤◌, List, [], ◌∷◌, ◌++◌, length, Option, Some, None, refl, sym, ap, subst, ◌∙◌, append_assoc, arith, inl, inr, ◌⊎◌}
+use Rattle.std.proofs.Common.{◌≡◌, ℕ, ◌+◌, ◌^◌, ◌<◌, ◌≤◌, List, [], ◌∷◌, ◌++◌, length, Option, Some, None, refl, sym, ap, subst, ◌∙◌, append_assoc, arith, inl, inr, ◌⊎◌}
 use Rattle.std.specs.Prelude.{codes, true, false}
 use Rattle.std.specs.Option.{is_some}
 use denote.Ref.{Bor}
@@ -17,12 +17,12 @@ use Rattle.sci_text.specs.FirstFault.{Says}
 use Rattle.sci_text.specs.Number.{number, field}
 use Rattle.sci_text.specs.Operation.{operation}
 use Rattle.sci_text.specs.Log.{log_line, last_line, entry_line, issue_text, outcome_text}
-use Rattle.sci_text.specs.LogValue.{IsSize, SizeFault, BeginsLog, BeginsLast, Front, HasRoom, StampedFits, SaysEntry, NoLast, NoEntry, LogLineFault, AddsLast, AddsEntry, Answers, IsForm, HasAllLines, EntryFits, AreNumbersWithin, IsLatest, entry_count}
+use Rattle.sci_text.specs.LogValue.{IsSize, SizeFault, BeginsLog, BeginsLast, Front, HasRoom, StampedFits, SaysEntry, NoLast, LogLine, SaysNext, LogLineFault, AddsLast, AddsEntry, Answers, IsForm, HasAllLines, EntryFits, AreNumbersWithin, IsLatest, entry_count}
 use Rattle.sci_text.specs.Reading.{Gives, fitting, after, number_read, log_line_read, last_line_read, entry_line_read}
 use Rattle.sci_text.proofs.Numbers.{fitting_below, Ends, number_again, ends_field}
 use Rattle.sci_text.proofs.Words.{after_again, after_found}
 use Rattle.sci_text.proofs.LineFaults.{fitting_some}
-use Rattle.sci_text.proofs.LineLaws.{line_le, line_short, line_long}
+use Rattle.sci_text.proofs.LineLaws.{line_short, line_long}
 use Rattle.sci_text.proofs.LogReads.{SizeSaid, log_line_again, log_line_found, LastSaid, last_line_again, last_line_found, EntrySaid, EntryReads, entry_line_again, entry_line_found}
 
 -- ---- the line of the size
@@ -40,7 +40,7 @@ begins_not bytes e h = none-some h.0 (sym e ∙ (ap (after (codes "log ")) h.1 �
 pub size_none : (bytes : List ℕ) → (after (codes "log ") bytes ≡ None → ⊥) → log_line_read bytes ≡ None → SizeFault bytes Syntax
 size_none bytes begins e = (begins_found bytes (after (codes "log ") bytes) refl begins, λ size says. none-some ((fitting size.0, fitting size.1), says.rest) (sym e ∙ said_size bytes size.0 size.1 says))
 
-pub size_long : (bytes : List ℕ) (sizes : SizeSaid) (rest : List ℕ) → (after (codes "log ") bytes ≡ None → ⊥) → log_line_read bytes ≡ Some (sizes, rest) → MAX_TEXT_LINE_BYTES + 1 < length bytes - length rest → SizeFault bytes Syntax
+pub size_long : (bytes : List ℕ) (sizes : SizeSaid) (rest : List ℕ) → (after (codes "log ") bytes ≡ None → ⊥) → log_line_read bytes ≡ Some (sizes, rest) → length rest + MAX_TEXT_LINE_BYTES + 1 < length bytes → SizeFault bytes Syntax
 size_long bytes sizes rest begins e long = (
   begins_found bytes (after (codes "log ") bytes) refl begins,
   λ size says.
@@ -49,10 +49,7 @@ size_long bytes sizes rest begins e long = (
       line_long bytes line rest (says.parts ∙ ap (λ (l : List ℕ). line ++ l) same.1) long says.short,
 )
 
-pub size_le : (bytes : List ℕ) (a b : Option ℕ) (rest : List ℕ) → log_line_read bytes ≡ Some ((a, b), rest) → length rest ≤ length bytes
-size_le bytes a b rest e = let f = log_line_found bytes a b rest e in line_le bytes (log_line f.0 f.1) rest f.2
-
-pub size_range : (bytes : List ℕ) (a b : Option ℕ) (rest : List ℕ) → (after (codes "log ") bytes ≡ None → ⊥) → log_line_read bytes ≡ Some ((a, b), rest) → length bytes - length rest ≤ MAX_TEXT_LINE_BYTES + 1
+pub size_range : (bytes : List ℕ) (a b : Option ℕ) (rest : List ℕ) → (after (codes "log ") bytes ≡ None → ⊥) → log_line_read bytes ≡ Some ((a, b), rest) → length bytes ≤ length rest + MAX_TEXT_LINE_BYTES + 1
     → ((n m : ℕ) → a ≡ Some n → b ≡ Some m → IsSize n m → ⊥) → SizeFault bytes Range
 size_range bytes a b rest begins e short outside =
     let f = log_line_found bytes a b rest e in (
@@ -81,6 +78,19 @@ pub gives_some : (r : Option (Bor (List ℕ))) (read : Option (List ℕ)) → Gi
 gives_some None read h e f = absurd cc
 gives_some (Some x) read h e f = none-some x.now (sym f ∙ h)
 
+-- ---- what can't stand there
+
+-- the bytes begin with no entry that can stand next
+abbrev pub NoEntry : Front → List ℕ → Type 0
+NoEntry front bytes = (entry : Entry) → SaysEntry front bytes entry → ⊥
+
+pub neither : (front : Front) (bytes : List ℕ) → NoLast front bytes → NoEntry front bytes → LogLineFault front bytes Syntax
+neither front bytes no_last no_entry = says_nothing
+  where
+    says_nothing : (line : LogLine) → SaysNext front bytes line → ⊥
+    says_nothing (inl last) says = no_last last.0 last.1 says
+    says_nothing (inr entry) says = no_entry entry says
+
 -- ---- `last` lines
 
 last_said : (bytes : List ℕ) (l : Option ℕ) (o : Option Stamped) (rest : List ℕ) (line : ℕ) (stamped : Stamped) → last_line_read bytes ≡ Some ((l, o), rest) → length stamped.line ≡ WORDS_PER_LINE → (says : Says bytes (last_line line stamped))
@@ -95,13 +105,10 @@ last_none front bytes e = λ line stamped h.
     let again = last_line_again line stamped h.says.rest h.eight in
     none-some ((fitting line, again.0), h.says.rest) (sym e ∙ (ap last_line_read h.says.parts ∙ again.1))
 
-pub last_long : (front : Front) (bytes : List ℕ) (l : Option ℕ) (o : Option Stamped) (rest : List ℕ) → last_line_read bytes ≡ Some ((l, o), rest) → MAX_TEXT_LINE_BYTES + 1 < length bytes - length rest → NoLast front bytes
+pub last_long : (front : Front) (bytes : List ℕ) (l : Option ℕ) (o : Option Stamped) (rest : List ℕ) → last_line_read bytes ≡ Some ((l, o), rest) → length rest + MAX_TEXT_LINE_BYTES + 1 < length bytes → NoLast front bytes
 last_long front bytes l o rest e long = λ line stamped h.
     let same = last_said bytes l o rest line stamped e h.eight h.says in
     line_long bytes (last_line line stamped) rest (h.says.parts ∙ ap (λ (t : List ℕ). last_line line stamped ++ t) same.1) long h.says.short
-
-pub last_le : (bytes : List ℕ) (l : Option ℕ) (o : Option Stamped) (rest : List ℕ) → last_line_read bytes ≡ Some ((l, o), rest) → length rest ≤ length bytes
-last_le bytes l o rest e = let f = last_line_found bytes l o rest e in line_le bytes (last_line f.0 f.1) rest f.3
 
 -- another number than the next
 pub last_other : (front : Front) (bytes : List ℕ) (l : Option ℕ) (o : Option Stamped) (rest : List ℕ) → last_line_read bytes ≡ Some ((l, o), rest) → length front.last < 2 ^ 64 → (l ≡ Some (length front.last) → ⊥) → NoLast front bytes
@@ -136,13 +143,12 @@ last_is bytes l o rest count e is =
 
 -- a `last` line whose numbers are out of range
 pub last_range : (front : Front) (bytes : List ℕ) (l : Option ℕ) (o : Option Stamped) (rest : List ℕ) → entry_count front.logs ≡ 0 → HasRoom front.form.lines (length front.last) → last_line_read bytes ≡ Some ((l, o), rest) → l ≡ Some (length front.last)
-    → length bytes - length rest ≤ MAX_TEXT_LINE_BYTES + 1 → ((MAX_LINES ≤ length front.last) ⊎ (o ≡ None)) → LogLineFault front bytes Range
+    → length bytes ≤ length rest + MAX_TEXT_LINE_BYTES + 1 → ((MAX_LINES ≤ length front.last) ⊎ (o ≡ None)) → LogLineFault front bytes Range
 last_range front bytes l o rest none room e is short outside =
     let f = last_is bytes l o rest (length front.last) e is in
     let count = length front.last in
-    inl (
-      count,
-      f.0,
+    (
+      inl (count, f.0),
       record { place = record { first = none; next = refl; room = room }; says = record { rest = rest; parts = f.2; short = line_short bytes (last_line count f.0) rest f.2 short }; eight = f.1 },
       λ fits. elim outside [
         | inl many ↦ let low = fits.0 in absurd (omega arith)
@@ -178,13 +184,10 @@ entry_none front bytes e = λ entry h.
     let again = entry_line_again entry h.says.rest h.answers in
     none-some ((fitting entry.node, again.0), h.says.rest) (sym e ∙ (ap entry_line_read h.says.parts ∙ again.1))
 
-pub entry_long : (front : Front) (bytes : List ℕ) (l : Option ℕ) (o : Option Entry) (rest : List ℕ) → entry_line_read bytes ≡ Some ((l, o), rest) → MAX_TEXT_LINE_BYTES + 1 < length bytes - length rest → NoEntry front bytes
+pub entry_long : (front : Front) (bytes : List ℕ) (l : Option ℕ) (o : Option Entry) (rest : List ℕ) → entry_line_read bytes ≡ Some ((l, o), rest) → length rest + MAX_TEXT_LINE_BYTES + 1 < length bytes → NoEntry front bytes
 entry_long front bytes l o rest e long = λ entry h.
     let same = entry_said bytes l o rest entry e h.answers h.says in
     line_long bytes (entry_line entry) rest (h.says.parts ∙ ap (λ (t : List ℕ). entry_line entry ++ t) same.1) long h.says.short
-
-pub entry_le : (bytes : List ℕ) (l : Option ℕ) (o : Option Entry) (rest : List ℕ) → entry_line_read bytes ≡ Some ((l, o), rest) → length rest ≤ length bytes
-entry_le bytes l o rest e = let f = entry_line_found bytes l o rest e in line_le bytes (entry_line f.0) rest f.2
 
 -- a node below the latest
 pub entry_lower : (front : Front) (bytes : List ℕ) (l : Option ℕ) (o : Option Entry) (rest : List ℕ) (latest : ℕ) → IsLatest front.logs latest → entry_line_read bytes ≡ Some ((l, o), rest) → (n : ℕ) × (l ≡ Some n) × (n < latest) → NoEntry front bytes
@@ -205,7 +208,7 @@ not_lower l node latest e few above =
 
 -- the line that was read, at its place
 says_entry : (front : Front) (bytes : List ℕ) (l : Option ℕ) (o : Option Entry) (rest : List ℕ) (latest : ℕ) → HasAllLines front.form.lines (length front.last) → IsLatest front.logs latest → latest < 2 ^ 64
-    → entry_line_read bytes ≡ Some ((l, o), rest) → length bytes - length rest ≤ MAX_TEXT_LINE_BYTES + 1 → ((m : ℕ) → l ≡ Some m → latest ≤ m)
+    → entry_line_read bytes ≡ Some ((l, o), rest) → length bytes ≤ length rest + MAX_TEXT_LINE_BYTES + 1 → ((m : ℕ) → l ≡ Some m → latest ≤ m)
     → (entry : Entry) × SaysEntry front bytes entry × SomeIff o (EntryReads entry) entry × (bytes ≡ entry_line entry ++ rest) × (latest ≤ entry.node)
 says_entry front bytes l o rest latest whole is few e short above =
     let f = entry_line_found bytes l o rest e in
@@ -233,24 +236,24 @@ fits_reads front entry good few h =
     record { node = omega arith; serial = omega arith; op = (omega arith, omega arith, h.operands); reply = h.reply; version = h.version }
 
 pub entry_unfit : (front : Front) (bytes : List ℕ) (l : Option ℕ) (o : Option Entry) (rest : List ℕ) (latest : ℕ) → IsForm front.form → length front.last ≤ MAX_LINES → HasAllLines front.form.lines (length front.last) → IsLatest front.logs latest → latest < 2 ^ 64
-    → entry_line_read bytes ≡ Some ((l, o), rest) → length bytes - length rest ≤ MAX_TEXT_LINE_BYTES + 1 → ((m : ℕ) → l ≡ Some m → latest ≤ m) → o ≡ None → LogLineFault front bytes Range
+    → entry_line_read bytes ≡ Some ((l, o), rest) → length bytes ≤ length rest + MAX_TEXT_LINE_BYTES + 1 → ((m : ℕ) → l ≡ Some m → latest ≤ m) → o ≡ None → LogLineFault front bytes Range
 entry_unfit front bytes l o rest latest good few_lines whole is few e short above unfit =
     let s = says_entry front bytes l o rest latest whole is few e short above in
     let no : EntryReads s.0 → ⊥ = subst (λ (v : Option Entry). SomeIff v (EntryReads s.0) s.0) unfit s.2 in
-    inr (s.0, s.1, λ fits. no (fits_reads front s.0 good few_lines fits))
+    (inr s.0, s.1, λ fits. no (fits_reads front s.0 good few_lines fits))
 
 pub entry_outside : (front : Front) (bytes : List ℕ) (l : Option ℕ) (entry : Entry) (rest : List ℕ) (latest : ℕ) → HasAllLines front.form.lines (length front.last) → IsLatest front.logs latest → latest < 2 ^ 64
-    → entry_line_read bytes ≡ Some ((l, Some entry), rest) → length bytes - length rest ≤ MAX_TEXT_LINE_BYTES + 1 → ((m : ℕ) → l ≡ Some m → latest ≤ m) → (AreNumbersWithin front.form (length front.last) entry → ⊥) → LogLineFault front bytes Range
+    → entry_line_read bytes ≡ Some ((l, Some entry), rest) → length bytes ≤ length rest + MAX_TEXT_LINE_BYTES + 1 → ((m : ℕ) → l ≡ Some m → latest ≤ m) → (AreNumbersWithin front.form (length front.last) entry → ⊥) → LogLineFault front bytes Range
 entry_outside front bytes l entry rest latest whole is few e short above outside =
     let s = says_entry front bytes l (Some entry) rest latest whole is few e short above in
-    inr (s.0, s.1, λ fits. outside (subst (AreNumbersWithin front.form (length front.last)) (sym s.2.1) fits.numbers))
+    (inr s.0, s.1, λ fits. outside (subst (AreNumbersWithin front.form (length front.last)) (sym s.2.1) fits.numbers))
 
 -- the entry that was read, and that it fits
 abbrev ReadEntry : Front → List ℕ → Entry → List ℕ → ℕ → Type 0
 ReadEntry front bytes entry rest latest = SaysEntry front bytes entry × EntryFits front.form (length front.last) entry × (bytes ≡ entry_line entry ++ rest) × (latest ≤ entry.node)
 
 read_entry : (front : Front) (bytes : List ℕ) (l : Option ℕ) (entry : Entry) (rest : List ℕ) (latest : ℕ) → HasAllLines front.form.lines (length front.last) → IsLatest front.logs latest → latest < 2 ^ 64
-    → entry_line_read bytes ≡ Some ((l, Some entry), rest) → length bytes - length rest ≤ MAX_TEXT_LINE_BYTES + 1 → ((m : ℕ) → l ≡ Some m → latest ≤ m) → AreNumbersWithin front.form (length front.last) entry → ReadEntry front bytes entry rest latest
+    → entry_line_read bytes ≡ Some ((l, Some entry), rest) → length bytes ≤ length rest + MAX_TEXT_LINE_BYTES + 1 → ((m : ℕ) → l ≡ Some m → latest ≤ m) → AreNumbersWithin front.form (length front.last) entry → ReadEntry front bytes entry rest latest
 read_entry front bytes l entry rest latest whole is few e short above within =
     let s = says_entry front bytes l (Some entry) rest latest whole is few e short above in
     let reads = s.2.0 in
@@ -263,14 +266,14 @@ read_entry front bytes l entry rest latest whole is few e short above within =
     subst (λ (e : Entry). ReadEntry front bytes e rest latest) (sym s.2.1) all
 
 pub entry_too_many : (front : Front) (bytes : List ℕ) (l : Option ℕ) (entry : Entry) (rest : List ℕ) (latest : ℕ) → HasAllLines front.form.lines (length front.last) → IsLatest front.logs latest → latest < 2 ^ 64
-    → entry_line_read bytes ≡ Some ((l, Some entry), rest) → length bytes - length rest ≤ MAX_TEXT_LINE_BYTES + 1 → ((m : ℕ) → l ≡ Some m → latest ≤ m) → AreNumbersWithin front.form (length front.last) entry
+    → entry_line_read bytes ≡ Some ((l, Some entry), rest) → length bytes ≤ length rest + MAX_TEXT_LINE_BYTES + 1 → ((m : ℕ) → l ≡ Some m → latest ≤ m) → AreNumbersWithin front.form (length front.last) entry
     → front.form.entries ≤ length (log_of front.logs entry.node) → LogLineFault front bytes TooMany
 entry_too_many front bytes l entry rest latest whole is few e short above within full =
     let r = read_entry front bytes l entry rest latest whole is few e short above within in
-    (entry, r.0, r.1, full)
+    (inr entry, r.0, r.1, full)
 
 pub entry_ok : (front : Front) (bytes : List ℕ) (l : Option ℕ) (entry : Entry) (rest : List ℕ) (latest : ℕ) → HasAllLines front.form.lines (length front.last) → IsLatest front.logs latest → latest < 2 ^ 64
-    → entry_line_read bytes ≡ Some ((l, Some entry), rest) → length bytes - length rest ≤ MAX_TEXT_LINE_BYTES + 1 → ((m : ℕ) → l ≡ Some m → latest ≤ m) → AreNumbersWithin front.form (length front.last) entry
+    → entry_line_read bytes ≡ Some ((l, Some entry), rest) → length bytes ≤ length rest + MAX_TEXT_LINE_BYTES + 1 → ((m : ℕ) → l ≡ Some m → latest ≤ m) → AreNumbersWithin front.form (length front.last) entry
     → length (log_of front.logs entry.node) < front.form.entries → (new : List (List Entry)) → new ≡ set front.logs entry.node (log_of front.logs entry.node ++ entry ∷ []) → AddsEntry front.form (length front.last) front.logs new latest entry.node bytes rest
 entry_ok front bytes l entry rest latest whole is few e short above within room new added =
     let r = read_entry front bytes l entry rest latest whole is few e short above within in

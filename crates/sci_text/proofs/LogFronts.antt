@@ -14,11 +14,13 @@ use Rattle.sci_history.specs.Placed.{log_of}
 use Rattle.sci_text.specs.declared.form.Form.{Form}
 use Rattle.sci_text.specs.declared.fault.TextFault.{TextFault}
 use Rattle.sci_text.specs.declared.fault.TextFaultKind.{TextFaultKind}
-use Rattle.sci_text.specs.declared.fault.TextFaultKind.TheVariants.{Syntax, Range, TooMany, Read, Write, Memory}
-use Rattle.sci_text.specs.FirstFault.{IsRefusalOf, IsRefusal}
+use Rattle.sci_text.specs.declared.fault.TextFaultKind.TheVariants.{Syntax, Memory}
+use Rattle.sci_text.specs.FirstFault.{IsRefusal}
 use Rattle.sci_text.specs.Number.{number, field}
 use Rattle.sci_text.specs.Log.{last_line, last_lines, issue_text, entry_line, entry_lines}
-use Rattle.sci_text.specs.LogValue.{StampedFits, EntryFits, Front, front_of, IsFront, IsForm, HasAllLines, HasRoom, HasNoExtra, first_line, first_lines, front_text, entry_count, BeginsLog, BeginsLast, NoLast, LogLineFault, IsLogFault, IsRefusalAfter, AddsLast, AddsEntry, IsLatest, no_logs}
+use Rattle.sci_text.specs.LogValue.{StampedFits, EntryFits, Front, front_of, IsFront, IsForm, HasAllLines, HasRoom, HasNoExtra, first_line, first_lines, front_text, entry_count, BeginsLog, BeginsLast, NoLast, SaysNext, NextFits, HasNoRoomFor, LogLineFault, IsLogFault, IsRefusalAfter, AddsLast, AddsEntry, IsLatest, no_logs}
+use Rattle.sci_text.proofs.FirstFaults.{IsAt, line_fault_is, told_at}
+use Rattle.sci_text.proofs.LogFaults.{neither}
 
 -- ---- `last` lines
 
@@ -93,28 +95,17 @@ last_front_more form old new bytes rest h a = rw a.added (record {
 
 -- ---- faults
 
-refusal_of : (kind : TextFaultKind) (input : List ℕ) (line : ℕ) (front : Front) (rest : List ℕ) → IsFront front → input ≡ front_text front ++ rest → (front.form.lines ≡ None → BeginsLog input → ⊥) → (0 < length rest) ⊎ (HasAllLines front.form.lines (length front.last) → ⊥)
-    → line ≡ first_lines front.form.lines + length front.last + entry_count front.logs + 1 → (kind ≡ Memory → ⊥) → LogLineFault front rest kind → IsRefusalOf IsLogFault kind input line
-refusal_of Syntax input line front rest good parts first goes_on place other fault = inr (record { before = front; rest = rest; right = record { good = good; parts = parts; first = first }; more = goes_on; place = place; wrong = fault })
-refusal_of Range input line front rest good parts first goes_on place other fault = inr (record { before = front; rest = rest; right = record { good = good; parts = parts; first = first }; more = goes_on; place = place; wrong = fault })
-refusal_of TooMany input line front rest good parts first goes_on place other fault = inr (record { before = front; rest = rest; right = record { good = good; parts = parts; first = first }; more = goes_on; place = place; wrong = fault })
-refusal_of Read input line front rest good parts first goes_on place other fault = absurd fault
-refusal_of Write input line front rest good parts first goes_on place other fault = absurd fault
-refusal_of Memory input line front rest good parts first goes_on place other fault = absurd (other refl)
-
--- what is told of a line
-pub record IsAt (fault : TextFault) (line : ℕ) (kind : TextFaultKind) : Type 0 where
-  pub kind_is : fault.kind ≡ kind
-  pub memory : kind ≡ Memory → fault.line ≡ 0
-  pub other : (kind ≡ Memory → ⊥) → fault.line ≡ line
-
 refusal_at : (kind : TextFaultKind) (input : List ℕ) (fault : TextFault) (line : ℕ) (front : Front) (rest : List ℕ) → IsAt fault line kind → IsFront front → input ≡ front_text front ++ rest → (front.form.lines ≡ None → BeginsLog input → ⊥)
     → (0 < length rest) ⊎ (HasAllLines front.form.lines (length front.last) → ⊥) → line ≡ first_lines front.form.lines + length front.last + entry_count front.logs + 1 → (kind ≡ Memory) ⊎ LogLineFault front rest kind → IsRefusal IsLogFault input fault
-refusal_at kind input fault line front rest at good parts first goes_on place (inl memory) = subst (λ (k : TextFaultKind). IsRefusalOf IsLogFault k input fault.line) (sym (at.kind_is ∙ memory)) (at.memory memory)
-refusal_at kind input fault line front rest at good parts first goes_on place (inr faulty) =
-    let other : kind ≡ Memory → ⊥ = λ e. subst (LogLineFault front rest) e faulty in
-    let told = refusal_of kind input line front rest good parts first goes_on place other faulty in
-    subst (λ (k : TextFaultKind). IsRefusalOf IsLogFault k input fault.line) (sym at.kind_is) (subst (λ (l : ℕ). IsRefusalOf IsLogFault kind input l) (sym (at.other other)) told)
+refusal_at kind input fault line front rest at good parts first goes_on place faulty =
+    told_at IsLogFault kind input fault line at (elim faulty [
+      | inl memory ↦ inl memory
+      | inr wrong ↦
+          inr (
+            line_fault_is (SaysNext front rest) (NextFits front) (HasNoRoomFor front) kind wrong,
+            inr (record { before = front; rest = rest; right = record { good = good; parts = parts; first = first }; more = goes_on; place = place; wrong = wrong }),
+          )
+    ])
 
 -- a faulty `last` line
 pub last_refused : (form : Form) (last : List Stamped) (bytes rest : List ℕ) (kind : TextFaultKind) (line : ℕ) (fault : TextFault) → IsForm form → IsFrontOf form last → bytes ≡ last_lines 0 last ++ rest → BeginsLast rest → IsAt fault line kind
@@ -138,7 +129,7 @@ pub few_refused : (form : Form) (last : List Stamped) (bytes rest : List ℕ) (l
 few_refused form last bytes rest line fault good h parts no_more few at place = λ input is first.
     let front = front_of form last no_logs in
     let whole : input ≡ front_text front ++ rest = is ∙ ap (λ (t : List ℕ). first_line form ++ t) parts ∙ simp (append_assoc, append-nil) in
-    refusal_at Syntax input fault line front rest at (front_of_last form last good h) whole first (inr few) (omega (arith, place)) (inr (no_last_here front rest no_more, λ entry s. few s.place.whole))
+    refusal_at Syntax input fault line front rest at (front_of_last form last good h) whole first (inr few) (omega (arith, place)) (inr (neither front rest (no_last_here front rest no_more) (λ entry s. few s.place.whole)))
 
 -- ---- entries
 

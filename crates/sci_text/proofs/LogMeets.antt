@@ -13,11 +13,10 @@ use Rattle.sci_history.specs.declared.entry.Entry.{Entry}
 use Rattle.sci_history.specs.Placed.{log_of, AreOwn, is_of_node}
 use Rattle.sci_text.specs.declared.form.Form.{Form}
 use Rattle.sci_text.specs.declared.fault.TextFaultKind.{TextFaultKind}
-use Rattle.sci_text.specs.declared.fault.TextFaultKind.TheVariants.{Syntax, Range, TooMany, Read, Write, Memory}
 use Rattle.sci_text.specs.Log.{last_line, last_lines, entry_line, entry_lines}
-use Rattle.sci_text.specs.LogValue.{StampedFits, EntryFits, Front, front_of, IsFront, HasAllLines, HasRoom, HasNoExtra, BeginsLast, SaysEntry, IsEntryPlace, LogLineFault, entry_count}
+use Rattle.sci_text.specs.LogValue.{StampedFits, EntryFits, Front, front_of, IsFront, HasAllLines, HasRoom, HasNoExtra, BeginsLast, SaysLast, SaysEntry, IsEntryPlace, LogLine, SaysNext, NextFits, HasNoRoomFor, LogLineFault, IsForm, entry_count}
 use Rattle.sci_text.specs.Reading.{fitting, last_line_read, entry_line_read}
-use Rattle.sci_text.proofs.FirstFaults.{GoesRight}
+use Rattle.sci_text.proofs.FirstFaults.{GoesRight, SaysOne, no_line_fault}
 use Rattle.sci_text.proofs.LogReads.{LastSaid, last_line_again, EntrySaid, EntryReads, entry_line_again}
 use Rattle.sci_text.proofs.LogFaults.{fits_reads, entry_not_last}
 use Rattle.sci_text.proofs.LogFronts.{GoodLast, last_begins, entry_nonempty, node_below}
@@ -90,60 +89,58 @@ meet_entries (x ∷ xs) (y ∷ ys) r t good other e =
       | inr m ↦ inr (record { more = m.more; parts = ap (λ (s : Entry). s ∷ ys) (sym first) ∙ ap (λ (l : List Entry). x ∷ l) m.parts; left = m.left })
     ]
 
--- ---- a right `last` line has no fault
+-- ---- a line says one thing
 
-last_is_right : (front : Front) (rest tail : List ℕ) (s : Stamped) (kind : TextFaultKind) → GoodLast s → length front.last < MAX_LINES → HasRoom front.form.lines (length front.last) → entry_count front.logs ≡ 0
-    → rest ≡ last_line (length front.last) s ++ tail → LogLineFault front rest kind → ⊥
-last_is_right front rest tail s Syntax good few room none is fault =
-    let count = length front.last in
-    let low : count < 2 ^ 64 = omega arith in
-    fault.0 count s (record { place = record { first = none; next = refl; room = room }; says = record { rest = tail; parts = is; short = last_short count s low good }; eight = good.0 })
-last_is_right front rest tail s Range good few room none is (inl h) =
-    let count = length front.last in
-    let said = h.2 in
-    let a = last_line_again count s tail good.0 in
-    let b = last_line_again h.0 h.1 said.says.rest said.eight in
-    let parts = some_pair_parts {A = LastSaid} (fitting count, a.0) (fitting h.0, b.0) tail said.says.rest (sym a.1 ∙ (ap last_line_read (sym is ∙ said.says.parts) ∙ b.1)) in
-    let next = said.place.next in
-    h.3 (omega arith, both_fit a.0 b.0 (StampedFits s) (StampedFits h.1) s h.1 good.1 a.2 b.2 (ap (λ (t : LastSaid). t.1) parts.0))
-  where
-    both_fit : {A : Type 0} (o p : Option A) (P Q : Type 0) (x y : A) → P → SomeIff o P x → SomeIff p Q y → o ≡ p → Q
-    both_fit None p P Q x y h a b e = absurd (a h)
-    both_fit (Some w) None P Q x y h a b e = absurd cc
-    both_fit (Some w) (Some z) P Q x y h a b e = b.0
-last_is_right front rest tail s Range good few room none is (inr h) = entry_not_last h.0 h.1.says.rest (subst BeginsLast (sym is ∙ h.1.says.parts) (last_begins (length front.last) s tail))
-last_is_right front rest tail s TooMany good few room none is h = entry_not_last h.0 h.1.says.rest (subst BeginsLast (sym is ∙ h.1.says.parts) (last_begins (length front.last) s tail))
-last_is_right front rest tail s Read good few room none is fault = fault
-last_is_right front rest tail s Write good few room none is fault = fault
-last_is_right front rest tail s Memory good few room none is fault = fault
-
--- ---- a right entry has no fault
-
-both_fit : {A : Type 0} (o p : Option A) (P Q : Type 0) (x y : A) → P → SomeIff o P x → SomeIff p Q y → o ≡ p → Q × (x ≡ y)
+both_fit : {A : Type 0} (o p : Option A) (P Q : Type 0) (x y : A) → P → SomeIff o P x → SomeIff p Q y → o ≡ p → x ≡ y
 both_fit None p P Q x y h a b e = absurd (a h)
 both_fit (Some w) None P Q x y h a b e = absurd cc
-both_fit (Some w) (Some z) P Q x y h a b e = (b.0, sym a.1 ∙ same_Some w z e ∙ b.1)
+both_fit (Some w) (Some z) P Q x y h a b e = sym a.1 ∙ same_Some w z e ∙ b.1
 
-pub said_is : (front : Front) (rest tail : List ℕ) (entry other : Entry) → GoodEntry entry → rest ≡ entry_line entry ++ tail → SaysEntry front rest other → entry ≡ other
-said_is front rest tail entry other good is said =
-    let a = entry_line_again entry tail good.0 in
-    let b = entry_line_again other said.says.rest said.answers in
-    let parts = some_pair_parts {A = EntrySaid} (fitting entry.node, a.0) (fitting other.node, b.0) tail said.says.rest (sym a.1 ∙ (ap entry_line_read (sym is ∙ said.says.parts) ∙ b.1)) in
-    (both_fit a.0 b.0 (EntryReads entry) (EntryReads other) entry other good.1 a.2 b.2 (ap (λ (t : EntrySaid). t.1) parts.0)).1
+last_is : (front : Front) (bytes : List ℕ) (x y : ℕ × Stamped) → SaysLast front bytes x.0 x.1 → StampedFits x.1 → SaysLast front bytes y.0 y.1 → x ≡ y
+last_is front bytes x y said fits other =
+    let a = last_line_again x.0 x.1 said.says.rest said.eight in
+    let b = last_line_again y.0 y.1 other.says.rest other.eight in
+    let parts = some_pair_parts {A = LastSaid} (fitting x.0, a.0) (fitting y.0, b.0) said.says.rest other.says.rest (sym a.1 ∙ (ap last_line_read (sym said.says.parts ∙ other.says.parts) ∙ b.1)) in
+    let same : x.1 ≡ y.1 = both_fit a.0 b.0 (StampedFits x.1) (StampedFits y.1) x.1 y.1 fits a.2 b.2 (ap (λ (t : LastSaid). t.1) parts.0) in
+    ap (λ (n : ℕ). (n, x.1)) (said.place.next ∙ sym other.place.next) ∙ ap (λ (s : Stamped). (y.0, s)) same
 
-entry_is_right : (front : Front) (rest tail : List ℕ) (entry : Entry) (kind : TextFaultKind) → GoodEntry entry → EntryFits front.form (length front.last) entry → IsEntryPlace front entry.node → length (log_of front.logs entry.node) < front.form.entries
+entry_is : (front : Front) (bytes : List ℕ) (entry other : Entry) → SaysEntry front bytes entry → EntryReads entry → SaysEntry front bytes other → entry ≡ other
+entry_is front bytes entry other said reads also =
+    let a = entry_line_again entry said.says.rest said.answers in
+    let b = entry_line_again other also.says.rest also.answers in
+    let parts = some_pair_parts {A = EntrySaid} (fitting entry.node, a.0) (fitting other.node, b.0) said.says.rest also.says.rest (sym a.1 ∙ (ap entry_line_read (sym said.says.parts ∙ also.says.parts) ∙ b.1)) in
+    both_fit a.0 b.0 (EntryReads entry) (EntryReads other) entry other reads a.2 b.2 (ap (λ (t : EntrySaid). t.1) parts.0)
+
+not_both : (front : Front) (bytes : List ℕ) (line : ℕ) (stamped : Stamped) (entry : Entry) → SaysLast front bytes line stamped → SaysEntry front bytes entry → ⊥
+not_both front bytes line stamped entry last said = entry_not_last entry said.says.rest (subst BeginsLast (sym last.says.parts ∙ said.says.parts) (last_begins line stamped last.says.rest))
+
+abbrev of_last : ℕ × Stamped → LogLine
+of_last last = inl last
+
+abbrev of_entry : Entry → LogLine
+of_entry entry = inr entry
+
+pub one_log_line : (front : Front) (bytes : List ℕ) → IsForm front.form → length front.last ≤ MAX_LINES → SaysOne (SaysNext front bytes) (NextFits front)
+one_log_line front bytes good few (inl x) (inl y) says fits other = ap of_last (last_is front bytes x y says fits.1 other)
+one_log_line front bytes good few (inl x) (inr y) says fits other = absurd (not_both front bytes x.0 x.1 y says other)
+one_log_line front bytes good few (inr x) (inl y) says fits other = absurd (not_both front bytes y.0 y.1 x other says)
+one_log_line front bytes good few (inr x) (inr y) says fits other = ap of_entry (entry_is front bytes x y says (fits_reads front x good few fits) other)
+
+-- ---- a right line has no fault
+
+last_is_right : (front : Front) (rest tail : List ℕ) (s : Stamped) (kind : TextFaultKind) → IsForm front.form → GoodLast s → length front.last < MAX_LINES → HasRoom front.form.lines (length front.last) → entry_count front.logs ≡ 0
+    → rest ≡ last_line (length front.last) s ++ tail → LogLineFault front rest kind → ⊥
+last_is_right front rest tail s kind form good few room none is fault =
+    let count = length front.last in
+    let low : count < 2 ^ 64 = omega arith in
+    let says : SaysLast front rest count s = record { place = record { first = none; next = refl; room = room }; says = record { rest = tail; parts = is; short = last_short count s low good }; eight = good.0 } in
+    no_line_fault (SaysNext front rest) (NextFits front) (HasNoRoomFor front) (one_log_line front rest form (omega arith)) (of_last (count, s)) says (few, good.1) (λ full. full) kind fault
+
+entry_is_right : (front : Front) (rest tail : List ℕ) (entry : Entry) (kind : TextFaultKind) → IsForm front.form → length front.last ≤ MAX_LINES → GoodEntry entry → EntryFits front.form (length front.last) entry → IsEntryPlace front entry.node → length (log_of front.logs entry.node) < front.form.entries
     → rest ≡ entry_line entry ++ tail → LogLineFault front rest kind → ⊥
-entry_is_right front rest tail entry Syntax good fits place room is fault =
-    fault.1 entry (record { place = place; says = record { rest = tail; parts = is; short = entry_short entry good.1 }; answers = good.0 })
-entry_is_right front rest tail entry Range good fits place room is (inl h) = entry_not_last entry tail (subst BeginsLast (sym h.2.says.parts ∙ is) (last_begins h.0 h.1 h.2.says.rest))
-entry_is_right front rest tail entry Range good fits place room is (inr h) = h.2 (subst (EntryFits front.form (length front.last)) (said_is front rest tail entry h.0 good is h.1) fits)
-entry_is_right front rest tail entry TooMany good fits place room is h =
-    let same = said_is front rest tail entry h.0 good is h.1 in
-    let full : front.form.entries ≤ length (log_of front.logs entry.node) = subst (λ (x : Entry). front.form.entries ≤ length (log_of front.logs x.node)) (sym same) h.3 in
-    absurd (omega arith)
-entry_is_right front rest tail entry Read good fits place room is fault = fault
-entry_is_right front rest tail entry Write good fits place room is fault = fault
-entry_is_right front rest tail entry Memory good fits place room is fault = fault
+entry_is_right front rest tail entry kind form few good fits place room is fault =
+    let says : SaysEntry front rest entry = record { place = place; says = record { rest = tail; parts = is; short = entry_short entry good.1 }; answers = good.0 } in
+    no_line_fault (SaysNext front rest) (NextFits front) (HasNoRoomFor front) (one_log_line front rest form few) (of_entry entry) says fits (λ full. absurd (omega arith)) kind fault
 
 -- ---- the order of nodes
 
@@ -233,7 +230,7 @@ entry_goes_right own f last old logs rest tail e more good other parts left =
     let is : rest ≡ entry_line e ++ (flat_map entry_line more ++ tail) = left ∙ append_assoc (entry_line e) (flat_map entry_line more) tail in
     record {
       some = omega (arith, ap length is, length-append (entry_line e) (flat_map entry_line more ++ tail), entry_nonempty e);
-      right = λ kind fault. entry_is_right (front_of f last old) rest (flat_map entry_line more ++ tail) e kind (fits.answers, reads) fits (place_of f last old logs e more whole good.own other.own parts) (room_for own f last last old logs e more good other (omega arith) parts) is fault;
+      right = λ kind fault. entry_is_right (front_of f last old) rest (flat_map entry_line more ++ tail) e kind good.form good.few_lines (fits.answers, reads) fits (place_of f last old logs e more whole good.own other.own parts) (room_for own f last last old logs e more good other (omega arith) parts) is fault;
     }
 
 none_before : (es : List Entry) (rest tail : List ℕ) (n : ℕ) (s : Stamped) → flat_map entry_line es ++ rest ≡ last_line n s ++ tail → es ≡ []
@@ -256,7 +253,7 @@ last_goes_right f x y old logs rest other next =
     let begins = last_begins (length x) s next.tail in
     record {
       some = omega (arith, ap length (is ∙ begins.1), length-append (codes "last") begins.0);
-      right = λ kind fault. last_is_right (front_of f x old) rest next.tail s kind next.good (omega arith) (room_of f.lines (length x) (length y) other.no_extra low) (ap length none) is fault;
+      right = λ kind fault. last_is_right (front_of f x old) rest next.tail s kind other.form next.good (omega arith) (room_of f.lines (length x) (length y) other.no_extra low) (ap length none) is fault;
     }
 
 -- the same lines, and the same bytes behind them

@@ -1,5 +1,5 @@
 -- The text of a log has no line with a fault, and bytes have one first line that is faulty in a log, and one fault there.
-use Rattle.std.proofs.Common.{◌≡◌, ℕ, ◌<◌, List, [], length, Result, Ok, Err, refl, sym, ap, subst, ◌∙◌, arith, inl, inr, ◌⊎◌}
+use Rattle.std.proofs.Common.{◌≡◌, ℕ, ◌<◌, List, [], length, Result, Ok, Err, sym, ap, subst, ◌∙◌, arith, inl, inr, ◌⊎◌}
 use Rattle.std.specs.Prelude.{IfOk, IfErr}
 use Rattle.std.proofs.lemmas.List.{append-nil}
 use Rattle.sci_words.specs.declared.stamped.Stamped.{Stamped}
@@ -7,44 +7,17 @@ use Rattle.sci_history.specs.declared.entry.Entry.{Entry}
 use Rattle.sci_text.specs.declared.form.Form.{Form}
 use Rattle.sci_text.specs.declared.fault.TextFault.{TextFault}
 use Rattle.sci_text.specs.declared.fault.TextFaultKind.{TextFaultKind}
-use Rattle.sci_text.specs.declared.fault.TextFaultKind.TheVariants.{Syntax, Range, TooMany, Read, Write, Memory}
 use Rattle.sci_text.specs.FirstFault.{IsRefusal, IsReadAs}
-use Rattle.sci_text.specs.LogValue.{EntryFits, Front, front_of, front_text, IsFront, HasAllLines, IsLogs, BeginsLast, BeginsFront, GoesOn, line_count, LogLineFault, SizeFault, IsLogFault}
-use Rattle.sci_text.proofs.FirstFaults.{GoesRight, Meets, IsGrammar, one_first_fault, no_first_fault, read_as}
-use Rattle.sci_text.proofs.LogFaults.{fits_reads, entry_not_last}
-use Rattle.sci_text.proofs.LogFronts.{last_begins}
+use Rattle.sci_text.specs.LogValue.{Front, front_of, front_text, IsFront, HasAllLines, IsLogs, BeginsFront, GoesOn, line_count, SaysNext, NextFits, HasNoRoomFor, LogLineFault, SizeFault, IsLogFault}
+use Rattle.sci_text.proofs.FirstFaults.{GoesRight, Meets, IsGrammar, one_line_fault, one_first_fault, no_first_fault, read_as}
 use Rattle.sci_text.proofs.LogUnique.{OnePartition}
-use Rattle.sci_text.proofs.LogMeets.{OwnEntries, meet_fronts, said_is}
+use Rattle.sci_text.proofs.LogMeets.{OwnEntries, meet_fronts, one_log_line}
 use Rattle.sci_text.proofs.LogForms.{one_size_fault, size_right, same_forms, whole_first}
 
 -- ---- one fault of a line
 
-syntax_or_range : (front : Front) (bytes : List ℕ) → LogLineFault front bytes Syntax → LogLineFault front bytes Range → ⊥
-syntax_or_range front bytes f (inl g) = f.0 g.0 g.1 g.2
-syntax_or_range front bytes f (inr g) = f.1 g.0 g.1
-
-range_or_too_many : (front : Front) (bytes : List ℕ) → IsFront front → LogLineFault front bytes Range → LogLineFault front bytes TooMany → ⊥
-range_or_too_many front bytes good (inl f) g = entry_not_last g.0 g.1.says.rest (subst BeginsLast (sym f.2.says.parts ∙ g.1.says.parts) (last_begins f.0 f.1 f.2.says.rest))
-range_or_too_many front bytes good (inr f) g =
-    let same = said_is front bytes g.1.says.rest g.0 f.0 (g.1.answers, fits_reads front g.0 good.form good.few_lines g.2) g.1.says.parts f.1 in
-    f.2 (subst (EntryFits front.form (length front.last)) same g.2)
-
-one_line_fault : (front : Front) (bytes : List ℕ) (k j : TextFaultKind) → IsFront front → LogLineFault front bytes k → LogLineFault front bytes j → k ≡ j
-one_line_fault front bytes Syntax Syntax good f g = refl
-one_line_fault front bytes Syntax Range good f g = absurd (syntax_or_range front bytes f g)
-one_line_fault front bytes Syntax TooMany good f g = absurd (f.1 g.0 g.1)
-one_line_fault front bytes Range Syntax good f g = absurd (syntax_or_range front bytes g f)
-one_line_fault front bytes Range Range good f g = refl
-one_line_fault front bytes Range TooMany good f g = absurd (range_or_too_many front bytes good f g)
-one_line_fault front bytes TooMany Syntax good f g = absurd (g.1 f.0 f.1)
-one_line_fault front bytes TooMany Range good f g = absurd (range_or_too_many front bytes good g f)
-one_line_fault front bytes TooMany TooMany good f g = refl
-one_line_fault front bytes k Read good f g = absurd g
-one_line_fault front bytes k Write good f g = absurd g
-one_line_fault front bytes k Memory good f g = absurd g
-one_line_fault front bytes Read j good f g = absurd f
-one_line_fault front bytes Write j good f g = absurd f
-one_line_fault front bytes Memory j good f g = absurd f
+one_fault_here : (front : Front) (bytes : List ℕ) (k j : TextFaultKind) → IsFront front → LogLineFault front bytes k → LogLineFault front bytes j → k ≡ j
+one_fault_here front bytes k j good f g = one_line_fault (SaysNext front bytes) (NextFits front) (HasNoRoomFor front) (one_log_line front bytes good.form good.few_lines) k j f g
 
 -- ---- the first faulty line
 
@@ -71,7 +44,7 @@ grammar : OnePartition → OwnEntries → IsGrammar SizeFault BeginsFront LogLin
 grammar one own = record {
   one_opening = one_size_fault;
   opened = λ input k v r fault h. size_right v.form v.last v.logs input r k h.good.form h.first h.parts fault;
-  one_fault = λ input v r k j h f g. one_line_fault v r k j h.good f g;
+  one_fault = λ input v r k j h f g. one_fault_here v r k j h.good f g;
   meets = log_meets one own;
 }
 

@@ -41,6 +41,15 @@ pub record FaultAfter {V : Type 0} (begins : List ℕ → V → List ℕ → Typ
 abbrev pub IsFirstFault : {V : Type 0} → (List ℕ → TextFaultKind → Type 0) → (List ℕ → V → List ℕ → Type 0) → (V → List ℕ → Type 0) → (V → ℕ) → (V → List ℕ → TextFaultKind → Type 0) → List ℕ → ℕ → TextFaultKind → Type 0
 IsFirstFault opening begins goes_on count fault input line kind = ((line ≡ 1) × opening input kind) ⊎ FaultAfter begins goes_on count fault input line kind
 
+-- the line where a fault that is found on a line is told: 0 if memory was refused
+abbrev pub told_line : ℕ → TextFaultKind → ℕ
+told_line line Syntax = line
+told_line line Range = line
+told_line line TooMany = line
+told_line line Read = line
+told_line line Write = line
+told_line line Memory = 0
+
 -- why bytes in memory are refused: they have a faulty line, or memory was refused
 abbrev pub IsRefusalOf : (List ℕ → ℕ → TextFaultKind → Type 0) → TextFaultKind → List ℕ → ℕ → Type 0
 IsRefusalOf is_first Syntax input line = is_first input line Syntax

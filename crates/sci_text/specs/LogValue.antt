@@ -1,5 +1,6 @@
 -- Logs that are read from a text, in both formats, and the lines that say them.
 use Rattle.std.specs.Prelude.{◌≡◌, ℕ, ◌+◌, ◌<◌, ◌≤◌, ◌^◌, ◌⊎◌, List, [], ◌∷◌, ◌++◌, length, codes, All, Option, Some, None, replicate, slice_set}
+use Rattle.std.proofs.Common.{inl, inr}
 use Rattle.std.specs.List.{flat_map}
 use Rattle.sci_words.specs.declared.limits.TheConstants.{MAX_NODES, MAX_LINES, MAX_OPERATIONS, WORDS_PER_LINE, FORMAT_1_NODES, FORMAT_1_SERIALS, FORMAT_1_ENTRIES}
 use Rattle.sci_words.specs.declared.operation.Act.{Act}
@@ -10,7 +11,6 @@ use Rattle.sci_words.specs.declared.stamped.Stamped.{Stamped}
 use Rattle.sci_history.specs.declared.entry.Entry.{Entry}
 use Rattle.sci_history.specs.Placed.{log_of, AreOwn}
 use Rattle.sci_text.specs.declared.fault.TextFaultKind.{TextFaultKind}
-use Rattle.sci_text.specs.declared.fault.TextFaultKind.TheVariants.{Syntax, Range, TooMany, Read, Write, Memory}
 use Rattle.sci_text.specs.declared.fault.TextFault.{TextFault}
 use Rattle.sci_text.specs.declared.form.Form.{Form}
 use Rattle.sci_text.specs.Operation.{ActFits}
@@ -163,25 +163,33 @@ pub record SaysEntry (front : Front) (bytes : List ℕ) (entry : Entry) : Type 0
   pub says : Says bytes (entry_line entry)
   pub answers : Answers entry.op.act entry.reply
 
--- the bytes begin with no `last` line, and with no entry, that can stand next
-abbrev pub NoLast : Front → List ℕ → Type 0
-NoLast front bytes = (line : ℕ) (stamped : Stamped) → SaysLast front bytes line stamped → ⊥
+-- what a line says after the first: the number of a line with its last contents, or an entry
+abbrev pub LogLine : Type 0
+LogLine = (ℕ × Stamped) ⊎ Entry
 
-abbrev pub NoEntry : Front → List ℕ → Type 0
-NoEntry front bytes = (entry : Entry) → SaysEntry front bytes entry → ⊥
+-- the bytes begin with the line that says so, which stands at its place
+abbrev pub SaysNext : Front → List ℕ → LogLine → Type 0
+SaysNext front bytes (inl last) = SaysLast front bytes last.0 last.1
+SaysNext front bytes (inr entry) = SaysEntry front bytes entry
+
+-- its numbers are within their limits
+abbrev pub NextFits : Front → LogLine → Type 0
+NextFits front (inl last) = (last.0 < MAX_LINES) × StampedFits last.1
+NextFits front (inr entry) = EntryFits front.form (length front.last) entry
+
+-- the node of an entry has its entries already
+abbrev pub HasNoRoomFor : Front → LogLine → Type 0
+HasNoRoomFor front (inl last) = ⊥
+HasNoRoomFor front (inr entry) = front.form.entries ≤ length (log_of front.logs entry.node)
 
 -- What is wrong with the line at the front of bytes, or with their end: it is none that can stand there, whatever the
 -- numbers; or a number is out of range; or the node has its entries already.
 abbrev pub LogLineFault : Front → List ℕ → TextFaultKind → Type 0
-LogLineFault front bytes Syntax = NoLast front bytes × NoEntry front bytes
-LogLineFault front bytes Range =
-    ((line : ℕ) × (stamped : Stamped) × SaysLast front bytes line stamped × ((line < MAX_LINES) × StampedFits stamped → ⊥))
-    ⊎ ((entry : Entry) × SaysEntry front bytes entry × (EntryFits front.form (length front.last) entry → ⊥))
-LogLineFault front bytes TooMany =
-    (entry : Entry) × SaysEntry front bytes entry × EntryFits front.form (length front.last) entry × (front.form.entries ≤ length (log_of front.logs entry.node))
-LogLineFault front bytes Read = ⊥
-LogLineFault front bytes Write = ⊥
-LogLineFault front bytes Memory = ⊥
+LogLineFault front bytes kind = LineFault {X = LogLine} (SaysNext front bytes) (NextFits front) (HasNoRoomFor front) kind
+
+-- the bytes begin with no `last` line that can stand next
+abbrev pub NoLast : Front → List ℕ → Type 0
+NoLast front bytes = (line : ℕ) (stamped : Stamped) → SaysLast front bytes line stamped → ⊥
 
 -- what is wrong with a first line that begins with `log `
 abbrev pub SizeFault : List ℕ → TextFaultKind → Type 0

@@ -21,63 +21,43 @@ pub enum Verb {
 }
 
 /// The kind of ask that the word at the front of `bytes` names, and the bytes after it.
-#[tactic(auto, unfolding(crate::specs::EventReading::kind_read))]
+#[tactic(auto, unfolding(crate::specs::EventReading::kind_read, crate::specs::Reading::after))]
 fn kind_of(bytes: &[u8]) -> Option<(AskKind, &[u8])>
     ensures { Gives (λ x. (x.0, x.1.now)) result (kind_read bytes.now) }
 {
-    if let Some(rest) = after(bytes, b"mread") {
-        return Some((AskKind::Mread, rest));
-    }
-    if let Some(rest) = after(bytes, b"fread") {
-        return Some((AskKind::Fread, rest));
-    }
-    if let Some(rest) = after(bytes, b"cread") {
-        return Some((AskKind::Cread, rest));
-    }
-    if let Some(rest) = after(bytes, b"claim") {
-        return Some((AskKind::Claim, rest));
-    }
-    if let Some(rest) = after(bytes, b"clear") {
-        return Some((AskKind::Clear, rest));
-    }
-    if let Some(rest) = after(bytes, b"purge") {
-        return Some((AskKind::Purge, rest));
-    }
-    if let Some(rest) = after(bytes, b"roll") {
-        return Some((AskKind::Roll, rest));
-    }
-    if let Some(rest) = after(bytes, b"wback") {
-        return Some((AskKind::Wback, rest));
-    }
-    let rest = after(bytes, b"setback")?;
-    Some((AskKind::Setback, rest))
+    let (kind, word): (AskKind, &[u8]) = match bytes {
+        [b'm', ..] => (AskKind::Mread, b"mread"),
+        [b'f', ..] => (AskKind::Fread, b"fread"),
+        [b'c', b'r', ..] => (AskKind::Cread, b"cread"),
+        [b'c', b'l', b'a', ..] => (AskKind::Claim, b"claim"),
+        [b'c', b'l', b'e', ..] => (AskKind::Clear, b"clear"),
+        [b'p', ..] => (AskKind::Purge, b"purge"),
+        [b'r', ..] => (AskKind::Roll, b"roll"),
+        [b'w', ..] => (AskKind::Wback, b"wback"),
+        [b's', ..] => (AskKind::Setback, b"setback"),
+        _ => return None,
+    };
+    let rest = after(bytes, word)?;
+    Some((kind, rest))
 }
 
 /// The word at the front of `bytes`, and the bytes after it.
-#[tactic(auto, unfolding(crate::specs::EventReading::verb_read))]
+#[tactic(auto, unfolding(crate::specs::EventReading::verb_read, crate::specs::Reading::after))]
 fn verb_of(bytes: &[u8]) -> Option<(Verb, &[u8])>
     ensures { Gives (λ x. (x.0, x.1.now)) result (verb_read bytes.now) }
 {
-    if let Some(rest) = after(bytes, b"issue") {
-        return Some((Verb::Issue, rest));
-    }
-    if let Some(rest) = after(bytes, b"perform") {
-        return Some((Verb::Perform, rest));
-    }
-    if let Some(rest) = after(bytes, b"ask") {
-        return Some((Verb::Ask, rest));
-    }
-    if let Some(rest) = after(bytes, b"serve") {
-        return Some((Verb::Serve, rest));
-    }
-    if let Some(rest) = after(bytes, b"refuse") {
-        return Some((Verb::Refuse, rest));
-    }
-    if let Some(rest) = after(bytes, b"reply") {
-        return Some((Verb::Reply, rest));
-    }
-    let rest = after(bytes, b"accept")?;
-    Some((Verb::Accept, rest))
+    let (verb, word): (Verb, &[u8]) = match bytes {
+        [b'i', ..] => (Verb::Issue, b"issue"),
+        [b'p', ..] => (Verb::Perform, b"perform"),
+        [b'a', b's', ..] => (Verb::Ask, b"ask"),
+        [b'a', b'c', ..] => (Verb::Accept, b"accept"),
+        [b's', ..] => (Verb::Serve, b"serve"),
+        [b'r', b'e', b'f', ..] => (Verb::Refuse, b"refuse"),
+        [b'r', b'e', b'p', ..] => (Verb::Reply, b"reply"),
+        _ => return None,
+    };
+    let rest = after(bytes, word)?;
+    Some((verb, rest))
 }
 
 /// Two numbers, where both are below 256.

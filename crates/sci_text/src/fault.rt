@@ -46,6 +46,8 @@ impl From<AllocError> for TextFault {
 }
 
 impl TextFault {
+    ghost use Rattle.sci_text.specs.FirstFault.{told_line};
+
     /// A fault of the whole input.
     pub(crate) fn of_input(kind: TextFaultKind) -> TextFault
         ensures line { result.line ≡ 0 }
@@ -57,8 +59,7 @@ impl TextFault {
     /// A fault of this line, or of the whole input if it is Memory.
     pub(crate) fn at(line: usize, kind: TextFaultKind) -> TextFault
         ensures kind { result.kind ≡ kind }
-        ensures memory { kind ≡ TextFaultKind.Memory → result.line ≡ 0 }
-        ensures line { (kind ≡ TextFaultKind.Memory → ⊥) → result.line ≡ line }
+        ensures line { result.line ≡ told_line line kind }
     {
         match kind {
             TextFaultKind::Memory => TextFault::of_input(kind),

@@ -5,13 +5,14 @@ ghost use Rattle.std.specs.Bool.{OnTrue, OnFalse};
 ghost use Rattle.sci_text.specs.LogValue.{IsForm, IsSize, HasAllLines, HasRoom, SizeFault, BeginsLog, AreNumbersWithin, first_line, first_lines};
 
 use crate::fault::TextFaultKind;
+use crate::line_length::check_length;
 use crate::log_line::log_line;
 use crate::number::Number;
 use crate::operation::{after, byte};
 use sci_history::Entry;
 use sci_words::{
     FORMAT_1_ENTRIES, FORMAT_1_NODES, FORMAT_1_SERIALS, MAX_LINES, MAX_NODES, MAX_OPERATIONS,
-    MAX_TEXT_LINE_BYTES, WORDS_PER_LINE,
+    WORDS_PER_LINE,
 };
 
 /// What a log of a format may have. Format 1 has fixed limits, and as many lines as it has `last` lines; format 2 says
@@ -63,9 +64,7 @@ pub fn form_of(bytes: &[u8]) -> Result<(Form, &[u8]), TextFaultKind>
     let Some(((nodes, lines), rest)) = log_line(bytes) else {
         return Err(TextFaultKind::Syntax);
     };
-    if bytes.len() - rest.len() > MAX_TEXT_LINE_BYTES + 1 {
-        return Err(TextFaultKind::Syntax);
-    }
+    check_length(bytes, rest)?;
     let Some((nodes, lines)) = log_size(nodes, lines) else {
         return Err(TextFaultKind::Range);
     };

@@ -6,6 +6,7 @@ mod fault;
 mod form;
 mod laws;
 mod line_end;
+mod line_length;
 mod lines;
 mod log;
 mod log_line;

@@ -9,10 +9,11 @@ ghost use Rattle.sci_text.specs.FirstFault.{IsRefusal};
 ghost use Rattle.sci_text.specs.ScriptFault.{IsScriptFault, MachineFault, OperationFault};
 
 use crate::fault::{TextFault, TextFaultKind};
+use crate::line_length::check_length;
 use crate::number::{Number, field};
 use crate::operation::{after, byte, operation};
 use crate::script::Script;
-use sci_words::{Extent, MAX_TEXT_LINE_BYTES, Op};
+use sci_words::{Extent, Op};
 use std::alloc::Global;
 
 /// The numbers of the line `machine N M C` at the front of `bytes`, and the bytes after the line.
@@ -61,9 +62,7 @@ pub fn machine(bytes: &[u8]) -> Result<(Extent, &[u8]), TextFaultKind>
     let Some(((nodes, lines, slots), rest)) = machine_line(bytes) else {
         return Err(TextFaultKind::Syntax);
     };
-    if bytes.len() - rest.len() > MAX_TEXT_LINE_BYTES + 1 {
-        return Err(TextFaultKind::Syntax);
-    }
+    check_length(bytes, rest)?;
     let Some(extent) = size(nodes, lines, slots) else {
         return Err(TextFaultKind::Range);
     };
@@ -75,22 +74,18 @@ fn push_line<'a>(script: &mut Script, bytes: &'a [u8]) -> Result<&'a [u8], TextF
     requires { IsScript script.old }
     ensures ok { IfOk result (λ rest. AddsLine script.old script.new bytes.now rest.now) }
     ensures fault { IfErr result (λ kind. (kind ≡ Memory) ⊎ OperationFault script.old bytes.now kind) }
-    ensures err { OnErr result (script.new ≡ script.old) }
+    ensures same { OnErr result (script.new ≡ script.old) }
     ensures good { IsScript script.new }
 {
     let Some((said, rest)) = operation_line(bytes) else {
         return Err(TextFaultKind::Syntax);
     };
-    if bytes.len() - rest.len() > MAX_TEXT_LINE_BYTES + 1 {
-        return Err(TextFaultKind::Syntax);
-    }
+    check_length(bytes, rest)?;
     let Some((node, op)) = said else {
         return Err(TextFaultKind::Range);
     };
-    match script.push(node, op) {
-        Ok(()) => Ok(rest),
-        Err(fault) => Err(TextFaultKind::from(fault)),
-    }
+    script.push(node, op)?;
+    Ok(rest)
 }
 
 /// The script whose text the bytes are.
@@ -99,20 +94,13 @@ pub fn script(alloc: Global, input: &[u8]) -> Result<Script, TextFault>
     ensures good { IfOk result IsScript }
     ensures fault { IfErr result (IsRefusal IsScriptFault input.now) }
 {
-    let (extent, first) = match machine(input) {
-        Ok(read) => read,
-        Err(kind) => return Err(TextFault { line: 1, kind }),
-    };
+    let (extent, mut rest) = machine(input).map_err(|kind| TextFault::at(1, kind))?;
     let mut script = Script::new(alloc, extent);
-    let mut rest = first;
     while !rest.is_empty() {
+        let line = script.operations().len() + 2;
         match push_line(&mut script, rest) {
             Ok(after) => rest = after,
-            Err(TextFaultKind::Memory) => return Err(TextFault::of_input(TextFaultKind::Memory)),
-            Err(kind) => {
-                let line = script.operations().len() + 2;
-                return Err(TextFault { line, kind });
-            }
+            Err(kind) => return Err(TextFault::at(line, kind)),
         }
     }
     Ok(script)

@@ -10,11 +10,12 @@ ghost use Rattle.sci_text.specs.LogValue.{AddsEntry, AddsLast, AreLogs, BeginsLa
 
 use crate::fault::{TextFault, TextFaultKind};
 use crate::form::{Form, form_of};
+use crate::line_length::check_length;
 use crate::log_line::{entry_line, last_line};
 use crate::number::Number;
 use crate::operation::after;
 use sci_history::{Last, Logs, PushFault};
-use sci_words::{MAX_LINES, MAX_TEXT_LINE_BYTES, Stamped};
+use sci_words::{MAX_LINES, Stamped};
 use std::alloc::Global;
 
 /// Whether a number of a text is `n`.
@@ -48,15 +49,13 @@ fn push_last<'a>(
     requires few { length last.old.items ≤ MAX_LINES }
     requires begins { BeginsLast bytes.now }
     ensures ok { IfOk result (λ rest. AddsLast form.now last.old.items last.new.items bytes.now rest.now) }
-    ensures err { OnErr result (last.new.items ≡ last.old.items) }
+    ensures same { OnErr result (last.new.items ≡ last.old.items) }
     ensures fault { IfErr result (λ kind. (kind ≡ Memory) ⊎ LogLineFault (front_of form.now last.old.items no_logs) bytes.now kind) }
 {
     let Some((said, rest)) = last_line(bytes) else {
         return Err(TextFaultKind::Syntax);
     };
-    if bytes.len() - rest.len() > MAX_TEXT_LINE_BYTES + 1 {
-        return Err(TextFaultKind::Syntax);
-    }
+    check_length(bytes, rest)?;
     if !is_number(said.line, last.len() as u64) {
         return Err(TextFaultKind::Syntax);
     }
@@ -91,12 +90,10 @@ fn contents<'a>(
     let mut last = Vec::new(alloc);
     let mut rest = bytes;
     while after(rest, b"last").is_some() {
+        let line = form.first_lines() + last.len() + 1;
         match push_last(form, &mut last, rest) {
             Ok(more) => rest = more,
-            Err(kind) => {
-                let line = form.first_lines() + last.len() + 1;
-                return Err(TextFault::at(line, kind));
-            }
+            Err(kind) => return Err(TextFault::at(line, kind)),
         }
     }
     if !form.has_all_lines(last.len()) {
@@ -120,15 +117,13 @@ fn push_entry<'a>(
     requires latest { IsLatest logs.old latest }
     requires no_last { NoLast (front_of form.now last.now logs.old) bytes.now }
     ensures ok { IfOk result (λ x. AddsEntry form.now (length last.now) logs.old logs.new latest x.0 bytes.now x.1.now) }
-    ensures err { OnErr result (logs.new ≡ logs.old) }
+    ensures same { OnErr result (logs.new ≡ logs.old) }
     ensures fault { IfErr result (λ kind. (kind ≡ Memory) ⊎ LogLineFault (front_of form.now last.now logs.old) bytes.now kind) }
 {
     let Some(((node, entry), rest)) = entry_line(bytes) else {
         return Err(TextFaultKind::Syntax);
     };
-    if bytes.len() - rest.len() > MAX_TEXT_LINE_BYTES + 1 {
-        return Err(TextFaultKind::Syntax);
-    }
+    check_length(bytes, rest)?;
     if is_below(node, latest) {
         return Err(TextFaultKind::Syntax);
     }
@@ -194,10 +189,7 @@ pub fn logs(alloc: Global, input: &[u8]) -> Result<(u8, Logs, Last), TextFault>
     ensures good { IfOk result (λ x. AreLogs x.0 x.1 x.2) }
     ensures fault { IfErr result (IsRefusal IsLogFault input.now) }
 {
-    let (form, rest) = match form_of(input) {
-        Ok(read) => read,
-        Err(kind) => return Err(TextFault { line: 1, kind }),
-    };
+    let (form, rest) = form_of(input).map_err(|kind| TextFault::at(1, kind))?;
     let (contents, rest) = contents(alloc, &form, rest)?;
     let logs = entries(alloc, &form, &contents, rest)?;
     Ok((form.nodes, logs, last_of(&contents)))

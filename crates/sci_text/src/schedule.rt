@@ -91,7 +91,7 @@ impl Schedule {
         ensures within { OnOk result (IsEventWithin self.old.nodes self.old.lines event) }
         ensures room { OnOk result (length self.old.events < MAX_EVENTS) }
         ensures refused { IfErr result (EventRefusal self.old event) }
-        ensures err { OnErr result (self.new ≡ self.old) }
+        ensures same { OnErr result (self.new ≡ self.old) }
         ensures good { IsSchedule self.new }
     {
         if !is_within(self.extent, event) {

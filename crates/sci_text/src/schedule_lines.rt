@@ -8,9 +8,9 @@ ghost use Rattle.sci_text.specs.ScheduleFault.{EventFault, IsScheduleFault};
 
 use crate::event::event_line;
 use crate::fault::{TextFault, TextFaultKind};
+use crate::line_length::check_length;
 use crate::lines::machine;
 use crate::schedule::Schedule;
-use sci_words::MAX_TEXT_LINE_BYTES;
 use std::alloc::Global;
 
 /// Adds the event that the first line of `bytes` says, and answers the bytes after the line.
@@ -18,22 +18,18 @@ fn push_event<'a>(schedule: &mut Schedule, bytes: &'a [u8]) -> Result<&'a [u8], 
     requires { IsSchedule schedule.old }
     ensures ok { IfOk result (λ rest. AddsEvent schedule.old schedule.new bytes.now rest.now) }
     ensures fault { IfErr result (λ kind. (kind ≡ Memory) ⊎ EventFault schedule.old bytes.now kind) }
-    ensures err { OnErr result (schedule.new ≡ schedule.old) }
+    ensures same { OnErr result (schedule.new ≡ schedule.old) }
     ensures good { IsSchedule schedule.new }
 {
     let Some((said, rest)) = event_line(bytes) else {
         return Err(TextFaultKind::Syntax);
     };
-    if bytes.len() - rest.len() > MAX_TEXT_LINE_BYTES + 1 {
-        return Err(TextFaultKind::Syntax);
-    }
+    check_length(bytes, rest)?;
     let Some(event) = said else {
         return Err(TextFaultKind::Range);
     };
-    match schedule.push(event) {
-        Ok(()) => Ok(rest),
-        Err(fault) => Err(TextFaultKind::from(fault)),
-    }
+    schedule.push(event)?;
+    Ok(rest)
 }
 
 /// The schedule whose text the bytes are.
@@ -42,20 +38,13 @@ pub fn schedule(alloc: Global, input: &[u8]) -> Result<Schedule, TextFault>
     ensures good { IfOk result IsSchedule }
     ensures fault { IfErr result (IsRefusal IsScheduleFault input.now) }
 {
-    let (extent, first) = match machine(input) {
-        Ok(read) => read,
-        Err(kind) => return Err(TextFault { line: 1, kind }),
-    };
+    let (extent, mut rest) = machine(input).map_err(|kind| TextFault::at(1, kind))?;
     let mut schedule = Schedule::new(alloc, extent);
-    let mut rest = first;
     while !rest.is_empty() {
+        let line = schedule.events().len() + 2;
         match push_event(&mut schedule, rest) {
             Ok(after) => rest = after,
-            Err(TextFaultKind::Memory) => return Err(TextFault::of_input(TextFaultKind::Memory)),
-            Err(kind) => {
-                let line = schedule.events().len() + 2;
-                return Err(TextFault { line, kind });
-            }
+            Err(kind) => return Err(TextFault::at(line, kind)),
         }
     }
     Ok(schedule)

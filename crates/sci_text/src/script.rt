@@ -96,7 +96,7 @@ impl Script {
         ensures within { OnOk result (IsWithin self.old.nodes self.old.lines node op) }
         ensures room { OnOk result (count_of node self.old.operations < MAX_OPERATIONS) }
         ensures refused { IfErr result (PushRefusal self.old node op) }
-        ensures err { OnErr result (self.new ≡ self.old) }
+        ensures same { OnErr result (self.new ≡ self.old) }
         ensures good { IsScript self.new }
     {
         let is_within = node < self.extent.nodes

@@ -1,7 +1,8 @@
 use Rattle.std.proofs.Common.{◌<◌, arith, length}
 use Rattle.std.proofs.lemmas.Bool.Decides.{nat_tests}
 use Rattle.sci_text.specs.LogValue.{entry_count, front_of}
-use Rattle.sci_text.proofs.LogFronts.{IsAt, started, no_last_after, entry_shrinks, front_more, latest_more, entries_go_on, count_more, entry_refused}
+use Rattle.sci_text.proofs.FirstFaults.{IsAt}
+use Rattle.sci_text.proofs.LogFronts.{started, no_last_after, entry_shrinks, front_more, latest_more, entries_go_on, count_more, entry_refused}
 use Rattle.sci_text.proofs.log.entries.Goals as goal
 
 pub loop-rest-init : goal.loop-rest-init
@@ -32,6 +33,6 @@ loop-rest-preserved c =
 pub returns-in-Err-clause-fault : goal.returns-in-Err-clause-fault
 returns-in-Err-clause-fault c =
     let h = c.loop-rest.invariant in
-    let at : IsAt c.at.result c.loop-rest.line c.in-Err.kind = record { kind_is = c.at.ensures.kind; memory = c.at.ensures.memory; other = c.at.ensures.line } in
+    let at : IsAt c.at.result c.loop-rest.line c.in-Err.kind = record { kind_is = c.at.ensures.kind; line_is = c.at.ensures.line } in
     let some : 0 < length c.loop-rest.rest.now = grind (arith, nat_tests) in
     entry_refused c.args.form.now c.args.last.now c.loop-rest.logs c.args.bytes.now c.loop-rest.rest.now c.in-Err.kind c.loop-rest.line c.at.result h.good h.parts some at c.in-Err.ensures.fault h.place

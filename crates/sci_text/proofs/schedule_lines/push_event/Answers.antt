@@ -1,28 +1,29 @@
 use Rattle.std.proofs.Common.{ap, inr, ◌∙◌, Some, Option}
+use Rattle.std.proofs.lemmas.Result.{err_from_is_err_and}
 use Rattle.sci_words.specs.declared.event.Event.{Event}
-use Rattle.sci_text.proofs.EventLines.{event_none, event_long, event_le, event_unfit, event_ok, event_refused}
+use Rattle.sci_text.proofs.EventLines.{event_none, event_long, event_unfit, event_ok, event_refused}
 use Rattle.sci_text.proofs.schedule_lines.push_event.Goals as goal
 
 pub returns-in_default-clause-fault : goal.returns-in_default-clause-fault
 returns-in_default-clause-fault c = inr (event_none c.args.schedule.now c.args.bytes.now c.in_default.ensures)
 
-pub overflow_sub-bytes : goal.overflow_sub-bytes
-overflow_sub-bytes c = event_le c.args.bytes.now c.in-Some.said c.in-Some.rest.now c.in-Some.ensures
-
-pub returns-then-bytes-rest-clause-fault : goal.returns-then-bytes-rest-clause-fault
-returns-then-bytes-rest-clause-fault c = inr (event_long c.args.schedule.now c.args.bytes.now c.in-Some.said c.in-Some.rest.now c.in-Some.ensures c.if-bytes-rest.true)
+pub returns-in_err-check_length-clause-fault : goal.returns-in_err-check_length-clause-fault
+returns-in_err-check_length-clause-fault c =
+    let e = err_from_is_err_and c.from_residual.result c.from_residual.ensures.1 in
+    rw (e.1, e.2, c.in_err-check_length.ensures.fault) (inr (event_long c.args.schedule.now c.args.bytes.now c.in-Some.said c.in-Some.rest.now c.in-Some.ensures c.in_err-check_length.ensures.long))
 
 pub returns-in_default-said-clause-fault : goal.returns-in_default-said-clause-fault
 returns-in_default-said-clause-fault c =
     let read = c.in-Some.ensures ∙ ap (λ (o : Option Event). Some (o, c.in-Some.rest.now)) c.in_default-said.is in
-    inr (event_unfit c.args.schedule.now c.args.bytes.now c.in-Some.rest.now c.requires read c.if-bytes-rest.false)
+    inr (event_unfit c.args.schedule.now c.args.bytes.now c.in-Some.rest.now c.requires read c.in_ok-check_length.ensures.short)
 
-pub returns-in-Ok-clause-ok : goal.returns-in-Ok-clause-ok
-returns-in-Ok-clause-ok c =
+pub returns-clause-ok : goal.returns-clause-ok
+returns-clause-ok c =
     let read = c.in-Some.ensures ∙ ap (λ (o : Option Event). Some (o, c.in-Some.rest.now)) c.in-Some-said.is in
-    event_ok c.args.schedule.now c.push.new.self c.args.bytes.now c.in-Some.rest.now c.in-Some-said.event read c.in-Ok.ensures.ok
+    event_ok c.args.schedule.now c.push.new.self c.args.bytes.now c.in-Some.rest.now c.in-Some-said.event read c.in_ok-push.ensures.ok
 
-pub returns-in-Err-clause-fault : goal.returns-in-Err-clause-fault
-returns-in-Err-clause-fault c =
+pub returns-in_err-push-clause-fault : goal.returns-in_err-push-clause-fault
+returns-in_err-push-clause-fault c =
+    let e = err_from_is_err_and c.from_residual-in_err-push.result c.from_residual-in_err-push.ensures.1 in
     let read = c.in-Some.ensures ∙ ap (λ (o : Option Event). Some (o, c.in-Some.rest.now)) c.in-Some-said.is in
-    rw c.from.ensures (event_refused c.args.schedule.now c.args.bytes.now c.in-Some.rest.now c.in-Some-said.event c.in-Err.fault read c.if-bytes-rest.false c.in-Err.ensures.refused)
+    rw (e.1, e.2) (event_refused c.args.schedule.now c.args.bytes.now c.in-Some.rest.now c.in-Some-said.event c.in_err-push.field-0.0 read c.in_ok-check_length.ensures.short c.in_err-push.ensures.refused)
