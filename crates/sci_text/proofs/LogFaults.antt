@@ -11,18 +11,20 @@ use Rattle.std.proofs.lemmas.Option.{none-some, some_pair_parts}
 use Rattle.sci_words.specs.declared.limits.TheConstants.{MAX_TEXT_LINE_BYTES, MAX_LINES, WORDS_PER_LINE}
 use Rattle.sci_words.specs.declared.stamped.Stamped.{Stamped}
 use Rattle.sci_history.specs.declared.entry.Entry.{Entry}
-use Rattle.sci_text.specs.declared.form.Form.{Form}
+use Rattle.sci_text.specs.declared.log_form.Form.{Form}
 use Rattle.sci_text.specs.declared.fault.TextFaultKind.TheVariants.{Syntax, Range, TooMany}
 use Rattle.sci_text.specs.FirstFault.{Says}
 use Rattle.sci_text.specs.Number.{number, field}
 use Rattle.sci_text.specs.Operation.{operation}
 use Rattle.sci_text.specs.Log.{log_line, last_line, entry_line, issue_text, outcome_text}
-use Rattle.sci_text.specs.LogValue.{IsSize, SizeFault, BeginsLog, BeginsLast, Front, HasRoom, StampedFits, SaysEntry, NoLast, LogLine, SaysNext, LogLineFault, AddsLast, AddsEntry, Answers, IsForm, HasAllLines, EntryFits, AreNumbersWithin, IsLatest, entry_count}
-use Rattle.sci_text.specs.Reading.{Gives, fitting, after, number_read, log_line_read, last_line_read, entry_line_read}
+use Rattle.sci_text.specs.LogValue.{IsSize, BeginsLog, Front, HasRoom, StampedFits, Answers, IsForm, HasAllLines, EntryFits, AreNumbersWithin, entry_count}
+use Rattle.sci_text.specs.LogFault.{SizeFault, SaysEntry, LogLine, SaysNext, LogLineFault}
+use Rattle.sci_text.specs.LogReading.{BeginsLast, NoLast, AddsLast, AddsEntry, IsLatest, log_line_read, last_line_read, entry_line_read}
+use Rattle.sci_text.specs.Reading.{Gives, fitting, after, number_read}
 use Rattle.sci_text.proofs.Numbers.{fitting_below, Ends, number_again, ends_field}
 use Rattle.sci_text.proofs.Words.{after_again, after_found}
-use Rattle.sci_text.proofs.LineFaults.{fitting_some}
-use Rattle.sci_text.proofs.LineLaws.{line_short, line_long}
+use Rattle.sci_text.proofs.ScriptFaults.{fitting_some}
+use Rattle.sci_text.proofs.ScriptReads.{line_short, line_long}
 use Rattle.sci_text.proofs.LogReads.{SizeSaid, log_line_again, log_line_found, LastSaid, last_line_again, last_line_found, EntrySaid, EntryReads, entry_line_again, entry_line_found}
 
 -- ---- the line of the size
@@ -146,8 +148,7 @@ pub last_range : (front : Front) (bytes : List ℕ) (l : Option ℕ) (o : Option
     → length bytes ≤ length rest + MAX_TEXT_LINE_BYTES + 1 → ((MAX_LINES ≤ length front.last) ⊎ (o ≡ None)) → LogLineFault front bytes Range
 last_range front bytes l o rest none room e is short outside =
     let f = last_is bytes l o rest (length front.last) e is in
-    let count = length front.last in
-    (
+    let count = length front.last in (
       inl (count, f.0),
       record { place = record { first = none; next = refl; room = room }; says = record { rest = rest; parts = f.2; short = line_short bytes (last_line count f.0) rest f.2 short }; eight = f.1 },
       λ fits. elim outside [

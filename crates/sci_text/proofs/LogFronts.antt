@@ -11,14 +11,16 @@ use Rattle.sci_words.specs.declared.limits.TheConstants.{MAX_NODES, MAX_LINES, W
 use Rattle.sci_words.specs.declared.stamped.Stamped.{Stamped}
 use Rattle.sci_history.specs.declared.entry.Entry.{Entry}
 use Rattle.sci_history.specs.Placed.{log_of}
-use Rattle.sci_text.specs.declared.form.Form.{Form}
+use Rattle.sci_text.specs.declared.log_form.Form.{Form}
 use Rattle.sci_text.specs.declared.fault.TextFault.{TextFault}
 use Rattle.sci_text.specs.declared.fault.TextFaultKind.{TextFaultKind}
 use Rattle.sci_text.specs.declared.fault.TextFaultKind.TheVariants.{Syntax, Memory}
 use Rattle.sci_text.specs.FirstFault.{IsRefusal}
 use Rattle.sci_text.specs.Number.{number, field}
 use Rattle.sci_text.specs.Log.{last_line, last_lines, issue_text, entry_line, entry_lines}
-use Rattle.sci_text.specs.LogValue.{StampedFits, EntryFits, Front, front_of, IsFront, IsForm, HasAllLines, HasRoom, HasNoExtra, first_line, first_lines, front_text, entry_count, BeginsLog, BeginsLast, NoLast, SaysNext, NextFits, HasNoRoomFor, LogLineFault, IsLogFault, IsRefusalAfter, AddsLast, AddsEntry, IsLatest, no_logs}
+use Rattle.sci_text.specs.LogValue.{StampedFits, EntryFits, Front, front_of, IsFront, IsForm, HasAllLines, HasRoom, HasNoExtra, first_line, front_text, entry_count, BeginsLog}
+use Rattle.sci_text.specs.LogFault.{first_lines, SaysNext, NextFits, HasNoRoomFor, LogLineFault, IsLogFault}
+use Rattle.sci_text.specs.LogReading.{BeginsLast, NoLast, IsRefusalAfter, AddsLast, AddsEntry, IsLatest, no_logs}
 use Rattle.sci_text.proofs.FirstFaults.{IsAt, line_fault_is, told_at}
 use Rattle.sci_text.proofs.LogFaults.{neither}
 

@@ -5,7 +5,7 @@ use Rattle.sci_words.specs.declared.limits.TheConstants.{MAX_LINES, MAX_OPERATIO
 use Rattle.sci_words.specs.declared.stamped.Stamped.{Stamped}
 use Rattle.sci_history.specs.declared.entry.Entry.{Entry}
 use Rattle.sci_history.specs.Placed.{log_of}
-use Rattle.sci_text.specs.declared.form.Form.{Form}
+use Rattle.sci_text.specs.declared.log_form.Form.{Form}
 use Rattle.sci_text.specs.Log.{log_text}
 use Rattle.sci_text.specs.LogValue.{format_2, IsSize, IsForm, EntryFits, HasAllLines, AreLogsOf, AreLogs, IsLogs}
 

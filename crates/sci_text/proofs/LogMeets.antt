@@ -11,11 +11,13 @@ use Rattle.sci_words.specs.declared.limits.TheConstants.{MAX_NODES, MAX_LINES}
 use Rattle.sci_words.specs.declared.stamped.Stamped.{Stamped}
 use Rattle.sci_history.specs.declared.entry.Entry.{Entry}
 use Rattle.sci_history.specs.Placed.{log_of, AreOwn, is_of_node}
-use Rattle.sci_text.specs.declared.form.Form.{Form}
+use Rattle.sci_text.specs.declared.log_form.Form.{Form}
 use Rattle.sci_text.specs.declared.fault.TextFaultKind.{TextFaultKind}
 use Rattle.sci_text.specs.Log.{last_line, last_lines, entry_line, entry_lines}
-use Rattle.sci_text.specs.LogValue.{StampedFits, EntryFits, Front, front_of, IsFront, HasAllLines, HasRoom, HasNoExtra, BeginsLast, SaysLast, SaysEntry, IsEntryPlace, LogLine, SaysNext, NextFits, HasNoRoomFor, LogLineFault, IsForm, entry_count}
-use Rattle.sci_text.specs.Reading.{fitting, last_line_read, entry_line_read}
+use Rattle.sci_text.specs.LogValue.{StampedFits, EntryFits, Front, front_of, IsFront, HasAllLines, HasRoom, HasNoExtra, IsForm, entry_count}
+use Rattle.sci_text.specs.LogReading.{BeginsLast, last_line_read, entry_line_read}
+use Rattle.sci_text.specs.LogFault.{SaysLast, SaysEntry, IsEntryPlace, LogLine, SaysNext, NextFits, HasNoRoomFor, LogLineFault}
+use Rattle.sci_text.specs.Reading.{fitting}
 use Rattle.sci_text.proofs.FirstFaults.{GoesRight, SaysOne, no_line_fault}
 use Rattle.sci_text.proofs.LogReads.{LastSaid, last_line_again, EntrySaid, EntryReads, entry_line_again}
 use Rattle.sci_text.proofs.LogFaults.{fits_reads, entry_not_last}

@@ -4,11 +4,12 @@ use Rattle.std.specs.Prelude.{IfOk, IfErr}
 use Rattle.std.proofs.lemmas.List.{append-nil}
 use Rattle.sci_words.specs.declared.stamped.Stamped.{Stamped}
 use Rattle.sci_history.specs.declared.entry.Entry.{Entry}
-use Rattle.sci_text.specs.declared.form.Form.{Form}
+use Rattle.sci_text.specs.declared.log_form.Form.{Form}
 use Rattle.sci_text.specs.declared.fault.TextFault.{TextFault}
 use Rattle.sci_text.specs.declared.fault.TextFaultKind.{TextFaultKind}
 use Rattle.sci_text.specs.FirstFault.{IsRefusal, IsReadAs}
-use Rattle.sci_text.specs.LogValue.{Front, front_of, front_text, IsFront, HasAllLines, IsLogs, BeginsFront, GoesOn, line_count, SaysNext, NextFits, HasNoRoomFor, LogLineFault, SizeFault, IsLogFault}
+use Rattle.sci_text.specs.LogValue.{Front, front_of, front_text, IsFront, HasAllLines, IsLogs}
+use Rattle.sci_text.specs.LogFault.{BeginsFront, GoesOn, line_count, SaysNext, NextFits, HasNoRoomFor, LogLineFault, SizeFault, IsLogFault}
 use Rattle.sci_text.proofs.FirstFaults.{GoesRight, Meets, IsGrammar, one_line_fault, one_first_fault, no_first_fault, read_as}
 use Rattle.sci_text.proofs.LogUnique.{OnePartition}
 use Rattle.sci_text.proofs.LogMeets.{OwnEntries, meet_fronts, one_log_line}

@@ -12,7 +12,7 @@ use Rattle.sci_text.specs.Number.{number, field}
 use Rattle.sci_text.specs.Operation.{operation}
 use Rattle.sci_text.specs.Log.{reply_text, version_text, log_line, last_line, issue_text, outcome_text, entry_line}
 use Rattle.sci_text.specs.LogValue.{IsSize, ReplyFits}
-use Rattle.sci_text.specs.Script.{IsShort}
+use Rattle.sci_text.specs.FirstFault.{IsShort}
 use Rattle.sci_text.proofs.LogReads.{EntryReads}
 use Rattle.sci_text.proofs.LogFronts.{GoodLast}
 use Rattle.sci_text.proofs.ScriptUnique.{number_short, field_short, operation_short}

@@ -11,10 +11,11 @@ use Rattle.sci_words.specs.declared.limits.TheConstants.{MAX_NODES}
 use Rattle.sci_words.specs.declared.stamped.Stamped.{Stamped}
 use Rattle.sci_history.specs.declared.entry.Entry.{Entry}
 use Rattle.sci_history.specs.Placed.{log_of, AreOwn}
-use Rattle.sci_text.specs.declared.form.Form.{Form}
+use Rattle.sci_text.specs.declared.log_form.Form.{Form}
 use Rattle.sci_text.specs.Log.{log_line, last_line, last_lines, entry_line, entry_lines}
-use Rattle.sci_text.specs.LogValue.{IsSize, IsForm, StampedFits, Answers, EntryFits, front_of, IsFront, HasAllLines, IsLogs, front_text, BeginsLast}
-use Rattle.sci_text.specs.Reading.{fitting, last_line_read, entry_line_read, log_line_read}
+use Rattle.sci_text.specs.LogValue.{IsSize, IsForm, StampedFits, Answers, EntryFits, front_of, IsFront, HasAllLines, IsLogs, front_text}
+use Rattle.sci_text.specs.LogReading.{BeginsLast, last_line_read, entry_line_read, log_line_read}
+use Rattle.sci_text.specs.Reading.{fitting}
 use Rattle.sci_text.proofs.Numbers.{fitting_below}
 use Rattle.sci_text.proofs.LogReads.{LastSaid, last_line_again, EntrySaid, EntryReads, entry_line_again, SizeSaid, log_line_again}
 use Rattle.sci_text.proofs.LogFaults.{fits_reads, entry_not_last}

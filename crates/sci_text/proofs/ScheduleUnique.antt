@@ -15,14 +15,14 @@ use Rattle.sci_text.specs.declared.fault.TextFault.{TextFault}
 use Rattle.sci_text.specs.declared.fault.TextFaultKind.{TextFaultKind}
 use Rattle.sci_text.specs.Number.{field}
 use Rattle.sci_text.specs.Operation.{operation}
-use Rattle.sci_text.specs.Script.{IsShort, machine_line}
+use Rattle.sci_text.specs.FirstFault.{IsShort, Says, IsRefusal, IsReadAs}
+use Rattle.sci_text.specs.Script.{machine_line}
 use Rattle.sci_text.specs.Schedule.{ScheduleValue, IsSchedule, IsEventWithin, kind_word, event_line, event_lines, schedule_text}
-use Rattle.sci_text.specs.EventReading.{event_line_read}
-use Rattle.sci_text.specs.FirstFault.{Says, IsRefusal, IsReadAs}
+use Rattle.sci_text.specs.ScheduleReading.{event_line_read}
 use Rattle.sci_text.specs.ScriptFault.{MachineFault}
 use Rattle.sci_text.specs.ScheduleFault.{EventFault, BeginsSchedule, IsScheduleFault}
-use Rattle.sci_text.proofs.Events.{EventFits, event_line_again}
-use Rattle.sci_text.proofs.EventLines.{fits, line_nonempty}
+use Rattle.sci_text.proofs.ScheduleReads.{EventFits, event_line_again}
+use Rattle.sci_text.proofs.ScheduleFaults.{fits, line_nonempty}
 use Rattle.sci_text.proofs.FirstFaults.{SaysOne, one_line_fault, no_line_fault, GoesOnWith, meet_lists, GoesRight, Meets, IsGrammar, one_first_fault, no_first_fault, read_as}
 use Rattle.sci_text.proofs.ScriptUnique.{same_size, fitting_same, one_machine_fault, machine_faultless, machine_short, field_short, operation_short}
 

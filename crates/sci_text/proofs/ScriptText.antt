@@ -4,7 +4,8 @@ use Rattle.std.specs.List.{flat_map}
 use Rattle.std.proofs.lemmas.List.{append-nil, length-append}
 use Rattle.std.proofs.lemmas.List.Concat.{flat_map-append}
 use Rattle.sci_words.specs.declared.operation.Op.{Op}
-use Rattle.sci_text.specs.Script.{ScriptValue, machine_line, operation_line, script_text, with_operation, AddsLine}
+use Rattle.sci_text.specs.Script.{ScriptValue, machine_line, operation_line, script_text, with_operation}
+use Rattle.sci_text.specs.ScriptReading.{AddsLine}
 
 abbrev pub line_of : ℕ × Op → List ℕ
 line_of p = operation_line p.0 p.1

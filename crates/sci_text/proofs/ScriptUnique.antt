@@ -15,20 +15,21 @@ use Rattle.sci_words.specs.Extent.{AreWithinLimits}
 use Rattle.sci_text.specs.declared.fault.TextFault.{TextFault}
 use Rattle.sci_text.specs.declared.fault.TextFaultKind.{TextFaultKind}
 use Rattle.sci_text.specs.Number.{number, field}
-use Rattle.sci_text.specs.Reading.{fitting, machine_line_read, operation_line_read}
+use Rattle.sci_text.specs.Reading.{fitting}
+use Rattle.sci_text.specs.ScriptReading.{machine_line_read, operation_line_read}
 use Rattle.std.specs.Prelude.{codes, IfOk, IfErr}
 use Rattle.sci_words.specs.declared.operation.LockOp.TheVariants.{MaskSwap, CompareSwap, FetchAdd, BoundedAdd, WrapAdd}
 use Rattle.sci_words.specs.declared.operation.Act.{Act}
 use Rattle.sci_words.specs.declared.operation.Act.TheVariants.{Load, Store, Lock}
 use Rattle.sci_text.specs.Operation.{act_word, act_operands, ActFits, operation}
-use Rattle.sci_text.specs.Script.{ScriptValue, IsScript, IsWithin, count_of, machine_line, operation_line, script_text, IsShort}
-use Rattle.sci_text.specs.FirstFault.{Says, IsRefusal, IsReadAs}
+use Rattle.sci_text.specs.Script.{ScriptValue, IsScript, IsWithin, count_of, machine_line, operation_line, script_text}
+use Rattle.sci_text.specs.FirstFault.{IsShort, Says, IsRefusal, IsReadAs}
 use Rattle.sci_text.specs.ScriptFault.{MachineFault, OperationFault, BeginsScript, IsScriptFault}
 use Rattle.sci_text.proofs.FirstFaults.{SaysOne, one_line_fault, no_line_fault, GoesOnWith, meet_lists, GoesRight, Meets, IsGrammar, one_first_fault, no_first_fault, read_as}
 use Rattle.sci_text.proofs.Numbers.{fitting_below}
-use Rattle.sci_text.proofs.LineFaults.{fitting_some}
+use Rattle.sci_text.proofs.ScriptFaults.{fitting_some}
 use Rattle.sci_text.proofs.Operations.{OpFits}
-use Rattle.sci_text.proofs.LineLaws.{Sizes, machine_line_again, operation_line_again}
+use Rattle.sci_text.proofs.ScriptReads.{Sizes, machine_line_again, operation_line_again}
 use Rattle.sci_text.proofs.ScriptText.{line_of, line_nonempty}
 
 -- ---- the line of the size

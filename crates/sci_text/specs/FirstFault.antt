@@ -1,13 +1,16 @@
 -- What is told of a text with a fault: the first line that has one, and of its faults the first. This is one theory for
 -- scripts, schedules and logs.
 use Rattle.std.specs.Prelude.{◌≡◌, ℕ, ◌+◌, ◌<◌, ◌≤◌, ◌⊎◌, Bool, true, false, List, ◌++◌, length, Option, IfSome, Result, Ok, Err}
-use Rattle.sci_words.specs.declared.limits.TheConstants.{MAX_INPUT_BYTES}
+use Rattle.sci_words.specs.declared.limits.TheConstants.{MAX_INPUT_BYTES, MAX_TEXT_LINE_BYTES}
 use Rattle.sci_text.specs.declared.fault.TextFault.{TextFault}
 use Rattle.sci_text.specs.declared.fault.TextFaultKind.{TextFaultKind}
 use Rattle.sci_text.specs.declared.fault.TextFaultKind.TheVariants.{Syntax, Range, TooMany, Read, Write, Memory}
-use Rattle.sci_text.specs.Script.{IsShort}
 
 -- ---- one line
+
+-- a line, of which the line feed isn't counted, has at most 256 bytes
+abbrev pub IsShort : List ℕ → Type 0
+IsShort line = length line ≤ MAX_TEXT_LINE_BYTES + 1
 
 -- the bytes begin with this line, and it isn't too long
 pub record Says (bytes line : List ℕ) : Type 0 where

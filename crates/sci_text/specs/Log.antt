@@ -1,13 +1,10 @@
 -- Logs with last contents, and the one text of each in format 2.
-use Rattle.std.specs.Prelude.{◌≡◌, ℕ, ◌+◌, List, [], ◌∷◌, ◌++◌, length, codes, take, Bool, true, false, Option}
+use Rattle.std.specs.Prelude.{ℕ, ◌+◌, List, [], ◌∷◌, ◌++◌, length, codes}
 use Rattle.std.specs.List.{flat_map}
-use Rattle.std.specs.Io.KnownBytes.{Appends, Keeps}
 use Rattle.sci_words.specs.declared.operation.Reply.{Reply}
 use Rattle.sci_words.specs.declared.operation.Reply.TheVariants.{Stored, Got}
 use Rattle.sci_words.specs.declared.stamped.Stamped.{Stamped}
 use Rattle.sci_history.specs.declared.entry.Entry.{Entry}
-use Rattle.sci_text.specs.declared.fault.TextFaultKind.{TextFaultKind}
-use Rattle.sci_text.specs.declared.fault.TextFaultKind.TheVariants.{Syntax, Range, TooMany, Read, Write, Memory}
 use Rattle.sci_text.specs.Number.{number, field}
 use Rattle.sci_text.specs.Operation.{operation}
 
@@ -52,13 +49,3 @@ entry_lines logs = flat_map (λ log. flat_map entry_line log) logs
 -- the line of the size, the lines of the last contents, and a line for each entry
 abbrev pub log_text : ℕ → List (List Entry) → List Stamped → List ℕ
 log_text nodes logs last = log_line nodes (length last) ++ (last_lines 0 last ++ entry_lines logs)
-
--- Why a text wasn't written whole: the writer failed, and some of its front may have gone out; or memory was
--- refused, and nothing has.
-abbrev pub IsWriteFault : TextFaultKind → Option (List ℕ) → Option (List ℕ) → Bool → List ℕ → Type 0
-IsWriteFault Write old new failed text = (failed ≡ true) × ((n : ℕ) × Appends old new (take n text))
-IsWriteFault Memory old new failed text = (failed ≡ false) × Keeps old new
-IsWriteFault Syntax old new failed text = ⊥
-IsWriteFault Range old new failed text = ⊥
-IsWriteFault TooMany old new failed text = ⊥
-IsWriteFault Read old new failed text = ⊥

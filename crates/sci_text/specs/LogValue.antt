@@ -1,6 +1,5 @@
 -- Logs that are read from a text, in both formats, and the lines that say them.
-use Rattle.std.specs.Prelude.{◌≡◌, ℕ, ◌+◌, ◌<◌, ◌≤◌, ◌^◌, ◌⊎◌, List, [], ◌∷◌, ◌++◌, length, codes, All, Option, Some, None, replicate, slice_set}
-use Rattle.std.proofs.Common.{inl, inr}
+use Rattle.std.specs.Prelude.{◌≡◌, ℕ, ◌<◌, ◌≤◌, ◌^◌, ◌⊎◌, List, [], ◌++◌, length, codes, All, Option, Some, None}
 use Rattle.std.specs.List.{flat_map}
 use Rattle.sci_words.specs.declared.limits.TheConstants.{MAX_NODES, MAX_LINES, MAX_OPERATIONS, WORDS_PER_LINE, FORMAT_1_NODES, FORMAT_1_SERIALS, FORMAT_1_ENTRIES}
 use Rattle.sci_words.specs.declared.operation.Act.{Act}
@@ -10,12 +9,9 @@ use Rattle.sci_words.specs.declared.operation.Reply.TheVariants.{Stored, Got}
 use Rattle.sci_words.specs.declared.stamped.Stamped.{Stamped}
 use Rattle.sci_history.specs.declared.entry.Entry.{Entry}
 use Rattle.sci_history.specs.Placed.{log_of, AreOwn}
-use Rattle.sci_text.specs.declared.fault.TextFaultKind.{TextFaultKind}
-use Rattle.sci_text.specs.declared.fault.TextFault.{TextFault}
-use Rattle.sci_text.specs.declared.form.Form.{Form}
+use Rattle.sci_text.specs.declared.log_form.Form.{Form}
 use Rattle.sci_text.specs.Operation.{ActFits}
-use Rattle.sci_text.specs.Log.{log_line, last_line, last_lines, entry_line, entry_lines}
-use Rattle.sci_text.specs.FirstFault.{Says, LineFault, IsFirstFault, IsRefusal}
+use Rattle.sci_text.specs.Log.{log_line, last_lines, entry_lines}
 
 abbrev pub format_1 : Form
 format_1 = record { nodes = FORMAT_1_NODES; serials = FORMAT_1_SERIALS; entries = FORMAT_1_ENTRIES; lines = None }
@@ -138,120 +134,3 @@ AreLogs nodes logs last = (form : Form) × AreLogsOf form nodes logs last
 -- the bytes are the text of these logs, in format 1 or 2
 abbrev pub IsLogs : List ℕ → ℕ → List (List Entry) → List Stamped → Type 0
 IsLogs input nodes logs last = (form : Form) × AreLogsOf form nodes logs last × (input ≡ front_text (front_of form last logs))
-
--- ---- faults
-
--- a `last` line of this number can stand next
-pub record IsLastPlace (front : Front) (line : ℕ) : Type 0 where
-  pub first : entry_count front.logs ≡ 0
-  pub next : line ≡ length front.last
-  pub room : HasRoom front.form.lines (length front.last)
-
--- an entry of this node can stand next
-pub record IsEntryPlace (front : Front) (node : ℕ) : Type 0 where
-  pub whole : HasAllLines front.form.lines (length front.last)
-  pub none_above : (other : ℕ) → node < other → log_of front.logs other ≡ []
-
--- the bytes begin with such a line, which stands at its place
-pub record SaysLast (front : Front) (bytes : List ℕ) (line : ℕ) (stamped : Stamped) : Type 0 where
-  pub place : IsLastPlace front line
-  pub says : Says bytes (last_line line stamped)
-  pub eight : length stamped.line ≡ WORDS_PER_LINE
-
-pub record SaysEntry (front : Front) (bytes : List ℕ) (entry : Entry) : Type 0 where
-  pub place : IsEntryPlace front entry.node
-  pub says : Says bytes (entry_line entry)
-  pub answers : Answers entry.op.act entry.reply
-
--- what a line says after the first: the number of a line with its last contents, or an entry
-abbrev pub LogLine : Type 0
-LogLine = (ℕ × Stamped) ⊎ Entry
-
--- the bytes begin with the line that says so, which stands at its place
-abbrev pub SaysNext : Front → List ℕ → LogLine → Type 0
-SaysNext front bytes (inl last) = SaysLast front bytes last.0 last.1
-SaysNext front bytes (inr entry) = SaysEntry front bytes entry
-
--- its numbers are within their limits
-abbrev pub NextFits : Front → LogLine → Type 0
-NextFits front (inl last) = (last.0 < MAX_LINES) × StampedFits last.1
-NextFits front (inr entry) = EntryFits front.form (length front.last) entry
-
--- the node of an entry has its entries already
-abbrev pub HasNoRoomFor : Front → LogLine → Type 0
-HasNoRoomFor front (inl last) = ⊥
-HasNoRoomFor front (inr entry) = front.form.entries ≤ length (log_of front.logs entry.node)
-
--- What is wrong with the line at the front of bytes, or with their end: it is none that can stand there, whatever the
--- numbers; or a number is out of range; or the node has its entries already.
-abbrev pub LogLineFault : Front → List ℕ → TextFaultKind → Type 0
-LogLineFault front bytes kind = LineFault {X = LogLine} (SaysNext front bytes) (NextFits front) (HasNoRoomFor front) kind
-
--- the bytes begin with no `last` line that can stand next
-abbrev pub NoLast : Front → List ℕ → Type 0
-NoLast front bytes = (line : ℕ) (stamped : Stamped) → SaysLast front bytes line stamped → ⊥
-
--- what is wrong with a first line that begins with `log `
-abbrev pub SizeFault : List ℕ → TextFaultKind → Type 0
-SizeFault bytes kind = BeginsLog bytes × LineFault {X = ℕ × ℕ} (λ size. Says bytes (log_line size.0 size.1)) (λ size. IsSize size.0 size.1) (λ size. ⊥) kind
-
--- how many lines come before those of the last contents
-abbrev pub first_lines : Option ℕ → ℕ
-first_lines None = 0
-first_lines (Some lines) = 1
-
--- the input begins with these lines, in format 1 if there is no first line
-pub record BeginsFront (input : List ℕ) (front : Front) (rest : List ℕ) : Type 0 where
-  pub good : IsFront front
-  pub parts : input ≡ front_text front ++ rest
-  pub first : front.form.lines ≡ None → BeginsLog input → ⊥
-
--- there is more, or `last` lines are missing
-abbrev pub GoesOn : Front → List ℕ → Type 0
-GoesOn front rest = (0 < length rest) ⊎ (HasAllLines front.form.lines (length front.last) → ⊥)
-
-abbrev pub line_count : Front → ℕ
-line_count front = first_lines front.form.lines + length front.last + entry_count front.logs
-
--- the first line of a log that has a fault, and the fault
-abbrev pub IsLogFault : List ℕ → ℕ → TextFaultKind → Type 0
-IsLogFault input line kind = IsFirstFault SizeFault BeginsFront GoesOn line_count LogLineFault input line kind
-
--- the fault of every input that goes on from its first line with these bytes
-abbrev pub IsRefusalAfter : Form → List ℕ → TextFault → Type 0
-IsRefusalAfter form bytes fault =
-    (input : List ℕ) → input ≡ first_line form ++ bytes → (form.lines ≡ None → BeginsLog input → ⊥) → IsRefusal IsLogFault input fault
-
--- ---- what the readers of lines do
-
--- the bytes are a `last` line and the rest, and the new contents are the old ones with what it says
-pub record AddsLast (form : Form) (old new : List Stamped) (bytes rest : List ℕ) : Type 0 where
-  pub stamped : Stamped
-  pub parts : bytes ≡ last_line (length old) stamped ++ rest
-  pub eight : length stamped.line ≡ WORDS_PER_LINE
-  pub fits : StampedFits stamped
-  pub few : length old < MAX_LINES
-  pub room : HasRoom form.lines (length old)
-  pub added : new ≡ old ++ stamped ∷ []
-
--- the bytes are the line of an entry and the rest, and its node's log ends with it
-pub record AddsEntry (form : Form) (lines : ℕ) (old new : List (List Entry)) (latest now : ℕ) (bytes rest : List ℕ) : Type 0 where
-  pub entry : Entry
-  pub parts : bytes ≡ entry_line entry ++ rest
-  pub fits : EntryFits form lines entry
-  pub room : length (log_of old entry.node) < form.entries
-  pub added : new ≡ slice_set old entry.node (log_of old entry.node ++ entry ∷ [])
-  pub later : latest ≤ entry.node
-  pub now_is : now ≡ entry.node
-
--- the node of the last entry, or 0: its log has an entry, and no later node's has
-pub record IsLatest (logs : List (List Entry)) (latest : ℕ) : Type 0 where
-  pub none_above : (other : ℕ) → latest < other → log_of logs other ≡ []
-  pub some : 0 < latest → 0 < length (log_of logs latest)
-
--- no entries
-abbrev pub no_logs : List (List Entry)
-no_logs = replicate MAX_NODES []
-
-abbrev pub BeginsLast : List ℕ → Type 0
-BeginsLast bytes = (rest : List ℕ) × (bytes ≡ codes "last" ++ rest)

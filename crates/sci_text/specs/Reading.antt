@@ -1,5 +1,5 @@
 -- What the private readers of the code answer, step by step from left to right: what is read, and the bytes
--- after it. No public contract rests on these words: Script and Fault say what a text is, and laws in proofs/
+-- after it. No public contract rests on these words: Script, Schedule and Log say what a text is, and laws in proofs/
 -- join the two.
 use Rattle.std.specs.Prelude.{◌≡◌, ℕ, ◌+◌, ◌-◌, ◌*◌, ◌^◌, Bool, List, [], ◌∷◌, Option, Some, None, option_map, option_and_then, nat_lt, nat_le, ◌&&◌, ◌==◌, if◌then◌else◌}
 use Rattle.std.specs.Prelude.{codes}
@@ -8,10 +8,6 @@ use Rattle.sci_words.specs.declared.operation.LockOp.TheVariants.{MaskSwap, Comp
 use Rattle.sci_words.specs.declared.operation.Act.{Act}
 use Rattle.sci_words.specs.declared.operation.Act.TheVariants.{Load, Store, Lock}
 use Rattle.sci_words.specs.declared.operation.Op.{Op}
-use Rattle.sci_words.specs.declared.operation.Reply.{Reply}
-use Rattle.sci_words.specs.declared.operation.Reply.TheVariants.{Stored, Got}
-use Rattle.sci_words.specs.declared.stamped.Stamped.{Stamped}
-use Rattle.sci_history.specs.declared.entry.Entry.{Entry}
 use Rattle.sci_text.specs.declared.operation.Command.{Command}
 use Rattle.sci_text.specs.declared.operation.Command.TheVariants as commands
 
@@ -118,113 +114,3 @@ unfoldable pub operation_read : List ℕ → Option (Option Op × List ℕ)
 operation_read bytes = do
   command ← command_read bytes
   operation_after command.0 command.1
-
--- ---- lines
-
-unfoldable pub machine_line_read : List ℕ → Option ((Option ℕ × Option ℕ × Option ℕ) × List ℕ)
-machine_line_read bytes = do
-  first ← after (codes "machine") bytes
-  nodes ← field_read first
-  lines ← field_read nodes.1
-  slots ← field_read lines.1
-  rest ← after (10 ∷ []) slots.1
-  Some ((nodes.0, lines.0, slots.0), rest)
-
-unfoldable pub operation_line_read : List ℕ → Option (Option (ℕ × Op) × List ℕ)
-operation_line_read bytes = do
-  first ← after (codes "p") bytes
-  node ← field_read first
-  gap ← after (codes " ") node.1
-  op ← operation_read gap
-  rest ← after (10 ∷ []) op.1
-  Some (byte node.0 >>= λ n. option_map (λ o. (n, o)) op.0, rest)
-
--- ---- lines of logs
-
--- ` @V`
-unfoldable pub version_read : List ℕ → Option (Option ℕ × List ℕ)
-version_read bytes = after (codes " @") bytes >>= number_read
-
--- a line's eight words, where each is below 2^64
-unfoldable pub eight : Option (ℕ × ℕ) → Option (ℕ × ℕ) → Option (ℕ × ℕ) → Option (ℕ × ℕ) → Option (List ℕ)
-eight first second third fourth = do
-  a ← first
-  b ← second
-  c ← third
-  d ← fourth
-  Some (a.0 ∷ a.1 ∷ b.0 ∷ b.1 ∷ c.0 ∷ c.1 ∷ d.0 ∷ d.1 ∷ [])
-
-unfoldable pub words_read : List ℕ → Option (Option (List ℕ) × List ℕ)
-words_read bytes = do
-  first ← pair_read bytes
-  second ← pair_read first.1
-  third ← pair_read second.1
-  fourth ← pair_read third.1
-  Some (eight first.0 second.0 third.0 fourth.0, fourth.1)
-
-unfoldable pub stamped_of : Option (List ℕ) → Option ℕ → Option Stamped
-stamped_of words version = do
-  line ← words
-  number ← version
-  Some (record { line = line; version = number })
-
-unfoldable pub last_line_read : List ℕ → Option ((Option ℕ × Option Stamped) × List ℕ)
-last_line_read bytes = do
-  first ← after (codes "last") bytes
-  line ← field_read first
-  version ← version_read line.1
-  words ← words_read version.1
-  rest ← after (10 ∷ []) words.1
-  Some ((line.0, stamped_of words.0 version.0), rest)
-
--- a store's reply is `-`, every other operation's is a number
-unfoldable pub reply_read : Command → List ℕ → Option (Option Reply × List ℕ)
-reply_read commands.Store bytes = option_map (λ rest. (Some Stored, rest)) (after (codes "-") bytes)
-reply_read command bytes = number_read bytes >>= λ x. Some (option_map Got x.0, x.1)
-
--- a number below 2^32
-unfoldable pub serial_of : Option ℕ → Option ℕ
-serial_of None = None
-serial_of (Some n) = if nat_lt n (2 ^ 32) then Some n else None
-
-unfoldable pub entry_of : Option ℕ → Option ℕ → Option Op → Option Reply → Option ℕ → Option Entry
-entry_of node serial op reply version = do
-  n ← byte node
-  s ← serial_of serial
-  o ← op
-  r ← reply
-  v ← version
-  Some (record { node = n; serial = s; op = o; reply = r; version = v })
-
--- `n serial OP`
-unfoldable pub issue_read : List ℕ → Option ((Option ℕ × Option ℕ × Command × Option Op) × List ℕ)
-issue_read bytes = do
-  node ← number_read bytes
-  serial ← field_read node.1
-  gap ← after (codes " ") serial.1
-  command ← command_read gap
-  op ← operation_read gap
-  Some ((node.0, serial.0, command.0, op.0), op.1)
-
--- ` = REPLY @V`
-unfoldable pub outcome_read : Command → List ℕ → Option ((Option Reply × Option ℕ) × List ℕ)
-outcome_read command bytes = do
-  equals ← after (codes " = ") bytes
-  reply ← reply_read command equals
-  version ← version_read reply.1
-  Some ((reply.0, version.0), version.1)
-
-unfoldable pub entry_line_read : List ℕ → Option ((Option ℕ × Option Entry) × List ℕ)
-entry_line_read bytes = do
-  issue ← issue_read bytes
-  outcome ← outcome_read issue.0.2 issue.1
-  rest ← after (10 ∷ []) outcome.1
-  Some ((issue.0.0, entry_of issue.0.0 issue.0.1 issue.0.3 outcome.0.0 outcome.0.1), rest)
-
-unfoldable pub log_line_read : List ℕ → Option ((Option ℕ × Option ℕ) × List ℕ)
-log_line_read bytes = do
-  first ← after (codes "log 2") bytes
-  nodes ← field_read first
-  lines ← field_read nodes.1
-  rest ← after (10 ∷ []) lines.1
-  Some ((nodes.0, lines.0), rest)

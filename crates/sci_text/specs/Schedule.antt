@@ -1,5 +1,5 @@
 -- Schedules: what they say, and the one text of each.
-use Rattle.std.specs.Prelude.{◌≡◌, ℕ, ◌<◌, ◌≤◌, List, [], ◌∷◌, ◌++◌, length, codes, All}
+use Rattle.std.specs.Prelude.{ℕ, ◌<◌, ◌≤◌, List, [], ◌∷◌, ◌++◌, length, codes, All}
 use Rattle.std.specs.List.{flat_map}
 use Rattle.sci_words.specs.declared.limits.TheConstants.{MAX_EVENTS}
 use Rattle.sci_words.specs.declared.event.AskKind.{AskKind}
@@ -103,9 +103,3 @@ event_lines events = flat_map event_line events
 -- the line of the size, then a line for each event
 abbrev pub schedule_text : ScheduleValue → List ℕ
 schedule_text s = machine_line s.nodes s.lines s.slots ++ event_lines s.events
-
--- the bytes are a line and the rest, and the new schedule is the old one with the event that the line says
-pub record AddsEvent (old new : ScheduleValue) (bytes rest : List ℕ) : Type 0 where
-  pub event : Event
-  pub parts : bytes ≡ event_line event ++ rest
-  pub added : new ≡ with_event old event

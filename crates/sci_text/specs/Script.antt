@@ -1,7 +1,7 @@
 -- Scripts: what they say, and the one text of each.
-use Rattle.std.specs.Prelude.{◌≡◌, ℕ, ◌+◌, ◌<◌, ◌≤◌, ◌==◌, List, [], ◌∷◌, ◌++◌, length, codes, All, count_by, slice_index}
+use Rattle.std.specs.Prelude.{◌≡◌, ℕ, ◌<◌, ◌≤◌, ◌==◌, List, [], ◌∷◌, ◌++◌, length, codes, All, count_by, slice_index}
 use Rattle.std.specs.List.{flat_map}
-use Rattle.sci_words.specs.declared.limits.TheConstants.{MAX_NODES, MAX_OPERATIONS, MAX_TEXT_LINE_BYTES, WORDS_PER_LINE}
+use Rattle.sci_words.specs.declared.limits.TheConstants.{MAX_NODES, MAX_OPERATIONS, WORDS_PER_LINE}
 use Rattle.sci_words.specs.declared.operation.Op.{Op}
 use Rattle.sci_words.specs.Extent.{AreWithinLimits}
 use Rattle.sci_text.specs.declared.script.PushFault.{PushFault}
@@ -73,14 +73,3 @@ operation_line node op = codes "p" ++ (field node ++ (codes " " ++ (operation op
 -- the line of the size, then a line for each operation
 abbrev pub script_text : ScriptValue → List ℕ
 script_text s = machine_line s.nodes s.lines s.slots ++ flat_map (λ p. operation_line p.0 p.1) s.operations
-
--- a line, of which the line feed isn't counted, has at most 256 bytes
-abbrev pub IsShort : List ℕ → Type 0
-IsShort line = length line ≤ MAX_TEXT_LINE_BYTES + 1
-
--- the bytes are a line and the rest, and the new script is the old one with the operation that the line says
-pub record AddsLine (old new : ScriptValue) (bytes rest : List ℕ) : Type 0 where
-  pub node : ℕ
-  pub op : Op
-  pub parts : bytes ≡ operation_line node op ++ rest
-  pub added : new ≡ with_operation old node op

@@ -1,41 +1,47 @@
 //! Texts of scripts and logs: their grammar, and a reader that tells the first fault.
 #![tactic(auto)]
 
-mod event;
 mod fault;
-mod form;
-mod laws;
 mod line_end;
 mod line_length;
-mod lines;
-mod log;
-mod log_line;
+mod log_entry;
+mod log_form;
+mod log_laws;
+mod log_lines;
+mod log_reading;
+mod log_writing;
 mod number;
 mod operation;
 mod printing;
 mod reading;
 mod schedule;
+mod schedule_event;
 mod schedule_laws;
 mod schedule_lines;
 mod schedule_reading;
 mod schedule_writing;
 mod script;
+mod script_laws;
+mod script_lines;
+mod script_reading;
 mod tap;
 mod writing;
 
 pub use fault::{TextFault, TextFaultKind};
-pub use laws::{
-    no_fault, no_log_fault, one_fault, one_log, one_log_fault, one_script, written_again,
-};
+pub use log_laws::{no_log_fault, one_log, one_log_fault, written_again};
+pub use log_reading::read_logs;
+pub use log_writing::{logs_text, write_logs};
 pub use printing::{push_field, push_number, push_text};
-pub use reading::{read_input, read_logs, read_script};
+pub use reading::read_input;
 pub use schedule::Schedule;
 pub use schedule_laws::{no_schedule_fault, one_schedule, one_schedule_fault, schedules_are_short};
 pub use schedule_reading::read_schedule;
 pub use schedule_writing::write_schedule;
 pub use script::{PushFault, Script};
+pub use script_laws::{no_fault, one_fault, one_script};
+pub use script_reading::read_script;
 pub use tap::Tap;
-pub use writing::{logs_text, write_logs, write_text};
+pub use writing::write_text;
 
 #[cfg(test)]
 mod schedule_tests;

@@ -1,16 +1,13 @@
 //! Texts, appended to a buffer piece by piece.
 
-ghost use Rattle.std.specs.Prelude.{◌≡◌, ◌+◌, ◌≤◌, ◌++◌, ◌∷◌, [], length, OnErr, OnOk};
-ghost use Rattle.std.specs.List.{flat_map};
+ghost use Rattle.std.specs.Prelude.{◌≡◌, ◌+◌, ◌≤◌, ◌++◌, length, OnErr, OnOk};
 ghost use Rattle.sci_words.specs.declared.limits.TheConstants.{MAX_TEXT_LINE_BYTES};
 ghost use Rattle.sci_text.specs.Number.{number as number_text, field as field_text};
 ghost use Rattle.sci_text.specs.Operation.{act_operands, act_word as word_of, lock_operands, lock_word as lock_word_of, operation as operation_text};
-ghost use Rattle.sci_text.specs.Log.{entry_line as entry_text, issue_text, last_line as last_text, outcome_text, reply_text, version_text};
 
 use crate::line_end::LineEnd;
 use itoa::Buffer;
-use sci_history::Entry;
-use sci_words::{Act, Line, LockOp, Op, Reply, Stamped};
+use sci_words::{Act, LockOp, Op};
 use std::alloc::AllocError;
 
 /// Appends a word of the grammar.
@@ -109,82 +106,4 @@ pub fn put_operation(line: &mut LineEnd, op: Op)
     line.put_field(u64::from(op.word));
     line.put_field(u64::from(op.line));
     line.put_text(act_word(op.act));
-}
-
-fn put_reply(line: &mut LineEnd, reply: Reply)
-    requires { 20 + length line.old ≤ MAX_TEXT_LINE_BYTES }
-    ensures text { line.new ≡ reply_text reply ++ line.old }
-    ensures short { length line.new ≤ 20 + length line.old }
-{
-    match reply {
-        Reply::Stored => line.put_text("-"),
-        Reply::Got(word) => line.put_number(word),
-    }
-}
-
-#[tactic(auto, unfolding(crate::specs::Log::version_text))]
-fn put_version(line: &mut LineEnd, version: u64)
-    requires { 22 + length line.old ≤ MAX_TEXT_LINE_BYTES }
-    ensures text { line.new ≡ version_text version ++ line.old }
-    ensures short { length line.new ≤ 22 + length line.old }
-{
-    line.put_number(version);
-    line.put_text(" @");
-}
-
-#[tactic(auto, unfolding(crate::specs::Log::issue_text))]
-fn put_issue(line: &mut LineEnd, entry: &Entry)
-    requires { 138 + length line.old ≤ MAX_TEXT_LINE_BYTES }
-    ensures text { line.new ≡ issue_text entry.now ++ line.old }
-    ensures short { length line.new ≤ 138 + length line.old }
-{
-    put_operation(line, entry.op);
-    line.put_text(" ");
-    line.put_field(u64::from(entry.serial));
-    line.put_number(u64::from(entry.node));
-}
-
-#[tactic(auto, unfolding(crate::specs::Log::outcome_text))]
-fn put_outcome(line: &mut LineEnd, entry: &Entry)
-    requires { 45 + length line.old ≤ MAX_TEXT_LINE_BYTES }
-    ensures text { line.new ≡ outcome_text entry.now ++ line.old }
-    ensures short { length line.new ≤ 45 + length line.old }
-{
-    put_version(line, entry.version);
-    put_reply(line, entry.reply);
-    line.put_text(" = ");
-}
-
-/// Appends the line of an entry.
-#[tactic(auto, unfolding(crate::specs::Log::entry_line))]
-pub fn push_entry_line(out: &mut Vec<u8>, entry: &Entry) -> Result<(), AllocError>
-    ensures { OnOk result (out.new.items ≡ out.old.items ++ entry_text entry.now) }
-{
-    let mut line = LineEnd::new();
-    line.put_text("\n");
-    put_outcome(&mut line, entry);
-    put_issue(&mut line, entry);
-    out.extend_from_slice(line.as_slice())
-}
-
-fn push_words(out: &mut Vec<u8>, line: &Line) -> Result<(), AllocError>
-    ensures { OnOk result (out.new.items ≡ out.old.items ++ flat_map field_text line.now) }
-{
-    for word in line.words() {
-        push_field(out, *word)?;
-    }
-    Ok(())
-}
-
-/// Appends the line of a stamped line of the last contents.
-#[tactic(auto, unfolding(crate::specs::Log::last_line, crate::specs::Log::version_text))]
-pub fn push_last_line(out: &mut Vec<u8>, line: u8, stamped: &Stamped) -> Result<(), AllocError>
-    ensures { OnOk result (out.new.items ≡ out.old.items ++ last_text line stamped.now) }
-{
-    push_text(out, "last")?;
-    push_field(out, u64::from(line))?;
-    push_text(out, " @")?;
-    push_number(out, stamped.version)?;
-    push_words(out, &stamped.line)?;
-    push_text(out, "\n")
 }

@@ -2,15 +2,16 @@
 
 ghost use Rattle.std.specs.Prelude.{◌≡◌, ◌≤◌, ◌⊎◌, ◌++◌, IfOk, IfErr, OnErr};
 ghost use Rattle.sci_text.specs.declared.fault.TextFaultKind.TheVariants.{Memory};
-ghost use Rattle.sci_text.specs.Schedule.{IsSchedule, schedule_text, AddsEvent};
+ghost use Rattle.sci_text.specs.Schedule.{IsSchedule, schedule_text};
+ghost use Rattle.sci_text.specs.ScheduleReading.{AddsEvent};
 ghost use Rattle.sci_text.specs.FirstFault.{IsRefusal};
 ghost use Rattle.sci_text.specs.ScheduleFault.{EventFault, IsScheduleFault};
 
-use crate::event::event_line;
 use crate::fault::{TextFault, TextFaultKind};
 use crate::line_length::check_length;
-use crate::lines::machine;
 use crate::schedule::Schedule;
+use crate::schedule_event::event_line;
+use crate::script_lines::machine;
 use std::alloc::Global;
 
 /// Adds the event that the first line of `bytes` says, and answers the bytes after the line.

@@ -5,7 +5,7 @@ use Rattle.std.specs.Prelude.{IfErr, is_err}
 use Rattle.std.proofs.lemmas.List.{take-append-drop}
 use Rattle.sci_text.specs.declared.fault.TextFault.{TextFault}
 use Rattle.sci_text.specs.declared.fault.TextFaultKind.TheVariants.{Write}
-use Rattle.sci_text.specs.Log.{IsWriteFault}
+use Rattle.sci_text.specs.Writing.{IsWriteFault}
 use Rattle.scimem.specs.Writing.{WritesFront}
 
 -- what is left from a place is all that follows it

@@ -11,7 +11,8 @@ use Rattle.sci_history.specs.Audit.{IsVerdict}
 use Rattle.sci_text.specs.Number.{field}
 use Rattle.sci_text.specs.Log.{log_text}
 use Rattle.sci_text.specs.FirstFault.{IsTold}
-use Rattle.sci_text.specs.LogValue.{IsLogs, IsLogFault}
+use Rattle.sci_text.specs.LogValue.{IsLogs}
+use Rattle.sci_text.specs.LogFault.{IsLogFault}
 use Rattle.scimem.specs.Input.{IsReadAs}
 use Rattle.scimem.specs.Refusal.{IsRefusalBy}
 use Rattle.scimem.specs.declared.outcome.Outcome.{Outcome}

@@ -3,7 +3,7 @@
 ghost use Rattle.std.specs.Prelude.{◌≡◌, ℕ, List, false, true, IfOk, IfErr};
 ghost use Rattle.std.specs.Io.KnownBytes.{Appends};
 ghost use Rattle.sci_text.specs.FirstFault.{IsTold};
-ghost use Rattle.sci_text.specs.LogValue.{IsLogFault};
+ghost use Rattle.sci_text.specs.LogFault.{IsLogFault};
 ghost use Rattle.sci_text.specs.Tap.{has_failed, is_called_again, tapped};
 ghost use Rattle.scimem.specs.declared.outcome.Outcome.{Outcome};
 ghost use Rattle.scimem.specs.LogAnswer.{IsUpgradeAnswer, IsUpgradeOf};

@@ -1,7 +1,7 @@
 use Rattle.std.proofs.Common.{ap, inr, ◌∙◌, Some, Option}
 use Rattle.std.proofs.lemmas.Result.{err_from_is_err_and}
 use Rattle.sci_words.specs.declared.event.Event.{Event}
-use Rattle.sci_text.proofs.EventLines.{event_none, event_long, event_unfit, event_ok, event_refused}
+use Rattle.sci_text.proofs.ScheduleFaults.{event_none, event_long, event_unfit, event_ok, event_refused}
 use Rattle.sci_text.proofs.schedule_lines.push_event.Goals as goal
 
 pub returns-in_default-clause-fault : goal.returns-in_default-clause-fault

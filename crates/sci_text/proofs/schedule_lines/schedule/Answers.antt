@@ -1,4 +1,4 @@
-use Rattle.sci_text.proofs.EventLines.{line_shrinks}
+use Rattle.sci_text.proofs.ScheduleFaults.{line_shrinks}
 use Rattle.sci_text.proofs.schedule_lines.schedule.Goals as goal
 
 pub loop-rest-smaller : goal.loop-rest-smaller

@@ -1,5 +1,5 @@
 -- What is written is the answer, or the refusal of the fault that is told.
-use Rattle.sci_text.specs.LogValue.{IsLogFault}
+use Rattle.sci_text.specs.LogFault.{IsLogFault}
 use Rattle.sci_text.specs.Tap.{tapped, has_failed}
 use Rattle.scimem.proofs.Refusals.{refused_told, audit_answer}
 use Rattle.scimem.proofs.audit.audit_text.Goals as goal

@@ -1,6 +1,6 @@
 use Rattle.std.proofs.Common.{subst}
 use Rattle.sci_text.specs.Script.{IsScript}
-use Rattle.sci_text.proofs.Scripts.{is_script_inside}
+use Rattle.sci_text.proofs.ScriptLimits.{is_script_inside}
 use Rattle.sci_text.proofs.script.Script.operations.Goals as goal
 
 pub returns-clause-good : goal.returns-clause-good

@@ -1,6 +1,6 @@
 use Rattle.std.proofs.Common.{subst, arith, rules}
 use Rattle.sci_text.specs.Script.{IsScript, IsWithin}
-use Rattle.sci_text.proofs.Scripts.{is_script_inside, within_push, counts_push}
+use Rattle.sci_text.proofs.ScriptLimits.{is_script_inside, within_push, counts_push}
 use Rattle.sci_text.proofs.script.Script.push.Goals as goal
 
 pub returns-then-not-is_within-clause-good : goal.returns-then-not-is_within-clause-good

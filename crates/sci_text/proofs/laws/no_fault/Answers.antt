@@ -1,5 +1,0 @@
-use Rattle.sci_text.proofs.ScriptUnique.{no_fault}
-use Rattle.sci_text.proofs.laws.no_fault.Goals as goal
-
-pub returns : goal.returns
-returns c = no_fault

@@ -1,5 +1,0 @@
-use Rattle.sci_text.proofs.LogOneFault.{no_log_fault}
-use Rattle.sci_text.proofs.laws.no_log_fault.Goals as goal
-
-pub returns : goal.returns
-returns c = no_log_fault c.one_partition.ensures.one c.one_partition.ensures.own

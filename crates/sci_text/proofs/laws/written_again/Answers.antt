@@ -1,5 +1,0 @@
-use Rattle.sci_text.proofs.LogLaws.{written_again}
-use Rattle.sci_text.proofs.laws.written_again.Goals as goal
-
-pub returns : goal.returns
-returns c = written_again

@@ -1,0 +1,5 @@
+use Rattle.sci_text.proofs.ScriptUnique.{no_fault}
+use Rattle.sci_text.proofs.script_laws.no_fault.Goals as goal
+
+pub returns : goal.returns
+returns c = no_fault

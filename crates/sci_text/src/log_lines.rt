@@ -1,0 +1,198 @@
+//! The lines of a log, and the whole of its text.
+
+ghost use Rattle.std.specs.Prelude.{◌≡◌, ◌<◌, ◌≤◌, ◌⊎◌, ◌++◌, ℕ, Some, length, IfOk, IfErr, OnErr};
+ghost use Rattle.std.specs.Bool.{OnTrue, OnFalse};
+ghost use Rattle.sci_words.specs.declared.limits.TheConstants.{MAX_LINES};
+ghost use Rattle.sci_text.specs.declared.fault.TextFaultKind.TheVariants.{Memory};
+ghost use Rattle.sci_text.specs.FirstFault.{IsRefusal};
+ghost use Rattle.sci_text.specs.Log.{entry_lines, last_lines};
+ghost use Rattle.sci_text.specs.LogReading.{AddsEntry, AddsLast, BeginsLast, IsLatest, IsRefusalAfter, NoLast, no_logs};
+ghost use Rattle.sci_text.specs.LogValue.{AreLogs, HasAllLines, IsForm, IsFront, IsLogs, front_of};
+ghost use Rattle.sci_text.specs.LogFault.{IsLogFault, LogLineFault};
+
+use crate::fault::{TextFault, TextFaultKind};
+use crate::line_length::check_length;
+use crate::log_entry::{entry_line, last_line};
+use crate::log_form::{Form, form_of};
+use crate::number::Number;
+use crate::operation::after;
+use sci_history::{Last, Logs, PushFault};
+use sci_words::{MAX_LINES, Stamped};
+use std::alloc::Global;
+
+/// Whether a number of a text is `n`.
+fn is_number(number: Number, n: u64) -> bool
+    ensures yes { OnTrue result (number ≡ Some n) }
+    ensures no { OnFalse result (number ≡ Some n → ⊥) }
+{
+    match number {
+        None => false,
+        Some(m) => m == n,
+    }
+}
+
+/// Whether a number of a text is below `n`.
+fn is_below(number: Number, n: u8) -> bool
+    ensures yes { OnTrue result ((m : ℕ) × (number ≡ Some m) × (m < n)) }
+    ensures no { OnFalse result ((m : ℕ) → number ≡ Some m → n ≤ m) }
+{
+    match number {
+        None => false,
+        Some(m) => m < u64::from(n),
+    }
+}
+
+/// Adds the contents that the `last` line at the front of `bytes` says, and answers the bytes after the line.
+fn push_last<'a>(
+    form: &Form,
+    last: &mut Vec<Stamped>,
+    bytes: &'a [u8],
+) -> Result<&'a [u8], TextFaultKind>
+    requires few { length last.old.items ≤ MAX_LINES }
+    requires begins { BeginsLast bytes.now }
+    ensures ok { IfOk result (λ rest. AddsLast form.now last.old.items last.new.items bytes.now rest.now) }
+    ensures same { OnErr result (last.new.items ≡ last.old.items) }
+    ensures fault { IfErr result (λ kind. (kind ≡ Memory) ⊎ LogLineFault (front_of form.now last.old.items no_logs) bytes.now kind) }
+{
+    let Some((said, rest)) = last_line(bytes) else {
+        return Err(TextFaultKind::Syntax);
+    };
+    check_length(bytes, rest)?;
+    if !is_number(said.line, last.len() as u64) {
+        return Err(TextFaultKind::Syntax);
+    }
+    if !form.has_room(last.len()) {
+        return Err(TextFaultKind::Syntax);
+    }
+    if last.len() >= MAX_LINES as usize {
+        return Err(TextFaultKind::Range);
+    }
+    let Some(stamped) = said.stamped else {
+        return Err(TextFaultKind::Range);
+    };
+    match last.push(stamped) {
+        Ok(()) => Ok(rest),
+        Err(_) => Err(TextFaultKind::Memory),
+    }
+}
+
+/// The contents that the `last` lines at the front of `bytes` say, and the bytes after the lines.
+fn contents<'a>(
+    alloc: Global,
+    form: &Form,
+    bytes: &'a [u8],
+) -> Result<(Vec<Stamped>, &'a [u8]), TextFault>
+    requires { IsForm form.now }
+    ensures ok { IfOk result (λ x. bytes.now ≡ last_lines 0 x.0.items ++ x.1.now) }
+    ensures good { IfOk result (λ x. IsFront (front_of form.now x.0.items no_logs)) }
+    ensures whole { IfOk result (λ x. HasAllLines form.now.lines (length x.0.items)) }
+    ensures no_more { IfOk result (λ x. BeginsLast x.1.now → ⊥) }
+    ensures fault { IfErr result (IsRefusalAfter form.now bytes.now) }
+{
+    let mut last = Vec::new(alloc);
+    let mut rest = bytes;
+    while after(rest, b"last").is_some() {
+        let line = form.first_lines() + last.len() + 1;
+        match push_last(form, &mut last, rest) {
+            Ok(more) => rest = more,
+            Err(kind) => return Err(TextFault::at(line, kind)),
+        }
+    }
+    if !form.has_all_lines(last.len()) {
+        let line = form.first_lines() + last.len() + 1;
+        return Err(TextFault::at(line, TextFaultKind::Syntax));
+    }
+    Ok((last, rest))
+}
+
+/// Ends its node's log with the entry that the line at the front of `bytes` says, and answers the node and the bytes
+/// after the line. No node after `latest` has entries.
+fn push_entry<'a>(
+    form: &Form,
+    last: &[Stamped],
+    logs: &mut Logs,
+    latest: u8,
+    bytes: &'a [u8],
+) -> Result<(u8, &'a [u8]), TextFaultKind>
+    requires good { IsFront (front_of form.now last.now logs.old) }
+    requires whole { HasAllLines form.now.lines (length last.now) }
+    requires latest { IsLatest logs.old latest }
+    requires no_last { NoLast (front_of form.now last.now logs.old) bytes.now }
+    ensures ok { IfOk result (λ x. AddsEntry form.now (length last.now) logs.old logs.new latest x.0 bytes.now x.1.now) }
+    ensures same { OnErr result (logs.new ≡ logs.old) }
+    ensures fault { IfErr result (λ kind. (kind ≡ Memory) ⊎ LogLineFault (front_of form.now last.now logs.old) bytes.now kind) }
+{
+    let Some(((node, entry), rest)) = entry_line(bytes) else {
+        return Err(TextFaultKind::Syntax);
+    };
+    check_length(bytes, rest)?;
+    if is_below(node, latest) {
+        return Err(TextFaultKind::Syntax);
+    }
+    let Some(entry) = entry else {
+        return Err(TextFaultKind::Range);
+    };
+    if !form.admits(last.len(), &entry) {
+        return Err(TextFaultKind::Range);
+    }
+    if logs.of(entry.node).len() >= form.entries as usize {
+        return Err(TextFaultKind::TooMany);
+    }
+    match logs.push(entry) {
+        Ok(()) => Ok((entry.node, rest)),
+        Err(PushFault::Full) => Err(TextFaultKind::TooMany),
+        Err(PushFault::Memory(_)) => Err(TextFaultKind::Memory),
+    }
+}
+
+/// The logs whose lines the bytes are, after the `last` lines.
+fn entries(alloc: Global, form: &Form, last: &[Stamped], bytes: &[u8]) -> Result<Logs, TextFault>
+    requires good { IsFront (front_of form.now last.now no_logs) }
+    requires whole { HasAllLines form.now.lines (length last.now) }
+    requires no_more { BeginsLast bytes.now → ⊥ }
+    ensures ok { IfOk result (λ logs. bytes.now ≡ entry_lines logs) }
+    ensures good { IfOk result (λ logs. IsFront (front_of form.now last.now logs)) }
+    ensures fault { IfErr result (IsRefusalAfter form.now (last_lines 0 last.now ++ bytes.now)) }
+{
+    let mut logs = Logs::new(alloc);
+    let mut latest = 0;
+    let mut line = form.first_lines() + last.len() + 1;
+    let mut rest = bytes;
+    while !rest.is_empty() {
+        match push_entry(form, last, &mut logs, latest, rest) {
+            Ok((node, more)) => {
+                latest = node;
+                rest = more;
+                line += 1;
+            }
+            Err(kind) => return Err(TextFault::at(line, kind)),
+        }
+    }
+    Ok(logs)
+}
+
+/// The last contents of these lines.
+fn last_of(contents: &[Stamped]) -> Last
+    requires some { 1 ≤ length contents.now }
+    requires few { length contents.now ≤ MAX_LINES }
+    ensures { result ≡ contents.now }
+{
+    let lines = contents.len() as u8;
+    let mut last = Last::zero(lines);
+    for line in 0..lines {
+        last.set(line, contents[line as usize]);
+    }
+    last
+}
+
+/// The logs and the last contents whose text the bytes are, in either format, with the number of nodes.
+pub fn logs(alloc: Global, input: &[u8]) -> Result<(u8, Logs, Last), TextFault>
+    ensures ok { IfOk result (λ x. IsLogs input.now x.0 x.1 x.2) }
+    ensures good { IfOk result (λ x. AreLogs x.0 x.1 x.2) }
+    ensures fault { IfErr result (IsRefusal IsLogFault input.now) }
+{
+    let (form, rest) = form_of(input).map_err(|kind| TextFault::at(1, kind))?;
+    let (contents, rest) = contents(alloc, &form, rest)?;
+    let logs = entries(alloc, &form, &contents, rest)?;
+    Ok((form.nodes, logs, last_of(&contents)))
+}
