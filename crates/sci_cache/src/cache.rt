@@ -61,7 +61,7 @@ impl Cache {
     ghost use Rattle.sci_cache.specs.Cache.{CacheOf, line_of, has_slot, letter_of, cache_asking, cache_serving, cache_accepting, cache_performing};
 
     /// The cache of node `me` in a machine of this size, with no entry for any line. The caller sees to it that
-    /// there is such a node. Refused where memory is.
+    /// there is such a node. Refused if memory is.
     pub fn new(alloc: Global, me: u8, extent: Extent) -> Result<Cache, AllocError>
         requires { me < extent.nodes }
         ensures { IfOk result (λ cache. cache ≡ record { me = me; nodes = extent.nodes; slots = extent.slots; lines = replicate extent.lines untouched }) }
@@ -126,7 +126,7 @@ impl Cache {
     }
 
     /// Makes a request of this kind about a line. The caller sees to it that there is such a line. Refused,
-    /// unchanged, with NotNow where the line's state doesn't ask this kind, and else with NoSlot where the line
+    /// unchanged, with NotNow if the line's state doesn't ask this kind, and else with NoSlot if the line
     /// has no entry and as many lines have one as there are version slots.
     pub fn ask(&mut self, line: u8, kind: AskKind) -> Result<Packet, AskFault>
         requires { line < length self.old.lines }
@@ -140,7 +140,7 @@ impl Cache {
         Ok(packet)
     }
 
-    /// The packet that an ask of this kind about a line would send now, or None where the ask would be refused.
+    /// The packet that an ask of this kind about a line would send now, or None if the ask would be refused.
     /// The caller sees to it that there is such a line.
     pub fn asked(&self, line: u8, kind: AskKind) -> Option<Packet>
         requires { line < length self.now.lines }
@@ -206,7 +206,7 @@ impl Cache {
         request.answer(answer)
     }
 
-    /// Takes an answer about a line. The caller sees to it that there is such a line. Refused, unchanged, where
+    /// Takes an answer about a line. The caller sees to it that there is such a line. Refused, unchanged, if
     /// the line's state doesn't list the answer or its control number isn't that of the line's last ask.
     pub fn accept(&mut self, answer: &Packet) -> Result<(), NotAwaited>
         requires { answer.now.line < length self.old.lines }
@@ -223,7 +223,7 @@ impl Cache {
     }
 
     /// Performs an operation, and gives its reply and the version that it read or made. The caller sees to it
-    /// that there is such a line, and that the word's place is below eight. None, unchanged, where the line's
+    /// that there is such a line, and that the word's place is below eight. None, unchanged, if the line's
     /// state doesn't allow it.
     pub fn perform(&mut self, op: Op) -> Option<(Reply, u64)>
         requires line { op.line < length self.old.lines }

@@ -49,12 +49,12 @@ pub fn telling_keeps_link()
     ensures { (state : CacheState) (n before : ℕ) (answer : Option Body) → link_of (serving_setback state n before).0 answer ≡ link_of state answer }
 {}
 
-/// An ask is made only where no answer is awaited, and awaits one.
+/// An ask is made only if no answer is awaited, and awaits one.
 pub fn asking_begins_a_wait()
     ensures { (state : CacheState) (kind : AskKind) → IfSome (asking state kind) (λ asked. (waits state ≡ false) × (waits asked.next ≡ true)) }
 {}
 
-/// An answer is taken only where one is awaited, and then none is.
+/// An answer is taken only if one is awaited, and then none is.
 pub fn accepting_ends_a_wait()
     ensures { (state : CacheState) (answer : Body) → IfSome (accepting state answer) (λ next. (waits state ≡ true) × (waits next ≡ false)) }
 {}

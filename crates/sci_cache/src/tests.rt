@@ -73,7 +73,7 @@ fn refusal(cache: &mut Cache) -> Option<AskFault> {
     }
 }
 
-/// The control number of an Mread about line 0 that the home answers as busy, or None where it isn't sent.
+/// The control number of an Mread about line 0 that the home answers as busy, or None if it isn't sent.
 fn busy_control(cache: &mut Cache) -> Option<u16> {
     if cache.lines() == 0 {
         return None;

@@ -97,7 +97,7 @@ marked_maker marks refs n makers lt maker long within h = grind (arith, cases_eq
 pub mark_is : (marks : List Bool) (refs : List (Bor Entry)) (n makers version : ℕ) → length marks ≡ makers → (1 ≤ version) × (version ≤ makers) → HasMarked marks refs n makers → (d : Bool) → get_or marks (version - 1) d ≡ list_any (makes version) (take n (entries_of refs))
 mark_is marks refs n makers version long within h d = grind (arith, get_or_default)
 
--- where no version is missing, a maker's is from 1 to the number of makers
+-- if no version is missing, a maker's is from 1 to the number of makers
 pub maker_within : (refs : List (Bor Entry)) (n makers : ℕ) → n < length refs → first_failing (is_version_missing makers) [] (entries_of refs) ≡ None → is_making (entry_at refs n) ≡ true → (1 ≤ (entry_at refs n).version) × ((entry_at refs n).version ≤ makers)
 maker_within refs n makers lt none maker =
     let within = versions_within makers [] (entries_of refs) (none_fail (is_version_missing makers) [] (entries_of refs) none) in (

@@ -73,7 +73,7 @@ lawful_past logs last line own sixteen within le =
     let h : HasNoFault [] zero_stamped = record { twice = refl; missing = refl; wrong = rw placed_none refl; disordered = refl; words = rw placed_none refl; version = refl } in
     subst (IsLawfulLine logs line) (sym zero_there) (lawful_from_found logs line [] zero_stamped own sixteen (sym none) h)
 
--- where the lines of the last contents are lawful, all are
+-- if the lines of the last contents are lawful, all are
 pub lawful_all : (logs : List (List Entry)) (last : List Stamped) → AreOwn logs → length logs ≡ MAX_NODES → AreWithin (length last) logs → ((line : ℕ) → line < length last → IsLawfulLine logs line (stamped_at last line)) → Lawful logs last
 lawful_all logs last own sixteen within below line =
     elim (cases_lt line (length last)) [ inl lt ↦ below line lt | inr past ↦ lawful_past logs last line own sixteen within past ]

@@ -14,7 +14,7 @@ use Rattle.sci_history.proofs.AuditVersions.{NoneFail, none_fail, from_none_fail
 
 -- ---- two entries
 
--- Of two entries with rising serials, the first is placed before the second exactly where its place isn't above.
+-- Of two entries with rising serials, the first is placed before the second exactly if its place isn't above.
 place_from_before : (p e : Entry) → p.serial < e.serial → is_placed_before p e ≡ true → place p ≤ place e
 place_from_before p e lt h = grind (arith, cases_order, cases_Bool, both_ways, le-ltb, eq-eqb, ne_eqb)
 

@@ -145,7 +145,7 @@ each_once makers count (suc version) one none whole low high =
     let more = one_version_more makers (suc version) in
     omega arith
 
--- the first two kinds don't fail exactly where the versions are whole
+-- the first two kinds don't fail exactly if the versions are whole
 pub whole_versions_found : (entries : List Entry) → first_twice entries ≡ None → first_missing entries ≡ None → HasWholeVersions entries
 whole_versions_found entries twice missing =
     let count = maker_count entries in

@@ -1,4 +1,4 @@
--- A line's audit finds no fault exactly where the line is lawful.
+-- A line's audit finds no fault exactly if the line is lawful.
 use Rattle.std.proofs.Common.{◌≡◌, ℕ, zero, suc, ◌<◌, ◌≤◌, true, false, List, [], ◌∷◌, ◌++◌, length, take, Option, Some, None, refl, sym, ap, ◌∙◌, subst, arith, inl, inr}
 use Rattle.std.specs.Prelude.{AllPairs}
 use Rattle.std.specs.List.{filter, flat_map, AllByRecursion}

@@ -61,7 +61,7 @@ by_node_and_serial-one entry lt = grind (arith, in_order-ordered, above_serials-
 pub by_node_and_serial-none : by_node_and_serial [] ≡ []
 by_node_and_serial-none = grind (arith, in_order-ordered)
 
--- the entries of one node stay in order, where their serials don't fall
+-- the entries of one node stay in order, if their serials don't fall
 pub filter-by_node_and_serial : (node : ℕ) (entries : List Entry) → node < MAX_NODES → IsInOrder (λ entry. entry.serial) (filter (is_of_node node) entries) → filter (is_of_node node) (by_node_and_serial entries) ≡ filter (is_of_node node) entries
 filter-by_node_and_serial node entries lt ordered =
     let own = filter (is_of_node node) entries in
@@ -112,7 +112,7 @@ by_place-in_order (suc version) entries =
 pub place-below : (entry : Entry) (version : ℕ) → entry.version ≤ version → place entry < suc version + suc version
 place-below entry version le = grind (arith, cases_Bool)
 
--- a node's entries stand in order, where they did so by version and by serial
+-- a node's entries stand in order, if they did so by version and by serial
 pub filter-placed : (node version : ℕ) (entries : List Entry) → node < MAX_NODES → IsInOrder (λ entry. entry.serial) (filter (is_of_node node) entries) → IsInOrder place (filter (is_of_node node) entries) → AllByRecursion (λ entry. entry.version ≤ version) (filter (is_of_node node) entries) → filter (is_of_node node) (by_version (suc version) entries) ≡ filter (is_of_node node) entries
 filter-placed node version entries lt serials places below = grind (arith, all_weaker, place-below, filter-by_version, by_place-in_order, in_order-ordered)
 

@@ -1,4 +1,4 @@
--- What a push to one of several lists leaves, where each list is the part f of an element.
+-- What a push to one of several lists leaves, if each list is the part f of an element.
 use Rattle.std.proofs.Common.{◌≡◌, ℕ, ◌<◌, List, [], ◌∷◌, ◌++◌, length, map, get_or, set, sym, ap, ◌∙◌, inl, inr}
 use Rattle.std.specs.Prelude.{Result, Ok, Err, OnOk, OnErr, All}
 use Rattle.std.proofs.lemmas.Bool.{cases_eq}

@@ -21,7 +21,7 @@ tie_is a b = grind (arith, cases_order, le-ltb, eq-eqb, lt-ltb, ne_eqb)
 abbrev pub Compares : {X : Type 0} → (X → X → Bool) → (X → ℕ) → Type 0
 Compares {X} lt key = (x y : X) → lt x y ≡ ltb (key x) (key y)
 
--- what a stable sort leaves is the list in order, where some element has each key
+-- what a stable sort leaves is the list in order, if some element has each key
 pub sorted_is : {X : Type 0} (lt : X → X → Bool) (key : X → ℕ) (at : ℕ → X) → Compares lt key → ((k : ℕ) → key (at k) ≡ k) → (bound : ℕ) (xs ys : List X) → IsSortedBy lt ys → IsStableBy lt xs ys → IsPermutation xs ys → HasKeysBelow key bound xs → ys ≡ in_order key bound xs
 sorted_is {X} lt key at compares at_is bound xs ys sorted stable moved below =
     let rises : IsNonDecreasingBy key ys = IsNonDecreasingBy-from_all_adjacent key ys (λ k d next. ltb-false (key (get_or ys (k + 1) d)) (key (get_or ys k d)) (sym (compares (get_or ys (k + 1) d) (get_or ys k d)) ∙ sorted k d (omega arith) next)) in

@@ -135,7 +135,7 @@ abbrev pub IsFound : List Entry → Stamped → Option LineFault → Type 0
 IsFound entries last None = HasNoFault entries last
 IsFound entries last (Some fault) = IsLineFault entries last fault.kind fault.at
 
--- a fault of this line, where each line below is lawful
+-- a fault of this line, if each line below is lawful
 pub record IsFault (logs : List (List Entry)) (last : List Stamped) (line : ℕ) (kind : FaultKind) (named : Option (ℕ × ℕ)) : Type 0 where
   pub in_range : line < length last
   pub below : (other : ℕ) → other < line → IsLawfulLine logs other (stamped_at last other)

@@ -34,7 +34,7 @@ IsLineRun (pair ∷ pairs) old new = (pair.1 ≡ reply_of old pair.0) × IsLineR
 
 -- ---- memories whose lines have versions
 
--- the stamped line of a number: zero words at version 0 where there is none
+-- the stamped line of a number: zero words at version 0 if there is none
 abbrev pub stamped_at : List Stamped → ℕ → Stamped
 stamped_at contents line = slice_index_or contents line zero_stamped
 

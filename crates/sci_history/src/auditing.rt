@@ -11,8 +11,8 @@ use crate::logs::Logs;
 use crate::verdict::Verdict;
 use std::alloc::{AllocError, Global};
 
-/// Audits logs against last contents: Lawful exactly where for each line one memory of one thread explains both;
-/// else the first fault, of the lowest line that has one and there of the first kind. Refused only where a growth
+/// Audits logs against last contents: Lawful exactly if for each line one memory of one thread explains both;
+/// else the first fault, of the lowest line that has one and there of the first kind. Refused only if a growth
 /// was. It takes time n log n in the number of entries. The caller sees to it that each entry's line is one of
 /// `last`, and its word below 8.
 pub fn audit(alloc: Global, logs: &Logs, last: &Last) -> Result<Verdict, AllocError>

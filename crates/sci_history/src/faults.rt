@@ -14,14 +14,14 @@ use std::collections::BTreeSet;
 
 const NODES: usize = MAX_NODES as usize;
 
-/// A line's entries are copied where they are at most so many, which one log can have.
+/// A line's entries are copied if they are at most so many, which one log can have.
 const MAX_COPIED: usize = MAX_OPERATIONS as usize;
 
 /// A fault of one line.
 #[derive(Clone, Copy)]
 pub struct LineFault {
     pub kind: FaultKind,
-    /// Node and serial of the entry where the rule fails; none where the last contents differ.
+    /// Node and serial of the entry where the rule fails; none if the last contents differ.
     pub at: Option<(u8, u32)>,
 }
 

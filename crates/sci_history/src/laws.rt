@@ -81,7 +81,7 @@ pub fn stores_are_seen()
         y.reply ≡ Reply.Got word }
 {}
 
-/// An audit's five kinds of fault are what lawfulness rules out: a line of logs is lawful exactly where no kind fails
+/// An audit's five kinds of fault are what lawfulness rules out: a line of logs is lawful exactly if no kind fails
 /// on it, in logs that each have their own node's entries.
 pub fn lawful_is_faultless()
     ensures lawful { (logs : List (List Entry)) (line : ℕ) (last : Stamped) → AreOwn logs → length logs ≡ MAX_NODES →

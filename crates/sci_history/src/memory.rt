@@ -39,7 +39,7 @@ impl Memory {
     }
 
     /// Does an operation, and answers its reply and the version of its line afterwards: the number of makers on
-    /// the line so far, the operation included where it is one. The caller sees to it that line and word are in
+    /// the line so far, the operation included if it is one. The caller sees to it that line and word are in
     /// range and, for a maker, that the line's version is below the greatest u64.
     pub fn do_op(&mut self, op: Op) -> (Reply, u64)
         requires line { op.line < length self.old }

@@ -24,7 +24,7 @@ pub enum Verdict {
     Fault {
         line: u8,
         kind: FaultKind,
-        /// Node and serial of the entry where the rule fails; none where the last contents differ.
+        /// Node and serial of the entry where the rule fails; none if the last contents differ.
         at: Option<(u8, u32)>,
     },
 }

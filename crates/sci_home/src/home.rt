@@ -94,7 +94,7 @@ impl Home {
         Home { state: self.state }
     }
 
-    /// The contents of the line where the home has them (HOME or FRESH), and else None.
+    /// The contents of the line if the home has them (HOME or FRESH), and else None.
     pub fn current(&self) -> Option<Stamped>
         ensures { result ≡ current_of self.now }
     {

@@ -79,7 +79,7 @@ fn table() -> Result<[(HomeState, NodeId, Body, HomeState, Body); 21], Fail> {
     ])
 }
 
-/// What a home answers, or None where no home serves such a packet.
+/// What a home answers, or None if no home serves such a packet.
 fn served(home: &mut Home, request: &Packet) -> Option<Packet> {
     if is_for_home(&request.body) {
         Some(home.serve(request))

@@ -12,7 +12,7 @@ use Rattle.sci_packets.specs.Spelling.{IsContents}
 use Rattle.sci_packets.specs.Table.{parts_of, number_of, is_command, is_misnamed, takes_contents}
 use Rattle.sci_packets.proofs.Fields.{words_cancel}
 
--- the body of parts, whatever it is where there is none
+-- the body of parts, whatever it is if there is none
 unfoldable body_from : Parts → Body
 body_from p =
     let c = p.command in

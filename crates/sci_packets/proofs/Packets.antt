@@ -45,7 +45,7 @@ same_lines a b e = Σ_prop_path (λ line. hlevel props) e
 joined : (made : ℕ → ℕ → ℕ → Line → Body → Packet) (t t' s s' c c' : ℕ) (l l' : Line) (b b' : Body) → t ≡ t' → s ≡ s' → c ≡ c' → l ≡ l' → b ≡ b' → made t s c l b ≡ made t' s' c' l' b'
 joined made t t' s s' c c' l l' b b' p q r u v = cc
 
--- packets are the same where their fields are
+-- packets are the same if their fields are
 same_fields : (p q : Packet) → p.target ≡ q.target → p.source ≡ q.source → p.control ≡ q.control → p.line ≡ q.line → p.body ≡ q.body → p ≡ q
 same_fields p q a b c d e =
     joined (λ target source control line body. record { target = target; source = source; control = control; line = line.0; body = body; low_line = line.1 }) p.target q.target p.source q.source p.control q.control (p.line, p.low_line) (q.line, q.low_line) p.body q.body a b c (same_lines (p.line, p.low_line) (q.line, q.low_line) d) e
@@ -147,7 +147,7 @@ pub packet_takes : (p : Packet) (bytes : List ℕ) → IsBytes bytes → header_
 unfolding spelling
 packet_takes p bytes fits e s long = grind (arith, at_least, header_takes, tail_takes, spelled-append)
 
--- ---- how many bytes there are where nothing is wrong
+-- ---- how many bytes there are if nothing is wrong
 
 passed : (b : Bool) (e : PacketFault) (r : Option PacketFault) → cond b (Some e) r ≡ None → (b ≡ false) × (r ≡ None)
 passed true e r h = absurd cc

@@ -31,7 +31,7 @@ back p q more others h k e =
     let same = (spelling_cancel p q (word_bytes more) (word_bytes others) h k bytes).0 in
     (same, append_cancel_left (words_of q) more others (ap (λ (x : Packet). words_of x ++ more) (sym same) ∙ e))
 
--- where the shorter packet's words begin the longer one's
+-- if the shorter packet's words begin the longer one's
 one_by_shorter : (p q : Packet) → IsPacket p → IsPacket q → length (words_of p) ≤ length (words_of q) → ((i : ℕ) → i < length (words_of p) → i < length (words_of q) → get_or (words_of p) i 0 ≡ get_or (words_of q) i 0) → p ≡ q
 one_by_shorter p q h k le agree =
     let n = length (words_of p) in

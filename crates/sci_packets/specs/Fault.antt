@@ -14,7 +14,7 @@ header_fault h length =
     else (if h.target == 0xFFFF || h.source == 0xFFFF then Some BadIdentifier
     else body_fault h.command (identifier_of h.identifier) length))
 
--- the first fault of bytes, None where a packet begins them
+-- the first fault of bytes, None if a packet begins them
 unfoldable pub fault_of : List ℕ → Option PacketFault
 fault_of bytes = if nat_lt (length bytes) 16 then Some Short else header_fault (header_in bytes) (length bytes)
 

@@ -49,6 +49,6 @@ contents_words (Some stamped) = stamped.version ∷ stamped.line
 unfoldable pub contents_in : List ℕ → Stamped
 contents_in bytes = record { line = words_at 24 WORDS_PER_LINE bytes; version = field_at 16 8 bytes }
 
--- the contents, where the command takes them
+-- the contents, if the command takes them
 abbrev pub contents_for : ℕ → List ℕ → Option Stamped
 contents_for command bytes = if takes_contents command then Some (contents_in bytes) else None

@@ -31,7 +31,7 @@ header_of p = record {
   identifier = number_of (parts_of p.body).identifier;
 }
 
--- the bytes of a packet: the header, and the contents where the command carries them
+-- the bytes of a packet: the header, and the contents if the command carries them
 unfoldable pub spelling : Packet → List ℕ
 spelling p = spelled (header_of p) (word_bytes (contents_words (parts_of p.body).contents))
 

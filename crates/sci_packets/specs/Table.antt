@@ -12,7 +12,7 @@ use Rattle.sci_packets.specs.declared.table.Parts.{Parts}
 abbrev pub parts : ℕ → Option ℕ → Option Stamped → Parts
 parts command identifier contents = record { command = command; identifier = identifier; contents = contents }
 
--- what each body puts into its packet: the command, the identifier, None where it is none or unused, and the
+-- what each body puts into its packet: the command, the identifier, None if it is none or unused, and the
 -- contents
 unfoldable pub parts_of : Body → Parts
 parts_of Mread = parts 0x0001 None None
@@ -77,12 +77,12 @@ must_name command = command == 0x0006 || command == 0x0102
 abbrev pub may_name : ℕ → Bool
 may_name command = command == 0x0004 || command == 0x0104 || command == 0x010A
 
--- whether an identifier is none where it must be there, or there where it is unused
+-- whether an identifier is none if it must be there, or there if it is unused
 unfoldable pub is_misnamed : ℕ → Option ℕ → Bool
 is_misnamed command identifier =
     if must_name command then is_none identifier else (if may_name command then false else is_some identifier)
 
--- what is wrong with the identifier of a packet of so many bytes or, where the command takes them, with its contents
+-- what is wrong with the identifier of a packet of so many bytes or, if the command takes them, with its contents
 unfoldable pub body_fault : ℕ → Option ℕ → ℕ → Option PacketFault
 body_fault command identifier length =
     if is_misnamed command identifier then Some BadIdentifier

@@ -113,9 +113,9 @@ fn packet_at(bytes: &[u8]) -> Result<Packet, PacketFault>
 /// The packet at the beginning of the bytes, and how many they are: 16, or 88 with contents. Bytes after it
 /// are not looked at.
 ///
-/// Refusals, in this order: `Short` below 16 bytes, `UnknownCommand`, `BadOffset` where the offset is no
-/// multiple of 64, `BadIdentifier` where target or source is 0xFFFF, an unused identifier isn't, or that of
-/// Mgone or Setback is, and `Short` where contents are wanted and there are fewer than 88 bytes.
+/// Refusals, in this order: `Short` below 16 bytes, `UnknownCommand`, `BadOffset` if the offset is no
+/// multiple of 64, `BadIdentifier` if target or source is 0xFFFF, an unused identifier isn't, or that of
+/// Mgone or Setback is, and `Short` if contents are wanted and there are fewer than 88 bytes.
 pub fn decode(bytes: &[u8]) -> Result<(Packet, usize), PacketFault>
     // The first bytes spell the packet.
     ensures found { IfOk result (λ found. Spells found.0 (take found.1 bytes.now)) }
@@ -124,7 +124,7 @@ pub fn decode(bytes: &[u8]) -> Result<(Packet, usize), PacketFault>
     // Where the first bytes spell a packet, that is the answer.
     ensures only { (p : Packet) (k : ℕ) → k ≤ length bytes.now → Spells p (take k bytes.now) → result ≡ Ok (p, k) }
 
-    // It is refused exactly where they spell none, with the first fault.
+    // It is refused exactly if they spell none, with the first fault.
     ensures none { IsErr result ↔ NoneSpells bytes.now }
     ensures fault { result_err result ≡ fault_of bytes.now }
 {

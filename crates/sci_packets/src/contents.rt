@@ -37,7 +37,7 @@ pub fn line_of(words: &[Word; WORDS_PER_LINE]) -> Line
     line
 }
 
-/// The contents in a packet's bytes, or `Short` where there are fewer than 88.
+/// The contents in a packet's bytes, or `Short` if there are fewer than 88.
 #[tactic(auto, unfolding(crate::specs::Fields::contents_in, crate::specs::Fields::field_at))]
 pub fn contents_at(bytes: &[u8]) -> Result<Stamped, PacketFault>
     ensures contents { IfOk result (λ stamped. stamped ≡ contents_in bytes.now) }

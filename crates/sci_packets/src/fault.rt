@@ -4,7 +4,7 @@
 /// but that missing contents (`Short` too) come last.
 #[derive(Clone, Copy, Debug, PartialEq, Eq)]
 pub enum PacketFault {
-    /// Fewer than 16 bytes (two words), or fewer than 88 (eleven words) where contents follow.
+    /// Fewer than 16 bytes (two words), or fewer than 88 (eleven words) if contents follow.
     Short,
     /// The command is not in the table.
     UnknownCommand,

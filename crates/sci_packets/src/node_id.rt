@@ -27,7 +27,7 @@ impl Model for NodeId {
 }
 
 impl NodeId {
-    /// The identifier with this number, or None where the number is 0xFFFF.
+    /// The identifier with this number, or None if the number is 0xFFFF.
     pub fn new(number: u16) -> Option<NodeId>
         ensures below { IsSome result ↔ (number < 0xFFFF) }
         ensures number { IfSome result (λ id. id ≡ number) }

@@ -17,7 +17,7 @@ use sci_words::Stamped;
 pub struct Parts {
     /// The number of the command.
     pub command: u16,
-    /// The identifier, None where it is none or unused.
+    /// The identifier, None if it is none or unused.
     pub identifier: Option<NodeId>,
     /// What follows the header.
     pub contents: Option<Stamped>,

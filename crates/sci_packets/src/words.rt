@@ -40,7 +40,7 @@ pub fn from_words(words: &[u64]) -> Result<(Packet, usize), PacketFault>
     // Where the first words are those of a packet, that is the answer.
     ensures only { (p : Packet) (k : ℕ) → k ≤ length words.now → SpellsInWords p (take k words.now) → result ≡ Ok (p, k) }
 
-    // It is refused exactly where they are those of none, with the first fault.
+    // It is refused exactly if they are those of none, with the first fault.
     ensures none { IsErr result ↔ NoneSpellsInWords words.now }
     ensures fault { result_err result ≡ fault_of_words words.now }
 {

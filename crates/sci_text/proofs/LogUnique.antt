@@ -21,7 +21,7 @@ use Rattle.sci_text.proofs.LogReads.{LastSaid, last_line_again, EntrySaid, Entry
 use Rattle.sci_text.proofs.LogFaults.{fits_reads, entry_not_last}
 use Rattle.sci_text.proofs.LogFronts.{GoodLast, last_begins, entry_nonempty}
 
--- two values that fit, where the same was read of them
+-- two values that fit, if the same was read of them
 pub both_same : {A : Type 0} (o p : Option A) (P Q : Type 0) (x y : A) → P → Q → SomeIff o P x → SomeIff p Q y → o ≡ p → x ≡ y
 both_same None p P Q x y h k a b e = absurd (a h)
 both_same (Some w) None P Q x y h k a b e = absurd (b k)

@@ -17,7 +17,7 @@ use Rattle.sci_text.specs.Reading.{◌>>=◌, fitting, field_read, after, byte, 
 use Rattle.sci_text.proofs.Numbers.{fitting_below, fitting_above, Ends, field_again, ends_field, field_found}
 use Rattle.sci_text.proofs.Words.{after_found}
 
--- ---- what stands for a value where it fits
+-- ---- what stands for a value if it fits
 
 pub fitting_is : (n : ℕ) → SomeIff (fitting n) (n < 2 ^ 64) n
 fitting_is n =
@@ -139,7 +139,7 @@ command_found bytes k rest =
 
 -- ---- the operands
 
--- what is read as the operands of act, and is act where they fit
+-- what is read as the operands of act, and is act if they fit
 abbrev ReadAs : Act → Option (Option Act × List ℕ) → List ℕ → Type 0
 ReadAs act read rest = (o : Option Act) × (read ≡ Some (o, rest)) × SomeIff o (ActFits act) act
 

@@ -120,7 +120,7 @@ EventFits (Refuse from node) = (from < 256) × (node < 256)
 EventFits (Reply node) = node < 256
 EventFits (Accept from node) = (from < 256) × (node < 256)
 
--- what is read is the event where it fits
+-- what is read is the event if it fits
 abbrev ReadAs : Event → Option (Option Event × List ℕ) → List ℕ → Type 0
 ReadAs event read rest = (o : Option Event) × (read ≡ Some (o, rest)) × SomeIff o (EventFits event) event
 

@@ -19,7 +19,7 @@ use Rattle.sci_text.proofs.ScriptReads.{Sizes, machine_line_again, machine_line_
 
 -- ---- the line of the size
 
--- what is read where bytes say this size
+-- what is read if bytes say this size
 said_size : (bytes : List ℕ) (n m c : ℕ) (says : Says bytes (machine_line n m c)) → machine_line_read bytes ≡ Some ((fitting n, fitting m, fitting c), says.rest)
 said_size bytes n m c says = ap machine_line_read says.parts ∙ machine_line_again n m c says.rest
 

@@ -98,3 +98,17 @@ IsTold is_first Write known failed line = ⊥
 abbrev pub IsReadAs : {T : Type 0} → T → Result T TextFault → Type 0
 IsReadAs value (Ok read) = read ≡ value
 IsReadAs value (Err fault) = (fault.kind ≡ Read) ⊎ (fault.kind ≡ Memory)
+
+-- ---- laws
+
+-- bytes have at most one first faulty line, and one fault there
+abbrev pub HasOneFault : (List ℕ → ℕ → TextFaultKind → Type 0) → Type 0
+HasOneFault is_first = (input : List ℕ) (l m : ℕ) (k j : TextFaultKind) → is_first input l k → is_first input m j → (l ≡ m) × (k ≡ j)
+
+-- a text has no line with a fault
+abbrev pub HasNoFault : (List ℕ → ℕ → TextFaultKind → Type 0) → List ℕ → Type 0
+HasNoFault is_first text = (line : ℕ) (kind : TextFaultKind) → is_first text line kind → ⊥
+
+-- a text is of one value
+abbrev pub IsOfOne : {V : Type 0} → (V → Type 0) → (V → List ℕ) → Type 0
+IsOfOne is_good text = (a b : _) → is_good a → is_good b → text a ≡ text b → a ≡ b

@@ -25,7 +25,7 @@ use Rattle.sci_text.specs.LogFault.{SaysLast, IsLogFault}
 unfoldable pub version_read : List ℕ → Option (Option ℕ × List ℕ)
 version_read bytes = after (codes " @") bytes >>= number_read
 
--- a line's eight words, where each is below 2^64
+-- a line's eight words, if each is below 2^64
 unfoldable pub eight : Option (ℕ × ℕ) → Option (ℕ × ℕ) → Option (ℕ × ℕ) → Option (ℕ × ℕ) → Option (List ℕ)
 eight first second third fourth = do
   a ← first

@@ -105,7 +105,7 @@ pub record IsFront (front : Front) : Type 0 where
   pub entries : (node : ℕ) → All (EntryFits front.form (length front.last)) (log_of front.logs node)
   pub few_entries : (node : ℕ) → length (log_of front.logs node) ≤ front.form.entries
 
--- `log 2 N M`, and the line feed, where there is such a line
+-- `log 2 N M`, and the line feed, if there is such a line
 abbrev pub first_line_of : ℕ → Option ℕ → List ℕ
 first_line_of nodes None = []
 first_line_of nodes (Some lines) = log_line nodes lines

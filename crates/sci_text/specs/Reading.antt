@@ -44,7 +44,7 @@ unfoldable pub field_read : List ℕ → Option (Option ℕ × List ℕ)
 field_read [] = None
 field_read (b ∷ bytes) = if b == 32 then number_read bytes else None
 
--- the bytes after a word, where they begin with it
+-- the bytes after a word, if they begin with it
 unfoldable pub after : List ℕ → List ℕ → Option (List ℕ)
 after [] bytes = Some bytes
 after (c ∷ word) [] = None

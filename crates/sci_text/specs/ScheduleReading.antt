@@ -11,7 +11,7 @@ use Rattle.sci_text.specs.declared.schedule_event.Verb.TheVariants as verbs
 use Rattle.sci_text.specs.Reading.{◌>>=◌, field_read, after, byte, otherwise, operation_read}
 use Rattle.sci_text.specs.Schedule.{ScheduleValue, event_line, with_event}
 
--- what a word stands for, and the bytes after it, where they begin with it
+-- what a word stands for, and the bytes after it, if they begin with it
 abbrev pub spelled : {A : Type 0} → A → List ℕ → List ℕ → Option (A × List ℕ)
 spelled x word bytes = option_map (λ rest. (x, rest)) (after word bytes)
 

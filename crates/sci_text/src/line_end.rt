@@ -24,7 +24,8 @@ impl Model for LineEnd {
 
     ghost view = { λ line. drop line.start line.bytes };
 
-    ghost invariant = { λ line. (line.start ≤ MAX_TEXT_LINE_BYTES) × (length line.bytes ≡ MAX_TEXT_LINE_BYTES) };
+    ghost invariant = { λ line. (line.start ≤ MAX_TEXT_LINE_BYTES)
+        × (length line.bytes ≡ MAX_TEXT_LINE_BYTES) };
 }
 
 impl LineEnd {

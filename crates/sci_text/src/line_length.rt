@@ -11,7 +11,8 @@ use sci_words::MAX_TEXT_LINE_BYTES;
 pub fn check_length(bytes: &[u8], rest: &[u8]) -> Result<(), TextFaultKind>
     ensures short { OnOk result (length bytes.now ≤ length rest.now + MAX_TEXT_LINE_BYTES + 1) }
     ensures fault { IfErr result (λ kind. kind ≡ Syntax) }
-    ensures long { IfErr result (λ kind. length rest.now + MAX_TEXT_LINE_BYTES + 1 < length bytes.now) }
+    ensures long { IfErr result (λ kind.
+        length rest.now + MAX_TEXT_LINE_BYTES + 1 < length bytes.now) }
 {
     if bytes.len() > rest.len() + MAX_TEXT_LINE_BYTES + 1 {
         return Err(TextFaultKind::Syntax);

@@ -9,7 +9,7 @@ use crate::operation::{Command, after, byte, command_of, operation_after, pair};
 use sci_history::Entry;
 use sci_words::{Line, Op, Reply, Stamped, Word};
 
-/// Two words, where both are below 2^64.
+/// Two words, if both are below 2^64.
 type Words = Option<(Word, Word)>;
 
 /// The version behind ` @` at the front of `bytes`, and the bytes after it.
@@ -49,7 +49,7 @@ fn words(bytes: &[u8]) -> Option<(Option<Line>, &[u8])>
     Some((line_of(first, second, third, fourth), rest))
 }
 
-/// The stamped line of these parts, where its numbers fit.
+/// The stamped line of these parts, if its numbers fit.
 #[tactic(auto, unfolding(crate::specs::LogReading::stamped_of))]
 fn stamped(line: Option<Line>, version: Number) -> Option<Stamped>
     ensures { result ≡ stamped_of line version }
@@ -61,7 +61,7 @@ fn stamped(line: Option<Line>, version: Number) -> Option<Stamped>
     })
 }
 
-/// What a `last` line says: its number, and its contents where they fit.
+/// What a `last` line says: its number, and its contents if they fit.
 #[derive(Clone, Copy, Debug, PartialEq, Eq)]
 pub struct LastSaid {
     pub line: Number,
@@ -69,7 +69,7 @@ pub struct LastSaid {
 }
 
 /// The number and the contents of the line `last L @V w0 w1 w2 w3 w4 w5 w6 w7` at the front of `bytes`, or None
-/// where one doesn't fit, and the bytes after the line.
+/// if one doesn't fit, and the bytes after the line.
 #[tactic(auto, unfolding(crate::specs::LogReading::last_line_read))]
 pub fn last_line(bytes: &[u8]) -> Option<(LastSaid, &[u8])>
     ensures { Gives (λ x. ((x.0.line, x.0.stamped), x.1.now)) result (last_line_read bytes.now) }
@@ -85,7 +85,7 @@ pub fn last_line(bytes: &[u8]) -> Option<(LastSaid, &[u8])>
     Some((LastSaid { line, stamped }, rest))
 }
 
-/// The reply of such an operation at the front of `bytes`, or None where it is 2^64 or more, and the bytes after it.
+/// The reply of such an operation at the front of `bytes`, or None if it is 2^64 or more, and the bytes after it.
 #[tactic(auto, unfolding(crate::specs::LogReading::reply_read))]
 fn reply(command: Command, bytes: &[u8]) -> Option<(Option<Reply>, &[u8])>
     ensures { Gives (λ x. (x.0, x.1.now)) result (reply_read command bytes.now) }
@@ -102,7 +102,7 @@ fn reply(command: Command, bytes: &[u8]) -> Option<(Option<Reply>, &[u8])>
     }
 }
 
-/// The number, where it is below 2^32.
+/// The number, if it is below 2^32.
 #[tactic(auto, unfolding(crate::specs::LogReading::serial_of))]
 fn serial_number(number: Number) -> Option<u32>
     ensures { result ≡ serial_of number }
@@ -110,7 +110,7 @@ fn serial_number(number: Number) -> Option<u32>
     u32::try_from(number?).ok()
 }
 
-/// The entry of these parts, where its numbers fit.
+/// The entry of these parts, if its numbers fit.
 #[tactic(auto, unfolding(crate::specs::LogReading::entry_of))]
 fn entry(
     node: Number,
@@ -158,7 +158,7 @@ fn outcome(command: Command, bytes: &[u8]) -> Option<((Option<Reply>, Number), &
     Some(((reply, version), rest))
 }
 
-/// The node and the entry of the line `n serial OP = REPLY @V` at the front of `bytes`, or None where one of its
+/// The node and the entry of the line `n serial OP = REPLY @V` at the front of `bytes`, or None if one of its
 /// numbers doesn't fit an `Entry`, and the bytes after the line.
 #[tactic(auto, unfolding(crate::specs::LogReading::entry_line_read))]
 pub fn entry_line(bytes: &[u8]) -> Option<((Number, Option<Entry>), &[u8])>

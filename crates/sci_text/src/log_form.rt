@@ -26,7 +26,7 @@ pub struct Form {
     pub serials: u32,
     /// Most entries of a node.
     pub entries: u32,
-    /// The number of lines, where the first line says it.
+    /// The number of lines, if the first line says it.
     pub lines: Option<u8>,
 }
 
@@ -38,7 +38,7 @@ pub const FORMAT_1: Form = Form {
     lines: None,
 };
 
-/// The nodes and lines of these numbers, where they are within a machine's limits.
+/// The nodes and lines of these numbers, if they are within a machine's limits.
 fn log_size(nodes: Number, lines: Number) -> Option<(u8, u8)>
     ensures some { IfSome result (λ x. (nodes ≡ Some x.0) × (lines ≡ Some x.1) × IsSize x.0 x.1) }
     ensures none { IfNone result ((n m : ℕ) → nodes ≡ Some n → lines ≡ Some m → IsSize n m → ⊥) }
@@ -111,7 +111,7 @@ impl Form {
         }
     }
 
-    /// Whether the numbers of an entry are within the limits, where there are so many lines.
+    /// Whether the numbers of an entry are within the limits, if there are so many lines.
     pub fn admits(&self, lines: usize, entry: &Entry) -> bool
         ensures yes { OnTrue result (AreNumbersWithin self.now lines entry.now) }
         ensures no { OnFalse result (AreNumbersWithin self.now lines entry.now → ⊥) }

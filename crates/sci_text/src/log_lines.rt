@@ -50,9 +50,11 @@ fn push_last<'a>(
 ) -> Result<&'a [u8], TextFaultKind>
     requires few { length last.old.items ≤ MAX_LINES }
     requires begins { BeginsLast bytes.now }
-    ensures ok { IfOk result (λ rest. AddsLast form.now last.old.items last.new.items bytes.now rest.now) }
+    ensures ok { IfOk result (λ rest.
+        AddsLast form.now last.old.items last.new.items bytes.now rest.now) }
     ensures same { OnErr result (last.new.items ≡ last.old.items) }
-    ensures fault { IfErr result (λ kind. (kind ≡ Memory) ⊎ LogLineFault (front_of form.now last.old.items no_logs) bytes.now kind) }
+    ensures fault { IfErr result (λ kind. (kind ≡ Memory)
+        ⊎ LogLineFault (front_of form.now last.old.items no_logs) bytes.now kind) }
 {
     let Some((said, rest)) = last_line(bytes) else {
         return Err(TextFaultKind::Syntax);
@@ -118,9 +120,11 @@ fn push_entry<'a>(
     requires whole { HasAllLines form.now.lines (length last.now) }
     requires latest { IsLatest logs.old latest }
     requires no_last { NoLast (front_of form.now last.now logs.old) bytes.now }
-    ensures ok { IfOk result (λ x. AddsEntry form.now (length last.now) logs.old logs.new latest x.0 bytes.now x.1.now) }
+    ensures ok { IfOk result (λ x.
+        AddsEntry form.now (length last.now) logs.old logs.new latest x.0 bytes.now x.1.now) }
     ensures same { OnErr result (logs.new ≡ logs.old) }
-    ensures fault { IfErr result (λ kind. (kind ≡ Memory) ⊎ LogLineFault (front_of form.now last.now logs.old) bytes.now kind) }
+    ensures fault { IfErr result (λ kind. (kind ≡ Memory)
+        ⊎ LogLineFault (front_of form.now last.now logs.old) bytes.now kind) }
 {
     let Some(((node, entry), rest)) = entry_line(bytes) else {
         return Err(TextFaultKind::Syntax);

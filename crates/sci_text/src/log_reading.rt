@@ -20,23 +20,26 @@ use std::alloc::Global;
 use std::io::Read;
 
 /// The logs and last contents whose text the reader gives, read to its end, with the number of nodes: in format 2
-/// where the first line begins with `log `, else in format 1, which has 8 nodes. A refusal names the first fault and
+/// if the first line begins with `log `, else in format 1, which has 8 nodes. A refusal names the first fault and
 /// its line, as `read_script` does.
 pub fn read_logs<R: Read>(alloc: Global, reader: &mut Tap<R>) -> Result<(u8, Logs, Last), TextFault>
     requires { has_failed reader.old ≡ false }
 
     // The input is a text of the logs, and each number is within the limits.
-    ensures text { IfOk result (λ x. IfSome (R.remaining (tapped reader.old)) (λ input. IsLogs input x.0 x.1 x.2 × (length input ≤ MAX_INPUT_BYTES))) }
+    ensures text { IfOk result (λ x. IfSome (R.remaining (tapped reader.old)) (λ input.
+        IsLogs input x.0 x.1 x.2 × (length input ≤ MAX_INPUT_BYTES))) }
     ensures good { IfOk result (λ x. AreLogs x.0 x.1 x.2) }
     ensures end { OnOk result (IsAtEnd (R.remaining (tapped reader.new))) }
     ensures unfailed { OnOk result (has_failed reader.new ≡ false) }
 
     // If it is a text of logs, those are read.
-    ensures only { (input : List ℕ) (nodes : ℕ) (logs : List (List Entry)) (last : List Stamped) → IsLogs input nodes logs last
-        → length input ≤ MAX_INPUT_BYTES → R.remaining (tapped reader.old) ≡ Some input → IsReadAs (nodes, logs, last) result }
+    ensures only { (input : List ℕ) (nodes : ℕ) (logs : List (List Entry)) (last : List Stamped)
+        → IsLogs input nodes logs last → length input ≤ MAX_INPUT_BYTES
+        → R.remaining (tapped reader.old) ≡ Some input → IsReadAs (nodes, logs, last) result }
 
     // Else the first fault is told.
-    ensures fault { IfErr result (λ fault. IsTold IsLogFault fault.kind (R.remaining (tapped reader.old)) (has_failed reader.new) fault.line) }
+    ensures fault { IfErr result (λ fault. IsTold IsLogFault fault.kind
+        (R.remaining (tapped reader.old)) (has_failed reader.new) fault.line) }
     ensures again { is_called_again reader.new ≡ is_called_again reader.old }
 {
     one_log();

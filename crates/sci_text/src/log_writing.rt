@@ -140,7 +140,8 @@ fn push_logs(out: &mut Vec<u8>, logs: &Logs) -> Result<(), AllocError>
 /// text it is read back as these logs and no others. Refused only if an allocation failed.
 pub fn logs_text(alloc: Global, nodes: u8, logs: &Logs, last: &Last) -> Result<Vec<u8>, AllocError>
     ensures text { IfOk result (λ text. text.items ≡ log_text nodes logs.now last.now) }
-    ensures says { AreLogs nodes logs.now last.now → IfOk result (λ text. IsLogs text.items nodes logs.now last.now) }
+    ensures says { AreLogs nodes logs.now last.now
+        → IfOk result (λ text. IsLogs text.items nodes logs.now last.now) }
 {
     written_again();
     let mut text = Vec::new(alloc);
@@ -161,11 +162,16 @@ pub fn write_logs<W: Write>(
     last: &Last,
 ) -> Result<(), TextFault>
     requires { has_failed writer.old ≡ false }
-    ensures text { OnOk result (Appends (W.contents (tapped writer.old)) (W.contents (tapped writer.new)) (log_text nodes logs.now last.now)) }
-    ensures says { OnOk result (AreLogs nodes logs.now last.now → IsLogs (log_text nodes logs.now last.now) nodes logs.now last.now) }
+    ensures text { OnOk result (
+        Appends (W.contents (tapped writer.old)) (W.contents (tapped writer.new))
+        (log_text nodes logs.now last.now)) }
+    ensures says { OnOk result (AreLogs nodes logs.now last.now
+        → IsLogs (log_text nodes logs.now last.now) nodes logs.now last.now) }
     ensures unfailed { OnOk result (has_failed writer.new ≡ false) }
     ensures line { IfErr result (λ fault. fault.line ≡ 0) }
-    ensures fault { IfErr result (λ fault. IsWriteFault fault.kind (W.contents (tapped writer.old)) (W.contents (tapped writer.new)) (has_failed writer.new) (log_text nodes logs.now last.now)) }
+    ensures fault { IfErr result (λ fault. IsWriteFault fault.kind
+        (W.contents (tapped writer.old)) (W.contents (tapped writer.new))
+        (has_failed writer.new) (log_text nodes logs.now last.now)) }
     ensures again { is_called_again writer.new ≡ is_called_again writer.old }
 {
     let text = logs_text(alloc, nodes, logs, last)?;

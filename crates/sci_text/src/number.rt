@@ -3,7 +3,7 @@
 ghost use Rattle.std.specs.Prelude.{◌≡◌, ◌≤◌};
 ghost use Rattle.sci_text.specs.Reading.{Gives, with_digit, digits_read, number_read, field_read};
 
-/// A number of a text, or None where it is 2^64 or more.
+/// A number of a text, or None if it is 2^64 or more.
 pub type Number = Option<u64>;
 
 /// The lowest number of 19 digits. Each below it has room for a digit more in 64 bits.
@@ -35,7 +35,7 @@ fn with_digits(front: Number, bytes: &[u8]) -> (Number, &[u8])
     (number, rest)
 }
 
-/// As `with_digits`, where the first digits are a number of 64 bits. Only a long number is tested digit by digit for
+/// As `with_digits`, for first digits that are a number of 64 bits. Only a long number is tested digit by digit for
 /// whether it still is one.
 #[tactic(auto, unfolding(crate::specs::Reading::digits_read, crate::specs::Reading::with_digit))]
 fn with_more_digits(front: u64, bytes: &[u8]) -> (Number, &[u8])

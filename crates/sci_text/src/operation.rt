@@ -18,14 +18,14 @@ pub enum Command {
     WrapAdd,
 }
 
-/// The bytes after `word`, where they begin with it.
+/// The bytes after `word`, if they begin with it.
 pub fn after<'a>(bytes: &'a [u8], word: &[u8]) -> Option<&'a [u8]>
     ensures { Gives (λ rest. rest.now) result (after word.now bytes.now) }
 {
     bytes.strip_prefix(word)
 }
 
-/// The number, where it is below 256.
+/// The number, if it is below 256.
 #[tactic(auto, unfolding(crate::specs::Reading::byte))]
 pub fn byte(number: Number) -> Option<u8>
     ensures { result ≡ byte number }
@@ -62,7 +62,7 @@ pub fn pair(bytes: &[u8]) -> Option<(Option<(u64, u64)>, &[u8])>
     Some((first.zip(second), rest))
 }
 
-/// The operands of a command and the bytes after them, with what is done, or None where an operand is 2^64
+/// The operands of a command and the bytes after them, with what is done, or None if an operand is 2^64
 /// or more.
 #[tactic(auto, unfolding(crate::specs::Reading::operands_read))]
 fn operands(command: Command, bytes: &[u8]) -> Option<(Option<Act>, &[u8])>
@@ -102,7 +102,7 @@ fn operands(command: Command, bytes: &[u8]) -> Option<(Option<Act>, &[u8])>
     }
 }
 
-/// The operation of these parts, where its numbers fit.
+/// The operation of these parts, if its numbers fit.
 #[tactic(auto, unfolding(crate::specs::Reading::made))]
 fn made(line: Number, word: Number, act: Option<Act>) -> Option<Op>
     ensures { result ≡ made line word act }
@@ -116,7 +116,7 @@ fn made(line: Number, word: Number, act: Option<Act>) -> Option<Op>
     })
 }
 
-/// The operation whose word stood before `bytes`, or None where one of its numbers doesn't fit an `Op`, and the bytes
+/// The operation whose word stood before `bytes`, or None if one of its numbers doesn't fit an `Op`, and the bytes
 /// after it.
 #[tactic(auto, unfolding(crate::specs::Reading::operation_after))]
 pub fn operation_after(command: Command, bytes: &[u8]) -> Option<(Option<Op>, &[u8])>
@@ -128,7 +128,7 @@ pub fn operation_after(command: Command, bytes: &[u8]) -> Option<(Option<Op>, &[
     Some((made(line, word, act), rest))
 }
 
-/// The operation at the front of `bytes`, or None where one of its numbers doesn't fit an `Op`, and the bytes
+/// The operation at the front of `bytes`, or None if one of its numbers doesn't fit an `Op`, and the bytes
 /// after it.
 #[tactic(auto, unfolding(crate::specs::Reading::operation_read))]
 pub fn operation(bytes: &[u8]) -> Option<(Option<Op>, &[u8])>

@@ -28,12 +28,14 @@ fn empty_block(alloc: Global) -> Result<Vec<u8>, AllocError>
 /// bytes, and Memory if an allocation failed; each has line 0.
 pub fn read_input<R: Read>(alloc: Global, reader: &mut Tap<R>) -> Result<Vec<u8>, TextFault>
     requires { has_failed reader.old ≡ false }
-    ensures bytes { IfOk result (λ bytes. IfSome (R.remaining (tapped reader.old)) (λ input. bytes.items ≡ input)) }
+    ensures bytes { IfOk result (λ bytes.
+        IfSome (R.remaining (tapped reader.old)) (λ input. bytes.items ≡ input)) }
     ensures few { IfOk result (λ bytes. length bytes.items ≤ MAX_INPUT_BYTES) }
     ensures end { OnOk result (IsAtEnd (R.remaining (tapped reader.new))) }
     ensures unfailed { OnOk result (has_failed reader.new ≡ false) }
     ensures line { IfErr result (λ fault. fault.line ≡ 0) }
-    ensures fault { IfErr result (λ fault. IsInputFault fault.kind (R.remaining (tapped reader.old)) (has_failed reader.new)) }
+    ensures fault { IfErr result (λ fault.
+        IsInputFault fault.kind (R.remaining (tapped reader.old)) (has_failed reader.new)) }
     ensures again { is_called_again reader.new ≡ is_called_again reader.old }
 {
     let mut input = Vec::new(alloc);

@@ -20,9 +20,15 @@ impl Model for Schedule {
 
     ghost Value = { ScheduleValue };
 
-    ghost view = { λ s. record { nodes = s.extent.nodes; lines = s.extent.lines; slots = s.extent.slots; events = s.events.items } };
+    ghost view = { λ s. record {
+      nodes = s.extent.nodes;
+      lines = s.extent.lines;
+      slots = s.extent.slots;
+      events = s.events.items;
+    } };
 
-    ghost invariant = { λ s. AreEventsWithin s.extent.nodes s.extent.lines s.events.items × (length s.events.items ≤ MAX_EVENTS) };
+    ghost invariant = { λ s. AreEventsWithin s.extent.nodes s.extent.lines s.events.items
+        × (length s.events.items ≤ MAX_EVENTS) };
 }
 
 ghost use Rattle.std.specs.Prelude.{◌↔◌, IsTrue};
@@ -58,7 +64,12 @@ impl Schedule {
 
     /// The schedule of a machine of this size with no event.
     pub fn new(alloc: Global, extent: Extent) -> Schedule
-        ensures value { result ≡ record { nodes = extent.nodes; lines = extent.lines; slots = extent.slots; events = [] } }
+        ensures value { result ≡ record {
+          nodes = extent.nodes;
+          lines = extent.lines;
+          slots = extent.slots;
+          events = [];
+        } }
         ensures good { IsSchedule result }
     {
         Schedule {
@@ -84,8 +95,8 @@ impl Schedule {
         &self.events
     }
 
-    /// Adds an event at the end. A refusal changes nothing: Range where a node, the line or the word is outside
-    /// the machine, else TooMany where there are 500,000 events.
+    /// Adds an event at the end. A refusal changes nothing: Range if a node, the line or the word is outside
+    /// the machine, else TooMany if there are 500,000 events.
     pub fn push(&mut self, event: Event) -> Result<(), PushFault>
         ensures ok { OnOk result (self.new ≡ with_event self.old event) }
         ensures within { OnOk result (IsEventWithin self.old.nodes self.old.lines event) }

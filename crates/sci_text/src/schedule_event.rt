@@ -60,7 +60,7 @@ fn verb_of(bytes: &[u8]) -> Option<(Verb, &[u8])>
     Some((verb, rest))
 }
 
-/// Two numbers, where both are below 256.
+/// Two numbers, if both are below 256.
 fn bytes_of(first: Number, second: Number) -> Option<(u8, u8)>
     ensures { result ≡ paired (byte first) (byte second) }
 {
@@ -78,7 +78,7 @@ fn ended(event: Option<Event>, bytes: &[u8]) -> Option<(Option<Event>, &[u8])>
     }
 }
 
-/// The event of this word and first node whose details stand at the front of `bytes` and end its line, or None where
+/// The event of this word and first node whose details stand at the front of `bytes` and end its line, or None if
 /// one of its numbers doesn't fit an `Event`, and the bytes after the line.
 #[tactic(auto, unfolding(crate::specs::ScheduleReading::details_read, crate::specs::ScheduleReading::numbered_read))]
 fn details(verb: Verb, first: Number, bytes: &[u8]) -> Option<(Option<Event>, &[u8])>
@@ -125,7 +125,7 @@ fn details(verb: Verb, first: Number, bytes: &[u8]) -> Option<(Option<Event>, &[
     }
 }
 
-/// The event of the line at the front of `bytes`, or None where a number doesn't fit its type, and the bytes
+/// The event of the line at the front of `bytes`, or None if a number doesn't fit its type, and the bytes
 /// after the line.
 #[tactic(auto, unfolding(crate::specs::ScheduleReading::event_line_read))]
 pub fn event_line(bytes: &[u8]) -> Option<(Option<Event>, &[u8])>

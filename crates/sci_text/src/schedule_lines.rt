@@ -18,7 +18,8 @@ use std::alloc::Global;
 fn push_event<'a>(schedule: &mut Schedule, bytes: &'a [u8]) -> Result<&'a [u8], TextFaultKind>
     requires { IsSchedule schedule.old }
     ensures ok { IfOk result (λ rest. AddsEvent schedule.old schedule.new bytes.now rest.now) }
-    ensures fault { IfErr result (λ kind. (kind ≡ Memory) ⊎ EventFault schedule.old bytes.now kind) }
+    ensures fault { IfErr result (λ kind.
+        (kind ≡ Memory) ⊎ EventFault schedule.old bytes.now kind) }
     ensures same { OnErr result (schedule.new ≡ schedule.old) }
     ensures good { IsSchedule schedule.new }
 {

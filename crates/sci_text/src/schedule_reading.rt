@@ -23,18 +23,22 @@ pub fn read_schedule<R: Read>(alloc: Global, reader: &mut Tap<R>) -> Result<Sche
     requires { has_failed reader.old ≡ false }
 
     // The input is the text of the schedule.
-    ensures text { IfOk result (λ schedule. IfSome (R.remaining (tapped reader.old)) (λ input. input ≡ schedule_text schedule)) }
+    ensures text { IfOk result (λ schedule. IfSome (R.remaining (tapped reader.old)) (λ input.
+        input ≡ schedule_text schedule)) }
     ensures few { IfOk result (λ schedule. length (schedule_text schedule) ≤ MAX_INPUT_BYTES) }
     ensures good { IfOk result IsSchedule }
     ensures end { OnOk result (IsAtEnd (R.remaining (tapped reader.new))) }
     ensures unfailed { OnOk result (has_failed reader.new ≡ false) }
 
     // If it is the text of a schedule, that schedule is read.
-    ensures only { (schedule : ScheduleValue) → IsSchedule schedule → length (schedule_text schedule) ≤ MAX_INPUT_BYTES
-        → R.remaining (tapped reader.old) ≡ Some (schedule_text schedule) → IsReadAs schedule result }
+    ensures only { (schedule : ScheduleValue) → IsSchedule schedule
+        → length (schedule_text schedule) ≤ MAX_INPUT_BYTES
+        → R.remaining (tapped reader.old) ≡ Some (schedule_text schedule)
+        → IsReadAs schedule result }
 
     // Else the first fault is told.
-    ensures fault { IfErr result (λ fault. IsTold IsScheduleFault fault.kind (R.remaining (tapped reader.old)) (has_failed reader.new) fault.line) }
+    ensures fault { IfErr result (λ fault. IsTold IsScheduleFault fault.kind
+        (R.remaining (tapped reader.old)) (has_failed reader.new) fault.line) }
     ensures again { is_called_again reader.new ≡ is_called_again reader.old }
 {
     let input = read_input(alloc, reader)?;

@@ -106,7 +106,8 @@ fn push_event_line(out: &mut Vec<u8>, event: Event) -> Result<(), AllocError>
 
 #[tactic(auto, unfolding(crate::specs::Script::machine_line))]
 fn push_machine_line(out: &mut Vec<u8>, extent: Extent) -> Result<(), AllocError>
-    ensures { OnOk result (out.new.items ≡ out.old.items ++ machine_line extent.nodes extent.lines extent.slots) }
+    ensures { OnOk result (
+        out.new.items ≡ out.old.items ++ machine_line extent.nodes extent.lines extent.slots) }
 {
     push_text(out, "machine")?;
     push_field(out, u64::from(extent.nodes))?;
@@ -145,11 +146,15 @@ pub fn write_schedule<W: Write>(
     schedule: &Schedule,
 ) -> Result<(), TextFault>
     requires { has_failed writer.old ≡ false }
-    ensures text { OnOk result (Appends (W.contents (tapped writer.old)) (W.contents (tapped writer.new)) (text_of schedule.now)) }
+    ensures text { OnOk result (
+        Appends (W.contents (tapped writer.old)) (W.contents (tapped writer.new))
+        (text_of schedule.now)) }
     ensures few { length (text_of schedule.now) ≤ MAX_INPUT_BYTES }
     ensures unfailed { OnOk result (has_failed writer.new ≡ false) }
     ensures line { IfErr result (λ fault. fault.line ≡ 0) }
-    ensures fault { IfErr result (λ fault. IsWriteFault fault.kind (W.contents (tapped writer.old)) (W.contents (tapped writer.new)) (has_failed writer.new) (text_of schedule.now)) }
+    ensures fault { IfErr result (λ fault. IsWriteFault fault.kind
+        (W.contents (tapped writer.old)) (W.contents (tapped writer.new))
+        (has_failed writer.new) (text_of schedule.now)) }
     ensures again { is_called_again writer.new ≡ is_called_again writer.old }
 {
     schedules_are_short();

@@ -24,9 +24,15 @@ impl Model for Script {
 
     ghost Value = { ScriptValue };
 
-    ghost view = { λ s. record { nodes = s.extent.nodes; lines = s.extent.lines; slots = s.extent.slots; operations = s.operations.items } };
+    ghost view = { λ s. record {
+      nodes = s.extent.nodes;
+      lines = s.extent.lines;
+      slots = s.extent.slots;
+      operations = s.operations.items;
+    } };
 
-    ghost invariant = { λ s. AreWithin s.extent.nodes s.extent.lines s.operations.items × AreCounts s.counts s.operations.items };
+    ghost invariant = { λ s. AreWithin s.extent.nodes s.extent.lines s.operations.items
+        × AreCounts s.counts s.operations.items };
 }
 
 /// Why an operation can't be added to a script.
@@ -62,7 +68,12 @@ impl Script {
 
     /// The script of a machine of this size with no operation.
     pub fn new(alloc: Global, extent: Extent) -> Script
-        ensures value { result ≡ record { nodes = extent.nodes; lines = extent.lines; slots = extent.slots; operations = [] } }
+        ensures value { result ≡ record {
+          nodes = extent.nodes;
+          lines = extent.lines;
+          slots = extent.slots;
+          operations = [];
+        } }
         ensures good { IsScript result }
     {
         Script {
@@ -89,8 +100,8 @@ impl Script {
         &self.operations
     }
 
-    /// Adds an operation of a node at the end. A refusal changes nothing: Range where the node, the line or
-    /// the word is outside the machine, else TooMany where the node has 65,536 operations.
+    /// Adds an operation of a node at the end. A refusal changes nothing: Range if the node, the line or
+    /// the word is outside the machine, else TooMany if the node has 65,536 operations.
     pub fn push(&mut self, node: u8, op: Op) -> Result<(), PushFault>
         ensures ok { OnOk result (self.new ≡ with_operation self.old node op) }
         ensures within { OnOk result (IsWithin self.old.nodes self.old.lines node op) }

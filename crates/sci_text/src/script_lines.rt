@@ -32,7 +32,7 @@ fn machine_line(bytes: &[u8]) -> Option<((Number, Number, Number), &[u8])>
     Some(((nodes, lines, slots), rest))
 }
 
-/// The node and the operation of the line `p n OP` at the front of `bytes`, or None where a number doesn't fit
+/// The node and the operation of the line `p n OP` at the front of `bytes`, or None if a number doesn't fit
 /// its type, and the bytes after the line.
 #[tactic(auto, unfolding(crate::specs::ScriptReading::operation_line_read))]
 fn operation_line(bytes: &[u8]) -> Option<(Option<(u8, Op)>, &[u8])>
@@ -46,19 +46,21 @@ fn operation_line(bytes: &[u8]) -> Option<(Option<(u8, Op)>, &[u8])>
     Some((byte(node).zip(op), rest))
 }
 
-/// The size of these numbers, where they are within their limits.
+/// The size of these numbers, if they are within their limits.
 fn size(nodes: Number, lines: Number, slots: Number) -> Option<Extent>
     ensures nodes { IfSome result (λ extent. nodes ≡ Some extent.nodes) }
     ensures lines { IfSome result (λ extent. lines ≡ Some extent.lines) }
     ensures slots { IfSome result (λ extent. slots ≡ Some extent.slots) }
-    ensures none { IfNone result ((n m c : ℕ) → nodes ≡ Some n → lines ≡ Some m → slots ≡ Some c → AreWithinLimits n m c → ⊥) }
+    ensures none { IfNone result ((n m c : ℕ)
+        → nodes ≡ Some n → lines ≡ Some m → slots ≡ Some c → AreWithinLimits n m c → ⊥) }
 {
     Extent::new(byte(nodes)?, byte(lines)?, byte(slots)?)
 }
 
 /// The size that the first line of a script says, and the bytes after the line.
 pub fn machine(bytes: &[u8]) -> Result<(Extent, &[u8]), TextFaultKind>
-    ensures ok { IfOk result (λ x. bytes.now ≡ machine_line x.0.nodes x.0.lines x.0.slots ++ x.1.now) }
+    ensures ok { IfOk result (λ x.
+        bytes.now ≡ machine_line x.0.nodes x.0.lines x.0.slots ++ x.1.now) }
     ensures short { IfOk result (λ x. IsShort (machine_line x.0.nodes x.0.lines x.0.slots)) }
     ensures fault { IfErr result (MachineFault bytes.now) }
 {
@@ -76,7 +78,8 @@ pub fn machine(bytes: &[u8]) -> Result<(Extent, &[u8]), TextFaultKind>
 fn push_line<'a>(script: &mut Script, bytes: &'a [u8]) -> Result<&'a [u8], TextFaultKind>
     requires { IsScript script.old }
     ensures ok { IfOk result (λ rest. AddsLine script.old script.new bytes.now rest.now) }
-    ensures fault { IfErr result (λ kind. (kind ≡ Memory) ⊎ OperationFault script.old bytes.now kind) }
+    ensures fault { IfErr result (λ kind.
+        (kind ≡ Memory) ⊎ OperationFault script.old bytes.now kind) }
     ensures same { OnErr result (script.new ≡ script.old) }
     ensures good { IsScript script.new }
 {

@@ -23,18 +23,21 @@ pub fn read_script<R: Read>(alloc: Global, reader: &mut Tap<R>) -> Result<Script
     requires { has_failed reader.old ≡ false }
 
     // The input is the text of the script.
-    ensures text { IfOk result (λ script. IfSome (R.remaining (tapped reader.old)) (λ input. input ≡ script_text script)) }
+    ensures text { IfOk result (λ script. IfSome (R.remaining (tapped reader.old)) (λ input.
+        input ≡ script_text script)) }
     ensures few { IfOk result (λ script. length (script_text script) ≤ MAX_INPUT_BYTES) }
     ensures good { IfOk result IsScript }
     ensures end { OnOk result (IsAtEnd (R.remaining (tapped reader.new))) }
     ensures unfailed { OnOk result (has_failed reader.new ≡ false) }
 
     // If it is the text of a script, that script is read.
-    ensures only { (script : ScriptValue) → IsScript script → length (script_text script) ≤ MAX_INPUT_BYTES
+    ensures only { (script : ScriptValue) → IsScript script
+        → length (script_text script) ≤ MAX_INPUT_BYTES
         → R.remaining (tapped reader.old) ≡ Some (script_text script) → IsReadAs script result }
 
     // Else the first fault is told.
-    ensures fault { IfErr result (λ fault. IsTold IsScriptFault fault.kind (R.remaining (tapped reader.old)) (has_failed reader.new) fault.line) }
+    ensures fault { IfErr result (λ fault. IsTold IsScriptFault fault.kind
+        (R.remaining (tapped reader.old)) (has_failed reader.new) fault.line) }
     ensures again { is_called_again reader.new ≡ is_called_again reader.old }
 {
     let input = read_input(alloc, reader)?;

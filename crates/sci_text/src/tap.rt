@@ -55,9 +55,11 @@ impl<R: Read> Read for Tap<R> {
 
     fn read(&mut self, buf: &mut [u8]) -> io::Result<usize>
         ensures bound { ReadsAtMost result buf.new }
-        ensures bytes { ReadConsumes (R.remaining (tapped self.old)) (R.remaining (tapped self.new)) result buf.new }
+        ensures bytes { ReadConsumes
+            (R.remaining (tapped self.old)) (R.remaining (tapped self.new)) result buf.new }
         ensures failed { has_failed self.new ≡ (has_failed self.old || is_err result) }
-        ensures again { is_called_again self.new ≡ (is_called_again self.old || has_failed self.old) }
+        ensures again { is_called_again self.new
+            ≡ (is_called_again self.old || has_failed self.old) }
     {
         self.called_again = self.called_again || self.failed;
         let result = self.inner.read(buf);
@@ -78,9 +80,11 @@ impl<W: Write> Write for Tap<W> {
 
     fn write(&mut self, buf: &[u8]) -> io::Result<usize>
         ensures bound { WritesAtMost result buf.now }
-        ensures bytes { WriteAppends (W.contents (tapped self.old)) (W.contents (tapped self.new)) result buf.now }
+        ensures bytes { WriteAppends
+            (W.contents (tapped self.old)) (W.contents (tapped self.new)) result buf.now }
         ensures failed { has_failed self.new ≡ (has_failed self.old || write_fails result buf.now) }
-        ensures again { is_called_again self.new ≡ (is_called_again self.old || has_failed self.old) }
+        ensures again { is_called_again self.new
+            ≡ (is_called_again self.old || has_failed self.old) }
     {
         self.called_again = self.called_again || self.failed;
         let result = self.inner.write(buf);
@@ -97,7 +101,8 @@ impl<W: Write> Write for Tap<W> {
     fn flush(&mut self) -> io::Result<()>
         ensures bytes { Keeps (W.contents (tapped self.old)) (W.contents (tapped self.new)) }
         ensures failed { has_failed self.new ≡ (has_failed self.old || is_err result) }
-        ensures again { is_called_again self.new ≡ (is_called_again self.old || has_failed self.old) }
+        ensures again { is_called_again self.new
+            ≡ (is_called_again self.old || has_failed self.old) }
     {
         self.called_again = self.called_again || self.failed;
         let result = self.inner.flush();

@@ -13,11 +13,14 @@ use std::io::Write;
 /// more is written.
 pub fn write_text<W: Write>(writer: &mut Tap<W>, text: &[u8]) -> Result<(), TextFault>
     requires { has_failed writer.old ≡ false }
-    ensures text { OnOk result (Appends (W.contents (tapped writer.old)) (W.contents (tapped writer.new)) text.now) }
+    ensures text { OnOk result (
+        Appends (W.contents (tapped writer.old)) (W.contents (tapped writer.new)) text.now) }
     ensures unfailed { OnOk result (has_failed writer.new ≡ false) }
     ensures line { IfErr result (λ fault. fault.line ≡ 0) }
     ensures kind { IfErr result (λ fault. fault.kind ≡ TextFaultKind.Write) }
-    ensures fault { IfErr result (λ fault. IsWriteFault fault.kind (W.contents (tapped writer.old)) (W.contents (tapped writer.new)) (has_failed writer.new) text.now) }
+    ensures fault { IfErr result (λ fault. IsWriteFault fault.kind
+        (W.contents (tapped writer.old)) (W.contents (tapped writer.new))
+        (has_failed writer.new) text.now) }
     ensures again { is_called_again writer.new ≡ is_called_again writer.old }
 {
     let mut written = 0;

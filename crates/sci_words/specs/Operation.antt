@@ -32,7 +32,7 @@ effect_of_act (Lock lock) old = (locked_word lock old, Got old)
 abbrev pub effect : Op → ℕ → ℕ × Reply
 effect op old = effect_of_act op.act old
 
--- a store or a lock operation makes the next version of its line, also where the word keeps its value
+-- a store or a lock operation makes the next version of its line, also if the word keeps its value
 abbrev pub makes_version : Act → Bool
 makes_version Load = false
 makes_version (Store word) = true

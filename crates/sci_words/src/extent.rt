@@ -24,7 +24,7 @@ pub struct Extent {
 }
 
 impl Extent {
-    /// The extent of these numbers, or None where one of them is outside its limits.
+    /// The extent of these numbers, or None if one of them is outside its limits.
     pub fn new(nodes: u8, lines: u8, slots: u8) -> Option<Extent>
         ensures within { IsSome result ↔ AreWithinLimits nodes lines slots }
         ensures nodes { IfSome result (λ extent. extent.nodes ≡ nodes) }

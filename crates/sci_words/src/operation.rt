@@ -11,13 +11,13 @@ use crate::line::Word;
 pub enum LockOp {
     /// Takes the bits of `datum` where `arg` has a one.
     MaskSwap { arg: Word, datum: Word },
-    /// Becomes `datum` where the word is `arg`.
+    /// Becomes `datum` if the word is `arg`.
     CompareSwap { arg: Word, datum: Word },
     /// Adds `datum`, modulo 2^64.
     FetchAdd { datum: Word },
-    /// Adds `datum`, modulo 2^64, where the word isn't `arg`.
+    /// Adds `datum`, modulo 2^64, if the word isn't `arg`.
     BoundedAdd { arg: Word, datum: Word },
-    /// Adds `datum`, modulo 2^64, where the word isn't `arg`, and else becomes `datum`.
+    /// Adds `datum`, modulo 2^64, if the word isn't `arg`, and else becomes `datum`.
     WrapAdd { arg: Word, datum: Word },
 }
 
@@ -53,7 +53,7 @@ pub enum Reply {
 }
 
 impl Op {
-    /// Whether the operation makes a new version of its line: a store or a lock operation, also where the
+    /// Whether the operation makes a new version of its line: a store or a lock operation, also if the
     /// word keeps its value.
     pub fn is_maker(&self) -> bool
         ensures { result ≡ is_maker_of self.now }

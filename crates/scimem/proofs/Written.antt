@@ -20,7 +20,7 @@ front_written old new failed text fault = record {
   appended = fault.1.1;
 }
 
--- where a write failed, a front of the text is written
+-- if a write failed, a front of the text is written
 pub written_before_fault : (result : Result (Unit {0}) TextFault) (old new : Option (List ℕ)) (failed : Bool) (text : List ℕ) → is_err result ≡ true
     → IfErr result (λ fault. fault.kind ≡ Write) → IfErr result (λ fault. IsWriteFault fault.kind old new failed text) → WritesFront old new text
 written_before_fault (Ok u) old new failed text err kind fault = absurd (cc)

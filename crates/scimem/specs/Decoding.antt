@@ -67,7 +67,7 @@ pub record IsInputRefusal (known : Option (List ℕ)) (failed : Bool) (text : Li
   pub why : IsInputFault kind known failed
   pub line : text ≡ refusal 0 (kind_word kind)
 
--- the text is that of the input, which isn't too long, and the input is the one that is known, where it is
+-- the text is that of the input, which isn't too long, and the input is the one that is known, if it is
 pub record IsInputDecoded (known : Option (List ℕ)) (text : List ℕ) (outcome : Outcome) : Type 0 where
   pub input : List ℕ
   pub same : IfSome known (λ bytes. input ≡ bytes)

@@ -26,7 +26,7 @@ kind_text WrongReply = codes "fault 3 wrong-reply"
 kind_text OutOfOrder = codes "fault 4 out-of-order"
 kind_text LastDiffers = codes "fault 5 last-differs"
 
--- ` node N serial S`, where an entry is named
+-- ` node N serial S`, if an entry is named
 unfoldable pub named_text : Option (ℕ × ℕ) → List ℕ
 named_text None = []
 named_text (Some named) = codes " node" ++ (field named.0 ++ (codes " serial" ++ field named.1))

@@ -38,7 +38,7 @@ identifier_text (Some id) = codes " id" ++ field id
 unfoldable pub contents_text : Stamped → List ℕ
 contents_text stamped = codes " @" ++ (number stamped.version ++ flat_map field stamped.line)
 
--- what a command's line ends with: the identifier where the command uses it, and the contents where it carries them
+-- what a command's line ends with: the identifier if the command uses it, and the contents if it carries them
 unfoldable pub said_text : Body → List ℕ
 said_text Mread = []
 said_text Cread = []

@@ -80,9 +80,12 @@ fn end_of(verdict: Verdict) -> Outcome
 /// The line for the log that the reader gives and how the audit ends, or its fault.
 fn answer<R: Read>(alloc: Global, reader: &mut Tap<R>) -> Result<(Vec<u8>, Outcome), TextFault>
     requires { has_failed reader.old ≡ false }
-    ensures text { IfOk result (λ x. IsReadAs (R.remaining (tapped reader.old)) (has_failed reader.new) (λ input. IsAuditOf input x.0.items x.1)) }
+    ensures text { IfOk result (λ x.
+        IsReadAs (R.remaining (tapped reader.old)) (has_failed reader.new)
+        (λ input. IsAuditOf input x.0.items x.1)) }
     ensures judged { IfOk result (λ x. x.1 ≡ Outcome.Refused → ⊥) }
-    ensures fault { IfErr result (λ fault. IsTold IsLogFault fault.kind (R.remaining (tapped reader.old)) (has_failed reader.new) fault.line) }
+    ensures fault { IfErr result (λ fault. IsTold IsLogFault fault.kind
+        (R.remaining (tapped reader.old)) (has_failed reader.new) fault.line) }
     ensures again { is_called_again reader.new ≡ is_called_again reader.old }
 {
     let (_, logs, last) = read_logs(alloc, reader)?;
@@ -92,7 +95,7 @@ fn answer<R: Read>(alloc: Global, reader: &mut Tap<R>) -> Result<(Vec<u8>, Outco
 }
 
 /// Reads a log to its end and judges it: `lawful` is Done, and `fault K NAME line L node N serial S` is Unlawful, the
-/// first fault of the lowest line that has one (without node and serial where the last contents differ). A text with
+/// first fault of the lowest line that has one (without node and serial if the last contents differ). A text with
 /// a fault is Refused, with the line `refused at line K: KIND` alone, as are a reader that fails, too long an input
 /// and running out of memory, at line 0. The line is made before its first byte is written. After a failed read or
 /// write nothing more is read or written; after a failed write it is Refused.

@@ -35,7 +35,8 @@ fn outcome_of<R: Read, W: Write>(
         × IsAnswerTo command (R.remaining (tapped reader.old)) (has_failed reader.new) text result }
     ensures front { (text : List ℕ) × (outcome : Outcome)
         × WritesFront (W.contents (tapped writer.old)) (W.contents (tapped writer.new)) text
-        × IsAnswerTo command (R.remaining (tapped reader.old)) (has_failed reader.new) text outcome }
+        × IsAnswerTo command
+        (R.remaining (tapped reader.old)) (has_failed reader.new) text outcome }
     ensures failed { has_failed writer.new ≡ true → result ≡ Outcome.Refused }
     ensures read_no_more { is_called_again reader.new ≡ is_called_again reader.old }
     ensures wrote_no_more { is_called_again writer.new ≡ is_called_again writer.old }
@@ -69,7 +70,8 @@ pub fn carried_out<R: Read, W: Write>(
     // If a write fails, a prefix of it is.
     ensures front { (text : List ℕ) × (outcome : Outcome)
         × WritesFront (W.contents (tapped writer.old)) (W.contents (tapped writer.new)) text
-        × IsAnswerTo command (R.remaining (tapped reader.old)) (has_failed reader.new) text outcome }
+        × IsAnswerTo command
+        (R.remaining (tapped reader.old)) (has_failed reader.new) text outcome }
     ensures failed { has_failed writer.new ≡ true → exit_status result ≡ 2 }
     ensures read_no_more { is_called_again reader.new ≡ is_called_again reader.old }
     ensures wrote_no_more { is_called_again writer.new ≡ is_called_again writer.old }

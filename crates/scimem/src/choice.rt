@@ -27,7 +27,8 @@ pub enum Command {
 
 /// The command that the words of the command line choose, the program's own name left out.
 pub fn chosen(words: &[&str]) -> Option<Command>
-    ensures { (command : Command) → (result ≡ Some command) ↔ (map (λ word. word.now) words.now ≡ arguments_of command) }
+    ensures { (command : Command)
+        → (result ≡ Some command) ↔ (map (λ word. word.now) words.now ≡ arguments_of command) }
 {
     match words {
         ["oracle"] => Some(Command::Oracle),
@@ -39,7 +40,7 @@ pub fn chosen(words: &[&str]) -> Option<Command>
     }
 }
 
-/// The command that the program was asked to do, or None where the command line chooses none. It fails where
+/// The command that the program was asked to do, or None if the command line chooses none. It fails if
 /// the command line can't be read.
 pub fn asked(rt: &(impl Env + AllocGlobal)) -> io::Result<Option<Command>> {
     let words: Vec<String> = env::args(rt)?.skip(1).collect(rt.alloc())?;

@@ -82,9 +82,11 @@ fn text_of(alloc: Global, input: &[u8]) -> Result<(Vec<u8>, Outcome), AllocError
 /// The text for the input that the reader gives, read to its end, and how the command ends.
 fn answer<R: Read>(alloc: Global, reader: &mut Tap<R>) -> Result<(Vec<u8>, Outcome), TextFault>
     requires { has_failed reader.old ≡ false }
-    ensures text { IfOk result (λ x. IsInputDecoded (R.remaining (tapped reader.old)) x.0.items x.1) }
+    ensures text { IfOk result (λ x.
+        IsInputDecoded (R.remaining (tapped reader.old)) x.0.items x.1) }
     ensures unfailed { OnOk result (has_failed reader.new ≡ false) }
-    ensures fault { IfErr result (λ fault. IsInputFault fault.kind (R.remaining (tapped reader.old)) (has_failed reader.new)) }
+    ensures fault { IfErr result (λ fault.
+        IsInputFault fault.kind (R.remaining (tapped reader.old)) (has_failed reader.new)) }
     ensures again { is_called_again reader.new ≡ is_called_again reader.old }
 {
     let input = read_input(alloc, reader)?;
@@ -92,10 +94,10 @@ fn answer<R: Read>(alloc: Global, reader: &mut Tap<R>) -> Result<(Vec<u8>, Outco
 }
 
 /// Reads the input to its end, and writes a line for each packet: `NAME to T from S control K line L`, then
-/// ` id I` or ` id none` where the command uses its identifier, and ` @V w0 w1 w2 w3 w4 w5 w6 w7` where it
+/// ` id I` or ` id none` if the command uses its identifier, and ` @V w0 w1 w2 w3 w4 w5 w6 w7` if it
 /// carries contents, all in decimal. A run of packets is Done.
 ///
-/// Refused, with one more line: `refused at byte K: KIND` at the first byte of what is no packet, where KIND is
+/// Refused, with one more line: `refused at byte K: KIND` at the first byte of what is no packet, and KIND is
 /// `short`, `unknown-command`, `bad-offset` or `bad-identifier`; and, with no line before it, `refused at byte 0:
 /// KIND` if a read fails (`read`), for an input of more than 134,217,728 bytes (`too-many`), and if an allocation
 /// fails (`memory`). After a failed read or write nothing more is read or written; after a failed write it is

@@ -14,7 +14,9 @@ use sci_packets::laws::{no_proper_prefix, one_packet};
 /// Bytes have one text, and one end of the command: no run of packets is refused, and what is no run is never
 /// Done.
 pub fn one_decoding()
-    ensures { (input text other : List ℕ) (outcome another : Outcome) → IsDecoded input text outcome → IsDecoded input other another → (text ≡ other) × (outcome ≡ another) }
+    ensures { (input text other : List ℕ) (outcome another : Outcome)
+        → IsDecoded input text outcome → IsDecoded input other another
+        → (text ≡ other) × (outcome ≡ another) }
 {
     no_proper_prefix();
     one_packet();
@@ -22,14 +24,18 @@ pub fn one_decoding()
 
 /// What `replay` writes for any schedule an audit finds lawful.
 pub fn replays_are_lawful()
-    ensures { (input text said : List ℕ) (outcome : Outcome) → IsReplayOf input text → IsAuditOf text said outcome → (said ≡ verdict_text verdicts.Lawful) × (outcome ≡ Outcome.Done) }
+    ensures { (input text said : List ℕ) (outcome : Outcome)
+        → IsReplayOf input text → IsAuditOf text said outcome
+        → (said ≡ verdict_text verdicts.Lawful) × (outcome ≡ Outcome.Done) }
 {
     one_partition();
 }
 
 /// What `oracle` writes for any script an audit finds lawful.
 pub fn oracles_are_lawful()
-    ensures { (input text said : List ℕ) (outcome : Outcome) → IsOracleOf input text → IsAuditOf text said outcome → (said ≡ verdict_text verdicts.Lawful) × (outcome ≡ Outcome.Done) }
+    ensures { (input text said : List ℕ) (outcome : Outcome)
+        → IsOracleOf input text → IsAuditOf text said outcome
+        → (said ≡ verdict_text verdicts.Lawful) × (outcome ≡ Outcome.Done) }
 {
     one_partition();
 }

@@ -13,7 +13,7 @@ use std::test::*;
 
 const LOG: &str = "log 2 1 1\nlast 0 @1 7 0 0 0 0 0 0 0\n0 0 store 0 0 7 = - @1\n";
 
-/// That the whole answer was written, or that memory was refused, or nothing where that couldn't be told either.
+/// That the whole answer was written, or that memory was refused, or nothing if that couldn't be told either.
 fn expect_or_memory(rt: &impl Abort, written: &[u8], outcome: Outcome, text: &[u8], memory: &[u8]) {
     if outcome == Outcome::Done {
         assert_eq!(rt; written, text);

@@ -21,8 +21,11 @@ use std::io::{Read, Write};
 /// The text of the log of the script that the reader gives, or its fault.
 fn answer<R: Read>(alloc: Global, reader: &mut Tap<R>) -> Result<Vec<u8>, TextFault>
     requires { has_failed reader.old ≡ false }
-    ensures text { IfOk result (λ text. IsReadAs (R.remaining (tapped reader.old)) (has_failed reader.new) (λ input. IsOracleOf input text.items)) }
-    ensures fault { IfErr result (λ fault. IsTold IsScriptFault fault.kind (R.remaining (tapped reader.old)) (has_failed reader.new) fault.line) }
+    ensures text { IfOk result (λ text.
+        IsReadAs (R.remaining (tapped reader.old)) (has_failed reader.new)
+        (λ input. IsOracleOf input text.items)) }
+    ensures fault { IfErr result (λ fault. IsTold IsScriptFault fault.kind
+        (R.remaining (tapped reader.old)) (has_failed reader.new) fault.line) }
     ensures again { is_called_again reader.new ≡ is_called_again reader.old }
 {
     let script = read_script(alloc, reader)?;
@@ -33,7 +36,7 @@ fn answer<R: Read>(alloc: Global, reader: &mut Tap<R>) -> Result<Vec<u8>, TextFa
 }
 
 /// Reads a script to its end, does its operations in text order on one memory of one thread, and writes their log in
-/// format 2: Done. A script with a fault is Refused, with the line `refused at line K: KIND` alone, where KIND is
+/// format 2: Done. A script with a fault is Refused, with the line `refused at line K: KIND` alone, and KIND is
 /// `syntax`, `range` or `too-many`; and, with K = 0, if a read fails (`read`), for an input of more than 134,217,728
 /// bytes (`too-many`), and if an allocation fails (`memory`). The whole text is made before its first byte is
 /// written. After a failed read or write nothing more is read or written; after a failed write it is Refused.

@@ -57,9 +57,11 @@ fn input_refusal(kind: TextFaultKind) -> &'static [u8]
 /// Writes the error line of a fault, or the out-of-memory line if there is no memory to build it.
 pub fn refuse<W: Write>(alloc: Global, writer: &mut Tap<W>, fault: TextFault) -> Outcome
     ensures whole { has_failed writer.new ≡ false → (text : List ℕ)
-        × Appends (W.contents (tapped writer.old)) (W.contents (tapped writer.new)) text × Refuses fault text }
+        × Appends (W.contents (tapped writer.old)) (W.contents (tapped writer.new)) text
+        × Refuses fault text }
     ensures front { (text : List ℕ)
-        × WritesFront (W.contents (tapped writer.old)) (W.contents (tapped writer.new)) text × Refuses fault text }
+        × WritesFront (W.contents (tapped writer.old)) (W.contents (tapped writer.new)) text
+        × Refuses fault text }
     ensures refused { result ≡ Outcome.Refused }
     ensures again { is_called_again writer.new ≡ is_called_again writer.old }
 {

@@ -20,8 +20,11 @@ use std::io::{Read, Write};
 /// The text in format 2 of the log that the reader gives, or its fault.
 fn answer<R: Read>(alloc: Global, reader: &mut Tap<R>) -> Result<Vec<u8>, TextFault>
     requires { has_failed reader.old ≡ false }
-    ensures text { IfOk result (λ text. IsReadAs (R.remaining (tapped reader.old)) (has_failed reader.new) (λ input. IsUpgradeOf input text.items)) }
-    ensures fault { IfErr result (λ fault. IsTold IsLogFault fault.kind (R.remaining (tapped reader.old)) (has_failed reader.new) fault.line) }
+    ensures text { IfOk result (λ text.
+        IsReadAs (R.remaining (tapped reader.old)) (has_failed reader.new)
+        (λ input. IsUpgradeOf input text.items)) }
+    ensures fault { IfErr result (λ fault. IsTold IsLogFault fault.kind
+        (R.remaining (tapped reader.old)) (has_failed reader.new) fault.line) }
     ensures again { is_called_again reader.new ≡ is_called_again reader.old }
 {
     let (nodes, logs, last) = read_logs(alloc, reader)?;

@@ -9,10 +9,12 @@ use crate::outcome::Outcome;
 use sci_text::{Tap, write_text};
 use std::io::Write;
 
-/// Writes the answer of a command that ends so, and tells how it ends then: it is Refused where a write failed.
+/// Writes the answer of a command that ends so, and tells how it ends then: it is Refused if a write failed.
 pub fn write_answer<W: Write>(writer: &mut Tap<W>, text: &[u8], outcome: Outcome) -> Outcome
-    ensures front { WritesFront (W.contents (tapped writer.old)) (W.contents (tapped writer.new)) text.now }
-    ensures whole { has_failed writer.new ≡ false → Appends (W.contents (tapped writer.old)) (W.contents (tapped writer.new)) text.now }
+    ensures front { WritesFront
+        (W.contents (tapped writer.old)) (W.contents (tapped writer.new)) text.now }
+    ensures whole { has_failed writer.new ≡ false
+        → Appends (W.contents (tapped writer.old)) (W.contents (tapped writer.new)) text.now }
     ensures unfailed { has_failed writer.new ≡ false → result ≡ outcome }
     ensures failed { has_failed writer.new ≡ true → result ≡ Outcome.Refused }
     ensures again { is_called_again writer.new ≡ is_called_again writer.old }

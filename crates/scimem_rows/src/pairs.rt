@@ -1,4 +1,4 @@
-//! Two nodes where one wants to write, and one node with fewer version slots than lines.
+//! Two nodes of which one wants to write, and one node with fewer version slots than lines.
 
 use crate::row::{Row, is_body};
 use crate::sharer::Sharer;

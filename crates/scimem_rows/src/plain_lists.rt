@@ -58,7 +58,7 @@ fn answer_to(walked: &Walked, n: u8, line: u8) -> Option<Body> {
     None
 }
 
-/// The next node of a member, which is none for the last one; None where the node is no member.
+/// The next node of a member, which is none for the last one; None if the node is no member.
 fn link(held: &Held, answer: &Option<Body>) -> Option<Option<NodeId>> {
     match (held, answer) {
         (Held::Asking(_), Some(Body::Mdata(_))) => Some(None),
@@ -82,7 +82,7 @@ fn link(held: &Held, answer: &Option<Body>) -> Option<Option<NodeId>> {
     }
 }
 
-/// The contents in a member that may change them or is about to, or None where it isn't such a one.
+/// The contents in a member that may change them or is about to, or None if it isn't such a one.
 fn authority(held: &Held, answer: &Option<Body>) -> Option<Stamped> {
     link(held, answer)?;
     match (held, answer) {
@@ -132,7 +132,7 @@ fn members(walked: &Walked, line: u8) -> Result<u8, Fail> {
 }
 
 /// How many nodes the walk from a head along the links meets until a link is none, at most one more than there
-/// are. It is an error where the walk comes to a node that is no member.
+/// are. It is an error if the walk comes to a node that is no member.
 fn walk_length(walked: &Walked, line: u8, head: u8) -> Result<u8, Fail> {
     let mut at = head;
     for count in 1..=walked.extent.nodes {
@@ -146,8 +146,8 @@ fn walk_length(walked: &Walked, line: u8, head: u8) -> Result<u8, Fail> {
     Ok(walked.extent.nodes.wrapping_add(1))
 }
 
-/// An error where the members of a line are not one list from its home's head, where it has not the authorities
-/// that its home's state says, or where these are not its last contents.
+/// An error if the members of a line are not one list from its home's head, if it has not the authorities
+/// that its home's state says, or if these are not its last contents.
 pub fn holds(alloc: Global, walked: &Walked, line: u8, last: Stamped) -> Result<(), Fail> {
     let home = walked.machine.home(line).ok_or("no such home")?;
     let found = authorities(alloc, walked, line)?;

@@ -25,7 +25,7 @@ impl Random {
         state >> 20
     }
 
-    /// A number below `bound`, or 0 where that is 0.
+    /// A number below `bound`, or 0 if that is 0.
     pub fn below(&mut self, bound: u8) -> u8
         ensures { 0 < bound → result < bound }
     {

@@ -10,7 +10,7 @@ use std::alloc::Global;
 use std::test::*;
 
 /// The caches of nodes that share line 0, and the line's home. What a row expects of them is said by calls that
-/// answer an error where it is otherwise: many assertions in one test take the prover far longer than such calls.
+/// answer an error if it is otherwise: many assertions in one test take the prover far longer than such calls.
 #[derive(Drop)]
 pub struct Row {
     sharers: Vec<Sharer>,
@@ -86,22 +86,22 @@ impl Row {
         Ok(answer)
     }
 
-    /// An error where this ask of a node isn't refused for this reason.
+    /// An error if this ask of a node isn't refused for this reason.
     pub fn refuses(&mut self, n: u8, kind: AskKind, fault: AskFault) -> Result<(), Fail> {
         self.sharer(n)?.refuses(0, kind, fault)
     }
 
-    /// An error where an operation of a node has another outcome.
+    /// An error if an operation of a node has another outcome.
     pub fn performs(&mut self, n: u8, op: Op, outcome: Option<(Reply, u64)>) -> Result<(), Fail> {
         self.sharer(n)?.performs(op, outcome)
     }
 
-    /// An error where this isn't the line's state at a node.
+    /// An error if this isn't the line's state at a node.
     pub fn holds(&mut self, n: u8, held: &Held) -> Result<(), Fail> {
         self.sharer(n)?.holds(0, held)
     }
 
-    /// An error where this isn't the line's home.
+    /// An error if this isn't the line's home.
     pub fn home_is(&self, home: &Home) -> Result<(), Fail> {
         if self.home != *home {
             return Err(Fail::new(format_args!("the home is {:?}, and not {home:?}", self.home)));
@@ -110,7 +110,7 @@ impl Row {
     }
 }
 
-/// An error where a body is another.
+/// An error if a body is another.
 pub fn is_body(body: &Body, wanted: &Body) -> Result<(), Fail> {
     if body != wanted {
         return Err(Fail::new(format_args!("{body:?}, and not {wanted:?}")));

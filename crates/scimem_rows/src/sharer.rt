@@ -63,7 +63,7 @@ impl Sharer {
         }
     }
 
-    /// An error where this kind isn't refused about a line for this reason.
+    /// An error if this kind isn't refused about a line for this reason.
     pub fn refuses(&mut self, line: u8, kind: AskKind, fault: AskFault) -> Result<(), Fail> {
         let refusal = self.refusal(line, kind);
         if refusal != Some(fault) {
@@ -95,7 +95,7 @@ impl Sharer {
         Ok(self.cache.accept(answer)?)
     }
 
-    /// The reply and the version of an operation, or None where it isn't allowed.
+    /// The reply and the version of an operation, or None if it isn't allowed.
     fn perform(&mut self, op: Op) -> Option<(Reply, u64)> {
         if op.line >= self.lines || op.word >= 8 {
             return None;
@@ -103,7 +103,7 @@ impl Sharer {
         self.cache.perform(op)
     }
 
-    /// An error where an operation has another reply or version, or is allowed or not otherwise than it has to be.
+    /// An error if an operation has another reply or version, or is allowed or not otherwise than it has to be.
     pub fn performs(&mut self, op: Op, outcome: Option<(Reply, u64)>) -> Result<(), Fail> {
         let found = self.perform(op);
         if found != outcome {
@@ -115,7 +115,7 @@ impl Sharer {
         Ok(())
     }
 
-    /// An error where this isn't the state of the line.
+    /// An error if this isn't the state of the line.
     pub fn holds(&self, line: u8, held: &Held) -> Result<(), Fail> {
         if line >= self.lines {
             return Err(Fail::from("no such line"));

@@ -69,7 +69,7 @@ impl Stepped {
         self.apply_all(events, false)
     }
 
-    /// An error where this isn't the state of line 0 at a node.
+    /// An error if this isn't the state of line 0 at a node.
     pub fn holds(&self, n: u8, held: &Held) -> Result<(), Fail> {
         let found = self.machine.held(n, 0);
         if found != Some(held) {
@@ -78,7 +78,7 @@ impl Stepped {
         Ok(())
     }
 
-    /// An error where this isn't the home of line 0.
+    /// An error if this isn't the home of line 0.
     pub fn home_is(&self, home: &Home) -> Result<(), Fail> {
         let found = self.machine.home(0);
         if found != Some(home) {
@@ -87,7 +87,7 @@ impl Stepped {
         Ok(())
     }
 
-    /// An error where the oldest request from one node to another isn't of this number.
+    /// An error if the oldest request from one node to another isn't of this number.
     pub fn requests(&self, from: u8, to: u8, control: u16) -> Result<(), Fail> {
         match self.machine.front(LaneKind::Requests, from, to) {
             Some(request) if request.control == control => Ok(()),
@@ -95,7 +95,7 @@ impl Stepped {
         }
     }
 
-    /// An error where this isn't the oldest answer from one node to another.
+    /// An error if this isn't the oldest answer from one node to another.
     pub fn answers(&self, from: u8, to: u8, body: Body) -> Result<(), Fail> {
         match self.machine.front(LaneKind::Answers, from, to) {
             Some(answer) if answer.body == body => Ok(()),
@@ -103,7 +103,7 @@ impl Stepped {
         }
     }
 
-    /// An error where a node's log has another number of entries.
+    /// An error if a node's log has another number of entries.
     pub fn has_entries(&self, n: u8, count: usize) -> Result<(), Fail> {
         let found = self.machine.entries(n);
         if found != count {
@@ -112,7 +112,7 @@ impl Stepped {
         Ok(())
     }
 
-    /// An error where this isn't the text of the logs and the last contents.
+    /// An error if this isn't the text of the logs and the last contents.
     pub fn logged(&self, log: &str) -> Result<(), Fail> {
         let mut wanted = Vec::new(self.alloc);
         push_lines(&mut wanted, log)?;

@@ -283,7 +283,7 @@ impl Walked {
         Ok(true)
     }
 
-    /// Ends a lane with the packet that the node's state sends. It is an error where that sends none.
+    /// Ends a lane with the packet that the node's state sends. It is an error if that sends none.
     fn send(&mut self, kind: LaneKind, from: u8, packet: Option<Packet>) -> Result<(), Fail> {
         let packet = packet.ok_or("the state sends no packet")?;
         let to = u8::try_from(packet.target.get())?;
@@ -302,7 +302,7 @@ impl Walked {
         Ok(packet)
     }
 
-    /// An error where the machine doesn't show the packets that the events have left in a lane.
+    /// An error if the machine doesn't show the packets that the events have left in a lane.
     fn shows(&self, kind: LaneKind, from: u8, to: u8) -> Result<(), Fail> {
         let lane = self.lane(kind, from, to).ok_or("there is no such lane")?;
         if self.machine.front(kind, from, to) != lane.front() {
@@ -314,7 +314,7 @@ impl Walked {
         Ok(())
     }
 
-    /// An error where the machine doesn't show the packets that the events have left in its lanes.
+    /// An error if the machine doesn't show the packets that the events have left in its lanes.
     pub fn shows_all(&self) -> Result<(), Fail> {
         for from in 0..self.extent.nodes {
             for to in 0..self.extent.nodes {

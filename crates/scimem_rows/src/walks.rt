@@ -23,7 +23,7 @@ struct Walks {
     events: u16,
 }
 
-/// An error where the audit finds the logs not lawful.
+/// An error if the audit finds the logs not lawful.
 fn audit_logs(alloc: Global, walked: &Walked) -> Result<(), Fail> {
     let text = walked.machine.text(alloc)?;
     let (nodes, logs, last) = read_logs(alloc, &mut Tap::new(text.as_slice()))?;
@@ -36,7 +36,7 @@ fn audit_logs(alloc: Global, walked: &Walked) -> Result<(), Fail> {
     }
 }
 
-/// An error where the machine shows anything that a plain look doesn't give.
+/// An error if the machine shows anything that a plain look doesn't give.
 fn compare(alloc: Global, walked: &Walked) -> Result<(), Fail> {
     walked.shows_all()?;
     let last = walked.machine.last();
@@ -113,7 +113,7 @@ fn of_size(nodes: u8, lines: u8, slots: u8, seeds: u16, events: u16) -> Walks {
     }
 }
 
-/// Fails where something happened seldom or never.
+/// Fails if something happened seldom or never.
 fn much_happened(rt: &impl Abort, counts: &Counts, operations: u64, others: u64) {
     assert!(rt; counts.loads >= operations, "{counts:?}");
     assert!(rt; counts.makers >= operations, "{counts:?}");

@@ -1,4 +1,4 @@
--- What a state would ask, with a slot where it needs one, is what the line would ask.
+-- What a state would ask, with a slot if it needs one, is what the line would ask.
 use Rattle.std.proofs.Common.{◌≡◌, ℕ, ◌&&◌, not, Bool, true, false, ◌⊎◌, inl, inr, Some, None, Ok, Option, option_map, refl, sym, ap, subst, ◌∙◌}
 use Rattle.sci_words.specs.declared.event.AskKind.{AskKind}
 use Rattle.sci_packets.specs.declared.body.Body.{Body}
