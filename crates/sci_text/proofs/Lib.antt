@@ -5,6 +5,7 @@ pub mod ScriptLimits
 pub mod ScriptReads
 pub mod ScriptFaults
 pub mod ScriptText
+pub mod LineLengths
 pub mod FirstFaults
 pub mod ScriptUnique
 pub mod Digits

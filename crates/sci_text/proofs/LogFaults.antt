@@ -24,7 +24,7 @@ use Rattle.sci_text.specs.Reading.{Gives, fitting, after, number_read}
 use Rattle.sci_text.proofs.Numbers.{fitting_below, Ends, number_again, ends_field}
 use Rattle.sci_text.proofs.Words.{after_again, after_found}
 use Rattle.sci_text.proofs.ScriptFaults.{fitting_some}
-use Rattle.sci_text.proofs.ScriptReads.{line_short, line_long}
+use Rattle.sci_text.proofs.LineLengths.{line_short, line_long}
 use Rattle.sci_text.proofs.LogReads.{SizeSaid, log_line_again, log_line_found, LastSaid, last_line_again, last_line_found, EntrySaid, EntryReads, entry_line_again, entry_line_found}
 
 -- ---- the line of the size

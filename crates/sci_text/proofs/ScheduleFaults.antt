@@ -15,7 +15,7 @@ use Rattle.sci_text.specs.ScheduleReading.{AddsEvent, event_line_read}
 use Rattle.sci_text.specs.FirstFault.{Says}
 use Rattle.sci_text.specs.ScheduleFault.{EventFault}
 use Rattle.sci_text.proofs.ScheduleReads.{EventFits, event_line_again, event_line_found}
-use Rattle.sci_text.proofs.ScriptReads.{line_short, line_long}
+use Rattle.sci_text.proofs.LineLengths.{line_short, line_long}
 
 -- ---- faults
 

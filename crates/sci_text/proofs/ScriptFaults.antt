@@ -15,7 +15,8 @@ use Rattle.sci_text.specs.FirstFault.{Says}
 use Rattle.sci_text.specs.ScriptFault.{MachineFault, OperationFault}
 use Rattle.sci_text.proofs.Numbers.{fitting_below}
 use Rattle.sci_text.proofs.Operations.{OpFits}
-use Rattle.sci_text.proofs.ScriptReads.{Sizes, machine_line_again, machine_line_found, operation_line_again, operation_line_found, line_short, line_long}
+use Rattle.sci_text.proofs.ScriptReads.{Sizes, machine_line_again, machine_line_found, operation_line_again, operation_line_found}
+use Rattle.sci_text.proofs.LineLengths.{line_short, line_long}
 
 -- ---- the line of the size
 

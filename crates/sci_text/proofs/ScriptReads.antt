@@ -1,17 +1,14 @@
 -- A line that is written is read again, and what is read as one was written so.
-use Rattle.std.proofs.Common.{◌≡◌, ℕ, ◌+◌, ◌<◌, ◌≤◌, List, [], ◌∷◌, ◌++◌, length, Option, Some, refl, sym, ap, subst, ◌∙◌, append_assoc, arith}
+use Rattle.std.proofs.Common.{◌≡◌, ℕ, ◌<◌, List, [], ◌∷◌, ◌++◌, Option, Some, refl, sym, ap, subst, ◌∙◌, append_assoc}
 use Rattle.std.specs.Prelude.{codes, option_map}
 use Rattle.std.specs.Option.{SomeIff}
-use Rattle.std.proofs.lemmas.List.{length-append}
 use Rattle.std.proofs.lemmas.Option.{some_pair_parts}
-use Rattle.sci_words.specs.declared.limits.TheConstants.{MAX_TEXT_LINE_BYTES}
 use Rattle.sci_words.specs.declared.operation.Op.{Op}
 use Rattle.sci_text.specs.Number.{field}
 use Rattle.sci_text.specs.Operation.{operation}
 use Rattle.sci_text.specs.Reading.{◌>>=◌, fitting, field_read, after, byte, operation_read}
 use Rattle.sci_text.specs.ScriptReading.{machine_line_read, operation_line_read}
 use Rattle.sci_text.specs.Script.{machine_line, operation_line}
-use Rattle.sci_text.specs.FirstFault.{IsShort}
 use Rattle.sci_text.proofs.Numbers.{field_again, ends_field, field_found}
 use Rattle.sci_text.proofs.Words.{after_again, after_found}
 use Rattle.sci_text.proofs.Operations.{byte_is, both, both_is, bind_some, OpFits, operation_again, operation_found}
@@ -94,11 +91,3 @@ operation_line_found bytes o rest e =
       subst (λ (v : Option (ℕ × Op)). SomeIff v ((n.0 < 256) × OpFits op.0) (n.0, op.0)) (ap (λ (v : Option ℕ). both (byte v) y.0.0) (sym n.2) ∙ parts.0)
           (both_is (n.0 < 256) (OpFits op.0) (byte (fitting n.0)) y.0.0 n.0 op.0 (byte_is n.0) op.2),
     )
-
--- ---- how long a line is
-
-pub line_short : (bytes line rest : List ℕ) → bytes ≡ line ++ rest → length bytes ≤ length rest + MAX_TEXT_LINE_BYTES + 1 → IsShort line
-line_short bytes line rest e short = omega (arith, ap length e, length-append line rest)
-
-pub line_long : (bytes line rest : List ℕ) → bytes ≡ line ++ rest → length rest + MAX_TEXT_LINE_BYTES + 1 < length bytes → IsShort line → ⊥
-line_long bytes line rest e long short = absurd (omega (arith, ap length e, length-append line rest))

@@ -1,8 +1,6 @@
--- What the readers of logs' lines answer: what is read, and the bytes after it; and what comes of a line that was read.
--- No public contract rests on these words: they are what the private readers answer, and laws in proofs/ join them to the
--- texts.
-use Rattle.std.specs.Prelude.{◌≡◌, ℕ, ◌^◌, List, [], ◌∷◌, Option, Some, None, option_map, nat_lt, if◌then◌else◌}
-use Rattle.std.specs.Prelude.{codes}
+-- What the private readers of logs' lines answer: what is read, and the bytes after it; and what comes of a line that
+-- was read. No public contract rests on these words; laws in proofs/ join them to the texts.
+use Rattle.std.specs.Prelude.{◌≡◌, ℕ, ◌<◌, ◌≤◌, ◌^◌, List, [], ◌∷◌, ◌++◌, length, codes, Option, Some, None, option_map, replicate, slice_set, nat_lt, if◌then◌else◌}
 use Rattle.sci_words.specs.declared.operation.Op.{Op}
 use Rattle.sci_words.specs.declared.operation.Reply.{Reply}
 use Rattle.sci_words.specs.declared.operation.Reply.TheVariants.{Stored, Got}
@@ -10,7 +8,6 @@ use Rattle.sci_words.specs.declared.stamped.Stamped.{Stamped}
 use Rattle.sci_history.specs.declared.entry.Entry.{Entry}
 use Rattle.sci_text.specs.declared.operation.Command.{Command}
 use Rattle.sci_text.specs.declared.operation.Command.TheVariants as commands
-use Rattle.std.specs.Prelude.{◌≡◌, ℕ, ◌<◌, ◌≤◌, ◌^◌, List, [], ◌∷◌, ◌++◌, length, codes, Option, Some, None, replicate, slice_set}
 use Rattle.sci_words.specs.declared.limits.TheConstants.{MAX_NODES, MAX_LINES, WORDS_PER_LINE}
 use Rattle.sci_history.specs.Placed.{log_of}
 use Rattle.sci_text.specs.declared.fault.TextFault.{TextFault}

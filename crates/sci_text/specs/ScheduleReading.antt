@@ -1,6 +1,5 @@
--- What the private readers of events answer, step by step from left to right: what is read, and the bytes after it.
--- No public contract rests on these words: they are what the private readers answer, and laws in proofs/ join them to the
--- texts.
+-- What the private readers of events answer, step by step from left to right: what is read, and the bytes after it. No
+-- public contract rests on these words; laws in proofs/ join them to the texts.
 use Rattle.std.specs.Prelude.{◌≡◌, ℕ, List, [], ◌∷◌, ◌++◌, Option, Some, option_map, codes}
 use Rattle.sci_words.specs.declared.event.AskKind.{AskKind}
 use Rattle.sci_words.specs.declared.event.AskKind.TheVariants.{Mread, Fread, Cread, Claim, Clear, Purge, Roll, Wback, Setback}

@@ -1,6 +1,5 @@
--- What the readers of scripts' lines answer: what is read, and the bytes after it.
--- No public contract rests on these words: they are what the private readers answer, and laws in proofs/ join them to the
--- texts.
+-- What the private readers of scripts' lines answer: what is read, and the bytes after it. No public contract rests on
+-- these words; laws in proofs/ join them to the texts.
 use Rattle.std.specs.Prelude.{◌≡◌, ℕ, List, [], ◌∷◌, ◌++◌, Option, Some, option_map, codes}
 use Rattle.sci_words.specs.declared.operation.Op.{Op}
 use Rattle.sci_text.specs.Reading.{◌>>=◌, field_read, after, byte, operation_read}

@@ -1,4 +1,4 @@
-//! Texts of scripts and logs: their grammar, and a reader that tells the first fault.
+//! Texts of scripts, schedules and logs: their grammar, readers that tell the first fault, and writers.
 #![tactic(auto)]
 
 mod fault;

@@ -1,6 +1,6 @@
 use Rattle.std.proofs.lemmas.Result.{err_from_is_err_and}
 use Rattle.sci_text.proofs.ScriptFaults.{machine_none, machine_long, machine_range, machine_ok}
-use Rattle.sci_text.proofs.ScriptReads.{line_short}
+use Rattle.sci_text.proofs.LineLengths.{line_short}
 use Rattle.sci_text.specs.Script.{machine_line}
 use Rattle.sci_text.proofs.script_lines.machine.Goals as goal
 
