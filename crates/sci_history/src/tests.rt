@@ -92,7 +92,7 @@ fn a_log_has_room_for_so_many_entries(rt: HostRuntime) {
     assert_eq!(rt; logs.of(2).len(), 0);
 }
 
-// Where an allocation is refused, as by `rt try --test --fail-alloc N`, the push says so and no log changes.
+// If an allocation is refused, as by `rt try --test --fail-alloc N`, the push says so and no log changes.
 #[test]
 fn a_refused_push_changes_no_log(rt: HostRuntime) {
     let mut logs = Logs::new(rt.alloc());

@@ -121,7 +121,7 @@ pub fn decode(bytes: &[u8]) -> Result<(Packet, usize), PacketFault>
     ensures found { IfOk result (λ found. Spells found.0 (take found.1 bytes.now)) }
     ensures length { IfOk result (λ found. found.1 ≤ length bytes.now) }
 
-    // Where the first bytes spell a packet, that is the answer.
+    // If the first bytes spell a packet, that is the answer.
     ensures only { (p : Packet) (k : ℕ) → k ≤ length bytes.now → Spells p (take k bytes.now) → result ≡ Ok (p, k) }
 
     // It is refused exactly if they spell none, with the first fault.

@@ -37,7 +37,7 @@ pub fn from_words(words: &[u64]) -> Result<(Packet, usize), PacketFault>
     ensures found { IfOk result (λ found. SpellsInWords found.0 (take found.1 words.now)) }
     ensures length { IfOk result (λ found. found.1 ≤ length words.now) }
 
-    // Where the first words are those of a packet, that is the answer.
+    // If the first words are those of a packet, that is the answer.
     ensures only { (p : Packet) (k : ℕ) → k ≤ length words.now → SpellsInWords p (take k words.now) → result ≡ Ok (p, k) }
 
     // It is refused exactly if they are those of none, with the first fault.

@@ -49,7 +49,7 @@ fn compare(alloc: Global, walked: &Walked) -> Result<(), Fail> {
     audit_logs(alloc, walked)
 }
 
-/// One event of a walk. Where a plain look finds an event enabled, it must be.
+/// One event of a walk. If a plain look finds an event enabled, it must be.
 fn step(random: &mut Random, walked: &mut Walked) -> Result<(), Fail> {
     if random.once_in(16) {
         let event = any_event(random, walked);
