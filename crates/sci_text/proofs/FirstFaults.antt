@@ -6,7 +6,7 @@ use Rattle.std.specs.List.{flat_map, AllByRecursion}
 use Rattle.sci_text.specs.declared.fault.TextFault.{TextFault}
 use Rattle.sci_text.specs.declared.fault.TextFaultKind.{TextFaultKind}
 use Rattle.sci_text.specs.declared.fault.TextFaultKind.TheVariants.{Syntax, Range, TooMany, Read, Write, Memory}
-use Rattle.sci_text.specs.FirstFault.{LineFault, FaultAfter, IsFirstFault, told_line, IsRefusalOf, IsRefusal, IsReadAs}
+use Rattle.sci_text.specs.FirstFault.{LineFault, FaultAfter, IsFirstFault, told_line, IsToldAt, IsRefusalOf, IsRefusal, IsReadAs}
 
 -- ---- one line
 
@@ -131,11 +131,6 @@ line_fault_is says fits is_full Read f = f
 line_fault_is says fits is_full Write f = f
 line_fault_is says fits is_full Memory f = f
 
--- a fault is told of this line
-pub record IsAt (fault : TextFault) (line : ℕ) (kind : TextFaultKind) : Type 0 where
-  pub kind_is : fault.kind ≡ kind
-  pub line_is : fault.line ≡ told_line line kind
-
 refusal_of : (is_first : List ℕ → ℕ → TextFaultKind → Type 0) (kind : TextFaultKind) (input : List ℕ) (line : ℕ) → (kind ≡ Memory) ⊎ (IsOfLine kind × is_first input line kind) → IsRefusalOf is_first kind input (told_line line kind)
 refusal_of is_first Syntax input line (inl e) = absurd cc
 refusal_of is_first Range input line (inl e) = absurd cc
@@ -150,9 +145,9 @@ refusal_of is_first Write input line (inr first) = first.0
 refusal_of is_first Memory input line told = refl
 
 -- the first fault is told, or that memory was refused
-pub told_at : (is_first : List ℕ → ℕ → TextFaultKind → Type 0) (kind : TextFaultKind) (input : List ℕ) (fault : TextFault) (line : ℕ) → IsAt fault line kind → (kind ≡ Memory) ⊎ (IsOfLine kind × is_first input line kind) → IsRefusal is_first input fault
+pub told_at : (is_first : List ℕ → ℕ → TextFaultKind → Type 0) (kind : TextFaultKind) (input : List ℕ) (fault : TextFault) (line : ℕ) → IsToldAt line kind fault → (kind ≡ Memory) ⊎ (IsOfLine kind × is_first input line kind) → IsRefusal is_first input fault
 told_at is_first kind input fault line at found =
-    subst (λ k. IsRefusalOf is_first k input fault.line) (sym at.kind_is) (subst (λ l. IsRefusalOf is_first kind input l) (sym at.line_is) (refusal_of is_first kind input line found))
+    subst (λ k. IsRefusalOf is_first k input fault.line) (sym at.0) (subst (λ l. IsRefusalOf is_first kind input l) (sym at.1) (refusal_of is_first kind input line found))
 
 -- ---- what comes of a text in memory
 

@@ -6,6 +6,7 @@ pub mod ScriptReads
 pub mod ScriptFaults
 pub mod ScriptText
 pub mod LineLengths
+pub mod Results
 pub mod FirstFaults
 pub mod ScriptUnique
 pub mod Digits

@@ -15,13 +15,13 @@ use Rattle.sci_text.specs.declared.log_form.Form.{Form}
 use Rattle.sci_text.specs.declared.fault.TextFault.{TextFault}
 use Rattle.sci_text.specs.declared.fault.TextFaultKind.{TextFaultKind}
 use Rattle.sci_text.specs.declared.fault.TextFaultKind.TheVariants.{Syntax, Memory}
-use Rattle.sci_text.specs.FirstFault.{IsRefusal}
+use Rattle.sci_text.specs.FirstFault.{IsRefusal, IsToldAt}
 use Rattle.sci_text.specs.Number.{number, field}
 use Rattle.sci_text.specs.Log.{last_line, last_lines, issue_text, entry_line, entry_lines}
 use Rattle.sci_text.specs.LogValue.{StampedFits, EntryFits, Front, front_of, IsFront, IsForm, HasAllLines, HasRoom, HasNoExtra, first_line, front_text, entry_count, BeginsLog}
 use Rattle.sci_text.specs.LogFault.{first_lines, SaysNext, NextFits, HasNoRoomFor, LogLineFault, IsLogFault}
 use Rattle.sci_text.specs.LogReading.{BeginsLast, NoLast, IsRefusalAfter, AddsLast, AddsEntry, IsLatest, no_logs}
-use Rattle.sci_text.proofs.FirstFaults.{IsAt, line_fault_is, told_at}
+use Rattle.sci_text.proofs.FirstFaults.{line_fault_is, told_at}
 use Rattle.sci_text.proofs.LogFaults.{neither}
 
 -- ---- `last` lines
@@ -97,7 +97,7 @@ last_front_more form old new bytes rest h a = rw a.added (record {
 
 -- ---- faults
 
-refusal_at : (kind : TextFaultKind) (input : List ℕ) (fault : TextFault) (line : ℕ) (front : Front) (rest : List ℕ) → IsAt fault line kind → IsFront front → input ≡ front_text front ++ rest → (front.form.lines ≡ None → BeginsLog input → ⊥)
+refusal_at : (kind : TextFaultKind) (input : List ℕ) (fault : TextFault) (line : ℕ) (front : Front) (rest : List ℕ) → IsToldAt line kind fault → IsFront front → input ≡ front_text front ++ rest → (front.form.lines ≡ None → BeginsLog input → ⊥)
     → (0 < length rest) ⊎ (HasAllLines front.form.lines (length front.last) → ⊥) → line ≡ first_lines front.form.lines + length front.last + entry_count front.logs + 1 → (kind ≡ Memory) ⊎ LogLineFault front rest kind → IsRefusal IsLogFault input fault
 refusal_at kind input fault line front rest at good parts first goes_on place faulty =
     told_at IsLogFault kind input fault line at (elim faulty [
@@ -110,7 +110,7 @@ refusal_at kind input fault line front rest at good parts first goes_on place fa
     ])
 
 -- a faulty `last` line
-pub last_refused : (form : Form) (last : List Stamped) (bytes rest : List ℕ) (kind : TextFaultKind) (line : ℕ) (fault : TextFault) → IsForm form → IsFrontOf form last → bytes ≡ last_lines 0 last ++ rest → BeginsLast rest → IsAt fault line kind
+pub last_refused : (form : Form) (last : List Stamped) (bytes rest : List ℕ) (kind : TextFaultKind) (line : ℕ) (fault : TextFault) → IsForm form → IsFrontOf form last → bytes ≡ last_lines 0 last ++ rest → BeginsLast rest → IsToldAt line kind fault
     → (kind ≡ Memory) ⊎ LogLineFault (front_of form last no_logs) rest kind → line ≡ first_lines form.lines + length last + 1 → IsRefusalAfter form bytes fault
 last_refused form last bytes rest kind line fault good h parts begins at faulty place = λ input is first.
     let front = front_of form last no_logs in
@@ -127,7 +127,7 @@ no_last_here front bytes no_more = λ line stamped h. no_more (subst BeginsLast 
 
 -- too few `last` lines
 pub few_refused : (form : Form) (last : List Stamped) (bytes rest : List ℕ) (line : ℕ) (fault : TextFault) → IsForm form → IsFrontOf form last → bytes ≡ last_lines 0 last ++ rest → (BeginsLast rest → ⊥) → (HasAllLines form.lines (length last) → ⊥)
-    → IsAt fault line Syntax → line ≡ first_lines form.lines + length last + 1 → IsRefusalAfter form bytes fault
+    → IsToldAt line Syntax fault → line ≡ first_lines form.lines + length last + 1 → IsRefusalAfter form bytes fault
 few_refused form last bytes rest line fault good h parts no_more few at place = λ input is first.
     let front = front_of form last no_logs in
     let whole : input ≡ front_text front ++ rest = is ∙ ap (λ (t : List ℕ). first_line form ++ t) parts ∙ simp (append_assoc, append-nil) in
@@ -238,7 +238,7 @@ pub count_more : (form : Form) (last : List Stamped) (old new : List (List Entry
 count_more form last old new latest now bytes rest h a = ap entry_count a.added ∙ entry_count-push old a.entry.node a.entry (few_below form last old a.entry h a.fits)
 
 -- a faulty entry
-pub entry_refused : (form : Form) (last : List Stamped) (logs : List (List Entry)) (bytes rest : List ℕ) (kind : TextFaultKind) (line : ℕ) (fault : TextFault) → IsFront (front_of form last logs) → bytes ≡ entry_lines logs ++ rest → 0 < length rest → IsAt fault line kind
+pub entry_refused : (form : Form) (last : List Stamped) (logs : List (List Entry)) (bytes rest : List ℕ) (kind : TextFaultKind) (line : ℕ) (fault : TextFault) → IsFront (front_of form last logs) → bytes ≡ entry_lines logs ++ rest → 0 < length rest → IsToldAt line kind fault
     → (kind ≡ Memory) ⊎ LogLineFault (front_of form last logs) rest kind → line ≡ first_lines form.lines + length last + entry_count logs + 1 → IsRefusalAfter form (last_lines 0 last ++ bytes) fault
 entry_refused form last logs bytes rest kind line fault good parts some at faulty place = λ input is first.
     let front = front_of form last logs in

@@ -3,17 +3,20 @@ use Rattle.std.proofs.Common.{◌≡◌, ℕ, ◌+◌, ◌<◌, ◌≤◌, List,
 use Rattle.std.proofs.lemmas.List.{append-nil, length-append}
 use Rattle.std.proofs.lemmas.List.Concat.{flat_map-append}
 use Rattle.std.proofs.lemmas.Option.{none-some, some_pair_parts}
-use Rattle.sci_words.specs.declared.limits.TheConstants.{MAX_TEXT_LINE_BYTES}
+use Rattle.sci_words.specs.declared.limits.TheConstants.{MAX_EVENTS, MAX_TEXT_LINE_BYTES}
 use Rattle.sci_words.specs.declared.event.Event.{Event}
 use Rattle.sci_words.specs.declared.event.Event.TheVariants.{Issue, Perform, Ask, Serve, Refuse, Reply, Accept}
+use Rattle.sci_text.specs.declared.fault.TextFault.{TextFault}
+use Rattle.sci_text.specs.declared.fault.TextFaultKind.{TextFaultKind}
 use Rattle.sci_text.specs.declared.fault.TextFaultKind.TheVariants.{Syntax, Range, Memory}
 use Rattle.sci_text.specs.declared.script.PushFault.{PushFault}
 use Rattle.sci_text.specs.declared.script.PushFault.TheVariants as push
 use Rattle.sci_text.specs.Script.{kind_of, machine_line}
 use Rattle.sci_text.specs.Schedule.{ScheduleValue, IsSchedule, IsEventWithin, EventRefusal, with_event, event_line, event_lines, schedule_text}
 use Rattle.sci_text.specs.ScheduleReading.{AddsEvent, event_line_read}
-use Rattle.sci_text.specs.FirstFault.{Says}
-use Rattle.sci_text.specs.ScheduleFault.{EventFault}
+use Rattle.sci_text.specs.FirstFault.{Says, IsToldAt, IsRefusal}
+use Rattle.sci_text.specs.ScheduleFault.{EventFault, IsScheduleFault}
+use Rattle.sci_text.proofs.FirstFaults.{line_fault_is, told_at}
 use Rattle.sci_text.proofs.ScheduleReads.{EventFits, event_line_again, event_line_found}
 use Rattle.sci_text.proofs.LineLengths.{line_short, line_long}
 
@@ -69,6 +72,19 @@ pub event_refused : (s : ScheduleValue) (bytes rest : List ℕ) (event : Event) 
 event_refused s bytes rest event fault e short refused =
     let parts = said_is bytes rest event e in
     refused_says s bytes event fault (record { rest = rest; parts = parts; short = line_short bytes (event_line event) rest parts short }) refused
+
+-- a faulty line behind the text of a schedule is the first
+pub event_told : (s : ScheduleValue) (input rest : List ℕ) (kind : TextFaultKind) (line : ℕ) (fault : TextFault) → IsSchedule s → input ≡ schedule_text s ++ rest → 0 < length rest → line ≡ length s.events + 2
+    → IsToldAt line kind fault → (kind ≡ Memory) ⊎ EventFault s rest kind → IsRefusal IsScheduleFault input fault
+event_told s input rest kind line fault good parts some place at faulty =
+    told_at IsScheduleFault kind input fault line at (elim faulty [
+      | inl memory ↦ inl memory
+      | inr wrong ↦
+          inr (
+            line_fault_is (λ event. Says rest (event_line event)) (IsEventWithin s.nodes s.lines) (λ event. MAX_EVENTS ≤ length s.events) kind wrong,
+            inr (record { before = s; rest = rest; right = (good, parts); more = some; place = omega arith; wrong = wrong }),
+          )
+    ])
 
 -- ---- the text so far
 

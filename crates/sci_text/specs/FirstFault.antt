@@ -53,6 +53,10 @@ told_line line Read = line
 told_line line Write = line
 told_line line Memory = 0
 
+-- the fault is of this kind, and told of this line
+abbrev pub IsToldAt : ℕ → TextFaultKind → TextFault → Type 0
+IsToldAt line kind fault = (fault.kind ≡ kind) × (fault.line ≡ told_line line kind)
+
 -- why bytes in memory are refused: they have a faulty line, or memory was refused
 abbrev pub IsRefusalOf : (List ℕ → ℕ → TextFaultKind → Type 0) → TextFaultKind → List ℕ → ℕ → Type 0
 IsRefusalOf is_first Syntax input line = is_first input line Syntax

@@ -1,6 +1,8 @@
 //! Why a text is refused, or couldn't be read or written.
 
-ghost use Rattle.std.specs.Prelude.{◌≡◌};
+ghost use Rattle.std.specs.Prelude.{◌≡◌, Ok};
+ghost use Rattle.std.specs.Result.{IsErrAnd, MatchResult};
+ghost use Rattle.sci_text.specs.FirstFault.{IsToldAt};
 
 use std::alloc::AllocError;
 
@@ -65,5 +67,15 @@ impl TextFault {
             TextFaultKind::Memory => TextFault::of_input(kind),
             _ => TextFault { line, kind },
         }
+    }
+}
+
+/// What came of a line: its fault is told of this line, or of the whole input if it is Memory.
+pub fn at_line<T: Drop>(line: usize, read: Result<T, TextFaultKind>) -> Result<T, TextFault>
+    ensures { MatchResult read (λ x. result ≡ Ok x) (λ kind. IsErrAnd result (IsToldAt line kind)) }
+{
+    match read {
+        Ok(value) => Ok(value),
+        Err(kind) => Err(TextFault::at(line, kind)),
     }
 }

@@ -10,7 +10,7 @@ ghost use Rattle.sci_text.specs.LogReading.{AddsEntry, AddsLast, BeginsLast, IsL
 ghost use Rattle.sci_text.specs.LogValue.{AreLogs, HasAllLines, IsForm, IsFront, IsLogs, front_of};
 ghost use Rattle.sci_text.specs.LogFault.{IsLogFault, LogLineFault};
 
-use crate::fault::{TextFault, TextFaultKind};
+use crate::fault::{TextFault, TextFaultKind, at_line};
 use crate::line_length::check_length;
 use crate::log_entry::{entry_line, last_line};
 use crate::log_form::{Form, form_of};
@@ -95,10 +95,7 @@ fn contents<'a>(
     let mut rest = bytes;
     while after(rest, b"last").is_some() {
         let line = form.first_lines() + last.len() + 1;
-        match push_last(form, &mut last, rest) {
-            Ok(more) => rest = more,
-            Err(kind) => return Err(TextFault::at(line, kind)),
-        }
+        rest = at_line(line, push_last(form, &mut last, rest))?;
     }
     if !form.has_all_lines(last.len()) {
         let line = form.first_lines() + last.len() + 1;
@@ -163,14 +160,8 @@ fn entries(alloc: Global, form: &Form, last: &[Stamped], bytes: &[u8]) -> Result
     let mut line = form.first_lines() + last.len() + 1;
     let mut rest = bytes;
     while !rest.is_empty() {
-        match push_entry(form, last, &mut logs, latest, rest) {
-            Ok((node, more)) => {
-                latest = node;
-                rest = more;
-                line += 1;
-            }
-            Err(kind) => return Err(TextFault::at(line, kind)),
-        }
+        (latest, rest) = at_line(line, push_entry(form, last, &mut logs, latest, rest))?;
+        line += 1;
     }
     Ok(logs)
 }
@@ -195,7 +186,7 @@ pub fn logs(alloc: Global, input: &[u8]) -> Result<(u8, Logs, Last), TextFault>
     ensures good { IfOk result (λ x. AreLogs x.0 x.1 x.2) }
     ensures fault { IfErr result (IsRefusal IsLogFault input.now) }
 {
-    let (form, rest) = form_of(input).map_err(|kind| TextFault::at(1, kind))?;
+    let (form, rest) = at_line(1, form_of(input))?;
     let (contents, rest) = contents(alloc, &form, rest)?;
     let logs = entries(alloc, &form, &contents, rest)?;
     Ok((form.nodes, logs, last_of(&contents)))

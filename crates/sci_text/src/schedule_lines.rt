@@ -7,7 +7,7 @@ ghost use Rattle.sci_text.specs.ScheduleReading.{AddsEvent};
 ghost use Rattle.sci_text.specs.FirstFault.{IsRefusal};
 ghost use Rattle.sci_text.specs.ScheduleFault.{EventFault, IsScheduleFault};
 
-use crate::fault::{TextFault, TextFaultKind};
+use crate::fault::{TextFault, TextFaultKind, at_line};
 use crate::line_length::check_length;
 use crate::schedule::Schedule;
 use crate::schedule_event::event_line;
@@ -40,14 +40,11 @@ pub fn schedule(alloc: Global, input: &[u8]) -> Result<Schedule, TextFault>
     ensures good { IfOk result IsSchedule }
     ensures fault { IfErr result (IsRefusal IsScheduleFault input.now) }
 {
-    let (extent, mut rest) = machine(input).map_err(|kind| TextFault::at(1, kind))?;
+    let (extent, mut rest) = at_line(1, machine(input))?;
     let mut schedule = Schedule::new(alloc, extent);
     while !rest.is_empty() {
         let line = schedule.events().len() + 2;
-        match push_event(&mut schedule, rest) {
-            Ok(after) => rest = after,
-            Err(kind) => return Err(TextFault::at(line, kind)),
-        }
+        rest = at_line(line, push_event(&mut schedule, rest))?;
     }
     Ok(schedule)
 }

@@ -11,7 +11,7 @@ ghost use Rattle.sci_text.specs.FirstFault.{IsShort};
 ghost use Rattle.sci_text.specs.FirstFault.{IsRefusal};
 ghost use Rattle.sci_text.specs.ScriptFault.{IsScriptFault, MachineFault, OperationFault};
 
-use crate::fault::{TextFault, TextFaultKind};
+use crate::fault::{TextFault, TextFaultKind, at_line};
 use crate::line_length::check_length;
 use crate::number::{Number, field};
 use crate::operation::{after, byte, operation};
@@ -100,14 +100,11 @@ pub fn script(alloc: Global, input: &[u8]) -> Result<Script, TextFault>
     ensures good { IfOk result IsScript }
     ensures fault { IfErr result (IsRefusal IsScriptFault input.now) }
 {
-    let (extent, mut rest) = machine(input).map_err(|kind| TextFault::at(1, kind))?;
+    let (extent, mut rest) = at_line(1, machine(input))?;
     let mut script = Script::new(alloc, extent);
     while !rest.is_empty() {
         let line = script.operations().len() + 2;
-        match push_line(&mut script, rest) {
-            Ok(after) => rest = after,
-            Err(kind) => return Err(TextFault::at(line, kind)),
-        }
+        rest = at_line(line, push_line(&mut script, rest))?;
     }
     Ok(script)
 }
