@@ -80,10 +80,6 @@ front_of_last form last good h = record {
   few_entries = λ node. let none = no_log node in omega (arith, ap length none);
 }
 
-none_extra : (lines : Option ℕ) → HasNoExtra lines 0
-none_extra None = tt
-none_extra (Some lines) = omega arith
-
 one_more : (lines : Option ℕ) (old new : ℕ) → HasRoom lines old → new ≡ old + 1 → HasNoExtra lines new
 one_more None old new room more = tt
 one_more (Some lines) old new room more = omega arith

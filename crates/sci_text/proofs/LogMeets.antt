@@ -2,11 +2,10 @@
 use Rattle.std.proofs.Common.{◌≡◌, ℕ, zero, suc, ◌+◌, ◌<◌, ◌≤◌, ◌^◌, List, [], ◌∷◌, ◌++◌, length, Option, Some, None, refl, sym, ap, subst, ◌∙◌, append_assoc, arith, inl, inr, ◌⊎◌}
 use Rattle.std.specs.Prelude.{codes, All}
 use Rattle.std.specs.List.{flat_map, filter, AllByRecursion}
-use Rattle.std.specs.Option.{SomeIff}
 use Rattle.std.proofs.lemmas.Bool.{eq-eqb}
 use Rattle.std.proofs.lemmas.List.{append-nil, length-append}
 use Rattle.std.proofs.lemmas.List.Elements.{recursion_from_All, filter-append}
-use Rattle.std.proofs.lemmas.Option.{some_pair_parts, same_Some}
+use Rattle.std.proofs.lemmas.Option.{some_pair_parts}
 use Rattle.sci_words.specs.declared.limits.TheConstants.{MAX_NODES, MAX_LINES}
 use Rattle.sci_words.specs.declared.stamped.Stamped.{Stamped}
 use Rattle.sci_history.specs.declared.entry.Entry.{Entry}
@@ -85,7 +84,7 @@ meet_entries (x ∷ xs) (y ∷ ys) r t good other e =
     let b = entry_line_again y (flat_map entry_line ys ++ t) other.0.0 in
     let grouped = sym (append_assoc (entry_line x) (flat_map entry_line xs) r) ∙ e ∙ append_assoc (entry_line y) (flat_map entry_line ys) t in
     let parts = some_pair_parts {A = EntrySaid} (fitting x.node, a.0) (fitting y.node, b.0) (flat_map entry_line xs ++ r) (flat_map entry_line ys ++ t) (sym a.1 ∙ (ap entry_line_read grouped ∙ b.1)) in
-    let first = both_same a.0 b.0 (EntryReads x) (EntryReads y) x y good.0.1 other.0.1 a.2 b.2 (ap (λ (t : EntrySaid). t.1) parts.0) in
+    let first = both_same a.0 b.0 (EntryReads x) (EntryReads y) x y good.0.1 a.2 b.2 (ap (λ (t : EntrySaid). t.1) parts.0) in
     elim (meet_entries xs ys r t good.1 other.1 parts.1) [
       | inl m ↦ inl (record { more = m.more; parts = ap (λ (s : Entry). s ∷ xs) first ∙ ap (λ (l : List Entry). y ∷ l) m.parts; left = m.left })
       | inr m ↦ inr (record { more = m.more; parts = ap (λ (s : Entry). s ∷ ys) (sym first) ∙ ap (λ (l : List Entry). x ∷ l) m.parts; left = m.left })
@@ -93,17 +92,12 @@ meet_entries (x ∷ xs) (y ∷ ys) r t good other e =
 
 -- ---- a line says one thing
 
-both_fit : {A : Type 0} (o p : Option A) (P Q : Type 0) (x y : A) → P → SomeIff o P x → SomeIff p Q y → o ≡ p → x ≡ y
-both_fit None p P Q x y h a b e = absurd (a h)
-both_fit (Some w) None P Q x y h a b e = absurd cc
-both_fit (Some w) (Some z) P Q x y h a b e = sym a.1 ∙ same_Some w z e ∙ b.1
-
 last_is : (front : Front) (bytes : List ℕ) (x y : ℕ × Stamped) → SaysLast front bytes x.0 x.1 → StampedFits x.1 → SaysLast front bytes y.0 y.1 → x ≡ y
 last_is front bytes x y said fits other =
     let a = last_line_again x.0 x.1 said.says.rest said.eight in
     let b = last_line_again y.0 y.1 other.says.rest other.eight in
     let parts = some_pair_parts {A = LastSaid} (fitting x.0, a.0) (fitting y.0, b.0) said.says.rest other.says.rest (sym a.1 ∙ (ap last_line_read (sym said.says.parts ∙ other.says.parts) ∙ b.1)) in
-    let same : x.1 ≡ y.1 = both_fit a.0 b.0 (StampedFits x.1) (StampedFits y.1) x.1 y.1 fits a.2 b.2 (ap (λ (t : LastSaid). t.1) parts.0) in
+    let same : x.1 ≡ y.1 = both_same a.0 b.0 (StampedFits x.1) (StampedFits y.1) x.1 y.1 fits a.2 b.2 (ap (λ (t : LastSaid). t.1) parts.0) in
     ap (λ (n : ℕ). (n, x.1)) (said.place.next ∙ sym other.place.next) ∙ ap (λ (s : Stamped). (y.0, s)) same
 
 entry_is : (front : Front) (bytes : List ℕ) (entry other : Entry) → SaysEntry front bytes entry → EntryReads entry → SaysEntry front bytes other → entry ≡ other
@@ -111,7 +105,7 @@ entry_is front bytes entry other said reads also =
     let a = entry_line_again entry said.says.rest said.answers in
     let b = entry_line_again other also.says.rest also.answers in
     let parts = some_pair_parts {A = EntrySaid} (fitting entry.node, a.0) (fitting other.node, b.0) said.says.rest also.says.rest (sym a.1 ∙ (ap entry_line_read (sym said.says.parts ∙ also.says.parts) ∙ b.1)) in
-    both_fit a.0 b.0 (EntryReads entry) (EntryReads other) entry other reads a.2 b.2 (ap (λ (t : EntrySaid). t.1) parts.0)
+    both_same a.0 b.0 (EntryReads entry) (EntryReads other) entry other reads a.2 b.2 (ap (λ (t : EntrySaid). t.1) parts.0)
 
 not_both : (front : Front) (bytes : List ℕ) (line : ℕ) (stamped : Stamped) (entry : Entry) → SaysLast front bytes line stamped → SaysEntry front bytes entry → ⊥
 not_both front bytes line stamped entry last said = entry_not_last entry said.says.rest (subst BeginsLast (sym last.says.parts ∙ said.says.parts) (last_begins line stamped last.says.rest))

@@ -49,15 +49,30 @@ grammar one own = record {
   meets = log_meets one own;
 }
 
+-- the input is the lines of a front, and nothing else
+whole_text : (input : List ℕ) (nodes : ℕ) (logs : List (List Entry)) (last : List Stamped) → (h : IsLogs input nodes logs last) → BeginsFront input (front_of h.0 last logs) []
+whole_text input nodes logs last h = record { good = h.1.good; parts = h.2 ∙ sym (append-nil (front_text (front_of h.0 last logs))); first = whole_first h.0 last logs input h.1.good.form h.1.whole h.2 }
+
+pub one_log : OnePartition → OwnEntries → (input : List ℕ) (n m : ℕ) (a b : List (List Entry)) (x y : List Stamped) → IsLogs input n a x → IsLogs input m b y → (n ≡ m) × (a ≡ b) × (x ≡ y)
+one_log one own input n m a b x y h k =
+    elim (log_meets one own input (front_of h.0 x a) (front_of k.0 y b) [] [] (whole_text input n a x h) (whole_text input m b y k)) [
+      | inl same ↦ (sym h.1.nodes_is ∙ ap (λ (f : Front). f.form.nodes) same.0 ∙ k.1.nodes_is, ap (λ (f : Front). f.logs) same.0, ap (λ (f : Front). f.last) same.0)
+      | inr goes ↦
+          elim goes [
+            | inl right ↦ absurd (none_behind right.some)
+            | inr right ↦ absurd (none_behind right.some)
+          ]
+    ]
+  where
+    none_behind : 0 < length {A = ℕ} [] → ⊥
+    none_behind some = absurd (omega arith)
+
 pub one_log_fault : OnePartition → OwnEntries → (input : List ℕ) (l m : ℕ) (k j : TextFaultKind) → IsLogFault input l k → IsLogFault input m j → (l ≡ m) × (k ≡ j)
 one_log_fault one own input l m k j f g = one_first_fault SizeFault BeginsFront GoesOn line_count LogLineFault (grammar one own) input l m k j f g
 
 pub no_log_fault : OnePartition → OwnEntries → (input : List ℕ) (nodes : ℕ) (logs : List (List Entry)) (last : List Stamped) (line : ℕ) (kind : TextFaultKind) → IsLogs input nodes logs last → IsLogFault input line kind → ⊥
 no_log_fault one own input nodes logs last line kind h fault =
-    let f = h.0 in
-    let front = front_of f last logs in
-    let right : BeginsFront input front [] = record { good = h.1.good; parts = h.2 ∙ sym (append-nil (front_text front)); first = whole_first f last logs input h.1.good.form h.1.whole h.2 } in
-    no_first_fault SizeFault BeginsFront GoesOn line_count LogLineFault (grammar one own) input front right (ended f last h.1.whole) line kind fault
+    no_first_fault SizeFault BeginsFront GoesOn line_count LogLineFault (grammar one own) input (front_of h.0 last logs) (whole_text input nodes logs last h) (ended h.0 last h.1.whole) line kind fault
   where
     ended : (f : Form) (last : List Stamped) → HasAllLines f.lines (length last) → (0 < length {A = ℕ} []) ⊎ (HasAllLines f.lines (length last) → ⊥) → ⊥
     ended f last whole (inl some) = absurd (omega arith)

@@ -1,5 +1,5 @@
 -- A line of a log that is written is read again, and what is read as one was written so.
-use Rattle.std.proofs.Common.{◌≡◌, ℕ, suc, ◌^◌, ◌<◌, ◌≤◌, List, [], ◌∷◌, ◌++◌, length, Option, Some, None, refl, sym, ap, subst, ◌∙◌, append_assoc, arith, inl, inr}
+use Rattle.std.proofs.Common.{◌≡◌, ℕ, ◌^◌, ◌<◌, ◌≤◌, List, [], ◌∷◌, ◌++◌, length, Option, Some, None, refl, sym, ap, subst, ◌∙◌, append_assoc, arith, inl, inr}
 use Rattle.std.specs.Prelude.{codes, option_map}
 use Rattle.std.specs.List.{flat_map, AllByRecursion}
 use Rattle.std.specs.Option.{SomeIff}
@@ -99,9 +99,6 @@ words_again a b c d rest ends =
 -- what is read as these words
 abbrev ReadWords : List ℕ → List ℕ → Option (Option (List ℕ) × List ℕ) → Type 0
 ReadWords words rest read = (o : Option (List ℕ)) × (read ≡ Some (o, rest)) × SomeIff o (AreWords words) words
-
-eight_long : (n : ℕ) → suc (suc (suc (suc (suc (suc (suc (suc (suc n)))))))) ≡ 8 → ⊥
-eight_long n e = absurd (omega arith)
 
 eight_words_again : (words : List ℕ) (rest : List ℕ) → length words ≡ 8 → Ends rest → ReadWords words rest (words_read (flat_map field words ++ rest))
 eight_words_again [] rest e ends = absurd (omega arith)

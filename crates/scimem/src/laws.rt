@@ -8,8 +8,8 @@ ghost use Rattle.scimem.specs.OracleAnswer.{IsOracleOf};
 ghost use Rattle.scimem.specs.ReplayAnswer.{IsReplayOf};
 ghost use Rattle.sci_history.specs.declared.verdict.Verdict.TheVariants as verdicts;
 
-use sci_history::one_partition;
 use sci_packets::laws::{no_proper_prefix, one_packet};
+use sci_text::one_log;
 
 /// Bytes have one text, and one end of the command: no run of packets is refused, and what is no run is never
 /// Done.
@@ -28,7 +28,7 @@ pub fn replays_are_lawful()
         → IsReplayOf input text → IsAuditOf text said outcome
         → (said ≡ verdict_text verdicts.Lawful) × (outcome ≡ Outcome.Done) }
 {
-    one_partition();
+    one_log();
 }
 
 /// What `oracle` writes for any script an audit finds lawful.
@@ -37,5 +37,5 @@ pub fn oracles_are_lawful()
         → IsOracleOf input text → IsAuditOf text said outcome
         → (said ≡ verdict_text verdicts.Lawful) × (outcome ≡ Outcome.Done) }
 {
-    one_partition();
+    one_log();
 }

@@ -7,4 +7,4 @@ use Rattle.scimem.proofs.laws.replays_are_lawful.Goals as goal
 pub returns : goal.returns
 returns c = λ input text said outcome replay audit.
     let s = replay.schedule in
-    audited_lawful c.one_partition.ensures.one text said s.nodes (logs_of (replayed s)) (last_of (replayed s)) outcome replay.says replay.lawful audit
+    audited_lawful c.one_log.ensures text said s.nodes (logs_of (replayed s)) (last_of (replayed s)) outcome replay.says replay.lawful audit
