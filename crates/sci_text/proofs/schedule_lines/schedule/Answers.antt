@@ -7,7 +7,7 @@ use Rattle.sci_text.proofs.schedule_lines.schedule.Goals as goal
 
 pub loop-rest-smaller : goal.loop-rest-smaller
 loop-rest-smaller c =
-    let adds = ok_then (length c.events.result.now + 2) c.push_event.result c.at_line-in-loop-rest.result _ c.in_ok-rest.rest c.at_line-in-loop-rest.ensures c.in_ok-rest.was c.push_event.ensures.ok in
+    let adds = ok_then _ c.push_event.result c.at_line-in-loop-rest.result _ c.in_ok-rest.rest c.at_line-in-loop-rest.ensures c.in_ok-rest.was c.push_event.ensures.ok in
     line_shrinks c.loop-rest.schedule c.push_event.new.schedule c.loop-rest.rest.now c.in_ok-rest.rest.now adds
 
 pub returns-in_err-rest-clause-fault : goal.returns-in_err-rest-clause-fault
