@@ -58,7 +58,7 @@ impl Cache {
     ghost use Rattle.sci_cache.specs.Serving.{IsForCache};
     ghost use Rattle.sci_cache.specs.Line.{untouched};
     ghost use Rattle.sci_cache.specs.Held.{state_of};
-    ghost use Rattle.sci_cache.specs.Cache.{CacheOf, line_of, has_slot, letter_of, cache_asking, cache_serving, cache_accepting, cache_performing};
+    ghost use Rattle.sci_cache.specs.Cache.{CacheOf, line_of, has_slot, letter_of, slots_taken, cache_asking, cache_serving, cache_accepting, cache_performing};
 
     /// The cache of node `me` in a machine of this size, with no entry for any line. The caller sees to it that
     /// there is such a node. Refused if memory is.
@@ -111,11 +111,18 @@ impl Cache {
         part.held()
     }
 
-    /// Whether a version slot is free.
-    fn has_slot(&self) -> bool
+    /// Whether a version slot is free: whether fewer lines have an entry than there are slots.
+    pub fn has_slot(&self) -> bool
         ensures { result ≡ has_slot self.now }
     {
         self.taken < usize::from(self.extent.slots)
+    }
+
+    /// How many lines have an entry.
+    pub fn slots_taken(&self) -> usize
+        ensures { result ≡ slots_taken self.now.lines }
+    {
+        self.taken
     }
 
     /// The node that has the home of a line.

@@ -4,6 +4,7 @@ pub mod Asks
 pub mod Lists
 pub mod Options
 pub mod Identifiers
+pub mod Slots
 pub mod Parts
 pub mod Places
 pub mod WellFormedSteps
@@ -43,3 +44,4 @@ pub mod Sides
 pub mod Enabled
 pub mod Ranges
 pub mod Pendings
+pub mod Rest

@@ -1,10 +1,11 @@
 -- Every step leaves a state well formed, and keeps the machine's sizes. So every reached state is.
-use Rattle.std.proofs.Common.{◌≡◌, ℕ, ◌+◌, ◌*◌, ◌/◌, ◌<◌, ◌≤◌, List, [], ◌∷◌, ◌++◌, replicate, Option, Some, None, refl, sym, ap, subst, ◌∙◌, inl, inr, arith}
+use Rattle.std.proofs.Common.{◌≡◌, ℕ, ◌+◌, ◌*◌, ◌/◌, ◌<◌, ◌≤◌, List, [], ◌∷◌, ◌++◌, replicate, cond, not, Option, Some, None, refl, sym, ap, subst, ◌∙◌, inl, inr, arith}
 use Rattle.std.specs.Prelude.{IfSome, unwrap_or, Result, Ok, Err, IfOk, IsErr}
 use Rattle.std.specs.List.{All}
 use Rattle.std.proofs.lemmas.Bool.{cases_lt}
 use Rattle.std.proofs.lemmas.List.{length-set, length-replicate, get_or-replicate, get_or_past}
 use Rattle.std.proofs.lemmas.List.Sums.{fold-append}
+use Rattle.std.proofs.lemmas.List.Folds.{sum_by-replicate}
 use Rattle.std.proofs.lemmas.List.Elements.{All-nil, All-head, All-tail, All-push}
 use Rattle.std.proofs.lemmas.List.FromFn.{length-map-range_with_len, get_or-map-range_with_len}
 use Rattle.sci_words.specs.declared.event.Event.{Event}
@@ -12,7 +13,8 @@ use Rattle.sci_words.specs.declared.event.Event.TheVariants as event
 use Rattle.sci_history.specs.declared.entry.Entry.{Entry}
 use Rattle.sci_home.specs.Serving.{opening_home}
 use Rattle.sci_cache.specs.Line.{LineState, untouched}
-use Rattle.sci_cache.specs.Cache.{Letter}
+use Rattle.sci_cache.specs.State.{is_out}
+use Rattle.sci_cache.specs.Cache.{Letter, slots_taken}
 use Rattle.sci_core.specs.declared.lane.LaneKind.{LaneKind}
 use Rattle.sci_core.specs.declared.lane.LaneKind.TheVariants.{Requests, Answers}
 use Rattle.sci_core.specs.Node.{NodeOf, opening_node, node_issuing, node_performing, node_asking, node_replying, no_node}
@@ -181,6 +183,7 @@ opening_part : (me : ℕ) (size : Size) → 0 < size.nodes → size.limit ≤ MA
 opening_part me size some few = record {
   fits = opening_is_node me size some few;
   own = All-nil (λ (e : Entry). e.node ≡ me);
+  few = let none : slots_taken (replicate size.lines untouched) ≡ size.lines * 0 = sum_by-replicate (λ (l : LineState). cond {A = ℕ} (not (is_out l.state)) 1 0) size.lines untouched in omega (arith, none);
   me = refl;
   all = refl;
   room = refl;

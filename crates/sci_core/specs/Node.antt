@@ -13,8 +13,9 @@ use Rattle.sci_home.specs.declared.state.HomeState.{HomeState}
 use Rattle.sci_packets.specs.Table.{IsRequest}
 use Rattle.sci_home.specs.Serving.{opening_home, is_for_home, IsForHome, home_serving}
 use Rattle.sci_cache.specs.declared.fault.AskFault.{AskFault}
+use Rattle.sci_cache.specs.State.{is_out}
 use Rattle.sci_cache.specs.Line.{untouched}
-use Rattle.sci_cache.specs.Cache.{CacheOf, Letter, cache_asking, cache_serving, cache_accepting, cache_performing}
+use Rattle.sci_cache.specs.Cache.{CacheOf, Letter, line_of, cache_asking, cache_serving, cache_accepting, cache_performing}
 use Rattle.sci_core.specs.Size.{Size}
 use Rattle.sci_core.specs.declared.pending.Pending.{Pending}
 
@@ -43,6 +44,11 @@ home_of node line = slice_index_or node.homes (home_place node line) opening_hom
 
 abbrev pub pending_on : NodeOf → ℕ → Option Pending
 pending_on node line = slice_index_or node.pending line None
+
+-- no operation is pending, and no line has an entry
+pub record IsAtRest (node : NodeOf) : Type 0 where
+  pub none_pending : (line : ℕ) → pending_on node line ≡ None
+  pub none_held : (line : ℕ) → is_out (line_of node.cache line).state ≡ true
 
 -- ---- Issue
 

@@ -9,7 +9,7 @@ use Rattle.sci_home.specs.declared.state.HomeState.{HomeState}
 use Rattle.sci_home.specs.declared.state.HomeState.TheVariants as home
 use Rattle.sci_home.specs.Serving.{opening_home, IsForHome}
 use Rattle.sci_cache.specs.State.{CacheState, Joining, FreshJoining, Head, FreshHead, Below, Purging, Claiming, Rolling, Telling}
-use Rattle.sci_cache.specs.Cache.{Letter, line_of}
+use Rattle.sci_cache.specs.Cache.{Letter, line_of, slots_taken}
 use Rattle.sci_core.specs.Node.{NodeOf, lines_of, IsNode}
 use Rattle.sci_core.specs.Core.{Core, HasSize, node_at, lane_at}
 use Rattle.sci_core.specs.Size.{Size}
@@ -81,6 +81,8 @@ pub record IsPart (size : Size) (n : ℕ) (part : NodeOf) : Type 0 where
   pub homes : (place : ℕ) → HomeNamesNodes size.nodes (slice_index_or part.homes place opening_home)
   pub answer : IfSome part.waiting (λ letter. IsAnswerLetter size.nodes size.lines letter × (letter.source ≡ n))
   pub asks : (line : ℕ) → (line_of part.cache line).asks < CONTROLS
+  -- each line with an entry takes a version slot
+  pub few : slots_taken part.cache.lines ≤ part.cache.slots
   pub fits : IsNode part
   pub own : All (λ entry. entry.node ≡ n) part.log
 

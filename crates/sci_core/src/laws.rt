@@ -157,7 +157,8 @@ pub fn sole_copies_perform()
 {}
 
 /// A node of a reached state is a part of a machine of that state's size, with its own number: its cache, its homes, its
-/// pending operations and its log fit together, and each identifier in it names a node.
+/// pending operations and its log fit together, each identifier in it names a node, and no more lines have an entry than
+/// there are version slots.
 pub fn reached_nodes_are_parts()
     ensures { (n : ℕ) (node : NodeOf) (is : IsReachedNode n node) → IsPart is.core.size n node }
 {}

@@ -77,8 +77,8 @@ impl Node {
     ghost use Rattle.sci_core.specs.Taking.{IsTakable, node_taking};
     ghost use Rattle.sci_home.specs.Serving.{is_for_home, IsForHome};
     ghost use Rattle.sci_cache.specs.Held.{state_of};
-    ghost use Rattle.sci_cache.specs.Cache.{letter_of, line_of};
-    ghost use Rattle.sci_core.specs.Node.{NodeOf, opening_node, lines_of, home_of, pending_on, IsForNode, IsServable, node_issuing, node_performing, node_asking, node_serving, node_refusing, node_replying, node_accepting, may_issue as may_issue_of, serving_at_home, serving_in_cache, answering};
+    ghost use Rattle.sci_cache.specs.Cache.{has_slot, letter_of, line_of};
+    ghost use Rattle.sci_core.specs.Node.{IsAtRest, NodeOf, opening_node, lines_of, home_of, pending_on, IsForNode, IsServable, node_issuing, node_performing, node_asking, node_serving, node_refusing, node_replying, node_accepting, may_issue as may_issue_of, serving_at_home, serving_in_cache, answering};
 
     /// The node with the number `me` in a machine of this size, whose processor may issue `limit` operations.
     /// The caller sees to it that there is such a node, and that `limit` is 1 to 65,536. Refused if memory
@@ -330,6 +330,29 @@ impl Node {
             Taking::Refuse => self.refuse(packet),
             Taking::Accept => self.accept(packet),
         }
+    }
+
+    /// The node's number.
+    pub fn me(&self) -> u8
+        ensures { result ≡ self.now.cache.me }
+    {
+        self.me
+    }
+
+    /// Whether a version slot is free: whether fewer lines have an entry than there are slots.
+    pub fn has_slot(&self) -> bool
+        ensures { result ≡ has_slot self.now.cache }
+    {
+        self.cache.has_slot()
+    }
+
+    /// Whether no operation is pending and no line has an entry. It looks at no line.
+    #[tactic(auto, using(crate::proofs::Rest::at_rest, crate::proofs::Rest::rest_is_done, crate::proofs::Rest::rest_is_free))]
+    pub fn is_at_rest(&self) -> bool
+        ensures rest { IsTrue result → IsAtRest self.now }
+        ensures work { result ≡ false → IsAtRest self.now → ⊥ }
+    {
+        self.issued as usize == self.log.len() && self.cache.slots_taken() == 0
     }
 
     /// The size of the machine.
