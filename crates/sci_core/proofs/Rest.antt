@@ -23,7 +23,7 @@ none_counted p (x ∷ xs) d at e zero = first (p x) (count_by p xs) (sym (sum_by
 none_counted p (x ∷ xs) d at e (suc i) = none_counted p xs d at (rest (p x) (count_by p xs) (sym (sum_by-cons (λ y. cond {A = ℕ} (p y) 1 0) x xs) ∙ e)) i
 
 -- and what is nowhere is counted no time
-counted_none : {X : Type 0} (p : X → Bool) (xs : List X) (d : X) → ((i : ℕ) → p (get_or xs i d) ≡ false) → count_by p xs ≡ 0
+pub counted_none : {X : Type 0} (p : X → Bool) (xs : List X) (d : X) → ((i : ℕ) → p (get_or xs i d) ≡ false) → count_by p xs ≡ 0
 counted_none p [] d none = refl
 counted_none p (x ∷ xs) d none =
     let here : cond {A = ℕ} (p x) 1 0 ≡ 0 = ap (λ (b : Bool). cond {A = ℕ} b 1 0) (none zero) in

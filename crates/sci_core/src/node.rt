@@ -166,10 +166,12 @@ impl Node {
         Some(serial)
     }
 
-    /// Whether an operation may be issued: whether `issue` would give its serial.
+    /// Whether an operation may be issued: whether `issue` would give its serial. The operands of any operation that a
+    /// program has are words, as the rule wants them.
     pub fn may_issue(&self, op: &Op) -> bool
         ensures rule { result ≡ may_issue_of self.now op.now }
         ensures enabled { result ≡ is_some (node_issuing self.now op.now) }
+        ensures words { has_words op.now.act ≡ true }
     {
         read_words(op.act);
         op.line < self.extent.lines

@@ -1,0 +1,71 @@
+-- A node at rest wants nothing, and none of its lines drains.
+use Rattle.std.proofs.Common.{◌≡◌, ℕ, ◌<◌, ◌&&◌, ◌||◌, Bool, true, false, List, map, replicate, Option, Some, None, refl, sym, ap, ◌∙◌, zero, suc, ◌+◌}
+use Rattle.std.specs.Prelude.{IfSome, is_some, option_map}
+use Rattle.std.specs.Option.{option_or, option_and_then}
+use Rattle.std.specs.List.{range_with_len}
+use Rattle.std.proofs.lemmas.Bool.{and_parts}
+use Rattle.sci_words.specs.declared.limits.TheConstants.{MAX_LINES}
+use Rattle.sci_cache.specs.State.{CacheState, Out, Asking, Joining, FreshJoining, Head, FreshHead, Below, Purging, Claiming, Clearing, Returning, Rolling, Telling, Fading, is_out}
+use Rattle.sci_core.specs.Node.{IsAtRest, NodeOf, lines_of, node_performing}
+use Rattle.sci_policy.specs.declared.want.Want.{Want}
+use Rattle.sci_policy.specs.Lines.{can_drain, has_fresh_sharers, has_pending, has_sharers, joins, least, must_send, oldest, some_line, state_on}
+use Rattle.sci_policy.specs.Policy.{PolicyOf, ask_of, contents_wanted, due_wanted, has, held_back, is_claimed, is_purged, operation_asks, perform_wanted, purge_wanted, ruled, send_wanted, set_of, slot_for, slot_wanted, still_draining, wanted}
+use Rattle.sci_policy.proofs.Found.{least_fits, oldest_fits}
+
+out_is : (state : CacheState) → is_out state ≡ true → state ≡ Out
+out_is Out e = refl
+out_is Asking e = cc
+out_is (Joining p sent) e = cc
+out_is (FreshJoining p sent c) e = cc
+out_is (Head f c) e = cc
+out_is (FreshHead f c) e = cc
+out_is (Below f b c) e = cc
+out_is (Purging q c) e = cc
+out_is (Claiming f c) e = cc
+out_is (Clearing c) e = cc
+out_is (Returning c) e = cc
+out_is (Rolling f b c) e = cc
+out_is (Telling r w sent) e = cc
+out_is Fading e = cc
+
+all_out : (node : NodeOf) → IsAtRest node → (line : ℕ) → state_on node line ≡ Out
+all_out node rest line = out_is (state_on node line) (rest.none_held line)
+
+absent : (o : Option ℕ) (P : ℕ → Type 0) → IfSome o P → ((line : ℕ) → P line → ⊥) → o ≡ None
+absent None P h never = refl
+absent (Some line) P h never = absurd (never line h)
+
+no_oldest : (node : NodeOf) (test : ℕ → Bool) → IsAtRest node → oldest node test ≡ None
+no_oldest node test rest =
+    absent (oldest node test) _ (oldest_fits node test)
+    (λ line fits. (let clash : true ≡ false = sym (and_parts (has_pending node line) (test line) fits.1).0 ∙ ap is_some (rest.none_pending line) in cc))
+
+no_least : (node : NodeOf) (test : ℕ → Bool) → ((line : ℕ) → test line ≡ false) → least node test ≡ None
+no_least node test fails = absent (least node test) _ (least_fits node test) (λ line fits. (let clash : true ≡ false = sym fits.1 ∙ fails line in cc))
+
+and_no : (a b : Bool) → b ≡ false → (a && b) ≡ false
+and_no true b e = e
+and_no false b e = refl
+
+neither : {A : Type 0} (a b : Option A) → a ≡ None → b ≡ None → option_or a b ≡ None
+neither None b e f = f
+neither (Some x) b e f = cc
+
+pub rest_wants_none : (policy : PolicyOf) (node : NodeOf) → IsAtRest node → wanted policy node ≡ None
+rest_wants_none policy node rest =
+    let out = all_out node rest in
+    let no_perform : perform_wanted node ≡ None = ap (option_map _) (no_oldest node (λ line. is_some (node_performing node line)) rest) in
+    let no_purge : purge_wanted policy node ≡ None = ap (option_map _) (no_least node (is_purged policy node) (λ line. ap (λ (s : CacheState). has_sharers s && (has policy.draining line || has_pending node line)) (out line))) in
+    let no_send : send_wanted node ≡ None = ap (option_and_then (ask_of node)) (no_least node (λ line. must_send (state_on node line)) (λ line. ap must_send (out line))) in
+    let no_due : due_wanted policy node ≡ None = ap (option_map _) (no_least node (is_claimed policy node) (λ line. and_no (has policy.due line) (has_fresh_sharers (state_on node line)) (ap has_fresh_sharers (out line)))) in
+    let no_slot : slot_wanted node ≡ None = ap (option_and_then (slot_for node)) (no_oldest node (λ line. true) rest) in
+    let no_contents : contents_wanted node ≡ None = ap (option_and_then (operation_asks node)) (no_oldest node (λ line. is_some (operation_asks node line)) rest) in
+    let none : ruled policy node ≡ None = neither _ _ no_perform (neither _ _ no_purge (neither _ _ no_send (neither _ _ no_due (neither _ _ no_slot no_contents)))) in
+    ap (held_back (some_line node (λ line. joins (state_on node line)))) none
+
+none_mapped : (test : ℕ → Bool) (a n : ℕ) → ((line : ℕ) → test line ≡ false) → map test (range_with_len a n) ≡ replicate n false
+none_mapped test a zero fails = refl
+none_mapped test a (suc n) fails = rw (fails a, none_mapped test (a + 1) n fails) refl
+
+pub rest_drains_none : (policy : PolicyOf) (node : NodeOf) → IsAtRest node → replicate MAX_LINES false ≡ set_of (still_draining policy node)
+rest_drains_none policy node rest = sym (none_mapped (still_draining policy node) 0 MAX_LINES (λ line. and_no (has policy.draining line) (can_drain (state_on node line)) (ap can_drain (all_out node rest line))))

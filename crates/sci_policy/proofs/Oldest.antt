@@ -1,0 +1,112 @@
+-- The oldest of the operations of some lines.
+use Rattle.std.proofs.Common.{◌≡◌, ℕ, ◌+◌, ◌<◌, ◌≤◌, nat_lt, nat_le, ◌&&◌, Bool, true, false, if◌then◌else◌, cond, List, [], ◌∷◌, ◌++◌, filter, Option, Some, None, refl, sym, ap, subst, ◌∙◌, arith, inl, inr}
+use Rattle.std.specs.Prelude.{IfSome, is_some, option_map}
+use Rattle.std.specs.List.{range_with_len}
+use Rattle.std.proofs.lemmas.Bool.{cases_Bool, ltb-true}
+use Rattle.std.proofs.lemmas.List.{append-nil}
+use Rattle.std.proofs.lemmas.List.Elements.{filter-append}
+use Rattle.sci_core.specs.Node.{NodeOf, pending_on}
+use Rattle.sci_core.specs.declared.pending.Pending.{Pending}
+use Rattle.sci_policy.specs.Lines.{has_pending, older, oldest_of, serial_in, serial_on}
+use Rattle.sci_policy.specs.Scan.{is_older_than}
+use Rattle.sci_policy.proofs.Ranges.{range_more}
+
+-- what becomes of the oldest by one line more
+abbrev pub next_oldest : NodeOf → Option ℕ → ℕ → ℕ
+next_oldest node None line = line
+next_oldest node (Some found) line = if nat_lt (serial_on node line) (serial_on node found) then line else found
+
+older_push : (node : NodeOf) (line last : ℕ) (rest : Option ℕ) → Some (older node line (Some (next_oldest node rest last))) ≡ Some (next_oldest node (Some (older node line rest)) last)
+older_push node line last None = grind (arith)
+older_push node line last (Some found) = grind (arith)
+
+pub oldest_push : (node : NodeOf) (lines : List ℕ) (last : ℕ) → oldest_of node (lines ++ last ∷ []) ≡ Some (next_oldest node (oldest_of node lines) last)
+oldest_push node [] last = refl
+oldest_push node (line ∷ lines) last = ap (λ (o : Option ℕ). Some (older node line o)) (oldest_push node lines last) ∙ older_push node line last (oldest_of node lines)
+
+-- the oldest of the first lines
+abbrev pub oldest_below : NodeOf → (ℕ → Bool) → ℕ → Option ℕ
+oldest_below node tested count = oldest_of node (filter (λ line. has_pending node line && tested line) (range_with_len 0 count))
+
+one_more : (node : NodeOf) (tested : ℕ → Bool) (line : ℕ) → filter (λ l. has_pending node l && tested l) (range_with_len 0 (line + 1)) ≡ filter (λ l. has_pending node l && tested l) (range_with_len 0 line) ++ filter (λ l. has_pending node l && tested l) (line ∷ [])
+one_more node tested line = ap (filter (λ l. has_pending node l && tested l)) (range_more line) ∙ filter-append (λ l. has_pending node l && tested l) (range_with_len 0 line) (line ∷ [])
+
+filtered : (p : ℕ → Bool) (line : ℕ) (b : Bool) → p line ≡ b → filter p (line ∷ []) ≡ cond b (line ∷ []) []
+filtered p line b e = ap (λ (c : Bool). cond {A = List ℕ} c (line ∷ []) []) e
+
+-- a line that isn't meant leaves it
+pub oldest_left : (node : NodeOf) (tested : ℕ → Bool) (line : ℕ) → (has_pending node line && tested line) ≡ false → oldest_below node tested (line + 1) ≡ oldest_below node tested line
+oldest_left node tested line fails =
+    ap (oldest_of node) (one_more node tested line ∙ (ap (λ (ls : List ℕ). filter (λ l. has_pending node l && tested l) (range_with_len 0 line) ++ ls) (filtered (λ l. has_pending node l && tested l) line false fails) ∙ append-nil _))
+
+-- a line that is meant is compared with it
+pub oldest_next : (node : NodeOf) (tested : ℕ → Bool) (line : ℕ) → (has_pending node line && tested line) ≡ true → oldest_below node tested (line + 1) ≡ Some (next_oldest node (oldest_below node tested line) line)
+oldest_next node tested line passes =
+    ap (oldest_of node) (one_more node tested line ∙ ap (λ (ls : List ℕ). filter (λ l. has_pending node l && tested l) (range_with_len 0 line) ++ ls) (filtered (λ l. has_pending node l && tested l) line true passes))
+    ∙ oldest_push node (filter (λ l. has_pending node l && tested l) (range_with_len 0 line)) line
+
+-- ---- what a walk over the lines has found so far: a line, and its operation's serial
+
+abbrev pub IsFound : NodeOf → Option (ℕ × ℕ) → Type 0
+IsFound node found = IfSome found (λ f. f.1 ≡ serial_on node f.0)
+
+abbrev pub line_found : Option (ℕ × ℕ) → Option ℕ
+line_found found = option_map (λ f. f.0) found
+
+-- an older one takes its place
+pub found_next : (node : NodeOf) (tested : ℕ → Bool) (line : ℕ) (found : Option (ℕ × ℕ)) → IsFound node found → line_found found ≡ oldest_below node tested line
+    → (has_pending node line && tested line) ≡ true → is_older_than (serial_on node line) found ≡ true → Some line ≡ oldest_below node tested (line + 1)
+found_next node tested line None is same passes older = sym (oldest_next node tested line passes ∙ ap (λ (o : Option ℕ). Some (next_oldest node o line)) (sym same))
+found_next node tested line (Some f) is same passes older =
+    let least : nat_lt (serial_on node line) (serial_on node f.0) ≡ true = subst (λ (s : ℕ). nat_lt (serial_on node line) s ≡ true) is older in
+    sym (oldest_next node tested line passes ∙ (ap (λ (o : Option ℕ). Some (next_oldest node o line)) (sym same) ∙ ap (λ (b : Bool). Some (if b then line else f.0)) least))
+
+not_true : (b : Bool) → (b ≡ true → ⊥) → b ≡ false
+not_true b never = elim (cases_Bool b) [ inl is ↦ absurd (never is) | inr is ↦ is ]
+
+kept : (node : NodeOf) (tested : ℕ → Bool) (line : ℕ) (found : Option (ℕ × ℕ)) → IsFound node found → line_found found ≡ oldest_below node tested line
+    → (has_pending node line && tested line) ≡ true → (is_older_than (serial_on node line) found ≡ true → ⊥) → line_found found ≡ oldest_below node tested (line + 1)
+kept node tested line None is same passes younger = absurd (younger refl)
+kept node tested line (Some f) is same passes younger =
+    let least : nat_lt (serial_on node line) (serial_on node f.0) ≡ false = subst (λ (s : ℕ). nat_lt (serial_on node line) s ≡ false) is (not_true (nat_lt (serial_on node line) f.1) younger) in
+    sym (oldest_next node tested line passes ∙ (ap (λ (o : Option ℕ). Some (next_oldest node o line)) (sym same) ∙ ap (λ (b : Bool). Some (if b then line else f.0)) least))
+
+-- one that is younger, or isn't meant, doesn't
+pub found_left : (node : NodeOf) (tested : ℕ → Bool) (line : ℕ) (found : Option (ℕ × ℕ)) → IsFound node found → line_found found ≡ oldest_below node tested line
+    → (is_older_than (serial_on node line) found ≡ true → (has_pending node line && tested line) ≡ false) → line_found found ≡ oldest_below node tested (line + 1)
+found_left node tested line found is same skips =
+    elim (cases_Bool (has_pending node line && tested line)) [
+      | inl passes ↦ kept node tested line found is same passes (λ older. (let clash : true ≡ false = sym passes ∙ skips older in cc))
+      | inr fails ↦ same ∙ sym (oldest_left node tested line fails)
+    ]
+
+-- ---- one line more of the walk
+
+-- what is found, and what it is for each test
+abbrev pub IsFoundBelow : NodeOf → ((ℕ → Bool) → Type 0) → ℕ → Option (ℕ × ℕ) → Type 0
+IsFoundBelow node IsMeant count found = IsFound node found × ((tested : ℕ → Bool) → IsMeant tested → line_found found ≡ oldest_below node tested count)
+
+pending_and : (pending : Option Pending) (p : Pending) (b c : Bool) → pending ≡ Some p → b ≡ c → (is_some pending && b) ≡ c
+pending_and None p b c e f = cc
+pending_and (Some q) p b c e f = f
+
+pub nothing_pending : (node : NodeOf) (IsMeant : (ℕ → Bool) → Type 0) (line : ℕ) (found : Option (ℕ × ℕ)) → pending_on node line ≡ None → IsFoundBelow node IsMeant line found → IsFoundBelow node IsMeant (line + 1) found
+nothing_pending node IsMeant line found none was =
+    (was.0, λ tested is. found_left node tested line found was.0 (was.1 tested is) (λ older. ap (λ (o : Option Pending). is_some o && tested line) none))
+
+pub older_found : (node : NodeOf) (IsMeant : (ℕ → Bool) → Type 0) (line : ℕ) (found : Option (ℕ × ℕ)) (p : Pending) → pending_on node line ≡ Some p → is_older_than p.serial found ≡ true → ((tested : ℕ → Bool) → IsMeant tested → tested line ≡ true)
+    → IsFoundBelow node IsMeant line found → IsFoundBelow node IsMeant (line + 1) (Some (line, p.serial))
+older_found node IsMeant line found p at older passes was =
+    let serial : serial_on node line ≡ p.serial = ap serial_in at in
+    (sym serial, λ tested is. found_next node tested line found was.0 (was.1 tested is) (pending_and (pending_on node line) p (tested line) true at (passes tested is)) (ap (λ (s : ℕ). is_older_than s found) serial ∙ older))
+
+pub not_meant : (node : NodeOf) (IsMeant : (ℕ → Bool) → Type 0) (line : ℕ) (found : Option (ℕ × ℕ)) (p : Pending) → pending_on node line ≡ Some p → ((tested : ℕ → Bool) → IsMeant tested → tested line ≡ false)
+    → IsFoundBelow node IsMeant line found → IsFoundBelow node IsMeant (line + 1) found
+not_meant node IsMeant line found p at fails was =
+    (was.0, λ tested is. found_left node tested line found was.0 (was.1 tested is) (λ older. pending_and (pending_on node line) p (tested line) false at (fails tested is)))
+
+pub not_older : (node : NodeOf) (IsMeant : (ℕ → Bool) → Type 0) (line : ℕ) (found : Option (ℕ × ℕ)) (p : Pending) → pending_on node line ≡ Some p → is_older_than p.serial found ≡ false
+    → IsFoundBelow node IsMeant line found → IsFoundBelow node IsMeant (line + 1) found
+not_older node IsMeant line found p at younger was =
+    let serial : serial_on node line ≡ p.serial = ap serial_in at in
+    (was.0, λ tested is. found_left node tested line found was.0 (was.1 tested is) (λ older. (let clash : true ≡ false = sym older ∙ (ap (λ (s : ℕ). is_older_than s found) serial ∙ younger) in cc)))

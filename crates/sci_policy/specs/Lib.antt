@@ -1,0 +1,5 @@
+pub mod Lines
+pub mod Scan
+pub mod Policy
+pub mod Rest
+pub mod Turn

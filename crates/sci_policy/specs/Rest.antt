@@ -1,0 +1,10 @@
+-- When a node may have nothing to do.
+use Rattle.std.specs.Prelude.{◌≡◌, ℕ, true, None}
+use Rattle.sci_cache.specs.State.{waits}
+use Rattle.sci_core.specs.Node.{NodeOf, pending_on}
+use Rattle.sci_policy.specs.Lines.{state_on}
+
+-- no operation is pending, or some line awaits an answer
+pub data MayRest (node : NodeOf) : Type 0 where
+  NothingPending : ((line : ℕ) → pending_on node line ≡ None) → MayRest node
+  Awaits : (line : ℕ) → waits (state_on node line) ≡ true → MayRest node

@@ -1,0 +1,60 @@
+-- What a node does in a turn, and what is told of it.
+use Rattle.std.specs.Prelude.{◌≡◌, ℕ, ◌+◌, nat_lt, Bool, true, false, not, ◌&&◌, ◌||◌, ◌==◌, is_none, if◌then◌else◌, List, [], ◌∷◌, count_by, Option, Some, None, IsTrue, is_some}
+use Rattle.std.specs.List.{list_any, AllByRecursion}
+use Rattle.sci_words.specs.declared.limits.TheConstants.{WORDS_PER_LINE}
+use Rattle.sci_words.specs.declared.event.Event.{Event}
+use Rattle.sci_words.specs.declared.event.Event.TheVariants as event
+use Rattle.sci_words.specs.declared.operation.Op.{Op}
+use Rattle.sci_core.specs.Core.{node_of}
+use Rattle.sci_core.specs.Node.{NodeOf, lines_of, pending_on}
+use Rattle.sci_policy.specs.declared.progress.Progress.{Progress}
+use Rattle.sci_policy.specs.declared.submit.SubmitFault.{SubmitFault}
+use Rattle.sci_policy.specs.declared.submit.SubmitFault.TheVariants.{NoSuchLine, NoSuchWord, LineTaken, LogFull}
+
+-- ---- the events of a turn
+
+abbrev pub is_accept : Event → Bool
+is_accept (event.Accept from n) = true
+is_accept _ = false
+
+-- a request is taken: served, or refused
+abbrev pub is_service : Event → Bool
+is_service (event.Serve from n) = true
+is_service (event.Refuse from n) = true
+is_service _ = false
+
+abbrev pub is_reply : Event → Bool
+is_reply (event.Reply n) = true
+is_reply _ = false
+
+abbrev pub is_ask : Event → Bool
+is_ask (event.Ask n line kind) = true
+is_ask _ = false
+
+-- an event of this node that a turn may make: no Issue, and no Perform
+pub record IsTurnEvent (n : ℕ) (e : Event) : Type 0 where
+  pub own : node_of e ≡ n
+  pub kind : (is_accept e || (is_service e || (is_reply e || is_ask e))) ≡ true
+
+-- what is told of a turn counts its events
+pub record Counts (events : List Event) (progress : Progress) : Type 0 where
+  pub accepted : progress.accepted ≡ count_by is_accept events
+  pub served : progress.served ≡ count_by is_service events
+  pub replied : progress.replied ≡ list_any is_reply events
+  pub asked : progress.asked ≡ list_any is_ask events
+
+-- ---- what is submitted
+
+-- why an operation can't be submitted, if it can't: the first cause that holds
+abbrev pub submit_fault : NodeOf → Op → Option SubmitFault
+submit_fault node op =
+    if not (nat_lt op.line (lines_of node)) then Some NoSuchLine
+    else if not (nat_lt op.word WORDS_PER_LINE) then Some NoSuchWord
+    else if is_some (pending_on node op.line) then Some LineTaken
+    else if not (nat_lt node.issued node.limit) then Some LogFull
+    else None
+
+-- ---- what is told of a turn that found nothing to do
+
+abbrev pub is_idle : Progress → Bool
+is_idle progress = (progress.accepted == 0 && progress.served == 0) && ((not progress.replied && not progress.asked) && is_none progress.ready)

@@ -1,0 +1,15 @@
+//! What a controller does next: which request it sends, which requests of others it keeps or refuses, and what it did in
+//! a turn.
+#![tactic(auto)]
+
+mod lines;
+mod policy;
+mod progress;
+mod rules;
+mod submit;
+mod want;
+
+pub use policy::{PATIENCE, Policy};
+pub use progress::Progress;
+pub use submit::{SubmitFault, check_submit};
+pub use want::Want;

@@ -1,0 +1,210 @@
+//! What a policy sees of a node's lines.
+
+ghost use Rattle.std.specs.Prelude.{◌≡◌, ◌<◌, ℕ, Bool, None, Some, IfSome, option_map};
+ghost use Rattle.sci_cache.specs.Held.{state_of};
+ghost use Rattle.sci_cache.specs.State.{Out, is_out as is_out_in};
+ghost use Rattle.sci_policy.specs.Policy.{awaits_home as awaits_home_in, is_busy_now as is_busy_now_in};
+ghost use Rattle.sci_core.specs.Node.{lines_of};
+ghost use Rattle.sci_policy.specs.Lines.{can_drain as can_drain_in, could_give_way as could_give_way_in, gives_way as gives_way_in, has_fresh_sharers as has_fresh_sharers_in, has_maker as has_maker_on, has_pending as has_pending_on, has_sharers as has_sharers_in, is_head as is_head_in, joins as joins_in, least as least_of, must_send as must_send_in, oldest as oldest_with, own_ask as own_ask_in, state_on};
+ghost use Rattle.sci_policy.specs.Scan.{IsTest, is_older_than};
+
+use sci_cache::Held;
+use sci_core::Node;
+use sci_words::AskKind;
+
+/// The state of a line, or None if there is no such line.
+pub(crate) fn held_on(node: &Node, line: u8) -> Option<&Held>
+    ensures here { IfSome result (λ held. state_of held.now ≡ state_on node.now line) }
+    ensures beyond { result ≡ None → state_on node.now line ≡ Out }
+{
+    if line < node.extent().lines {
+        Some(node.held(line))
+    } else {
+        None
+    }
+}
+
+/// Whether a line is the head of a list with a next entry.
+pub(crate) fn has_sharers(node: &Node, line: u8) -> bool
+    ensures { result ≡ has_sharers_in (state_on node.now line) }
+{
+    matches!(held_on(node, line), Some(Held::Head(head)) if head.forward.is_some())
+}
+
+/// Whether a line is the head of a fresh list with a next entry.
+pub(crate) fn has_fresh_sharers(node: &Node, line: u8) -> bool
+    ensures { result ≡ has_fresh_sharers_in (state_on node.now line) }
+{
+    matches!(held_on(node, line), Some(Held::FreshHead(head)) if head.forward.is_some())
+}
+
+/// Whether a line purges its list, or can.
+pub(crate) fn can_drain(node: &Node, line: u8) -> bool
+    ensures { result ≡ can_drain_in (state_on node.now line) }
+{
+    match held_on(node, line) {
+        Some(Held::Head(head)) => head.forward.is_some(),
+        Some(Held::Purging(_)) => true,
+        _ => false,
+    }
+}
+
+/// Whether a line is the head of a list that may write.
+pub(crate) fn is_head(node: &Node, line: u8) -> bool
+    ensures { result ≡ is_head_in (state_on node.now line) }
+{
+    matches!(held_on(node, line), Some(Held::Head(_)))
+}
+
+/// Whether a line is on the way into a list.
+pub(crate) fn joins(node: &Node, line: u8) -> bool
+    ensures { result ≡ joins_in (state_on node.now line) }
+{
+    matches!(
+        held_on(node, line),
+        Some(Held::Joining(_) | Held::FreshJoining(_))
+    )
+}
+
+/// Whether a line must send a request before anything else can come of it.
+pub(crate) fn must_send(node: &Node, line: u8) -> bool
+    ensures { result ≡ must_send_in (state_on node.now line) }
+{
+    match held_on(node, line) {
+        Some(Held::Joining(state)) => !state.sent,
+        Some(Held::FreshJoining(state)) => !state.sent,
+        Some(Held::Telling(state)) => !state.sent,
+        _ => false,
+    }
+}
+
+/// Whether a line is on the way out of a list, or its list out of the way of a writer.
+pub(crate) fn gives_way(node: &Node, line: u8) -> bool
+    ensures { result ≡ gives_way_in (state_on node.now line) }
+{
+    matches!(
+        held_on(node, line),
+        Some(
+            Held::Purging(_)
+                | Held::Claiming(_)
+                | Held::Clearing(_)
+                | Held::Returning(_)
+                | Held::Rolling(_)
+                | Held::Telling(_)
+                | Held::Fading(_)
+        )
+    )
+}
+
+/// Whether a line could begin to give way.
+pub(crate) fn could_give_way(node: &Node, line: u8) -> bool
+    ensures { result ≡ could_give_way_in (state_on node.now line) }
+{
+    matches!(
+        held_on(node, line),
+        Some(Held::Head(_) | Held::FreshHead(_) | Held::Below(_))
+    )
+}
+
+/// Whether a line awaits its home's word on its list.
+pub(crate) fn awaits_home(node: &Node, line: u8) -> bool
+    ensures { result ≡ awaits_home_in (state_on node.now line) }
+{
+    matches!(
+        held_on(node, line),
+        Some(Held::Claiming(_) | Held::Clearing(_) | Held::Returning(_))
+    )
+}
+
+/// Whether a line would answer a Cread as busy, and soon won't.
+pub(crate) fn is_busy_now(node: &Node, line: u8) -> bool
+    ensures { result ≡ is_busy_now_in (state_on node.now line) }
+{
+    matches!(
+        held_on(node, line),
+        Some(Held::Asking(_) | Held::Joining(_) | Held::FreshJoining(_) | Held::Purging(_))
+    )
+}
+
+/// Whether a line has no entry.
+pub(crate) fn is_out(node: &Node, line: u8) -> bool
+    ensures { result ≡ is_out_in (state_on node.now line) }
+{
+    matches!(held_on(node, line), Some(Held::Out(_)) | None)
+}
+
+/// Whether an operation is pending on a line.
+pub(crate) fn has_pending(node: &Node, line: u8) -> bool
+    ensures { result ≡ has_pending_on node.now line }
+{
+    node.pending(line).is_some()
+}
+
+/// Whether a maker is pending on a line.
+pub(crate) fn has_maker(node: &Node, line: u8) -> bool
+    ensures { result ≡ has_maker_on node.now line }
+{
+    match node.pending(line) {
+        Some(pending) => pending.op.is_maker(),
+        None => false,
+    }
+}
+
+/// What a line with an entry asks.
+pub(crate) fn own_ask(node: &Node, line: u8) -> Option<AskKind>
+    ensures { result ≡ own_ask_in (has_maker_on node.now line) (state_on node.now line) }
+{
+    match held_on(node, line)? {
+        Held::Joining(state) if !state.sent => Some(AskKind::Cread),
+        Held::FreshJoining(state) if !state.sent => Some(AskKind::Cread),
+        Held::Head(head) if head.forward.is_some() => Some(AskKind::Purge),
+        Held::Head(_) => Some(AskKind::Wback),
+        Held::FreshHead(head) if head.forward.is_some() || has_maker(node, line) => {
+            Some(AskKind::Claim)
+        }
+        Held::FreshHead(_) => Some(AskKind::Clear),
+        Held::Below(_) => Some(AskKind::Roll),
+        Held::Telling(state) if !state.sent => Some(AskKind::Setback),
+        _ => None,
+    }
+}
+
+/// The least line of which something is true.
+pub(crate) fn least<F: Fn(u8) -> bool>(node: &Node, test: F) -> Option<u8>
+    requires { (line : ℕ) → line < lines_of node.now → F.pre test line }
+    ensures { (tested : ℕ → Bool) → IsTest (lines_of node.now) (F.post test) tested → result ≡ least_of node.now tested }
+{
+    for line in 0..node.extent().lines {
+        if test(line) {
+            return Some(line);
+        }
+    }
+    None
+}
+
+/// Of the lines with an operation pending, and of which something is true, the one whose operation is the oldest.
+pub(crate) fn oldest<F: Fn(u8) -> bool>(node: &Node, test: F) -> Option<u8>
+    requires { (line : ℕ) → line < lines_of node.now → F.pre test line }
+    ensures { (tested : ℕ → Bool) → IsTest (lines_of node.now) (F.post test) tested → result ≡ oldest_with node.now tested }
+{
+    let mut found = None;
+    for line in 0..node.extent().lines {
+        let Some(pending) = node.pending(line) else {
+            continue;
+        };
+        if is_older(pending.serial, found) && test(line) {
+            found = Some((line, pending.serial));
+        }
+    }
+    found.map(|(line, _)| line)
+}
+
+/// Whether a serial is below that of what was found, if anything was.
+fn is_older(serial: u32, found: Option<(u8, u32)>) -> bool
+    ensures { result ≡ is_older_than serial found }
+{
+    match found {
+        Some((_, least)) => serial < least,
+        None => true,
+    }
+}

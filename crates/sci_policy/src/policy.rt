@@ -1,0 +1,277 @@
+//! The policy: what a controller decides by itself.
+
+ghost use Rattle.std.specs.Prelude.{◌≡◌, ◌<◌, ℕ, Bool};
+ghost use Rattle.sci_words.specs.declared.limits.TheConstants.{MAX_LINES};
+ghost use Rattle.sci_policy.specs.declared.policy.TheConstants.{PATIENCE};
+ghost use Rattle.std.specs.Prelude.{None, IfSome, true, slice_set};
+ghost use Rattle.sci_cache.specs.Cache.{letter_of};
+ghost use Rattle.sci_cache.specs.State.{Out};
+ghost use Rattle.sci_core.specs.Node.{lines_of};
+ghost use Rattle.sci_policy.specs.Lines.{state_on};
+ghost use Rattle.sci_policy.specs.Policy.{has as has_line, is_cread, set_of};
+ghost use Rattle.sci_policy.specs.Scan.{IsTest};
+
+use crate::lines::{
+    awaits_home, can_drain, has_fresh_sharers, has_maker, has_pending, has_sharers, is_busy_now,
+    is_head, joins, least,
+};
+use crate::rules::{operation_wanted, perform_wanted, send_wanted};
+use crate::want::Want;
+use sci_core::Node;
+use sci_packets::{Body, Packet};
+use sci_words::{AskKind, MAX_LINES};
+use std::marker::Model;
+
+/// A policy's patience: how often it is asked what comes next, with nothing that could be performed, until it has its
+/// node give up lists that others may wait for. In one turn of so many, requests that wait are let go.
+pub const PATIENCE: u8 = 64;
+
+/// For each line whether it is in a set.
+type LineSet = [bool; LINES];
+
+const LINES: usize = MAX_LINES as usize;
+
+/// What a node's controller decides by itself: which event comes next, and which requests of others it keeps or refuses.
+/// It has a fixed size. Contracts see it as a record of what it remembers.
+#[derive(Drop)]
+pub struct Policy {
+    draining: LineSet,
+    due: LineSet,
+    patience: u8,
+    turns: u8,
+    served: Option<u8>,
+    ghost patient: { patience < PATIENCE },
+    ghost counted: { turns < PATIENCE },
+}
+
+impl Model for Policy {
+    ghost use Rattle.sci_policy.specs.Policy.{PolicyOf};
+
+    ghost Value = { PolicyOf };
+
+    ghost view = { λ policy. record { draining = policy.draining; due = policy.due; patience = policy.patience; turns = policy.turns; served = policy.served } };
+}
+
+/// The set of the lines of which something is true.
+fn lines_that<F: Fn(u8) -> bool>(test: F) -> LineSet
+    requires { (line : ℕ) → line < MAX_LINES → F.pre test line }
+    ensures { (tested : ℕ → Bool) → IsTest MAX_LINES (F.post test) tested → result ≡ set_of tested }
+{
+    let mut lines = [false; LINES];
+    for line in 0..MAX_LINES {
+        lines[usize::from(line)] = test(line);
+    }
+    lines
+}
+
+impl Policy {
+    ghost use Rattle.std.specs.Prelude.{◌≡◌, ℕ, Some, None, IfSome};
+    ghost use Rattle.sci_cache.specs.Cache.{letter_of};
+    ghost use Rattle.sci_core.specs.Reached.{IsReachedNode};
+    ghost use Rattle.sci_policy.specs.Policy.{IsEnabledWant, PolicyOf, due_wanted, kept_by, next_policy, next_wanted, noted, opening_policy, purge_wanted, refused_by, ruled, still_draining, draining_at_last, due_at_last, set_of, ticked, turned, wanted};
+    ghost use Rattle.sci_policy.specs.Rest.{MayRest};
+
+    /// The policy of a node that has done nothing: no line is draining or due, no turn was counted, and no request was
+    /// served.
+    pub fn new() -> Policy
+        ensures { result ≡ opening_policy }
+    {
+        Policy {
+            draining: [false; LINES],
+            due: [false; LINES],
+            patience: 0,
+            turns: 0,
+            served: None,
+        }
+    }
+
+    /// What the node does next, if anything.
+    pub fn next(&mut self, node: &Node) -> Option<Want>
+        ensures want { result ≡ next_wanted self.old node.now }
+        ensures then { self.new ≡ next_policy self.old node.now }
+        ensures enabled { IfSome result (IsEnabledWant node.now) }
+        ensures rest { result ≡ None → (n : ℕ) → IsReachedNode n node.now → MayRest node.now }
+    {
+        self.tick(node);
+        let want = self.wanted(node);
+        self.note(node, want);
+        want
+    }
+
+    /// Counts a call of `next`.
+    fn tick(&mut self, node: &Node)
+        ensures { self.new ≡ ticked self.old node.now }
+    {
+        if self.patience + 1 < PATIENCE {
+            self.draining = self.still_draining(node);
+            self.patience += 1;
+        } else {
+            self.draining = self.draining_at_last(node);
+            self.due = self.due_at_last(node);
+            self.patience = 0;
+        }
+    }
+
+    /// The lines that go on draining.
+    fn still_draining(&self, node: &Node) -> LineSet
+        ensures { result ≡ set_of (still_draining self.now node.now) }
+    {
+        if node.is_at_rest() {
+            return [false; LINES];
+        }
+        lines_that(|line| has(&self.draining, line) && can_drain(node, line))
+    }
+
+    /// The lines that are draining when patience has ended.
+    fn draining_at_last(&self, node: &Node) -> LineSet
+        ensures { result ≡ set_of (draining_at_last self.now node.now) }
+    {
+        lines_that(|line| {
+            (has(&self.draining, line) && can_drain(node, line)) || has_sharers(node, line)
+        })
+    }
+
+    /// The lines that are due when patience has ended.
+    fn due_at_last(&self, node: &Node) -> LineSet
+        ensures { result ≡ set_of (due_at_last self.now node.now) }
+    {
+        lines_that(|line| has(&self.due, line) || has_fresh_sharers(node, line))
+    }
+
+    /// What the rules want.
+    fn wanted(&self, node: &Node) -> Option<Want>
+        ensures { result ≡ wanted self.now node.now }
+    {
+        if node.is_at_rest() {
+            return None;
+        }
+        let want = self.ruled(node)?;
+        if want.asks_home_to_change() && least(node, |line| joins(node, line)).is_some() {
+            return None;
+        }
+        Some(want)
+    }
+
+    /// What the first rule that fits wants.
+    fn ruled(&self, node: &Node) -> Option<Want>
+        ensures { result ≡ ruled self.now node.now }
+    {
+        perform_wanted(node)
+            .or_else(|| self.purge_wanted(node))
+            .or_else(|| send_wanted(node))
+            .or_else(|| self.due_wanted(node))
+            .or_else(|| operation_wanted(node))
+    }
+
+    fn purge_wanted(&self, node: &Node) -> Option<Want>
+        ensures { result ≡ purge_wanted self.now node.now }
+    {
+        let line = least(node, |line| {
+            has_sharers(node, line) && (has(&self.draining, line) || has_pending(node, line))
+        })?;
+        Some(Want::Ask(line, AskKind::Purge))
+    }
+
+    fn due_wanted(&self, node: &Node) -> Option<Want>
+        ensures { result ≡ due_wanted self.now node.now }
+    {
+        let line = least(node, |line| {
+            has(&self.due, line) && has_fresh_sharers(node, line)
+        })?;
+        Some(Want::Ask(line, AskKind::Claim))
+    }
+
+    /// Remembers what it wants.
+    fn note(&mut self, node: &Node, want: Option<Want>)
+        ensures { self.new ≡ noted self.old node.now want }
+    {
+        match want {
+            Some(Want::Perform(_)) => self.patience = 0,
+            Some(Want::Ask(line, AskKind::Purge)) => put(&mut self.draining, line, true),
+            Some(Want::Ask(line, AskKind::Claim)) if has_fresh_sharers(node, line) => {
+                put(&mut self.due, line, false);
+            }
+            _ => {}
+        }
+    }
+
+    /// Whether a request is refused: a Cread for a line that is draining, or of whose head a maker is pending. The
+    /// caller sees to it that the request is for this node.
+    pub fn refuses(&self, node: &Node, request: &Packet) -> bool
+        ensures { result ≡ refused_by self.now node.now (letter_of request.now) }
+    {
+        let Some(line) = cread_line(node, request) else {
+            return false;
+        };
+        (has(&self.draining, line) && can_drain(node, line))
+            || (is_head(node, line) && has_maker(node, line))
+    }
+
+    /// Whether a request stays where it is for now, to be looked at again in a later turn: another node's Cread for a line
+    /// that awaits its home's word; and, but in one turn of 64, for one that would answer it as busy, or that `refuses`
+    /// it.
+    pub fn keeps(&self, node: &Node, request: &Packet) -> bool
+        ensures { result ≡ kept_by self.now node.now (letter_of request.now) }
+    {
+        let Some(line) = cread_line(node, request) else {
+            return false;
+        };
+        if request.source.get() == u16::from(node.me()) {
+            return false;
+        }
+        awaits_home(node, line)
+            || (self.turns != 0 && (is_busy_now(node, line) || self.refuses(node, request)))
+    }
+
+    /// Counts a turn.
+    pub fn begin_turn(&mut self)
+        ensures { self.new ≡ turned self.old }
+    {
+        self.turns = (self.turns + 1) % PATIENCE;
+    }
+
+    /// Notes that a request of node `j` was served or refused.
+    pub fn served(&mut self, j: u8)
+        ensures { self.new ≡ record self.old { served = Some j } }
+    {
+        self.served = Some(j);
+    }
+
+    /// The node whose request was served or refused last, or None if none was.
+    pub fn last_served(&self) -> Option<u8>
+        ensures { result ≡ self.now.served }
+    {
+        self.served
+    }
+}
+
+/// Whether a line is in a set.
+fn has(set: &LineSet, line: u8) -> bool
+    ensures { result ≡ has_line set.now line }
+{
+    match set.get(usize::from(line)) {
+        Some(is_in) => *is_in,
+        None => false,
+    }
+}
+
+/// Puts a line into a set or takes it out. Nothing changes if it is no line of any machine.
+fn put(set: &mut LineSet, line: u8, is_in: bool)
+    ensures { set.new ≡ slice_set set.old line is_in }
+{
+    if line < MAX_LINES {
+        set[usize::from(line)] = is_in;
+    }
+}
+
+/// The line of a Cread, or None if the request is another, or of a line that isn't there.
+fn cread_line(node: &Node, request: &Packet) -> Option<u8>
+    ensures line { IfSome result (λ line. line ≡ request.now.line) }
+    ensures cread { IfSome result (λ line. is_cread request.now.body ≡ true) }
+    ensures none { result ≡ None → is_cread request.now.body ≡ true → state_on node.now request.now.line ≡ Out }
+{
+    if request.body != Body::Cread || request.line >= u64::from(node.extent().lines) {
+        return None;
+    }
+    Some(request.line as u8)
+}

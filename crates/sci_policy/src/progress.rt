@@ -1,0 +1,65 @@
+//! What a node did in a turn.
+
+use sci_words::Event;
+
+/// What a node did in a turn.
+#[derive(Clone, Copy, Debug, PartialEq, Eq)]
+pub struct Progress {
+    /// How many answers it accepted.
+    pub accepted: u32,
+    /// How many requests it served or refused. One that is kept doesn't count.
+    pub served: u32,
+    /// Whether it sent an answer.
+    pub replied: bool,
+    /// Whether it sent a request.
+    pub asked: bool,
+    /// A line whose pending operation can be performed, if the policy found one.
+    pub ready: Option<u8>,
+}
+
+impl Progress {
+    ghost use Rattle.std.specs.Prelude.{◌≡◌, ◌<◌, ◌++◌, ◌∷◌, [], List, None};
+    ghost use Rattle.sci_words.specs.declared.event.Event.{Event};
+    ghost use Rattle.sci_policy.specs.Turn.{Counts, is_idle};
+
+    /// A turn that has done nothing yet.
+    pub fn new() -> Progress
+        ensures nothing { Counts [] result }
+        ensures ready { result.ready ≡ None }
+    {
+        Progress {
+            accepted: 0,
+            served: 0,
+            replied: false,
+            asked: false,
+            ready: None,
+        }
+    }
+
+    /// Counts an event that the node made. The caller sees to it that there are fewer than 2^32 of a kind.
+    pub fn count(&mut self, event: &Event)
+        requires accepted { self.old.accepted < u32.MAX }
+        requires served { self.old.served < u32.MAX }
+        ensures counted { (events : List Event) → Counts events self.old → Counts (events ++ event.now ∷ []) self.new }
+        ensures ready { self.new.ready ≡ self.old.ready }
+    {
+        match event {
+            Event::Accept { .. } => self.accepted += 1,
+            Event::Serve { .. } | Event::Refuse { .. } => self.served += 1,
+            Event::Reply { .. } => self.replied = true,
+            Event::Ask { .. } => self.asked = true,
+            Event::Issue { .. } | Event::Perform { .. } => {}
+        }
+    }
+
+    /// Whether nothing was done, and nothing can be performed.
+    pub fn is_idle(&self) -> bool
+        ensures { result ≡ is_idle self.now }
+    {
+        self.accepted == 0
+            && self.served == 0
+            && !self.replied
+            && !self.asked
+            && self.ready.is_none()
+    }
+}
