@@ -3,3 +3,4 @@ pub mod Scan
 pub mod Policy
 pub mod Rest
 pub mod Turn
+pub mod Worker

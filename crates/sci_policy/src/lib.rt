@@ -8,8 +8,10 @@ mod progress;
 mod rules;
 mod submit;
 mod want;
+mod worker;
 
 pub use policy::{PATIENCE, Policy};
 pub use progress::Progress;
 pub use submit::{SubmitFault, check_submit};
 pub use want::Want;
+pub use worker::Worker;

@@ -1,0 +1,38 @@
+//! Whoever does a processor's operations: submits them, performs them, and takes turns in between.
+
+use crate::progress::Progress;
+use crate::submit::SubmitFault;
+use sci_history::Entry;
+use sci_words::Op;
+use std::alloc::AllocError;
+
+/// Whoever does a processor's operations. It keeps its own pending operations and its log, and numbers what it submits
+/// from 0. No call waits for another thread.
+pub trait Worker {
+    ghost use Rattle.std.specs.Prelude.{◌≡◌, Some, None, IfOk, IfErr, IfSome, IsErr};
+    ghost use Rattle.sci_core.specs.Node.{NodeOf};
+    ghost use Rattle.sci_core.specs.Work.{IsIssued, IsLogged};
+    ghost use Rattle.sci_policy.specs.Turn.{submit_fault};
+    ghost use Rattle.sci_policy.specs.Worker.{HasSameWork};
+
+    ghost node: { Self → NodeOf };
+
+    /// Submits an operation, and gives its serial. Refused, unchanged, with the first of `SubmitFault`'s causes that
+    /// holds.
+    fn submit(&mut self, op: Op) -> Result<u32, SubmitFault>
+        ensures issued { IfOk result (λ serial. IsIssued (node self.old) (node self.new) op) }
+        ensures serial { IfOk result (λ serial. serial ≡ (node self.old).issued) }
+        ensures fault { IfErr result (λ fault. submit_fault (node self.old) op ≡ Some fault) }
+        ensures same { IsErr result → node self.new ≡ node self.old };
+
+    /// Performs the operation that is pending on a line, and gives its entry, which now ends the log. None, with the
+    /// same work, if none is pending there or it can't be performed yet.
+    fn perform(&mut self, line: u8) -> Option<Entry>
+        ensures performed { IfSome result (λ entry. IsLogged (node self.old) (node self.new) line entry) }
+        ensures same { result ≡ None → node self.new ≡ node self.old };
+
+    /// Takes a turn: takes what others sent, and sends what comes next. No operation is submitted or performed by it.
+    /// Refused if memory is.
+    fn turn(&mut self) -> Result<Progress, AllocError>
+        ensures work { HasSameWork (node self.old) (node self.new) };
+}
