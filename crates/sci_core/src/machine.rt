@@ -120,6 +120,7 @@ impl Machine {
         ensures nodes { result.nodes ≡ self.now.size.nodes }
         ensures lines { result.lines ≡ self.now.size.lines }
         ensures slots { result.slots ≡ self.now.size.slots }
+        ensures reached { IsReached self.now }
     {
         self.state.extent()
     }

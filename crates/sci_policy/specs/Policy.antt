@@ -12,6 +12,8 @@ use Rattle.sci_cache.specs.State.{CacheState, Out, Asking, Joining, FreshJoining
 use Rattle.sci_cache.specs.Cache.{Letter, has_slot}
 use Rattle.sci_core.specs.Node.{NodeOf, node_performing, node_asking}
 use Rattle.sci_policy.specs.declared.policy.TheConstants.{PATIENCE}
+use Rattle.sci_policy.specs.declared.decision.Decision.{Decision}
+use Rattle.sci_policy.specs.declared.decision.Decision.TheVariants.{Keep, Refuse, Serve}
 use Rattle.sci_policy.specs.declared.want.Want.{Want}
 use Rattle.sci_policy.specs.declared.want.Want.TheVariants.{Perform, Ask}
 use Rattle.sci_policy.specs.Lines.{has_sharers, has_fresh_sharers, can_drain, is_head, joins, must_send, gives_way, could_give_way, own_ask, state_on, has_pending, has_maker, least, some_line, oldest}
@@ -203,9 +205,21 @@ kept_by policy node request =
     && (awaits_home (state_on node request.line)
     || (not (policy.turns == 0) && (is_busy_now (state_on node request.line) || refused_by policy node request)))
 
+abbrev pub decided : PolicyOf → NodeOf → Letter → Decision
+decided policy node request = if kept_by policy node request then Keep else if refused_by policy node request then Refuse else Serve
+
 -- a turn more
 abbrev pub turned : PolicyOf → PolicyOf
 turned policy = record policy { turns = (policy.turns + 1) % PATIENCE }
+
+-- the node after the one served last, in a circle
+abbrev pub after_served : ℕ → Option ℕ → ℕ
+after_served nodes None = 0
+after_served nodes (Some j) = if nat_lt (j + 1) nodes then j + 1 else 0
+
+-- the node whose requests a turn looks at first
+abbrev pub first_sender : PolicyOf → ℕ → ℕ
+first_sender policy nodes = after_served nodes policy.served
 
 -- ---- what is promised of a want
 

@@ -36,6 +36,19 @@ pub record IsTurnEvent (n : ℕ) (e : Event) : Type 0 where
   pub own : node_of e ≡ n
   pub kind : (is_accept e || (is_service e || (is_reply e || is_ask e))) ≡ true
 
+abbrev pub one_if : Bool → ℕ
+one_if true = 1
+one_if false = 0
+
+-- what is told after one event more
+abbrev pub counted : Progress → Event → Progress
+counted progress e = record progress {
+  accepted = progress.accepted + one_if (is_accept e);
+  served = progress.served + one_if (is_service e);
+  replied = progress.replied || is_reply e;
+  asked = progress.asked || is_ask e;
+}
+
 -- what is told of a turn counts its events
 pub record Counts (events : List Event) (progress : Progress) : Type 0 where
   pub accepted : progress.accepted ≡ count_by is_accept events

@@ -2,6 +2,7 @@
 //! a turn.
 #![tactic(auto)]
 
+mod decision;
 mod lines;
 mod policy;
 mod progress;
@@ -10,6 +11,7 @@ mod submit;
 mod want;
 mod worker;
 
+pub use decision::Decision;
 pub use policy::{PATIENCE, Policy};
 pub use progress::Progress;
 pub use submit::{SubmitFault, check_submit};

@@ -16,6 +16,7 @@ use crate::lines::{
     is_head, joins, least,
 };
 use crate::rules::{operation_wanted, perform_wanted, send_wanted};
+use crate::decision::Decision;
 use crate::want::Want;
 use sci_core::Node;
 use sci_packets::{Body, Packet};
@@ -65,10 +66,10 @@ fn lines_that<F: Fn(u8) -> bool>(test: F) -> LineSet
 }
 
 impl Policy {
-    ghost use Rattle.std.specs.Prelude.{◌≡◌, ℕ, Some, None, IfSome};
+    ghost use Rattle.std.specs.Prelude.{◌≡◌, ◌<◌, ◌≤◌, ℕ, Some, None, IfSome};
     ghost use Rattle.sci_cache.specs.Cache.{letter_of};
     ghost use Rattle.sci_core.specs.Reached.{IsReachedNode};
-    ghost use Rattle.sci_policy.specs.Policy.{IsEnabledWant, PolicyOf, due_wanted, kept_by, next_policy, next_wanted, noted, opening_policy, purge_wanted, refused_by, ruled, still_draining, draining_at_last, due_at_last, set_of, ticked, turned, wanted};
+    ghost use Rattle.sci_policy.specs.Policy.{IsEnabledWant, PolicyOf, decided, due_wanted, first_sender, kept_by, next_policy, next_wanted, noted, opening_policy, purge_wanted, refused_by, ruled, still_draining, draining_at_last, due_at_last, set_of, ticked, turned, wanted};
     ghost use Rattle.sci_policy.specs.Rest.{MayRest};
 
     /// The policy of a node that has done nothing: no line is draining or due, no turn was counted, and no request was
@@ -223,6 +224,19 @@ impl Policy {
             || (self.turns != 0 && (is_busy_now(node, line) || self.refuses(node, request)))
     }
 
+    /// What is done with a request of another node, or of this one.
+    pub fn decide(&self, node: &Node, request: &Packet) -> Decision
+        ensures { result ≡ decided self.now node.now (letter_of request.now) }
+    {
+        if self.keeps(node, request) {
+            Decision::Keep
+        } else if self.refuses(node, request) {
+            Decision::Refuse
+        } else {
+            Decision::Serve
+        }
+    }
+
     /// Counts a turn.
     pub fn begin_turn(&mut self)
         ensures { self.new ≡ turned self.old }
@@ -235,6 +249,19 @@ impl Policy {
         ensures { self.new ≡ record self.old { served = Some j } }
     {
         self.served = Some(j);
+    }
+
+    /// The node whose requests a turn looks at first, of so many nodes: the one after the node noted last, or 0 if none
+    /// was noted or it isn't one of them. The caller sees to it that there is a node.
+    pub fn first_sender(&self, nodes: u8) -> u8
+        requires { 1 ≤ nodes }
+        ensures first { result ≡ first_sender self.now nodes }
+        ensures below { result < nodes }
+    {
+        match self.served {
+            Some(j) if j < nodes - 1 => j + 1,
+            _ => 0,
+        }
     }
 
     /// The node whose request was served or refused last, or None if none was.

@@ -20,7 +20,7 @@ pub struct Progress {
 impl Progress {
     ghost use Rattle.std.specs.Prelude.{◌≡◌, ◌<◌, ◌++◌, ◌∷◌, [], List, None};
     ghost use Rattle.sci_words.specs.declared.event.Event.{Event};
-    ghost use Rattle.sci_policy.specs.Turn.{Counts, is_idle};
+    ghost use Rattle.sci_policy.specs.Turn.{Counts, counted, is_idle};
 
     /// A turn that has done nothing yet.
     pub fn new() -> Progress
@@ -40,8 +40,8 @@ impl Progress {
     pub fn count(&mut self, event: &Event)
         requires accepted { self.old.accepted < u32.MAX }
         requires served { self.old.served < u32.MAX }
+        ensures more { self.new ≡ counted self.old event.now }
         ensures counted { (events : List Event) → Counts events self.old → Counts (events ++ event.now ∷ []) self.new }
-        ensures ready { self.new.ready ≡ self.old.ready }
     {
         match event {
             Event::Accept { .. } => self.accepted += 1,

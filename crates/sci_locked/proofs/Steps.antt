@@ -1,0 +1,84 @@
+-- What an Issue and a Perform of a node do to a reached state.
+use Rattle.std.proofs.Common.{◌≡◌, ℕ, ◌<◌, Bool, true, false, ◌-◌, List, [], ◌∷◌, ◌++◌, length, Option, Some, None, refl, sym, ap, subst, ◌∙◌, arith}
+use Rattle.std.specs.Prelude.{IsSome, IsTrue, is_some, option_map, slice_get}
+use Rattle.std.proofs.lemmas.List.{get_or-set_same, get_or_push, length_push}
+use Rattle.std.proofs.lemmas.Option.{slice_get-get_or}
+use Rattle.sci_words.specs.declared.event.Event.{Event}
+use Rattle.sci_words.specs.declared.event.Event.TheVariants.{Issue, Perform}
+use Rattle.sci_words.specs.declared.operation.Op.{Op}
+use Rattle.sci_history.specs.declared.entry.Entry.{Entry}
+use Rattle.sci_core.specs.declared.fault.ApplyFault.{ApplyFault}
+use Rattle.sci_core.specs.declared.fault.ApplyFault.TheVariants.{NotEnabled, Memory}
+use Rattle.sci_core.specs.Core.{Core, node_at, stepping, with_node}
+use Rattle.sci_core.specs.Fault.{IsFaultOf, is_sending}
+use Rattle.sci_core.specs.Node.{IsNode, NodeOf, no_node, node_issuing, node_performing}
+use Rattle.sci_core.specs.declared.pending.Pending.{Pending}
+use Rattle.sci_core.specs.Reached.{IsReached}
+use Rattle.sci_core.specs.Work.{IsIssued, IsLogged}
+use Rattle.sci_core.proofs.Pendings.{issue_puts, perform_puts}
+use Rattle.sci_core.proofs.Sides.{steps_by_sides}
+use Rattle.sci_core.proofs.WellFormedSteps.{reached_well}
+
+-- an event that is enabled, and sends nothing, is never refused
+pub no_fault : (next : Option Core) (e : Event) (fault : ApplyFault) → IsFaultOf next e fault → IsSome next → is_sending e ≡ false → ⊥
+no_fault next e NotEnabled is enabled sends = let none : is_some next ≡ false = ap is_some is in let clash : true ≡ false = sym enabled ∙ none in cc
+no_fault next e (Memory refused) is enabled sends = let clash : true ≡ false = sym is.1 ∙ sends in cc
+
+changed_node : (core : Core) (n : ℕ) (next : NodeOf) → IsReached core → n < core.size.nodes → node_at (with_node core n next) n ≡ next
+changed_node core n next reached some = get_or-set_same core.parts n next no_node (let long = (reached_well core reached).sizes.parts_long in omega arith)
+
+pub node_fits : (core : Core) (n : ℕ) → IsReached core → n < core.size.nodes → IsNode (node_at core n)
+node_fits core n reached some = ((reached_well core reached).each_part n some).fits
+
+-- ---- Issue
+
+there : {A B : Type 0} (f : A → B) (o : Option A) → is_some o ≡ true → is_some (option_map f o) ≡ true
+there f None e = cc
+there f (Some x) e = refl
+
+pub issue_enabled : (core : Core) (n : ℕ) (op : Op) → n < core.size.nodes → IsSome (node_issuing (node_at core n) op) → IsSome (stepping core (Issue n op))
+issue_enabled core n op some may = ap is_some ((steps_by_sides core n some).issue op) ∙ there (with_node core n) (node_issuing (node_at core n) op) may
+
+issued_by : (core new : Core) (n : ℕ) (o : Option NodeOf) → IsReached core → n < core.size.nodes → option_map (with_node core n) o ≡ Some new → o ≡ Some (node_at new n)
+issued_by core new n None reached some e = cc
+issued_by core new n (Some next) reached some e =
+    let same : with_node core n next ≡ new = cc in
+    ap Some (sym (changed_node core n next reached some) ∙ ap (λ (c : Core). node_at c n) same)
+
+pub issue_makes : (core new : Core) (n : ℕ) (op : Op) → IsReached core → n < core.size.nodes → stepping core (Issue n op) ≡ Some new → IsIssued (node_at core n) (node_at new n) op
+issue_makes core new n op reached some steps =
+    issue_puts (node_at core n) (node_at new n) op (node_fits core n reached some) (issued_by core new n (node_issuing (node_at core n) op) reached some (sym ((steps_by_sides core n some).issue op) ∙ steps))
+
+-- ---- Perform
+
+pub perform_enabled : (core : Core) (n line : ℕ) → n < core.size.nodes → IsSome (node_performing (node_at core n) line) → IsSome (stepping core (Perform n line))
+perform_enabled core n line some may = ap is_some ((steps_by_sides core n some).perform line) ∙ there (λ (done : NodeOf × Entry). with_node core n done.0) (node_performing (node_at core n) line) may
+
+performed_by : (core new : Core) (n : ℕ) (o : Option (NodeOf × Entry)) → IsReached core → n < core.size.nodes → option_map (λ (done : NodeOf × Entry). with_node core n done.0) o ≡ Some new → (entry : Entry) × (o ≡ Some (node_at new n, entry))
+performed_by core new n None reached some e = cc
+performed_by core new n (Some done) reached some e =
+    let same : with_node core n done.0 ≡ new = cc in
+    let node : done.0 ≡ node_at new n = sym (changed_node core n done.0 reached some) ∙ ap (λ (c : Core). node_at c n) same in
+    (done.1, ap (λ (m : NodeOf). Some (m, done.1)) node)
+
+pub perform_makes : (core new : Core) (n line : ℕ) → IsReached core → n < core.size.nodes → stepping core (Perform n line) ≡ Some new
+    → (entry : Entry) × (node_performing (node_at core n) line ≡ Some (node_at new n, entry)) × IsLogged (node_at core n) (node_at new n) line entry
+perform_makes core new n line reached some steps =
+    let made = performed_by core new n (node_performing (node_at core n) line) reached some (sym ((steps_by_sides core n some).perform line) ∙ steps) in
+    (made.0, made.1, perform_puts (node_at core n) (node_at new n) line made.0 (node_fits core n reached some) made.1)
+
+pub same_serial : (o : Option Pending) (p q : Pending) → o ≡ Some p → o ≡ Some q → p.serial ≡ q.serial
+same_serial None p q e f = cc
+same_serial (Some x) p q e f = let same : p ≡ q = cc in ap (λ (r : Pending). r.serial) same
+
+-- ---- the end of a log
+
+pub last_entry : (log old : List Entry) (entry : Entry) → log ≡ old ++ entry ∷ [] → slice_get log (length log - 1) ≡ Some entry
+last_entry log old entry e =
+    let long = length_push old entry in
+    let place : length old ≡ length (old ++ entry ∷ []) - 1 = omega arith in
+    let below : length (old ++ entry ∷ []) - 1 < length (old ++ entry ∷ []) = omega arith in
+    rw e (slice_get-get_or (old ++ entry ∷ []) (length (old ++ entry ∷ []) - 1) entry below ∙ ap Some (get_or_push old entry entry (length (old ++ entry ∷ []) - 1) place))
+
+pub same_some : {A : Type 0} (x y : A) → Some x ≡ Some y → x ≡ y
+same_some x y e = cc

@@ -1,0 +1,5 @@
+use Rattle.sci_locked.specs.Moves.{GoesOn}
+use Rattle.sci_locked.proofs.turn.accept_from.Given as goal
+
+abbrev pub invariant-loop-cell : goal.invariant-loop-cell
+invariant-loop-cell l = GoesOn l.node l._cell l.fn.machine l.machine l.fn.progress l.progress

@@ -1,0 +1,6 @@
+use Rattle.std.proofs.Common.{◌*◌}
+use Rattle.sci_locked.specs.Moves.{GoesOn}
+use Rattle.sci_locked.proofs.turn.take_from.Given as goal
+
+abbrev pub invariant-loop-cell : goal.invariant-loop-cell
+invariant-loop-cell l = GoesOn l.node (2 * l._cell) l.fn.machine l.machine l.fn.progress l.progress
