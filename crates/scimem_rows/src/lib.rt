@@ -32,6 +32,10 @@ mod states;
 #[cfg(test)]
 mod stepped;
 #[cfg(test)]
+mod turned;
+#[cfg(test)]
+mod turns;
+#[cfg(test)]
 mod walked;
 #[cfg(test)]
 mod walks;
