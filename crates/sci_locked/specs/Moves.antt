@@ -1,8 +1,13 @@
 -- What a node's turn does to the machine.
-use Rattle.std.specs.Prelude.{◌≡◌, ◌≤◌, ◌+◌, ℕ, List, [], ◌∷◌, Option, Some, IfSome, IsSome}
+use Rattle.std.specs.Prelude.{◌≡◌, ◌≤◌, ◌+◌, ℕ, List, [], ◌∷◌, if◌then◌else◌, Option, Some, None, IfSome, IsSome, is_some}
 use Rattle.std.specs.List.{AllByRecursion}
 use Rattle.sci_words.specs.declared.event.Event.{Event}
+use Rattle.sci_words.specs.declared.event.Event.TheVariants as event
+use Rattle.sci_cache.specs.Cache.{Letter}
 use Rattle.sci_core.specs.Core.{Core, stepping}
+use Rattle.sci_policy.specs.declared.decision.Decision.{Decision}
+use Rattle.sci_policy.specs.declared.decision.Decision.TheVariants.{Keep, Refuse, Serve}
+use Rattle.sci_policy.specs.Policy.{PolicyOf, decided}
 use Rattle.sci_core.specs.Node.{NodeOf, node_performing}
 use Rattle.sci_policy.specs.declared.progress.Progress.{Progress}
 use Rattle.sci_policy.specs.Turn.{Counts, IsTurnEvent}
@@ -35,3 +40,15 @@ pub record GoesOn (n most : ℕ) (old new : Core) (before after : Progress) : Ty
   pub served : after.served ≤ before.served + most
   pub ready : after.ready ≡ before.ready
   pub size : new.size ≡ old.size
+
+-- ---- which request is taken, and how
+
+abbrev pub decided_event : Decision → ℕ → ℕ → Option Event
+decided_event Keep from n = None
+decided_event Refuse from n = Some (event.Refuse from n)
+decided_event Serve from n = Some (event.Serve from n)
+
+-- the event that takes the oldest request of a lane, if there is one, no answer waits, and the policy doesn't keep it
+abbrev pub taking_event : PolicyOf → NodeOf → ℕ → ℕ → Option Letter → Option Event
+taking_event policy node from n None = None
+taking_event policy node from n (Some request) = if is_some node.waiting then None else decided_event (decided policy node request) from n

@@ -1,11 +1,12 @@
 //! A node's turn on a machine that is lent.
 
-ghost use Rattle.std.specs.Prelude.{◌≡◌, ◌<◌, ◌≤◌, ◌+◌, ◌*◌, ℕ, Some, None, IfOk, IfSome, IsErr};
+ghost use Rattle.std.specs.Prelude.{slice_get, ◌≡◌, ◌<◌, ◌≤◌, ◌+◌, ◌*◌, ℕ, Some, None, IfOk, IfSome, IsErr};
 ghost use Rattle.sci_words.specs.declared.event.Event.{Event as EventOf};
-ghost use Rattle.sci_core.specs.Core.{Core, node_at};
+ghost use Rattle.sci_core.specs.declared.lane.LaneKind.TheVariants.{Requests};
+ghost use Rattle.sci_core.specs.Core.{Core, lane_of, node_at};
 ghost use Rattle.sci_core.specs.Node.{node_performing};
 ghost use Rattle.sci_policy.specs.Turn.{IsTurnEvent};
-ghost use Rattle.sci_locked.specs.Moves.{GoesOn, IsPartOfTurn, IsTurn, MayPerform};
+ghost use Rattle.sci_locked.specs.Moves.{GoesOn, IsPartOfTurn, IsTurn, MayPerform, taking_event};
 
 use sci_core::{ApplyFault, LaneKind, Machine};
 use sci_policy::{Decision, Policy, Progress, Want};
@@ -176,7 +177,8 @@ fn take_from(
 fn taking(machine: &Machine, policy: &Policy, from: u8, node: u8) -> Option<Event>
     requires node { node < machine.now.size.nodes }
     requires from { from < machine.now.size.nodes }
-    ensures { IfSome result (IsTurnEvent node) }
+    ensures own { IfSome result (IsTurnEvent node) }
+    ensures event { result ≡ taking_event policy.now (node_at machine.now node) from node (slice_get (lane_of machine.now Requests from node) 0) }
 {
     let me = machine.node(node);
     if me.waiting().is_some() {

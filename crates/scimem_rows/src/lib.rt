@@ -24,6 +24,8 @@ mod row;
 #[cfg(test)]
 mod schedules;
 #[cfg(test)]
+mod shared;
+#[cfg(test)]
 mod sharer;
 #[cfg(test)]
 mod short_schedules;

@@ -67,12 +67,12 @@ fn any_order(alloc: Global, random: &mut Random, nodes: u8) -> Result<Vec<u8>, F
     let goes = 8 + random.below(9);
     let mut order = Vec::new(alloc);
     for n in 0..nodes {
-        let place = random.below(n + 1);
-        order.insert(usize::from(place), n)?;
+        let place = usize::from(random.below(n + 1)).min(order.len());
+        order.insert(place, n)?;
     }
     for more in nodes..goes {
-        let place = random.below(more + 1);
-        order.insert(usize::from(place), random.below(nodes))?;
+        let place = usize::from(random.below(more + 1)).min(order.len());
+        order.insert(place, random.below(nodes))?;
     }
     Ok(order)
 }
@@ -169,12 +169,12 @@ fn rounds_of_adders(alloc: Global, nodes: u8, each: u32) -> Result<u32, Fail> {
 /// A contended line: an operation takes no more turns of all nodes than one hand-over and a few packets need.
 #[test]
 fn a_contended_line_goes_round(rt: HostRuntime) -> Result<(), Fail> {
-    for (nodes, tenths) in [(2, 36), (4, 92), (8, 172), (16, 332)] {
+    for (nodes, tenths) in [(2, 36u32), (4, 92), (8, 172), (16, 332)] {
         let each = 50;
         let rounds = rounds_of_adders(rt.alloc(), nodes, each)?;
         let operations = u32::from(nodes) * each;
         assert!(rt;
-            rounds * 10 <= operations * tenths,
+            rounds * 10 <= operations * u64::from(tenths),
             "{nodes} nodes take {rounds} rounds"
         );
     }
