@@ -6,6 +6,7 @@ use sci_locked::Shared;
 use sci_policy::SubmitFault;
 use sci_words::{Act, Extent, LockOp, Op, Reply};
 use std::alloc::Global;
+use std::sync::Wait;
 use std::test::*;
 
 fn machine(alloc: Global, nodes: u8, lines: u8, slots: u8, limit: u32) -> Result<Shared, Fail> {

@@ -171,12 +171,10 @@ fn rounds_of_adders(alloc: Global, nodes: u8, each: u32) -> Result<u32, Fail> {
 fn a_contended_line_goes_round(rt: HostRuntime) -> Result<(), Fail> {
     for (nodes, tenths) in [(2, 36u32), (4, 92), (8, 172), (16, 332)] {
         let each = 50;
-        let rounds = rounds_of_adders(rt.alloc(), nodes, each)?;
-        let operations = u32::from(nodes) * each;
-        assert!(rt;
-            rounds * 10 <= operations * u64::from(tenths),
-            "{nodes} nodes take {rounds} rounds"
-        );
+        let rounds = u64::from(rounds_of_adders(rt.alloc(), nodes, each)?);
+        let operations = u64::from(nodes) * u64::from(each);
+        let most = operations * u64::from(tenths) / 10;
+        assert!(rt; rounds <= most, "{nodes} nodes take {rounds} rounds");
     }
     Ok(())
 }
