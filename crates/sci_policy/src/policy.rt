@@ -11,12 +11,12 @@ ghost use Rattle.sci_policy.specs.Lines.{state_on};
 ghost use Rattle.sci_policy.specs.Policy.{has as has_line, is_cread, set_of};
 ghost use Rattle.sci_policy.specs.Scan.{IsTest};
 
+use crate::decision::Decision;
 use crate::lines::{
     awaits_home, can_drain, has_fresh_sharers, has_maker, has_pending, has_sharers, is_busy_now,
     is_head, joins, least,
 };
 use crate::rules::{operation_wanted, perform_wanted, send_wanted};
-use crate::decision::Decision;
 use crate::want::Want;
 use sci_core::Node;
 use sci_packets::{Body, Packet};
