@@ -45,3 +45,4 @@ pub mod Enabled
 pub mod Ranges
 pub mod Pendings
 pub mod Rest
+pub mod GoingOn

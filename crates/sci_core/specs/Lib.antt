@@ -20,3 +20,4 @@ pub mod Work
 pub mod Sides
 pub mod Enabled
 pub mod Coherent
+pub mod GoingOn

@@ -22,6 +22,7 @@ ghost use Rattle.sci_words.specs.declared.stamped.Stamped.{Stamped};
 ghost use Rattle.sci_cache.specs.Cache.{line_of};
 ghost use Rattle.sci_cache.specs.State.{Head};
 ghost use Rattle.sci_core.specs.Coherent.{IsCoherent};
+ghost use Rattle.sci_core.specs.GoingOn.{CanGoOn};
 ghost use Rattle.sci_core.specs.Done.{LastChanges, done, made_by};
 ghost use Rattle.sci_core.specs.Outcome.{logs_of};
 ghost use Rattle.sci_core.specs.Size.{Size, IsMachineSize};
@@ -161,4 +162,10 @@ pub fn sole_copies_perform()
 /// there are version slots.
 pub fn reached_nodes_are_parts()
     ensures { (n : ℕ) (node : NodeOf) (is : IsReachedNode n node) → IsPart is.core.size n node }
+{}
+
+/// A node of a reached state has a version slot, and no more lines with an entry than slots. Each line with an entry awaits
+/// an answer, or has a request to send: it joins or tells, or is a head or an entry below one.
+pub fn reached_nodes_can_go_on()
+    ensures { (n : ℕ) (node : NodeOf) → IsReachedNode n node → CanGoOn node }
 {}

@@ -15,6 +15,7 @@ use Rattle.sci_core.specs.Node.{NodeOf, lines_of, node_performing, pending_on}
 use Rattle.sci_core.specs.Reached.{IsReachedNode}
 use Rattle.sci_core.specs.WellFormed.{IsPart}
 use Rattle.sci_core.proofs.Pendings.{sole_performs}
+use Rattle.sci_core.proofs.GoingOn.{can_go_on}
 use Rattle.sci_core.proofs.Rest.{counted_none}
 use Rattle.sci_core.proofs.WellFormedSteps.{reached_part}
 use Rattle.sci_policy.specs.declared.want.Want.{Want}
@@ -290,7 +291,7 @@ quiet_node n node is idle sent =
     let part = reached_part n node is in
     record {
       lines = λ line below. record { idle = least_none node (λ l. waits (state_on node l)) idle line below; sent = least_none node (λ l. must_send (state_on node l)) sent line below };
-      some_slot = let slots = part.room in let some = is.reached.size.extent.has_slot in omega arith;
+      some_slot = (can_go_on n node is).some_slot;
       sole = λ line c below pending state.
           let there = some_there (pending_on node line) pending in
           let inside : line < is.core.size.lines = let all = part.each in omega arith in

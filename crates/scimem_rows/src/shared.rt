@@ -109,7 +109,7 @@ fn fill_a_log(rt: &impl Wait, shared: &Shared, times: u32) -> Result<(), Fail> {
     let add = on_line(0, Act::Lock(LockOp::FetchAdd { datum: 1 }));
     for serial in 0..times {
         submits(rt, shared, 0, add, serial)?;
-        for _turn in 0..3 {
+        for _turn in 0..4 {
             if shared.perform(rt, 0, 0).is_some() {
                 break;
             }

@@ -21,6 +21,8 @@ struct Script {
 pub struct Turned {
     machine: Machine,
     scripts: Vec<Script>,
+    /// How many packets the nodes have taken.
+    packets: u64,
 }
 
 impl Turned {
@@ -37,6 +39,7 @@ impl Turned {
         Ok(Turned {
             machine: Machine::new(alloc, extent, 65_536)?,
             scripts,
+            packets: 0,
         })
     }
 
@@ -53,7 +56,9 @@ impl Turned {
         self.perform(n);
         let script = self.scripts.get_mut(usize::from(n)).ok_or("no script")?;
         if n < self.machine.extent().nodes {
-            turn_on(&mut self.machine, &mut script.policy, n)?;
+            let progress = turn_on(&mut self.machine, &mut script.policy, n)?;
+            let taken = u64::from(progress.accepted) + u64::from(progress.served);
+            self.packets = self.packets.saturating_add(taken);
         }
         Ok(())
     }
@@ -85,6 +90,11 @@ impl Turned {
                 let _entry = perform_on(&mut self.machine, n, line);
             }
         }
+    }
+
+    /// How many packets the nodes have taken.
+    pub fn packets(&self) -> u64 {
+        self.packets
     }
 
     /// Whether every operation was performed.

@@ -153,8 +153,8 @@ fn turns_by_chance_end(rt: HostRuntime) -> Result<(), Fail> {
     Ok(())
 }
 
-/// How many rounds of all nodes in turn so many fetch-adds a node on one line take.
-fn rounds_of_adders(alloc: Global, nodes: u8, each: u32) -> Result<u32, Fail> {
+/// How many rounds of all nodes in turn so many fetch-adds a node on one line take, and how many packets.
+fn adders(alloc: Global, nodes: u8, each: u32) -> Result<(u32, u64), Fail> {
     let mut turned = machine(alloc, nodes, 1, 1)?;
     let mut order = Vec::new(alloc);
     for n in 0..nodes {
@@ -163,18 +163,25 @@ fn rounds_of_adders(alloc: Global, nodes: u8, each: u32) -> Result<u32, Fail> {
             turned.add(n, add_one(0))?;
         }
     }
-    turned.finish(alloc, &order, 1_000_000)
+    let rounds = turned.finish(alloc, &order, 1_000_000)?;
+    Ok((rounds, turned.packets()))
 }
 
-/// A contended line: an operation takes no more turns of all nodes than one hand-over and a few packets need.
+/// On a contended line an operation takes few turns of all nodes and few packets, counted in tenths.
 #[test]
 fn a_contended_line_goes_round(rt: HostRuntime) -> Result<(), Fail> {
-    for (nodes, tenths) in [(2, 36u32), (4, 92), (8, 172), (16, 332)] {
-        let each = 50;
-        let rounds = u64::from(rounds_of_adders(rt.alloc(), nodes, each)?);
+    let each = 50;
+    let bounds = [(2, 36u32, 31u32), (4, 92, 62), (8, 172, 65), (16, 332, 70)];
+    for (nodes, turns, packets) in bounds {
+        let (rounds, taken) = adders(rt.alloc(), nodes, each)?;
         let operations = u64::from(nodes) * u64::from(each);
-        let most = operations * u64::from(tenths) / 10;
-        assert!(rt; rounds <= most, "{nodes} nodes take {rounds} rounds");
+        let most = operations * u64::from(turns) / 10;
+        assert!(rt;
+            u64::from(rounds) <= most,
+            "{nodes} nodes take {rounds} rounds"
+        );
+        let most = operations * u64::from(packets) / 10;
+        assert!(rt; taken <= most, "{nodes} nodes take {taken} packets");
     }
     Ok(())
 }

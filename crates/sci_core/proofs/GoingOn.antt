@@ -1,0 +1,34 @@
+-- A node of a reached state can go on.
+use Rattle.std.proofs.Common.{◌≡◌, ◌≤◌, ℕ, Bool, true, false, refl, arith}
+use Rattle.sci_cache.specs.State.{CacheState, Out, Asking, Joining, FreshJoining, Head, FreshHead, Below, Purging, Claiming, Clearing, Returning, Rolling, Telling, Fading, is_out, waits}
+use Rattle.sci_cache.specs.Cache.{line_of}
+use Rattle.sci_core.specs.GoingOn.{CanGoOn, goes_on}
+use Rattle.sci_core.specs.Node.{NodeOf}
+use Rattle.sci_core.specs.Reached.{IsReachedNode}
+use Rattle.sci_core.proofs.WellFormedSteps.{reached_part}
+
+entry_goes_on : (state : CacheState) → is_out state ≡ false → waits state ≡ false → goes_on state ≡ true
+entry_goes_on Out entry idle = cc
+entry_goes_on (Joining p false) entry idle = refl
+entry_goes_on (FreshJoining p false c) entry idle = refl
+entry_goes_on (Telling r w false) entry idle = refl
+entry_goes_on (Head f c) entry idle = refl
+entry_goes_on (FreshHead f c) entry idle = refl
+entry_goes_on (Below f b c) entry idle = refl
+entry_goes_on (Joining p true) entry idle = cc
+entry_goes_on (FreshJoining p true c) entry idle = cc
+entry_goes_on (Telling r w true) entry idle = cc
+entry_goes_on Asking entry idle = cc
+entry_goes_on (Purging q c) entry idle = cc
+entry_goes_on (Claiming f c) entry idle = cc
+entry_goes_on (Clearing c) entry idle = cc
+entry_goes_on (Returning c) entry idle = cc
+entry_goes_on (Rolling f b c) entry idle = cc
+entry_goes_on Fading entry idle = cc
+
+pub can_go_on : (n : ℕ) (node : NodeOf) → IsReachedNode n node → CanGoOn node
+can_go_on n node is =
+    let part = reached_part n node is in
+    let slots = part.room in
+    let some = is.reached.size.extent.has_slot in
+    record { some_slot = omega arith; few = part.few; entries = λ line. entry_goes_on (line_of node.cache line).state }
