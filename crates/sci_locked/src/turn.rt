@@ -1,8 +1,9 @@
 //! A node's turn on a machine that is lent.
 
-ghost use Rattle.std.specs.Prelude.{slice_get, ◌≡◌, ◌<◌, ◌≤◌, ◌+◌, ◌*◌, ℕ, Some, None, IfOk, IfSome, IsErr};
+ghost use Rattle.std.specs.Prelude.{length, nat_lt, slice_get, ◌≡◌, ◌<◌, ◌≤◌, ◌+◌, ◌*◌, ℕ, Some, None, IfOk, IfSome, IsErr};
 ghost use Rattle.sci_words.specs.declared.event.Event.{Event as EventOf};
 ghost use Rattle.sci_core.specs.declared.lane.LaneKind.TheVariants.{Requests};
+ghost use Rattle.sci_words.specs.declared.limits.TheConstants.{LANE_CELLS};
 ghost use Rattle.sci_core.specs.Core.{Core, lane_of, node_at};
 ghost use Rattle.sci_core.specs.Node.{node_performing};
 ghost use Rattle.sci_policy.specs.Turn.{IsTurnEvent};
@@ -51,6 +52,7 @@ fn make(machine: &mut Machine, progress: &mut Progress, event: Event) -> Result<
 fn has_room(machine: &Machine, kind: LaneKind, from: u8, to: u8) -> bool
     requires from { from < machine.now.size.nodes }
     requires to { to < machine.now.size.nodes }
+    ensures { result ≡ nat_lt (length (lane_of machine.now kind from to)) LANE_CELLS }
 {
     machine.count(kind, from, to) < usize::from(LANE_CELLS)
 }

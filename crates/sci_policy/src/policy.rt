@@ -86,7 +86,8 @@ impl Policy {
         }
     }
 
-    /// What the node does next, if anything.
+    /// What the node does next: the first rule that fits says so. It is enabled. On a node of a reached state it is None
+    /// only if no operation is pending or some line awaits an answer.
     pub fn next(&mut self, node: &Node) -> Option<Want>
         ensures want { result ≡ next_wanted self.old node.now }
         ensures then { self.new ≡ next_policy self.old node.now }
@@ -164,6 +165,7 @@ impl Policy {
             .or_else(|| operation_wanted(node))
     }
 
+    /// Purges the least list that is draining, or whose head has an operation pending.
     fn purge_wanted(&self, node: &Node) -> Option<Want>
         ensures { result ≡ purge_wanted self.now node.now }
     {
@@ -173,6 +175,7 @@ impl Policy {
         Some(Want::Ask(line, AskKind::Purge))
     }
 
+    /// Claims the least list that is due.
     fn due_wanted(&self, node: &Node) -> Option<Want>
         ensures { result ≡ due_wanted self.now node.now }
     {
@@ -196,8 +199,8 @@ impl Policy {
         }
     }
 
-    /// Whether a request is refused: a Cread for a line that is draining, or of whose head a maker is pending. The
-    /// caller sees to it that the request is for this node.
+    /// Whether a request is refused: a Cread for a line that is draining, or that is Head while a maker of this node is
+    /// pending on it.
     pub fn refuses(&self, node: &Node, request: &Packet) -> bool
         ensures { result ≡ refused_by self.now node.now (letter_of request.now) }
     {
