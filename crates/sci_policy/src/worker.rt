@@ -9,11 +9,12 @@ use std::alloc::AllocError;
 /// Whoever does a processor's operations. It keeps its own pending operations and its log, and numbers what it submits
 /// from 0. No call waits for another thread.
 pub trait Worker {
-    ghost use Rattle.std.specs.Prelude.{◌≡◌, Some, None, IfOk, IfErr, IfSome, IsErr};
+    ghost use Rattle.std.specs.Prelude.{◌≡◌, true, Some, None, IfOk, IfErr, IfSome, IsErr};
     ghost use Rattle.sci_core.specs.Node.{NodeOf};
     ghost use Rattle.sci_core.specs.Work.{IsIssued, IsLogged};
-    ghost use Rattle.sci_policy.specs.Turn.{submit_fault};
-    ghost use Rattle.sci_policy.specs.Worker.{HasSameWork};
+    ghost use Rattle.sci_policy.specs.Rest.{MayIdle};
+    ghost use Rattle.sci_policy.specs.Turn.{is_idle, submit_fault};
+    ghost use Rattle.sci_policy.specs.Worker.{HasSameWork, IsNodeTurn};
 
     ghost node: { Self → NodeOf };
 
@@ -32,7 +33,11 @@ pub trait Worker {
         ensures same { result ≡ None → node self.new ≡ node self.old };
 
     /// Takes a turn: takes what others sent, and sends what comes next. No operation is submitted or performed by it.
-    /// Refused if memory is.
+    /// What it tells counts its events, and a line that it calls ready has an operation that can be performed. It tells
+    /// of nothing only if nothing is pending, or there are other nodes and some line awaits an answer. Refused if memory
+    /// is.
     fn turn(&mut self) -> Result<Progress, AllocError>
+        ensures turn { IfOk result (IsNodeTurn (node self.old) (node self.new)) }
+        ensures rest { IfOk result (λ progress. is_idle progress ≡ true → MayIdle (node self.new)) }
         ensures work { HasSameWork (node self.old) (node self.new) };
 }
