@@ -1,3 +1,10 @@
 pub mod Steps
 pub mod Turns
+pub mod Rooms
+pub mod Enabled
+pub mod Taking
+pub mod Asking
 pub mod Targets
+pub mod Idling
+pub mod IdleTurns
+pub mod Circles

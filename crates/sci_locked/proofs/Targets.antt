@@ -1,6 +1,6 @@
 -- What a node of a reached state sends goes to a node of the machine.
-use Rattle.std.proofs.Common.{◌≡◌, ℕ, ◌<◌, ◌≤◌, Option, Some, None, sym, subst, arith}
-use Rattle.std.specs.Prelude.{IfSome}
+use Rattle.std.proofs.Common.{◌≡◌, ℕ, ◌<◌, ◌≤◌, Option, Some, None, refl, subst, arith}
+use Rattle.std.specs.Prelude.{IfSome, option_map}
 use Rattle.sci_words.specs.declared.event.AskKind.{AskKind}
 use Rattle.sci_words.specs.declared.limits.TheConstants.{MAX_NODES}
 use Rattle.sci_cache.specs.Cache.{Letter}
@@ -26,3 +26,12 @@ asked_target core n line kind sent reached some asks =
     let well = reached_well core reached in
     let nodes = well.sizes.some_node in
     (of_some (SendsWell core.size n) (node_asking (node_at core n) line kind) sent asks (part_asking core.size n (node_at core n) line kind (omega arith) some (well.each_part n some))).request.letter_ok.target
+
+-- what is sent goes to the target that was told
+pub told_target : {A : Type 0} (target : A → ℕ) (o : Option A) (to : ℕ) → Some to ≡ option_map target o → (x : A) × (o ≡ Some x) × (target x ≡ to)
+told_target target None to e = cc
+told_target target (Some x) to e = (x, refl, cc)
+
+pub none_told : {A : Type 0} (target : A → ℕ) (o : Option A) → None ≡ option_map target o → o ≡ None
+none_told target None e = refl
+none_told target (Some x) e = cc

@@ -2,6 +2,8 @@
 #![tactic(auto)]
 
 mod lent;
+#[cfg(test)]
+mod memory_tests;
 mod shared;
 mod turn;
 

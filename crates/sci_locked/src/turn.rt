@@ -1,13 +1,17 @@
 //! A node's turn on a machine that is lent.
 
-ghost use Rattle.std.specs.Prelude.{length, nat_lt, slice_get, ◌≡◌, ◌<◌, ◌≤◌, ◌+◌, ◌*◌, ℕ, Some, None, IfOk, IfSome, IsErr};
-ghost use Rattle.sci_words.specs.declared.event.Event.{Event as EventOf};
-ghost use Rattle.sci_core.specs.declared.lane.LaneKind.TheVariants.{Requests};
+ghost use Rattle.std.specs.Prelude.{length, nat_lt, option_map, ◌≡◌, ◌<◌, [], false, true, None, IfOk, IfSome, IsErr, IsOk};
+ghost use Rattle.sci_words.specs.declared.event.Event.TheVariants.{Accept};
 ghost use Rattle.sci_words.specs.declared.limits.TheConstants.{LANE_CELLS};
-ghost use Rattle.sci_core.specs.Core.{Core, lane_of, node_at};
-ghost use Rattle.sci_core.specs.Node.{node_performing};
-ghost use Rattle.sci_policy.specs.Turn.{IsTurnEvent};
-ghost use Rattle.sci_locked.specs.Moves.{GoesOn, IsPartOfTurn, IsTurn, MayPerform, taking_event};
+ghost use Rattle.sci_core.specs.declared.lane.LaneKind.TheVariants.{Answers};
+ghost use Rattle.sci_core.specs.Core.{IsEnabled, lane_of, node_at};
+ghost use Rattle.sci_core.specs.Node.{node_asking};
+ghost use Rattle.sci_core.specs.Reached.{IsReached};
+ghost use Rattle.sci_policy.specs.Policy.{PolicyOf};
+ghost use Rattle.sci_policy.specs.Rest.{MayIdle};
+ghost use Rattle.sci_policy.specs.Turn.{is_idle};
+ghost use Rattle.sci_locked.specs.Idle.{AsksNothing, HasNoAnswers, IsIdleTurn, IsReplyHeldUp, TakesNone};
+ghost use Rattle.sci_locked.specs.Moves.{EndsTurn, GoesOn, IsMade, IsPartOfTurn, IsStep, IsTurn, KeepsRoom, MadeNothing, MayPerform, can_send, taken_next};
 
 use sci_core::{ApplyFault, LaneKind, Machine};
 use sci_policy::{Decision, Policy, Progress, Want};
@@ -17,12 +21,21 @@ use std::alloc::AllocError;
 /// Takes a turn of a node. It sends the answer that waits; accepts up to four answers from each node; serves or refuses
 /// up to four requests from each node, beginning after the one served last, and sends each answer; and asks up to four
 /// times what the policy wants. A lane takes at most four packets here. The caller sees to it that there is such a node.
+///
+/// - The policy counts the turn, decides each request that is taken, and wants each ask.
+/// - What is told counts the events. A line that is told of has an operation that can be performed.
+/// - Nothing is told only if there was nothing to do. Then no operation is pending at the node, or there are other nodes
+///   and some line awaits an answer.
+///
 /// Refused if memory is, for a lane; what was done before is kept.
 pub fn turn_on(machine: &mut Machine, policy: &mut Policy, node: u8) -> Result<Progress, AllocError>
     requires { node < machine.old.size.nodes }
-    ensures turn { IfOk result (IsTurn node machine.old machine.new) }
-    ensures kept { IsErr result → IsPartOfTurn node machine.old machine.new }
+    ensures turn { IfOk result (IsTurn node policy.old machine.old policy.new machine.new) }
+    ensures kept { IsErr result → IsPartOfTurn node policy.old machine.old policy.new machine.new }
     ensures ready { IfOk result (λ progress. MayPerform (node_at machine.new node) progress.ready) }
+    ensures idle { IfOk result (λ progress. is_idle progress ≡ true → IsIdleTurn node policy.old machine.old policy.new machine.new) }
+    ensures rest { IfOk result (λ progress. is_idle progress ≡ true → MayIdle (node_at machine.new node)) }
+    ensures room { KeepsRoom machine.old machine.new }
     ensures size { machine.new.size ≡ machine.old.size }
 {
     let mut progress = Progress::new();
@@ -34,18 +47,23 @@ pub fn turn_on(machine: &mut Machine, policy: &mut Policy, node: u8) -> Result<P
     Ok(progress)
 }
 
-/// Applies an event of a node and counts it. Nothing changes if it is not enabled, or if memory is refused.
+/// Makes an event that is enabled, and counts it. Nothing changes if memory is refused.
 fn make(machine: &mut Machine, progress: &mut Progress, event: Event) -> Result<(), AllocError>
+    requires enabled { IsEnabled machine.old event }
     requires accepted { progress.old.accepted < u32.MAX }
     requires served { progress.old.served < u32.MAX }
-    ensures { (n : ℕ) → IsTurnEvent n event → GoesOn n 1 machine.old machine.new progress.old progress.new }
+    ensures made { IfOk result (λ _. IsMade machine.old event machine.new progress.old progress.new) }
+    ensures same { IsErr result → machine.new ≡ machine.old }
+    ensures told { IsErr result → progress.new ≡ progress.old }
 {
     match machine.apply(&event) {
-        Ok(()) => progress.count(&event),
-        Err(ApplyFault::NotEnabled) => {}
-        Err(ApplyFault::Memory(refused)) => return Err(refused),
+        Ok(()) => {
+            progress.count(&event);
+            Ok(())
+        }
+        Err(ApplyFault::NotEnabled) => unreachable!(),
+        Err(ApplyFault::Memory(refused)) => Err(refused),
     }
-    Ok(())
 }
 
 /// Whether a lane has room for one packet more, as the cells of a lane between running stations would have.
@@ -62,7 +80,9 @@ fn reply(machine: &mut Machine, progress: &mut Progress, node: u8) -> Result<(),
     requires node { node < machine.old.size.nodes }
     requires accepted { progress.old.accepted < u32.MAX }
     requires served { progress.old.served < u32.MAX }
-    ensures { GoesOn node 1 machine.old machine.new progress.old progress.new }
+    ensures step { IsStep 1 machine.old machine.new progress.old progress.new }
+    ensures goes { (policy : PolicyOf) → GoesOn node policy machine.old policy machine.new progress.old progress.new }
+    ensures idle { IsOk result → MadeNothing progress.new → IsReplyHeldUp machine.old node }
 {
     let Some(to) = reply_target(machine, node) else {
         return Ok(());
@@ -76,7 +96,9 @@ fn reply(machine: &mut Machine, progress: &mut Progress, node: u8) -> Result<(),
 /// The node that the answer waiting at a node goes to, or None if none waits.
 fn reply_target(machine: &Machine, node: u8) -> Option<u8>
     requires { node < machine.now.size.nodes }
-    ensures { IfSome result (λ to. to < machine.now.size.nodes) }
+    ensures target { result ≡ option_map (λ answer. answer.target) (node_at machine.now node).waiting }
+    ensures some { IfSome result (λ to. to < machine.now.size.nodes) }
+    ensures reached { IsReached machine.now }
 {
     let answer = machine.node(node).waiting()?;
     Some(answer.target.get() as u8)
@@ -85,7 +107,8 @@ fn reply_target(machine: &Machine, node: u8) -> Option<u8>
 /// The node that a request of a node would go to, or None if it can't be asked.
 fn ask_target(machine: &Machine, node: u8, line: u8, kind: AskKind) -> Option<u8>
     requires { node < machine.now.size.nodes }
-    ensures { IfSome result (λ to. to < machine.now.size.nodes) }
+    ensures target { result ≡ option_map (λ sent. sent.1.target) (node_asking (node_at machine.now node) line kind) }
+    ensures some { IfSome result (λ to. to < machine.now.size.nodes) }
 {
     // By a `match`: the toolchain builds no proof for a packet behind `?`.
     match machine.node(node).asked(line, kind) {
@@ -99,7 +122,10 @@ fn accept_all(machine: &mut Machine, progress: &mut Progress, node: u8) -> Resul
     requires node { node < machine.old.size.nodes }
     requires accepted { progress.old.accepted < 1000 }
     requires served { progress.old.served < 1000 }
-    ensures { GoesOn node 64 machine.old machine.new progress.old progress.new }
+    ensures step { IsStep 64 machine.old machine.new progress.old progress.new }
+    ensures goes { (policy : PolicyOf) → GoesOn node policy machine.old policy machine.new progress.old progress.new }
+    ensures idle { IsOk result → MadeNothing progress.new → HasNoAnswers machine.old node }
+    ensures reached { IsReached machine.old }
 {
     for from in 0..machine.extent().nodes {
         accept_from(machine, progress, from, node)?;
@@ -118,15 +144,29 @@ fn accept_from(
     requires from { from < machine.old.size.nodes }
     requires accepted { progress.old.accepted < 2000 }
     requires served { progress.old.served < 2000 }
-    ensures { GoesOn node 4 machine.old machine.new progress.old progress.new }
+    ensures step { IsStep 4 machine.old machine.new progress.old progress.new }
+    ensures goes { (policy : PolicyOf) → GoesOn node policy machine.old policy machine.new progress.old progress.new }
+    ensures idle { IsOk result → MadeNothing progress.new → lane_of machine.old Answers from node ≡ [] }
 {
     for _cell in 0..LANE_CELLS {
-        if machine.front(LaneKind::Answers, from, node).is_none() {
+        if !has_come(machine, from, node) {
             break;
         }
         make(machine, progress, Event::Accept { from, node })?;
     }
     Ok(())
+}
+
+/// Whether an answer from a node has come.
+fn has_come(machine: &Machine, from: u8, node: u8) -> bool
+    requires node { node < machine.now.size.nodes }
+    requires from { from < machine.now.size.nodes }
+    ensures come { result ≡ true → IsEnabled machine.now (Accept from node) }
+    ensures not { result ≡ false → lane_of machine.now Answers from node ≡ [] }
+{
+    // Read, so that the prover knows that the state is reached.
+    let _extent = machine.extent();
+    machine.count(LaneKind::Answers, from, node) > 0
 }
 
 /// Up to four requests from each node are served or refused, beginning after the node served last.
@@ -139,7 +179,9 @@ fn take_all(
     requires node { node < machine.old.size.nodes }
     requires accepted { progress.old.accepted < 1000 }
     requires served { progress.old.served < 1000 }
-    ensures { GoesOn node 128 machine.old machine.new progress.old progress.new }
+    ensures step { IsStep 128 machine.old machine.new progress.old progress.new }
+    ensures goes { GoesOn node policy.old machine.old policy.new machine.new progress.old progress.new }
+    ensures idle { IsOk result → MadeNothing progress.new → TakesNone policy.old machine.old node }
 {
     let nodes = machine.extent().nodes;
     let first = policy.first_sender(nodes);
@@ -162,7 +204,9 @@ fn take_from(
     requires from { from < machine.old.size.nodes }
     requires accepted { progress.old.accepted < 2000 }
     requires served { progress.old.served < 2000 }
-    ensures { GoesOn node 8 machine.old machine.new progress.old progress.new }
+    ensures step { IsStep 8 machine.old machine.new progress.old progress.new }
+    ensures goes { GoesOn node policy.old machine.old policy.new machine.new progress.old progress.new }
+    ensures idle { IsOk result → MadeNothing progress.new → taken_next policy.old machine.old from node ≡ None }
 {
     for _cell in 0..LANE_CELLS {
         let Some(event) = taking(machine, policy, from, node) else {
@@ -179,8 +223,8 @@ fn take_from(
 fn taking(machine: &Machine, policy: &Policy, from: u8, node: u8) -> Option<Event>
     requires node { node < machine.now.size.nodes }
     requires from { from < machine.now.size.nodes }
-    ensures own { IfSome result (IsTurnEvent node) }
-    ensures event { result ≡ taking_event policy.now (node_at machine.now node) from node (slice_get (lane_of machine.now Requests from node) 0) }
+    ensures event { result ≡ taken_next policy.now machine.now from node }
+    ensures enabled { IfSome result (IsEnabled machine.now) }
 {
     let me = machine.node(node);
     if me.waiting().is_some() {
@@ -206,8 +250,10 @@ fn ask_some(
     requires accepted { progress.old.accepted < 2000 }
     requires served { progress.old.served < 2000 }
     requires ready { progress.old.ready ≡ None }
-    ensures turn { (start : Core) → IsTurn node start machine.old progress.old → IsTurn node start machine.new progress.new }
+    ensures turn { EndsTurn node policy.old machine.old policy.new machine.new progress.old progress.new }
     ensures ready { MayPerform (node_at machine.new node) progress.new.ready }
+    ensures idle { IsOk result → MadeNothing progress.new → progress.new.ready ≡ None → AsksNothing node policy.old machine.old policy.new machine.new progress.old }
+    ensures room { KeepsRoom machine.old machine.new }
     ensures size { machine.new.size ≡ machine.old.size }
 {
     for _cell in 0..LANE_CELLS {
@@ -231,6 +277,7 @@ fn ask_some(
 /// Whether a node can ask this, and the lane to its target has room.
 fn may_ask(machine: &Machine, node: u8, line: u8, kind: AskKind) -> bool
     requires { node < machine.now.size.nodes }
+    ensures { result ≡ can_send machine.now node (node_asking (node_at machine.now node) line kind) }
 {
     match ask_target(machine, node, line, kind) {
         Some(to) => has_room(machine, LaneKind::Requests, node, to),

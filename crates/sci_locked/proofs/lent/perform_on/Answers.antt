@@ -1,4 +1,4 @@
-use Rattle.std.proofs.Common.{◌≡◌, ◌-◌, None, Option, Some, refl, sym, ap, subst, ◌∙◌, length, List}
+use Rattle.std.proofs.Common.{◌≡◌, ◌-◌, None, Some, refl, sym, ap, subst, ◌∙◌, length}
 use Rattle.std.specs.Prelude.{IsSome, option_copied, slice_get}
 use Rattle.sci_history.specs.declared.entry.Entry.{Entry}
 use Rattle.sci_words.specs.declared.event.Event.TheVariants.{Perform}

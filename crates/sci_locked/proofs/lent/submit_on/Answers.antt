@@ -1,7 +1,6 @@
-use Rattle.std.proofs.Common.{◌≡◌, None, Option, Some, refl, sym, subst, ◌∙◌}
+use Rattle.std.proofs.Common.{◌≡◌, None, Some, refl, sym, subst, ◌∙◌}
 use Rattle.std.specs.Prelude.{IsSome}
 use Rattle.sci_words.specs.declared.event.Event.TheVariants.{Issue}
-use Rattle.sci_core.specs.declared.pending.Pending.{Pending}
 use Rattle.sci_core.specs.Core.{node_at, stepping}
 use Rattle.sci_core.specs.Node.{NodeOf, node_issuing, pending_on}
 use Rattle.sci_locked.proofs.Steps.{issue_enabled, issue_makes, no_fault, same_serial}

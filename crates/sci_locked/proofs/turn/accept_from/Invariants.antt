@@ -1,5 +1,11 @@
-use Rattle.sci_locked.specs.Moves.{GoesOn}
+use Rattle.std.proofs.Common.{◌≡◌}
+use Rattle.sci_policy.specs.Policy.{PolicyOf}
+use Rattle.sci_locked.specs.Moves.{GoesOn, IsStep, MadeNothing}
 use Rattle.sci_locked.proofs.turn.accept_from.Given as goal
 
 abbrev pub invariant-loop-cell : goal.invariant-loop-cell
-invariant-loop-cell l = GoesOn l.node l._cell l.fn.machine l.machine l.fn.progress l.progress
+invariant-loop-cell l = record {
+  step : IsStep l._cell l.fn.machine l.machine l.fn.progress l.progress;
+  goes : (policy : PolicyOf) → GoesOn l.node policy l.fn.machine policy l.machine l.fn.progress l.progress;
+  first : MadeNothing l.progress → l._cell ≡ 0;
+}

@@ -17,5 +17,5 @@ overflow_cast-result c =
     let few : c.args.machine.now.size.nodes ≤ 16 = few_nodes c.args.machine.now c.node.ensures.reached in
     omega arith
 
-pub returns-in-Some : goal.returns-in-Some
-returns-in-Some c = below c
+pub returns-in-Some-clause-some : goal.returns-in-Some-clause-some
+returns-in-Some-clause-some c = below c

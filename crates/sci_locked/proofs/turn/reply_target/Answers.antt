@@ -17,5 +17,5 @@ overflow_cast-result c =
     let few : c.args.machine.now.size.nodes ≤ 16 = few_nodes c.args.machine.now c.node.ensures.reached in
     omega arith
 
-pub returns : goal.returns
-returns c = below c
+pub returns-clause-some : goal.returns-clause-some
+returns-clause-some c = below c

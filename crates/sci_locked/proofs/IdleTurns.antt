@@ -1,0 +1,46 @@
+-- A turn that reports nothing has found nothing to do.
+use Rattle.std.proofs.Common.{◌≡◌, ℕ, true, Option, Some, None, refl, ap, subst, ◌∙◌}
+use Rattle.std.specs.Prelude.{IfSome, is_none}
+use Rattle.std.proofs.lemmas.Bool.{and_parts, eqb-true, not-true}
+use Rattle.sci_core.specs.Core.{Core, node_at}
+use Rattle.sci_policy.specs.declared.progress.Progress.{Progress}
+use Rattle.sci_policy.specs.Policy.{PolicyOf, next_policy, next_wanted, turned}
+use Rattle.sci_policy.specs.Turn.{is_idle}
+use Rattle.sci_locked.specs.Idle.{AsksNothing, HasNoAnswers, IsHeldUp, IsIdleTurn, IsReplyHeldUp, TakesNone}
+use Rattle.sci_locked.specs.Moves.{MadeNothing}
+
+no_value : {A : Type 0} (o : Option A) → is_none o ≡ true → o ≡ None
+no_value None e = refl
+no_value (Some x) e = cc
+
+pub idle_tells : (progress : Progress) → is_idle progress ≡ true → MadeNothing progress × (progress.ready ≡ None)
+idle_tells progress idle =
+    let both = and_parts _ _ idle in
+    let taken = and_parts _ _ both.0 in
+    let others = and_parts _ _ both.1 in
+    let sent = and_parts _ _ others.0 in (
+      record {
+        accepted = eqb-true progress.accepted 0 taken.0;
+        served = eqb-true progress.served 0 taken.1;
+        replied = not-true progress.replied sent.0;
+        asked = not-true progress.asked sent.1;
+      },
+      no_value progress.ready others.1,
+    )
+
+-- what each step of the turn has found, of the same state
+pub idle_turn : (n : ℕ) (before begun policy after : PolicyOf) (old replied accepted taken new : Core) (told : Progress) → begun ≡ turned before → replied ≡ old → accepted ≡ replied → taken ≡ accepted → policy ≡ begun
+    → IsReplyHeldUp old n → HasNoAnswers replied n → TakesNone begun accepted n → AsksNothing n policy taken after new told → IsIdleTurn n before old after new
+idle_turn n before begun policy after old replied accepted taken new told begins one two three kept reply answers requests asks =
+    let all : taken ≡ old = three ∙ (two ∙ one) in
+    let is : policy ≡ turned before = kept ∙ begins in
+    record {
+      same = asks.same ∙ all;
+      policy = asks.policy ∙ (ap (λ (p : PolicyOf). next_policy p (node_at taken n)) is ∙ ap (λ (c : Core). next_policy (turned before) (node_at c n)) all);
+      nothing = record {
+        reply = reply;
+        answers = subst (λ (c : Core). HasNoAnswers c n) one answers;
+        requests = subst (λ (p : PolicyOf). TakesNone p old n) begins (subst (λ (c : Core). TakesNone begun c n) (two ∙ one) requests);
+        wants = subst (λ (p : PolicyOf). IfSome (next_wanted p (node_at old n)) (IsHeldUp old n)) is (subst (λ (c : Core). IfSome (next_wanted policy (node_at c n)) (IsHeldUp c n)) all asks.wants);
+      };
+    }

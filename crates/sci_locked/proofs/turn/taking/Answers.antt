@@ -1,0 +1,26 @@
+use Rattle.std.proofs.Common.{◌≡◌, None, Some, refl, sym, subst, ◌∙◌}
+use Rattle.std.specs.Prelude.{option_copied, option_map, slice_get}
+use Rattle.sci_cache.specs.Cache.{letter_of}
+use Rattle.sci_core.specs.Core.{lane_of, node_at}
+use Rattle.sci_core.specs.declared.lane.LaneKind.TheVariants.{Requests}
+use Rattle.sci_core.specs.Node.{NodeOf}
+use Rattle.sci_locked.proofs.Enabled.{can_refuse, can_serve, none_seen, refuses_no_setback}
+use Rattle.sci_locked.proofs.turn.taking.Goals as goal
+
+pub returns-in-Serve-clause-enabled : goal.returns-in-Serve-clause-enabled
+returns-in-Serve-clause-enabled c =
+    let core = c.args.machine.now in
+    let n = c.args.node in
+    let request = letter_of c.in_ok-request.request.now in
+    let free : (node_at core n).waiting ≡ None = subst (λ (m : NodeOf). m.waiting ≡ None) c.node-me.ensures.node (none_seen (λ o. option_map letter_of (option_copied o)) refl c.waiting.result _ c.waiting.ensures (sym c.is_some.ensures ∙ c.if-is_some.false)) in
+    let front : slice_get (lane_of core Requests c.args.from n) 0 ≡ Some request = sym c.in_ok-request.ensures.front in
+    can_serve core c.args.from n request c.node-me.ensures.reached c.requires.from c.requires.node front free
+
+pub returns-in-Refuse-clause-enabled : goal.returns-in-Refuse-clause-enabled
+returns-in-Refuse-clause-enabled c =
+    let core = c.args.machine.now in
+    let n = c.args.node in
+    let request = letter_of c.in_ok-request.request.now in
+    let free : (node_at core n).waiting ≡ None = subst (λ (m : NodeOf). m.waiting ≡ None) c.node-me.ensures.node (none_seen (λ o. option_map letter_of (option_copied o)) refl c.waiting.result _ c.waiting.ensures (sym c.is_some.ensures ∙ c.if-is_some.false)) in
+    let front : slice_get (lane_of core Requests c.args.from n) 0 ≡ Some request = sym c.in_ok-request.ensures.front in
+    can_refuse core c.args.from n request c.node-me.ensures.reached c.requires.from c.requires.node front free (refuses_no_setback c.args.policy.now c.node-me.result.now request (sym c.in-Refuse.ensures))
