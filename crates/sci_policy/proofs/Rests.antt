@@ -1,6 +1,6 @@
 -- A node of a reached state always wants something, unless nothing is pending or a line awaits an answer.
-use Rattle.std.proofs.Common.{◌≡◌, ℕ, ◌+◌, ◌<◌, ◌≤◌, nat_lt, ◌&&◌, ◌||◌, not, cond, Bool, true, false, if◌then◌else◌, List, length, get_or, Option, Some, None, refl, sym, ap, subst, ◌∙◌, arith, inl, inr}
-use Rattle.std.specs.Prelude.{IfSome, IsSome, is_some, is_none, option_map, count_by}
+use Rattle.std.proofs.Common.{◌≡◌, ℕ, ◌<◌, ◌≤◌, ◌&&◌, ◌||◌, not, Bool, true, false, if◌then◌else◌, get_or, Option, Some, None, refl, sym, ap, subst, ◌∙◌, arith, inl, inr}
+use Rattle.std.specs.Prelude.{IfSome, IsSome, is_some, option_map}
 use Rattle.std.specs.Option.{option_or, option_and_then}
 use Rattle.std.proofs.lemmas.Bool.{and_parts, cases_Bool, cases_lt, lt-ltb}
 use Rattle.std.proofs.lemmas.List.{get_or_past}
@@ -8,19 +8,16 @@ use Rattle.sci_words.specs.declared.event.AskKind.{AskKind}
 use Rattle.sci_words.specs.declared.event.AskKind.TheVariants as kind
 use Rattle.sci_cache.specs.State.{CacheState, Out, Asking, Joining, FreshJoining, Head, FreshHead, Below, Purging, Claiming, Clearing, Returning, Rolling, Telling, Fading, is_out, waits}
 use Rattle.sci_cache.specs.Line.{LineState, untouched}
-use Rattle.sci_cache.specs.Cache.{has_slot, line_of, slots_taken}
-use Rattle.sci_core.specs.declared.pending.Pending.{Pending}
-use Rattle.sci_core.specs.Core.{node_at}
+use Rattle.sci_cache.specs.Cache.{has_slot, slots_taken}
 use Rattle.sci_core.specs.Node.{NodeOf, lines_of, node_performing, pending_on}
 use Rattle.sci_core.specs.Reached.{IsReachedNode}
-use Rattle.sci_core.specs.WellFormed.{IsPart}
 use Rattle.sci_core.proofs.Pendings.{sole_performs}
 use Rattle.sci_core.proofs.GoingOn.{can_go_on}
 use Rattle.sci_core.proofs.Rest.{counted_none}
 use Rattle.sci_core.proofs.WellFormedSteps.{reached_part}
 use Rattle.sci_policy.specs.declared.want.Want.{Want}
 use Rattle.sci_policy.specs.declared.want.Want.TheVariants.{Perform, Ask}
-use Rattle.sci_policy.specs.Lines.{could_give_way, gives_way, has_fresh_sharers, has_maker, has_pending, has_sharers, joins, least, must_send, oldest, own_ask, some_line, state_on}
+use Rattle.sci_policy.specs.Lines.{could_give_way, gives_way, has_maker, has_pending, joins, least, must_send, oldest, own_ask, some_line, state_on}
 use Rattle.sci_policy.specs.Policy.{PolicyOf, ask_of, asked_in, asks_home_to_change, contents_wanted, due_wanted, has, held_back, is_purged, lacks_slot, operation_asks, operation_wanted, perform_wanted, purge_wanted, read_kind, ruled, send_wanted, slot_for, slot_wanted, wanted}
 use Rattle.sci_policy.specs.Rest.{MayRest, NothingPending, Awaits}
 use Rattle.sci_policy.proofs.Found.{least_fits, least_none, least_some, none_passes, oldest_fits, oldest_some}

@@ -8,12 +8,12 @@ use Rattle.sci_words.specs.declared.event.AskKind.TheVariants as kind
 use Rattle.sci_cache.specs.State.{CacheState, Out, Asking, Joining, FreshJoining, Head, FreshHead, Below, Purging, Claiming, Clearing, Returning, Rolling, Telling, Fading, is_out}
 use Rattle.sci_cache.specs.Asking.{Asked, asking}
 use Rattle.sci_cache.specs.Line.{ask_or_fault}
-use Rattle.sci_cache.specs.Cache.{cache_asked, cache_asking, has_slot, line_of}
+use Rattle.sci_cache.specs.Cache.{cache_asked, cache_asking, has_slot}
 use Rattle.sci_core.specs.Node.{NodeOf, asked_by, lines_of, node_asking, node_performing}
 use Rattle.sci_policy.specs.declared.want.Want.{Want}
 use Rattle.sci_policy.specs.declared.want.Want.TheVariants.{Perform, Ask}
 use Rattle.sci_policy.specs.Lines.{could_give_way, has_fresh_sharers, has_maker, has_pending, has_sharers, least, must_send, oldest, own_ask, some_line, joins, state_on}
-use Rattle.sci_policy.specs.Policy.{IsEnabledWant, PolicyOf, ask_of, asked_in, contents_wanted, due_wanted, has, held_back, is_claimed, is_purged, lacks_slot, operation_asks, operation_wanted, perform_wanted, purge_wanted, read_kind, ruled, send_wanted, slot_for, slot_wanted, wanted}
+use Rattle.sci_policy.specs.Policy.{IsEnabledWant, PolicyOf, ask_of, asked_in, contents_wanted, due_wanted, has, held_back, is_claimed, is_purged, lacks_slot, operation_asks, perform_wanted, purge_wanted, read_kind, ruled, send_wanted, slot_for, slot_wanted, wanted}
 use Rattle.sci_policy.proofs.Found.{least_fits, oldest_fits}
 
 -- ---- options

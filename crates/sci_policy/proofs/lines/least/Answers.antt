@@ -1,4 +1,4 @@
-use Rattle.std.proofs.Common.{◌≡◌, ℕ, ◌<◌, true, false, sym, subst}
+use Rattle.std.proofs.Common.{ℕ, ◌<◌, true, false, sym, subst}
 use Rattle.sci_core.specs.Node.{lines_of}
 use Rattle.sci_policy.proofs.Ranges.{here_first, none_more}
 use Rattle.sci_policy.proofs.lines.least.Goals as goal

@@ -1,4 +1,4 @@
-use Rattle.std.proofs.Common.{◌≡◌, ℕ, ◌<◌, ◌+◌, Option, Some, true, false, sym, subst, ◌∙◌}
+use Rattle.std.proofs.Common.{◌≡◌, ℕ, ◌<◌, ◌+◌, Some, true, false, sym, subst, ◌∙◌}
 use Rattle.sci_core.specs.Node.{lines_of, pending_on}
 use Rattle.sci_policy.proofs.Oldest.{IsFoundBelow, nothing_pending, older_found, not_meant, not_older}
 use Rattle.sci_policy.proofs.lines.oldest.Goals as goal
