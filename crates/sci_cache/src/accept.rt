@@ -54,7 +54,8 @@ impl Asking {
 impl Joining {
     /// Takes the old head's answer. None if it isn't awaited.
     pub(crate) fn accept(self, answer: &Body) -> Option<Held>
-        ensures { accepting (Joining_of self.old_head self.sent) answer.now ≡ option_map state_of result }
+        ensures { accepting (Joining_of self.old_head self.sent) answer.now
+            ≡ option_map state_of result }
     {
         if !self.sent {
             return None;
@@ -73,7 +74,8 @@ impl Joining {
 impl FreshJoining {
     /// Takes the old head's answer. None if it isn't awaited.
     pub(crate) fn accept(self, answer: &Body) -> Option<Held>
-        ensures { accepting (FreshJoining_of self.old_head self.sent self.contents) answer.now ≡ option_map state_of result }
+        ensures { accepting (FreshJoining_of self.old_head self.sent self.contents) answer.now
+            ≡ option_map state_of result }
     {
         if !self.sent {
             return None;
@@ -93,7 +95,8 @@ impl FreshJoining {
 impl Purging {
     /// Takes the answer of the entry that was told to leave. None if it isn't awaited.
     pub(crate) fn accept(self, answer: &Body) -> Option<Held>
-        ensures { accepting (Purging_of self.next self.contents) answer.now ≡ option_map state_of result }
+        ensures { accepting (Purging_of self.next self.contents) answer.now
+            ≡ option_map state_of result }
     {
         match *answer {
             Body::Purged { forward } => Some(head(forward, self.contents)),
@@ -106,7 +109,8 @@ impl Purging {
 impl Claiming {
     /// Takes the home's answer. None if it isn't awaited.
     pub(crate) fn accept(self, answer: &Body) -> Option<Held>
-        ensures { accepting (Claiming_of self.forward self.contents) answer.now ≡ option_map state_of result }
+        ensures { accepting (Claiming_of self.forward self.contents) answer.now
+            ≡ option_map state_of result }
     {
         match *answer {
             Body::Wbok => Some(head(self.forward, self.contents)),
@@ -145,7 +149,8 @@ impl Returning {
 impl Rolling {
     /// Takes the answer of the entry before. None if it isn't awaited.
     pub(crate) fn accept(self, answer: &Body) -> Option<Held>
-        ensures { accepting (Rolling_of self.forward self.backward self.contents) answer.now ≡ option_map state_of result }
+        ensures { accepting (Rolling_of self.forward self.backward self.contents) answer.now
+            ≡ option_map state_of result }
     {
         match *answer {
             Body::Rolled => Some(match self.forward {
@@ -169,7 +174,8 @@ impl Rolling {
 impl Telling {
     /// Takes the answer of the entry behind. None if it isn't awaited.
     pub(crate) fn accept(self, answer: &Body) -> Option<Held>
-        ensures { accepting (Telling_of self.behind self.before self.sent) answer.now ≡ option_map state_of result }
+        ensures { accepting (Telling_of self.behind self.before self.sent) answer.now
+            ≡ option_map state_of result }
     {
         if !self.sent {
             return None;

@@ -13,7 +13,8 @@ use sci_words::AskKind;
 impl OutState {
     /// Goes on to await the home's answer.
     pub(crate) fn ask(self) -> Held
-        ensures { (kind : AskKind) → IfSome (asking Out kind) (λ asked. state_of result ≡ asked.next) }
+        ensures { (kind : AskKind) →
+            IfSome (asking Out kind) (λ asked. state_of result ≡ asked.next) }
     {
         Held::Asking(Asking)
     }
@@ -22,7 +23,9 @@ impl OutState {
 impl Joining {
     /// Goes on to await the old head's answer.
     pub(crate) fn ask(self) -> Held
-        ensures { (kind : AskKind) → IfSome (asking (Joining_of self.old_head self.sent) kind) (λ asked. state_of result ≡ asked.next) }
+        ensures { (kind : AskKind) →
+            IfSome (asking (Joining_of self.old_head self.sent) kind)
+            (λ asked. state_of result ≡ asked.next) }
     {
         Held::Joining(Joining {
             old_head: self.old_head,
@@ -34,7 +37,9 @@ impl Joining {
 impl FreshJoining {
     /// Goes on to await the old head's answer.
     pub(crate) fn ask(self) -> Held
-        ensures { (kind : AskKind) → IfSome (asking (FreshJoining_of self.old_head self.sent self.contents) kind) (λ asked. state_of result ≡ asked.next) }
+        ensures { (kind : AskKind) →
+            IfSome (asking (FreshJoining_of self.old_head self.sent self.contents) kind)
+            (λ asked. state_of result ≡ asked.next) }
     {
         Held::FreshJoining(FreshJoining {
             old_head: self.old_head,
@@ -47,7 +52,9 @@ impl FreshJoining {
 impl HeadState {
     /// Goes on to await the answer of the next entry, which is to leave, or of the home, which takes the contents.
     pub(crate) fn ask(self) -> Held
-        ensures { (kind : AskKind) → IfSome (asking (Head self.forward self.contents) kind) (λ asked. state_of result ≡ asked.next) }
+        ensures { (kind : AskKind) →
+            IfSome (asking (Head self.forward self.contents) kind)
+            (λ asked. state_of result ≡ asked.next) }
     {
         match self.forward {
             Some(next) => Held::Purging(Purging {
@@ -64,7 +71,8 @@ impl HeadState {
 impl FreshHead {
     /// Goes on to await the home's answer to this kind of request, a Claim or a Clear.
     pub(crate) fn ask(self, kind: AskKind) -> Held
-        ensures { IfSome (asking (FreshHead_of self.forward self.contents) kind) (λ asked. state_of result ≡ asked.next) }
+        ensures { IfSome (asking (FreshHead_of self.forward self.contents) kind)
+            (λ asked. state_of result ≡ asked.next) }
     {
         match kind {
             AskKind::Claim => Held::Claiming(Claiming {
@@ -81,7 +89,9 @@ impl FreshHead {
 impl Below {
     /// Goes on to await the answer of the entry before it.
     pub(crate) fn ask(self) -> Held
-        ensures { (kind : AskKind) → IfSome (asking (Below_of self.forward self.backward self.contents) kind) (λ asked. state_of result ≡ asked.next) }
+        ensures { (kind : AskKind) →
+            IfSome (asking (Below_of self.forward self.backward self.contents) kind)
+            (λ asked. state_of result ≡ asked.next) }
     {
         Held::Rolling(Rolling {
             forward: self.forward,
@@ -94,7 +104,9 @@ impl Below {
 impl Telling {
     /// Goes on to await the answer of the entry behind.
     pub(crate) fn ask(self) -> Held
-        ensures { (kind : AskKind) → IfSome (asking (Telling_of self.behind self.before self.sent) kind) (λ asked. state_of result ≡ asked.next) }
+        ensures { (kind : AskKind) →
+            IfSome (asking (Telling_of self.behind self.before self.sent) kind)
+            (λ asked. state_of result ≡ asked.next) }
     {
         Held::Telling(Telling {
             behind: self.behind,

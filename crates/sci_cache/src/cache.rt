@@ -64,7 +64,13 @@ impl Cache {
     /// there is such a node. Refused if memory is.
     pub fn new(alloc: Global, me: u8, extent: Extent) -> Result<Cache, AllocError>
         requires { me < extent.nodes }
-        ensures { IfOk result (λ cache. cache ≡ record { me = me; nodes = extent.nodes; slots = extent.slots; lines = replicate extent.lines untouched }) }
+        ensures { IfOk result
+            (λ cache. cache ≡ record {
+              me = me;
+              nodes = extent.nodes;
+              slots = extent.slots;
+              lines = replicate extent.lines untouched;
+            }) }
     {
         let mut lines = Vec::with_capacity(alloc, usize::from(extent.lines))?;
         for _place in 0..extent.lines {
@@ -137,7 +143,8 @@ impl Cache {
     /// has no entry and as many lines have one as there are version slots.
     pub fn ask(&mut self, line: u8, kind: AskKind) -> Result<Packet, AskFault>
         requires { line < length self.old.lines }
-        ensures asked { IfOk result (λ packet. cache_asking self.old line kind ≡ Ok (self.new, letter_of packet)) }
+        ensures asked { IfOk result
+            (λ packet. cache_asking self.old line kind ≡ Ok (self.new, letter_of packet)) }
         ensures refused { IfErr result (λ fault. cache_asking self.old line kind ≡ Err fault) }
         ensures same { IsErr result → self.new ≡ self.old }
         ensures lines { length self.new.lines ≡ length self.old.lines }
@@ -151,7 +158,9 @@ impl Cache {
     /// The caller sees to it that there is such a line.
     pub fn asked(&self, line: u8, kind: AskKind) -> Option<Packet>
         requires { line < length self.now.lines }
-        ensures asked { IfSome result (λ packet. (next : CacheOf) × (cache_asking self.now line kind ≡ Ok (next, letter_of packet))) }
+        ensures asked { IfSome result
+            (λ packet. (next : CacheOf)
+            × (cache_asking self.now line kind ≡ Ok (next, letter_of packet))) }
         ensures refused { result ≡ None → IsErr (cache_asking self.now line kind) }
     {
         // In place of `ok()`, for which the toolchain builds no proof here.
@@ -164,7 +173,9 @@ impl Cache {
     /// What `ask` would answer.
     fn packet_asked(&self, line: u8, kind: AskKind) -> Result<Packet, AskFault>
         requires { line < length self.now.lines }
-        ensures asked { IfOk result (λ packet. (next : CacheOf) × (cache_asking self.now line kind ≡ Ok (next, letter_of packet))) }
+        ensures asked { IfOk result
+            (λ packet. (next : CacheOf)
+            × (cache_asking self.now line kind ≡ Ok (next, letter_of packet))) }
         ensures refused { IfErr result (λ fault. cache_asking self.now line kind ≡ Err fault) }
     {
         let free = self.has_slot();
@@ -199,7 +210,8 @@ impl Cache {
     pub fn serve(&mut self, request: &Packet) -> Packet
         requires line { request.now.line < length self.old.lines }
         requires body { IsForCache request.now.body }
-        ensures case { cache_serving self.old request.now.line request.now.source request.now.body ≡ Some (self.new, result.body) }
+        ensures case { cache_serving self.old request.now.line request.now.source request.now.body
+            ≡ Some (self.new, result.body) }
         ensures target { result.target ≡ request.now.source }
         ensures source { result.source ≡ request.now.target }
         ensures control { result.control ≡ request.now.control }
@@ -217,8 +229,11 @@ impl Cache {
     /// the line's state doesn't list the answer or its control number isn't that of the line's last ask.
     pub fn accept(&mut self, answer: &Packet) -> Result<(), NotAwaited>
         requires { answer.now.line < length self.old.lines }
-        ensures taken { IfOk result (λ _. cache_accepting self.old answer.now.line answer.now.control answer.now.body ≡ Some self.new) }
-        ensures refused { IsErr result → cache_accepting self.old answer.now.line answer.now.control answer.now.body ≡ None }
+        ensures taken { IfOk result
+            (λ _. cache_accepting self.old answer.now.line answer.now.control answer.now.body
+            ≡ Some self.new) }
+        ensures refused { IsErr result →
+            cache_accepting self.old answer.now.line answer.now.control answer.now.body ≡ None }
         ensures same { IsErr result → self.new ≡ self.old }
         ensures lines { length self.new.lines ≡ length self.old.lines }
     {
@@ -235,7 +250,8 @@ impl Cache {
     pub fn perform(&mut self, op: Op) -> Option<(Reply, u64)>
         requires line { op.line < length self.old.lines }
         requires word { op.word < WORDS_PER_LINE }
-        ensures done { IfSome result (λ answer. cache_performing self.old op ≡ Some (self.new, answer.0, answer.1)) }
+        ensures done { IfSome result
+            (λ answer. cache_performing self.old op ≡ Some (self.new, answer.0, answer.1)) }
         ensures refused { result ≡ None → cache_performing self.old op ≡ None }
         ensures same { result ≡ None → self.new ≡ self.old }
         ensures lines { length self.new.lines ≡ length self.old.lines }

@@ -67,7 +67,8 @@ impl Held {
     /// The request of this kind that the state makes, with its target (None for the line's home), or None if it makes
     /// none.
     pub(crate) fn asked(&self, kind: AskKind) -> Option<(Option<NodeId>, Body)>
-        ensures request { result ≡ option_map (λ asked. (asked.to, asked.request)) (asking (state_of self.now) kind) }
+        ensures request { result
+            ≡ option_map (λ asked. (asked.to, asked.request)) (asking (state_of self.now) kind) }
         ensures made { IfSome result (λ _. IsSome (asking (state_of self.now) kind)) }
     {
         match self {
@@ -109,7 +110,8 @@ impl Held {
     /// Makes the request of this kind, whose answer is awaited then. The caller sees to it that the state makes it.
     pub(crate) fn ask(&mut self, kind: AskKind)
         requires { IsSome (asking (state_of self.old) kind) }
-        ensures { IfSome (asking (state_of self.old) kind) (λ asked. state_of self.new ≡ asked.next) }
+        ensures { IfSome (asking (state_of self.old) kind)
+            (λ asked. state_of self.new ≡ asked.next) }
     {
         match self {
             Held::Out(state) => *self = state.ask(),
@@ -125,7 +127,8 @@ impl Held {
 
     /// Takes an answer. Refused, unchanged, if the state doesn't list the answer.
     pub(crate) fn accept(&mut self, answer: &Body) -> Result<(), NotAwaited>
-        ensures taken { IfOk result (λ _. accepting (state_of self.old) answer.now ≡ Some (state_of self.new)) }
+        ensures taken { IfOk result
+            (λ _. accepting (state_of self.old) answer.now ≡ Some (state_of self.new)) }
         ensures refused { IsErr result → accepting (state_of self.old) answer.now ≡ None }
         ensures same { IsErr result → self.new ≡ self.old }
     {
@@ -154,7 +157,9 @@ impl Held {
 
 /// The Cread of a joining member to the old head, if that is what is asked.
 fn cread_of(kind: AskKind, old_head: NodeId) -> Option<(Option<NodeId>, Body)>
-    ensures { result ≡ option_map (λ asked. (asked.to, asked.request)) (asking (Joining_of old_head false) kind) }
+    ensures { result
+        ≡ option_map (λ asked. (asked.to, asked.request))
+        (asking (Joining_of old_head false) kind) }
 {
     match kind {
         AskKind::Cread => Some((Some(old_head), Body::Cread)),

@@ -79,7 +79,10 @@ impl CachedLine {
 
     /// The request of this kind; `free` says whether a version slot is free.
     pub(crate) fn asked(&self, kind: AskKind, free: bool) -> Result<Question, AskFault>
-        ensures made { IfOk result (λ question. (next : CacheState) × (line_asking self.now kind free ≡ Ok (record { to = question.to; request = question.request; next = next }))) }
+        ensures made { IfOk result
+            (λ question. (next : CacheState)
+            × (line_asking self.now kind free
+            ≡ Ok (record { to = question.to; request = question.request; next = next }))) }
         ensures refused { IfErr result (λ fault. line_asking self.now kind free ≡ Err fault) }
         ensures control { IfOk result (λ question. question.control ≡ next_control self.now) }
     {
@@ -99,7 +102,8 @@ impl CachedLine {
     /// Makes the request of this kind, which the caller sees to it that the state makes.
     pub(crate) fn ask(&mut self, kind: AskKind)
         requires { IsSome (asking self.old.state kind) }
-        ensures { IfSome (asking self.old.state kind) (λ asked. self.new ≡ line_asked self.old asked) }
+        ensures { IfSome (asking self.old.state kind)
+            (λ asked. self.new ≡ line_asked self.old asked) }
     {
         self.held.ask(kind);
         self.asks = self.asks.wrapping_add(1);
@@ -116,7 +120,8 @@ impl CachedLine {
 
     /// Takes an answer with this control number. Unchanged on refusal.
     pub(crate) fn accept(&mut self, control: u16, answer: &Body) -> Result<(), NotAwaited>
-        ensures taken { IfOk result (λ _. line_accepting self.old control answer.now ≡ Some self.new.state) }
+        ensures taken { IfOk result
+            (λ _. line_accepting self.old control answer.now ≡ Some self.new.state) }
         ensures asks { self.new.asks ≡ self.old.asks }
         ensures refused { IsErr result → line_accepting self.old control answer.now ≡ None }
         ensures same { IsErr result → self.new ≡ self.old }
@@ -131,7 +136,9 @@ impl CachedLine {
     /// allow it.
     pub(crate) fn perform(&mut self, op: Op) -> Option<(Reply, u64)>
         requires { op.word < WORDS_PER_LINE }
-        ensures done { IfSome result (λ answer. performing self.old.state op ≡ Some (record { reply = answer.0; version = answer.1; next = self.new.state })) }
+        ensures done { IfSome result
+            (λ answer. performing self.old.state op
+            ≡ Some (record { reply = answer.0; version = answer.1; next = self.new.state })) }
         ensures asks { self.new.asks ≡ self.old.asks }
         ensures refused { result ≡ None → performing self.old.state op ≡ None }
         ensures same { result ≡ None → self.new ≡ self.old }

@@ -15,7 +15,10 @@ impl Held {
     /// doesn't allow it.
     pub(crate) fn perform(&mut self, op: Op) -> Option<(Reply, u64)>
         requires { op.word < WORDS_PER_LINE }
-        ensures case { performing (state_of self.old) op ≡ option_map (λ answer. record { reply = answer.0; version = answer.1; next = state_of self.new }) result }
+        ensures case { performing (state_of self.old) op
+            ≡ option_map
+            (λ answer. record { reply = answer.0; version = answer.1; next = state_of self.new })
+            result }
         ensures same { result ≡ None → self.new ≡ self.old }
     {
         match self {
@@ -33,7 +36,10 @@ impl Held {
 /// Performs a load of these contents. None for a maker.
 fn load(contents: &Stamped, op: Op) -> Option<(Reply, u64)>
     requires { op.word < WORDS_PER_LINE }
-    ensures { result ≡ (if is_maker op then None else Some (reply_of contents.now.line op, contents.now.version)) }
+    ensures { result
+        ≡ (if is_maker op
+        then None
+        else Some (reply_of contents.now.line op, contents.now.version)) }
 {
     if op.is_maker() {
         return None;
@@ -46,8 +52,14 @@ fn load(contents: &Stamped, op: Op) -> Option<(Reply, u64)>
 fn make(contents: &mut Stamped, op: Op) -> Option<(Reply, u64)>
     requires word { op.word < WORDS_PER_LINE }
     requires maker { is_maker op ≡ true }
-    ensures answer { result ≡ (if nat_lt contents.old.version (2 ^ 64 - 1) then Some (reply_of contents.old.line op, (after contents.old op).version) else None) }
-    ensures contents { contents.new ≡ (if nat_lt contents.old.version (2 ^ 64 - 1) then after contents.old op else contents.old) }
+    ensures answer { result
+        ≡ (if nat_lt contents.old.version (2 ^ 64 - 1)
+        then Some (reply_of contents.old.line op, (after contents.old op).version)
+        else None) }
+    ensures contents { contents.new
+        ≡ (if nat_lt contents.old.version (2 ^ 64 - 1)
+        then after contents.old op
+        else contents.old) }
 {
     if contents.version == u64::MAX {
         return None;

@@ -12,7 +12,8 @@ impl Held {
     /// Serves a request of `sender`, a Cread, Purge, Roll or Setback, and gives the answer.
     pub(crate) fn serve(&mut self, sender: NodeId, request: &Body) -> Body
         requires { IsForCache request.now }
-        ensures { serving (state_of self.old) sender request.now ≡ Some (state_of self.new, result) }
+        ensures { serving (state_of self.old) sender request.now
+            ≡ Some (state_of self.new, result) }
     {
         match *request {
             Body::Cread => self.serve_cread(sender),
@@ -80,7 +81,8 @@ impl Held {
 impl HeadState {
     /// Lets `joiner` join before this head.
     fn join(self, joiner: NodeId) -> Below
-        ensures { result ≡ record { forward = self.forward; backward = joiner; contents = self.contents } }
+        ensures { result
+            ≡ record { forward = self.forward; backward = joiner; contents = self.contents } }
     {
         Below {
             forward: self.forward,
@@ -93,7 +95,8 @@ impl HeadState {
 impl FreshHead {
     /// Lets `joiner` join before this head.
     fn join(self, joiner: NodeId) -> Below
-        ensures { result ≡ record { forward = self.forward; backward = joiner; contents = self.contents } }
+        ensures { result
+            ≡ record { forward = self.forward; backward = joiner; contents = self.contents } }
     {
         Below {
             forward: self.forward,

@@ -62,7 +62,8 @@ impl Home {
     /// sees to it that the request is an Mread, Fread, Claim, Clear or Wback.
     pub fn serve(&mut self, request: &Packet) -> Packet
         requires { IsForHome request.now.body }
-        ensures case { home_serving self.old request.now.source request.now.body ≡ Some (self.new, result.body) }
+        ensures case { home_serving self.old request.now.source request.now.body
+            ≡ Some (self.new, result.body) }
         ensures target { result.target ≡ request.now.source }
         ensures source { result.source ≡ request.now.target }
         ensures control { result.control ≡ request.now.control }

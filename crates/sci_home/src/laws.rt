@@ -8,16 +8,20 @@ ghost use Rattle.sci_home.specs.Serving.{home_serving, head_of};
 
 /// A reader becomes the head of the list.
 pub fn a_reader_becomes_the_head()
-    ensures write { (state : HomeState) (n : ℕ) → IfSome (home_serving state n Mread) (λ served. head_of served.0 ≡ Some n) }
-    ensures read { (state : HomeState) (n : ℕ) → IfSome (home_serving state n Fread) (λ served. head_of served.0 ≡ Some n) }
+    ensures write { (state : HomeState) (n : ℕ) →
+        IfSome (home_serving state n Mread) (λ served. head_of served.0 ≡ Some n) }
+    ensures read { (state : HomeState) (n : ℕ) →
+        IfSome (home_serving state n Fread) (λ served. head_of served.0 ≡ Some n) }
 {}
 
 /// A wish to write, to leave or to give contents back is granted to the head alone.
 pub fn only_the_head_is_granted()
-    ensures { (state : HomeState) (n : ℕ) (request : Body) → IfSome (home_serving state n request) (λ served. served.1 ≡ Wbok → head_of state ≡ Some n) }
+    ensures { (state : HomeState) (n : ℕ) (request : Body) →
+        IfSome (home_serving state n request) (λ served. served.1 ≡ Wbok → head_of state ≡ Some n) }
 {}
 
 /// A wish that is not granted changes nothing.
 pub fn a_refusal_changes_nothing()
-    ensures { (state : HomeState) (n : ℕ) (request : Body) → IfSome (home_serving state n request) (λ served. served.1 ≡ Wbno → served.0 ≡ state) }
+    ensures { (state : HomeState) (n : ℕ) (request : Body) →
+        IfSome (home_serving state n request) (λ served. served.1 ≡ Wbno → served.0 ≡ state) }
 {}

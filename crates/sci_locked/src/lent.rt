@@ -15,10 +15,12 @@ use sci_words::{Event, Op};
 /// Refused, unchanged, with the first of `SubmitFault`'s causes that holds.
 pub fn submit_on(machine: &mut Machine, node: u8, op: Op) -> Result<u32, SubmitFault>
     requires { node < machine.old.size.nodes }
-    ensures issued { IfOk result (λ serial. stepping machine.old (Issue node op) ≡ Some machine.new) }
+    ensures issued { IfOk result
+        (λ serial. stepping machine.old (Issue node op) ≡ Some machine.new) }
     ensures serial { IfOk result (λ serial. serial ≡ (node_at machine.old node).issued) }
     ensures may { IsOk result → submit_fault (node_at machine.old node) op ≡ None }
-    ensures fault { IfErr result (λ fault. submit_fault (node_at machine.old node) op ≡ Some fault) }
+    ensures fault { IfErr result
+        (λ fault. submit_fault (node_at machine.old node) op ≡ Some fault) }
     ensures same { IsErr result → machine.new ≡ machine.old }
     ensures size { machine.new.size ≡ machine.old.size }
 {
@@ -38,8 +40,11 @@ pub fn submit_on(machine: &mut Machine, node: u8, op: Op) -> Result<u32, SubmitF
 /// doesn't allow it.
 pub fn perform_on(machine: &mut Machine, node: u8, line: u8) -> Option<Entry>
     requires { node < machine.old.size.nodes }
-    ensures performed { IfSome result (λ entry. node_performing (node_at machine.old node) line ≡ Some (node_at machine.new node, entry)) }
-    ensures event { IfSome result (λ entry. stepping machine.old (Perform node line) ≡ Some machine.new) }
+    ensures performed { IfSome result
+        (λ entry. node_performing (node_at machine.old node) line
+        ≡ Some (node_at machine.new node, entry)) }
+    ensures event { IfSome result
+        (λ entry. stepping machine.old (Perform node line) ≡ Some machine.new) }
     ensures none { result ≡ None → node_performing (node_at machine.old node) line ≡ None }
     ensures same { result ≡ None → machine.new ≡ machine.old }
     ensures size { machine.new.size ≡ machine.old.size }

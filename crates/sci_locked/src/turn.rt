@@ -33,8 +33,10 @@ pub fn turn_on(machine: &mut Machine, policy: &mut Policy, node: u8) -> Result<P
     ensures turn { IfOk result (IsTurn node policy.old machine.old policy.new machine.new) }
     ensures kept { IsErr result → IsPartOfTurn node policy.old machine.old policy.new machine.new }
     ensures ready { IfOk result (λ progress. MayPerform (node_at machine.new node) progress.ready) }
-    ensures idle { IfOk result (λ progress. is_idle progress ≡ true → IsIdleTurn node policy.old machine.old policy.new machine.new) }
-    ensures rest { IfOk result (λ progress. is_idle progress ≡ true → MayIdle (node_at machine.new node)) }
+    ensures idle { IfOk result (λ progress. is_idle progress ≡ true →
+        IsIdleTurn node policy.old machine.old policy.new machine.new) }
+    ensures rest { IfOk result (λ progress. is_idle progress ≡ true →
+        MayIdle (node_at machine.new node)) }
     ensures room { KeepsRoom machine.old machine.new }
     ensures size { machine.new.size ≡ machine.old.size }
 {
@@ -52,7 +54,8 @@ fn make(machine: &mut Machine, progress: &mut Progress, event: Event) -> Result<
     requires enabled { IsEnabled machine.old event }
     requires accepted { progress.old.accepted < u32.MAX }
     requires served { progress.old.served < u32.MAX }
-    ensures made { IfOk result (λ _. IsMade machine.old event machine.new progress.old progress.new) }
+    ensures made { IfOk result
+        (λ _. IsMade machine.old event machine.new progress.old progress.new) }
     ensures same { IsErr result → machine.new ≡ machine.old }
     ensures told { IsErr result → progress.new ≡ progress.old }
 {
@@ -81,7 +84,8 @@ fn reply(machine: &mut Machine, progress: &mut Progress, node: u8) -> Result<(),
     requires accepted { progress.old.accepted < u32.MAX }
     requires served { progress.old.served < u32.MAX }
     ensures step { IsStep 1 machine.old machine.new progress.old progress.new }
-    ensures goes { (policy : PolicyOf) → GoesOn node policy machine.old policy machine.new progress.old progress.new }
+    ensures goes { (policy : PolicyOf) →
+        GoesOn node policy machine.old policy machine.new progress.old progress.new }
     ensures idle { IsOk result → MadeNothing progress.new → IsReplyHeldUp machine.old node }
 {
     let Some(to) = reply_target(machine, node) else {
@@ -96,7 +100,8 @@ fn reply(machine: &mut Machine, progress: &mut Progress, node: u8) -> Result<(),
 /// The node that the answer waiting at a node goes to, or None if none waits.
 fn reply_target(machine: &Machine, node: u8) -> Option<u8>
     requires { node < machine.now.size.nodes }
-    ensures target { result ≡ option_map (λ answer. answer.target) (node_at machine.now node).waiting }
+    ensures target { result
+        ≡ option_map (λ answer. answer.target) (node_at machine.now node).waiting }
     ensures some { IfSome result (λ to. to < machine.now.size.nodes) }
     ensures reached { IsReached machine.now }
 {
@@ -107,7 +112,8 @@ fn reply_target(machine: &Machine, node: u8) -> Option<u8>
 /// The node that a request of a node would go to, or None if it can't be asked.
 fn ask_target(machine: &Machine, node: u8, line: u8, kind: AskKind) -> Option<u8>
     requires { node < machine.now.size.nodes }
-    ensures target { result ≡ option_map (λ sent. sent.1.target) (node_asking (node_at machine.now node) line kind) }
+    ensures target { result
+        ≡ option_map (λ sent. sent.1.target) (node_asking (node_at machine.now node) line kind) }
     ensures some { IfSome result (λ to. to < machine.now.size.nodes) }
 {
     // By a `match`: the toolchain builds no proof for a packet behind `?`.
@@ -123,7 +129,8 @@ fn accept_all(machine: &mut Machine, progress: &mut Progress, node: u8) -> Resul
     requires accepted { progress.old.accepted < 1000 }
     requires served { progress.old.served < 1000 }
     ensures step { IsStep 64 machine.old machine.new progress.old progress.new }
-    ensures goes { (policy : PolicyOf) → GoesOn node policy machine.old policy machine.new progress.old progress.new }
+    ensures goes { (policy : PolicyOf) →
+        GoesOn node policy machine.old policy machine.new progress.old progress.new }
     ensures idle { IsOk result → MadeNothing progress.new → HasNoAnswers machine.old node }
     ensures reached { IsReached machine.old }
 {
@@ -145,8 +152,10 @@ fn accept_from(
     requires accepted { progress.old.accepted < 2000 }
     requires served { progress.old.served < 2000 }
     ensures step { IsStep 4 machine.old machine.new progress.old progress.new }
-    ensures goes { (policy : PolicyOf) → GoesOn node policy machine.old policy machine.new progress.old progress.new }
-    ensures idle { IsOk result → MadeNothing progress.new → lane_of machine.old Answers from node ≡ [] }
+    ensures goes { (policy : PolicyOf) →
+        GoesOn node policy machine.old policy machine.new progress.old progress.new }
+    ensures idle { IsOk result → MadeNothing progress.new →
+        lane_of machine.old Answers from node ≡ [] }
 {
     for _cell in 0..LANE_CELLS {
         if !has_come(machine, from, node) {
@@ -180,7 +189,8 @@ fn take_all(
     requires accepted { progress.old.accepted < 1000 }
     requires served { progress.old.served < 1000 }
     ensures step { IsStep 128 machine.old machine.new progress.old progress.new }
-    ensures goes { GoesOn node policy.old machine.old policy.new machine.new progress.old progress.new }
+    ensures goes { GoesOn node policy.old machine.old policy.new machine.new
+        progress.old progress.new }
     ensures idle { IsOk result → MadeNothing progress.new → TakesNone policy.old machine.old node }
 {
     let nodes = machine.extent().nodes;
@@ -205,8 +215,10 @@ fn take_from(
     requires accepted { progress.old.accepted < 2000 }
     requires served { progress.old.served < 2000 }
     ensures step { IsStep 8 machine.old machine.new progress.old progress.new }
-    ensures goes { GoesOn node policy.old machine.old policy.new machine.new progress.old progress.new }
-    ensures idle { IsOk result → MadeNothing progress.new → taken_next policy.old machine.old from node ≡ None }
+    ensures goes { GoesOn node policy.old machine.old policy.new machine.new
+        progress.old progress.new }
+    ensures idle { IsOk result → MadeNothing progress.new →
+        taken_next policy.old machine.old from node ≡ None }
 {
     for _cell in 0..LANE_CELLS {
         let Some(event) = taking(machine, policy, from, node) else {
@@ -250,9 +262,11 @@ fn ask_some(
     requires accepted { progress.old.accepted < 2000 }
     requires served { progress.old.served < 2000 }
     requires ready { progress.old.ready ≡ None }
-    ensures turn { EndsTurn node policy.old machine.old policy.new machine.new progress.old progress.new }
+    ensures turn { EndsTurn node policy.old machine.old policy.new machine.new
+        progress.old progress.new }
     ensures ready { MayPerform (node_at machine.new node) progress.new.ready }
-    ensures idle { IsOk result → MadeNothing progress.new → progress.new.ready ≡ None → AsksNothing node policy.old machine.old policy.new machine.new progress.old }
+    ensures idle { IsOk result → MadeNothing progress.new → progress.new.ready ≡ None →
+        AsksNothing node policy.old machine.old policy.new machine.new progress.old }
     ensures room { KeepsRoom machine.old machine.new }
     ensures size { machine.new.size ≡ machine.old.size }
 {
@@ -277,7 +291,8 @@ fn ask_some(
 /// Whether a node can ask this, and the lane to its target has room.
 fn may_ask(machine: &Machine, node: u8, line: u8, kind: AskKind) -> bool
     requires { node < machine.now.size.nodes }
-    ensures { result ≡ can_send machine.now node (node_asking (node_at machine.now node) line kind) }
+    ensures { result
+        ≡ can_send machine.now node (node_asking (node_at machine.now node) line kind) }
 {
     match ask_target(machine, node, line, kind) {
         Some(to) => has_room(machine, LaneKind::Requests, node, to),

@@ -83,9 +83,11 @@ fn node(number: u16) -> Result<NodeId, PacketFault>
 #[tactic(auto, unfolding(crate::specs::Fault::fault_of, crate::specs::Fault::header_fault))]
 fn packet_at(bytes: &[u8]) -> Result<Packet, PacketFault>
     ensures header { IfOk result (λ p. header_of p ≡ header_in bytes.now) }
-    ensures contents { IfOk result (λ p. (parts_of p.body).contents ≡ contents_for (header_in bytes.now).command bytes.now) }
+    ensures contents { IfOk result
+        (λ p. (parts_of p.body).contents ≡ contents_for (header_in bytes.now).command bytes.now) }
     ensures nodes { IfOk result (λ p. (p.target < 0xFFFF) × (p.source < 0xFFFF)) }
-    ensures identifier { IfOk result (λ p. IfSome (parts_of p.body).identifier (λ id. id < 0xFFFF)) }
+    ensures identifier { IfOk result
+        (λ p. IfSome (parts_of p.body).identifier (λ id. id < 0xFFFF)) }
     ensures fault { result_err result ≡ fault_of bytes.now }
 {
     if bytes.len() < SHORT {
@@ -122,7 +124,8 @@ pub fn decode(bytes: &[u8]) -> Result<(Packet, usize), PacketFault>
     ensures length { IfOk result (λ found. found.1 ≤ length bytes.now) }
 
     // If the first bytes spell a packet, that is the answer.
-    ensures only { (p : Packet) (k : ℕ) → k ≤ length bytes.now → Spells p (take k bytes.now) → result ≡ Ok (p, k) }
+    ensures only { (p : Packet) (k : ℕ) → k ≤ length bytes.now → Spells p (take k bytes.now) →
+        result ≡ Ok (p, k) }
 
     // It is refused exactly if they spell none, with the first fault.
     ensures none { IsErr result ↔ NoneSpells bytes.now }

@@ -41,7 +41,8 @@ pub fn line_of(words: &[Word; WORDS_PER_LINE]) -> Line
 #[tactic(auto, unfolding(crate::specs::Fields::contents_in, crate::specs::Fields::field_at))]
 pub fn contents_at(bytes: &[u8]) -> Result<Stamped, PacketFault>
     ensures contents { IfOk result (λ stamped. stamped ≡ contents_in bytes.now) }
-    ensures fault { result_err result ≡ (if nat_lt (length bytes.now) LONG then Some PacketFault.Short else None) }
+    ensures fault { result_err result
+        ≡ (if nat_lt (length bytes.now) LONG then Some PacketFault.Short else None) }
 {
     if bytes.len() < LONG {
         return Err(PacketFault::Short);

@@ -7,7 +7,8 @@ ghost use Rattle.sci_packets.specs.Spelling.{IsPacket, Spells, SpellsInWords, sp
 
 /// No spelling is a proper prefix of another: nothing follows the shorter one.
 pub fn no_proper_prefix()
-    ensures { (p q : Packet) (bytes more : List ℕ) → Spells p bytes → Spells q (bytes ++ more) → more ≡ [] }
+    ensures { (p q : Packet) (bytes more : List ℕ) → Spells p bytes → Spells q (bytes ++ more) →
+        more ≡ [] }
 {}
 
 /// Two packets with one spelling are the same packet.
@@ -22,7 +23,8 @@ pub fn first_word_is_not_zero()
 
 /// The words of a packet give back that packet alone, and what follows them, whatever follows them.
 pub fn words_give_back()
-    ensures { (p q : Packet) (more others : List ℕ) → IsPacket p → IsPacket q → words_of p ++ more ≡ words_of q ++ others → (p ≡ q) × (more ≡ others) }
+    ensures { (p q : Packet) (more others : List ℕ) → IsPacket p → IsPacket q →
+        words_of p ++ more ≡ words_of q ++ others → (p ≡ q) × (more ≡ others) }
 {}
 
 /// Two packets whose words agree as far as both go are the same packet.

@@ -81,7 +81,8 @@ pub fn is_command(number: u16) -> bool
 #[tactic(auto, unfolding(crate::specs::Table::parts_of, crate::specs::Table::is_misnamed, crate::specs::Table::body_fault))]
 pub fn body_of(command: u16, identifier: Option<NodeId>, bytes: &[u8]) -> Result<Body, PacketFault>
     requires { IsTrue (is_command_of command) }
-    ensures parts { IfOk result (λ body. parts_of body ≡ parts_with command identifier (contents_for command bytes.now)) }
+    ensures parts { IfOk result
+        (λ body. parts_of body ≡ parts_with command identifier (contents_for command bytes.now)) }
     ensures fault { result_err result ≡ body_fault command identifier (length bytes.now) }
 {
     let body = match command {

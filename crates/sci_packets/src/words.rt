@@ -38,7 +38,8 @@ pub fn from_words(words: &[u64]) -> Result<(Packet, usize), PacketFault>
     ensures length { IfOk result (λ found. found.1 ≤ length words.now) }
 
     // If the first words are those of a packet, that is the answer.
-    ensures only { (p : Packet) (k : ℕ) → k ≤ length words.now → SpellsInWords p (take k words.now) → result ≡ Ok (p, k) }
+    ensures only { (p : Packet) (k : ℕ) → k ≤ length words.now →
+        SpellsInWords p (take k words.now) → result ≡ Ok (p, k) }
 
     // It is refused exactly if they are those of none, with the first fault.
     ensures none { IsErr result ↔ NoneSpellsInWords words.now }

@@ -172,7 +172,8 @@ pub(crate) fn own_ask(node: &Node, line: u8) -> Option<AskKind>
 /// The least line of which something is true.
 pub(crate) fn least<F: Fn(u8) -> bool>(node: &Node, test: F) -> Option<u8>
     requires { (line : ℕ) → line < lines_of node.now → F.pre test line }
-    ensures { (tested : ℕ → Bool) → IsTest (lines_of node.now) (F.post test) tested → result ≡ least_of node.now tested }
+    ensures { (tested : ℕ → Bool) → IsTest (lines_of node.now) (F.post test) tested →
+        result ≡ least_of node.now tested }
 {
     for line in 0..node.extent().lines {
         if test(line) {
@@ -185,7 +186,8 @@ pub(crate) fn least<F: Fn(u8) -> bool>(node: &Node, test: F) -> Option<u8>
 /// Of the lines with an operation pending, and of which something is true, the one whose operation is the oldest.
 pub(crate) fn oldest<F: Fn(u8) -> bool>(node: &Node, test: F) -> Option<u8>
     requires { (line : ℕ) → line < lines_of node.now → F.pre test line }
-    ensures { (tested : ℕ → Bool) → IsTest (lines_of node.now) (F.post test) tested → result ≡ oldest_with node.now tested }
+    ensures { (tested : ℕ → Bool) → IsTest (lines_of node.now) (F.post test) tested →
+        result ≡ oldest_with node.now tested }
 {
     let mut found = None;
     for line in 0..node.extent().lines {

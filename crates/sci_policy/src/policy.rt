@@ -298,7 +298,8 @@ fn put(set: &mut LineSet, line: u8, is_in: bool)
 fn cread_line(node: &Node, request: &Packet) -> Option<u8>
     ensures line { IfSome result (λ line. line ≡ request.now.line) }
     ensures cread { IfSome result (λ line. is_cread request.now.body ≡ true) }
-    ensures none { result ≡ None → is_cread request.now.body ≡ true → state_on node.now request.now.line ≡ Out }
+    ensures none { result ≡ None → is_cread request.now.body ≡ true →
+        state_on node.now request.now.line ≡ Out }
 {
     if request.body != Body::Cread || request.line >= u64::from(node.extent().lines) {
         return None;

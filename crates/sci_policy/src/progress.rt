@@ -41,7 +41,8 @@ impl Progress {
         requires accepted { self.old.accepted < u32.MAX }
         requires served { self.old.served < u32.MAX }
         ensures more { self.new ≡ counted self.old event.now }
-        ensures counted { (events : List Event) → Counts events self.old → Counts (events ++ event.now ∷ []) self.new }
+        ensures counted { (events : List Event) → Counts events self.old →
+            Counts (events ++ event.now ∷ []) self.new }
     {
         match event {
             Event::Accept { .. } => self.accepted += 1,

@@ -29,7 +29,8 @@ pub trait Worker {
     /// Performs the operation that is pending on a line, and gives its entry, which now ends the log. None, with the
     /// same work, if none is pending there or it can't be performed yet.
     fn perform(&mut self, line: u8) -> Option<Entry>
-        ensures performed { IfSome result (λ entry. IsLogged (node self.old) (node self.new) line entry) }
+        ensures performed { IfSome result
+            (λ entry. IsLogged (node self.old) (node self.new) line entry) }
         ensures same { result ≡ None → node self.new ≡ node self.old };
 
     /// Takes a turn: takes what others sent, and sends what comes next. No operation is submitted or performed by it.
