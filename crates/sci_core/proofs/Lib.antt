@@ -46,3 +46,4 @@ pub mod Ranges
 pub mod Pendings
 pub mod Rest
 pub mod GoingOn
+pub mod Drains

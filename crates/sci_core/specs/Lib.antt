@@ -21,3 +21,4 @@ pub mod Sides
 pub mod Enabled
 pub mod Coherent
 pub mod GoingOn
+pub mod Draining

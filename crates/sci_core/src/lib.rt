@@ -11,6 +11,7 @@ mod machine;
 mod node;
 mod outcome;
 mod pending;
+mod progress;
 mod state;
 mod taking;
 
@@ -27,6 +28,7 @@ pub use laws::{
 pub use machine::Machine;
 pub use node::Node;
 pub use pending::Pending;
+pub use progress::{packets_move_on, packets_run_out, weightless_is_drained};
 
 #[cfg(test)]
 mod tests;

@@ -1,0 +1,24 @@
+//! Laws of what goes on, each the contract of a function that does nothing.
+
+ghost use Rattle.std.specs.Prelude.{◌≡◌, ◌+◌, List};
+ghost use Rattle.sci_words.specs.declared.event.Event.{Event};
+ghost use Rattle.sci_core.specs.Core.{Core, run_from};
+ghost use Rattle.sci_core.specs.Draining.{AskNothing, CanDrain, IsDrained, moves_made, weight};
+ghost use Rattle.sci_core.specs.Reached.{IsReached};
+
+/// In every reached state, each event that moves a packet on lowers the weight of what is under way by exactly one: a
+/// Serve, a Refuse, a Reply or an Accept, if it is enabled. No other event changes it but an Ask. So of every list of
+/// events without an Ask, whatever is refused and in whatever order, exactly as many move a packet on as the weight falls.
+pub fn packets_run_out()
+    ensures { (core : Core) (events : List Event) → IsReached core → AskNothing events → weight core ≡ weight (run_from core events) + moves_made core events }
+{}
+
+/// If what is under way has no weight, nothing is under way.
+pub fn weightless_is_drained()
+    ensures { (core : Core) → weight core ≡ 0 → IsDrained core }
+{}
+
+/// In every reached state a Serve, a Reply or an Accept is enabled, or nothing is under way.
+pub fn packets_move_on()
+    ensures { (core : Core) → IsReached core → CanDrain core }
+{}
