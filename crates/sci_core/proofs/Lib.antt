@@ -36,6 +36,7 @@ pub mod PerformShapes
 pub mod ShapeSteps
 pub mod ShapeServes
 pub mod ShapeRuns
+pub mod StaleFronts
 pub mod Works
 pub mod Histories
 pub mod ShapeClauses

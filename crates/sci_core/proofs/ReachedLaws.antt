@@ -34,6 +34,7 @@ use Rattle.sci_core.proofs.Transactions.{runs_alternate}
 use Rattle.sci_core.proofs.ShapeSteps.{ShapedAt}
 use Rattle.sci_core.proofs.ShapeRuns.{each_mapped, opening_shaped, step_follows}
 use Rattle.sci_core.proofs.ShapeClauses.{last_is, shape_of}
+use Rattle.sci_core.proofs.StaleFronts.{reached_stale}
 use Rattle.sci_core.proofs.Works.{HasSerials, opening_serials}
 use Rattle.sci_core.proofs.Histories.{run_follows, RunLogged, run_logged, IsKnown}
 use Rattle.sci_core.specs.Size.{Size}
@@ -73,7 +74,7 @@ reached_shaped core reached line inside =
 pub reached_shapes : (core : Core) → IsReached core → HasShapes core
 reached_shapes core reached line inside =
     let shaped = reached_shaped core reached line inside in
-    shape_of core line shaped.0 (reached_well core reached) (reached_tidy core reached) inside shaped.1
+    shape_of core line shaped.0 (reached_well core reached) (reached_tidy core reached) inside shaped.1 (reached_stale core line reached inside)
 
 -- no answer comes that its taker doesn't await
 pub reached_accepted : (core : Core) → IsReached core → AreAccepted core

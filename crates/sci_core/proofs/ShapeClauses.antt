@@ -19,7 +19,7 @@ use Rattle.sci_cache.specs.Accepting.{accepting}
 use Rattle.sci_cache.specs.Member.{link_of}
 use Rattle.sci_cache.specs.Cache.{Letter, line_of}
 use Rattle.sci_core.specs.Core.{Core, node_at}
-use Rattle.sci_core.specs.Shape.{comes, follows, state_at, IsAuthority, IsSplit, HasOneAuthority, HasAuthorities, HaveContents, is_home_fresh, HasShape}
+use Rattle.sci_core.specs.Shape.{comes, follows, state_at, IsAuthority, IsSplit, HasOneAuthority, HasAuthorities, HaveContents, is_home_fresh, IsGoneStale, HasShape}
 use Rattle.sci_core.specs.Sharing.{contents_held, packets_of, answer_in, Sharer, sharer_of, sharers, home_at, authority_contents, first_authority, last_at, answer_to as told}
 use Rattle.sci_history.specs.Seen.{IsAmong}
 use Rattle.sci_core.specs.Tidy.{IsSentIn, HasItsPackets, IsTidy, IsAccepted}
@@ -353,8 +353,8 @@ home_same view (at.Home d) c ns led = led
 home_same view (at.Fresh p d) c ns led = led.0
 home_same view (at.Gone p) c ns led = tt
 
-pub shape_of : (core : Core) (line : ℕ) (c : Stamped) → IsWellFormed core → IsTidy core → line < core.size.lines → ShapedAt core line c → HasShape core line
-shape_of core line c well tidy inside (ns, is) =
+pub shape_of : (core : Core) (line : ℕ) (c : Stamped) → IsWellFormed core → IsTidy core → line < core.size.lines → ShapedAt core line c → IsGoneStale core line (home_at core line) → HasShape core line
+shape_of core line c well tidy inside (ns, is) stale =
     let home = home_at core line in
     let last = last_is core line c well (ns, is) in
     let contents : HaveContents core line ns c = record {
@@ -379,4 +379,5 @@ shape_of core line c well tidy inside (ns, is) =
         below = λ before middle after m a split fresh. led_below (view_of core line) c (is_home_fresh home) before m middle a after (authority_leads core line a split.authority) fresh
             (subst (IsLed (view_of core line) c (is_home_fresh home)) (split.whole ∙ append_assoc before (m ∷ middle) (a ∷ after)) (split_led core line home c ns a split.authority is));
       };
+      stale = stale;
     }

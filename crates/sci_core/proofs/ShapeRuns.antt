@@ -48,7 +48,7 @@ same_follows core new made line c none same shaped = unchanged new made line c n
 -- ---- requests that are taken
 
 -- the request that was taken, with an answer that waits
-answered : (core new : Core) (taking : NodeOf → Letter → Option NodeOf) (t : Taken core new Requests taking) (next : NodeOf) (body : Body) → IsWellFormed core → (node_at core t.node).waiting ≡ None → next.waiting ≡ Some (answering t.letter body)
+pub answered : (core new : Core) (taking : NodeOf → Letter → Option NodeOf) (t : Taken core new Requests taking) (next : NodeOf) (body : Body) → IsWellFormed core → (node_at core t.node).waiting ≡ None → next.waiting ≡ Some (answering t.letter body)
     → IsPart core.size t.node next → Answered core t.node t.place next t.letter t.rest body
 answered core new taking t next body well free waits is = grind (arith, node_below, waiting_answers)
 
@@ -97,7 +97,7 @@ performed_follows core n line done does k c lt well tidy known shaped operates =
 pub pending_known : (core : Core) (n line : ℕ) (done : NodeOf × Entry) (does : PerformedAs (node_at core n) line done) → n < core.size.nodes → IsWellFormed core → does.pending.op.line < core.size.lines
 pending_known core n line done does lt well = grind (arith, some_below, of_some)
 
-operates_so : (core : Core) (n line : ℕ) (done : NodeOf × Entry) (does : PerformedAs (node_at core n) line done) → n < core.size.nodes → IsWellFormed core → Operates core n done.0 does.did does.pending.op.line
+pub operates_so : (core : Core) (n line : ℕ) (done : NodeOf × Entry) (does : PerformedAs (node_at core n) line done) → n < core.size.nodes → IsWellFormed core → Operates core n done.0 does.did does.pending.op.line
 operates_so core n line done does lt well =
     let part = node_at core n in
     let at = does.pending.op.line in
@@ -114,31 +114,34 @@ operates_so core n line done does lt well =
 
 -- ---- each way of stepping
 
-pub stepped_follows : (core new : Core) (e : Event) (made : Option Entry) → IsWellFormed core → IsTidy core → Stepped core e made new → (line : ℕ) → line < core.size.lines → (c : Stamped) → ShapedAt core line c → Follows new made line c
-stepped_follows core new e made well tidy (By_issue n op next event lt is then_ none) line inside c shaped =
+-- what a step does to a line: a node performs an operation, a request is served, or every node stands as it stood
+pub data LineStep (core new : Core) (made : Option Entry) (line : ℕ) : Type 0 where
+  Stood : made ≡ None → SameLine core new line → LineStep core new made line
+  Performed : (n at : ℕ) (done : NodeOf × Entry) → n < core.size.nodes → PerformedAs (node_at core n) at done → with_node core n done.0 ≡ new → made ≡ Some done.1 → LineStep core new made line
+  Served : (t : Taken core new Requests node_serving) → made ≡ None → IsPart core.size t.node t.next → ServedAs (node_at core t.node) t.letter t.next → LineStep core new made line
+
+pub line_steps : (core new : Core) (e : Event) (made : Option Entry) → IsWellFormed core → IsTidy core → Stepped core e made new → (line : ℕ) → line < core.size.lines → LineStep core new made line
+line_steps core new e made well tidy (By_issue n op next event lt is then_ none) line inside =
     let part = node_at core n in
     let stays = of_some (Stays core.size.nodes part) (node_issuing part op) next is (issue_stays core.size.nodes part op) in
     let same = changed_same core n next (node_below core n well lt) (of_some (Unmoved part) (node_issuing part op) next is (issue_unmoved part op)) stays.waiting line in
-    subst (λ (x : Core). Follows x made line c) then_ (same_follows core (with_node core n next) made line c none same shaped)
-stepped_follows core new e made well tidy (By_perform n at done lt is then_ some) line inside c shaped =
+    Stood none (subst (λ (x : Core). SameLine core x line) then_ same)
+line_steps core new e made well tidy (By_perform n at done lt is then_ some) line inside =
     let part = node_at core n in
-    let does = of_some (PerformedAs part at) (node_performing part at) done is (perform_as part at) in
-    let follows = performed_follows core n at done does line c lt well tidy (pending_known core n at done does lt well) shaped (operates_so core n at done does lt well) in
-    subst (λ (x : Core). Follows x made line c) then_ (subst (λ (m : Option Entry). Follows (with_node core n done.0) m line c) (sym some) follows)
-stepped_follows core new e made well tidy (By_ask n at kind sent is sends_well s none) line inside c shaped =
+    Performed n at done lt (of_some (PerformedAs part at) (node_performing part at) done is (perform_as part at)) then_ some
+line_steps core new e made well tidy (By_ask n at kind sent is sends_well s none) line inside =
     let node = node_at core n in
     let part = well.each_part n s.some in
     let once = of_some (AsksOnce core.size.nodes at node) (node_asking node at kind) sent is (ask_once core.size.nodes node at kind part.all (part.asks at)) in
     let alike = of_some (AsksAlike node) (node_asking node at kind) sent is (ask_alike node at kind) in
     let known : at < core.size.lines = subst (λ (k : ℕ). at < k) part.each once.below in
     let same = asked_same core n at (lane_place core.size.nodes Requests n sent.1.target) sent.0 sent.1 s.some (node_below core n well s.some) s.within sends_well.request.asks sends_well.from known once alike tidy line in
-    subst (λ (x : Core). Follows x made line c) s.then_ (same_follows core _ made line c none same shaped)
-stepped_follows core new e made well tidy (By_serve t none) line inside c shaped =
+    Stood none (subst (λ (x : Core). SameLine core x line) s.then_ same)
+line_steps core new e made well tidy (By_serve t none) line inside =
     let part = node_at core t.node in
     let is = of_some (IsPart core.size t.node) (node_serving part t.letter) t.next t.takes (part_serving core.size t.node part t.letter t.comes.0 t.comes.1 (well.each_part t.node t.some)) in
-    let served = served_shaped core new t line c well tidy shaped is (of_some (ServedAs part t.letter) (node_serving part t.letter) t.next t.takes (serve_as part t.letter)) in
-    unchanged new made line c none (subst (λ (x : Core). ShapedAt x line c) t.then_ served)
-stepped_follows core new e made well tidy (By_refuse t none) line inside c shaped =
+    Served t none is (of_some (ServedAs part t.letter) (node_serving part t.letter) t.next t.takes (serve_as part t.letter))
+line_steps core new e made well tidy (By_refuse t none) line inside =
     let part = node_at core t.node in
     let is = of_some (IsPart core.size t.node) (node_refusing part t.letter) t.next t.takes (part_refusing core.size t.node part t.letter t.comes.0 t.comes.1 (well.each_part t.node t.some)) in
     let answers = of_some (Answers core.size.nodes t.letter part) (node_refusing part t.letter) t.next t.takes (refuse_answers core.size.nodes part t.letter) in
@@ -146,8 +149,8 @@ stepped_follows core new e made well tidy (By_refuse t none) line inside c shape
     let next = subst (IsPart core.size t.node) (sym does.then_) is in
     let same = refused_same core t.node t.place t.letter t.rest does.other (answered core new node_refusing t (with_answer part t.letter Busy) Busy well answers.free refl next) tidy line in
     let then_ = subst (λ (x : NodeOf). SameLine core (with_lane (with_node core t.node x) t.place t.rest) line) does.then_ same in
-    subst (λ (x : Core). Follows x made line c) t.then_ (same_follows core _ made line c none then_ shaped)
-stepped_follows core new e made well tidy (By_reply n sent is sends_well s none) line inside c shaped =
+    Stood none (subst (λ (x : Core). SameLine core x line) t.then_ then_)
+line_steps core new e made well tidy (By_reply n sent is sends_well s none) line inside =
     let part = node_at core n in
     let replies = of_some (Replies core.size.nodes part) (node_replying part) sent is (reply_replies core.size.nodes part) in
     let e = of_some (λ (x : NodeOf × Letter). (record part { waiting = None }) ≡ x.0) (node_replying part) sent is (reply_as part) in
@@ -156,15 +159,25 @@ stepped_follows core new e made well tidy (By_reply n sent is sends_well s none)
     let target : letter.target < core.size.nodes = sends_well.answer.letter_ok.target in
     let asker : (m k : ℕ) → is_about m k letter ≡ true → m < core.size.nodes = λ m k about. subst (λ (j : ℕ). j < core.size.nodes) (sym (answer_asker letter sends_well.answer.answers) ∙ about_asker m k letter about) target in
     let same = replied_same core n (lane_place core.size.nodes AnswerLane n letter.target) sent.0 letter (node_below core n well s.some) s.within asker replies unmoved tidy line inside in
-    subst (λ (x : Core). Follows x made line c) s.then_ (same_follows core _ made line c none same shaped)
-stepped_follows core new e made well tidy (By_accept t none) line inside c shaped =
+    Stood none (subst (λ (x : Core). SameLine core x line) s.then_ same)
+line_steps core new e made well tidy (By_accept t none) line inside =
     let part = node_at core t.node in
     let known = t.comes.0.letter_ok.about in
     let on_line : t.letter.line < lines_of part = subst (λ (k : ℕ). t.letter.line < k) (sym (well.each_part t.node t.some).each) known in
     let accepts = of_some (Accepts t.letter.line part) (node_accepting part t.letter) t.next t.takes (accept_accepts part t.letter) in
     let alike = of_some (AcceptsAlike t.letter part) (node_accepting part t.letter) t.next t.takes (accept_alike part t.letter) in
     let same = accepted_same core t.node t.place t.next t.letter t.rest t.some (node_below core t.node well t.some) t.within t.front t.comes.0.answers t.comes.1 known on_line accepts alike tidy line in
-    subst (λ (x : Core). Follows x made line c) t.then_ (same_follows core _ made line c none same shaped)
+    Stood none (subst (λ (x : Core). SameLine core x line) t.then_ same)
+
+line_follows : (core new : Core) (made : Option Entry) (line : ℕ) → IsWellFormed core → IsTidy core → LineStep core new made line → (c : Stamped) → ShapedAt core line c → Follows new made line c
+line_follows core new made line well tidy (Stood none same) c shaped = same_follows core new made line c none same shaped
+line_follows core new made line well tidy (Performed n at done lt does then_ some) c shaped =
+    let follows = performed_follows core n at done does line c lt well tidy (pending_known core n at done does lt well) shaped (operates_so core n at done does lt well) in
+    subst (λ (x : Core). Follows x made line c) then_ (subst (λ (m : Option Entry). Follows (with_node core n done.0) m line c) (sym some) follows)
+line_follows core new made line well tidy (Served t none is served) c shaped = unchanged new made line c none (subst (λ (x : Core). ShapedAt x line c) t.then_ (served_shaped core new t line c well tidy shaped is served))
+
+pub stepped_follows : (core new : Core) (e : Event) (made : Option Entry) → IsWellFormed core → IsTidy core → Stepped core e made new → (line : ℕ) → line < core.size.lines → (c : Stamped) → ShapedAt core line c → Follows new made line c
+stepped_follows core new e made well tidy stepped line inside c shaped = line_follows core new made line well tidy (line_steps core new e made well tidy stepped line inside) c shaped
 
 -- ---- steps
 
@@ -192,7 +205,7 @@ opening_out : (size : Size) (n line : ℕ) → (line_of (node_at (opening size) 
 opening_out size n line =
     each_mapped (λ (part : NodeOf). (line_of part.cache line).state ≡ Out) (λ (m : ℕ). opening_node m size) no_node 0 size.nodes n (λ m. ap (λ (s : LineState). s.state) (replicated untouched size.lines line)) refl
 
-opening_at_home : (size : Size) (n line : ℕ) → home_of (node_at (opening size) n) line ≡ opening_home
+pub opening_at_home : (size : Size) (n line : ℕ) → home_of (node_at (opening size) n) line ≡ opening_home
 opening_at_home size n line =
     each_mapped (λ (part : NodeOf). home_of part line ≡ opening_home) (λ (m : ℕ). opening_node m size) no_node 0 size.nodes n
     (λ m. replicated opening_home (size.lines / size.nodes + 1) (line / size.nodes)) (replicated opening_home (0 / 1 + 1) (line / 1))

@@ -90,7 +90,7 @@ state_same core n next states m k =
     at_place_set (λ (j : ℕ) (part : NodeOf). (line_of part.cache k).state ≡ (line_of (node_at core j).cache k).state) core.parts n next no_node (λ j. refl) (states k) m
 
 -- another line stands as it stood
-other_line : (core : Core) (n place : ℕ) (next : NodeOf) (request : Letter) (rest : List Letter) (body : Body) → Answered core n place next request rest body → ((k : ℕ) → k ≢ request.line → (line_of next.cache k).state ≡ (line_of (node_at core n).cache k).state)
+pub other_line : (core : Core) (n place : ℕ) (next : NodeOf) (request : Letter) (rest : List Letter) (body : Body) → Answered core n place next request rest body → ((k : ℕ) → k ≢ request.line → (line_of next.cache k).state ≡ (line_of (node_at core n).cache k).state)
     → ((k : ℕ) → k ≢ request.line → home_at (with_node core n next) k ≡ home_at core k) → (k : ℕ) → k ≢ request.line → SameLine core (with_lane (with_node core n next) place rest) k
 other_line core n place next request rest body is states homes k other =
     let new = with_lane (with_node core n next) place rest in
@@ -102,7 +102,7 @@ other_line core n place next request rest body is states homes k other =
     }
 
 -- the asker's line, where no state changes
-asks_now : (core : Core) (n place : ℕ) (next : NodeOf) (request : Letter) (rest : List Letter) (body : Body) → Answered core n place next request rest body → IsTidy core → ((k : ℕ) → (line_of next.cache k).state ≡ (line_of (node_at core n).cache k).state)
+pub asks_now : (core : Core) (n place : ℕ) (next : NodeOf) (request : Letter) (rest : List Letter) (body : Body) → Answered core n place next request rest body → IsTidy core → ((k : ℕ) → (line_of next.cache k).state ≡ (line_of (node_at core n).cache k).state)
     → Asks (view_of core request.line) (view_of (with_lane (with_node core n next) place rest) request.line) request.source ((view_of core request.line).state request.source) body
 asks_now core n place next request rest body is tidy states =
     let new = with_lane (with_node core n next) place rest in
@@ -148,7 +148,7 @@ places_apart c k line same other e =
     let d : c * (k / c) + k % c ≡ c * (line / c) + line % c = ap (λ (i : ℕ). c * i + k % c) e ∙ ap (λ (i : ℕ). c * (line / c) + i) same in
     other (sym a ∙ (d ∙ b))
 
-home_changed : (core : Core) (n line : ℕ) (next : NodeOf) (home : HomeState) → n < length core.parts → (node_at core n).cache.nodes ≡ core.size.nodes → line % core.size.nodes ≡ n → next.cache.nodes ≡ core.size.nodes → next.homes ≡ slice_set (node_at core n).homes (home_place (node_at core n) line) home
+pub home_changed : (core : Core) (n line : ℕ) (next : NodeOf) (home : HomeState) → n < length core.parts → (node_at core n).cache.nodes ≡ core.size.nodes → line % core.size.nodes ≡ n → next.cache.nodes ≡ core.size.nodes → next.homes ≡ slice_set (node_at core n).homes (home_place (node_at core n) line) home
     → (k : ℕ) → k ≢ line → home_at (with_node core n next) k ≡ home_at core k
 home_changed core n line next home below all at same homes k other =
     elim (cases_eq (k % core.size.nodes) n) [
@@ -166,7 +166,7 @@ home_changed core n line next home below all at same homes k other =
       | inr elsewhere ↦ ap (λ (p : NodeOf). home_of p k) (get_or-set_other core.parts n (k % core.size.nodes) next no_node elsewhere)
     ]
 
-home_now : (core : Core) (n line : ℕ) (next : NodeOf) (home : HomeState) → n < length core.parts → line % core.size.nodes ≡ n → next.cache.nodes ≡ (node_at core n).cache.nodes → next.homes ≡ slice_set (node_at core n).homes (home_place (node_at core n) line) home
+pub home_now : (core : Core) (n line : ℕ) (next : NodeOf) (home : HomeState) → n < length core.parts → line % core.size.nodes ≡ n → next.cache.nodes ≡ (node_at core n).cache.nodes → next.homes ≡ slice_set (node_at core n).homes (home_place (node_at core n) line) home
     → home_place (node_at core n) line < length (node_at core n).homes → home_at (with_node core n next) line ≡ home
 home_now core n line next home below at same homes within =
     let part = node_at core n in
@@ -203,11 +203,11 @@ home_kept core n place request rest served part at is serves tidy k c shaped =
 
 -- ---- a cache serves
 
-abbrev with_served : NodeOf → Letter → CacheState → Body → NodeOf
+abbrev pub with_served : NodeOf → Letter → CacheState → Body → NodeOf
 with_served part request state body = with_answer (record part { cache = with_line part.cache request.line (line_in (line_of part.cache request.line) state) }) request body
 
 -- the line of the asker and of the server, before and after
-served_shift : (core : Core) (n place : ℕ) (request : Letter) (rest : List Letter) (served : CacheState × Body) → IsPart core.size n (node_at core n) → Answered core n place (with_served (node_at core n) request served.0 served.1) request rest served.1 → IsTidy core
+pub served_shift : (core : Core) (n place : ℕ) (request : Letter) (rest : List Letter) (served : CacheState × Body) → IsPart core.size n (node_at core n) → Answered core n place (with_served (node_at core n) request served.0 served.1) request rest served.1 → IsTidy core
     → Shift (view_of core request.line) (view_of (with_lane (with_node core n (with_served (node_at core n) request served.0 served.1)) place rest) request.line) request.source n served.0 served.1
 served_shift core n place request rest served part is tidy =
     let old = node_at core n in

@@ -88,6 +88,12 @@ pub record IsFreshDown (core : Core) (line : ℕ) (nodes : List ℕ) : Type 0 wh
   pub home : (before after : List ℕ) (a : ℕ) → IsSplit core line nodes before a after → is_home_fresh (home_at core line) ≡ true → AreFresh core line (before ++ a ∷ [])
   pub below : (before middle after : List ℕ) (m a : ℕ) → IsSplit core line nodes (before ++ m ∷ middle) a after → is_fresh_at core line m ≡ true → AreFresh core line (middle ++ a ∷ [])
 
+-- if the home's contents are gone, the head of the list isn't fresh
+abbrev pub IsGoneStale : Core → ℕ → HomeState → Type 0
+IsGoneStale core line (at.Home c) = Unit {0}
+IsGoneStale core line (at.Fresh p c) = Unit {0}
+IsGoneStale core line (at.Gone p) = is_fresh_at core line p ≡ false
+
 -- ---- the shape
 
 pub record HasShape (core : Core) (line : ℕ) : Type 0 where
@@ -97,6 +103,7 @@ pub record HasShape (core : Core) (line : ℕ) : Type 0 where
   pub order : StandInOrder core line nodes
   pub contents : HaveContents core line nodes (last_at core line)
   pub fresh : IsFreshDown core line nodes
+  pub stale : IsGoneStale core line (home_at core line)
 
 abbrev pub HasShapes : Core → Type 0
 HasShapes core = (line : ℕ) → line < core.size.lines → HasShape core line

@@ -78,7 +78,8 @@ pub fn front_requests_are_served()
 /// - if the home hasn't the line alone, exactly one of them is the authority, which may change the line or is about to;
 /// - before the authority stand only members that come, and after it only members that follow;
 /// - all of them have the line's last contents, if they have any;
-/// - if the home is fresh, and below any fresh member that comes, all are fresh down to the authority.
+/// - if the home is fresh, and below any fresh member that comes, all are fresh down to the authority;
+/// - if the home's contents are gone, the head of the list isn't fresh.
 pub fn lines_have_their_shape()
     ensures { (core : Core) → IsReached core → HasShapes core }
 {}
