@@ -48,3 +48,4 @@ pub mod Pendings
 pub mod Rest
 pub mod GoingOn
 pub mod Drains
+pub mod Burdens

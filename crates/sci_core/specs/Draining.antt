@@ -1,5 +1,5 @@
 -- What is under way, weighed by how many events bring it to its end.
-use Rattle.std.specs.Prelude.{◌≡◌, ◌&&◌, ℕ, ◌+◌, Bool, true, false, if◌then◌else◌, List, [], ◌∷◌, Option, Some, None, is_some}
+use Rattle.std.specs.Prelude.{◌≡◌, ◌≤◌, ◌&&◌, ℕ, ◌+◌, ◌*◌, Bool, true, false, if◌then◌else◌, List, [], ◌∷◌, Option, Some, None, is_some}
 use Rattle.std.specs.List.{sum_by, AllByRecursion}
 use Rattle.sci_words.specs.declared.event.Event.{Event}
 use Rattle.sci_words.specs.declared.event.Event.TheVariants as event
@@ -23,6 +23,11 @@ answer_weight (Some answer) = 2
 -- 3 for each request in a lane, 2 for each answer that waits at a node, and 1 for each answer in a lane
 abbrev pub weight : Core → ℕ
 weight core = sum_by (λ part. answer_weight part.waiting) core.parts + sum_by lane_weight core.lanes
+
+-- no more than three times as much as each node may have of lines with an entry
+pub record IsLight (core : Core) : Type 0 where
+  pub lines : weight core ≤ 3 * (core.size.nodes * core.size.lines)
+  pub slots : weight core ≤ 3 * (core.size.nodes * core.size.slots)
 
 -- nothing is under way
 pub record IsDrained (core : Core) : Type 0 where

@@ -3,7 +3,7 @@
 ghost use Rattle.std.specs.Prelude.{◌≡◌, ◌+◌, List};
 ghost use Rattle.sci_words.specs.declared.event.Event.{Event};
 ghost use Rattle.sci_core.specs.Core.{Core, run_from};
-ghost use Rattle.sci_core.specs.Draining.{AskNothing, CanDrain, IsDrained, moves_made, weight};
+ghost use Rattle.sci_core.specs.Draining.{AskNothing, CanDrain, IsDrained, IsLight, moves_made, weight};
 ghost use Rattle.sci_core.specs.Reached.{IsReached};
 
 /// In every reached state, each event that moves a packet on lowers the weight of what is under way by exactly one: a
@@ -21,4 +21,10 @@ pub fn weightless_is_drained()
 /// In every reached state a Serve, a Reply or an Accept is enabled, or nothing is under way.
 pub fn packets_move_on()
     ensures { (core : Core) → IsReached core → CanDrain core }
+{}
+
+/// In every reached state what is under way weighs at most three times as much as each node may have lines with an entry:
+/// no more than the machine has lines, and no more than the node has version slots.
+pub fn weights_are_bounded()
+    ensures { (core : Core) → IsReached core → IsLight core }
 {}
