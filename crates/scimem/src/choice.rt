@@ -1,9 +1,10 @@
 //! The words of the command line.
 
-ghost use Rattle.std.specs.Prelude.{◌≡◌, ◌↔◌, Some, map};
+ghost use Rattle.std.specs.Prelude.{◌≡◌, ◌↔◌, IfOk, Some, map};
 ghost use Rattle.scimem.specs.declared.choice.Command.{Command};
 ghost use Rattle.scimem.specs.Choice.{arguments_of};
 
+use std::alloc::{AllocError, Global};
 use std::rt::Env;
 use std::{env, io};
 
@@ -40,10 +41,21 @@ pub fn chosen(words: &[&str]) -> Option<Command>
     }
 }
 
-/// The command that the program was asked to do, or None if the command line chooses none. It fails if
-/// the command line can't be read.
+/// The same of words as they are read, the program's own name left out. Refused if memory is.
+fn choice_of(alloc: Global, words: &[String]) -> Result<Option<Command>, AllocError>
+    ensures { IfOk result (λ choice. (command : Command)
+        → (choice ≡ Some command) ↔ (map (λ word. word.bytes.items) words.now ≡ arguments_of command)) }
+{
+    let mut texts = Vec::with_capacity(alloc, words.len())?;
+    for word in words {
+        texts.push(word.as_str())?;
+    }
+    Ok(chosen(&texts))
+}
+
+/// The command that the program was asked to do, or None if the command line chooses none. It fails if the command line
+/// can't be read, or memory is refused. No contract says what a command line has: `choice_of` has the contract.
 pub fn asked(rt: &(impl Env + AllocGlobal)) -> io::Result<Option<Command>> {
     let words: Vec<String> = env::args(rt)?.skip(1).collect(rt.alloc())?;
-    let texts: Vec<&str> = words.iter().map(|word| word.as_str()).collect(rt.alloc())?;
-    Ok(chosen(&texts))
+    Ok(choice_of(rt.alloc(), &words)?)
 }
