@@ -18,7 +18,8 @@ use std::alloc::{AllocError, Global};
 pub fn audit(alloc: Global, logs: &Logs, last: &Last) -> Result<Verdict, AllocError>
     requires { AreWithin (length last.now) logs.now }
     ensures verdict { IfOk result (IsVerdict logs.now last.now) }
-    ensures lawful { IfOk result (λ verdict. (verdict ≡ Verdict.Lawful) ↔ Lawful logs.now last.now) }
+    ensures lawful { IfOk result
+        (λ verdict. (verdict ≡ Verdict.Lawful) ↔ Lawful logs.now last.now) }
 {
     let lines = last.lines();
     let lists = by_line(alloc, logs, lines)?;

@@ -14,7 +14,8 @@ fn add_log<'a>(lists: &mut Vec<Vec<&'a Entry>>, log: &'a [Entry]) -> Result<(), 
     requires { All (IsWithin (length lists.old.items)) log.now }
     ensures lines { length lists.new.items ≡ length lists.old.items }
     ensures added { OnOk result ((line : ℕ) → line < length lists.old.items →
-        slice_index_or (lists_of lists.new.items) line [] ≡ slice_index_or (lists_of lists.old.items) line [] ++ filter (is_on_line line) log.now) }
+        slice_index_or (lists_of lists.new.items) line []
+        ≡ slice_index_or (lists_of lists.old.items) line [] ++ filter (is_on_line line) log.now) }
 {
     for entry in log {
         lists[entry.op.line as usize].push(entry)?;
@@ -30,7 +31,9 @@ pub fn by_line<'a>(
 ) -> Result<Vec<Vec<&'a Entry>>, AllocError>
     requires { AreWithin lines logs.now }
     ensures lines { IfOk result (λ lists. length lists.items ≡ lines) }
-    ensures lists { IfOk result (λ lists. (line : ℕ) → line < lines → slice_index_or (lists_of lists.items) line [] ≡ on_line line logs.now) }
+    ensures lists { IfOk result
+        (λ lists. (line : ℕ) → line < lines →
+        slice_index_or (lists_of lists.items) line [] ≡ on_line line logs.now) }
     ensures own { AreOwn logs.now }
     ensures sixteen { length logs.now ≡ MAX_NODES }
 {

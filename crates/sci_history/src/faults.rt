@@ -72,7 +72,8 @@ fn makers(entries: &[&Entry]) -> u64
 
 /// The first maker of version 0, or entry whose version is above the number of makers.
 fn version_missing<'a>(entries: &[&'a Entry], makers: u64) -> Option<&'a Entry>
-    ensures { option_copied result ≡ first_failing (is_version_missing makers) [] (entries_of entries.now) }
+    ensures { option_copied result
+        ≡ first_failing (is_version_missing makers) [] (entries_of entries.now) }
 {
     for entry in entries {
         if entry.version > makers || (entry.op.is_maker() && entry.version == 0) {
@@ -85,7 +86,8 @@ fn version_missing<'a>(entries: &[&'a Entry], makers: u64) -> Option<&'a Entry>
 /// Whether the entries stand by node and serial already.
 fn are_read_in_order(entries: &[&Entry]) -> bool
     requires { All (λ entry. entry.node < MAX_NODES) (entries_of entries.now) }
-    ensures { result ≡ true → by_node_and_serial_of (entries_of entries.now) ≡ entries_of entries.now }
+    ensures { result ≡ true →
+        by_node_and_serial_of (entries_of entries.now) ≡ entries_of entries.now }
 {
     entries.is_sorted_by_key(|entry| (entry.node, entry.serial))
 }
@@ -96,7 +98,8 @@ fn by_node_and_serial<'a>(
     entries: &[&'a Entry],
 ) -> Result<Vec<&'a Entry>, AllocError>
     requires { All (λ entry. entry.node < MAX_NODES) (entries_of entries.now) }
-    ensures { IfOk result (λ read. entries_of read.items ≡ by_node_and_serial_of (entries_of entries.now)) }
+    ensures { IfOk result
+        (λ read. entries_of read.items ≡ by_node_and_serial_of (entries_of entries.now)) }
 {
     let mut read = Vec::from_slice(alloc, entries)?;
     if !are_read_in_order(entries) {
@@ -109,8 +112,10 @@ fn by_node_and_serial<'a>(
 /// The entries in placed order.
 fn placed<'a>(alloc: Global, entries: &[&'a Entry]) -> Result<Vec<&'a Entry>, AllocError>
     requires nodes { All (λ entry. entry.node < MAX_NODES) (entries_of entries.now) }
-    requires versions { All (λ entry. entry.version ≤ maker_count (entries_of entries.now)) (entries_of entries.now) }
-    ensures { IfOk result (λ placed. entries_of placed.items ≡ placed_entries (entries_of entries.now)) }
+    requires versions { All (λ entry. entry.version ≤ maker_count (entries_of entries.now))
+        (entries_of entries.now) }
+    ensures { IfOk result
+        (λ placed. entries_of placed.items ≡ placed_entries (entries_of entries.now)) }
 {
     let mut placed = by_node_and_serial(alloc, entries)?;
     placed.sort_by_cached_key(|entry| (entry.version, !entry.op.is_maker()))?;
@@ -127,9 +132,11 @@ fn answers(entry: &Entry, reply: Reply) -> bool
 /// The words that the placed entries leave, begun with zero words, or the first of them whose reply isn't the effect's.
 fn replayed<'a>(placed: &[&'a Entry]) -> Result<Line, &'a Entry>
     requires { All (λ entry. entry.op.word < WORDS_PER_LINE) (entries_of placed.now) }
-    ensures right { IfOk result (λ line. first_failing is_reply_wrong [] (entries_of placed.now) ≡ None) }
+    ensures right { IfOk result
+        (λ line. first_failing is_reply_wrong [] (entries_of placed.now) ≡ None) }
     ensures words { IfOk result (λ line. line ≡ words_after (entries_of placed.now)) }
-    ensures wrong { IfErr result (λ entry. first_failing is_reply_wrong [] (entries_of placed.now) ≡ Some entry.now) }
+    ensures wrong { IfErr result
+        (λ entry. first_failing is_reply_wrong [] (entries_of placed.now) ≡ Some entry.now) }
 {
     let mut line = Line::zero();
     for entry in placed {

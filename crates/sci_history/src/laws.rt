@@ -44,57 +44,68 @@ pub fn one_lawful_end()
 /// A run of operations and of those after them goes through the memory where the first run ends.
 pub fn runs_compose()
     ensures { (xs ys : List (Op × Reply)) (old new : List (List ℕ)) →
-        IsRun (xs ++ ys) old new ↔ ((middle : List (List ℕ)) × IsRun xs old middle × IsRun ys middle new) }
+        IsRun (xs ++ ys) old new
+        ↔ ((middle : List (List ℕ)) × IsRun xs old middle × IsRun ys middle new) }
 {}
 
 /// A run is a function of the memory that it begins with: the same operations get the same replies and come to the
 /// same end.
 pub fn runs_are_functions()
-    ensures { (xs ys : List (Op × Reply)) (old new other : List (List ℕ)) → map (λ x. x.0) xs ≡ map (λ y. y.0) ys →
+    ensures { (xs ys : List (Op × Reply)) (old new other : List (List ℕ)) →
+        map (λ x. x.0) xs ≡ map (λ y. y.0) ys →
         IsRun xs old new → IsRun ys old other → (xs ≡ ys) × (new ≡ other) }
 {}
 
 /// No read is stale: what a node did on a line before one of its operations there, a load too, has no version
 /// above that operation's.
 pub fn no_stale_read()
-    ensures { (logs : List (List Entry)) (last : List Stamped) (line node : ℕ) (before after : List Entry) (entry : Entry) →
-        Lawful logs last → node < MAX_NODES → filter (is_on_line line) (log_of logs node) ≡ before ++ entry ∷ after →
+    ensures { (logs : List (List Entry)) (last : List Stamped) (line node : ℕ)
+        (before after : List Entry) (entry : Entry) → Lawful logs last → node < MAX_NODES →
+        filter (is_on_line line) (log_of logs node) ≡ before ++ entry ∷ after →
         AllByRecursion (λ earlier. earlier.version ≤ entry.version) before }
 {}
 
 /// Two processors, or one, never read two different words at one version of a line.
 pub fn one_word_at_a_version()
     ensures { (logs : List (List Entry)) (last : List Stamped) (line n m : ℕ) (x y : Entry) →
-        AreOwn logs → length logs ≡ MAX_NODES → Lawful logs last → DidOn logs line n x → DidOn logs line m y →
-        x.op.act ≡ Act.Load → y.op.act ≡ Act.Load → x.op.word ≡ y.op.word → x.version ≡ y.version → x.reply ≡ y.reply }
+        AreOwn logs → length logs ≡ MAX_NODES → Lawful logs last → DidOn logs line n x →
+        DidOn logs line m y →
+        x.op.act ≡ Act.Load → y.op.act ≡ Act.Load → x.op.word ≡ y.op.word →
+        x.version ≡ y.version → x.reply ≡ y.reply }
 {}
 
 /// A store that was answered is seen by every load at its version or a later one, until another maker is at that
 /// word.
 pub fn stores_are_seen()
     ensures { (logs : List (List Entry)) (last : List Stamped) (line n m word : ℕ) (x y : Entry) →
-        AreOwn logs → length logs ≡ MAX_NODES → Lawful logs last → DidOn logs line n x → DidOn logs line m y →
-        x.op.act ≡ Act.Store word → x.op.word < WORDS_PER_LINE → y.op.act ≡ Act.Load → y.op.word ≡ x.op.word →
+        AreOwn logs → length logs ≡ MAX_NODES → Lawful logs last → DidOn logs line n x →
+        DidOn logs line m y →
+        x.op.act ≡ Act.Store word → x.op.word < WORDS_PER_LINE → y.op.act ≡ Act.Load →
+        y.op.word ≡ x.op.word →
         x.version ≤ y.version →
-        ((k : ℕ) (z : Entry) → DidOn logs line k z → is_making z ≡ true → x.version < z.version → z.version ≤ y.version →
-        z.op.word ≡ x.op.word → ⊥) →
+        ((k : ℕ) (z : Entry) → DidOn logs line k z → is_making z ≡ true → x.version < z.version →
+        z.version ≤ y.version → z.op.word ≡ x.op.word → ⊥) →
         y.reply ≡ Reply.Got word }
 {}
 
 /// An audit's five kinds of fault are what lawfulness rules out: a line of logs is lawful exactly if no kind fails
 /// on it, in logs that each have their own node's entries.
 pub fn lawful_is_faultless()
-    ensures lawful { (logs : List (List Entry)) (line : ℕ) (last : Stamped) → AreOwn logs → length logs ≡ MAX_NODES →
+    ensures lawful { (logs : List (List Entry)) (line : ℕ) (last : Stamped) → AreOwn logs →
+        length logs ≡ MAX_NODES →
         IsLawfulLine logs line last ↔ HasNoFault (on_line line logs) last }
-    ensures faulty { (entries : List Entry) (last : Stamped) (kind : FaultKind) (named : Option (ℕ × ℕ)) →
+    ensures faulty { (entries : List Entry) (last : Stamped) (kind : FaultKind)
+        (named : Option (ℕ × ℕ)) →
         IsLineFault entries last kind named → HasNoFault entries last → ⊥ }
 {}
 
 /// Logs that each have their own node's entries are known by all entries in reading order: a node's log is its own
 /// among them.
 pub fn one_partition()
-    ensures one { (a b : List (List Entry)) → AreOwn a → AreOwn b → length a ≡ MAX_NODES → length b ≡ MAX_NODES →
+    ensures one { (a b : List (List Entry)) → AreOwn a → AreOwn b → length a ≡ MAX_NODES →
+        length b ≡ MAX_NODES →
         flat_map (λ log. log) a ≡ flat_map (λ log. log) b → a ≡ b }
-    ensures own { (logs : List (List Entry)) (node : ℕ) → AreOwn logs → length logs ≡ MAX_NODES → node < MAX_NODES →
+    ensures own { (logs : List (List Entry)) (node : ℕ) → AreOwn logs → length logs ≡ MAX_NODES →
+        node < MAX_NODES →
         filter (is_of_node node) (flat_map (λ log. log) logs) ≡ log_of logs node }
 {}

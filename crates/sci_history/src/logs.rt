@@ -71,9 +71,11 @@ impl Logs {
     /// to it that the node is below 16.
     pub fn push(&mut self, entry: Entry) -> Result<(), PushFault>
         requires { entry.node < MAX_NODES }
-        ensures ok { OnOk result (self.new ≡ slice_set self.old entry.node (log_of self.old entry.node ++ entry ∷ [])) }
+        ensures ok { OnOk result (self.new
+            ≡ slice_set self.old entry.node (log_of self.old entry.node ++ entry ∷ [])) }
         ensures err { OnErr result (self.new ≡ self.old) }
-        ensures full { IsErrOf result PushFault.Full ↔ (MAX_OPERATIONS ≤ length (log_of self.old entry.node)) }
+        ensures full { IsErrOf result PushFault.Full
+            ↔ (MAX_OPERATIONS ≤ length (log_of self.old entry.node)) }
         ensures nodes { length self.new ≡ MAX_NODES }
     {
         let log = &mut self.lists[entry.node as usize];

@@ -47,11 +47,13 @@ impl Memory {
         requires room { IsMaker op → (stamped_at self.old op.line).version < u64.MAX }
 
         // It is one step of a run.
-        ensures run { IsRun ((op, result.0) ∷ []) (words_of_lines self.old) (words_of_lines self.new) }
+        ensures run { IsRun
+            ((op, result.0) ∷ []) (words_of_lines self.old) (words_of_lines self.new) }
 
         // The line has its effect and the next version if it is a maker, and every other line stays.
         ensures after { self.new ≡ contents_after self.old op }
-        ensures version { result.1 ≡ (stamped_at self.old op.line).version + (if is_maker op then 1 else 0) }
+        ensures version { result.1
+            ≡ (stamped_at self.old op.line).version + (if is_maker op then 1 else 0) }
     {
         let before = self.contents.get(op.line);
         let (after, reply) = before.after(op);
