@@ -210,7 +210,7 @@ purge_as a q d Fading = refuses a q (Purging q d) Fading (record { sight = refl;
 
 -- ---- Roll
 
--- an asker that leaves, and what it passes on: its link, where it is a member, and then it followed
+-- an asker that leaves, and what it passes on: its link, if it is a member, and then it followed
 record Leaver (asker : CacheState) (m : Option ℕ) : Type 0 where
   pub link : (f : Option ℕ) → link_of asker None ≡ Some f → f ≡ m
   pub follows : (f : Option ℕ) → link_of asker None ≡ Some f → role_of asker None ≡ Some Following
@@ -342,7 +342,7 @@ kept_alike old new a q served shift keeps asks n =
       ]
     ]
 
--- what a function of state and answer gives at the asker and at the server, where they are two
+-- what a function of state and answer gives at the asker and at the server, if they are two
 record Sights (old new : View) (a q : ℕ) (served : CacheState × Body) : Type 1 where
   pub asker_was : {X : Type 0} (f : CacheState → Option Body → X) → f (old.state a) (old.answer a) ≡ f (old.state a) None
   pub asker_is : {X : Type 0} (f : CacheState → Option Body → X) → f (new.state a) (new.answer a) ≡ f (old.state a) (Some served.1)

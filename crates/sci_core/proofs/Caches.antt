@@ -65,7 +65,7 @@ same_asked cache line kind new = same_made cache line kind (cache_asking cache l
 pub same_itself : (cache : CacheOf) → SameSizes cache cache
 same_itself cache = record { me = refl; nodes = refl; slots = refl; lines = refl }
 
--- a call that keeps the sizes where it succeeds, and leaves the cache as it was where it doesn't
+-- a call that keeps the sizes if it succeeds, and leaves the cache as it was if it doesn't
 pub same_either : {T E : Type 0} (result : Result T E) (Q : T → Type 0) (old new : CacheOf) → IfOk result Q → ((x : T) → Q x → SameSizes old new) → (IsErr result → new ≡ old) → SameSizes old new
 same_either (Ok x) Q old new taken keeps same = keeps x taken
 same_either (Err e) Q old new taken keeps same = subst (SameSizes old) (sym (same refl)) (same_itself old)

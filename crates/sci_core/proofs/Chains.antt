@@ -1,4 +1,4 @@
--- Lists of nodes along links: what becomes of one where the links change. Nothing here knows the protocol.
+-- Lists of nodes along links: what becomes of one if the links change. Nothing here knows the protocol.
 use Rattle.std.proofs.Common.{◌≡◌, ◌≢◌, ℕ, Bool, if◌then◌else◌, List, [], ◌∷◌, Option, Some, None, refl, sym, ap, subst, ◌∙◌, inl, inr}
 use Rattle.std.specs.Prelude.{◌==◌}
 use Rattle.std.proofs.lemmas.Bool.{cases_eq, eq-eqb, ne_eqb}
@@ -23,7 +23,7 @@ pub without_nil : (y : ℕ) → without y [] ≡ []
 unfolding without
 without_nil y = refl
 
--- nothing is taken out where it isn't
+-- nothing is taken out if it isn't there
 without_absent : (y : ℕ) (ns : List ℕ) → (IsAmong y ns → ⊥) → without y ns ≡ ns
 unfolding without
 without_absent y [] not = refl

@@ -72,7 +72,7 @@ answered : (request : Letter) (served : Option (NodeOf × Body)) → IsSome serv
 answered request None some = cc
 answered request (Some served) some = refl
 
--- a request is served wherever no answer waits
+-- a request is served unless an answer waits
 pub serve_enabled : (node : NodeOf) (request : Letter) → IsRequest request.body → node.waiting ≡ None → IsSome (node_serving node request)
 serve_enabled node request asks free =
     subst (λ (w : Option Letter). IsSome (if is_some w then None else answered_by request (serving_request node request))) (sym free)

@@ -1,4 +1,4 @@
--- What a list of parts gives where one part is another.
+-- What a list of parts gives if one part is another.
 use Rattle.std.proofs.Common.{◌≡◌, ℕ, zero, suc, ◌<◌, List, [], ◌∷◌, ◌++◌, length, get_or, set, refl, sym, ap, ◌∙◌, append_assoc, append-nil, arith}
 use Rattle.std.specs.List.{flat_map}
 
@@ -35,7 +35,7 @@ nothing_after : {Y : Type 0} (xs ys : List Y) → xs ++ ys ≡ [] → ys ≡ []
 nothing_after [] ys e = e
 nothing_after (x ∷ xs) ys e = cc
 
--- where nothing is given, all that is given is what the new part gives
+-- if nothing is given, all that is given is what the new part gives
 pub flat_from_none : {X Y : Type 0} (f : X → List Y) (xs : List X) (i : ℕ) (d v : X) → i < length xs → flat_map f xs ≡ [] → flat_map f (set xs i v) ≡ f v
 flat_from_none f xs i d v below none =
     let a = around f xs i d below in
@@ -51,7 +51,7 @@ alone_before (x ∷ xs) ys y z zs e = grind (arith, nothing_after)
 alone_after : {Y : Type 0} (ys : List Y) (y z : Y) (zs : List Y) → z ∷ zs ++ ys ≡ y ∷ [] → (zs ≡ []) × (ys ≡ []) × (z ≡ y)
 alone_after ys y z zs e = grind (arith, nothing_before, nothing_after)
 
--- where one thing is given, by this part, all that is given then is what the new part gives
+-- if one thing is given, by this part, all that is given then is what the new part gives
 pub flat_from_one : {X Y : Type 0} (f : X → List Y) (xs : List X) (i : ℕ) (d v : X) (y z : Y) (zs : List Y) → i < length xs → flat_map f xs ≡ y ∷ [] → f (get_or xs i d) ≡ z ∷ zs
     → (flat_map f (set xs i v) ≡ f v) × (zs ≡ []) × (z ≡ y)
 flat_from_one f xs i d v y z zs below one this =

@@ -25,7 +25,7 @@ abbrev pub AreFollowing : View → Stamped → List ℕ → Type 0
 AreFollowing view c [] = Unit {0}
 AreFollowing view c (n ∷ ns) = (role_in view n ≡ Some Following) × AgreesIn c view n × AreFollowing view c ns
 
--- led, where `must` says that it is to be fresh from the front on
+-- led; `must` says whether it is to be fresh from the front on
 abbrev pub IsLed : View → Stamped → Bool → List ℕ → Type 0
 IsLed view c must [] = ⊥
 IsLed view c must (n ∷ ns) =

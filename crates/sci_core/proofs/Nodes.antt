@@ -36,7 +36,7 @@ node_with_waiting node waiting is = record { homes = is.homes; some_node = is.so
 pub node_with_homes : (node : NodeOf) (homes : List HomeState) → length homes ≡ length node.homes → IsNode node → IsNode (record node { homes = homes })
 node_with_homes node homes same is = record { homes = same ∙ is.homes; some_node = is.some_node; pending = is.pending; each = is.each; logged = is.logged; issued = is.issued; limit = is.limit }
 
--- where something is pending there is such a line
+-- if something is pending, there is such a line
 pub some_below : (pending : List (Option Pending)) (line : ℕ) (p : Pending) → get_or pending line None ≡ Some p → line < length pending
 some_below pending line p e = grind (arith, cases_lt, get_or_past)
 

@@ -120,7 +120,7 @@ packets_same core n next place lane m k below within same along =
     (ap (λ ys. ys ++ flat_map (filter q) (set core.lanes place lane)) (flat_same (waits_in q) core.parts n no_node next below same) ∙
     (ap (λ ys. flat_map (waits_in q) core.parts ++ ys) (flat_same (filter q) core.lanes place [] lane within along) ∙ sym (packets_are core m k)))
 
--- a request is sent, where nothing was under way
+-- a request is sent, if nothing was under way
 pub packets_asked : (core : Core) (n : ℕ) (next : NodeOf) (place : ℕ) (letter : Letter) (m k : ℕ) → n < length core.parts → place < length core.lanes → next.waiting ≡ (node_at core n).waiting
     → is_about m k letter ≡ true → packets_of core m k ≡ [] → packets_of (with_lane (with_node core n next) place (lane_at core place ++ letter ∷ [])) m k ≡ letter ∷ []
 packets_asked core n next place letter m k below within same about none =

@@ -110,7 +110,7 @@ made_accepts old new q next moves all n =
       | inr other ↦ subst (λ (s : CacheState). IsAccepted s (new.answer n)) (sym (moves.others n other)) (subst (IsAccepted (old.state n)) (sym (moves.answers n)) (all n))
     ]
 
--- a maker makes contents only where no home has the old ones
+-- a maker makes contents only if no home has the old ones
 made_led : (old new : View) (home : HomeState) (q : ℕ) (c d : Stamped) (ns : List ℕ) → Made old new q d → IsShaped old home c ns → IsLedFrom new home d ns
 made_led old new (at.Home e) q c d ns made is = absurd (no_members old e ns q None made.ends c is)
 made_led old new (at.Fresh p e) q c d ns made is =

@@ -191,7 +191,7 @@ reached_coherent core reached = record {
   lawful = reached_lawful core reached;
 }
 
--- where an event was applied, or refused and nothing changed
+-- if an event was applied, or refused and nothing changed
 pub applied_effects : {T E : Type 0} (result : Result T E) (old new : Core) (e : Event) → IsReached old → IfOk result (λ _. stepping old e ≡ Some new) → IfOk result (λ _. LastChanges old new (made_by old e))
 applied_effects (Err fault) old new e reached done_ = tt
 applied_effects (Ok x) old new e reached done_ = subst (λ (o : Option Core). LastChanges old (unwrap_or o old) (made_by old e)) done_ (reached_effects old e reached)

@@ -232,7 +232,7 @@ authority_same core line home c ns n is =
 
 -- ---- the last contents
 
--- one authority in some list of sharers, where all have the same contents
+-- one authority in some list of sharers, if all have the same contents
 first_or : (o rest : Option Stamped) (c : Stamped) → IfSome o (λ d. d ≡ c) → IsSome o ⊎ (rest ≡ Some c) → option_or o rest ≡ Some c
 first_or (Some d) rest c same some = ap Some same
 first_or None rest c same (inl some) = cc
@@ -296,7 +296,7 @@ authorities_so core line (at.Home d) c ns well is = no_authority core line d c n
 authorities_so core line (at.Fresh p d) c ns well is = one_authority core line (at.Fresh p d) c true ns well is is.led.1
 authorities_so core line (at.Gone p) c ns well is = one_authority core line (at.Gone p) c false ns well is is.led
 
--- a list with an authority is led: from the front on by fresh members where the home is fresh
+-- a list with an authority is led: from the front on by fresh members if the home is fresh
 split_led : (core : Core) (line : ℕ) (home : HomeState) (c : Stamped) (ns : List ℕ) (a : ℕ) → IsAuthority core line a → IsShaped (view_of core line) home c ns → IsLed (view_of core line) c (is_home_fresh home) ns
 split_led core line (at.Home d) c ns a authority is = absurd (no_authority core line d c ns is a authority)
 split_led core line (at.Fresh p d) c ns a authority is = is.led.1

@@ -83,7 +83,7 @@ told_other core n place next request rest body is m k not =
           ap answer_in (packets_same core n next place rest m k is.below is.within waits (filter_left m k (lane_at core place) rest request is.front other))
     ]
 
--- ---- where no state changes
+-- ---- if no state changes
 
 state_same : (core : Core) (n : ℕ) (next : NodeOf) → ((k : ℕ) → (line_of next.cache k).state ≡ (line_of (node_at core n).cache k).state) → (m k : ℕ) → (line_of (node_at (with_node core n next) m).cache k).state ≡ (line_of (node_at core m).cache k).state
 state_same core n next states m k =
@@ -101,7 +101,7 @@ other_line core n place next request rest body is states homes k other =
           (told_other core n place next request rest body is m k (λ h. other h.1));
     }
 
--- the asker's line, where no state changes
+-- the asker's line, if no state changes
 pub asks_now : (core : Core) (n place : ℕ) (next : NodeOf) (request : Letter) (rest : List Letter) (body : Body) → Answered core n place next request rest body → IsTidy core → ((k : ℕ) → (line_of next.cache k).state ≡ (line_of (node_at core n).cache k).state)
     → Asks (view_of core request.line) (view_of (with_lane (with_node core n next) place rest) request.line) request.source ((view_of core request.line).state request.source) body
 asks_now core n place next request rest body is tidy states =

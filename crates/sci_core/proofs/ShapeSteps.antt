@@ -1,4 +1,4 @@
--- Every step but one that serves a request leaves each line's shape, and its last contents but where it performs a maker.
+-- Every step but one that serves a request leaves each line's shape, and its last contents unless it performs a maker.
 use Rattle.std.proofs.Common.{◌≡◌, ◌≢◌, ℕ, ◌/◌, ◌%◌, ◌<◌, Bool, true, false, if◌then◌else◌, List, [], ◌∷◌, ◌++◌, length, filter, Option, Some, None, refl, sym, ap, subst, ◌∙◌, inl, inr}
 use Rattle.std.specs.Prelude.{option_to_list, slice_index_or}
 use Rattle.std.proofs.lemmas.Bool.{cases_Bool}

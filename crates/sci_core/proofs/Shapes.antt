@@ -28,7 +28,7 @@ abbrev pub AcceptsIn : View → ℕ → Type 0
 AcceptsIn view n = IsAccepted (view.state n) (view.answer n)
 
 -- A line whose home has it alone has no list to be led. The list's contents are the line's last contents, and so are
--- the home's where it has them.
+-- the home's if it has them.
 abbrev pub IsLedFrom : View → HomeState → Stamped → List ℕ → Type 0
 IsLedFrom view (at.Home d) c ns = d ≡ c
 IsLedFrom view (at.Fresh p d) c ns = (d ≡ c) × IsLed view c true ns
@@ -48,7 +48,7 @@ led_from_stands old new (at.Home d) c ns stands led = led
 led_from_stands old new (at.Fresh p d) c ns stands led = (led.0, led_stands old new c true ns stands led.1)
 led_from_stands old new (at.Gone p) c ns stands led = led_stands old new c false ns stands led
 
--- where every node stands as it stood, nothing changes
+-- if every node stands as it stood, nothing changes
 pub shaped_alike : (old new : View) (home : HomeState) (c : Stamped) → ((n : ℕ) → AlikeIn old new n) → Shaped old home c → Shaped new home c
 shaped_alike old new home c alike (ns, is) = (
   ns,

@@ -70,7 +70,7 @@ Agrees c state answer = IfSome (contents_of state) (λ d. d ≡ c) × IfSome (br
 abbrev pub sight_of : CacheState → Option Body → Option (Option ℕ) × Option Role × Bool
 sight_of state answer = (link_of state answer, role_of state answer, is_fresh state answer)
 
--- a line stands as it stood, with the same contents, and takes what comes where it took it
+-- a line stands as it stood, with the same contents, and takes what comes if it took it before
 pub record Alike (old : CacheState) (was : Option Body) (new : CacheState) (now : Option Body) : Type 0 where
   pub sight : sight_of new now ≡ sight_of old was
   pub agrees : (c : Stamped) → Agrees c old was → Agrees c new now

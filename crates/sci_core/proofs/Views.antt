@@ -1,4 +1,4 @@
--- One line as all nodes have it, and what becomes of it where one request is served.
+-- One line as all nodes have it, and what becomes of it if one request is served.
 use Rattle.std.proofs.Common.{◌≡◌, ◌≢◌, ℕ, false, Option, Some, None}
 use Rattle.sci_packets.specs.declared.body.Body.{Body}
 use Rattle.sci_cache.specs.State.{CacheState, waits}

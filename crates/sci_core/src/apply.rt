@@ -83,8 +83,10 @@ impl State {
     fn ask(&mut self, n: u8, line: u8, kind: AskKind) -> Result<(), ApplyFault>
         requires well { IsWellFormed self.old }
         requires n { n < self.old.size.nodes }
-        ensures done { IfOk result (λ _. stepping self.old (event.Ask n line kind) ≡ Some self.new) }
-        ensures refused { IfErr result (IsFaultOf (stepping self.old (event.Ask n line kind)) (event.Ask n line kind)) }
+        ensures done { IfOk result
+            (λ _. stepping self.old (event.Ask n line kind) ≡ Some self.new) }
+        ensures refused { IfErr result
+            (IsFaultOf (stepping self.old (event.Ask n line kind)) (event.Ask n line kind)) }
         ensures same { IsErr result → self.new ≡ self.old }
     {
         let Some(request) = self.node(n).asked(line, kind) else {
@@ -102,7 +104,8 @@ impl State {
         requires well { IsWellFormed self.old }
         requires n { n < self.old.size.nodes }
         ensures done { IfOk result (λ _. stepping self.old (event.Reply n) ≡ Some self.new) }
-        ensures refused { IfErr result (IsFaultOf (stepping self.old (event.Reply n)) (event.Reply n)) }
+        ensures refused { IfErr result
+            (IsFaultOf (stepping self.old (event.Reply n)) (event.Reply n)) }
         ensures same { IsErr result → self.new ≡ self.old }
     {
         let Some(answer) = self.node(n).waiting().copied() else {
@@ -119,7 +122,8 @@ impl State {
     fn take(&mut self, taking: Taking, from: u8, n: u8) -> bool
         requires well { IsWellFormed self.old }
         requires n { n < self.old.size.nodes }
-        ensures done { IsTrue result → stepping self.old (taking_event taking from n) ≡ Some self.new }
+        ensures done { IsTrue result →
+            stepping self.old (taking_event taking from n) ≡ Some self.new }
         ensures not { result ≡ false → stepping self.old (taking_event taking from n) ≡ None }
         ensures same { result ≡ false → self.new ≡ self.old }
     {

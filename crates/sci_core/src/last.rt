@@ -16,7 +16,8 @@ use sci_words::{Line, Stamped};
 
 /// Whether a packet is an answer to node `n` about a line.
 fn answers(packet: &Packet, n: u8, line: u8) -> bool
-    ensures { result ≡ (is_about n line (letter_of packet.now) && not (is_request packet.now.body)) }
+    ensures { result
+        ≡ (is_about n line (letter_of packet.now) && not (is_request packet.now.body)) }
 {
     !packet.is_request() && packet.line == u64::from(line) && packet.target.get() == u16::from(n)
 }
@@ -87,7 +88,8 @@ fn waiting_answer(node: &Node, n: u8, line: u8) -> Option<Body>
 
 /// The first answer to node `n` about a line that waits at one of these nodes.
 pub(crate) fn waiting_among(nodes: &[Node], n: u8, line: u8) -> Option<Body>
-    ensures { result ≡ answer_in (filter (is_about n line) (flat_map (λ part. option_to_list part.waiting) nodes.now)) }
+    ensures { result ≡ answer_in
+        (filter (is_about n line) (flat_map (λ part. option_to_list part.waiting) nodes.now)) }
 {
     for node in nodes {
         if let Some(body) = waiting_answer(node, n, line) {

@@ -35,7 +35,8 @@ ghost use Rattle.sci_core.specs.Alternates.{Alternates};
 
 /// Every state that a schedule leads to is reached, and no other is.
 pub fn schedules_reach()
-    ensures { (size : Size) (schedule : List Event) → IsMachineSize size → IsReached (run size schedule) }
+    ensures { (size : Size) (schedule : List Event) → IsMachineSize size →
+        IsReached (run size schedule) }
 {}
 
 /// In every reached state each packet is between two nodes of the machine, about one of its lines, in the lane of
@@ -64,13 +65,15 @@ pub fn sides_make_steps()
 
 /// In every reached state an answer at the front of a lane is accepted by its taker.
 pub fn front_answers_are_accepted()
-    ensures { (core : Core) (from n : ℕ) → IsReached core → from < core.size.nodes → n < core.size.nodes → IsAcceptedAt core from n }
+    ensures { (core : Core) (from n : ℕ) → IsReached core → from < core.size.nodes →
+        n < core.size.nodes → IsAcceptedAt core from n }
 {}
 
 /// In every reached state a request at the front of a lane is served by its taker unless an answer waits there, and
 /// refused too unless it is a Setback; and its sender waits for the answer.
 pub fn front_requests_are_served()
-    ensures { (core : Core) (from n : ℕ) → IsReached core → from < core.size.nodes → n < core.size.nodes → AreServedAt core from n }
+    ensures { (core : Core) (from n : ℕ) → IsReached core → from < core.size.nodes →
+        n < core.size.nodes → AreServedAt core from n }
 {}
 
 /// In every reached state, for each line:
@@ -88,14 +91,17 @@ pub fn lines_have_their_shape()
 /// contents, and changes them as the operation says, a maker's version being one more than before; any other event
 /// leaves every line's last contents as they were.
 pub fn operations_take_effect()
-    ensures { (core : Core) (event : Event) → IsReached core → LastChanges core (step core event) (made_by core event) }
+    ensures { (core : Core) (event : Event) → IsReached core →
+        LastChanges core (step core event) (made_by core event) }
 {}
 
 /// The entries that a schedule makes on a line are, in its order, the line's history from zero words to its last
 /// contents: a run of one memory of one thread.
 pub fn schedules_are_histories()
-    ensures { (size : Size) (schedule : List Event) (line : ℕ) → IsMachineSize size → line < size.lines →
-        IsHistory (filter (is_on_line line) (done size schedule)) zero_stamped (last_at (run size schedule) line) }
+    ensures { (size : Size) (schedule : List Event) (line : ℕ) → IsMachineSize size →
+        line < size.lines →
+        IsHistory (filter (is_on_line line) (done size schedule)) zero_stamped
+        (last_at (run size schedule) line) }
 {}
 
 /// The logs of every reached state are lawful with its last contents: placed by version, the operations logged on a
@@ -114,48 +120,58 @@ pub fn reached_states_are_coherent()
 /// an ask and its answer exactly one Serve or Refuse takes the request; and all three have one control number. So
 /// no transaction is answered twice.
 pub fn transactions_alternate()
-    ensures { (size : Size) (schedule : List Event) (n line : ℕ) → IsMachineSize size → n < size.nodes → line < size.lines → Alternates size schedule n line }
+    ensures { (size : Size) (schedule : List Event) (n line : ℕ) → IsMachineSize size →
+        n < size.nodes → line < size.lines → Alternates size schedule n line }
 {}
 
 /// In every reached state the last contents of each line are eight words below 2^64, and their version is at most
 /// 1,048,576, the operations that all nodes may issue: so a version never wraps.
 pub fn contents_are_in_range()
-    ensures { (core : Core) (line : ℕ) → IsReached core → line < core.size.lines → IsStamped (last_at core line) }
+    ensures { (core : Core) (line : ℕ) → IsReached core → line < core.size.lines →
+        IsStamped (last_at core line) }
 {}
 
 /// In every reached state the version of a line is the number of its makers in the logs.
 pub fn versions_count_makers()
-    ensures { (core : Core) (line : ℕ) → IsReached core → line < core.size.lines → (last_at core line).version ≡ maker_count (on_line line (logs_of core)) }
+    ensures { (core : Core) (line : ℕ) → IsReached core → line < core.size.lines →
+        (last_at core line).version ≡ maker_count (on_line line (logs_of core)) }
 {}
 
 /// In every reached state each entry of a log is of a node, a serial, a line and a word of the machine, its operands
 /// and its reply are below 2^64, and its version is at most 1,048,576.
 pub fn entries_are_in_range()
-    ensures { (core : Core) (node : ℕ) → IsReached core → AllByRecursion (IsEntryOf core.size) (node_at core node).log }
+    ensures { (core : Core) (node : ℕ) → IsReached core →
+        AllByRecursion (IsEntryOf core.size) (node_at core node).log }
 {}
 
 /// The log of each node is what the schedule makes on that node, in its order.
 pub fn logs_are_done()
-    ensures { (size : Size) (schedule : List Event) (node : ℕ) → IsMachineSize size → (node_at (run size schedule) node).log ≡ filter (is_of_node node) (done size schedule) }
+    ensures { (size : Size) (schedule : List Event) (node : ℕ) → IsMachineSize size →
+        (node_at (run size schedule) node).log ≡ filter (is_of_node node) (done size schedule) }
 {}
 
 /// An operation that a node issues is pending on its line with the node's next serial; nothing was pending there
 /// before, and nothing else changes.
 pub fn issues_are_pending()
-    ensures { (old new : NodeOf) (op : Op) → IsNode old → node_issuing old op ≡ Some new → IsIssued old new op }
+    ensures { (old new : NodeOf) (op : Op) → IsNode old → node_issuing old op ≡ Some new →
+        IsIssued old new op }
 {}
 
 /// The entry of an operation that a node performs has the operation and the serial that were pending on the line, and
 /// ends the node's log; nothing is pending there any more, and nothing else of the node's work changes.
 pub fn performs_end_the_log()
-    ensures { (old new : NodeOf) (line : ℕ) (entry : Entry) → IsNode old → node_performing old line ≡ Some (new, entry) → IsLogged old new line entry }
+    ensures { (old new : NodeOf) (line : ℕ) (entry : Entry) → IsNode old →
+        node_performing old line ≡ Some (new, entry) → IsLogged old new line entry }
 {}
 
 /// In every reached state a node that has the only copy of a line can perform any operation that is pending there: a
 /// maker is never refused for its version.
 pub fn sole_copies_perform()
-    ensures { (core : Core) (n line : ℕ) (pending : Pending) (c : Stamped) → IsReached core → n < core.size.nodes → line < core.size.lines →
-        pending_on (node_at core n) line ≡ Some pending → (line_of (node_at core n).cache line).state ≡ Head None c → IsSome (node_performing (node_at core n) line) }
+    ensures { (core : Core) (n line : ℕ) (pending : Pending) (c : Stamped) → IsReached core →
+        n < core.size.nodes → line < core.size.lines →
+        pending_on (node_at core n) line ≡ Some pending →
+        (line_of (node_at core n).cache line).state ≡ Head None c →
+        IsSome (node_performing (node_at core n) line) }
 {}
 
 /// A node of a reached state is a part of a machine of that state's size, with its own number: its cache, its homes, its

@@ -67,7 +67,8 @@ impl Machine {
         ensures done { IfOk result (λ _. stepping self.old event.now ≡ Some self.new) }
         ensures refused { IfErr result (IsFaultOf (stepping self.old event.now) event.now) }
         ensures same { IsErr result → self.new ≡ self.old }
-        ensures effect { IfOk result (λ _. LastChanges self.old self.new (made_by self.old event.now)) }
+        ensures effect { IfOk result
+            (λ _. LastChanges self.old self.new (made_by self.old event.now)) }
         ensures size { self.new.size ≡ self.old.size }
         ensures coherent { IsCoherent self.new }
     {
@@ -154,7 +155,8 @@ impl Machine {
     pub fn front(&self, kind: LaneKind, from: u8, to: u8) -> Option<&Packet>
         requires from { from < self.now.size.nodes }
         requires to { to < self.now.size.nodes }
-        ensures front { option_map letter_of (option_copied result) ≡ slice_get (lane_of self.now kind from to) 0 }
+        ensures front { option_map letter_of (option_copied result)
+            ≡ slice_get (lane_of self.now kind from to) 0 }
     {
         self.state.lane(kind, from, to).front()
     }

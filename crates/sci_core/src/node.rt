@@ -141,7 +141,8 @@ impl Node {
 
     /// Takes the answer that waits, to be sent to its target. None, unchanged, if none waits.
     pub fn take_answer(&mut self) -> Option<Packet>
-        ensures taken { IfSome result (λ answer. node_replying self.old ≡ Some (self.new, letter_of answer)) }
+        ensures taken { IfSome result
+            (λ answer. node_replying self.old ≡ Some (self.new, letter_of answer)) }
         ensures none { result ≡ None → node_replying self.old ≡ None }
         ensures same { result ≡ None → self.new ≡ self.old }
     {
@@ -183,7 +184,8 @@ impl Node {
     /// Performs the operation that is pending on a line, and gives its entry, which now ends the log. None,
     /// unchanged, if none is pending there or the line's state doesn't allow it.
     pub fn perform(&mut self, line: u8) -> Option<Entry>
-        ensures performed { IfSome result (λ entry. node_performing self.old line ≡ Some (self.new, entry)) }
+        ensures performed { IfSome result
+            (λ entry. node_performing self.old line ≡ Some (self.new, entry)) }
         ensures none { result ≡ None → node_performing self.old line ≡ None }
         ensures same { result ≡ None → self.new ≡ self.old }
     {
@@ -216,7 +218,8 @@ impl Node {
     /// Makes a request of this kind about a line. None, unchanged, if there is no such line, its state
     /// doesn't ask this kind, or it has no entry and no version slot is free.
     pub fn ask(&mut self, line: u8, kind: AskKind) -> Option<Packet>
-        ensures asked { IfSome result (λ packet. node_asking self.old line kind ≡ Some (self.new, letter_of packet)) }
+        ensures asked { IfSome result
+            (λ packet. node_asking self.old line kind ≡ Some (self.new, letter_of packet)) }
         ensures none { result ≡ None → node_asking self.old line kind ≡ None }
         ensures same { result ≡ None → self.new ≡ self.old }
     {
@@ -240,7 +243,9 @@ impl Node {
 
     /// The packet that `ask` would give, or None if it would give none.
     pub fn asked(&self, line: u8, kind: AskKind) -> Option<Packet>
-        ensures asked { IfSome result (λ packet. (next : NodeOf) × (node_asking self.now line kind ≡ Some (next, letter_of packet))) }
+        ensures asked { IfSome result
+            (λ packet. (next : NodeOf)
+            × (node_asking self.now line kind ≡ Some (next, letter_of packet))) }
         ensures none { result ≡ None → node_asking self.now line kind ≡ None }
     {
         if line >= self.extent.lines {
@@ -254,7 +259,8 @@ impl Node {
     /// line is here if it is an Mread, Fread, Claim, Clear or Wback.
     pub fn serve(&mut self, request: &Packet) -> bool
         requires { IsServable self.old (letter_of request.now) }
-        ensures served { IsTrue result → node_serving self.old (letter_of request.now) ≡ Some self.new }
+        ensures served { IsTrue result →
+            node_serving self.old (letter_of request.now) ≡ Some self.new }
         ensures not { result ≡ false → node_serving self.old (letter_of request.now) ≡ None }
         ensures same { result ≡ false → self.new ≡ self.old }
     {
@@ -273,7 +279,8 @@ impl Node {
     fn serve_at_home(&mut self, request: &Packet) -> Packet
         requires servable { IsServable self.old (letter_of request.now) }
         requires home { IsForHome request.now.body }
-        ensures served { serving_at_home self.old (letter_of request.now) ≡ Some (self.new, result.body) }
+        ensures served { serving_at_home self.old (letter_of request.now)
+            ≡ Some (self.new, result.body) }
         ensures answer { letter_of result ≡ answering (letter_of request.now) result.body }
         ensures waiting { self.new.waiting ≡ self.old.waiting }
     {
@@ -284,7 +291,8 @@ impl Node {
     fn serve_in_cache(&mut self, request: &Packet) -> Packet
         requires servable { IsServable self.old (letter_of request.now) }
         requires cache { is_for_home request.now.body ≡ false }
-        ensures served { serving_in_cache self.old (letter_of request.now) ≡ Some (self.new, result.body) }
+        ensures served { serving_in_cache self.old (letter_of request.now)
+            ≡ Some (self.new, result.body) }
         ensures answer { letter_of result ≡ answering (letter_of request.now) result.body }
         ensures waiting { self.new.waiting ≡ self.old.waiting }
     {
@@ -295,7 +303,8 @@ impl Node {
     /// request is a Setback. The condition on the request is that of `serve`.
     pub fn refuse(&mut self, request: &Packet) -> bool
         requires { IsServable self.old (letter_of request.now) }
-        ensures refused { IsTrue result → node_refusing self.old (letter_of request.now) ≡ Some self.new }
+        ensures refused { IsTrue result →
+            node_refusing self.old (letter_of request.now) ≡ Some self.new }
         ensures not { result ≡ false → node_refusing self.old (letter_of request.now) ≡ None }
         ensures same { result ≡ false → self.new ≡ self.old }
     {
@@ -310,7 +319,8 @@ impl Node {
     /// this node and about a line of the machine.
     pub fn accept(&mut self, answer: &Packet) -> bool
         requires { IsForNode self.old (letter_of answer.now) }
-        ensures accepted { IsTrue result → node_accepting self.old (letter_of answer.now) ≡ Some self.new }
+        ensures accepted { IsTrue result →
+            node_accepting self.old (letter_of answer.now) ≡ Some self.new }
         ensures not { result ≡ false → node_accepting self.old (letter_of answer.now) ≡ None }
         ensures same { result ≡ false → self.new ≡ self.old }
     {
@@ -323,7 +333,8 @@ impl Node {
     /// Serves, refuses or accepts a packet. False, unchanged, if it can't.
     pub(crate) fn take(&mut self, taking: Taking, packet: &Packet) -> bool
         requires { IsTakable taking self.old (letter_of packet.now) }
-        ensures taken { IsTrue result → node_taking taking self.old (letter_of packet.now) ≡ Some self.new }
+        ensures taken { IsTrue result →
+            node_taking taking self.old (letter_of packet.now) ≡ Some self.new }
         ensures not { result ≡ false → node_taking taking self.old (letter_of packet.now) ≡ None }
         ensures same { result ≡ false → self.new ≡ self.old }
     {
@@ -401,7 +412,9 @@ impl Node {
     /// The home of a line, or None if it is at another node. The caller sees to it that there is such a line.
     pub fn home(&self, line: u8) -> Option<&Home>
         requires { line < lines_of self.now }
-        ensures here { IfSome result (λ home. (home.now ≡ home_of self.now line) × (line % self.now.cache.nodes ≡ self.now.cache.me)) }
+        ensures here { IfSome result
+            (λ home. (home.now ≡ home_of self.now line)
+            × (line % self.now.cache.nodes ≡ self.now.cache.me)) }
         ensures elsewhere { result ≡ None → line % self.now.cache.nodes ≢ self.now.cache.me }
     {
         if line % self.extent.nodes != self.me {

@@ -10,7 +10,8 @@ ghost use Rattle.sci_core.specs.Reached.{IsReached};
 /// Serve, a Refuse, a Reply or an Accept, if it is enabled. No other event changes it but an Ask. So of every list of
 /// events without an Ask, whatever is refused and in whatever order, exactly as many move a packet on as the weight falls.
 pub fn packets_run_out()
-    ensures { (core : Core) (events : List Event) → IsReached core → AskNothing events → weight core ≡ weight (run_from core events) + moves_made core events }
+    ensures { (core : Core) (events : List Event) → IsReached core → AskNothing events →
+        weight core ≡ weight (run_from core events) + moves_made core events }
 {}
 
 /// If what is under way has no weight, nothing is under way.

@@ -178,7 +178,9 @@ impl State {
     pub(crate) fn drop_front(&mut self, kind: LaneKind, from: u8, to: u8)
         requires from { from < self.old.size.nodes }
         requires to { to < self.old.size.nodes }
-        ensures { self.new ≡ with_lane self.old (lane_place self.old.size.nodes kind from to) (drop 1 (lane_of self.old kind from to)) }
+        ensures { self.new
+            ≡ with_lane self.old (lane_place self.old.size.nodes kind from to)
+            (drop 1 (lane_of self.old kind from to)) }
     {
         let place = self.place(kind, usize::from(from), usize::from(to));
         let _taken = self.lanes[place].take();
