@@ -20,3 +20,4 @@ pub mod PlacedSort
 pub mod AuditLines
 pub mod ByLine
 pub mod Consequences
+pub mod SequentialRuns

@@ -5,3 +5,4 @@ pub mod Lawful
 pub mod Oracle
 pub mod Audit
 pub mod Seen
+pub mod Sequential

@@ -1,7 +1,7 @@
 //! Laws of the definitions that contracts cite: each is the contract of a function that does nothing, so that
 //! whoever reads the definitions sees that they say what they mean.
 
-ghost use Rattle.std.specs.Prelude.{true, ◌≡◌, ◌≤◌, ◌<◌, ◌↔◌, ◌∷◌, ◌++◌, [], List, ℕ, Option, map, filter, length};
+ghost use Rattle.std.specs.Prelude.{true, ◌≡◌, ◌≤◌, ◌<◌, ◌↔◌, ◌∷◌, ◌++◌, [], List, ℕ, Option, map, filter, length, AllPairs};
 ghost use Rattle.std.specs.List.{AllByRecursion, flat_map};
 ghost use Rattle.sci_words.specs.declared.limits.TheConstants.{MAX_NODES, WORDS_PER_LINE};
 ghost use Rattle.sci_words.specs.declared.operation.Act.{Act};
@@ -14,10 +14,11 @@ ghost use Rattle.sci_history.specs.declared.verdict.FaultKind.{FaultKind};
 ghost use Rattle.sci_history.specs.Audit.{HasNoFault, IsLineFault};
 ghost use Rattle.sci_history.specs.History.{HasHistory};
 ghost use Rattle.sci_history.specs.Lawful.{IsLawfulLine, Lawful};
-ghost use Rattle.sci_history.specs.Memory.{IsRun, stamped_at};
+ghost use Rattle.sci_history.specs.Memory.{IsRun, stamped_at, words_of_lines, zero_memory};
 ghost use Rattle.sci_history.specs.Oracle.{IsInRange, Issue, oracle_last, oracle_logs};
-ghost use Rattle.sci_history.specs.Placed.{AreOwn, is_making, is_of_node, is_on_line, log_of, on_line};
+ghost use Rattle.sci_history.specs.Placed.{AreOwn, is_making, is_of_node, is_on_line, log_of, on_line, pair_of};
 ghost use Rattle.sci_history.specs.Seen.{DidOn};
+ghost use Rattle.sci_history.specs.Sequential.{IsInProgramOrder, IsSequentialOrder, IsSequentiallyConsistent};
 
 /// A script's logs and last contents on one memory of one thread are lawful, whatever operations it has within
 /// the limits.
@@ -108,4 +109,22 @@ pub fn one_partition()
     ensures own { (logs : List (List Entry)) (node : ℕ) → AreOwn logs → length logs ≡ MAX_NODES →
         node < MAX_NODES →
         filter (is_of_node node) (flat_map (λ log. log) logs) ≡ log_of logs node }
+{}
+
+/// An order that makes logs sequentially consistent is a run of the whole memory, from the zero memory to the last
+/// words: all lines together are one memory of one thread.
+pub fn orders_are_runs()
+    ensures { (logs : List (List Entry)) (last : List Stamped) (order : List Entry) → IsSequentialOrder logs last order →
+        IsRun (map pair_of order) (zero_memory (length last)) (words_of_lines last) }
+{}
+
+/// Logs that are sequentially consistent are lawful, if on each line the serials of each node rise; they do if each
+/// log is in program order.
+pub fn sequential_logs_are_lawful()
+    ensures lawful { (logs : List (List Entry)) (last : List Stamped) → length logs ≡ MAX_NODES →
+        IsSequentiallyConsistent logs last →
+        ((line node : ℕ) → AllPairs (λ x y. x.serial < y.serial) (filter (is_on_line line) (log_of logs node))) →
+        Lawful logs last }
+    ensures serials { (log : List Entry) (line : ℕ) → IsInProgramOrder log →
+        AllPairs (λ x y. x.serial < y.serial) (filter (is_on_line line) log) }
 {}
