@@ -49,3 +49,4 @@ pub mod Rest
 pub mod GoingOn
 pub mod Drains
 pub mod Burdens
+pub mod InTurn

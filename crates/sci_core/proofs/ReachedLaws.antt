@@ -1,5 +1,5 @@
 -- The laws of every reached state, and of every schedule.
-use Rattle.std.proofs.Common.{◌≡◌, ℕ, ◌<◌, ◌≤◌, List, [], ◌++◌, filter, Option, refl, sym, ap, subst, ◌∙◌, arith, inl, inr}
+use Rattle.std.proofs.Common.{◌≡◌, ℕ, ◌<◌, ◌≤◌, List, [], ◌++◌, filter, length, map, Option, refl, sym, ap, subst, ◌∙◌, arith, inl, inr}
 use Rattle.std.specs.Prelude.{Result, Ok, Err, IfOk, Some, unwrap_or}
 use Rattle.std.proofs.lemmas.List.Elements.{All-from_recursion}
 use Rattle.std.specs.List.{All, AllByRecursion, AllPairs}
@@ -14,8 +14,10 @@ use Rattle.sci_history.specs.declared.entry.Entry.{Entry}
 use Rattle.sci_history.specs.Audit.{IsWithin, AreWithin}
 use Rattle.sci_history.specs.History.{IsHistory, HasHistory}
 use Rattle.sci_history.specs.Lawful.{Lawful}
-use Rattle.sci_history.specs.Memory.{stamped_at}
-use Rattle.sci_history.specs.Placed.{log_of, is_of_node, is_on_line}
+use Rattle.sci_history.specs.Memory.{IsRun, zero_memory, stamped_at, words_of_lines}
+use Rattle.sci_history.specs.Placed.{log_of, is_of_node, is_on_line, pair_of}
+use Rattle.sci_history.specs.Sequential.{IsSequentialOrder, IsSequentiallyConsistent}
+use Rattle.sci_history.proofs.SequentialRuns.{histories_are_run}
 use Rattle.sci_history.proofs.Lawfulness.{lawful_line}
 use Rattle.sci_history.proofs.Order.{filter_none, filter-filter, all_weaker, all-filter}
 use Rattle.sci_core.specs.Node.{NodeOf, opening_node, no_node}
@@ -176,6 +178,56 @@ reached_within core reached node =
       | inr past ↦ subst (All (IsWithin core.size.lines)) (sym (log_beyond core node past)) (All-from_recursion (IsWithin core.size.lines) [] tt)
     ]
 
+-- ---- all lines together
+
+pub beyond_log : (core : Core) (node : ℕ) → IsWellFormed core → core.size.nodes ≤ node → (node_at core node).log ≡ []
+beyond_log core node well past = let long = well.sizes.parts_long in ap (λ (part : NodeOf). part.log) (get_or_past core.parts node no_node (omega arith))
+
+-- each line of the last contents, one that the machine doesn't have too, has the schedule's entries as its history
+schedule_line : (size : Size) (schedule : List Event) (line : ℕ) → IsMachineSize size
+    → IsHistory (filter (is_on_line line) (done size schedule)) zero_stamped (stamped_at (last_of (run size schedule)) line)
+schedule_line size schedule line sizes =
+    let core = run size schedule in
+    let entries = done size schedule in
+    let same : core.size ≡ size = (run_well (opening size) schedule (opened size sizes)).same in
+    let lines : core.size.lines ≡ size.lines = ap (λ (s : Size). s.lines) same in
+    elim (cases_lt line size.lines) [
+      | inl lt ↦ subst (IsHistory (filter (is_on_line line) entries) zero_stamped) (sym (last_within core line (omega arith))) (schedule_history size schedule line sizes lt)
+      | inr past ↦
+          let known = all_weaker (IsKnown size.lines) (λ entry. entry.op.line < size.lines) (λ entry h. h.0.0) entries (schedule_logged size schedule sizes).known in
+          let none : filter (is_on_line line) entries ≡ [] = beyond_none size.lines line entries past known in
+          subst (λ (es : List Entry). IsHistory es zero_stamped (stamped_at (last_of core) line)) (sym none) (last_beyond core line (omega arith))
+    ]
+
+-- the entries of a schedule are a run of the memory of all lines
+pub schedule_run : (size : Size) (schedule : List Event) → IsMachineSize size → IsRun (map pair_of (done size schedule)) (zero_memory size.lines) (words_of_lines (last_of (run size schedule)))
+schedule_run size schedule sizes =
+    let core = run size schedule in
+    let same : core.size ≡ size = (run_well (opening size) schedule (opened size sizes)).same in
+    let long : length (last_of core) ≡ size.lines = length-map-range_with_len (last_at core) 0 core.size.lines ∙ ap (λ (s : Size). s.lines) same in
+    subst (λ (lines : ℕ). IsRun (map pair_of (done size schedule)) (zero_memory lines) (words_of_lines (last_of core))) long (histories_are_run (done size schedule) (last_of core) (λ line. schedule_line size schedule line sizes))
+
+-- and make its logs sequentially consistent
+pub schedule_order : (size : Size) (schedule : List Event) → IsMachineSize size → IsSequentialOrder (logs_of (run size schedule)) (last_of (run size schedule)) (done size schedule)
+schedule_order size schedule sizes =
+    let core = run size schedule in
+    let steps = run_well (opening size) schedule (opened size sizes) in
+    let nodes : core.size.nodes ≡ size.nodes = ap (λ (s : Size). s.nodes) steps.same in
+    let few = sizes.extent.few_nodes in
+    record {
+      logged = λ node. elim (cases_lt node MAX_NODES) [
+        | inl lt ↦ sym (log_at core node lt ∙ schedule_log size schedule node sizes)
+        | inr past ↦ sym (schedule_log size schedule node sizes) ∙ (beyond_log core node steps.well (omega arith) ∙ sym (log_beyond core node past))
+      ];
+      histories = λ line. schedule_line size schedule line sizes;
+    }
+
+pub reached_order : (core : Core) (reached : IsReached core) → IsSequentialOrder (logs_of core) (last_of core) (done core.size reached.schedule)
+reached_order core reached = subst (λ (x : Core). IsSequentialOrder (logs_of x) (last_of x) (done core.size reached.schedule)) reached.leads (schedule_order core.size reached.schedule reached.size)
+
+pub reached_consistent : (core : Core) → IsReached core → IsSequentiallyConsistent (logs_of core) (last_of core)
+reached_consistent core reached = (done core.size reached.schedule, reached_order core reached)
+
 -- ---- all of them
 
 pub reached_coherent : (core : Core) → IsReached core → IsCoherent core
@@ -189,6 +241,7 @@ reached_coherent core reached = record {
   logged = λ node. reached_log core reached node;
   within = reached_within core reached;
   lawful = reached_lawful core reached;
+  sequential = reached_order core reached;
 }
 
 -- if an event was applied, or refused and nothing changed

@@ -6,6 +6,7 @@ use Rattle.sci_history.specs.Audit.{AreWithin}
 use Rattle.sci_history.specs.History.{IsHistory}
 use Rattle.sci_history.specs.Lawful.{Lawful}
 use Rattle.sci_history.specs.Placed.{is_of_node, is_on_line}
+use Rattle.sci_history.specs.Sequential.{IsSequentialOrder}
 use Rattle.sci_core.specs.Core.{Core, node_at}
 use Rattle.sci_core.specs.Reached.{IsReached}
 use Rattle.sci_core.specs.Done.{done}
@@ -37,3 +38,5 @@ pub record IsCoherent (core : Core) : Type 0 where
   -- and the logs alone show that it did: they are of the machine's lines, and lawful
   pub within : AreWithin core.size.lines (logs_of core)
   pub lawful : Lawful (logs_of core) (last_of core)
+  -- all lines together: the schedule's entries are one order that makes the logs sequentially consistent
+  pub sequential : IsSequentialOrder (logs_of core) (last_of core) (done core.size reached.schedule)

@@ -22,3 +22,4 @@ pub mod Enabled
 pub mod Coherent
 pub mod GoingOn
 pub mod Draining
+pub mod InTurn

@@ -1,11 +1,13 @@
 //! Laws of the machine, each the contract of a function that does nothing.
 
-ghost use Rattle.std.specs.Prelude.{◌≡◌, ◌<◌, ℕ, List, filter, Some, None, IsSome};
+ghost use Rattle.std.specs.Prelude.{◌≡◌, ◌<◌, ℕ, List, filter, map, Some, None, IsSome};
 ghost use Rattle.sci_words.specs.declared.event.Event.{Event};
 ghost use Rattle.sci_words.specs.Stamped.{zero_stamped};
 ghost use Rattle.sci_history.specs.History.{IsHistory};
 ghost use Rattle.sci_history.specs.Lawful.{Lawful};
-ghost use Rattle.sci_history.specs.Placed.{is_on_line};
+ghost use Rattle.sci_history.specs.Memory.{IsRun, words_of_lines, zero_memory};
+ghost use Rattle.sci_history.specs.Placed.{is_on_line, pair_of};
+ghost use Rattle.sci_history.specs.Sequential.{AreInProgramOrder, IsInProgramOrder, IsSequentialOrder};
 ghost use Rattle.sci_core.specs.Core.{Core, run, step};
 ghost use Rattle.sci_core.specs.Sides.{StepsBySides};
 ghost use Rattle.sci_core.specs.Enabled.{AreServedAt, IsAcceptedAt};
@@ -23,6 +25,7 @@ ghost use Rattle.sci_cache.specs.Cache.{line_of};
 ghost use Rattle.sci_cache.specs.State.{Head};
 ghost use Rattle.sci_core.specs.Coherent.{IsCoherent};
 ghost use Rattle.sci_core.specs.GoingOn.{CanGoOn};
+ghost use Rattle.sci_core.specs.InTurn.{IssuesInTurn};
 ghost use Rattle.sci_core.specs.Done.{LastChanges, done, made_by};
 ghost use Rattle.sci_core.specs.Outcome.{logs_of};
 ghost use Rattle.sci_core.specs.Size.{Size, IsMachineSize};
@@ -185,4 +188,23 @@ pub fn reached_nodes_are_parts()
 /// an answer, or has a request to send: it joins or tells, or is a head or an entry below one.
 pub fn reached_nodes_can_go_on()
     ensures { (n : ℕ) (node : NodeOf) → IsReachedNode n node → CanGoOn node }
+{}
+
+/// The entries that a schedule makes, of all lines together and in its order, are a run of one memory of one thread from
+/// zero words to the last words. They are an order that makes the logs sequentially consistent: each node's log is its
+/// own entries among them, in that order.
+pub fn schedules_are_runs()
+    ensures run { (size : Size) (schedule : List Event) → IsMachineSize size →
+        IsRun (map pair_of (done size schedule)) (zero_memory size.lines) (words_of_lines (last_of (run size schedule))) }
+    ensures order { (size : Size) (schedule : List Event) → IsMachineSize size →
+        IsSequentialOrder (logs_of (run size schedule)) (last_of (run size schedule)) (done size schedule) }
+{}
+
+/// A node that has at most one operation pending all along a schedule logs in program order: its serials rise along its
+/// whole log. If each node has, all logs are in program order, and so sequentially consistent in Lamport's sense.
+pub fn issues_in_turn_are_logged_in_order()
+    ensures one { (size : Size) (schedule : List Event) (n : ℕ) → IsMachineSize size → IssuesInTurn size schedule n →
+        IsInProgramOrder (node_at (run size schedule) n).log }
+    ensures all { (size : Size) (schedule : List Event) → IsMachineSize size →
+        ((n : ℕ) → n < size.nodes → IssuesInTurn size schedule n) → AreInProgramOrder (logs_of (run size schedule)) }
 {}

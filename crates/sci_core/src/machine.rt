@@ -42,6 +42,7 @@ impl Machine {
     ghost use Rattle.sci_core.specs.Done.{LastChanges, made_by};
     ghost use Rattle.sci_history.specs.Audit.{AreWithin};
     ghost use Rattle.sci_history.specs.Lawful.{Lawful};
+    ghost use Rattle.sci_history.specs.Sequential.{IsSequentiallyConsistent};
     ghost use Rattle.sci_core.specs.Outcome.{logs_of};
     ghost use Rattle.sci_core.specs.Sharing.{last_of};
 
@@ -170,12 +171,13 @@ impl Machine {
         self.state.lane(kind, from, to).count()
     }
 
-    /// The logs of all nodes; those beyond the machine's are empty. An audit of them with the last contents finds
-    /// them lawful. Refused if memory is.
+    /// The logs of all nodes; those beyond the machine's are empty. With the last contents they are lawful, as an
+    /// audit finds, and sequentially consistent. Refused if memory is.
     pub fn logs(&self, alloc: Global) -> Result<Logs, AllocError>
         ensures logs { IfOk result (λ logs. logs ≡ logs_of self.now) }
         ensures within { IfOk result (AreWithin self.now.size.lines) }
         ensures lawful { IfOk result (λ logs. Lawful logs (last_of self.now)) }
+        ensures consistent { IfOk result (λ logs. IsSequentiallyConsistent logs (last_of self.now)) }
         ensures reached { IsReached self.now }
     {
         let mut logs = Logs::new(alloc);
@@ -186,11 +188,12 @@ impl Machine {
     }
 
     /// The last contents of each line: its home's if nobody may have written since, and else those of the one
-    /// node that may change the line or is about to. The logs are lawful with them.
+    /// node that may change the line or is about to. The logs are lawful with them, and sequentially consistent.
     pub fn last(&self) -> Last
         ensures last { result ≡ last_of self.now }
         ensures lines { length result ≡ self.now.size.lines }
         ensures lawful { Lawful (logs_of self.now) result }
+        ensures consistent { IsSequentiallyConsistent (logs_of self.now) result }
         ensures reached { IsReached self.now }
     {
         let lines = self.state.lines();

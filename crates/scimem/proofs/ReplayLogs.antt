@@ -15,7 +15,7 @@ use Rattle.sci_core.specs.Sharing.{last_at, last_of}
 use Rattle.sci_core.proofs.Histories.{IsKnown}
 use Rattle.sci_core.proofs.Histories.{few_done}
 use Rattle.sci_core.proofs.Ranges.{log_short, reached_entries}
-use Rattle.sci_core.proofs.ReachedLaws.{schedule_history, schedule_logged, schedule_log, log_at, reached_lawful}
+use Rattle.sci_core.proofs.ReachedLaws.{schedule_history, schedule_logged, schedule_log, log_at, reached_consistent, reached_lawful}
 use Rattle.sci_core.proofs.TidyRuns.{run_size, run_reached}
 use Rattle.sci_core.proofs.WellFormedSteps.{reached_well}
 use Rattle.sci_text.specs.Script.{IsWithin}
@@ -76,6 +76,7 @@ replay_is input text s is read written = record {
   written = written;
   says = subst (λ (bytes : List ℕ). IsLogs bytes s.nodes (logs_of (replayed s)) (last_of (replayed s))) (sym written) (written_again s.nodes (logs_of (replayed s)) (last_of (replayed s)) (replay_logs s is));
   lawful = reached_lawful (replayed s) (run_reached (replay_size s) s.events (within_limits s is));
+  consistent = reached_consistent (replayed s) (run_reached (replay_size s) s.events (within_limits s is));
 }
 
 -- the same for an input that was read

@@ -2,6 +2,7 @@
 use Rattle.std.specs.Prelude.{◌≡◌, ℕ, Bool, List, Option}
 use Rattle.sci_words.specs.declared.limits.TheConstants.{MAX_OPERATIONS}
 use Rattle.sci_history.specs.Lawful.{Lawful}
+use Rattle.sci_history.specs.Sequential.{IsSequentiallyConsistent}
 use Rattle.sci_core.specs.Size.{Size}
 use Rattle.sci_core.specs.Core.{Core, run}
 use Rattle.sci_core.specs.Outcome.{logs_of}
@@ -28,7 +29,8 @@ replayed s = run (replay_size s) s.events
 abbrev pub replay_text : ScheduleValue → List ℕ
 replay_text s = log_text s.nodes (logs_of (replayed s)) (last_of (replayed s))
 
--- the input is the text of a schedule, and the text of where it leads is written; it says lawful logs, and no others
+-- the input is the text of a schedule, and the text of where it leads is written; it says logs that are
+-- lawful and sequentially consistent, and no others
 pub record IsReplayOf (input text : List ℕ) : Type 0 where
   pub schedule : ScheduleValue
   pub good : IsSchedule schedule
@@ -36,6 +38,7 @@ pub record IsReplayOf (input text : List ℕ) : Type 0 where
   pub written : text ≡ replay_text schedule
   pub says : IsLogs text schedule.nodes (logs_of (replayed schedule)) (last_of (replayed schedule))
   pub lawful : Lawful (logs_of (replayed schedule)) (last_of (replayed schedule))
+  pub consistent : IsSequentiallyConsistent (logs_of (replayed schedule)) (last_of (replayed schedule))
 
 -- what is written, and how the command ends, for the bytes of a reader, which has failed or not
 abbrev pub IsReplayAnswer : Option (List ℕ) → Bool → List ℕ → Outcome → Type 0

@@ -4,11 +4,12 @@ use Rattle.std.proofs.lemmas.List.FromFn.{fill_by_all, length-map-range_with_len
 use Rattle.sci_words.specs.declared.stamped.Stamped.{Stamped}
 use Rattle.sci_words.specs.Stamped.{zero_stamped}
 use Rattle.sci_history.specs.Lawful.{Lawful}
+use Rattle.sci_history.specs.Sequential.{IsSequentiallyConsistent}
 use Rattle.sci_core.specs.Core.{Core}
 use Rattle.sci_core.specs.Outcome.{logs_of}
 use Rattle.sci_core.specs.Sharing.{last_at, last_of}
 use Rattle.sci_core.proofs.WellFormedSteps.{reached_well}
-use Rattle.sci_core.proofs.ReachedLaws.{reached_lawful}
+use Rattle.sci_core.proofs.ReachedLaws.{reached_consistent, reached_lawful}
 use Rattle.sci_core.proofs.machine.Machine.last.Goals as goal
 
 pub last_at-requires-clause-well : goal.last_at-requires-clause-well
@@ -33,3 +34,10 @@ returns-clause-lines c =
     let all = fill_by_all (last_at core) c.loop-line.last core.size.lines zero_stamped (c.loop-line.invariant.0 ∙ c.lines-lines.ensures.lines) (λ k below. c.loop-line.invariant.1 k (omega arith)) in
     let long = ap (λ (last : List Stamped). length last) all ∙ length-map-range_with_len (last_at core) 0 core.size.lines in
     subst (λ (k : Core). length c.loop-line.last ≡ k.size.lines) c.self.view_is long
+
+pub returns-clause-consistent : goal.returns-clause-consistent
+returns-clause-consistent c =
+    let core = c.self.inside.state in
+    let all = fill_by_all (last_at core) c.loop-line.last core.size.lines zero_stamped (c.loop-line.invariant.0 ∙ c.lines-lines.ensures.lines) (λ k below. c.loop-line.invariant.1 k (omega arith)) in
+    let consistent = subst (IsSequentiallyConsistent (logs_of core)) (sym all) (reached_consistent core c.self.invariant) in
+    subst (λ (k : Core). IsSequentiallyConsistent (logs_of k) c.loop-line.last) c.self.view_is consistent

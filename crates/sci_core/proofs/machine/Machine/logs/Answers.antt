@@ -5,12 +5,13 @@ use Rattle.sci_words.specs.declared.limits.TheConstants.{MAX_OPERATIONS}
 use Rattle.sci_history.specs.declared.entry.Entry.{Entry}
 use Rattle.sci_history.specs.Audit.{AreWithin}
 use Rattle.sci_history.specs.Lawful.{Lawful}
+use Rattle.sci_history.specs.Sequential.{IsSequentiallyConsistent}
 use Rattle.sci_core.specs.Node.{NodeOf}
 use Rattle.sci_core.specs.Core.{Core}
 use Rattle.sci_core.specs.Outcome.{logs_of}
 use Rattle.sci_core.specs.Sharing.{last_of}
 use Rattle.sci_core.proofs.WellFormedSteps.{reached_well}
-use Rattle.sci_core.proofs.ReachedLaws.{reached_lawful, reached_within}
+use Rattle.sci_core.proofs.ReachedLaws.{reached_consistent, reached_lawful, reached_within}
 use Rattle.sci_core.proofs.Logs.{all_logs, own_log, short_log}
 use Rattle.sci_core.proofs.machine.Machine.logs.Goals as goal
 
@@ -47,3 +48,12 @@ returns-clause-within c =
     let all = all_logs core c.loop-n.logs c.loop-n.n (omega arith) c.loop-n.invariant.0 c.loop-n.invariant.1 in
     let within = subst (AreWithin core.size.lines) (sym all) (reached_within core c.self.invariant) in
     subst (λ (k : Core). AreWithin k.size.lines c.loop-n.logs) c.self.view_is within
+
+pub returns-clause-consistent : goal.returns-clause-consistent
+returns-clause-consistent c =
+    let core = c.self.inside.state in
+    let well = reached_well core c.self.invariant in
+    let long = well.sizes.parts_long in
+    let all = all_logs core c.loop-n.logs c.loop-n.n (omega arith) c.loop-n.invariant.0 c.loop-n.invariant.1 in
+    let consistent = subst (λ (logs : List (List Entry)). IsSequentiallyConsistent logs (last_of core)) (sym all) (reached_consistent core c.self.invariant) in
+    subst (λ (k : Core). IsSequentiallyConsistent c.loop-n.logs (last_of k)) c.self.view_is consistent
