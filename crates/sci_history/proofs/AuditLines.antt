@@ -50,7 +50,7 @@ words_on_line lines line logs h =
 pub all_nodes_on_line : (line : ℕ) (logs : List (List Entry)) → AreOwn logs → length logs ≡ MAX_NODES → All (λ e. e.node < MAX_NODES) (on_line line logs)
 all_nodes_on_line line logs own sixteen = All-from_recursion (λ e. e.node < MAX_NODES) (on_line line logs) (nodes_on_line logs line own sixteen)
 
-none_past : (lines line : ℕ) (logs : List (List Entry)) → AreWithin lines logs → lines ≤ line → on_line line logs ≡ []
+pub none_past : (lines line : ℕ) (logs : List (List Entry)) → AreWithin lines logs → lines ≤ line → on_line line logs ≡ []
 none_past lines line logs h le =
     filter_none (is_on_line line) (flat_map same_log logs) (all_weaker (IsWithin lines) (λ e. is_on_line line e ≡ false) (λ e w. let low = w.0 in ne_eqb e.op.line line (λ is. absurd (omega arith))) (flat_map same_log logs) (all_logs (IsWithin lines) logs h))
 

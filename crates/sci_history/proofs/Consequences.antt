@@ -13,19 +13,19 @@ use Rattle.sci_words.specs.declared.stamped.Stamped.{Stamped}
 use Rattle.sci_words.specs.Operation.{effect_of_act, makes_version as is_making_act}
 use Rattle.sci_words.specs.Stamped.{line_after, zero_line, zero_stamped, reply_of}
 use Rattle.sci_history.specs.declared.entry.Entry.{Entry}
-use Rattle.sci_history.specs.History.{IsHistory}
+use Rattle.sci_history.specs.History.{IsHistory, words_at}
 use Rattle.sci_history.specs.Lawful.{IsLawfulLine, Lawful}
 use Rattle.sci_history.specs.Memory.{stamped_at}
 use Rattle.sci_history.specs.Placed.{AreOwn, is_making, makes, placed}
 use Rattle.sci_history.specs.Seen.{IsAmong, DidOn}
 use Rattle.sci_history.proofs.AuditRuns.{history_found, right_from_run, end_from_run}
 use Rattle.sci_history.proofs.Audits.{nodes_on_line, all-by_version}
-use Rattle.sci_history.proofs.Histories.{Agrees, words_at, history-agrees, versions-within, makers-after, maker_of}
+use Rattle.sci_history.proofs.Histories.{Agrees, history-agrees, versions-within, makers-after, maker_of}
 use Rattle.sci_history.proofs.Order.{filter_yes, filter_no, all-passes}
 
 -- ---- entries among others
 
-among_all : (P : Entry → Type 0) (entry : Entry) (entries : List Entry) → AllByRecursion P entries → IsAmong entry entries → P entry
+pub among_all : (P : Entry → Type 0) (entry : Entry) (entries : List Entry) → AllByRecursion P entries → IsAmong entry entries → P entry
 among_all P entry [] all h = elim h [ ]
 among_all P entry (e ∷ entries) all (inl same) = subst P (sym same) all.0
 among_all P entry (e ∷ entries) all (inr h) = among_all P entry entries all.1 h
@@ -34,7 +34,7 @@ among_more : (entry e : Entry) (xs ys : List Entry) → (IsAmong entry xs → Is
 among_more entry e xs ys f (inl same) = inl same
 among_more entry e xs ys f (inr h) = inr (f h)
 
-among_filter : (p : Entry → Bool) (entry : Entry) (entries : List Entry) → p entry ≡ true → IsAmong entry entries → IsAmong entry (filter p entries)
+pub among_filter : (p : Entry → Bool) (entry : Entry) (entries : List Entry) → p entry ≡ true → IsAmong entry entries → IsAmong entry (filter p entries)
 among_filter p entry [] passes h = h
 among_filter p entry (e ∷ entries) passes (inl same) = subst (IsAmong entry) (sym (filter_yes p e entries (ap p (sym same) ∙ passes))) (inl same)
 among_filter p entry (e ∷ entries) passes (inr h) = grind (arith, cases_Bool, filter_yes, filter_no, among_filter p entry entries passes h)
@@ -49,11 +49,11 @@ among_whole p entry (e ∷ entries) h =
 
 -- ---- the placed entries of a lawful line
 
-placed_history : (logs : List (List Entry)) (line : ℕ) (last : Stamped) → AreOwn logs → length logs ≡ MAX_NODES → IsLawfulLine logs line last → IsHistory (placed logs line) zero_stamped last
+pub placed_history : (logs : List (List Entry)) (line : ℕ) (last : Stamped) → AreOwn logs → length logs ≡ MAX_NODES → IsLawfulLine logs line last → IsHistory (placed logs line) zero_stamped last
 placed_history logs line last own sixteen lawful = grind (arith, history_found, nodes_on_line, right_from_run, end_from_run)
 
 -- what a node did on the line is placed
-did_placed : (logs : List (List Entry)) (line node : ℕ) (last : Stamped) (entry : Entry) → IsLawfulLine logs line last → DidOn logs line node entry → IsAmong entry (placed logs line)
+pub did_placed : (logs : List (List Entry)) (line node : ℕ) (last : Stamped) (entry : Entry) → IsLawfulLine logs line last → DidOn logs line node entry → IsAmong entry (placed logs line)
 did_placed logs line node last entry lawful did = grind (arith, among_filter, eq-eqb, among_whole)
 
 -- and what is placed its node did
@@ -62,10 +62,10 @@ placed_did logs line last entry own sixteen lawful h = grind (arith, among_all, 
 
 -- ---- the words at each version
 
-abbrev line_words : List (List Entry) → ℕ → ℕ → List ℕ
+abbrev pub line_words : List (List Entry) → ℕ → ℕ → List ℕ
 line_words logs line version = words_at zero_line (placed logs line) version
 
-agreed : (logs : List (List Entry)) (line : ℕ) (last : Stamped) (entry : Entry) → AreOwn logs → length logs ≡ MAX_NODES → IsLawfulLine logs line last → IsAmong entry (placed logs line) → Agrees (line_words logs line) entry
+pub agreed : (logs : List (List Entry)) (line : ℕ) (last : Stamped) (entry : Entry) → AreOwn logs → length logs ≡ MAX_NODES → IsLawfulLine logs line last → IsAmong entry (placed logs line) → Agrees (line_words logs line) entry
 agreed logs line last entry own sixteen lawful h =
     among_all (Agrees (line_words logs line)) entry (placed logs line) (history-agrees (placed logs line) zero_stamped last (line_words logs line) (placed_history logs line last own sixteen lawful) (λ version le. refl)) h
 

@@ -1,5 +1,5 @@
 -- What a line's history says of its versions and of the words at each version.
-use Rattle.std.proofs.Common.{◌≡◌, ℕ, suc, ◌+◌, ◌<◌, ◌≤◌, true, false, cond, eqb, leb, List, [], ◌∷◌, length, get_or, set, refl, sym, ap, ◌∙◌, arith, inl, inr}
+use Rattle.std.proofs.Common.{◌≡◌, ℕ, suc, ◌+◌, ◌<◌, ◌≤◌, true, false, eqb, List, [], ◌∷◌, length, get_or, set, refl, sym, ap, ◌∙◌, arith, inl, inr}
 use Rattle.std.specs.Prelude.{IsTrue}
 use Rattle.std.specs.List.{filter, AllByRecursion}
 use Rattle.std.proofs.lemmas.Bool.{cases_Bool, cases_lt, eq-eqb, ne_eqb, le-leb, lt-leb, and_from, and_left, and_right}
@@ -12,7 +12,7 @@ use Rattle.sci_words.specs.Operation.{effect_of_act, is_maker, makes_version as 
 use Rattle.sci_words.specs.Stamped.{line_after, after, reply_of}
 use Rattle.sci_history.specs.declared.entry.Entry.{Entry}
 use Rattle.sci_history.specs.Placed.{is_making, makes}
-use Rattle.sci_history.specs.History.{IsHistory}
+use Rattle.sci_history.specs.History.{IsHistory, words_at}
 use Rattle.sci_history.proofs.Order.{IsInOrder, filter_yes, filter_no, filter_none, all_weaker, all_both}
 use Rattle.sci_history.proofs.Placement.{place}
 
@@ -94,12 +94,6 @@ maker_of (entry ∷ entries) old new version h above below =
     ]
 
 -- ---- the words at each version
-
--- the words when the version was last this one
-abbrev pub words_at : List ℕ → List Entry → ℕ → List ℕ
-words_at words [] version = words
-words_at words (entry ∷ entries) version =
-    cond (leb entry.version version) (words_at (line_after words entry.op) entries version) words
 
 -- an entry agrees with the words at each version
 pub record Agrees (words : ℕ → List ℕ) (entry : Entry) : Type 0 where

@@ -11,10 +11,10 @@ use Rattle.sci_history.specs.declared.entry.Entry.{Entry}
 use Rattle.sci_history.specs.Memory.{IsLineRun}
 use Rattle.sci_history.specs.Placed.{log_of, is_of_node, is_on_line, is_making, makes, maker_count, on_line, pair_of, in_order, by_version}
 use Rattle.sci_history.specs.Lawful.{HasWholeVersions, IsLawfulLine}
-use Rattle.sci_history.specs.History.{IsHistory, HasHistory}
+use Rattle.sci_history.specs.History.{IsHistory, HasHistory, words_at}
 use Rattle.sci_history.proofs.Order.{IsInOrder, IsInOrder-filter, filter-in_order, in_order-ordered, in_order_same_key, length-in_order, all_weaker, all-filter, all-passes, all-in_order, filter_none}
 use Rattle.sci_history.proofs.Placement.{place, in_order_from_rising, on_line-logs, filter-placed}
-use Rattle.sci_history.proofs.Histories.{Agrees, versions-within, makers-after, makers-counted, places-rise, maker_of, words_at, words_at-end, words_at-start, history-agrees}
+use Rattle.sci_history.proofs.Histories.{Agrees, versions-within, makers-after, makers-counted, places-rise, maker_of, words_at-end, words_at-start, history-agrees}
 use Rattle.sci_history.proofs.LineRuns.{Explains, versions_run}
 
 -- a history's entries, node by node

@@ -21,3 +21,12 @@ pub mod AuditLines
 pub mod ByLine
 pub mod Consequences
 pub mod SequentialRuns
+pub mod Cycles
+pub mod Placings
+pub mod PlacingEnds
+pub mod Rests
+pub mod PlaceSteps
+pub mod LoadCounts
+pub mod Waits
+pub mod Walks
+pub mod FoundOrders

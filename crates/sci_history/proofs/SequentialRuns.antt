@@ -22,7 +22,7 @@ use Rattle.sci_history.proofs.Runs.{line_at-words_of_lines, words_of_lines-conte
 -- ---- runs
 
 -- a load leaves the whole stamped line
-after-load : (old : Stamped) (op : Op) → is_maker op ≡ false → after old op ≡ old
+pub after-load : (old : Stamped) (op : Op) → is_maker op ≡ false → after old op ≡ old
 after-load old op load = same_stamped (after old op) old (line_after-load old.line op load) (version-load old op load)
 
 -- what has a history to version 0 leaves no trace

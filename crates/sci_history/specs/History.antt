@@ -1,9 +1,9 @@
 -- Operations that took effect on one line one after another.
-use Rattle.std.specs.Prelude.{◌≡◌, ℕ, ◌<◌, List, [], ◌∷◌, filter, AllPairs}
+use Rattle.std.specs.Prelude.{◌≡◌, ℕ, ◌<◌, nat_le, if◌then◌else◌, List, [], ◌∷◌, filter, AllPairs}
 use Rattle.std.specs.List.{AllByRecursion}
 use Rattle.sci_words.specs.declared.limits.TheConstants.{MAX_NODES}
 use Rattle.sci_words.specs.declared.stamped.Stamped.{Stamped}
-use Rattle.sci_words.specs.Stamped.{after, zero_stamped, reply_of}
+use Rattle.sci_words.specs.Stamped.{after, line_after, zero_stamped, reply_of}
 use Rattle.sci_history.specs.declared.entry.Entry.{Entry}
 use Rattle.sci_history.specs.Placed.{log_of, is_of_node, is_on_line}
 
@@ -22,3 +22,9 @@ pub record HasHistory (logs : List (List Entry)) (line : ℕ) (last : Stamped) :
   pub nodes : AllByRecursion (λ entry. entry.node < MAX_NODES) entries
   pub logged : (node : ℕ) → node < MAX_NODES → filter (is_on_line line) (log_of logs node) ≡ filter (is_of_node node) entries
   pub serials : (node : ℕ) → node < MAX_NODES → AllPairs (λ x y. x.serial < y.serial) (filter (is_on_line line) (log_of logs node))
+
+-- the words of a line that began with these when its version was last this one
+abbrev pub words_at : List ℕ → List Entry → ℕ → List ℕ
+words_at words [] version = words
+words_at words (entry ∷ entries) version =
+    if nat_le entry.version version then words_at (line_after words entry.op) entries version else words

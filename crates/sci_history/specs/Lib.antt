@@ -6,3 +6,5 @@ pub mod Oracle
 pub mod Audit
 pub mod Seen
 pub mod Sequential
+pub mod Cycle
+pub mod Placing

@@ -64,7 +64,7 @@ fn marked_twice<'a>(
 }
 
 /// How many of the entries are makers'.
-fn makers(entries: &[&Entry]) -> u64
+pub fn makers(entries: &[&Entry]) -> u64
     ensures { result ≡ maker_count (entries_of entries.now) }
 {
     entries.iter().filter(|entry| entry.op.is_maker()).count() as u64

@@ -12,7 +12,9 @@ ghost use Rattle.sci_words.specs.Stamped.{zero_stamped};
 ghost use Rattle.sci_history.specs.declared.entry.Entry.{Entry};
 ghost use Rattle.sci_history.specs.declared.verdict.FaultKind.{FaultKind};
 ghost use Rattle.sci_history.specs.Audit.{HasNoFault, IsLineFault};
+ghost use Rattle.sci_history.specs.Cycle.{IsCycle};
 ghost use Rattle.sci_history.specs.History.{HasHistory};
+ghost use Rattle.sci_history.specs.declared.order_verdict.Step.{Step};
 ghost use Rattle.sci_history.specs.Lawful.{IsLawfulLine, Lawful};
 ghost use Rattle.sci_history.specs.Memory.{IsRun, stamped_at, words_of_lines, zero_memory};
 ghost use Rattle.sci_history.specs.Oracle.{IsInRange, Issue, oracle_last, oracle_logs};
@@ -127,4 +129,11 @@ pub fn sequential_logs_are_lawful()
         Lawful logs last }
     ensures serials { (log : List Entry) (line : ℕ) → IsInProgramOrder log →
         AllPairs (λ x y. x.serial < y.serial) (filter (is_on_line line) log) }
+{}
+
+/// Logs with a cycle aren't sequentially consistent, whatever their last contents are: in any order each entry of the
+/// cycle would stand before itself.
+pub fn cycles_rule_out_orders()
+    ensures { (logs : List (List Entry)) (last : List Stamped) (steps : List Step) → IsCycle logs steps →
+        IsSequentiallyConsistent logs last → ⊥ }
 {}

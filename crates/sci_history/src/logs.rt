@@ -92,6 +92,15 @@ impl Logs {
         MAX_NODES
     }
 
+    /// The number of entries in all logs, or the greatest `usize` if there are more.
+    pub(crate) fn entries(&self) -> usize {
+        let mut count: usize = 0;
+        for log in &self.lists {
+            count = count.saturating_add(log.len());
+        }
+        count
+    }
+
     /// The log of a node, in the order in which its operations were performed. The caller sees to it that the
     /// node is below 16.
     pub fn of(&self, node: u8) -> &[Entry]

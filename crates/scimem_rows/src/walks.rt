@@ -1,12 +1,12 @@
 //! Walks: schedules whose events are taken by chance, from fixed seeds, mostly among the enabled ones. On the way
 //! and at the end, what the machine shows is compared with what a plain look at the nodes and at the events that
-//! happened gives, and its logs are audited.
+//! happened gives, and its logs are audited and put into one order.
 
 use crate::choices::{any_event, enabled_event};
 use crate::plain_lists::holds;
 use crate::random::Random;
 use crate::walked::{Counts, Walked};
-use sci_history::{Verdict, audit};
+use sci_history::{OrderVerdict, sequential_order};
 use sci_text::{Tap, read_logs};
 use sci_words::Extent;
 use std::alloc::Global;
@@ -23,16 +23,16 @@ struct Walks {
     events: u16,
 }
 
-/// An error if the audit finds the logs not lawful.
+/// An error if the logs aren't lawful, or have no one order of all entries.
 fn audit_logs(alloc: Global, walked: &Walked) -> Result<(), Fail> {
     let text = walked.machine.text(alloc)?;
     let (nodes, logs, last) = read_logs(alloc, &mut Tap::new(text.as_slice()))?;
     if nodes != walked.extent.nodes {
         return Err(Fail::from("logs of another machine"));
     }
-    match audit(alloc, &logs, &last)? {
-        Verdict::Lawful => Ok(()),
-        fault => Err(Fail::from(fault)),
+    match sequential_order(alloc, &logs, &last)? {
+        OrderVerdict::Order(_) => Ok(()),
+        found => Err(Fail::new(format_args!("{found:?}"))),
     }
 }
 

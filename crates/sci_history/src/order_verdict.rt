@@ -1,0 +1,44 @@
+//! What a look for one order of all entries finds.
+
+use crate::entry::Entry;
+use crate::verdict::FaultKind;
+
+/// Why an entry comes after another in every order that makes logs sequentially consistent.
+#[derive(Clone, Copy, Debug, PartialEq, Eq)]
+pub enum Reason {
+    /// The other stands before it in their node's log (program order).
+    Logged,
+    /// It is a load of the version that the other made (reads-from).
+    ReadsFrom,
+    /// It made a version above the one at which the other, a load, read the line (from-read).
+    FromRead,
+    /// It made a version above the one that the other made (coherence order).
+    Coherence,
+}
+
+/// An entry of a cycle, and why it comes after the next one; the first is next to the last.
+#[derive(Clone, Copy, Debug, PartialEq, Eq)]
+pub struct Step {
+    /// The entry.
+    pub entry: Entry,
+    /// Its place in the log of its node, from 0.
+    pub place: usize,
+    /// Why it comes after the next entry of the cycle.
+    pub reason: Reason,
+}
+
+/// What a look for one order of all entries finds.
+#[derive(Debug, Drop)]
+pub enum OrderVerdict {
+    /// The logs aren't lawful: what an audit reports of them.
+    Fault {
+        line: u8,
+        kind: FaultKind,
+        /// Node and serial of the entry where the rule fails; none if the last contents differ.
+        at: Option<(u8, u32)>,
+    },
+    /// All entries, in an order that makes the logs sequentially consistent.
+    Order(Vec<Entry>),
+    /// There is no such order: each of these entries would have to come after the next, and the last after the first.
+    Cycle(Vec<Step>),
+}
