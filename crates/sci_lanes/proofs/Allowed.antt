@@ -1,0 +1,207 @@
+-- Each kind of step keeps the rule, and tells its seat what it should.
+use Rattle.std.proofs.Common.{◌≡◌, ◌≢◌, ℕ, zero, suc, ◌+◌, ◌*◌, ◌/◌, ◌%◌, ◌<◌, ◌≤◌, ◌⊎◌, inl, inr, Bool, true, false, if◌then◌else◌, eqb, ◌&&◌, List, [], ◌∷◌, ◌++◌, length, get_or, set, Option, Some, None, refl, sym, ap, subst, ◌∙◌, arith}
+use Rattle.std.proofs.lemmas.Bool.{and_parts, and_left, eqb-true, ne_eqb, cases_lt}
+use Rattle.std.proofs.lemmas.List.{set-get_or}
+use mathlib.Core.Option.{some, none, some-ne-none}
+use lib.ListN.{get_elem?}
+use Rattle.atomic_table.specs.Table.{State, Me, Step, step, keeps, stepped, Allows}
+use Rattle.atomic_table.proofs.Lists.{set_here}
+use Rattle.sci_packets.specs.declared.packet.Packet.{Packet}
+use Rattle.sci_core.specs.Size.{Size}
+use Rattle.sci_core.specs.Node.{NodeOf}
+use Rattle.sci_core.specs.Core.{Core, node_at, lane_at}
+use Rattle.sci_core.specs.Reached.{IsReached}
+use Rattle.sci_lanes.specs.declared.view.Outbound.{Outbound}
+use Rattle.sci_lanes.specs.declared.view.Inbound.{Inbound}
+use Rattle.sci_lanes.specs.declared.view.Part.{Part}
+use Rattle.sci_lanes.specs.declared.view.View.{View}
+use Rattle.sci_lanes.specs.Cells.{cell_place, lane_count, sender_of, receiver_of, word_at}
+use Rattle.sci_lanes.specs.Shown.{Fits, ShowsLane, Whole, nodes_of, me_of, single, outbound_at, inbound_at, IsKnown, Shows, IsKept}
+use Rattle.sci_lanes.specs.Knowing.{is_sending, is_receiving, looked_out, looked_in, looked, filled_out, filled, read_in, read, with_lane_known}
+use Rattle.sci_lanes.specs.Telling.{IsFull, IsShown, Tells, size_in}
+use Rattle.sci_lanes.specs.Plays.{lane_in, number_in, index_in, LooksAt, Looks, Fills, Reads}
+use Rattle.sci_lanes.proofs.Words.{same_cell, place_within}
+use Rattle.sci_lanes.proofs.LaneSteps.{out_looked, in_looked, out_filled, in_read, sender_finds_empty}
+use Rattle.sci_lanes.proofs.Turning.{IsTurn, turned_whole, lane_step}
+use Rattle.sci_lanes.proofs.Facts.{lane_length, known_part, shown}
+
+-- ---- places of words
+
+pub lane_found : (lane turn index : ℕ) → index < 11 → lane_in (cell_place lane turn + index) ≡ lane
+unfolding cell_place
+lane_found lane turn index few = omega arith
+
+pub number_found : (lane turn index : ℕ) → index < 11 → number_in (cell_place lane turn + index) ≡ turn % 4
+unfolding cell_place
+number_found lane turn index few = omega arith
+
+pub index_found : (lane turn index : ℕ) → index < 11 → index_in (cell_place lane turn + index) ≡ index
+unfolding cell_place
+index_found lane turn index few = omega arith
+
+-- ---- one step
+
+pub within : {A : Type 0} (xs : List A) (k : ℕ) (a : A) → get_elem? xs k ≡ some a → k < length xs
+within [] k a e = absurd (some-ne-none a (sym e))
+within (z ∷ xs) zero a e = omega arith
+within (z ∷ xs) (suc k) a e = let later = within xs k a e in omega arith
+
+-- after a step of a seat that has one node, words and views show a state, and the seat's part is of it
+pub record Goes (size : Size) (s : State (Unit {0}) View) (id place value : ℕ) (part next : Part) : Type 0 where
+  pub kept : IsKept size (record { words = set s.words place value; homes = s.homes; views = set s.views id (single next) })
+  pub shown : IsShown next
+  pub sized : size_in next ≡ size_in part
+
+-- the size of a part's node is the machine's
+pub size_known : (x : Whole) (seat : ℕ) (part : Part) (size : Size) → IsReached x.core → x.core.size ≡ size → IsKnown x seat part → size_in part ≡ size
+size_known x seat part size reached sized k = let p = known_part x seat part reached k in sizes (size_in part) x.core.size p.all p.each p.room p.most ∙ sized
+  where
+    sizes : (a b : Size) → a.nodes ≡ b.nodes → a.lines ≡ b.lines → a.slots ≡ b.slots → a.limit ≡ b.limit → a ≡ b
+    sizes a b n l s m = λ i. record { nodes = n i; lines = l i; slots = s i; limit = m i }
+
+pub goes : (size : Size) (s : State (Unit {0}) View) (kept : IsKept size s) (id place value : ℕ) (part next : Part) (y : Whole) → IsReached y.core → y.core.size ≡ size → get_elem? s.views id ≡ some (single part)
+    → Shows y (set s.words place value) (set s.views id (single next)) → Goes size s id place value part next
+goes size s kept id place value part next y reached sized here shows =
+    let there = set_here s.views id (single next) (within s.views id (single part) here) in
+    record {
+      kept = record { whole = y; reached = reached; sized = sized; shown = shows };
+      shown = shown y (set s.words place value) (set s.views id (single next)) id next reached shows there;
+      sized = size_known y id next size reached sized (shows.known id (single next) there).0 ∙ sym (size_known kept.whole id part size kept.reached kept.sized (kept.shown.known id (single part) here).0);
+    }
+
+-- what a step owes, and what it tells
+abbrev pub Owes : Size → ℕ → ℕ → Part → (ℕ → ℕ) → (ℕ → Me (Unit {0}) View → Type 0) → Type 0
+Owes size id place part f told = (s : State (Unit {0}) View) → IsKept size s → get_elem? s.views id ≡ some (single part)
+    → (next : Part) × Goes size s id place (f (get_or s.words place 0)) part next × told (get_or s.words place 0) (single next, [])
+
+pub allows : (size : Size) (slots id place : ℕ) (part : Part) (f : ℕ → ℕ) (told : ℕ → Me (Unit {0}) View → Type 0) → Owes size id place part f told → Allows (IsKept size) slots id (single part, []) place f told
+allows size slots id place part f told owes s kept long here fits = let o = owes s kept here in (single o.0, keeps, tt, o.1.kept, o.2)
+
+-- ---- steps that are no event
+
+-- the state stays
+pub still : (x : Whole) (seat : ℕ) (part : Part) (lane : ℕ) (o o' : Outbound) (i i' : Inbound) → IsKnown x seat part → lane < lane_count (nodes_of x)
+    → (sender_of (nodes_of x) lane ≡ me_of part → o ≡ o') → (sender_of (nodes_of x) lane ≢ me_of part → o' ≡ x.outbound lane)
+    → (receiver_of (nodes_of x) lane ≡ me_of part → i ≡ i') → (receiver_of (nodes_of x) lane ≢ me_of part → i' ≡ x.inbound lane)
+    → IsTurn x part lane x.core part.node o o' i i'
+still x seat part lane o o' i i' k lt sender not_sender receiver not_receiver = record {
+  lane_ok = lt;
+  size = refl;
+  others = λ n apart. refl;
+  mine = k.node;
+  me = refl;
+  lanes = λ other apart. refl;
+  sender = sender;
+  not_sender = not_sender;
+  receiver = receiver;
+  not_receiver = not_receiver;
+}
+
+-- a cell that is next for this end
+next_cell : (words : List ℕ) (lane turn number count : ℕ) → eqb number (count % 4) ≡ true → turn % 4 ≡ number % 4 → get_or words (cell_place lane turn + 0) 0 ≡ word_at words lane count 0
+next_cell words lane turn number count is same =
+    let e = eqb-true number (count % 4) is in
+    ap (λ (place : ℕ). get_or words (place + 0) 0) (same_cell lane turn count (omega arith))
+
+maybe_out : (b : Bool) (words : List ℕ) (lane word : ℕ) (packets : List Packet) (o : Outbound) (i : Inbound) → (b ≡ true → word ≡ word_at words lane o.sent 0) → Fits words lane packets o i
+    → Fits words lane packets (if b then looked_out word o else o) i
+maybe_out true words lane word packets o i is f = subst (λ (w : ℕ). Fits words lane packets (looked_out w o) i) (sym (is refl)) (out_looked words lane packets o i f)
+maybe_out false words lane word packets o i is f = f
+
+maybe_in : (b : Bool) (words : List ℕ) (lane word : ℕ) (packets : List Packet) (o : Outbound) (i : Inbound) → (b ≡ true → word ≡ word_at words lane i.taken 0) → Fits words lane packets o i
+    → Fits words lane packets o (if b then looked_in word i else i)
+maybe_in true words lane word packets o i is f = subst (λ (w : ℕ). Fits words lane packets o (looked_in w i)) (sym (is refl)) (in_looked words lane packets o i f)
+maybe_in false words lane word packets o i is f = f
+
+if_false : {X : Type 0} (b : Bool) (x y : X) → b ≡ false → (if b then x else y) ≡ y
+if_false true x y e = cc
+if_false false x y e = refl
+
+pub looks : (size : Size) (slots id lane number : ℕ) (part : Part) → lane < lane_count size.nodes → number < 4
+    → Allows (IsKept size) slots id (single part, []) (cell_place lane number + 0) (λ n. n) (Looks (step slots (cell_place lane number + 0) 0 0 none) (single part, []))
+looks size slots id lane number part lt few = allows size slots id place part (λ n. n) (Looks (step slots place 0 0 none) (single part, [])) owes
+  where
+    place : ℕ
+    place = cell_place lane number + 0
+    owes : Owes size id place part (λ n. n) (Looks (step slots place 0 0 none) (single part, []))
+    owes s kept here = (
+        looked lane number word part,
+        went,
+        rw (lane_found lane number 0 (omega arith), at_number) (record {
+          tells = record { view = refl; shown = went.shown; sized = went.sized };
+          full = λ sends some. record {
+            core = x.core;
+            reached = kept.reached;
+            some_node = k.some_node;
+            here = k.node;
+            four = four (sends_here sends) some;
+          };
+        }),
+      )
+      where
+        x : Whole
+        x = kept.whole
+        word : ℕ
+        word = get_or s.words place 0
+        at_number : number_in place ≡ number
+        at_number = let e = number_found lane number 0 (omega arith) in omega arith
+        k : IsKnown x id part
+        k = (kept.shown.known id (single part) here).0
+        nodes : part.node.cache.nodes ≡ nodes_of x
+        nodes = (known_part x id part kept.reached k).all
+        lane_ok : lane < lane_count (nodes_of x)
+        lane_ok = subst (λ (n : ℕ). lane < lane_count n) (sym (ap (λ z. z.nodes) kept.sized)) lt
+        b : Bool
+        b = is_sending part lane number
+        c : Bool
+        c = is_receiving part lane number
+        o' : Outbound
+        o' = if b then looked_out word (x.outbound lane) else x.outbound lane
+        i' : Inbound
+        i' = if c then looked_in word (x.inbound lane) else x.inbound lane
+        y : Whole
+        y = turned_whole x lane x.core o' i'
+        out_is : sender_of (nodes_of x) lane ≡ me_of part → outbound_at part lane ≡ x.outbound lane
+        out_is is = k.outbound lane lane_ok is
+        in_is : receiver_of (nodes_of x) lane ≡ me_of part → inbound_at part lane ≡ x.inbound lane
+        in_is is = k.inbound lane lane_ok is
+        sends_here : b ≡ true → word ≡ word_at s.words lane (x.outbound lane).sent 0
+        sends_here is =
+            let both = and_parts (eqb (sender_of part.node.cache.nodes lane) (me_of part)) (eqb number ((outbound_at part lane).sent % 4)) is in
+            let sender : sender_of (nodes_of x) lane ≡ me_of part = subst (λ (n : ℕ). sender_of n lane ≡ me_of part) nodes (eqb-true (sender_of part.node.cache.nodes lane) (me_of part) both.0) in
+            subst (λ (o : Outbound). word ≡ word_at s.words lane o.sent 0) (out_is sender) (next_cell s.words lane number number (outbound_at part lane).sent both.1 refl)
+        receives_here : c ≡ true → word ≡ word_at s.words lane (x.inbound lane).taken 0
+        receives_here is =
+            let both = and_parts (eqb (receiver_of part.node.cache.nodes lane) (me_of part)) (eqb number ((inbound_at part lane).taken % 4)) is in
+            let receiver : receiver_of (nodes_of x) lane ≡ me_of part = subst (λ (n : ℕ). receiver_of n lane ≡ me_of part) nodes (eqb-true (receiver_of part.node.cache.nodes lane) (me_of part) both.0) in
+            subst (λ (i : Inbound). word ≡ word_at s.words lane i.taken 0) (in_is receiver) (next_cell s.words lane number number (inbound_at part lane).taken both.1 refl)
+        old : ShowsLane s.words lane (lane_at x.core lane) (x.outbound lane) (x.inbound lane)
+        old = kept.shown.lanes lane lane_ok
+        shows_lane : ShowsLane (set s.words place word) lane (lane_at x.core lane) o' i'
+        shows_lane = record {
+          packets = old.packets;
+          letters = old.letters;
+          fits = subst (λ (ws : List ℕ). Fits ws lane old.packets o' i') (sym (set-get_or s.words place 0))
+            (maybe_in c s.words lane word old.packets o' (x.inbound lane) receives_here (maybe_out b s.words lane word old.packets (x.outbound lane) (x.inbound lane) sends_here old.fits));
+        }
+        shows : Shows y (set s.words place word) (set s.views id (single (looked lane number word part)))
+        shows = lane_step x s.words s.views id lane number 0 word part x.core part.node
+          (if b then looked_out word (outbound_at part lane) else outbound_at part lane) o'
+          (if c then looked_in word (inbound_at part lane) else inbound_at part lane) i'
+          kept.shown here (omega arith)
+          (still x id part lane _ o' _ i' k lane_ok
+            (λ is. ap (λ (o : Outbound). if b then looked_out word o else o) (out_is is))
+            (λ apart. if_false b _ (x.outbound lane) (and_left (eqb (sender_of part.node.cache.nodes lane) (me_of part)) _ (ne_eqb (sender_of part.node.cache.nodes lane) (me_of part) (λ e. apart (subst (λ (n : ℕ). sender_of n lane ≡ me_of part) nodes e)))))
+            (λ is. ap (λ (i : Inbound). if c then looked_in word i else i) (in_is is))
+            (λ apart. if_false c _ (x.inbound lane) (and_left (eqb (receiver_of part.node.cache.nodes lane) (me_of part)) _ (ne_eqb (receiver_of part.node.cache.nodes lane) (me_of part) (λ e. apart (subst (λ (n : ℕ). receiver_of n lane ≡ me_of part) nodes e))))))
+          shows_lane
+        went : Goes size s id place word part (looked lane number word part)
+        went = goes size s kept id place word part (looked lane number word part) y kept.reached kept.sized here shows
+        four : word ≡ word_at s.words lane (x.outbound lane).sent 0 → word ≢ 0 → length (lane_at x.core lane) ≡ 4
+        four is some_word =
+            let long = lane_length old in
+            let room = old.fits.room in
+            elim (cases_lt (length old.packets) 4) [
+              | inl less ↦ absurd (some_word (is ∙ sender_finds_empty s.words lane old.packets (x.outbound lane) (x.inbound lane) old.fits less))
+              | inr le ↦ omega arith
+            ]

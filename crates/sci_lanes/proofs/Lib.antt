@@ -1,0 +1,9 @@
+pub mod Words
+pub mod LaneSteps
+pub mod Keeping
+pub mod Turning
+pub mod Facts
+pub mod Allowed
+pub mod Ends
+pub mod Events
+pub mod Seats

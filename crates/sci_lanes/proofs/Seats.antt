@@ -1,0 +1,254 @@
+-- What a seat that has one node owes at each step, and what it is after it.
+use Rattle.std.proofs.Common.{◌≡◌, ◌≢◌, ℕ, ◌+◌, ◌*◌, ◌%◌, ◌^◌, ◌<◌, ◌⊎◌, inl, inr, true, List, [], ◌∷◌, refl, sym, ap, subst, ◌∙◌, arith}
+use Rattle.std.proofs.lemmas.Bool.{and_from, eq-eqb}
+use mathlib.Core.Option.{none}
+use Rattle.atomic_table.specs.Table.{Me, step, Allows}
+use Rattle.atomic_table.specs.Seated.{TableId}
+use Rattle.sci_words.specs.declared.extent.Extent.{Extent}
+use Rattle.sci_core.specs.declared.lane.LaneKind.{LaneKind}
+use Rattle.sci_core.specs.Size.{Size, size_of}
+use Rattle.sci_core.specs.Node.{NodeOf}
+use Rattle.sci_core.proofs.WellFormedSteps.{reached_well}
+use Rattle.sci_lanes.specs.declared.cell.CellId.{CellId}
+use Rattle.sci_lanes.specs.declared.view.Part.{Part}
+use Rattle.sci_lanes.specs.declared.view.View.{View}
+use Rattle.sci_lanes.specs.Cells.{cell_place, own_place, lane_count, sender_of, receiver_of, lane_number, word_count}
+use Rattle.sci_lanes.specs.Shown.{me_of, single, outbound_at, inbound_at, IsKept}
+use Rattle.sci_lanes.specs.Knowing.{is_sending, looked}
+use Rattle.sci_lanes.specs.Telling.{part_of, size_in, IsFull, IsShown, IsSending, IsTaking, IsBeating, Tells}
+use Rattle.sci_lanes.specs.Plays.{lane_in, number_in, index_in, LooksAt, Looks, Fills, Reads, Publishes, Frees, Beats}
+use Rattle.sci_lanes.specs.Ends.{EndOf, with_part, nodes_in, lane_at_cell, IsNextToSend, IsNextToTake, MayFill, MayRead, IsSeated}
+use Rattle.sci_lanes.proofs.Words.{place_within}
+use Rattle.sci_lanes.proofs.Allowed.{lane_found, number_found, index_found, looks}
+use Rattle.sci_lanes.proofs.Ends.{fills, reads}
+use Rattle.sci_lanes.proofs.Events.{sent_place, publishes, frees, beats}
+
+-- ---- cells
+
+pub shown_nodes : (part : Part) (s : IsShown part) → nodes_in part ≡ s.core.size.nodes
+shown_nodes part s = ap (λ node. node.cache.nodes) (sym s.here) ∙ ((reached_well s.core s.reached).each_part (me_of part) s.some_node).all
+
+pub me_below : (part : Part) → IsShown part → me_of part < nodes_in part
+me_below part s = subst (λ (n : ℕ). me_of part < n) (sym (shown_nodes part s)) s.some_node
+
+-- the lane of a cell that is next for an end
+pub record IsInLane (part : Part) (cell : CellId) : Type 0 where
+  pub lane : lane_at_cell part cell < lane_count (nodes_in part)
+  pub sender : sender_of (nodes_in part) (lane_at_cell part cell) ≡ cell.sender
+  pub receiver : receiver_of (nodes_in part) (lane_at_cell part cell) ≡ cell.receiver
+  pub number : cell.number < 4
+
+in_lane : (part : Part) (cell : CellId) → cell.sender < nodes_in part → cell.receiver < nodes_in part → cell.number < 4 → IsInLane part cell
+in_lane part cell s r n = let at = sent_place (nodes_in part) cell.kind cell.sender cell.receiver s r in record { lane = at.0; sender = at.1; receiver = at.2; number = n }
+
+pub sends_in : (part : Part) (cell : CellId) → IsShown part → IsNextToSend part cell → IsInLane part cell
+sends_in part cell s n = let below = me_below part s in let mine = n.mine in let next = n.next in in_lane part cell (omega arith) n.other (omega arith)
+
+pub takes_in : (part : Part) (cell : CellId) → IsShown part → IsNextToTake part cell → IsInLane part cell
+takes_in part cell s n = let below = me_below part s in let mine = n.mine in let next = n.next in in_lane part cell n.other (omega arith) (omega arith)
+
+pub either_in : (part : Part) (cell : CellId) → IsShown part → IsNextToSend part cell ⊎ IsNextToTake part cell → IsInLane part cell
+either_in part cell s (inl n) = sends_in part cell s n
+either_in part cell s (inr n) = takes_in part cell s n
+
+-- ---- steps
+
+-- what a step requires
+abbrev pub Asks : Extent × ℕ → TableId → TableId → ℕ → Me (Unit {0}) View → ℕ → (ℕ → ℕ) → (ℕ → Me (Unit {0}) View → Type 0) → Type 0
+Asks key table seat id knows place f told = (seat ≡ table) × (place < table.words) × Allows (IsKept (size_of key.0 key.1)) table.slots id knows place f told
+
+-- the nodes of the key are those of the part
+pub key_nodes : (key : Extent × ℕ) (table seat : TableId) (knows : Me (Unit {0}) View) → IsSeated key table seat knows → nodes_in (part_of knows.0) ≡ key.0.nodes
+key_nodes key table seat knows s = ap (λ z. z.nodes) s.sized
+
+pub place_in_table : (key : Extent × ℕ) (table seat : TableId) (knows : Me (Unit {0}) View) → IsSeated key table seat knows → (lane turn index place : ℕ) → lane < lane_count (nodes_in (part_of knows.0)) → index < 11 → place ≡ cell_place lane turn + index → place < table.words
+place_in_table key table seat knows s lane turn index place lt few is =
+    let within = place_within (nodes_in (part_of knows.0)) lane turn index lt few in
+    let long : table.words ≡ word_count (nodes_in (part_of knows.0)) = s.long ∙ ap word_count (sym (key_nodes key table seat knows s)) in
+    subst (λ (n : ℕ). place < n) (sym long) (subst (λ (p : ℕ). p < word_count (nodes_in (part_of knows.0))) (sym is) within)
+
+pub look_asks : (key : Extent × ℕ) (table seat : TableId) (id : ℕ) (knows : Me (Unit {0}) View) (cell : CellId) (nodes place : ℕ) → IsSeated key table seat knows → nodes ≡ nodes_in (part_of knows.0)
+    → IsNextToSend (part_of knows.0) cell ⊎ IsNextToTake (part_of knows.0) cell → place ≡ cell_place (lane_number nodes cell) cell.number + 0
+    → Asks key table seat id knows place (λ n. n) (Looks (step table.slots place 0 0 none) knows)
+look_asks key table seat id knows cell nodes place s nodes_are next is =
+    let part = part_of knows.0 in
+    let at = either_in part cell s.shown next in
+    let lane = lane_at_cell part cell in
+    let place_is : place ≡ cell_place lane cell.number + 0 = is ∙ ap (λ (n : ℕ). cell_place (lane_number n cell) cell.number + 0) nodes_are in
+    let lane_ok : lane < lane_count key.0.nodes = subst (λ (n : ℕ). lane < lane_count n) (key_nodes key table seat knows s) at.lane in (
+      s.same,
+      place_in_table key table seat knows s lane cell.number 0 place at.lane (omega arith) place_is,
+      subst (λ (k : Me (Unit {0}) View). Allows (IsKept (size_of key.0 key.1)) table.slots id k place (λ n. n) (Looks (step table.slots place 0 0 none) k)) (sym s.seated)
+        (subst (λ (p : ℕ). Allows (IsKept (size_of key.0 key.1)) table.slots id (single part, []) p (λ n. n) (Looks (step table.slots p 0 0 none) (single part, []))) (sym place_is)
+          (looks (size_of key.0 key.1) table.slots id lane cell.number part lane_ok at.number)),
+    )
+
+-- after a step the seat has the next part
+pub seated_after : (key : Extent × ℕ) (table seat later : TableId) (knows after : Me (Unit {0}) View) (next : Part) → IsSeated key table seat knows → later ≡ seat → Tells (part_of knows.0) next after → IsSeated key table later after
+seated_after key table seat later knows after next s same t =
+    let next_is : part_of after.0 ≡ next = ap (λ (k : Me (Unit {0}) View). part_of k.0) t.view in
+    record {
+      same = same ∙ s.same;
+      long = s.long;
+      seated = t.view ∙ ap (λ (p : Part). (single p, [])) (sym next_is);
+      shown = subst IsShown (sym next_is) t.shown;
+      sized = ap size_in next_is ∙ (t.sized ∙ s.sized);
+    }
+
+pub part_after : (part next : Part) (after : Me (Unit {0}) View) → Tells part next after → part_of after.0 ≡ next
+part_after part next after t = ap (λ (k : Me (Unit {0}) View). part_of k.0) t.view
+
+-- what a look told
+pub look_told : (knows after : Me (Unit {0}) View) (cell : CellId) (nodes place word slots : ℕ) → IsNextToSend (part_of knows.0) cell ⊎ IsNextToTake (part_of knows.0) cell → IsShown (part_of knows.0) → nodes ≡ nodes_in (part_of knows.0)
+    → place ≡ cell_place (lane_number nodes cell) cell.number + 0 → Looks (step slots place 0 0 none) knows word after → LooksAt (lane_at_cell (part_of knows.0) cell) cell.number word (part_of knows.0) after
+look_told knows after cell nodes place word slots next s nodes_are is told =
+    let part = part_of knows.0 in
+    let at = either_in part cell s next in
+    let place_is : place ≡ cell_place (lane_at_cell part cell) cell.number + 0 = is ∙ ap (λ (n : ℕ). cell_place (lane_number n cell) cell.number + 0) nodes_are in
+    let number_is : number_in place ≡ cell.number = (let few = at.number in let e = ap number_in place_is ∙ number_found (lane_at_cell part cell) cell.number 0 (omega arith) in omega arith) in
+    subst (λ (l : ℕ). LooksAt l cell.number word part after) (ap lane_in place_is ∙ lane_found (lane_at_cell part cell) cell.number 0 (omega arith))
+      (subst (λ (n : ℕ). LooksAt (lane_in place) n word part after) number_is told)
+
+-- the sender's cell is the one that is next
+pub is_sending_here : (part : Part) (cell : CellId) → IsShown part → IsNextToSend part cell → is_sending part (lane_at_cell part cell) cell.number ≡ true
+is_sending_here part cell s n =
+    let at = sends_in part cell s n in
+    and_from _ _ (eq-eqb (sender_of (nodes_in part) (lane_at_cell part cell)) (me_of part) (at.sender ∙ n.mine)) (eq-eqb cell.number ((outbound_at part (lane_at_cell part cell)).sent % 4) n.next)
+
+-- what contracts see of a seat after a step
+pub view_after : (seat later : TableId) (knows after : Me (Unit {0}) View) (now : EndOf) (next : Part) → record { table = seat; part = part_of knows.0 } ≡ now → later ≡ seat → Tells now.part next after
+    → record { table = later; part = part_of after.0 } ≡ with_part now next
+view_after seat later knows after now next view same t =
+    ends later now.table (part_of after.0) next (same ∙ ap (λ (e : EndOf). e.table) view) (part_after now.part next after t)
+  where
+    ends : (a b : TableId) (p q : Part) → a ≡ b → p ≡ q → record { table = a; part = p } ≡ with_part (record { table = b; part = q }) q
+    ends a b p q s t = λ i. record { table = s i; part = t i }
+
+-- ---- the other steps
+
+-- a place in the cell, of the part's lane
+place_now : (part : Part) (cell : CellId) (nodes place index : ℕ) → nodes ≡ nodes_in part → place ≡ cell_place (lane_number nodes cell) cell.number + index → place ≡ cell_place (lane_at_cell part cell) cell.number + index
+place_now part cell nodes place index nodes_are is = is ∙ ap (λ (n : ℕ). cell_place (lane_number n cell) cell.number + index) nodes_are
+
+-- a step of a seat with one node is one of the seat
+allowed_seated : (key : Extent × ℕ) (slots id place at : ℕ) (knows : Me (Unit {0}) View) (part : Part) (f : ℕ → ℕ) (told : ℕ → Me (Unit {0}) View → ℕ → Me (Unit {0}) View → Type 0)
+    → knows ≡ (single part, []) → place ≡ at → Allows (IsKept (size_of key.0 key.1)) slots id (single part, []) at f (told at (single part, [])) → Allows (IsKept (size_of key.0 key.1)) slots id knows place f (told place knows)
+allowed_seated key slots id place at knows part f told seated is allowed =
+    subst (λ (k : Me (Unit {0}) View). Allows (IsKept (size_of key.0 key.1)) slots id k place f (told place k)) (sym seated)
+      (subst (λ (p : ℕ). Allows (IsKept (size_of key.0 key.1)) slots id (single part, []) p f (told p (single part, []))) (sym is) allowed)
+
+module _ (key : Extent × ℕ) (table seat : TableId) (id : ℕ) (knows : Me (Unit {0}) View) (cell : CellId) (nodes place : ℕ) (s : IsSeated key table seat knows) (now : EndOf) (view : record { table = seat; part = part_of knows.0 } ≡ now)
+    (nodes_are : nodes ≡ nodes_in now.part) where
+  part_is : part_of knows.0 ≡ now.part
+  part_is = ap (λ (e : EndOf). e.part) view
+
+  nodes_here : nodes ≡ nodes_in (part_of knows.0)
+  nodes_here = nodes_are ∙ ap nodes_in (sym part_is)
+
+  pub fill_asks : (index word : ℕ) → MayFill now.part cell index → place ≡ cell_place (lane_number nodes cell) cell.number + index → Asks key table seat id knows place (λ n. word) (λ n. Fills (step table.slots place word 0 none) knows word)
+  fill_asks index word may is =
+      let part = part_of knows.0 in
+      let m = subst (λ (p : Part). MayFill p cell index) (sym part_is) may in
+      let at = sends_in part cell s.shown m.next in
+      let lane = lane_at_cell part cell in
+      let place_is = place_now part cell nodes place index nodes_here is in
+      let size_nodes = key_nodes key table seat knows s in (
+        s.same,
+        place_in_table key table seat knows s lane cell.number index place at.lane m.within place_is,
+        allowed_seated key table.slots id place (cell_place lane cell.number + index) knows part (λ n. word) (λ p k n. Fills (step table.slots p word 0 none) k word) s.seated place_is
+          (fills (size_of key.0 key.1) table.slots id lane cell.number index word part
+            (record {
+              lane_ok = subst (λ (n : ℕ). lane < lane_count n) size_nodes at.lane;
+              sender = subst (λ (n : ℕ). sender_of n lane ≡ me_of part) size_nodes (at.sender ∙ m.next.mine);
+              next = m.next.next;
+              vacant = m.vacant;
+              further = m.further;
+              within = m.within;
+              order = m.order;
+            })),
+      )
+
+  pub read_asks : (index : ℕ) → MayRead now.part cell index → place ≡ cell_place (lane_number nodes cell) cell.number + index → Asks key table seat id knows place (λ n. n) (Reads (step table.slots place 0 0 none) knows)
+  read_asks index may is =
+      let part = part_of knows.0 in
+      let m = subst (λ (p : Part). MayRead p cell index) (sym part_is) may in
+      let at = takes_in part cell s.shown m.next in
+      let lane = lane_at_cell part cell in
+      let place_is = place_now part cell nodes place index nodes_here is in
+      let size_nodes = key_nodes key table seat knows s in (
+        s.same,
+        place_in_table key table seat knows s lane cell.number index place at.lane m.within place_is,
+        allowed_seated key table.slots id place (cell_place lane cell.number + index) knows part (λ n. n) (λ p k. Reads (step table.slots p 0 0 none) k) s.seated place_is
+          (reads (size_of key.0 key.1) table.slots id lane cell.number index part
+            (record {
+              lane_ok = subst (λ (n : ℕ). lane < lane_count n) size_nodes at.lane;
+              receiver = subst (λ (n : ℕ). receiver_of n lane ≡ me_of part) size_nodes (at.receiver ∙ m.next.mine);
+              next = m.next.next;
+              further = m.further;
+              within = m.within;
+              order = m.order;
+            })),
+      )
+
+  pub publish_asks : (first : ℕ) (next : NodeOf) → IsNextToSend now.part cell → IsSending now.part (lane_at_cell now.part cell) first next → place ≡ cell_place (lane_number nodes cell) cell.number + 0
+    → Asks key table seat id knows place (λ n. first) (λ n. Publishes next (step table.slots place first 0 none) knows first)
+  publish_asks first next to_send may is =
+      let part = part_of knows.0 in
+      let m = subst (λ (p : Part). IsSending p (lane_at_cell p cell) first next) (sym part_is) may in
+      let to_send' = subst (λ (p : Part). IsNextToSend p cell) (sym part_is) to_send in
+      let at = sends_in part cell s.shown to_send' in
+      let lane = lane_at_cell part cell in
+      let place_is = place_now part cell nodes place 0 nodes_here is in (
+        s.same,
+        place_in_table key table seat knows s lane cell.number 0 place at.lane (omega arith) place_is,
+        allowed_seated key table.slots id place (cell_place lane cell.number + 0) knows part (λ n. first) (λ p k n. Publishes next (step table.slots p first 0 none) k first) s.seated place_is
+          (publishes (size_of key.0 key.1) table.slots id lane cell.number first part next to_send'.next m),
+      )
+
+  pub free_asks : (next : NodeOf) → IsNextToTake now.part cell → IsTaking now.part (lane_at_cell now.part cell) next → place ≡ cell_place (lane_number nodes cell) cell.number + 0
+    → Asks key table seat id knows place (λ n. 0) (λ n. Frees next (step table.slots place 0 0 none) knows 0)
+  free_asks next to_take may is =
+      let part = part_of knows.0 in
+      let m = subst (λ (p : Part). IsTaking p (lane_at_cell p cell) next) (sym part_is) may in
+      let to_take' = subst (λ (p : Part). IsNextToTake p cell) (sym part_is) to_take in
+      let at = takes_in part cell s.shown to_take' in
+      let lane = lane_at_cell part cell in
+      let place_is = place_now part cell nodes place 0 nodes_here is in (
+        s.same,
+        place_in_table key table seat knows s lane cell.number 0 place at.lane (omega arith) place_is,
+        allowed_seated key table.slots id place (cell_place lane cell.number + 0) knows part (λ n. 0) (λ p k n. Frees next (step table.slots p 0 0 none) k 0) s.seated place_is
+          (frees (size_of key.0 key.1) table.slots id lane cell.number part next to_take'.next m),
+      )
+
+  -- ---- what they tell
+
+  lane_told : (index : ℕ) → index < 11 → place ≡ cell_place (lane_number nodes cell) cell.number + index → lane_in place ≡ lane_at_cell now.part cell
+  lane_told index few is = ap lane_in (place_now now.part cell nodes place index nodes_are is) ∙ lane_found (lane_at_cell now.part cell) cell.number index few
+
+  index_told : (index : ℕ) → index < 11 → place ≡ cell_place (lane_number nodes cell) cell.number + index → index_in place ≡ index
+  index_told index few is = ap index_in (place_now now.part cell nodes place index nodes_are is) ∙ index_found (lane_at_cell now.part cell) cell.number index few
+
+  -- by a step on a word of the cell that leaves a part as f says, which looks at the lane and the word's number
+  pub told_after : (later : TableId) (after : Me (Unit {0}) View) (index : ℕ) (f : ℕ → ℕ → Part → Part) → index < 11 → place ≡ cell_place (lane_number nodes cell) cell.number + index → later ≡ seat
+    → Tells (part_of knows.0) (f (lane_in place) (index_in place) (part_of knows.0)) after → record { table = later; part = part_of after.0 } ≡ with_part now (f (lane_at_cell now.part cell) index now.part)
+  told_after later after index f few is same t =
+      view_after seat later knows after now (f (lane_at_cell now.part cell) index now.part) view same
+        (subst (λ (p : Part). Tells p (f (lane_at_cell now.part cell) index p) after) part_is
+          (subst (λ (l : ℕ). Tells (part_of knows.0) (f l index (part_of knows.0)) after) (lane_told index few is)
+            (subst (λ (i : ℕ). Tells (part_of knows.0) (f (lane_in place) i (part_of knows.0)) after) (index_told index few is) t)))
+
+pub beat_asks : (key : Extent × ℕ) (table seat : TableId) (id : ℕ) (knows : Me (Unit {0}) View) (me nodes place : ℕ) (next : NodeOf) → IsSeated key table seat knows → (now : EndOf) → record { table = seat; part = part_of knows.0 } ≡ now
+    → me ≡ me_of now.part → nodes ≡ nodes_in now.part → IsBeating now.part next → place ≡ own_place nodes me
+    → Asks key table seat id knows place (λ n. (n + 1) % 2 ^ 64) (Beats next (step table.slots place 1 0 none) knows)
+beat_asks key table seat id knows me nodes place next s now view me_is nodes_are may is =
+    let part = part_of knows.0 in
+    let part_is : part ≡ now.part = ap (λ (e : EndOf). e.part) view in
+    let size_nodes = key_nodes key table seat knows s in
+    let at : place ≡ own_place key.0.nodes (me_of part) = is ∙ (ap (λ (m : ℕ). own_place nodes m) (me_is ∙ ap me_of (sym part_is)) ∙ ap (λ (n : ℕ). own_place n (me_of part)) (nodes_are ∙ (ap nodes_in (sym part_is) ∙ size_nodes))) in
+    let below : me_of part < key.0.nodes = subst (λ (n : ℕ). me_of part < n) size_nodes (me_below part s.shown) in
+    let long = s.long in (
+      s.same,
+      omega arith,
+      allowed_seated key table.slots id place (own_place key.0.nodes (me_of part)) knows part (λ n. (n + 1) % 2 ^ 64) (λ p k. Beats next (step table.slots p 1 0 none) k) s.seated at
+        (beats (size_of key.0 key.1) table.slots id part next (subst (λ (p : Part). IsBeating p next) (sym part_is) may)),
+    )

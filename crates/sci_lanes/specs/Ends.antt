@@ -1,0 +1,119 @@
+-- An end of the lanes, as its owner sees it, and what each of its calls needs.
+use Rattle.std.specs.Prelude.{◌≡◌, ℕ, ◌+◌, ◌*◌, ◌/◌, ◌%◌, ◌<◌, ◌≤◌, true, List, [], length, slice_index, slice_index_or, Option, None, IsSome}
+use Rattle.atomic_table.specs.Table.{Me}
+use Rattle.atomic_table.specs.Seated.{TableId}
+use Rattle.sci_words.specs.declared.extent.Extent.{Extent}
+use Rattle.sci_words.specs.declared.event.Event.{Event}
+use Rattle.sci_words.specs.declared.event.Event.TheVariants.{Serve, Refuse, Accept}
+use Rattle.sci_packets.specs.declared.packet.Packet.{Packet}
+use Rattle.sci_packets.specs.Spelling.{SpellsInWords}
+use Rattle.sci_cache.specs.Cache.{Letter, letter_of}
+use Rattle.sci_core.specs.Size.{Size, size_of}
+use Rattle.sci_core.specs.Node.{NodeOf, IsForNode, IsServable}
+use Rattle.sci_core.specs.Core.{Side, Idle, Changes, Sends, Takes, side, node_of}
+use Rattle.sci_lanes.specs.declared.cell.CellId.{CellId}
+use Rattle.sci_lanes.specs.declared.cell.TheConstants.{CELL_WORDS}
+use Rattle.sci_lanes.specs.declared.end.Inbox.{Inbox}
+use Rattle.sci_lanes.specs.declared.view.Part.{Part}
+use Rattle.sci_lanes.specs.declared.view.View.{View}
+use Rattle.sci_lanes.specs.Cells.{lane_count, receiver_of, lane_number, word_count}
+use Rattle.sci_lanes.specs.Shown.{outbound_at, inbound_at, me_of, single}
+use Rattle.sci_lanes.specs.Telling.{part_of, size_in, IsShown, IsSending, IsTaking, IsBeating}
+
+-- which table it is of, and what it knows
+pub record EndOf : Type 0 where
+  pub table : TableId
+  pub part : Part
+
+abbrev pub with_part : EndOf → Part → EndOf
+with_part end part = record { table = end.table; part = part }
+
+-- how many nodes there are
+abbrev pub nodes_in : Part → ℕ
+nodes_in part = part.node.cache.nodes
+
+-- the number of the lane of a cell
+abbrev pub lane_at_cell : Part → CellId → ℕ
+lane_at_cell part cell = lane_number (nodes_in part) cell
+
+-- the cell into which the part's node sends next in its lane
+pub record IsNextToSend (part : Part) (cell : CellId) : Type 0 where
+  pub mine : cell.sender ≡ me_of part
+  pub other : cell.receiver < nodes_in part
+  pub next : cell.number ≡ (outbound_at part (lane_at_cell part cell)).sent % 4
+
+-- the cell from which it takes next
+pub record IsNextToTake (part : Part) (cell : CellId) : Type 0 where
+  pub mine : cell.receiver ≡ me_of part
+  pub other : cell.sender < nodes_in part
+  pub next : cell.number ≡ (inbound_at part (lane_at_cell part cell)).taken % 4
+
+-- ---- what is known where a step is made
+
+-- a further word of the next cell may be filled: it is empty, and the words before this one are filled
+pub record MayFill (part : Part) (cell : CellId) (index : ℕ) : Type 0 where
+  pub next : IsNextToSend part cell
+  pub vacant : (outbound_at part (lane_at_cell part cell)).vacant ≡ true
+  pub further : 0 < index
+  pub within : index < CELL_WORDS
+  pub order : index ≤ length (outbound_at part (lane_at_cell part cell)).filled + 1
+
+-- a further word of the next cell may be read: the words before this one are found
+pub record MayRead (part : Part) (cell : CellId) (index : ℕ) : Type 0 where
+  pub next : IsNextToTake part cell
+  pub further : 0 < index
+  pub within : index < CELL_WORDS
+  pub order : index ≤ length (inbound_at part (lane_at_cell part cell)).found
+
+-- ---- nodes after events
+
+-- the node after an event that takes no packet
+abbrev pub node_after : NodeOf → Side → NodeOf
+node_after node (Changes next) = next
+node_after node (Sends kind next letter) = next
+node_after node _ = node
+
+-- what becomes of a node that takes a packet
+abbrev pub node_taking : Side → Letter → Option NodeOf
+node_taking (Takes kind from taking) letter = taking letter
+node_taking _ letter = None
+
+-- a packet that the event may take at a node
+abbrev pub IsTakable : Event → NodeOf → Letter → Type 0
+IsTakable (Serve from n) node letter = IsServable node letter
+IsTakable (Refuse from n) node letter = IsServable node letter
+IsTakable (Accept from n) node letter = IsForNode node letter
+IsTakable _ node letter = Unit {0}
+
+-- ---- inside
+
+-- A seat that has one node: its table's key and name, the table that the seat is of, and what it knows and holds.
+pub record IsSeated (key : Extent × ℕ) (table seat : TableId) (knows : Me (Unit {0}) View) : Type 0 where
+  pub same : seat ≡ table
+  pub long : table.words ≡ word_count key.0.nodes
+  pub seated : knows ≡ (single (part_of knows.0), [])
+  pub shown : IsShown (part_of knows.0)
+  pub sized : size_in (part_of knows.0) ≡ size_of key.0 key.1
+
+-- the words that are kept of a cell begin with those found
+pub record HasFound (words found : List ℕ) : Type 0 where
+  pub eleven : length words ≡ 11
+  pub begins : (k : ℕ) → k < length found → slice_index words k ≡ slice_index found k
+
+abbrev pub no_inbox : Inbox
+no_inbox = record { turn = 0; words = [] }
+
+-- How the fields of an end fit together: what it knows, its node, its number, how many nodes there are, for each lane the
+-- next cell to send into, and what it keeps of each lane to it.
+pub record FitsInside (part : Part) (node : NodeOf) (me nodes : ℕ) (turns : List ℕ) (inboxes : List Inbox) : Type 0 where
+  pub node_is : node ≡ part.node
+  pub me_is : me ≡ me_of part
+  pub nodes_is : nodes ≡ nodes_in part
+  pub some_node : me < nodes
+  pub outbound_long : length part.outbound ≡ lane_count nodes
+  pub inbound_long : length part.inbound ≡ lane_count nodes
+  pub turns_long : length turns ≡ lane_count nodes
+  pub inboxes_long : length inboxes ≡ 2 * nodes
+  pub turns_are : (lane : ℕ) → lane < lane_count nodes → slice_index turns lane ≡ (outbound_at part lane).sent % 4
+  pub taken_are : (lane : ℕ) → lane < lane_count nodes → receiver_of nodes lane ≡ me → (slice_index_or inboxes (lane / nodes) no_inbox).turn ≡ (inbound_at part lane).taken % 4
+  pub found_are : (lane : ℕ) → lane < lane_count nodes → receiver_of nodes lane ≡ me → HasFound (slice_index_or inboxes (lane / nodes) no_inbox).words (inbound_at part lane).found

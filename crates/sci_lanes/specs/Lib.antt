@@ -1,0 +1,6 @@
+pub mod Cells
+pub mod Shown
+pub mod Knowing
+pub mod Telling
+pub mod Plays
+pub mod Ends

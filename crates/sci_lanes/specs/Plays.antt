@@ -1,0 +1,41 @@
+-- What each kind of step on a word tells its seat, which has one part. A word's place tells its lane, its cell and its
+-- number in the cell.
+use Rattle.std.specs.Prelude.{◌≡◌, ◌≢◌, ℕ, ◌/◌, ◌%◌, true}
+use Rattle.atomic_table.specs.Table.{Me, Step}
+use Rattle.sci_core.specs.Node.{NodeOf}
+use Rattle.sci_lanes.specs.declared.view.Part.{Part}
+use Rattle.sci_lanes.specs.declared.view.View.{View}
+use Rattle.sci_lanes.specs.Knowing.{is_sending, looked, filled, read, published, freed, with_node_known}
+use Rattle.sci_lanes.specs.Telling.{part_of, Tells, IsFull}
+
+abbrev pub lane_in : ℕ → ℕ
+lane_in place = place / 44
+
+abbrev pub number_in : ℕ → ℕ
+number_in place = place / 11 % 4
+
+abbrev pub index_in : ℕ → ℕ
+index_in place = place % 11
+
+-- a look; a sender that finds its next cell full has four packets in the lane
+pub record LooksAt (lane number word : ℕ) (part : Part) (seat : Me (Unit {0}) View) : Type 0 where
+  pub tells : Tells part (looked lane number word part) seat
+  pub full : is_sending part lane number ≡ true → word ≢ 0 → IsFull part lane
+
+abbrev pub Looks : Step (Unit {0}) → Me (Unit {0}) View → ℕ → Me (Unit {0}) View → Type 0
+Looks s before word after = LooksAt (lane_in s.word) (number_in s.word) word (part_of before.0) after
+
+abbrev pub Fills : Step (Unit {0}) → Me (Unit {0}) View → ℕ → Me (Unit {0}) View → Type 0
+Fills s before word after = Tells (part_of before.0) (filled (lane_in s.word) (index_in s.word) s.first (part_of before.0)) after
+
+abbrev pub Reads : Step (Unit {0}) → Me (Unit {0}) View → ℕ → Me (Unit {0}) View → Type 0
+Reads s before word after = Tells (part_of before.0) (read (lane_in s.word) (index_in s.word) word (part_of before.0)) after
+
+abbrev pub Publishes : NodeOf → Step (Unit {0}) → Me (Unit {0}) View → ℕ → Me (Unit {0}) View → Type 0
+Publishes next s before word after = Tells (part_of before.0) (published (lane_in s.word) next (part_of before.0)) after
+
+abbrev pub Frees : NodeOf → Step (Unit {0}) → Me (Unit {0}) View → ℕ → Me (Unit {0}) View → Type 0
+Frees next s before word after = Tells (part_of before.0) (freed (lane_in s.word) next (part_of before.0)) after
+
+abbrev pub Beats : NodeOf → Step (Unit {0}) → Me (Unit {0}) View → ℕ → Me (Unit {0}) View → Type 0
+Beats next s before word after = Tells (part_of before.0) (with_node_known next (part_of before.0)) after

@@ -1,0 +1,56 @@
+//! The cells of the table.
+
+ghost use Rattle.std.specs.Prelude.{◌≡◌, ◌+◌, ◌<◌, ◌≤◌};
+ghost use Rattle.sci_lanes.specs.Cells.{cell_place, lane_number, own_place};
+ghost use Rattle.sci_lanes.specs.declared.cell.TheConstants.{CELL_WORDS};
+
+use sci_core::LaneKind;
+use sci_words::LANE_CELLS;
+
+/// The words of a cell: a packet has at most eleven.
+pub(crate) const CELL_WORDS: usize = 11;
+
+/// A cell: one of the four in the lane of a kind from one node to another.
+#[derive(Clone, Copy, Debug, PartialEq, Eq)]
+pub struct CellId {
+    pub kind: LaneKind,
+    /// The node that sends.
+    pub sender: u8,
+    /// The node that receives.
+    pub receiver: u8,
+    /// The number of the cell in its lane, 0 to 3.
+    pub number: u8,
+}
+
+impl CellId {
+    /// The number of the cell's lane among all those of a machine of so many nodes: the lanes of requests stand before
+    /// those of answers, for each sender in order those to each receiver in order.
+    pub(crate) fn lane(&self, nodes: u8) -> usize
+        ensures { result ≡ lane_number nodes self.now }
+    {
+        let kind = match self.kind {
+            LaneKind::Requests => 0,
+            LaneKind::Answers => 1,
+        };
+        let nodes = usize::from(nodes);
+        (kind * nodes + usize::from(self.sender)) * nodes + usize::from(self.receiver)
+    }
+
+    /// Where a word of the cell stands in the table of a machine of so many nodes.
+    #[tactic(auto, unfolding(crate::specs::Cells::cell_place))]
+    pub(crate) fn place(&self, nodes: u8, index: usize) -> usize
+        requires { index < CELL_WORDS }
+        ensures { result ≡ cell_place (lane_number nodes self.now) self.now.number + index }
+    {
+        let cells = usize::from(LANE_CELLS);
+        (self.lane(nodes) * cells + usize::from(self.number) % cells) * CELL_WORDS + index
+    }
+}
+
+/// Where the own word of a node stands in the table of a machine of so many nodes.
+pub(crate) fn own_word(nodes: u8, node: u8) -> usize
+    ensures { result ≡ own_place nodes node }
+{
+    let pairs = usize::from(nodes) * usize::from(nodes);
+    2 * pairs * usize::from(LANE_CELLS) * CELL_WORDS + usize::from(node)
+}

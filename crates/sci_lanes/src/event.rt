@@ -1,0 +1,52 @@
+//! A node's side of an event, made at the node.
+
+ghost use Rattle.std.specs.Prelude.{◌≡◌, Some, IsSome};
+ghost use Rattle.sci_cache.specs.Cache.{letter_of};
+ghost use Rattle.sci_core.specs.Core.{side};
+ghost use Rattle.sci_lanes.specs.Ends.{node_after, node_taking, IsTakable};
+
+use sci_core::Node;
+use sci_packets::Packet;
+use sci_words::Event;
+
+/// Makes the node's side of an event that takes no packet. An event that takes one changes nothing here, nor does one
+/// that is not enabled.
+pub(crate) fn make_alone(node: &mut Node, event: &Event)
+    ensures { node.new ≡ node_after node.old (side node.old event.now) }
+{
+    match event {
+        Event::Issue { op, .. } => {
+            node.issue(*op);
+        }
+        Event::Perform { line, .. } => {
+            node.perform(*line);
+        }
+        Event::Ask { line, kind, .. } => {
+            node.ask(*line, *kind);
+        }
+        Event::Reply { .. } => {
+            node.take_answer();
+        }
+        Event::Serve { .. } | Event::Refuse { .. } | Event::Accept { .. } => {}
+    }
+}
+
+/// Makes the node's side of an event that takes this packet. The caller sees to it that the node takes it by this event.
+pub(crate) fn make_taking(node: &mut Node, event: &Event, packet: &Packet)
+    requires takable { IsTakable event.now node.old (letter_of packet.now) }
+    requires takes { IsSome (node_taking (side node.old event.now) (letter_of packet.now)) }
+    ensures { node_taking (side node.old event.now) (letter_of packet.now) ≡ Some node.new }
+{
+    match event {
+        Event::Serve { .. } => {
+            node.serve(packet);
+        }
+        Event::Refuse { .. } => {
+            node.refuse(packet);
+        }
+        Event::Accept { .. } => {
+            node.accept(packet);
+        }
+        Event::Issue { .. } | Event::Perform { .. } | Event::Ask { .. } | Event::Reply { .. } => {}
+    }
+}

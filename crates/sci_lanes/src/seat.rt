@@ -1,0 +1,112 @@
+//! A seat at the table that has one node.
+
+use crate::cell::{CellId, own_word};
+use crate::rule::{Beat, Becomes, Fill, Free, LaneTable, Look, Publish, Read};
+use crate::view::View;
+use atomic_table::Seat;
+use std::marker::Model;
+use std::sync::Arc;
+
+/// A seat that has one node, with the table. Contracts see the table's name and what the seat knows.
+#[derive(Drop)]
+pub(crate) struct NodeSeat {
+    table: Arc<LaneTable>,
+    seat: Seat<(), View>,
+}
+
+impl Model for NodeSeat {
+    ghost use Rattle.std.specs.Arc.{arc_value};
+    ghost use Rattle.sci_lanes.specs.Ends.{EndOf, IsSeated};
+    ghost use Rattle.sci_lanes.specs.Telling.{part_of};
+
+    ghost Value = { EndOf };
+
+    ghost view = { λ s. record { table = s.seat.table_id; part = part_of s.seat.me.0 } };
+
+    ghost invariant = { λ s. IsSeated (arc_value s.table).shared.key (arc_value s.table).shared.table_id s.seat.table_id s.seat.me };
+}
+
+impl NodeSeat {
+    ghost use Rattle.std.specs.Prelude.{◌≡◌, ◌≢◌, ◌⊎◌};
+    ghost use Rattle.sci_lanes.specs.Shown.{me_of};
+    ghost use Rattle.sci_lanes.specs.Knowing.{filled, freed, looked, published, read, with_node_known};
+    ghost use Rattle.sci_lanes.specs.Telling.{IsBeating, IsFull, IsSending, IsShown, IsTaking};
+    ghost use Rattle.sci_lanes.specs.Ends.{IsNextToSend, IsNextToTake, MayFill, MayRead, lane_at_cell, nodes_in, with_part};
+
+    /// Looks at the first word of a cell, the next to send into or to take from.
+    pub(crate) fn look(&mut self, cell: &CellId, nodes: u8) -> u64
+        requires nodes { nodes ≡ nodes_in self.old.part }
+        requires next { IsNextToSend self.old.part cell.now ⊎ IsNextToTake self.old.part cell.now }
+        ensures part { self.new ≡ with_part self.old (looked (lane_at_cell self.old.part cell.now) cell.now.number result self.old.part) }
+        ensures shown { IsShown self.new.part }
+        ensures full { IsNextToSend self.old.part cell.now → result ≢ 0 → IsFull self.old.part (lane_at_cell self.old.part cell.now) }
+    {
+        let place = cell.place(nodes, 0);
+        let shared = &self.table.shared;
+        shared.load::<Look>(&mut self.seat, place)
+    }
+
+    /// Stores a further word of the next cell to send into.
+    pub(crate) fn fill(&mut self, cell: &CellId, nodes: u8, index: usize, word: u64)
+        requires nodes { nodes ≡ nodes_in self.old.part }
+        requires may { MayFill self.old.part cell.now index }
+        ensures part { self.new ≡ with_part self.old (filled (lane_at_cell self.old.part cell.now) index word self.old.part) }
+        ensures shown { IsShown self.new.part }
+    {
+        let place = cell.place(nodes, index);
+        let shared = &self.table.shared;
+        shared.store::<Fill>(&mut self.seat, place, word);
+    }
+
+    /// Loads a further word of the next cell to take from.
+    pub(crate) fn read(&mut self, cell: &CellId, nodes: u8, index: usize) -> u64
+        requires nodes { nodes ≡ nodes_in self.old.part }
+        requires may { MayRead self.old.part cell.now index }
+        ensures part { self.new ≡ with_part self.old (read (lane_at_cell self.old.part cell.now) index result self.old.part) }
+        ensures shown { IsShown self.new.part }
+    {
+        let place = cell.place(nodes, index);
+        let shared = &self.table.shared;
+        shared.load::<Read>(&mut self.seat, place)
+    }
+
+    /// Stores the first word of the next cell to send into: the packet is sent, and the node becomes what the type says.
+    pub(crate) fn publish<B: Becomes>(&mut self, cell: &CellId, nodes: u8, first: u64)
+        requires nodes { nodes ≡ nodes_in self.old.part }
+        requires next { IsNextToSend self.old.part cell.now }
+        requires sending { IsSending self.old.part (lane_at_cell self.old.part cell.now) first B.next }
+        ensures part { self.new ≡ with_part self.old (published (lane_at_cell self.old.part cell.now) B.next self.old.part) }
+        ensures shown { IsShown self.new.part }
+    {
+        let place = cell.place(nodes, 0);
+        let shared = &self.table.shared;
+        shared.store::<Publish<B>>(&mut self.seat, place, first);
+    }
+
+    /// Stores 0 to the first word of the next cell to take from: the packet is taken, and the node becomes what the type
+    /// says.
+    pub(crate) fn free<B: Becomes>(&mut self, cell: &CellId, nodes: u8)
+        requires nodes { nodes ≡ nodes_in self.old.part }
+        requires next { IsNextToTake self.old.part cell.now }
+        requires taking { IsTaking self.old.part (lane_at_cell self.old.part cell.now) B.next }
+        ensures part { self.new ≡ with_part self.old (freed (lane_at_cell self.old.part cell.now) B.next self.old.part) }
+        ensures shown { IsShown self.new.part }
+    {
+        let place = cell.place(nodes, 0);
+        let shared = &self.table.shared;
+        shared.store::<Free<B>>(&mut self.seat, place, 0);
+    }
+
+    /// Adds 1 to the own word of the node `me`, which is the seat's: the node becomes what the type says.
+    pub(crate) fn beat<B: Becomes>(&mut self, me: u8, nodes: u8)
+        requires me { me ≡ me_of self.old.part }
+        requires nodes { nodes ≡ nodes_in self.old.part }
+        requires beating { IsBeating self.old.part B.next }
+        ensures part { self.new ≡ with_part self.old (with_node_known B.next self.old.part) }
+        ensures shown { IsShown self.new.part }
+    {
+        let place = own_word(nodes, me);
+        let shared = &self.table.shared;
+        shared.fetch_add::<Beat<B>>(&mut self.seat, place, 1);
+    }
+}
