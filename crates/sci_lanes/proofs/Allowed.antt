@@ -18,7 +18,7 @@ use Rattle.sci_lanes.specs.declared.view.View.{View}
 use Rattle.sci_lanes.specs.Cells.{cell_place, lane_count, sender_of, receiver_of, word_at}
 use Rattle.sci_lanes.specs.Shown.{Fits, ShowsLane, Whole, nodes_of, me_of, single, outbound_at, inbound_at, IsKnown, Shows, IsKept}
 use Rattle.sci_lanes.specs.Knowing.{is_sending, is_receiving, looked_out, looked_in, looked, filled_out, filled, read_in, read, with_lane_known}
-use Rattle.sci_lanes.specs.Telling.{IsFull, IsShown, Tells, size_in}
+use Rattle.sci_lanes.specs.Telling.{IsFull, IsShown, IsSameNode, Tells, size_in}
 use Rattle.sci_lanes.specs.Plays.{lane_in, number_in, index_in, LooksAt, Looks, Fills, Reads}
 use Rattle.sci_lanes.proofs.Words.{same_cell, place_within}
 use Rattle.sci_lanes.proofs.LaneSteps.{out_looked, in_looked, out_filled, in_read, sender_finds_empty}
@@ -50,7 +50,7 @@ within (z ∷ xs) (suc k) a e = let later = within xs k a e in omega arith
 pub record Goes (size : Size) (s : State (Unit {0}) View) (id place value : ℕ) (part next : Part) : Type 0 where
   pub kept : IsKept size (record { words = set s.words place value; homes = s.homes; views = set s.views id (single next) })
   pub shown : IsShown next
-  pub sized : size_in next ≡ size_in part
+  pub same : IsSameNode part next
 
 -- the size of a part's node is the machine's
 pub size_known : (x : Whole) (seat : ℕ) (part : Part) (size : Size) → IsReached x.core → x.core.size ≡ size → IsKnown x seat part → size_in part ≡ size
@@ -59,14 +59,14 @@ size_known x seat part size reached sized k = let p = known_part x seat part rea
     sizes : (a b : Size) → a.nodes ≡ b.nodes → a.lines ≡ b.lines → a.slots ≡ b.slots → a.limit ≡ b.limit → a ≡ b
     sizes a b n l s m = λ i. record { nodes = n i; lines = l i; slots = s i; limit = m i }
 
-pub goes : (size : Size) (s : State (Unit {0}) View) (kept : IsKept size s) (id place value : ℕ) (part next : Part) (y : Whole) → IsReached y.core → y.core.size ≡ size → get_elem? s.views id ≡ some (single part)
+pub goes : (size : Size) (s : State (Unit {0}) View) (kept : IsKept size s) (id place value : ℕ) (part next : Part) (y : Whole) → IsReached y.core → y.core.size ≡ size → get_elem? s.views id ≡ some (single part) → me_of next ≡ me_of part
     → Shows y (set s.words place value) (set s.views id (single next)) → Goes size s id place value part next
-goes size s kept id place value part next y reached sized here shows =
+goes size s kept id place value part next y reached sized here same_me shows =
     let there = set_here s.views id (single next) (within s.views id (single part) here) in
     record {
       kept = record { whole = y; reached = reached; sized = sized; shown = shows };
       shown = shown y (set s.words place value) (set s.views id (single next)) id next reached shows there;
-      sized = size_known y id next size reached sized (shows.known id (single next) there).0 ∙ sym (size_known kept.whole id part size kept.reached kept.sized (kept.shown.known id (single part) here).0);
+      same = record { me = same_me; sized = size_known y id next size reached sized (shows.known id (single next) there).0 ∙ sym (size_known kept.whole id part size kept.reached kept.sized (kept.shown.known id (single part) here).0) };
     }
 
 -- what a step owes, and what it tells
@@ -128,7 +128,7 @@ looks size slots id lane number part lt few = allows size slots id place part (�
         looked lane number word part,
         went,
         rw (lane_found lane number 0 (omega arith), at_number) (record {
-          tells = record { view = refl; shown = went.shown; sized = went.sized };
+          tells = record { view = refl; shown = went.shown; same = went.same };
           full = λ sends some. record {
             core = x.core;
             reached = kept.reached;
@@ -196,7 +196,7 @@ looks size slots id lane number part lt few = allows size slots id place part (�
             (λ apart. if_false c _ (x.inbound lane) (and_left (eqb (receiver_of part.node.cache.nodes lane) (me_of part)) _ (ne_eqb (receiver_of part.node.cache.nodes lane) (me_of part) (λ e. apart (subst (λ (n : ℕ). receiver_of n lane ≡ me_of part) nodes e))))))
           shows_lane
         went : Goes size s id place word part (looked lane number word part)
-        went = goes size s kept id place word part (looked lane number word part) y kept.reached kept.sized here shows
+        went = goes size s kept id place word part (looked lane number word part) y kept.reached kept.sized here refl shows
         four : word ≡ word_at s.words lane (x.outbound lane).sent 0 → word ≢ 0 → length (lane_at x.core lane) ≡ 4
         four is some_word =
             let long = lane_length old in

@@ -49,7 +49,7 @@ fills size slots id lane number index word part may = allows size slots id place
     owes s kept here = (
         filled lane index word part,
         went,
-        rw (lane_found lane number index may.within, index_found lane number index may.within) (record { view = refl; shown = went.shown; sized = went.sized }),
+        rw (lane_found lane number index may.within, index_found lane number index may.within) (record { view = refl; shown = went.shown; same = went.same }),
       )
       where
         x : Whole
@@ -81,7 +81,7 @@ fills size slots id lane number index word part may = allows size slots id place
           (still x id part lane _ (filled_out index word o) _ (x.inbound lane) k lane_ok (λ is. ap (filled_out index word) out_is) (λ apart. absurd (apart sends)) (k.inbound lane lane_ok) (λ apart. refl))
           (record { packets = old.packets; letters = old.letters; fits = fits })
         went : Goes size s id place word part (filled lane index word part)
-        went = goes size s kept id place word part (filled lane index word part) y kept.reached kept.sized here
+        went = goes size s kept id place word part (filled lane index word part) y kept.reached kept.sized here refl
           (subst (λ (p : ℕ). Shows y (set s.words p word) (set s.views id (single (filled lane index word part)))) (sym turn) shows)
 
 pub reads : (size : Size) (slots id lane number index : ℕ) (part : Part) → MayRead size part lane number index
@@ -94,7 +94,7 @@ reads size slots id lane number index part may = allows size slots id place part
     owes s kept here = (
         read lane index word part,
         went,
-        rw (lane_found lane number index may.within, index_found lane number index may.within) (record { view = refl; shown = went.shown; sized = went.sized }),
+        rw (lane_found lane number index may.within, index_found lane number index may.within) (record { view = refl; shown = went.shown; same = went.same }),
       )
       where
         x : Whole
@@ -128,4 +128,4 @@ reads size slots id lane number index part may = allows size slots id place part
           (still x id part lane _ (x.outbound lane) _ (read_in index word i) k lane_ok (k.outbound lane lane_ok) (λ apart. refl) (λ is. ap (read_in index word) in_is) (λ apart. absurd (apart receives)))
           (record { packets = old.packets; letters = old.letters; fits = subst (λ (ws : List ℕ). Fits ws lane old.packets (x.outbound lane) (read_in index word i)) (sym (set-get_or s.words place 0)) fits })
         went : Goes size s id place word part (read lane index word part)
-        went = goes size s kept id place word part (read lane index word part) y kept.reached kept.sized here shows
+        went = goes size s kept id place word part (read lane index word part) y kept.reached kept.sized here refl shows

@@ -70,7 +70,7 @@ publishes size slots id lane number first part next number_is may = allows size 
     owes s kept here = (
         published lane next part,
         went,
-        rw (lane_found lane number 0 (omega arith)) (record { view = refl; shown = went.shown; sized = went.sized }),
+        rw (lane_found lane number 0 (omega arith)) (record { view = refl; shown = went.shown; same = went.same }),
       )
       where
         x : Whole
@@ -129,7 +129,7 @@ publishes size slots id lane number first part next number_is may = allows size 
           })
           (record { packets = old.packets ++ may.packet ∷ []; letters = map_push letter_of old.packets may.packet ∙ (ap (λ (ls : List Letter). ls ++ letter ∷ []) old.letters ∙ sym lane_now); fits = fits })
         went : Goes size s id place first part (published lane next part)
-        went = goes size s kept id place first part (published lane next part) y reached kept.sized here
+        went = goes size s kept id place first part (published lane next part) y reached kept.sized here (me_stays core me next reached k.some_node mine)
           (subst (λ (p : ℕ). Shows y (set s.words p first) (set s.views id (single (published lane next part)))) (sym turn) shows)
 
 -- ---- free
@@ -148,7 +148,7 @@ record IsOldest (words : List ℕ) (lane : ℕ) (letters : List Letter) (o : Out
   letters_are : letters ≡ letter_of p ∷ map letter_of packets
   fits : Fits words lane (p ∷ packets) o i
 
-words_some : (p : Packet) → 0 < length (words_of p)
+pub words_some : (p : Packet) → 0 < length (words_of p)
 unfolding words_of
 words_some p = omega arith
 
@@ -172,7 +172,7 @@ frees size slots id lane number part next number_is may = allows size slots id p
     owes s kept here = (
         freed lane next part,
         went,
-        rw (lane_found lane number 0 (omega arith)) (record { view = refl; shown = went.shown; sized = went.sized }),
+        rw (lane_found lane number 0 (omega arith)) (record { view = refl; shown = went.shown; same = went.same }),
       )
       where
         x : Whole
@@ -239,7 +239,7 @@ frees size slots id lane number part next number_is may = allows size slots id p
             fits = in_freed s.words lane may.packet old.packets (x.outbound lane) i (subst (λ (n : ℕ). cell_place lane i.taken + 0 < n) (sym kept.shown.long) (place_within (nodes_of x) lane i.taken 0 at.0 (omega arith))) old.fits;
           })
         went : Goes size s id place 0 part (freed lane next part)
-        went = goes size s kept id place 0 part (freed lane next part) y reached kept.sized here
+        went = goes size s kept id place 0 part (freed lane next part) y reached kept.sized here (me_stays core me next reached k.some_node mine)
           (subst (λ (p : ℕ). Shows y (set s.words p 0) (set s.views id (single (freed lane next part)))) (sym turn) shows)
 
 -- ---- beat
@@ -253,7 +253,7 @@ beats size slots id part next may = allows size slots id place part (λ n. (n + 
     place : ℕ
     place = own_place size.nodes me
     owes : Owes size id place part (λ n. (n + 1) % 2 ^ 64) (Beats next (step slots place 1 0 none) (single part, []))
-    owes s kept here = (with_node_known next part, went, record { view = refl; shown = went.shown; sized = went.sized })
+    owes s kept here = (with_node_known next part, went, record { view = refl; shown = went.shown; same = went.same })
       where
         x : Whole
         x = kept.whole
@@ -293,7 +293,7 @@ beats size slots id part next may = allows size slots id place part (λ n. (n + 
                 old.fits;
             }
         went : Goes size s id place value part (with_node_known next part)
-        went = goes size s kept id place value part (with_node_known next part) y reached kept.sized here
+        went = goes size s kept id place value part (with_node_known next part) y reached kept.sized here same_me
           (step_shows x y s.words s.views id place value part (with_node_known next part) kept.shown here
             (record {
               size = refl;

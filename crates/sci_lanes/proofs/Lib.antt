@@ -7,3 +7,5 @@ pub mod Allowed
 pub mod Ends
 pub mod Events
 pub mod Seats
+pub mod Inside
+pub mod Calls

@@ -15,7 +15,7 @@ use Rattle.sci_lanes.specs.declared.view.View.{View}
 use Rattle.sci_lanes.specs.Cells.{cell_place, own_place, lane_count, sender_of, receiver_of, lane_number, word_count}
 use Rattle.sci_lanes.specs.Shown.{me_of, single, outbound_at, inbound_at, IsKept}
 use Rattle.sci_lanes.specs.Knowing.{is_sending, looked}
-use Rattle.sci_lanes.specs.Telling.{part_of, size_in, IsFull, IsShown, IsSending, IsTaking, IsBeating, Tells}
+use Rattle.sci_lanes.specs.Telling.{part_of, size_in, IsFull, IsShown, IsSameNode, IsSending, IsTaking, IsBeating, Tells}
 use Rattle.sci_lanes.specs.Plays.{lane_in, number_in, index_in, LooksAt, Looks, Fills, Reads, Publishes, Frees, Beats}
 use Rattle.sci_lanes.specs.Ends.{EndOf, with_part, nodes_in, lane_at_cell, IsNextToSend, IsNextToTake, MayFill, MayRead, IsSeated}
 use Rattle.sci_lanes.proofs.Words.{place_within}
@@ -92,11 +92,16 @@ seated_after key table seat later knows after next s same t =
       long = s.long;
       seated = t.view ∙ ap (λ (p : Part). (single p, [])) (sym next_is);
       shown = subst IsShown (sym next_is) t.shown;
-      sized = ap size_in next_is ∙ (t.sized ∙ s.sized);
+      sized = ap size_in next_is ∙ (t.same.sized ∙ s.sized);
     }
 
 pub part_after : (part next : Part) (after : Me (Unit {0}) View) → Tells part next after → part_of after.0 ≡ next
 part_after part next after t = ap (λ (k : Me (Unit {0}) View). part_of k.0) t.view
+
+-- the part is still of the node
+pub same_after : (part old next : Part) (after : Me (Unit {0}) View) → part ≡ old → Tells part next after → IsSameNode old (part_of after.0)
+same_after part old next after is t =
+    subst (λ (p : Part). IsSameNode old p) (sym (part_after part next after t)) (subst (λ (p : Part). IsSameNode p next) is t.same)
 
 -- what a look told
 pub look_told : (knows after : Me (Unit {0}) View) (cell : CellId) (nodes place word slots : ℕ) → IsNextToSend (part_of knows.0) cell ⊎ IsNextToTake (part_of knows.0) cell → IsShown (part_of knows.0) → nodes ≡ nodes_in (part_of knows.0)

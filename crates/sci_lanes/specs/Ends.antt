@@ -1,5 +1,5 @@
 -- An end of the lanes, as its owner sees it, and what each of its calls needs.
-use Rattle.std.specs.Prelude.{◌≡◌, ℕ, ◌+◌, ◌*◌, ◌/◌, ◌%◌, ◌<◌, ◌≤◌, true, List, [], length, slice_index, slice_index_or, Option, None, IsSome}
+use Rattle.std.specs.Prelude.{◌≡◌, ℕ, ◌+◌, ◌*◌, ◌/◌, ◌%◌, ◌<◌, ◌≤◌, true, List, [], length, slice_index, slice_index_or, slice_set, Option, None, Some, ◌∷◌}
 use Rattle.atomic_table.specs.Table.{Me}
 use Rattle.atomic_table.specs.Seated.{TableId}
 use Rattle.sci_words.specs.declared.extent.Extent.{Extent}
@@ -18,7 +18,7 @@ use Rattle.sci_lanes.specs.declared.view.Part.{Part}
 use Rattle.sci_lanes.specs.declared.view.View.{View}
 use Rattle.sci_lanes.specs.Cells.{lane_count, receiver_of, lane_number, word_count}
 use Rattle.sci_lanes.specs.Shown.{outbound_at, inbound_at, me_of, single}
-use Rattle.sci_lanes.specs.Telling.{part_of, size_in, IsShown, IsSending, IsTaking, IsBeating}
+use Rattle.sci_lanes.specs.Telling.{part_of, size_in, IsShown}
 
 -- which table it is of, and what it knows
 pub record EndOf : Type 0 where
@@ -65,6 +65,34 @@ pub record MayRead (part : Part) (cell : CellId) (index : ℕ) : Type 0 where
   pub within : index < CELL_WORDS
   pub order : index ≤ length (inbound_at part (lane_at_cell part cell)).found
 
+-- the event is this node's, and sends the packet whose words after the first are filled in the next cell
+pub record MayPublish (part : Part) (cell : CellId) (first : ℕ) (event : Event) : Type 0 where
+  pub next : IsNextToSend part cell
+  pub vacant : (outbound_at part (lane_at_cell part cell)).vacant ≡ true
+  pub own : node_of event ≡ me_of part
+  pub packet : Packet
+  pub after : NodeOf
+  pub side_is : side part.node event ≡ Sends cell.kind after (letter_of packet)
+  pub target : packet.target ≡ cell.receiver
+  pub spelled : SpellsInWords packet (first ∷ (outbound_at part (lane_at_cell part cell)).filled)
+
+-- the event is this node's, and takes the packet whose words were found in the next cell
+pub record MayFree (part : Part) (cell : CellId) (event : Event) : Type 0 where
+  pub next : IsNextToTake part cell
+  pub own : node_of event ≡ me_of part
+  pub packet : Packet
+  pub taking : Letter → Option NodeOf
+  pub after : NodeOf
+  pub side_is : side part.node event ≡ Takes cell.kind cell.sender taking
+  pub gives : taking (letter_of packet) ≡ Some after
+  pub spelled : SpellsInWords packet (inbound_at part (lane_at_cell part cell)).found
+
+-- the event is this node's, and changes it alone
+pub record MayBeat (part : Part) (event : Event) : Type 0 where
+  pub own : node_of event ≡ me_of part
+  pub after : NodeOf
+  pub side_is : side part.node event ≡ Changes after
+
 -- ---- nodes after events
 
 -- the node after an event that takes no packet
@@ -74,16 +102,16 @@ node_after node (Sends kind next letter) = next
 node_after node _ = node
 
 -- what becomes of a node that takes a packet
-abbrev pub node_taking : Side → Letter → Option NodeOf
-node_taking (Takes kind from taking) letter = taking letter
-node_taking _ letter = None
+abbrev pub taken_by : Side → Letter → Option NodeOf
+taken_by (Takes kind from taking) letter = taking letter
+taken_by _ letter = None
 
 -- a packet that the event may take at a node
-abbrev pub IsTakable : Event → NodeOf → Letter → Type 0
-IsTakable (Serve from n) node letter = IsServable node letter
-IsTakable (Refuse from n) node letter = IsServable node letter
-IsTakable (Accept from n) node letter = IsForNode node letter
-IsTakable _ node letter = Unit {0}
+abbrev pub MayBeGiven : Event → NodeOf → Letter → Type 0
+MayBeGiven (Serve from n) node letter = IsServable node letter
+MayBeGiven (Refuse from n) node letter = IsServable node letter
+MayBeGiven (Accept from n) node letter = IsForNode node letter
+MayBeGiven _ node letter = Unit {0}
 
 -- ---- inside
 
@@ -103,9 +131,18 @@ pub record HasFound (words found : List ℕ) : Type 0 where
 abbrev pub no_inbox : Inbox
 no_inbox = record { turn = 0; words = [] }
 
+-- with a word kept
+abbrev pub with_word : ℕ → ℕ → Inbox → Inbox
+with_word index word box = record box { words = slice_set box.words index word }
+
+-- gone on to the next cell
+abbrev pub passed : Inbox → Inbox
+passed box = record box { turn = (box.turn % 4 + 1) % 4 }
+
 -- How the fields of an end fit together: what it knows, its node, its number, how many nodes there are, for each lane the
 -- next cell to send into, and what it keeps of each lane to it.
 pub record FitsInside (part : Part) (node : NodeOf) (me nodes : ℕ) (turns : List ℕ) (inboxes : List Inbox) : Type 0 where
+  pub shown : IsShown part
   pub node_is : node ≡ part.node
   pub me_is : me ≡ me_of part
   pub nodes_is : nodes ≡ nodes_in part

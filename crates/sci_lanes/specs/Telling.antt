@@ -68,11 +68,16 @@ pub record SomeLineWaits (node : NodeOf) : Type 0 where
 abbrev pub size_in : Part → Size
 size_in part = record { nodes = part.node.cache.nodes; lines = lines_of part.node; slots = part.node.cache.slots; limit = part.node.limit }
 
--- what each step tells its seat: its view becomes the next part, which is of a machine of the same size and of a state
+-- two parts of the node with one number, in machines of one size
+pub record IsSameNode (part next : Part) : Type 0 where
+  pub me : me_of next ≡ me_of part
+  pub sized : size_in next ≡ size_in part
+
+-- what each step tells its seat: its view becomes the next part, which is of the same node and of a state
 pub record Tells (part next : Part) (seat : Me (Unit {0}) View) : Type 0 where
   pub view : seat ≡ (single next, [])
   pub shown : IsShown next
-  pub sized : size_in next ≡ size_in part
+  pub same : IsSameNode part next
 
 -- ---- what the steps of events need
 

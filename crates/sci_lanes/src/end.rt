@@ -1,6 +1,12 @@
 //! An end of the lanes: one node, with its seat at the table.
 
-use crate::cell::CELL_WORDS;
+use crate::cell::{CELL_WORDS, CellId};
+use crate::event::{make_alone, make_taking};
+use crate::seat::NodeSeat;
+use sci_core::{LaneKind, Node};
+use sci_packets::from_words;
+use sci_words::{Event, LANE_CELLS};
+use std::marker::{Brand, Model};
 
 /// What an end keeps of a lane to it.
 #[derive(Clone, Copy)]
@@ -9,4 +15,201 @@ pub(crate) struct Inbox {
     pub(crate) turn: u8,
     /// The words that it found there, from the first on.
     pub(crate) words: [u64; CELL_WORDS],
+}
+
+/// A node, and its end of every lane that it sends or receives in. Contracts see the table that it is of, and what it
+/// knows.
+#[derive(Drop)]
+pub struct LaneEnd {
+    seat: NodeSeat,
+    node: Node,
+    me: u8,
+    nodes: u8,
+    turns: Vec<u8>,
+    inboxes: Vec<Inbox>,
+}
+
+impl Model for LaneEnd {
+    ghost use Rattle.sci_lanes.specs.Ends.{EndOf, FitsInside};
+
+    ghost Value = { EndOf };
+
+    ghost view = { λ end. end.seat };
+
+    ghost invariant = { λ end. FitsInside end.seat.part end.node end.me end.nodes end.turns.items end.inboxes.items };
+}
+
+impl LaneEnd {
+    ghost use Rattle.std.specs.Prelude.{◌≡◌, ◌≢◌, ◌<◌, ◌⊎◌, Some, slice_index_or, slice_set};
+    ghost use Rattle.sci_packets.specs.declared.packet.Packet.{Packet};
+    ghost use Rattle.sci_packets.specs.Spelling.{SpellsInWords};
+    ghost use Rattle.sci_cache.specs.Cache.{letter_of};
+    ghost use Rattle.sci_core.specs.declared.lane.LaneKind.TheVariants.{Requests};
+    ghost use Rattle.sci_core.specs.Core.{side};
+    ghost use Rattle.sci_lanes.specs.Shown.{inbound_at, me_of, outbound_at};
+    ghost use Rattle.sci_lanes.specs.Knowing.{filled, freed, looked, published, read, with_node_known};
+    ghost use Rattle.sci_lanes.specs.Telling.{IsSameNode, IsShown, SomeLineWaits};
+    ghost use Rattle.sci_lanes.specs.Ends.{IsNextToSend, IsNextToTake, MayBeat, MayFill, MayFree, MayPublish, MayRead, lane_at_cell, no_inbox, node_after, nodes_in, taken_by, with_part};
+
+    /// The node. It is one of a state where a schedule leads.
+    pub fn node(&self) -> &Node
+        ensures node { result.now ≡ self.now.part.node }
+        ensures shown { IsShown self.now.part }
+    {
+        &self.node
+    }
+
+    /// The cell into which the node sends next in its lane of a kind to another. The caller sees to it that there is such
+    /// a node.
+    pub fn next_to_send(&self, kind: LaneKind, to: u8) -> CellId
+        requires { to < nodes_in self.now.part }
+        ensures cell { (result.kind ≡ kind) × (result.receiver ≡ to) }
+        ensures next { IsNextToSend self.now.part result }
+    {
+        let cell = CellId {
+            kind,
+            sender: self.me,
+            receiver: to,
+            number: 0,
+        };
+        let number = self.turns[cell.lane(self.nodes)];
+        CellId { number, ..cell }
+    }
+
+    /// The cell from which the node takes next in the lane of a kind from another. The caller sees to it that there is
+    /// such a node.
+    pub fn next_to_take(&self, kind: LaneKind, from: u8) -> CellId
+        requires { from < nodes_in self.now.part }
+        ensures cell { (result.kind ≡ kind) × (result.sender ≡ from) }
+        ensures next { IsNextToTake self.now.part result }
+    {
+        let cell = CellId {
+            kind,
+            sender: from,
+            receiver: self.me,
+            number: 0,
+        };
+        let number = self.inboxes[cell.lane(self.nodes) / usize::from(self.nodes)].turn;
+        CellId { number, ..cell }
+    }
+
+    /// Looks at the first word of a cell, and gives it: 0 if the cell is empty. The caller sees to it that the cell is
+    /// the next to send into, or the next to take from. A sender that finds a request cell full knows that some line of
+    /// its node awaits an answer.
+    pub fn look(&mut self, cell: CellId) -> u64
+        requires { IsNextToSend self.old.part cell ⊎ IsNextToTake self.old.part cell }
+        ensures part { self.new ≡ with_part self.old (looked (lane_at_cell self.old.part cell) cell.number result self.old.part) }
+        ensures shown { IsShown self.new.part }
+        ensures waits { cell.kind ≡ Requests → IsNextToSend self.old.part cell → result ≢ 0 → SomeLineWaits self.new.part.node }
+    {
+        let word = self.seat.look(&cell, self.nodes);
+        if cell.receiver == self.me {
+            let place = cell.lane(self.nodes) / usize::from(self.nodes);
+            keep_first(&mut self.inboxes, place, cell.number, word);
+        }
+        word
+    }
+
+    /// Stores a word, with its number in the cell, into the next cell to send into. The caller sees to it that the cell is
+    /// known to be empty, and that the words before this one are filled, all but the first. Words that were filled after
+    /// it no longer count.
+    pub fn fill(&mut self, cell: CellId, index: usize, word: u64)
+        requires { MayFill self.old.part cell index }
+        ensures part { self.new ≡ with_part self.old (filled (lane_at_cell self.old.part cell) index word self.old.part) }
+        ensures shown { IsShown self.new.part }
+    {
+        self.seat.fill(&cell, self.nodes, index, word);
+    }
+
+    /// Loads the word with this number of the next cell to take from. The caller sees to it that the words before it were
+    /// found. Words that were found after it no longer count.
+    pub fn read_word(&mut self, cell: CellId, index: usize) -> u64
+        requires { MayRead self.old.part cell index }
+        ensures part { self.new ≡ with_part self.old (read (lane_at_cell self.old.part cell) index result self.old.part) }
+        ensures shown { IsShown self.new.part }
+    {
+        let word = self.seat.read(&cell, self.nodes, index);
+        let place = cell.lane(self.nodes) / usize::from(self.nodes);
+        keep(&mut self.inboxes, place, index, word);
+        word
+    }
+
+    /// Stores the first word of a packet whose other words are filled, into the next cell to send into: from this moment
+    /// the packet is under way. The caller sees to it that the cell is known to be empty, and that the packet is the one
+    /// that this event of the node sends, to the receiver of the cell. The node makes its side of the event.
+    pub fn publish(&mut self, cell: CellId, first: u64, event: &Event)
+        requires { MayPublish self.old.part cell first event.now }
+        ensures part { self.new ≡ with_part self.old (published (lane_at_cell self.old.part cell) (node_after self.old.part.node (side self.old.part.node event.now)) self.old.part) }
+        ensures same { IsSameNode self.old.part self.new.part }
+        ensures shown { IsShown self.new.part }
+    {
+        make_alone(&mut self.node, event);
+        self.seat.publish::<Brand>(&cell, self.nodes, first, &self.node);
+        let lane = cell.lane(self.nodes);
+        self.turns[lane] = (cell.number + 1) % LANE_CELLS;
+    }
+
+    /// Stores 0 to the first word of the next cell to take from: from this moment the packet that was found there is
+    /// taken. The caller sees to it that all its words were found, and that this event of the node takes it. The node
+    /// makes its side of the event.
+    pub fn free(&mut self, cell: CellId, event: &Event)
+        requires { MayFree self.old.part cell event.now }
+        ensures part { self.new ≡ with_part self.old (freed (lane_at_cell self.old.part cell) self.new.part.node self.old.part) }
+        ensures taken { (packet : Packet) → SpellsInWords packet (inbound_at self.old.part (lane_at_cell self.old.part cell)).found → taken_by (side self.old.part.node event.now) (letter_of packet) ≡ Some self.new.part.node }
+        ensures same { IsSameNode self.old.part self.new.part }
+        ensures shown { IsShown self.new.part }
+    {
+        let place = cell.lane(self.nodes) / usize::from(self.nodes);
+        let packet = match from_words(&self.inboxes[place].words) {
+            Ok((packet, _)) => packet,
+            Err(_) => unreachable!(),
+        };
+        make_taking(&mut self.node, event, &packet);
+        self.seat.free::<Brand>(&cell, self.nodes, &self.node);
+        pass(&mut self.inboxes, place);
+    }
+
+    /// Makes an event of the node that concerns no lane: an Issue or a Perform. The caller sees to it that it is enabled.
+    pub fn beat(&mut self, event: &Event)
+        requires { MayBeat self.old.part event.now }
+        ensures part { self.new ≡ with_part self.old (with_node_known (node_after self.old.part.node (side self.old.part.node event.now)) self.old.part) }
+        ensures same { IsSameNode self.old.part self.new.part }
+        ensures shown { IsShown self.new.part }
+    {
+        make_alone(&mut self.node, event);
+        self.seat.beat::<Brand>(self.me, self.nodes, &self.node);
+    }
+}
+
+ghost use Rattle.std.specs.Prelude.{◌≡◌, ◌≢◌, ◌<◌, length, slice_index_or, slice_set};
+ghost use Rattle.sci_lanes.specs.declared.cell.TheConstants.{CELL_WORDS};
+ghost use Rattle.sci_lanes.specs.Ends.{no_inbox, passed, with_word};
+
+/// Keeps the first word of a cell, if the cell is the next of its lane.
+fn keep_first(inboxes: &mut Vec<Inbox>, place: usize, number: u8, word: u64)
+    requires place { place < length inboxes.old.items }
+    ensures next { (slice_index_or inboxes.old.items place no_inbox).turn ≡ number → inboxes.new.items ≡ slice_set inboxes.old.items place (with_word 0 word (slice_index_or inboxes.old.items place no_inbox)) }
+    ensures other { (slice_index_or inboxes.old.items place no_inbox).turn ≢ number → inboxes.new.items ≡ inboxes.old.items }
+{
+    if inboxes[place].turn == number {
+        inboxes[place].words[0] = word;
+    }
+}
+
+/// Keeps a word that was found in a cell.
+fn keep(inboxes: &mut Vec<Inbox>, place: usize, index: usize, word: u64)
+    requires place { place < length inboxes.old.items }
+    requires index { index < CELL_WORDS }
+    ensures { inboxes.new.items ≡ slice_set inboxes.old.items place (with_word index word (slice_index_or inboxes.old.items place no_inbox)) }
+{
+    inboxes[place].words[index] = word;
+}
+
+/// Goes on to the next cell of a lane.
+fn pass(inboxes: &mut Vec<Inbox>, place: usize)
+    requires place { place < length inboxes.old.items }
+    ensures { inboxes.new.items ≡ slice_set inboxes.old.items place (passed (slice_index_or inboxes.old.items place no_inbox)) }
+{
+    let turn = inboxes[place].turn;
+    inboxes[place].turn = (turn % LANE_CELLS + 1) % LANE_CELLS;
 }

@@ -3,7 +3,7 @@
 ghost use Rattle.std.specs.Prelude.{◌≡◌, Some, IsSome};
 ghost use Rattle.sci_cache.specs.Cache.{letter_of};
 ghost use Rattle.sci_core.specs.Core.{side};
-ghost use Rattle.sci_lanes.specs.Ends.{node_after, node_taking, IsTakable};
+ghost use Rattle.sci_lanes.specs.Ends.{node_after, taken_by, MayBeGiven};
 
 use sci_core::Node;
 use sci_packets::Packet;
@@ -33,9 +33,9 @@ pub(crate) fn make_alone(node: &mut Node, event: &Event)
 
 /// Makes the node's side of an event that takes this packet. The caller sees to it that the node takes it by this event.
 pub(crate) fn make_taking(node: &mut Node, event: &Event, packet: &Packet)
-    requires takable { IsTakable event.now node.old (letter_of packet.now) }
-    requires takes { IsSome (node_taking (side node.old event.now) (letter_of packet.now)) }
-    ensures { node_taking (side node.old event.now) (letter_of packet.now) ≡ Some node.new }
+    requires takable { MayBeGiven event.now node.old (letter_of packet.now) }
+    requires takes { IsSome (taken_by (side node.old event.now) (letter_of packet.now)) }
+    ensures { taken_by (side node.old event.now) (letter_of packet.now) ≡ Some node.new }
 {
     match event {
         Event::Serve { .. } => {

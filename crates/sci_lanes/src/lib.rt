@@ -9,6 +9,7 @@ mod seat;
 mod view;
 
 pub use cell::CellId;
-//pub use end::LaneEnd;
+pub use end::LaneEnd;
+
 pub use rule::{Becomes, LaneRule};
 pub use view::{Inbound, Outbound, Part, View};

@@ -4,6 +4,7 @@ use crate::cell::{CellId, own_word};
 use crate::rule::{Beat, Becomes, Fill, Free, LaneTable, Look, Publish, Read};
 use crate::view::View;
 use atomic_table::Seat;
+use sci_core::Node;
 use std::marker::Model;
 use std::sync::Arc;
 
@@ -30,7 +31,7 @@ impl NodeSeat {
     ghost use Rattle.std.specs.Prelude.{◌≡◌, ◌≢◌, ◌⊎◌};
     ghost use Rattle.sci_lanes.specs.Shown.{me_of};
     ghost use Rattle.sci_lanes.specs.Knowing.{filled, freed, looked, published, read, with_node_known};
-    ghost use Rattle.sci_lanes.specs.Telling.{IsBeating, IsFull, IsSending, IsShown, IsTaking};
+    ghost use Rattle.sci_lanes.specs.Telling.{IsBeating, IsFull, IsSameNode, IsSending, IsShown, IsTaking};
     ghost use Rattle.sci_lanes.specs.Ends.{IsNextToSend, IsNextToTake, MayFill, MayRead, lane_at_cell, nodes_in, with_part};
 
     /// Looks at the first word of a cell, the next to send into or to take from.
@@ -70,12 +71,21 @@ impl NodeSeat {
         shared.load::<Read>(&mut self.seat, place)
     }
 
-    /// Stores the first word of the next cell to send into: the packet is sent, and the node becomes what the type says.
-    pub(crate) fn publish<B: Becomes>(&mut self, cell: &CellId, nodes: u8, first: u64)
+    /// Stores the first word of the next cell to send into: the packet is sent, and
+    /// the node becomes `after`.
+    pub(crate) fn publish<B: Becomes>(
+        &mut self,
+        cell: &CellId,
+        nodes: u8,
+        first: u64,
+        after: &Node,
+    )
+        requires after { after.now ≡ B.next }
         requires nodes { nodes ≡ nodes_in self.old.part }
         requires next { IsNextToSend self.old.part cell.now }
         requires sending { IsSending self.old.part (lane_at_cell self.old.part cell.now) first B.next }
         ensures part { self.new ≡ with_part self.old (published (lane_at_cell self.old.part cell.now) B.next self.old.part) }
+        ensures same { IsSameNode self.old.part self.new.part }
         ensures shown { IsShown self.new.part }
     {
         let place = cell.place(nodes, 0);
@@ -83,13 +93,15 @@ impl NodeSeat {
         shared.store::<Publish<B>>(&mut self.seat, place, first);
     }
 
-    /// Stores 0 to the first word of the next cell to take from: the packet is taken, and the node becomes what the type
-    /// says.
-    pub(crate) fn free<B: Becomes>(&mut self, cell: &CellId, nodes: u8)
+    /// Stores 0 to the first word of the next cell to take from: the packet is taken, and the node becomes
+    /// `after`.
+    pub(crate) fn free<B: Becomes>(&mut self, cell: &CellId, nodes: u8, after: &Node)
+        requires after { after.now ≡ B.next }
         requires nodes { nodes ≡ nodes_in self.old.part }
         requires next { IsNextToTake self.old.part cell.now }
         requires taking { IsTaking self.old.part (lane_at_cell self.old.part cell.now) B.next }
         ensures part { self.new ≡ with_part self.old (freed (lane_at_cell self.old.part cell.now) B.next self.old.part) }
+        ensures same { IsSameNode self.old.part self.new.part }
         ensures shown { IsShown self.new.part }
     {
         let place = cell.place(nodes, 0);
@@ -97,12 +109,14 @@ impl NodeSeat {
         shared.store::<Free<B>>(&mut self.seat, place, 0);
     }
 
-    /// Adds 1 to the own word of the node `me`, which is the seat's: the node becomes what the type says.
-    pub(crate) fn beat<B: Becomes>(&mut self, me: u8, nodes: u8)
+    /// Adds 1 to the own word of the node `me`, which is the seat's: the node becomes `after`.
+    pub(crate) fn beat<B: Becomes>(&mut self, me: u8, nodes: u8, after: &Node)
+        requires after { after.now ≡ B.next }
         requires me { me ≡ me_of self.old.part }
         requires nodes { nodes ≡ nodes_in self.old.part }
         requires beating { IsBeating self.old.part B.next }
         ensures part { self.new ≡ with_part self.old (with_node_known B.next self.old.part) }
+        ensures same { IsSameNode self.old.part self.new.part }
         ensures shown { IsShown self.new.part }
     {
         let place = own_word(nodes, me);

@@ -1,0 +1,15 @@
+use Rattle.std.proofs.Common.{◌/◌, List, sym, ap, subst, ◌∙◌}
+use Rattle.std.specs.Prelude.{slice_index_or, slice_set}
+use Rattle.sci_lanes.specs.declared.end.Inbox.{Inbox}
+use Rattle.sci_lanes.specs.Ends.{EndOf, FitsInside, MayRead, no_inbox, with_word}
+use Rattle.sci_lanes.proofs.Seats.{IsInLane, takes_in}
+use Rattle.sci_lanes.proofs.Inside.{box_there, read_inside}
+use Rattle.sci_lanes.proofs.end.LaneEnd.read_word.Goals as goal
+
+pub invariant_of-self : goal.invariant_of-self
+invariant_of-self c =
+    let s = c.self.inside in
+    let f = c.self.invariant in
+    let may = subst (λ (e : EndOf). MayRead e.part c.args.cell c.args.index) (sym c.self.view_is) c.requires in
+    let inside = read_inside s.seat.part _ _ _ _ _ f c.args.cell (takes_in s.seat.part c.args.cell f.shown may.next) c.read-word.new.self.part c.args.index c.read-word.result may.within may.order may.next.mine (ap (λ (e : EndOf). e.part) c.read-word.ensures.part) c.read-word.ensures.shown in
+    rw (c.keep.ensures, c.lane.ensures, c.from.ensures) inside
