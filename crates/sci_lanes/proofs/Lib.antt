@@ -9,3 +9,5 @@ pub mod Events
 pub mod Seats
 pub mod Inside
 pub mod Calls
+pub mod Sharing
+pub mod Opening

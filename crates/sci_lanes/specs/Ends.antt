@@ -1,5 +1,6 @@
 -- An end of the lanes, as its owner sees it, and what each of its calls needs.
-use Rattle.std.specs.Prelude.{◌≡◌, ℕ, ◌+◌, ◌*◌, ◌/◌, ◌%◌, ◌<◌, ◌≤◌, true, List, [], length, slice_index, slice_index_or, slice_set, Option, None, Some, ◌∷◌}
+use Rattle.std.specs.List.{range_with_len}
+use Rattle.std.specs.Prelude.{◌≡◌, ℕ, ◌+◌, ◌-◌, ◌*◌, ◌/◌, ◌%◌, ◌<◌, ◌≤◌, true, List, [], length, slice_index, slice_index_or, slice_set, map, take, drop, replicate, Option, None, Some, ◌∷◌}
 use Rattle.atomic_table.specs.Table.{Me}
 use Rattle.atomic_table.specs.Seated.{TableId}
 use Rattle.sci_words.specs.declared.extent.Extent.{Extent}
@@ -17,7 +18,7 @@ use Rattle.sci_lanes.specs.declared.end.Inbox.{Inbox}
 use Rattle.sci_lanes.specs.declared.view.Part.{Part}
 use Rattle.sci_lanes.specs.declared.view.View.{View}
 use Rattle.sci_lanes.specs.Cells.{lane_count, receiver_of, lane_number, word_count}
-use Rattle.sci_lanes.specs.Shown.{outbound_at, inbound_at, me_of, single}
+use Rattle.sci_lanes.specs.Shown.{outbound_at, inbound_at, me_of, single, opening_part}
 use Rattle.sci_lanes.specs.Telling.{part_of, size_in, IsShown}
 
 -- which table it is of, and what it knows
@@ -154,3 +155,39 @@ pub record FitsInside (part : Part) (node : NodeOf) (me nodes : ℕ) (turns : Li
   pub turns_are : (lane : ℕ) → lane < lane_count nodes → slice_index turns lane ≡ (outbound_at part lane).sent % 4
   pub taken_are : (lane : ℕ) → lane < lane_count nodes → receiver_of nodes lane ≡ me → (slice_index_or inboxes (lane / nodes) no_inbox).turn ≡ (inbound_at part lane).taken % 4
   pub found_are : (lane : ℕ) → lane < lane_count nodes → receiver_of nodes lane ≡ me → HasFound (slice_index_or inboxes (lane / nodes) no_inbox).words (inbound_at part lane).found
+
+-- ---- the whole table
+
+-- which table it is, and the size of its machine
+pub record LanesOf : Type 0 where
+  pub table : TableId
+  pub size : Size
+
+-- the ends of a table in which nothing was done yet, those of the first nodes
+abbrev pub opening_ends : TableId → Size → ℕ → List EndOf
+opening_ends table size count = map (λ n. record { table = table; part = opening_part size n }) (range_with_len 0 count)
+
+-- what a seat knows that has the nodes from this one on
+abbrev pub rest_view : Size → ℕ → View
+rest_view size n = record { parts = map (opening_part size) (range_with_len n (size.nodes - n)); words = [] }
+
+-- what a seat knows that has no node
+abbrev pub no_view : View
+no_view = record { parts = []; words = [] }
+
+abbrev pub first_off : View → View
+first_off view = record { parts = drop 1 view.parts; words = [] }
+
+abbrev pub first_only : View → View
+first_only view = record { parts = take 1 view.parts; words = [] }
+
+-- the table with a seat that has no node
+pub record IsRoot (key : Extent × ℕ) (table seat : TableId) (knows : Me (Unit {0}) View) (extent : Extent) (limit : ℕ) : Type 0 where
+  pub key_is : key ≡ (extent, limit)
+  pub same : seat ≡ table
+  pub long : table.words ≡ word_count extent.nodes
+  pub spent : knows ≡ (no_view, [])
+
+-- nothing found, in the first cell
+abbrev pub empty_inbox : Inbox
+empty_inbox = record { turn = 0; words = replicate 11 0 }

@@ -6,6 +6,7 @@ use crate::seat::NodeSeat;
 use sci_core::{LaneKind, Node};
 use sci_packets::from_words;
 use sci_words::{Event, LANE_CELLS};
+use std::alloc::{AllocError, Global};
 use std::marker::{Brand, Model};
 
 /// What an end keeps of a lane to it.
@@ -40,16 +41,40 @@ impl Model for LaneEnd {
 }
 
 impl LaneEnd {
-    ghost use Rattle.std.specs.Prelude.{◌≡◌, ◌≢◌, ◌<◌, ◌⊎◌, Some, slice_index_or, slice_set};
+    ghost use Rattle.std.specs.Prelude.{◌≡◌, ◌≢◌, ◌<◌, ◌*◌, ◌⊎◌, IfOk, Some, replicate};
+    ghost use Rattle.sci_lanes.specs.Cells.{lane_count};
     ghost use Rattle.sci_packets.specs.declared.packet.Packet.{Packet};
     ghost use Rattle.sci_packets.specs.Spelling.{SpellsInWords};
     ghost use Rattle.sci_cache.specs.Cache.{letter_of};
     ghost use Rattle.sci_core.specs.declared.lane.LaneKind.TheVariants.{Requests};
     ghost use Rattle.sci_core.specs.Core.{side};
-    ghost use Rattle.sci_lanes.specs.Shown.{inbound_at, me_of, outbound_at};
+    ghost use Rattle.sci_lanes.specs.Shown.{inbound_at};
     ghost use Rattle.sci_lanes.specs.Knowing.{filled, freed, looked, published, read, with_node_known};
     ghost use Rattle.sci_lanes.specs.Telling.{IsSameNode, IsShown, SomeLineWaits};
-    ghost use Rattle.sci_lanes.specs.Ends.{IsNextToSend, IsNextToTake, MayBeat, MayFill, MayFree, MayPublish, MayRead, lane_at_cell, no_inbox, node_after, nodes_in, taken_by, with_part};
+    ghost use Rattle.sci_lanes.specs.Ends.{FitsInside, IsNextToSend, IsNextToTake, MayBeat, MayFill, MayFree, MayPublish, MayRead, empty_inbox, lane_at_cell, node_after, nodes_in, taken_by, with_part};
+
+    /// The end of a node in a machine of so many nodes, in which nothing was done yet. Refused if memory is.
+    pub(crate) fn new(alloc: Global, seat: NodeSeat, node: Node, nodes: u8) -> Result<LaneEnd, AllocError>
+        requires { FitsInside seat.part node node.cache.me nodes (replicate (lane_count nodes) 0) (replicate (2 * nodes) empty_inbox) }
+        ensures { IfOk result (λ end. end ≡ seat) }
+    {
+        let pairs = usize::from(nodes) * usize::from(nodes);
+        let turns = vec![in alloc; 0; 2 * pairs]?;
+        let empty = Inbox {
+            turn: 0,
+            words: [0; CELL_WORDS],
+        };
+        let inboxes = vec![in alloc; empty; 2 * usize::from(nodes)]?;
+        let me = node.me();
+        Ok(LaneEnd {
+            seat,
+            node,
+            me,
+            nodes,
+            turns,
+            inboxes,
+        })
+    }
 
     /// The node. It is one of a state where a schedule leads.
     pub fn node(&self) -> &Node

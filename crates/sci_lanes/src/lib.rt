@@ -4,12 +4,14 @@
 mod cell;
 mod end;
 mod event;
+mod lanes;
 mod rule;
 mod seat;
 mod view;
 
 pub use cell::CellId;
 pub use end::LaneEnd;
+pub use lanes::Lanes;
 
 pub use rule::{Becomes, LaneRule};
 pub use view::{Inbound, Outbound, Part, View};

@@ -3,7 +3,7 @@
 ghost use Rattle.sci_core.specs.Node.{NodeOf, no_node};
 
 use crate::view::View;
-use atomic_table::{Play, Table, TableRule};
+use atomic_table::{Play, Split, Table, TableRule};
 use sci_words::Extent;
 use std::alloc::Global;
 use std::marker::{Brand, PhantomData};
@@ -23,6 +23,17 @@ impl TableRule<(), View, (Extent, u32)> for LaneRule {
 
 /// The table under this rule.
 pub(crate) type LaneTable = Table<(), View, (Extent, u32), LaneRule, Global>;
+
+/// A seat gives its first node to a new seat.
+pub(crate) struct First;
+
+impl Split<View> for First {
+    ghost use Rattle.sci_lanes.specs.Ends.{first_off, first_only};
+
+    ghost left = { first_off };
+
+    ghost right = { first_only };
+}
 
 /// A look at the first word of a cell.
 pub(crate) struct Look;

@@ -29,10 +29,20 @@ impl Model for NodeSeat {
 
 impl NodeSeat {
     ghost use Rattle.std.specs.Prelude.{◌≡◌, ◌≢◌, ◌⊎◌};
+    ghost use Rattle.std.specs.Arc.{arc_value};
     ghost use Rattle.sci_lanes.specs.Shown.{me_of};
     ghost use Rattle.sci_lanes.specs.Knowing.{filled, freed, looked, published, read, with_node_known};
-    ghost use Rattle.sci_lanes.specs.Telling.{IsBeating, IsFull, IsSameNode, IsSending, IsShown, IsTaking};
-    ghost use Rattle.sci_lanes.specs.Ends.{IsNextToSend, IsNextToTake, MayFill, MayRead, lane_at_cell, nodes_in, with_part};
+    ghost use Rattle.sci_lanes.specs.Telling.{IsBeating, IsFull, IsSameNode, IsSending, IsShown, IsTaking, part_of};
+    ghost use Rattle.sci_lanes.specs.Ends.{IsNextToSend, IsNextToTake, IsSeated, MayFill, MayRead, lane_at_cell, nodes_in, with_part};
+
+    /// A seat that has one node, at its table.
+    pub(crate) fn new(table: Arc<LaneTable>, seat: Seat<(), View>) -> NodeSeat
+        requires { IsSeated (arc_value table).shared.key (arc_value table).shared.table_id seat.table_id seat.me }
+        ensures table { result.table ≡ seat.table_id }
+        ensures part { result.part ≡ part_of seat.me.0 }
+    {
+        NodeSeat { table, seat }
+    }
 
     /// Looks at the first word of a cell, the next to send into or to take from.
     pub(crate) fn look(&mut self, cell: &CellId, nodes: u8) -> u64

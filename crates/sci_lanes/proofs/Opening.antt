@@ -1,0 +1,211 @@
+-- The table at the beginning, and its ends.
+use Rattle.std.proofs.Common.{◌≡◌, ◌≢◌, ℕ, zero, suc, ◌+◌, ◌-◌, ◌*◌, ◌/◌, ◌%◌, ◌<◌, ◌≤◌, ◌⊎◌, inl, inr, List, [], ◌∷◌, ◌++◌, length, get_or, map, take, drop, replicate, Some, None, refl, sym, ap, subst, ◌∙◌, arith}
+use Rattle.std.specs.Prelude.{slice_get}
+use Rattle.std.specs.List.{AllByRecursion, range_with_len}
+use Rattle.std.proofs.lemmas.Bool.{cases_lt}
+use Rattle.std.proofs.lemmas.List.{get_or-replicate, get_or_past, length-replicate}
+use Rattle.std.proofs.lemmas.List.FromFn.{get_or-map-range_with_len, map-range_with_len_more}
+use mathlib.Core.Option.{some, some-injective, some-ne-none}
+use lib.ListN.{get_elem?}
+use Rattle.atomic_table.specs.Table.{State, Splits, opening as opening_state}
+use Rattle.sci_cache.specs.Cache.{Letter, letter_of}
+use Rattle.sci_packets.specs.declared.packet.Packet.{Packet}
+use Rattle.atomic_table.specs.Table.{Me}
+use Rattle.atomic_table.specs.Seated.{TableId}
+use Rattle.sci_words.specs.declared.extent.Extent.{Extent}
+use Rattle.sci_words.specs.declared.limits.TheConstants.{MAX_OPERATIONS}
+use Rattle.sci_cache.specs.Line.{untouched}
+use Rattle.sci_core.specs.Size.{Size, size_of, IsMachineSize}
+use Rattle.sci_core.specs.Node.{NodeOf, opening_node, no_node}
+use Rattle.sci_core.specs.Core.{Core, node_at, lane_at, opening}
+use Rattle.sci_core.specs.Reached.{IsReached}
+use Rattle.sci_lanes.specs.declared.end.Inbox.{Inbox}
+use Rattle.sci_lanes.specs.declared.view.Part.{Part}
+use Rattle.sci_lanes.specs.declared.view.View.{View}
+use Rattle.sci_lanes.specs.Cells.{cell_place, lane_count, receiver_of, word_count, word_at}
+use Rattle.sci_lanes.specs.Shown.{Fits, ShowsLane, Whole, nodes_of, me_of, no_outbound, no_inbound, outbound_at, inbound_at, single, opening_part, first_view, IsKnown, HasRead, IsCovered, Shows, IsKept}
+use Rattle.sci_lanes.specs.Telling.{IsShown, part_of, size_in}
+use Rattle.sci_lanes.specs.Ends.{FitsInside, HasFound, no_inbox, empty_inbox, rest_view, no_view, first_off, first_only, nodes_in, EndOf, IsSeated, opening_ends}
+use Rattle.sci_lanes.proofs.Keeping.{read_none}
+use Rattle.sci_lanes.proofs.Inside.{box_within}
+use Rattle.sci_lanes.proofs.Sharing.{NoneIs, splits}
+
+reached_opening : (size : Size) → IsMachineSize size → IsReached (opening size)
+reached_opening size ok = record { size = ok; schedule = []; leads = refl }
+
+node_opened : (size : Size) (n : ℕ) → n < size.nodes → node_at (opening size) n ≡ opening_node n size
+node_opened size n lt = get_or-map-range_with_len (λ m. opening_node m size) 0 size.nodes n n no_node lt (omega arith)
+
+replicated : {A : Type 0} (count k : ℕ) (a : A) → get_or (replicate count a) k a ≡ a
+replicated count k a = elim (cases_lt k count) [
+  | inl lt ↦ get_or-replicate count k a a lt
+  | inr le ↦ get_or_past (replicate count a) k a (let c = length-replicate count a in omega arith)
+]
+
+lane_opened : (size : Size) (lane : ℕ) → lane_at (opening size) lane ≡ []
+lane_opened size lane = replicated (2 * size.nodes * size.nodes) lane []
+
+fits_opened : (words : List ℕ) (lane : ℕ) → ((k : ℕ) → get_or words k 0 ≡ 0) → Fits words lane [] no_outbound no_inbound
+fits_opened words lane zeros = record {
+  good = λ k p e. cc;
+  counted = refl;
+  room = omega arith;
+  full = λ k j p e lt. cc;
+  empty = λ k le lt. zeros (cell_place lane (0 + k) + 0);
+  vacant = λ is. cc;
+  unfilled = λ not. refl;
+  few_filled = omega arith;
+  filled = λ j lt. absurd (omega arith);
+  few_found = omega arith;
+  there = λ lt. absurd (omega arith);
+  found = λ j lt. absurd (omega arith);
+}
+
+-- a part of the opening state
+known_opened : (size : Size) (n : ℕ) → n < size.nodes → IsKnown (record { core = opening size; outbound = λ l. no_outbound; inbound = λ l. no_inbound; owner = λ m. 0 }) 0 (opening_part size n)
+known_opened size n lt = record {
+  some_node = lt;
+  mine = refl;
+  node = node_opened size n lt;
+  outbound_long = length-replicate (lane_count size.nodes) no_outbound;
+  inbound_long = length-replicate (lane_count size.nodes) no_inbound;
+  outbound = λ lane less is. replicated (lane_count size.nodes) lane no_outbound;
+  inbound = λ lane less is. replicated (lane_count size.nodes) lane no_inbound;
+}
+
+all_opened : (P : Part → Type 0) (size : Size) (a count : ℕ) → ((n : ℕ) → a ≤ n → n < a + count → P (opening_part size n)) → AllByRecursion P (map (opening_part size) (range_with_len a count))
+all_opened P size a zero each = tt
+all_opened P size a (suc count) each = (each a (omega arith) (omega arith), all_opened P size (a + 1) count (λ n le lt. each n (omega arith) (omega arith)))
+
+there_opened : (size : Size) (a count n : ℕ) → n < count → slice_get (map (opening_part size) (range_with_len a count)) n ≡ Some (opening_part size (a + n))
+there_opened size a zero n lt = absurd (omega arith)
+there_opened size a (suc count) zero lt = let e : a ≡ a + 0 = omega arith in ap (λ (k : ℕ). Some (opening_part size k)) e
+there_opened size a (suc count) (suc n) lt = let e : a + 1 + n ≡ a + suc n = omega arith in there_opened size (a + 1) count n (omega arith) ∙ ap (λ (k : ℕ). Some (opening_part size k)) e
+
+pub opened : (size : Size) (words : List ℕ) → IsMachineSize size → length words ≡ word_count size.nodes → ((k : ℕ) → get_or words k 0 ≡ 0) → IsKept size (opening_state words [] (first_view size))
+opened size words ok long zeros = record {
+  whole = x;
+  reached = reached_opening size ok;
+  sized = refl;
+  shown = record {
+    long = long;
+    lanes = λ lane lt. record { packets = []; letters = sym (lane_opened size lane); fits = fits_opened words lane zeros };
+    known = λ seat view e. known seat view e;
+    covered = λ n lt. record { view = first_view size; place = n; part = opening_part size (0 + n); seated = refl; there = there_opened size 0 size.nodes n lt; of_node = omega arith };
+    read = λ seat view e. read seat view e;
+  };
+}
+  where
+    x : Whole
+    x = record { core = opening size; outbound = λ l. no_outbound; inbound = λ l. no_inbound; owner = λ m. 0 }
+    known : (seat : ℕ) (view : View) → get_elem? (first_view size ∷ []) seat ≡ some view → AllByRecursion (IsKnown x seat) view.parts
+    known zero view e = subst (λ (v : View). AllByRecursion (IsKnown x 0) v.parts) (some-injective (first_view size) view e) (all_opened (IsKnown x 0) size 0 size.nodes (λ n le lt. known_opened size n (omega arith)))
+    known (suc seat) view e = absurd (some-ne-none view (sym e))
+    read : (seat : ℕ) (view : View) → get_elem? (first_view size ∷ []) seat ≡ some view → HasRead x seat words view.words
+    read zero view e = subst (λ (v : View). HasRead x 0 words v.words) (some-injective (first_view size) view e) (read_none x 0 words)
+    read (suc seat) view e = absurd (some-ne-none view (sym e))
+
+pub zeros_are : (count k : ℕ) → get_or (replicate {A = ℕ} count 0) k 0 ≡ 0
+zeros_are count k = replicated count k 0
+
+-- ---- splitting
+
+rest_is : (size : Size) (n : ℕ) → n < size.nodes → rest_view size n ≡ record { parts = opening_part size n ∷ map (opening_part size) (range_with_len (n + 1) (size.nodes - (n + 1))); words = [] }
+rest_is size n lt = let e : size.nodes - n ≡ suc (size.nodes - (n + 1)) = omega arith in ap (λ (count : ℕ). record { parts = map (opening_part size) (range_with_len n count); words = [] }) e
+
+pub split_asks : (size : Size) (id n : ℕ) (view : View) → n < size.nodes → view ≡ rest_view size n → Splits (IsKept size) id view (first_off view) (first_only view)
+split_asks size id n view lt is =
+    subst (λ (v : View). Splits (IsKept size) id v (first_off v) (first_only v)) (sym (is ∙ rest_is size n lt))
+      (splits size id (opening_part size n) (map (opening_part size) (range_with_len (n + 1) (size.nodes - (n + 1)))) (all_opened (λ q. me_of q ≢ n) size (n + 1) (size.nodes - (n + 1)) (λ m le less e. omega arith)))
+
+pub split_left : (size : Size) (n : ℕ) (view : View) → n < size.nodes → view ≡ rest_view size n → first_off view ≡ rest_view size (n + 1)
+split_left size n view lt is = ap first_off (is ∙ rest_is size n lt)
+
+pub split_right : (size : Size) (n : ℕ) (view : View) → n < size.nodes → view ≡ rest_view size n → first_only view ≡ single (opening_part size n)
+split_right size n view lt is = ap first_only (is ∙ rest_is size n lt)
+
+-- ---- ends
+
+pub shown_opened : (size : Size) (n : ℕ) → IsMachineSize size → n < size.nodes → IsShown (opening_part size n)
+shown_opened size n ok lt = record {
+  core = opening size;
+  reached = reached_opening size ok;
+  some_node = lt;
+  here = node_opened size n lt;
+  outbound_long = length-replicate (lane_count size.nodes) no_outbound;
+  inbound_long = length-replicate (lane_count size.nodes) no_inbound;
+  found = λ lane less is some_found. absurd (let e = ap (λ i. length i.found) (replicated (lane_count size.nodes) lane no_inbound) in omega arith);
+  vacant = λ lane less is vacant. absurd (not_vacant (ap (λ o. o.vacant) (sym (replicated (lane_count size.nodes) lane no_outbound)) ∙ vacant));
+  own = λ lane less sends receives.
+    let o = ap (λ u. u.sent) (replicated (lane_count size.nodes) lane no_outbound) in
+    let i = ap (λ u. u.taken) (replicated (lane_count size.nodes) lane no_inbound) in
+    let l = ap (λ (ls : List Letter). length ls) (lane_opened size lane) in
+    omega arith;
+}
+  where
+    not_vacant : Rattle.std.proofs.Common.false ≡ Rattle.std.proofs.Common.true → ⊥
+    not_vacant e = cc
+
+pub inside_opened : (size : Size) (n : ℕ) (node : NodeOf) → IsMachineSize size → n < size.nodes → node ≡ opening_node n size
+    → FitsInside (opening_part size n) node node.cache.me size.nodes (replicate (lane_count size.nodes) 0) (replicate (2 * size.nodes) empty_inbox)
+inside_opened size n node ok lt is = subst (λ (m : NodeOf). FitsInside (opening_part size n) m m.cache.me size.nodes (replicate (lane_count size.nodes) 0) (replicate (2 * size.nodes) empty_inbox)) (sym is)
+  (record {
+    shown = shown_opened size n ok lt;
+    node_is = refl;
+    me_is = refl;
+    nodes_is = refl;
+    some_node = lt;
+    outbound_long = length-replicate (lane_count size.nodes) no_outbound;
+    inbound_long = length-replicate (lane_count size.nodes) no_inbound;
+    turns_long = length-replicate (lane_count size.nodes) 0;
+    inboxes_long = length-replicate (2 * size.nodes) empty_inbox;
+    turns_are = λ lane less. zeros_are (lane_count size.nodes) lane ∙ ap (λ u. u.sent % 4) (sym (replicated (lane_count size.nodes) lane no_outbound));
+    taken_are = λ lane less here. ap (λ (b : Inbox). b.turn) (box lane less) ∙ ap (λ u. u.taken % 4) (sym (replicated (lane_count size.nodes) lane no_inbound));
+    found_are = λ lane less here. subst (λ (b : Inbox). HasFound b.words (inbound_at (opening_part size n) lane).found) (sym (box lane less))
+      (subst (λ u. HasFound empty_inbox.words u.found) (sym (replicated (lane_count size.nodes) lane no_inbound)) (record { eleven = refl; begins = λ k few. absurd (omega arith) }));
+  })
+  where
+    box : (lane : ℕ) → lane < lane_count size.nodes → get_or (replicate (2 * size.nodes) empty_inbox) (lane / size.nodes) no_inbox ≡ empty_inbox
+    box lane less = get_or-replicate (2 * size.nodes) (lane / size.nodes) empty_inbox no_inbox (box_within size.nodes lane (omega arith) less)
+
+-- ---- the size
+
+pub machine_size : (extent : Extent) (limit : ℕ) → 1 ≤ limit → limit ≤ MAX_OPERATIONS → IsMachineSize (size_of extent limit)
+machine_size extent limit some_operation few = record {
+  extent = record { has_node = extent.has_node; few_nodes = extent.few_nodes; has_line = extent.has_line; few_lines = extent.few_lines; has_slot = extent.has_slot; few_slots = extent.few_slots };
+  some_operation = some_operation;
+  few_operations = few;
+}
+
+pub seated_opened : (extent : Extent) (limit n : ℕ) (key : Extent × ℕ) (table seat : TableId) (knows : Me (Unit {0}) View) → IsMachineSize (size_of extent limit) → n < extent.nodes → key ≡ (extent, limit) → seat ≡ table → seat.words ≡ word_count extent.nodes
+    → knows ≡ (single (opening_part (size_of extent limit) n), []) → IsSeated key table seat knows
+seated_opened extent limit n key table seat knows ok lt key_is same long is =
+    let part_is : part_of knows.0 ≡ opening_part (size_of extent limit) n = ap (λ (k : Me (Unit {0}) View). part_of k.0) is in
+    record {
+      same = same;
+      long = ap (λ (t : TableId). t.words) (sym same) ∙ (long ∙ ap (λ (k : Extent × ℕ). word_count k.0.nodes) (sym key_is));
+      seated = is ∙ ap (λ (p : Part). (single p, [])) (sym part_is);
+      shown = subst IsShown (sym part_is) (shown_opened (size_of extent limit) n ok lt);
+      sized = ap size_in part_is ∙ (size_opened (size_of extent limit) n ∙ ap (λ (k : Extent × ℕ). size_of k.0 k.1) (sym key_is));
+    }
+  where
+    size_opened : (size : Size) (m : ℕ) → size_in (opening_part size m) ≡ size
+    size_opened size m = λ i. record { nodes = size.nodes; lines = length-replicate size.lines untouched i; slots = size.slots; limit = size.limit }
+
+-- ---- what a split leaves
+
+pub knows_after : (size : Size) (n : ℕ) (old new : Me (Unit {0}) View) → n < size.nodes → old ≡ (rest_view size n, []) → new ≡ (first_off old.0, old.1) → new ≡ (rest_view size (n + 1), [])
+knows_after size n old new lt is told = told ∙ pairs (split_left size n old.0 lt (ap (λ (k : Me (Unit {0}) View). k.0) is)) (ap (λ (k : Me (Unit {0}) View). k.1) is)
+  where
+    pairs : {a b : View} {xs ys : List (ℕ × Unit {0})} → a ≡ b → xs ≡ ys → ◌≡◌ {A = Me (Unit {0}) View} (a, xs) (b, ys)
+    pairs p q = λ i. (p i, q i)
+
+pub knows_new : (size : Size) (n : ℕ) (old new : Me (Unit {0}) View) → n < size.nodes → old ≡ (rest_view size n, []) → new ≡ (first_only old.0, []) → new ≡ (single (opening_part size n), [])
+knows_new size n old new lt is told = told ∙ ap (λ (v : View). (v, [])) (split_right size n old.0 lt (ap (λ (k : Me (Unit {0}) View). k.0) is))
+
+pub ends_more : (old new : TableId) (size : Size) (n : ℕ) (ends later : List EndOf) (end : EndOf) → new ≡ old → ends ≡ opening_ends old size n → end ≡ record { table = old; part = opening_part size n } → later ≡ ends ++ end ∷ [] → later ≡ opening_ends new size (n + 1)
+ends_more old new size n ends later end same is end_is more =
+    more ∙ ((λ i. is i ++ end_is i ∷ []) ∙ (sym (map-range_with_len_more (λ m. record { table = old; part = opening_part size m }) 0 n n (omega arith)) ∙ ap (λ (t : TableId). opening_ends t size (n + 1)) (sym same)))
+
+pub none_left : (size : Size) (n : ℕ) (knows : Me (Unit {0}) View) → size.nodes ≤ n → knows ≡ (rest_view size n, []) → knows ≡ (no_view, [])
+none_left size n knows le is = let e : size.nodes - n ≡ 0 = omega arith in is ∙ ap (λ (count : ℕ). (record { parts = map (opening_part size) (range_with_len n count); words = [] }, [])) e

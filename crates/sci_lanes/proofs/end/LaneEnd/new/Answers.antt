@@ -1,0 +1,16 @@
+use Rattle.std.proofs.Common.{◌≡◌, ℕ, ◌*◌, refl, sym, ap, ◌∙◌}
+use Rattle.std.specs.Prelude.{replicate}
+use Rattle.sci_lanes.specs.Cells.{lane_count}
+use Rattle.sci_lanes.specs.Ends.{FitsInside, empty_inbox}
+use Rattle.sci_lanes.proofs.end.LaneEnd.new.Goals as goal
+
+pub invariant_of-result : goal.invariant_of-result
+invariant_of-result c =
+    rw (
+      c.in_ok-turns.ensures.items_if_clones_equal (λ y e. e),
+      c.in_ok-inboxes.ensures.items_if_clones_equal (λ y e. e),
+      c.me-me.ensures,
+      c.from.ensures,
+      c.from-2.ensures,
+      c.from-3.ensures,
+    ) c.requires
