@@ -1,6 +1,6 @@
 -- What the calls of an end need and tell.
 use Rattle.std.proofs.Common.{◌≡◌, ◌≢◌, ℕ, ◌+◌, ◌*◌, ◌/◌, ◌%◌, ◌<◌, ◌≤◌, ◌⊎◌, inl, inr, List, [], ◌∷◌, ◌++◌, length, get_or, set, take, Option, Some, None, refl, sym, ap, subst, ◌∙◌, true, arith}
-use Rattle.std.specs.Prelude.{IsSome, slice_get, Result, Ok, Err}
+use Rattle.std.specs.Prelude.{is_some, IsSome, slice_get, Result, Ok, Err}
 use Rattle.sci_packets.specs.declared.fault.PacketFault.{PacketFault}
 use Rattle.std.proofs.lemmas.List.{get_or_read, length-take-le, ext_get_or, get_or-take}
 use Rattle.sci_words.specs.declared.event.Event.{Event}
@@ -13,8 +13,9 @@ use Rattle.sci_cache.specs.Cache.{Letter, letter_of, line_of}
 use Rattle.sci_cache.specs.State.{waits}
 use Rattle.sci_core.specs.declared.lane.LaneKind.{LaneKind}
 use Rattle.sci_core.specs.declared.lane.LaneKind.TheVariants.{Requests, Answers}
-use Rattle.sci_core.specs.Node.{NodeOf, IsForNode, IsServable, lines_of}
-use Rattle.sci_core.specs.Core.{Core, node_at, lane_at, lane_of, lane_place, Side, Idle, Changes, Sends, Takes, side, node_of}
+use Rattle.sci_words.specs.declared.operation.Op.{Op}
+use Rattle.sci_core.specs.Node.{NodeOf, IsForNode, IsServable, lines_of, node_issuing}
+use Rattle.sci_core.specs.Core.{Core, node_at, lane_at, lane_of, lane_place, Side, Idle, Changes, Sends, Takes, changes, side, node_of}
 use Rattle.sci_core.specs.Reached.{IsReached}
 use Rattle.sci_core.proofs.Applied.{servable, acceptable}
 use Rattle.sci_core.proofs.Enabled.{request_enabled}
@@ -221,3 +222,11 @@ ok_err a e result h k = cc
 
 pub takes_some : (part : Part) (cell : CellId) (e : Event) (may : MayFree part cell e) → taken_by (side part.node e) (letter_of may.packet) ≡ Some may.after
 takes_some part cell e may = ap (λ (s : Side). taken_by s (letter_of may.packet)) may.side_is ∙ may.gives
+
+-- an operation that may be issued is an Issue that the node may make
+pub issue_beats : (part : Part) (n : ℕ) (op : Op) → n ≡ me_of part → is_some (node_issuing part.node op) ≡ true → MayBeat part (event.Issue n op)
+issue_beats part n op own some_issue = by_issue (node_issuing part.node op) refl some_issue
+  where
+    by_issue : (o : Option NodeOf) → node_issuing part.node op ≡ o → is_some o ≡ true → MayBeat part (event.Issue n op)
+    by_issue None e none_issue = cc
+    by_issue (Some after) e some_ = record { own = own; after = after; side_is = ap changes e }

@@ -48,7 +48,7 @@ impl LaneEnd {
     ghost use Rattle.sci_cache.specs.Cache.{letter_of};
     ghost use Rattle.sci_core.specs.declared.lane.LaneKind.TheVariants.{Requests};
     ghost use Rattle.sci_core.specs.Core.{side};
-    ghost use Rattle.sci_lanes.specs.Shown.{inbound_at};
+    ghost use Rattle.sci_lanes.specs.Shown.{inbound_at, me_of};
     ghost use Rattle.sci_lanes.specs.Knowing.{filled, freed, looked, published, read, with_node_known};
     ghost use Rattle.sci_lanes.specs.Telling.{IsSameNode, IsShown, SomeLineWaits};
     ghost use Rattle.sci_lanes.specs.Ends.{FitsInside, IsNextToSend, IsNextToTake, MayBeat, MayFill, MayFree, MayPublish, MayRead, empty_inbox, lane_at_cell, node_after, nodes_in, taken_by, with_part};
@@ -82,6 +82,20 @@ impl LaneEnd {
         ensures shown { IsShown self.now.part }
     {
         &self.node
+    }
+
+    /// The node's number.
+    pub fn me(&self) -> u8
+        ensures { result ≡ me_of self.now.part }
+    {
+        self.me
+    }
+
+    /// How many nodes the machine has.
+    pub fn nodes(&self) -> u8
+        ensures { result ≡ nodes_in self.now.part }
+    {
+        self.nodes
     }
 
     /// The cell into which the node sends next in its lane of a kind to another. The caller sees to it that there is such

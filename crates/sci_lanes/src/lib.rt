@@ -9,6 +9,9 @@ mod rule;
 mod seat;
 mod view;
 
+#[cfg(test)]
+mod tests;
+
 pub use cell::CellId;
 pub use end::LaneEnd;
 pub use lanes::Lanes;
