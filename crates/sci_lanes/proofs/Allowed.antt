@@ -1,15 +1,14 @@
 -- Each kind of step keeps the rule, and tells its seat what it should.
-use Rattle.std.proofs.Common.{◌≡◌, ◌≢◌, ℕ, zero, suc, ◌+◌, ◌*◌, ◌/◌, ◌%◌, ◌<◌, ◌≤◌, ◌⊎◌, inl, inr, Bool, true, false, if◌then◌else◌, eqb, ◌&&◌, List, [], ◌∷◌, ◌++◌, length, get_or, set, Option, Some, None, refl, sym, ap, subst, ◌∙◌, arith}
+use Rattle.std.proofs.Common.{◌≡◌, ◌≢◌, ℕ, zero, suc, ◌+◌, ◌%◌, ◌<◌, inl, inr, Bool, true, false, if◌then◌else◌, eqb, List, [], ◌∷◌, length, get_or, set, refl, sym, ap, subst, ◌∙◌, arith}
 use Rattle.std.proofs.lemmas.Bool.{and_parts, and_left, eqb-true, ne_eqb, cases_lt}
 use Rattle.std.proofs.lemmas.List.{set-get_or}
 use mathlib.Core.Option.{some, none, some-ne-none}
 use lib.ListN.{get_elem?}
-use Rattle.atomic_table.specs.Table.{State, Me, Step, step, keeps, stepped, Allows}
+use Rattle.atomic_table.specs.Table.{State, Me, step, keeps, Allows}
 use Rattle.atomic_table.proofs.Lists.{set_here}
 use Rattle.sci_packets.specs.declared.packet.Packet.{Packet}
 use Rattle.sci_core.specs.Size.{Size}
-use Rattle.sci_core.specs.Node.{NodeOf}
-use Rattle.sci_core.specs.Core.{Core, node_at, lane_at}
+use Rattle.sci_core.specs.Core.{lane_at}
 use Rattle.sci_core.specs.Reached.{IsReached}
 use Rattle.sci_lanes.specs.declared.view.Outbound.{Outbound}
 use Rattle.sci_lanes.specs.declared.view.Inbound.{Inbound}
@@ -17,11 +16,11 @@ use Rattle.sci_lanes.specs.declared.view.Part.{Part}
 use Rattle.sci_lanes.specs.declared.view.View.{View}
 use Rattle.sci_lanes.specs.Cells.{cell_place, lane_count, sender_of, receiver_of, word_at}
 use Rattle.sci_lanes.specs.Shown.{Fits, ShowsLane, Whole, nodes_of, me_of, single, outbound_at, inbound_at, IsKnown, Shows, IsKept}
-use Rattle.sci_lanes.specs.Knowing.{is_sending, is_receiving, looked_out, looked_in, looked, filled_out, filled, read_in, read, with_lane_known}
-use Rattle.sci_lanes.specs.Telling.{IsFull, IsShown, IsSameNode, Tells, size_in}
-use Rattle.sci_lanes.specs.Plays.{lane_in, number_in, index_in, LooksAt, Looks, Fills, Reads}
-use Rattle.sci_lanes.proofs.Words.{same_cell, place_within}
-use Rattle.sci_lanes.proofs.LaneSteps.{out_looked, in_looked, out_filled, in_read, sender_finds_empty}
+use Rattle.sci_lanes.specs.Knowing.{is_sending, is_receiving, looked_out, looked_in, looked}
+use Rattle.sci_lanes.specs.Telling.{IsShown, IsSameNode, size_in}
+use Rattle.sci_lanes.specs.Plays.{lane_in, number_in, index_in, Looks}
+use Rattle.sci_lanes.proofs.Words.{same_cell}
+use Rattle.sci_lanes.proofs.LaneSteps.{out_looked, in_looked, sender_finds_empty}
 use Rattle.sci_lanes.proofs.Turning.{IsTurn, turned_whole, lane_step}
 use Rattle.sci_lanes.proofs.Facts.{lane_length, known_part, shown}
 
@@ -123,80 +122,100 @@ looks size slots id lane number part lt few = allows size slots id place part (�
   where
     place : ℕ
     place = cell_place lane number + 0
+
     owes : Owes size id place part (λ n. n) (Looks (step slots place 0 0 none) (single part, []))
     owes s kept here = (
-        looked lane number word part,
-        went,
-        rw (lane_found lane number 0 (omega arith), at_number) (record {
-          tells = record { view = refl; shown = went.shown; same = went.same };
-          full = λ sends some. record {
-            core = x.core;
-            reached = kept.reached;
-            some_node = k.some_node;
-            here = k.node;
-            four = four (sends_here sends) some;
-          };
-        }),
-      )
+      looked lane number word part,
+      went,
+      rw (lane_found lane number 0 (omega arith), at_number) (record {
+        tells = record { view = refl; shown = went.shown; same = went.same };
+        full = λ sends some. record {
+          core = x.core;
+          reached = kept.reached;
+          some_node = k.some_node;
+          here = k.node;
+          four = four (sends_here sends) some;
+        };
+      }),
+    )
       where
         x : Whole
         x = kept.whole
+
         word : ℕ
         word = get_or s.words place 0
+
         at_number : number_in place ≡ number
         at_number = let e = number_found lane number 0 (omega arith) in omega arith
+
         k : IsKnown x id part
         k = (kept.shown.known id (single part) here).0
+
         nodes : part.node.cache.nodes ≡ nodes_of x
         nodes = (known_part x id part kept.reached k).all
+
         lane_ok : lane < lane_count (nodes_of x)
         lane_ok = subst (λ (n : ℕ). lane < lane_count n) (sym (ap (λ z. z.nodes) kept.sized)) lt
+
         b : Bool
         b = is_sending part lane number
+
         c : Bool
         c = is_receiving part lane number
+
         o' : Outbound
         o' = if b then looked_out word (x.outbound lane) else x.outbound lane
+
         i' : Inbound
         i' = if c then looked_in word (x.inbound lane) else x.inbound lane
+
         y : Whole
         y = turned_whole x lane x.core o' i'
+
         out_is : sender_of (nodes_of x) lane ≡ me_of part → outbound_at part lane ≡ x.outbound lane
         out_is is = k.outbound lane lane_ok is
+
         in_is : receiver_of (nodes_of x) lane ≡ me_of part → inbound_at part lane ≡ x.inbound lane
         in_is is = k.inbound lane lane_ok is
+
         sends_here : b ≡ true → word ≡ word_at s.words lane (x.outbound lane).sent 0
         sends_here is =
             let both = and_parts (eqb (sender_of part.node.cache.nodes lane) (me_of part)) (eqb number ((outbound_at part lane).sent % 4)) is in
             let sender : sender_of (nodes_of x) lane ≡ me_of part = subst (λ (n : ℕ). sender_of n lane ≡ me_of part) nodes (eqb-true (sender_of part.node.cache.nodes lane) (me_of part) both.0) in
             subst (λ (o : Outbound). word ≡ word_at s.words lane o.sent 0) (out_is sender) (next_cell s.words lane number number (outbound_at part lane).sent both.1 refl)
+
         receives_here : c ≡ true → word ≡ word_at s.words lane (x.inbound lane).taken 0
         receives_here is =
             let both = and_parts (eqb (receiver_of part.node.cache.nodes lane) (me_of part)) (eqb number ((inbound_at part lane).taken % 4)) is in
             let receiver : receiver_of (nodes_of x) lane ≡ me_of part = subst (λ (n : ℕ). receiver_of n lane ≡ me_of part) nodes (eqb-true (receiver_of part.node.cache.nodes lane) (me_of part) both.0) in
             subst (λ (i : Inbound). word ≡ word_at s.words lane i.taken 0) (in_is receiver) (next_cell s.words lane number number (inbound_at part lane).taken both.1 refl)
+
         old : ShowsLane s.words lane (lane_at x.core lane) (x.outbound lane) (x.inbound lane)
         old = kept.shown.lanes lane lane_ok
+
         shows_lane : ShowsLane (set s.words place word) lane (lane_at x.core lane) o' i'
         shows_lane = record {
           packets = old.packets;
           letters = old.letters;
           fits = subst (λ (ws : List ℕ). Fits ws lane old.packets o' i') (sym (set-get_or s.words place 0))
-            (maybe_in c s.words lane word old.packets o' (x.inbound lane) receives_here (maybe_out b s.words lane word old.packets (x.outbound lane) (x.inbound lane) sends_here old.fits));
+              (maybe_in c s.words lane word old.packets o' (x.inbound lane) receives_here (maybe_out b s.words lane word old.packets (x.outbound lane) (x.inbound lane) sends_here old.fits));
         }
+
         shows : Shows y (set s.words place word) (set s.views id (single (looked lane number word part)))
         shows = lane_step x s.words s.views id lane number 0 word part x.core part.node
-          (if b then looked_out word (outbound_at part lane) else outbound_at part lane) o'
-          (if c then looked_in word (inbound_at part lane) else inbound_at part lane) i'
-          kept.shown here (omega arith)
-          (still x id part lane _ o' _ i' k lane_ok
+            (if b then looked_out word (outbound_at part lane) else outbound_at part lane) o'
+            (if c then looked_in word (inbound_at part lane) else inbound_at part lane) i'
+            kept.shown here (omega arith)
+            (still x id part lane _ o' _ i' k lane_ok
             (λ is. ap (λ (o : Outbound). if b then looked_out word o else o) (out_is is))
             (λ apart. if_false b _ (x.outbound lane) (and_left (eqb (sender_of part.node.cache.nodes lane) (me_of part)) _ (ne_eqb (sender_of part.node.cache.nodes lane) (me_of part) (λ e. apart (subst (λ (n : ℕ). sender_of n lane ≡ me_of part) nodes e)))))
             (λ is. ap (λ (i : Inbound). if c then looked_in word i else i) (in_is is))
             (λ apart. if_false c _ (x.inbound lane) (and_left (eqb (receiver_of part.node.cache.nodes lane) (me_of part)) _ (ne_eqb (receiver_of part.node.cache.nodes lane) (me_of part) (λ e. apart (subst (λ (n : ℕ). receiver_of n lane ≡ me_of part) nodes e))))))
-          shows_lane
+            shows_lane
+
         went : Goes size s id place word part (looked lane number word part)
         went = goes size s kept id place word part (looked lane number word part) y kept.reached kept.sized here refl shows
+
         four : word ≡ word_at s.words lane (x.outbound lane).sent 0 → word ≢ 0 → length (lane_at x.core lane) ≡ 4
         four is some_word =
             let long = lane_length old in

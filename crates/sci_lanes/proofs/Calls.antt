@@ -1,12 +1,12 @@
 -- What the calls of an end need and tell.
-use Rattle.std.proofs.Common.{◌≡◌, ◌≢◌, ℕ, ◌+◌, ◌*◌, ◌/◌, ◌%◌, ◌<◌, ◌≤◌, ◌⊎◌, inl, inr, List, [], ◌∷◌, ◌++◌, length, get_or, set, take, Option, Some, None, refl, sym, ap, subst, ◌∙◌, true, arith}
-use Rattle.std.specs.Prelude.{is_some, IsSome, slice_get, Result, Ok, Err}
+use Rattle.std.proofs.Common.{◌≡◌, ℕ, ◌*◌, ◌/◌, ◌%◌, ◌<◌, ◌≤◌, List, [], ◌∷◌, length, get_or, take, Option, Some, None, refl, sym, ap, subst, ◌∙◌, true, arith}
+use Rattle.std.specs.Prelude.{is_some, slice_get, Result, Ok, Err}
 use Rattle.sci_packets.specs.declared.fault.PacketFault.{PacketFault}
 use Rattle.std.proofs.lemmas.List.{get_or_read, length-take-le, ext_get_or, get_or-take}
 use Rattle.sci_words.specs.declared.event.Event.{Event}
 use Rattle.sci_words.specs.declared.event.Event.TheVariants as event
 use Rattle.sci_packets.specs.declared.packet.Packet.{Packet}
-use Rattle.sci_packets.specs.Spelling.{IsPacket, SpellsInWords, words_of}
+use Rattle.sci_packets.specs.Spelling.{SpellsInWords, words_of}
 use Rattle.sci_packets.proofs.Whole.{one_by_words}
 use Rattle.sci_packets.proofs.WordLaws.{few_words}
 use Rattle.sci_cache.specs.Cache.{Letter, letter_of, line_of}
@@ -15,7 +15,7 @@ use Rattle.sci_core.specs.declared.lane.LaneKind.{LaneKind}
 use Rattle.sci_core.specs.declared.lane.LaneKind.TheVariants.{Requests, Answers}
 use Rattle.sci_words.specs.declared.operation.Op.{Op}
 use Rattle.sci_core.specs.Node.{NodeOf, IsForNode, IsServable, lines_of, node_issuing}
-use Rattle.sci_core.specs.Core.{Core, node_at, lane_at, lane_of, lane_place, Side, Idle, Changes, Sends, Takes, changes, side, node_of}
+use Rattle.sci_core.specs.Core.{Core, node_at, lane_at, lane_of, lane_place, Side, Takes, changes, side}
 use Rattle.sci_core.specs.Reached.{IsReached}
 use Rattle.sci_core.proofs.Applied.{servable, acceptable}
 use Rattle.sci_core.proofs.Enabled.{request_enabled}
@@ -27,7 +27,7 @@ use Rattle.sci_lanes.specs.Cells.{lane_count, receiver_of, lane_number}
 use Rattle.sci_lanes.specs.Shown.{me_of, outbound_at, inbound_at}
 use Rattle.sci_lanes.specs.Telling.{IsFront, IsFull, IsShown, IsSending, IsTaking, IsBeating, SomeLineWaits}
 use Rattle.sci_lanes.specs.Ends.{nodes_in, lane_at_cell, IsNextToSend, IsNextToTake, MayPublish, MayFree, MayBeat, node_after, taken_by, MayBeGiven, no_inbox, HasFound, FitsInside}
-use Rattle.sci_lanes.proofs.Seats.{IsInLane, sends_in, takes_in, shown_nodes, me_below}
+use Rattle.sci_lanes.proofs.Seats.{IsInLane, takes_in, shown_nodes}
 use Rattle.sci_lanes.proofs.Events.{sent_place, words_some as words_some_of}
 use Rattle.sci_lanes.proofs.Inside.{box_within}
 
@@ -89,17 +89,17 @@ pub publishing : (part : Part) (cell : CellId) (first : ℕ) (e : Event) → May
 publishing part cell first e may =
     let after_is : node_after part.node (side part.node e) ≡ may.after = ap (node_after part.node) may.side_is in
     subst (λ (node : NodeOf). IsSending part (lane_at_cell part cell) first node) (sym after_is)
-      (record {
-        event = e;
-        kind = cell.kind;
-        packet = may.packet;
-        own = may.own;
-        side_is = may.side_is;
-        target = subst (λ (t : ℕ). t < nodes_in part) (sym may.target) may.next.other;
-        lane_is = (λ i. lane_place (nodes_in part) cell.kind (may.next.mine i) (sym may.target i));
-        vacant = may.vacant;
-        spelled = may.spelled;
-      })
+    (record {
+      event = e;
+      kind = cell.kind;
+      packet = may.packet;
+      own = may.own;
+      side_is = may.side_is;
+      target = subst (λ (t : ℕ). t < nodes_in part) (sym may.target) may.next.other;
+      lane_is = (λ i. lane_place (nodes_in part) cell.kind (may.next.mine i) (sym may.target i));
+      vacant = may.vacant;
+      spelled = may.spelled;
+    })
 
 pub beating : (part : Part) (e : Event) → MayBeat part e → IsBeating part (node_after part.node (side part.node e))
 beating part e may = subst (λ (node : NodeOf). IsBeating part node) (sym (ap (node_after part.node) may.side_is)) (record { event = e; own = may.own; side_is = may.side_is })
@@ -137,14 +137,13 @@ kept_packet part node me nodes turns inboxes f cell packet box next spelled read
     let few = few_words packet spelled.packet in
     let eleven = found.eleven in
     let le : length words ≤ length box.words = omega arith in
-    let count : length (take (length words) box.words) ≡ length words = length-take-le (length words) box.words le in
-    (
+    let count : length (take (length words) box.words) ≡ length words = length-take-le (length words) box.words le in (
       le,
       record {
         packet = spelled.packet;
         spelled_so = ext_get_or 0 (take (length words) box.words) words count (λ k lt.
-          let less : k < length words = omega arith in
-          get_or-take (length words) box.words k 0 less ∙ (found.begins k (subst (λ (ws : List ℕ). k < length ws) (sym spelled.spelled_so) less) ∙ ap (λ (ws : List ℕ). get_or ws k 0) spelled.spelled_so));
+            let less : k < length words = omega arith in
+            get_or-take (length words) box.words k 0 less ∙ (found.begins k (subst (λ (ws : List ℕ). k < length ws) (sym spelled.spelled_so) less) ∙ ap (λ (ws : List ℕ). get_or ws k 0) spelled.spelled_so));
       },
     )
 
@@ -154,43 +153,56 @@ given part cell e s may = by_event e may.side_is
   where
     me : ℕ
     me = me_of part
+
     nodes : nodes_in part ≡ s.core.size.nodes
     nodes = shown_nodes part s
+
     at : IsInLane part cell
     at = takes_in part cell s may.next
+
     lane : ℕ
     lane = lane_at_cell part cell
+
     words_some : 0 < length (inbound_at part lane).found
     words_some = subst (λ (ws : List ℕ). 0 < length ws) (sym may.spelled.spelled_so) (above may.packet)
       where
         above : (p : Packet) → 0 < length (words_of p)
         above p = words_some_of p
+
     front : IsFront (lane_at s.core lane) (inbound_at part lane).found
     front = s.found lane (subst (λ (n : ℕ). lane < lane_count n) nodes at.lane) (subst (λ (n : ℕ). receiver_of n lane ≡ me) nodes (at.receiver ∙ may.next.mine)) words_some
+
     same : front.packet ≡ may.packet
     same = sym (one_by_words may.packet front.packet may.spelled.packet front.good (λ k a b.
-      ap (λ (ws : List ℕ). get_or ws k 0) (sym may.spelled.spelled_so) ∙ front.agrees k (subst (λ (ws : List ℕ). k < length ws) (sym may.spelled.spelled_so) a) b))
+        ap (λ (ws : List ℕ). get_or ws k 0) (sym may.spelled.spelled_so) ∙ front.agrees k (subst (λ (ws : List ℕ). k < length ws) (sym may.spelled.spelled_so) a) b))
+
     begins : (kind : LaneKind) (from : ℕ) → cell.kind ≡ kind → cell.sender ≡ from → slice_get (lane_of s.core kind from me) 0 ≡ Some (letter_of may.packet)
     begins kind from k f =
         let place : lane ≡ lane_place s.core.size.nodes kind from me = (λ i. lane_place (nodes i) (k i) (f i) (may.next.mine i)) in
         ap (λ (l : ℕ). slice_get (lane_at s.core l) 0) (sym place) ∙ (ap (λ (ls : List Letter). slice_get ls 0) front.front ∙ ap (λ (p : Packet). Some (letter_of p)) same)
+
     sender : cell.sender < s.core.size.nodes
     sender = subst (λ (n : ℕ). cell.sender < n) nodes may.next.other
+
     serves : (from : ℕ) → cell.kind ≡ Requests → cell.sender ≡ from → IsServable part.node (letter_of may.packet)
     serves from k f = subst (λ (node : NodeOf). IsServable node (letter_of may.packet)) s.here
-      (servable s.core from me (letter_of may.packet) (reached_well s.core s.reached) (subst (λ (j : ℕ). j < s.core.size.nodes) f sender) s.some_node (begins Requests from k f))
+        (servable s.core from me (letter_of may.packet) (reached_well s.core s.reached) (subst (λ (j : ℕ). j < s.core.size.nodes) f sender) s.some_node (begins Requests from k f))
+
     accepts : (from : ℕ) → cell.kind ≡ Answers → cell.sender ≡ from → IsForNode part.node (letter_of may.packet)
     accepts from k f = subst (λ (node : NodeOf). IsForNode node (letter_of may.packet)) s.here
-      (acceptable s.core from me (letter_of may.packet) (reached_well s.core s.reached) (subst (λ (j : ℕ). j < s.core.size.nodes) f sender) s.some_node (begins Answers from k f))
+        (acceptable s.core from me (letter_of may.packet) (reached_well s.core s.reached) (subst (λ (j : ℕ). j < s.core.size.nodes) f sender) s.some_node (begins Answers from k f))
+
     takes_as : (kind k : LaneKind) (from f : ℕ) (t u : Letter → Option NodeOf) → Takes kind from t ≡ Takes k f u → (k ≡ kind) × (f ≡ from)
     takes_as kind k from f t u e = (ap kind_of (sym e), ap from_of (sym e))
       where
         kind_of : Side → LaneKind
         kind_of (Takes a b c) = a
         kind_of _ = Requests
+
         from_of : Side → ℕ
         from_of (Takes a b c) = b
         from_of _ = 0
+
     by_event : (v : Event) → side part.node v ≡ Takes cell.kind cell.sender may.taking → MayBeGiven v part.node (letter_of may.packet)
     by_event (event.Issue n op) is = tt
     by_event (event.Perform n l) is = tt

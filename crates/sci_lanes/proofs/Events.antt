@@ -1,9 +1,8 @@
 -- Publishing, freeing and beating are events of the machine, and keep the rule.
-use Rattle.std.proofs.Common.{◌≡◌, ◌≢◌, ℕ, suc, ◌+◌, ◌*◌, ◌/◌, ◌%◌, ◌^◌, ◌<◌, ◌≤◌, true, List, [], ◌∷◌, ◌++◌, length, get_or, set, map, Option, Some, None, refl, sym, ap, subst, ◌∙◌, arith, mul_assoc}
-use Rattle.std.proofs.lemmas.List.{get_or-set_same, get_or-set_other, length-map, length-set, map_push}
-use mathlib.Core.Option.{some, none}
-use lib.ListN.{get_elem?}
-use Rattle.atomic_table.specs.Table.{State, step, Allows}
+use Rattle.std.proofs.Common.{◌≡◌, ◌≢◌, ℕ, suc, ◌+◌, ◌*◌, ◌%◌, ◌^◌, ◌<◌, List, [], ◌∷◌, ◌++◌, length, get_or, set, map, Option, Some, refl, sym, ap, subst, ◌∙◌, arith, mul_assoc}
+use Rattle.std.proofs.lemmas.List.{get_or-set_same, get_or-set_other, map_push}
+use mathlib.Core.Option.{none}
+use Rattle.atomic_table.specs.Table.{step, Allows}
 use Rattle.sci_words.specs.declared.event.Event.{Event}
 use Rattle.sci_packets.specs.declared.packet.Packet.{Packet}
 use Rattle.sci_packets.specs.Spelling.{IsPacket, words_of}
@@ -12,7 +11,7 @@ use Rattle.sci_cache.specs.Cache.{Letter, letter_of}
 use Rattle.sci_core.specs.Size.{Size}
 use Rattle.sci_core.specs.declared.lane.LaneKind.{LaneKind}
 use Rattle.sci_core.specs.Node.{NodeOf, no_node}
-use Rattle.sci_core.specs.Core.{Core, HasSize, node_at, with_node, with_lane, lane_at, lane_of, lane_place, Changes, Sends, Takes, side, node_of, sent_by, taken_as, taken_from, stepping}
+use Rattle.sci_core.specs.Core.{Core, node_at, with_node, with_lane, lane_at, lane_of, lane_place, side, node_of, sent_by, taken_as, taken_from, stepping}
 use Rattle.sci_core.specs.Reached.{IsReached}
 use Rattle.sci_core.proofs.Places.{place_below, place_from, place_to}
 use Rattle.sci_core.proofs.Stepping.{stepping_changed, stepping_sent, stepping_takes}
@@ -20,16 +19,15 @@ use Rattle.sci_core.proofs.WellFormedSteps.{reached_well, reached_stepping}
 use Rattle.sci_lanes.specs.declared.view.Outbound.{Outbound}
 use Rattle.sci_lanes.specs.declared.view.Inbound.{Inbound}
 use Rattle.sci_lanes.specs.declared.view.Part.{Part}
-use Rattle.sci_lanes.specs.declared.view.View.{View}
-use Rattle.sci_lanes.specs.Cells.{cell_place, own_place, lane_count, sender_of, receiver_of, word_at, word_count}
+use Rattle.sci_lanes.specs.Cells.{cell_place, own_place, lane_count, sender_of, receiver_of, word_at}
 use Rattle.sci_lanes.specs.Shown.{Fits, ShowsLane, Whole, nodes_of, me_of, single, outbound_at, inbound_at, IsKnown, Shows, IsKept}
 use Rattle.sci_lanes.specs.Knowing.{published_out, published, freed_in, freed, with_node_known}
-use Rattle.sci_lanes.specs.Telling.{Tells, IsSending, IsTaking, IsBeating}
+use Rattle.sci_lanes.specs.Telling.{IsSending, IsTaking, IsBeating}
 use Rattle.sci_lanes.specs.Plays.{Publishes, Frees, Beats}
 use Rattle.sci_lanes.proofs.Words.{same_cell, place_within, own_apart, stored_else}
 use Rattle.sci_lanes.proofs.LaneSteps.{agreeing, out_published, in_freed}
-use Rattle.sci_lanes.proofs.Keeping.{Turned, step_shows}
-use Rattle.sci_lanes.proofs.Turning.{IsTurn, turned_whole, lane_step}
+use Rattle.sci_lanes.proofs.Keeping.{step_shows}
+use Rattle.sci_lanes.proofs.Turning.{turned_whole, lane_step}
 use Rattle.sci_lanes.proofs.Facts.{known_part}
 use Rattle.sci_lanes.proofs.Allowed.{lane_found, goes, Goes, Owes, allows}
 
@@ -66,71 +64,92 @@ publishes size slots id lane number first part next number_is may = allows size 
   where
     place : ℕ
     place = cell_place lane number + 0
+
     owes : Owes size id place part (λ n. first) (λ n. Publishes next (step slots place first 0 none) (single part, []) first)
     owes s kept here = (
-        published lane next part,
-        went,
-        rw (lane_found lane number 0 (omega arith)) (record { view = refl; shown = went.shown; same = went.same }),
-      )
+      published lane next part,
+      went,
+      rw (lane_found lane number 0 (omega arith)) (record { view = refl; shown = went.shown; same = went.same }),
+    )
       where
         x : Whole
         x = kept.whole
+
         me : ℕ
         me = me_of part
+
         k : IsKnown x id part
         k = (kept.shown.known id (single part) here).0
+
         nodes : part.node.cache.nodes ≡ nodes_of x
         nodes = (known_part x id part kept.reached k).all
+
         target : may.packet.target < nodes_of x
         target = subst (λ (n : ℕ). may.packet.target < n) nodes may.target
+
         lane_is : lane ≡ lane_place (nodes_of x) may.kind me may.packet.target
         lane_is = may.lane_is ∙ ap (λ (n : ℕ). lane_place n may.kind me may.packet.target) nodes
+
         at : (lane < lane_count (nodes_of x)) × (sender_of (nodes_of x) lane ≡ me) × (receiver_of (nodes_of x) lane ≡ may.packet.target)
         at = subst (λ (l : ℕ). (l < lane_count (nodes_of x)) × (sender_of (nodes_of x) l ≡ me) × (receiver_of (nodes_of x) l ≡ may.packet.target)) (sym lane_is) (sent_place (nodes_of x) may.kind me may.packet.target k.some_node target)
+
         out_is : outbound_at part lane ≡ x.outbound lane
         out_is = k.outbound lane at.0 at.1
+
         o : Outbound
         o = x.outbound lane
+
         letter : Letter
         letter = letter_of may.packet
+
         core : Core
         core = sent_by x.core me may.kind next letter
+
         stepped : stepping x.core may.event ≡ Some core
         stepped = stepping_sent x.core core may.event may.kind next letter (subst (λ (n : ℕ). n < nodes_of x) (sym may.own) k.some_node) (side_here x id part may.event k may.own ∙ may.side_is) (ap (λ (n : ℕ). sent_by x.core n may.kind next letter) (sym may.own))
+
         reached : IsReached core
         reached = reached_stepping x.core core may.event kept.reached stepped
+
         mine : node_at core me ≡ next
         mine = get_or-set_same x.core.parts me next no_node (parts_within x.core me kept.reached k.some_node)
+
         lane_now : lane_at core lane ≡ lane_at x.core lane ++ letter ∷ []
         lane_now = subst (λ (l : ℕ). lane_at core l ≡ lane_at x.core l ++ letter ∷ []) (sym lane_is)
-          (get_or-set_same x.core.lanes (lane_place (nodes_of x) may.kind me may.packet.target) (lane_of x.core may.kind me may.packet.target ++ letter ∷ []) [] (lanes_within x.core (lane_place (nodes_of x) may.kind me may.packet.target) kept.reached (subst (λ (l : ℕ). l < lane_count (nodes_of x)) lane_is at.0)))
+            (get_or-set_same x.core.lanes (lane_place (nodes_of x) may.kind me may.packet.target) (lane_of x.core may.kind me may.packet.target ++ letter ∷ []) [] (lanes_within x.core (lane_place (nodes_of x) may.kind me may.packet.target) kept.reached (subst (λ (l : ℕ). l < lane_count (nodes_of x)) lane_is at.0)))
+
         old : ShowsLane s.words lane (lane_at x.core lane) o (x.inbound lane)
         old = kept.shown.lanes lane at.0
+
         turn : place ≡ cell_place lane o.sent + 0
         turn = let p = ap (λ (u : Outbound). u.sent) out_is in ap (λ (c : ℕ). c + 0) (same_cell lane number o.sent (omega arith))
+
         y : Whole
         y = turned_whole x lane core (published_out o) (x.inbound lane)
+
         fits : Fits (set s.words (cell_place lane o.sent + 0) first) lane (old.packets ++ may.packet ∷ []) (published_out o) (x.inbound lane)
         fits = out_published s.words lane first may.packet old.packets o (x.inbound lane) (ap (λ (u : Outbound). u.vacant) (sym out_is) ∙ may.vacant) may.spelled.packet (sym may.spelled.spelled_so ∙ ap (λ (u : Outbound). first ∷ u.filled) out_is)
-          (subst (λ (n : ℕ). cell_place lane o.sent + 0 < n) (sym kept.shown.long) (place_within (nodes_of x) lane o.sent 0 at.0 (omega arith))) old.fits
+            (subst (λ (n : ℕ). cell_place lane o.sent + 0 < n) (sym kept.shown.long) (place_within (nodes_of x) lane o.sent 0 at.0 (omega arith))) old.fits
+
         shows : Shows y (set s.words (cell_place lane o.sent + 0) first) (set s.views id (single (published lane next part)))
         shows = lane_step x s.words s.views id lane o.sent 0 first part core next (published_out (outbound_at part lane)) (published_out o) (inbound_at part lane) (x.inbound lane) kept.shown here (omega arith)
-          (record {
-            lane_ok = at.0;
-            size = refl;
-            others = λ n apart. get_or-set_other x.core.parts me n next no_node apart;
-            mine = mine;
-            me = me_stays core me next reached k.some_node mine;
-            lanes = λ other apart. get_or-set_other x.core.lanes (lane_place (nodes_of x) may.kind me may.packet.target) other (lane_of x.core may.kind me may.packet.target ++ letter ∷ []) [] (λ e. apart (e ∙ sym lane_is));
-            sender = λ is. ap published_out out_is;
-            not_sender = λ apart. absurd (apart at.1);
-            receiver = k.inbound lane at.0;
-            not_receiver = λ apart. refl;
-          })
-          (record { packets = old.packets ++ may.packet ∷ []; letters = map_push letter_of old.packets may.packet ∙ (ap (λ (ls : List Letter). ls ++ letter ∷ []) old.letters ∙ sym lane_now); fits = fits })
+            (record {
+              lane_ok = at.0;
+              size = refl;
+              others = λ n apart. get_or-set_other x.core.parts me n next no_node apart;
+              mine = mine;
+              me = me_stays core me next reached k.some_node mine;
+              lanes = λ other apart. get_or-set_other x.core.lanes (lane_place (nodes_of x) may.kind me may.packet.target) other (lane_of x.core may.kind me may.packet.target ++ letter ∷ []) [] (λ e. apart (e ∙ sym lane_is));
+              sender = λ is. ap published_out out_is;
+              not_sender = λ apart. absurd (apart at.1);
+              receiver = k.inbound lane at.0;
+              not_receiver = λ apart. refl;
+            })
+            (record { packets = old.packets ++ may.packet ∷ []; letters = map_push letter_of old.packets may.packet ∙ (ap (λ (ls : List Letter). ls ++ letter ∷ []) old.letters ∙ sym lane_now); fits = fits })
+
         went : Goes size s id place first part (published lane next part)
         went = goes size s kept id place first part (published lane next part) y reached kept.sized here (me_stays core me next reached k.some_node mine)
-          (subst (λ (p : ℕ). Shows y (set s.words p first) (set s.views id (single (published lane next part)))) (sym turn) shows)
+            (subst (λ (p : ℕ). Shows y (set s.words p first) (set s.views id (single (published lane next part)))) (sym turn) shows)
 
 -- ---- free
 
@@ -159,7 +178,7 @@ oldest words lane letters o i p [] is f good found =
 oldest words lane letters o i p (q ∷ packets) is f good found =
     let turn : i.taken + 0 ≡ i.taken = omega arith in
     let same : q ≡ p = one_by_words q p (f.good 0 q refl) good (λ k a b.
-      sym (f.full 0 k q refl a) ∙ (ap (λ (t : ℕ). word_at words lane t k) turn ∙ (f.found k (subst (λ (ws : List ℕ). k < length ws) (sym found) b) ∙ ap (λ (ws : List ℕ). get_or ws k 0) found))) in
+    sym (f.full 0 k q refl a) ∙ (ap (λ (t : ℕ). word_at words lane t k) turn ∙ (f.found k (subst (λ (ws : List ℕ). k < length ws) (sym found) b) ∙ ap (λ (ws : List ℕ). get_or ws k 0) found))) in
     record { packets = packets; letters_are = sym is ∙ ap (λ (r : Packet). letter_of r ∷ map letter_of packets) same; fits = subst (λ (r : Packet). Fits words lane (r ∷ packets) o i) same f }
 
 pub frees : (size : Size) (slots id lane number : ℕ) (part : Part) (next : NodeOf) → number ≡ (inbound_at part lane).taken % 4 → IsTaking part lane next
@@ -168,79 +187,101 @@ frees size slots id lane number part next number_is may = allows size slots id p
   where
     place : ℕ
     place = cell_place lane number + 0
+
     owes : Owes size id place part (λ n. 0) (λ n. Frees next (step slots place 0 0 none) (single part, []) 0)
     owes s kept here = (
-        freed lane next part,
-        went,
-        rw (lane_found lane number 0 (omega arith)) (record { view = refl; shown = went.shown; same = went.same }),
-      )
+      freed lane next part,
+      went,
+      rw (lane_found lane number 0 (omega arith)) (record { view = refl; shown = went.shown; same = went.same }),
+    )
       where
         x : Whole
         x = kept.whole
+
         me : ℕ
         me = me_of part
+
         k : IsKnown x id part
         k = (kept.shown.known id (single part) here).0
+
         nodes : part.node.cache.nodes ≡ nodes_of x
         nodes = (known_part x id part kept.reached k).all
+
         from : may.from < nodes_of x
         from = subst (λ (n : ℕ). may.from < n) nodes may.sender
+
         lane_is : lane ≡ lane_place (nodes_of x) may.kind may.from me
         lane_is = may.lane_is ∙ ap (λ (n : ℕ). lane_place n may.kind may.from me) nodes
+
         at : (lane < lane_count (nodes_of x)) × (sender_of (nodes_of x) lane ≡ may.from) × (receiver_of (nodes_of x) lane ≡ me)
         at = subst (λ (l : ℕ). (l < lane_count (nodes_of x)) × (sender_of (nodes_of x) l ≡ may.from) × (receiver_of (nodes_of x) l ≡ me)) (sym lane_is) (sent_place (nodes_of x) may.kind may.from me from k.some_node)
+
         in_is : inbound_at part lane ≡ x.inbound lane
         in_is = k.inbound lane at.0 at.2
+
         i : Inbound
         i = x.inbound lane
+
         shown_lane : ShowsLane s.words lane (lane_at x.core lane) (x.outbound lane) i
         shown_lane = kept.shown.lanes lane at.0
+
         old : IsOldest s.words lane (lane_at x.core lane) (x.outbound lane) i may.packet
         old = oldest s.words lane (lane_at x.core lane) (x.outbound lane) i may.packet shown_lane.packets shown_lane.letters shown_lane.fits may.spelled.packet (ap (λ (u : Inbound). u.found) (sym in_is) ∙ may.spelled.spelled_so)
+
         rest : List Letter
         rest = map letter_of old.packets
+
         core : Core
         core = with_lane (with_node x.core me next) lane rest
+
         front : lane_of x.core may.kind may.from me ≡ letter_of may.packet ∷ rest
         front = subst (λ (l : ℕ). lane_at x.core l ≡ letter_of may.packet ∷ rest) lane_is old.letters_are
+
         stepped : stepping x.core may.event ≡ Some core
         stepped =
             stepping_takes x.core may.event may.kind may.from may.taking (subst (λ (n : ℕ). n < nodes_of x) (sym may.own) k.some_node) from (side_here x id part may.event k may.own ∙ may.side_is)
             ∙ (ap (λ (n : ℕ). taken_from x.core n (lane_place (nodes_of x) may.kind may.from n) may.taking (lane_of x.core may.kind may.from n)) may.own
             ∙ (takes_front x.core me (lane_place (nodes_of x) may.kind may.from me) may.taking (lane_of x.core may.kind may.from me) (letter_of may.packet) rest next front may.gives
             ∙ ap (λ (l : ℕ). Some (with_lane (with_node x.core me next) l rest)) (sym lane_is)))
+
         reached : IsReached core
         reached = reached_stepping x.core core may.event kept.reached stepped
+
         mine : node_at core me ≡ next
         mine = get_or-set_same x.core.parts me next no_node (parts_within x.core me kept.reached k.some_node)
+
         lane_now : lane_at core lane ≡ rest
         lane_now = get_or-set_same x.core.lanes lane rest [] (lanes_within x.core lane kept.reached at.0)
+
         turn : place ≡ cell_place lane i.taken + 0
         turn = let p = ap (λ (u : Inbound). u.taken) in_is in ap (λ (c : ℕ). c + 0) (same_cell lane number i.taken (omega arith))
+
         y : Whole
         y = turned_whole x lane core (x.outbound lane) (freed_in i)
+
         shows : Shows y (set s.words (cell_place lane i.taken + 0) 0) (set s.views id (single (freed lane next part)))
         shows = lane_step x s.words s.views id lane i.taken 0 0 part core next (outbound_at part lane) (x.outbound lane) (freed_in (inbound_at part lane)) (freed_in i) kept.shown here (omega arith)
-          (record {
-            lane_ok = at.0;
-            size = refl;
-            others = λ n apart. get_or-set_other x.core.parts me n next no_node apart;
-            mine = mine;
-            me = me_stays core me next reached k.some_node mine;
-            lanes = λ other apart. get_or-set_other x.core.lanes lane other rest [] apart;
-            sender = k.outbound lane at.0;
-            not_sender = λ apart. refl;
-            receiver = λ is. ap freed_in in_is;
-            not_receiver = λ apart. absurd (apart at.2);
-          })
-          (record {
-            packets = old.packets;
-            letters = sym lane_now;
-            fits = in_freed s.words lane may.packet old.packets (x.outbound lane) i (subst (λ (n : ℕ). cell_place lane i.taken + 0 < n) (sym kept.shown.long) (place_within (nodes_of x) lane i.taken 0 at.0 (omega arith))) old.fits;
-          })
+            (record {
+              lane_ok = at.0;
+              size = refl;
+              others = λ n apart. get_or-set_other x.core.parts me n next no_node apart;
+              mine = mine;
+              me = me_stays core me next reached k.some_node mine;
+              lanes = λ other apart. get_or-set_other x.core.lanes lane other rest [] apart;
+              sender = k.outbound lane at.0;
+              not_sender = λ apart. refl;
+              receiver = λ is. ap freed_in in_is;
+              not_receiver = λ apart. absurd (apart at.2);
+            })
+            (record {
+              packets = old.packets;
+              letters = sym lane_now;
+              fits = in_freed s.words lane may.packet old.packets (x.outbound lane) i (subst (λ (n : ℕ). cell_place lane i.taken + 0 < n) (sym kept.shown.long) (place_within (nodes_of x) lane i.taken 0 at.0 (omega arith))) old.fits;
+            })
+
         went : Goes size s id place 0 part (freed lane next part)
         went = goes size s kept id place 0 part (freed lane next part) y reached kept.sized here (me_stays core me next reached k.some_node mine)
-          (subst (λ (p : ℕ). Shows y (set s.words p 0) (set s.views id (single (freed lane next part)))) (sym turn) shows)
+            (subst (λ (p : ℕ). Shows y (set s.words p 0) (set s.views id (single (freed lane next part)))) (sym turn) shows)
 
 -- ---- beat
 
@@ -250,31 +291,43 @@ beats size slots id part next may = allows size slots id place part (λ n. (n + 
   where
     me : ℕ
     me = me_of part
+
     place : ℕ
     place = own_place size.nodes me
+
     owes : Owes size id place part (λ n. (n + 1) % 2 ^ 64) (Beats next (step slots place 1 0 none) (single part, []))
     owes s kept here = (with_node_known next part, went, record { view = refl; shown = went.shown; same = went.same })
       where
         x : Whole
         x = kept.whole
+
         value : ℕ
         value = (get_or s.words place 0 + 1) % 2 ^ 64
+
         k : IsKnown x id part
         k = (kept.shown.known id (single part) here).0
+
         core : Core
         core = with_node x.core me next
+
         stepped : stepping x.core may.event ≡ Some core
         stepped = stepping_changed x.core core may.event next (subst (λ (n : ℕ). n < nodes_of x) (sym may.own) k.some_node) (side_here x id part may.event k may.own ∙ may.side_is) (ap (λ (n : ℕ). with_node x.core n next) (sym may.own))
+
         reached : IsReached core
         reached = reached_stepping x.core core may.event kept.reached stepped
+
         mine : node_at core me ≡ next
         mine = get_or-set_same x.core.parts me next no_node (parts_within x.core me kept.reached k.some_node)
+
         same_me : next.cache.me ≡ me
         same_me = me_stays core me next reached k.some_node mine
+
         y : Whole
         y = record { core = core; outbound = x.outbound; inbound = x.inbound; owner = x.owner }
+
         apart : (lane turn j : ℕ) → lane < lane_count (nodes_of x) → j < 11 → cell_place lane turn + j ≢ place
         apart lane turn j lt few = own_apart size.nodes me lane turn j (subst (λ (z : Size). lane < lane_count z.nodes) kept.sized lt) few
+
         lanes : (lane : ℕ) → lane < lane_count (nodes_of x) → ShowsLane (set s.words place value) lane (lane_at core lane) (x.outbound lane) (x.inbound lane)
         lanes lane lt =
             let old = kept.shown.lanes lane lt in
@@ -284,17 +337,18 @@ beats size slots id part next may = allows size slots id place part (λ n. (n + 
               packets = old.packets;
               letters = old.letters;
               fits = agreeing s.words (set s.words place value) lane old.packets o i
-                (record {
-                  full = λ j n a b. stored_else s.words place (cell_place lane (i.taken + j) + n) value (apart lane (i.taken + j) n lt b);
-                  empty = λ j a b. stored_else s.words place (cell_place lane (i.taken + j) + 0) value (apart lane (i.taken + j) 0 lt (omega arith));
-                  filled = λ j a. let most = old.fits.few_filled in stored_else s.words place (cell_place lane o.sent + suc j) value (apart lane o.sent (suc j) lt (omega arith));
-                  found = λ j a. let most = old.fits.few_found in stored_else s.words place (cell_place lane i.taken + j) value (apart lane i.taken j lt (omega arith));
-                })
-                old.fits;
+                  (record {
+                    full = λ j n a b. stored_else s.words place (cell_place lane (i.taken + j) + n) value (apart lane (i.taken + j) n lt b);
+                    empty = λ j a b. stored_else s.words place (cell_place lane (i.taken + j) + 0) value (apart lane (i.taken + j) 0 lt (omega arith));
+                    filled = λ j a. let most = old.fits.few_filled in stored_else s.words place (cell_place lane o.sent + suc j) value (apart lane o.sent (suc j) lt (omega arith));
+                    found = λ j a. let most = old.fits.few_found in stored_else s.words place (cell_place lane i.taken + j) value (apart lane i.taken j lt (omega arith));
+                  })
+                  old.fits;
             }
+
         went : Goes size s id place value part (with_node_known next part)
         went = goes size s kept id place value part (with_node_known next part) y reached kept.sized here same_me
-          (step_shows x y s.words s.views id place value part (with_node_known next part) kept.shown here
+            (step_shows x y s.words s.views id place value part (with_node_known next part) kept.shown here
             (record {
               size = refl;
               owner = λ n. refl;

@@ -1,12 +1,11 @@
 -- What words and views that show a state tell a seat that has one node.
-use Rattle.std.proofs.Common.{◌≡◌, ◌≢◌, ℕ, zero, suc, ◌+◌, ◌<◌, ◌≤◌, true, false, List, [], ◌∷◌, length, get_or, map, Some, None, refl, sym, ap, subst, ◌∙◌, arith}
+use Rattle.std.proofs.Common.{◌≡◌, ℕ, ◌+◌, ◌<◌, List, [], ◌∷◌, length, map, refl, sym, ap, subst, ◌∙◌, arith}
 use Rattle.std.proofs.lemmas.List.{length-map}
 use mathlib.Core.Option.{some}
 use lib.ListN.{get_elem?}
 use Rattle.sci_packets.specs.declared.packet.Packet.{Packet}
-use Rattle.sci_packets.specs.Spelling.{IsPacket, words_of}
 use Rattle.sci_cache.specs.Cache.{Letter, letter_of}
-use Rattle.sci_core.specs.Core.{Core, node_at, lane_at}
+use Rattle.sci_core.specs.Core.{lane_at}
 use Rattle.sci_core.specs.Reached.{IsReached}
 use Rattle.sci_core.specs.WellFormed.{IsPart}
 use Rattle.sci_core.proofs.WellFormedSteps.{reached_well}
@@ -14,10 +13,9 @@ use Rattle.sci_lanes.specs.declared.view.Outbound.{Outbound}
 use Rattle.sci_lanes.specs.declared.view.Inbound.{Inbound}
 use Rattle.sci_lanes.specs.declared.view.Part.{Part}
 use Rattle.sci_lanes.specs.declared.view.View.{View}
-use Rattle.sci_lanes.specs.Cells.{lane_count, sender_of, receiver_of, word_at}
-use Rattle.sci_lanes.specs.Shown.{Fits, ShowsLane, Whole, nodes_of, me_of, single, outbound_at, inbound_at, IsKnown, Shows}
+use Rattle.sci_lanes.specs.Cells.{word_at}
+use Rattle.sci_lanes.specs.Shown.{Fits, ShowsLane, Whole, me_of, single, inbound_at, IsKnown, Shows}
 use Rattle.sci_lanes.specs.Telling.{IsFront, IsShown}
-use Rattle.sci_lanes.proofs.LaneSteps.{below_eleven}
 
 -- a lane has as many packets as its cells show
 pub lane_length : {words : List ℕ} {place : ℕ} {lane : List Letter} {o : Outbound} {i : Inbound} (s : ShowsLane words place lane o i) → length lane ≡ length s.packets
@@ -32,8 +30,8 @@ front_shown words place lane o i (p ∷ packets) letters f found = record {
   front = sym letters;
   good = f.good 0 p refl;
   agrees = λ k lt less.
-    let turn : i.taken + 0 ≡ i.taken = omega arith in
-    sym (f.found k lt) ∙ (ap (λ (t : ℕ). word_at words place t k) (sym turn) ∙ f.full 0 k p refl less);
+      let turn : i.taken + 0 ≡ i.taken = omega arith in
+      sym (f.found k lt) ∙ (ap (λ (t : ℕ). word_at words place t k) (sym turn) ∙ f.full 0 k p refl less);
 }
 
 -- the node of a part is a part of the state
@@ -51,20 +49,20 @@ shown x words views seat part reached s here =
       outbound_long = k.outbound_long;
       inbound_long = k.inbound_long;
       found = λ lane lt is above.
-        let l = s.lanes lane lt in
-        let same : x.inbound lane ≡ inbound_at part lane = sym (k.inbound lane lt is) in
-        subst (λ (i : Inbound). IsFront (lane_at x.core lane) i.found) same
+          let l = s.lanes lane lt in
+          let same : x.inbound lane ≡ inbound_at part lane = sym (k.inbound lane lt is) in
+          subst (λ (i : Inbound). IsFront (lane_at x.core lane) i.found) same
           (front_shown words lane (lane_at x.core lane) (x.outbound lane) (x.inbound lane) l.packets l.letters l.fits (subst (λ (i : Inbound). 0 < length i.found) (sym same) above));
       vacant = λ lane lt is empty.
-        let l = s.lanes lane lt in
-        let room = l.fits.vacant (ap (λ (o : Outbound). o.vacant) (sym (k.outbound lane lt is)) ∙ empty) in
-        let long = lane_length l in
-        omega arith;
+          let l = s.lanes lane lt in
+          let room = l.fits.vacant (ap (λ (o : Outbound). o.vacant) (sym (k.outbound lane lt is)) ∙ empty) in
+          let long = lane_length l in
+          omega arith;
       own = λ lane lt sends receives.
-        let l = s.lanes lane lt in
-        let counted = l.fits.counted in
-        let long = lane_length l in
-        let out = ap (λ (o : Outbound). o.sent) (k.outbound lane lt sends) in
-        let in_ = ap (λ (i : Inbound). i.taken) (k.inbound lane lt receives) in
-        omega arith;
+          let l = s.lanes lane lt in
+          let counted = l.fits.counted in
+          let long = lane_length l in
+          let out = ap (λ (o : Outbound). o.sent) (k.outbound lane lt sends) in
+          let in_ = ap (λ (i : Inbound). i.taken) (k.inbound lane lt receives) in
+          omega arith;
     }

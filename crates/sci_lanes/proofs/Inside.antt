@@ -1,21 +1,21 @@
 -- How the fields of an end fit together after each call.
-use Rattle.std.proofs.Common.{◌≡◌, ◌≢◌, ℕ, zero, suc, ◌+◌, ◌-◌, ◌*◌, ◌/◌, ◌%◌, ◌<◌, ◌≤◌, ◌⊎◌, inl, inr, Bool, true, false, if◌then◌else◌, eqb, ◌&&◌, List, [], ◌∷◌, ◌++◌, length, get_or, set, take, Option, Some, None, refl, sym, ap, subst, ◌∙◌, arith}
-use Rattle.std.proofs.lemmas.Bool.{and_parts, and_from, and_left, and_right, eqb-true, eq-eqb, ne_eqb, cases_eq, cases_lt}
+use Rattle.std.proofs.Common.{◌≡◌, ◌≢◌, ℕ, ◌+◌, ◌*◌, ◌/◌, ◌%◌, ◌<◌, ◌≤◌, inl, inr, Bool, true, false, if◌then◌else◌, eqb, List, [], ◌∷◌, ◌++◌, length, get_or, set, take, refl, sym, ap, subst, ◌∙◌, arith}
+use Rattle.std.proofs.lemmas.Bool.{and_from, and_left, and_right, eq-eqb, ne_eqb, cases_eq, cases_lt}
 use Rattle.std.proofs.Math.Nat.{div-lt_iff_lt-mul, div-add-mod}
 use Rattle.std.proofs.Common.{mul_assoc}
-use Rattle.std.proofs.lemmas.List.{length-set, length-take-le, length_push, get_or-take, get_or_append_left, get_or_push, get_or-set_same, get_or-set_other, set-get_or}
+use Rattle.std.proofs.lemmas.List.{length-set, length-take-le, length_push, get_or-take, get_or_append_left, get_or_push, get_or-set_same, get_or-set_other}
 use Rattle.sci_core.specs.Node.{NodeOf}
 use Rattle.sci_lanes.specs.declared.end.Inbox.{Inbox}
 use Rattle.sci_lanes.specs.declared.cell.CellId.{CellId}
 use Rattle.sci_lanes.specs.declared.view.Outbound.{Outbound}
 use Rattle.sci_lanes.specs.declared.view.Inbound.{Inbound}
 use Rattle.sci_lanes.specs.declared.view.Part.{Part}
-use Rattle.sci_lanes.specs.Cells.{lane_count, sender_of, receiver_of, lane_number}
+use Rattle.sci_lanes.specs.Cells.{lane_count, receiver_of, lane_number}
 use Rattle.sci_lanes.specs.Shown.{me_of, no_outbound, no_inbound, outbound_at, inbound_at}
 use Rattle.sci_lanes.specs.Knowing.{with_lane_known, found_first, looked_in, looked_out, looked, is_sending, is_receiving, filled, filled_out, read, read_in, published, published_out, freed, freed_in, with_node_known}
 use Rattle.sci_lanes.specs.Telling.{IsShown, IsSameNode}
-use Rattle.sci_lanes.specs.Ends.{nodes_in, lane_at_cell, IsNextToSend, IsNextToTake, no_inbox, HasFound, FitsInside, with_word, passed}
-use Rattle.sci_lanes.proofs.Seats.{IsInLane, sends_in, takes_in, either_in, shown_nodes}
+use Rattle.sci_lanes.specs.Ends.{nodes_in, lane_at_cell, no_inbox, HasFound, FitsInside, with_word, passed}
+use Rattle.sci_lanes.proofs.Seats.{IsInLane}
 
 -- ---- places of inboxes
 
@@ -71,14 +71,14 @@ inside_changed part node me nodes turns turns' inboxes inboxes' lane next node' 
       ];
       taken_are = λ other lt is. elim (cases_eq other lane) [
         | inl e ↦ subst (λ (l : ℕ). (get_or inboxes' (l / nodes) no_inbox).turn ≡ (get_or (set part.inbound lane i) l no_inbound).taken % 4) (sym e)
-          ((c.box (subst (λ (l : ℕ). receiver_of nodes l ≡ me) e is)).turn ∙ ap (λ (u : Inbound). u.taken % 4) (sym in_here))
+            ((c.box (subst (λ (l : ℕ). receiver_of nodes l ≡ me) e is)).turn ∙ ap (λ (u : Inbound). u.taken % 4) (sym in_here))
         | inr apart ↦ ap (λ (b : Inbox). b.turn) (c.boxes_same other apart is) ∙ (f.taken_are other lt is ∙ ap (λ (u : Inbound). u.taken % 4) (sym (get_or-set_other part.inbound lane other i no_inbound apart)))
       ];
       found_are = λ other lt is. elim (cases_eq other lane) [
         | inl e ↦ subst (λ (l : ℕ). HasFound (get_or inboxes' (l / nodes) no_inbox).words (get_or (set part.inbound lane i) l no_inbound).found) (sym e)
-          (subst (λ (u : Inbound). HasFound (get_or inboxes' (lane / nodes) no_inbox).words u.found) (sym in_here) (c.box (subst (λ (l : ℕ). receiver_of nodes l ≡ me) e is)).found)
+            (subst (λ (u : Inbound). HasFound (get_or inboxes' (lane / nodes) no_inbox).words u.found) (sym in_here) (c.box (subst (λ (l : ℕ). receiver_of nodes l ≡ me) e is)).found)
         | inr apart ↦ subst (λ (b : Inbox). HasFound b.words (get_or (set part.inbound lane i) other no_inbound).found) (sym (c.boxes_same other apart is))
-          (subst (λ (u : Inbound). HasFound (get_or inboxes (other / nodes) no_inbox).words u.found) (sym (get_or-set_other part.inbound lane other i no_inbound apart)) (f.found_are other lt is))
+            (subst (λ (u : Inbound). HasFound (get_or inboxes (other / nodes) no_inbox).words u.found) (sym (get_or-set_other part.inbound lane other i no_inbound apart)) (f.found_are other lt is))
       ];
     }
 
@@ -94,7 +94,7 @@ kept_more words found index word few le h =
       begins = λ k lt. elim (cases_lt k index) [
         | inl less ↦ get_or-set_other words index k word 0 (λ e. omega arith) ∙ (h.begins k (omega arith) ∙ (sym (get_or-take index found k 0 less) ∙ sym (get_or_append_left (take index found) (word ∷ []) 0 k (omega arith))))
         | inr ge ↦ (let same : k ≡ index = omega arith in
-          subst (λ (j : ℕ). get_or (set words index word) j 0 ≡ get_or (take index found ++ word ∷ []) j 0) (sym same)
+            subst (λ (j : ℕ). get_or (set words index word) j 0 ≡ get_or (take index found ++ word ∷ []) j 0) (sym same)
             (get_or-set_same words index word 0 (let e = h.eleven in omega arith) ∙ sym (get_or_push (take index found) word 0 index count)))
       ];
     }
@@ -136,17 +136,17 @@ module _ (part : Part) (node : NodeOf) (me nodes : ℕ) (turns : List ℕ) (inbo
   pub filled_inside : (new : Part) (index word : ℕ) → new ≡ filled lane index word part → IsShown new → FitsInside new node me nodes turns inboxes
   filled_inside new index word is shown =
       subst (λ (p : Part). FitsInside p node me nodes turns inboxes) (sym is)
-        (inside_changed part node me nodes turns turns inboxes inboxes lane part.node node (filled_out index word (outbound_at part lane)) (inbound_at part lane) f
-          (unkept (filled_out index word (outbound_at part lane)) (inbound_at part lane) refl (boxed part node me nodes turns inboxes f lane lane_here))
-          (subst IsShown is shown) f.node_is refl refl)
+      (inside_changed part node me nodes turns turns inboxes inboxes lane part.node node (filled_out index word (outbound_at part lane)) (inbound_at part lane) f
+      (unkept (filled_out index word (outbound_at part lane)) (inbound_at part lane) refl (boxed part node me nodes turns inboxes f lane lane_here))
+      (subst IsShown is shown) f.node_is refl refl)
 
   -- the lane's box changes, which is one to this node
   pub rekept : (o : Outbound) (i : Inbound) (box : Inbox) → o.sent ≡ (outbound_at part lane).sent → receiver_of nodes lane ≡ me → box.turn ≡ i.taken % 4 → HasFound box.words i.found
-    → IsChange part me nodes turns turns inboxes (set inboxes (lane_number nodes cell / nodes) box) lane o i
+      → IsChange part me nodes turns turns inboxes (set inboxes (lane_number nodes cell / nodes) box) lane o i
   rekept o i box sent receives turn found =
       let same : lane_number nodes cell ≡ lane = ap (λ (n : ℕ). lane_number n cell) f.nodes_is in
       let here : get_or (set inboxes (lane_number nodes cell / nodes) box) (lane / nodes) no_inbox ≡ box =
-        subst (λ (l : ℕ). get_or (set inboxes (lane_number nodes cell / nodes) box) (l / nodes) no_inbox ≡ box) same (get_or-set_same inboxes (lane_number nodes cell / nodes) box no_inbox box_there) in
+      subst (λ (l : ℕ). get_or (set inboxes (lane_number nodes cell / nodes) box) (l / nodes) no_inbox ≡ box) same (get_or-set_same inboxes (lane_number nodes cell / nodes) box no_inbox box_there) in
       record {
         lane_ok = lane_here;
         turns_long = refl;
@@ -155,7 +155,7 @@ module _ (part : Part) (node : NodeOf) (me nodes : ℕ) (turns : List ℕ) (inbo
         turns_same = λ other apart. refl;
         box = λ is. record { turn = ap (λ (b : Inbox). b.turn) here ∙ turn; found = subst (λ (b : Inbox). HasFound b.words i.found) (sym here) found };
         boxes_same = λ other apart is. get_or-set_other inboxes (lane_number nodes cell / nodes) (other / nodes) box no_inbox
-          (λ e. box_apart nodes lane other apart (is ∙ sym receives) (e ∙ ap (λ (l : ℕ). l / nodes) same));
+            (λ e. box_apart nodes lane other apart (is ∙ sym receives) (e ∙ ap (λ (l : ℕ). l / nodes) same));
       }
 
   pub to_me : cell.receiver ≡ me_of part → receiver_of nodes lane ≡ me
@@ -165,22 +165,22 @@ module _ (part : Part) (node : NodeOf) (me nodes : ℕ) (turns : List ℕ) (inbo
   old_box is = subst (λ (l : ℕ). Boxed inboxes (l / nodes) (inbound_at part lane)) (ap (λ (n : ℕ). lane_number n cell) (sym f.nodes_is)) (boxed part node me nodes turns inboxes f lane lane_here is)
 
   pub read_inside : (new : Part) (index word : ℕ) → index < 11 → index ≤ length (inbound_at part lane).found → cell.receiver ≡ me_of part → new ≡ read lane index word part → IsShown new
-    → FitsInside new node me nodes turns (set inboxes (lane_number nodes cell / nodes) (with_word index word (get_or inboxes (lane_number nodes cell / nodes) no_inbox)))
+      → FitsInside new node me nodes turns (set inboxes (lane_number nodes cell / nodes) (with_word index word (get_or inboxes (lane_number nodes cell / nodes) no_inbox)))
   read_inside new index word few order mine is shown =
       let receives = to_me mine in
       let old = old_box receives in
       let box = with_word index word (get_or inboxes (lane_number nodes cell / nodes) no_inbox) in
       subst (λ (p : Part). FitsInside p node me nodes turns (set inboxes (lane_number nodes cell / nodes) box)) (sym is)
-        (inside_changed part node me nodes turns turns inboxes (set inboxes (lane_number nodes cell / nodes) box) lane part.node node (outbound_at part lane) (read_in index word (inbound_at part lane)) f
-          (rekept (outbound_at part lane) (read_in index word (inbound_at part lane)) box refl receives old.turn (kept_more (get_or inboxes (lane_number nodes cell / nodes) no_inbox).words (inbound_at part lane).found index word few order old.found))
-          (subst IsShown is shown) f.node_is refl refl)
+      (inside_changed part node me nodes turns turns inboxes (set inboxes (lane_number nodes cell / nodes) box) lane part.node node (outbound_at part lane) (read_in index word (inbound_at part lane)) f
+      (rekept (outbound_at part lane) (read_in index word (inbound_at part lane)) box refl receives old.turn (kept_more (get_or inboxes (lane_number nodes cell / nodes) no_inbox).words (inbound_at part lane).found index word few order old.found))
+      (subst IsShown is shown) f.node_is refl refl)
 
   out_sent : (b : Bool) (word : ℕ) (o : Outbound) → (if b then looked_out word o else o).sent ≡ o.sent
   out_sent true word o = refl
   out_sent false word o = refl
 
   looked_as : (b : Bool) (new : Part) (word : ℕ) → is_receiving part lane cell.number ≡ b → new ≡ looked lane cell.number word part
-    → new ≡ with_lane_known lane part.node (if is_sending part lane cell.number then looked_out word (outbound_at part lane) else outbound_at part lane) (if b then looked_in word (inbound_at part lane) else inbound_at part lane) part
+      → new ≡ with_lane_known lane part.node (if is_sending part lane cell.number then looked_out word (outbound_at part lane) else outbound_at part lane) (if b then looked_in word (inbound_at part lane) else inbound_at part lane) part
   looked_as b new word e is = is ∙ ap (λ (c : Bool). with_lane_known lane part.node (if is_sending part lane cell.number then looked_out word (outbound_at part lane) else outbound_at part lane) (if c then looked_in word (inbound_at part lane) else inbound_at part lane) part) e
 
   -- the look isn't the receiver's
@@ -189,9 +189,9 @@ module _ (part : Part) (node : NodeOf) (me nodes : ℕ) (turns : List ℕ) (inbo
       let o = if is_sending part lane cell.number then looked_out word (outbound_at part lane) else outbound_at part lane in
       let is' : new ≡ with_lane_known lane part.node o (inbound_at part lane) part = looked_as false new word not is in
       subst (λ (p : Part). FitsInside p node me nodes turns inboxes) (sym is')
-        (inside_changed part node me nodes turns turns inboxes inboxes lane part.node node o (inbound_at part lane) f
-          (unkept o (inbound_at part lane) (out_sent (is_sending part lane cell.number) word (outbound_at part lane)) (boxed part node me nodes turns inboxes f lane lane_here))
-          (subst IsShown is' shown) f.node_is refl refl)
+      (inside_changed part node me nodes turns turns inboxes inboxes lane part.node node o (inbound_at part lane) f
+      (unkept o (inbound_at part lane) (out_sent (is_sending part lane cell.number) word (outbound_at part lane)) (boxed part node me nodes turns inboxes f lane lane_here))
+      (subst IsShown is' shown) f.node_is refl refl)
 
   pub elsewhere_inside : (new : Part) (word : ℕ) → cell.receiver ≢ me → new ≡ looked lane cell.number word part → IsShown new → FitsInside new node me nodes turns inboxes
   elsewhere_inside new word apart is shown =
@@ -202,7 +202,7 @@ module _ (part : Part) (node : NodeOf) (me nodes : ℕ) (turns : List ℕ) (inbo
       unreceived new word (and_right (eqb (receiver_of (nodes_in part) lane) (me_of part)) (eqb cell.number ((inbound_at part lane).taken % 4)) (ne_eqb cell.number ((inbound_at part lane).taken % 4) (λ e. apart ((old_box (to_me (mine ∙ f.me_is))).turn ∙ sym e)))) is shown
 
   pub next_inside : (new : Part) (word : ℕ) → cell.receiver ≡ me → (get_or inboxes (lane_number nodes cell / nodes) no_inbox).turn ≡ cell.number → new ≡ looked lane cell.number word part → IsShown new
-    → FitsInside new node me nodes turns (set inboxes (lane_number nodes cell / nodes) (with_word 0 word (get_or inboxes (lane_number nodes cell / nodes) no_inbox)))
+      → FitsInside new node me nodes turns (set inboxes (lane_number nodes cell / nodes) (with_word 0 word (get_or inboxes (lane_number nodes cell / nodes) no_inbox)))
   next_inside new word mine next is shown =
       let receives = to_me (mine ∙ f.me_is) in
       let old = old_box receives in
@@ -210,35 +210,35 @@ module _ (part : Part) (node : NodeOf) (me nodes : ℕ) (turns : List ℕ) (inbo
       let o = if is_sending part lane cell.number then looked_out word (outbound_at part lane) else outbound_at part lane in
       let i = looked_in word (inbound_at part lane) in
       let does : is_receiving part lane cell.number ≡ true = and_from (eqb (receiver_of (nodes_in part) lane) (me_of part)) (eqb cell.number ((inbound_at part lane).taken % 4))
-        (eq-eqb (receiver_of (nodes_in part) lane) (me_of part) (at.receiver ∙ (mine ∙ f.me_is))) (eq-eqb cell.number ((inbound_at part lane).taken % 4) (sym next ∙ old.turn)) in
+      (eq-eqb (receiver_of (nodes_in part) lane) (me_of part) (at.receiver ∙ (mine ∙ f.me_is))) (eq-eqb cell.number ((inbound_at part lane).taken % 4) (sym next ∙ old.turn)) in
       let is' : new ≡ with_lane_known lane part.node o i part = looked_as true new word does is in
       subst (λ (p : Part). FitsInside p node me nodes turns (set inboxes (lane_number nodes cell / nodes) box)) (sym is')
-        (inside_changed part node me nodes turns turns inboxes (set inboxes (lane_number nodes cell / nodes) box) lane part.node node o i f
-          (rekept o i box (out_sent (is_sending part lane cell.number) word (outbound_at part lane)) receives old.turn (kept_first (get_or inboxes (lane_number nodes cell / nodes) no_inbox).words (inbound_at part lane).found word old.found))
-          (subst IsShown is' shown) f.node_is refl refl)
+      (inside_changed part node me nodes turns turns inboxes (set inboxes (lane_number nodes cell / nodes) box) lane part.node node o i f
+      (rekept o i box (out_sent (is_sending part lane cell.number) word (outbound_at part lane)) receives old.turn (kept_first (get_or inboxes (lane_number nodes cell / nodes) no_inbox).words (inbound_at part lane).found word old.found))
+      (subst IsShown is' shown) f.node_is refl refl)
 
   pub published_inside : (new : Part) (next node' : NodeOf) (turn : ℕ) → cell.number ≡ (outbound_at part lane).sent % 4 → turn ≡ (cell.number + 1) % 4 → new ≡ published lane next part → IsShown new → node' ≡ next → IsSameNode part new
-    → FitsInside new node' me nodes (set turns (lane_number nodes cell) turn) inboxes
+      → FitsInside new node' me nodes (set turns (lane_number nodes cell) turn) inboxes
   published_inside new next node' turn number turn_is is shown node_is same =
       let o = published_out (outbound_at part lane) in
       let here : lane_number nodes cell ≡ lane = ap (λ (n : ℕ). lane_number n cell) f.nodes_is in
       let within : lane < length turns = subst (λ (n : ℕ). lane < n) (sym f.turns_long) lane_here in
       let same' : IsSameNode part (published lane next part) = subst (λ (p : Part). IsSameNode part p) is same in
       subst (λ (p : Part). FitsInside p node' me nodes (set turns (lane_number nodes cell) turn) inboxes) (sym is)
-        (inside_changed part node me nodes turns (set turns (lane_number nodes cell) turn) inboxes inboxes lane next node' o (inbound_at part lane) f
-          (record {
-            lane_ok = lane_here;
-            turns_long = length-set turns (lane_number nodes cell) turn;
-            inboxes_long = refl;
-            turn = subst (λ (l : ℕ). get_or (set turns l turn) lane 0 ≡ o.sent % 4) (sym here) (get_or-set_same turns lane turn 0 within ∙ omega arith);
-            turns_same = λ other apart. get_or-set_other turns (lane_number nodes cell) other turn 0 (λ e. apart (e ∙ here));
-            box = boxed part node me nodes turns inboxes f lane lane_here;
-            boxes_same = λ other apart to_here. refl;
-          })
-          (subst IsShown is shown) node_is same'.me (ap (λ z. z.nodes) same'.sized))
+      (inside_changed part node me nodes turns (set turns (lane_number nodes cell) turn) inboxes inboxes lane next node' o (inbound_at part lane) f
+      (record {
+        lane_ok = lane_here;
+        turns_long = length-set turns (lane_number nodes cell) turn;
+        inboxes_long = refl;
+        turn = subst (λ (l : ℕ). get_or (set turns l turn) lane 0 ≡ o.sent % 4) (sym here) (get_or-set_same turns lane turn 0 within ∙ omega arith);
+        turns_same = λ other apart. get_or-set_other turns (lane_number nodes cell) other turn 0 (λ e. apart (e ∙ here));
+        box = boxed part node me nodes turns inboxes f lane lane_here;
+        boxes_same = λ other apart to_here. refl;
+      })
+      (subst IsShown is shown) node_is same'.me (ap (λ z. z.nodes) same'.sized))
 
   pub freed_inside : (new : Part) (next node' : NodeOf) → cell.receiver ≡ me_of part → new ≡ freed lane next part → IsShown new → node' ≡ next → IsSameNode part new
-    → FitsInside new node' me nodes turns (set inboxes (lane_number nodes cell / nodes) (passed (get_or inboxes (lane_number nodes cell / nodes) no_inbox)))
+      → FitsInside new node' me nodes turns (set inboxes (lane_number nodes cell / nodes) (passed (get_or inboxes (lane_number nodes cell / nodes) no_inbox)))
   freed_inside new next node' mine is shown node_is same =
       let receives = to_me mine in
       let old = old_box receives in
@@ -246,26 +246,26 @@ module _ (part : Part) (node : NodeOf) (me nodes : ℕ) (turns : List ℕ) (inbo
       let box = passed (get_or inboxes (lane_number nodes cell / nodes) no_inbox) in
       let same' : IsSameNode part (freed lane next part) = subst (λ (p : Part). IsSameNode part p) is same in
       subst (λ (p : Part). FitsInside p node' me nodes turns (set inboxes (lane_number nodes cell / nodes) box)) (sym is)
-        (inside_changed part node me nodes turns turns inboxes (set inboxes (lane_number nodes cell / nodes) box) lane next node' (outbound_at part lane) (freed_in (inbound_at part lane)) f
-          (rekept (outbound_at part lane) (freed_in (inbound_at part lane)) box refl receives (omega arith) (record { eleven = old.found.eleven; begins = λ k lt. absurd (omega arith) }))
-          (subst IsShown is shown) node_is same'.me (ap (λ z. z.nodes) same'.sized))
+      (inside_changed part node me nodes turns turns inboxes (set inboxes (lane_number nodes cell / nodes) box) lane next node' (outbound_at part lane) (freed_in (inbound_at part lane)) f
+      (rekept (outbound_at part lane) (freed_in (inbound_at part lane)) box refl receives (omega arith) (record { eleven = old.found.eleven; begins = λ k lt. absurd (omega arith) }))
+      (subst IsShown is shown) node_is same'.me (ap (λ z. z.nodes) same'.sized))
 
 pub beaten_inside : (part new : Part) (node : NodeOf) (me nodes : ℕ) (turns : List ℕ) (inboxes : List Inbox) (next node' : NodeOf) → FitsInside part node me nodes turns inboxes → new ≡ with_node_known next part → IsShown new → node' ≡ next → IsSameNode part new
     → FitsInside new node' me nodes turns inboxes
 beaten_inside part new node me nodes turns inboxes next node' f is shown node_is same =
     let same' : IsSameNode part (with_node_known next part) = subst (λ (p : Part). IsSameNode part p) is same in
     subst (λ (p : Part). FitsInside p node' me nodes turns inboxes) (sym is)
-      (record {
-        shown = subst IsShown is shown;
-        node_is = node_is;
-        me_is = f.me_is ∙ sym same'.me;
-        nodes_is = f.nodes_is ∙ sym (ap (λ z. z.nodes) same'.sized);
-        some_node = f.some_node;
-        outbound_long = f.outbound_long;
-        inbound_long = f.inbound_long;
-        turns_long = f.turns_long;
-        inboxes_long = f.inboxes_long;
-        turns_are = f.turns_are;
-        taken_are = f.taken_are;
-        found_are = f.found_are;
-      })
+    (record {
+      shown = subst IsShown is shown;
+      node_is = node_is;
+      me_is = f.me_is ∙ sym same'.me;
+      nodes_is = f.nodes_is ∙ sym (ap (λ z. z.nodes) same'.sized);
+      some_node = f.some_node;
+      outbound_long = f.outbound_long;
+      inbound_long = f.inbound_long;
+      turns_long = f.turns_long;
+      inboxes_long = f.inboxes_long;
+      turns_are = f.turns_are;
+      taken_are = f.taken_are;
+      found_are = f.found_are;
+    })

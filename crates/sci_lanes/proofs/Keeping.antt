@@ -1,19 +1,17 @@
 -- What keeps words and views showing a state.
-use Rattle.std.proofs.Common.{◌≡◌, ◌≢◌, ℕ, zero, suc, ◌<◌, ◌≤◌, ◌⊎◌, inl, inr, true, false, eqb, if◌then◌else◌, List, [], ◌∷◌, ◌++◌, length, get_or, set, Some, None, refl, sym, ap, subst, ◌∙◌, arith, eq-eqb, ne_eqb}
+use Rattle.std.proofs.Common.{◌≡◌, ◌≢◌, ℕ, zero, suc, ◌<◌, inl, inr, eqb, if◌then◌else◌, List, [], ◌∷◌, ◌++◌, length, set, Some, refl, sym, ap, subst, ◌∙◌, arith, eq-eqb, ne_eqb}
 use Rattle.std.specs.Prelude.{slice_get}
 use Rattle.std.specs.List.{AllByRecursion}
-use Rattle.std.proofs.lemmas.Bool.{cases_lt, cases_eq}
-use Rattle.std.proofs.lemmas.List.{length-set, set-get_or}
+use Rattle.std.proofs.lemmas.Bool.{cases_eq}
+use Rattle.std.proofs.lemmas.List.{length-set}
 use mathlib.Core.Option.{some, some-injective, some-ne-none}
 use lib.ListN.{get_elem?}
-use Rattle.atomic_table.proofs.Lists.{at_set, set_here, set_else, at_longer, at_last, at_snoc}
-use Rattle.sci_core.specs.Core.{Core, node_at, lane_at}
-use Rattle.sci_lanes.specs.declared.view.Outbound.{Outbound}
-use Rattle.sci_lanes.specs.declared.view.Inbound.{Inbound}
+use Rattle.atomic_table.proofs.Lists.{at_set, set_here, set_else}
+use Rattle.sci_core.specs.Core.{node_at, lane_at}
 use Rattle.sci_lanes.specs.declared.view.Part.{Part}
 use Rattle.sci_lanes.specs.declared.view.View.{View}
 use Rattle.sci_lanes.specs.Cells.{lane_count, sender_of, receiver_of, word_count}
-use Rattle.sci_lanes.specs.Shown.{Whole, nodes_of, me_of, single, outbound_at, inbound_at, ShowsLane, IsKnown, HasRead, IsCovered, Shows}
+use Rattle.sci_lanes.specs.Shown.{Whole, nodes_of, me_of, single, ShowsLane, IsKnown, HasRead, IsCovered, Shows}
 
 -- ---- lists
 
@@ -88,11 +86,11 @@ other_known x y seat other part next p apart mine t k =
       outbound_long = k.outbound_long ∙ ap lane_count (sym size);
       inbound_long = k.inbound_long ∙ ap lane_count (sym size);
       outbound = λ lane lt is.
-        let is' : sender_of n lane ≡ me_of p = subst (λ (m : ℕ). sender_of m lane ≡ me_of p) size is in
-        k.outbound lane (subst (λ (m : ℕ). lane < lane_count m) size lt) is' ∙ sym (t.outbound lane (λ e. not_me (sym is' ∙ e)));
+          let is' : sender_of n lane ≡ me_of p = subst (λ (m : ℕ). sender_of m lane ≡ me_of p) size is in
+          k.outbound lane (subst (λ (m : ℕ). lane < lane_count m) size lt) is' ∙ sym (t.outbound lane (λ e. not_me (sym is' ∙ e)));
       inbound = λ lane lt is.
-        let is' : receiver_of n lane ≡ me_of p = subst (λ (m : ℕ). receiver_of m lane ≡ me_of p) size is in
-        k.inbound lane (subst (λ (m : ℕ). lane < lane_count m) size lt) is' ∙ sym (t.inbound lane (λ e. not_me (sym is' ∙ e)));
+          let is' : receiver_of n lane ≡ me_of p = subst (λ (m : ℕ). receiver_of m lane ≡ me_of p) size is in
+          k.inbound lane (subst (λ (m : ℕ). lane < lane_count m) size lt) is' ∙ sym (t.inbound lane (λ e. not_me (sym is' ∙ e)));
     }
 
 pub step_shows : (x y : Whole) (words : List ℕ) (views : List View) (seat place value : ℕ) (part next : Part) → Shows x words views → get_elem? views seat ≡ some (single part) → Turned x y seat part next
@@ -108,6 +106,7 @@ step_shows x y words views seat place value part next s here t lanes = record {
   where
     mine : IsKnown x seat part
     mine = (s.known seat (single part) here).0
+
     seated : seat < length views
     seated = within views seat (single part) here
       where
@@ -115,25 +114,28 @@ step_shows x y words views seat place value part next s here t lanes = record {
         within [] k a e = absurd (some-ne-none a (sym e))
         within (z ∷ xs) zero a e = omega arith
         within (z ∷ xs) (suc k) a e = let later = within xs k a e in omega arith
+
     known : (other : ℕ) (view : View) → get_elem? (set views seat (single next)) other ≡ some view → AllByRecursion (IsKnown y other) view.parts
     known other view e = elim (at_set views seat other (single next) view e) [
       | inl h ↦ subst (λ (k : ℕ). AllByRecursion (IsKnown y k) view.parts) (sym h.0) (subst (λ (v : View). AllByRecursion (IsKnown y seat) v.parts) h.1 (t.known, tt))
       | inr h ↦ all_by (IsKnown x other) (IsKnown y other) (λ p k. other_known x y seat other part next p h.0 mine t k) view.parts (s.known other view h.1)
     ]
+
     covered : (n : ℕ) → n < nodes_of y → IsCovered y (set views seat (single next)) n
     covered n lt =
         let old = s.covered n (subst (λ (m : ℕ). n < m) t.size lt) in
         elim (cases_eq (x.owner n) seat) [
           | inl is ↦ (
-            let view_is : single part ≡ old.view = some-injective (single part) old.view (sym here ∙ (ap (λ (k : ℕ). get_elem? views k) (sym is) ∙ old.seated)) in
-            let part_is : part ≡ old.part = only part old.part old.place (ap (λ (v : View). slice_get v.parts old.place) view_is ∙ old.there) in
-            record { view = single next; place = 0; part = next; seated = ap (λ (k : ℕ). get_elem? (set views seat (single next)) k) (t.owner n ∙ is) ∙ set_here views seat (single next) seated; there = refl; of_node = t.me ∙ (ap me_of part_is ∙ old.of_node) })
+              let view_is : single part ≡ old.view = some-injective (single part) old.view (sym here ∙ (ap (λ (k : ℕ). get_elem? views k) (sym is) ∙ old.seated)) in
+              let part_is : part ≡ old.part = only part old.part old.place (ap (λ (v : View). slice_get v.parts old.place) view_is ∙ old.there) in
+              record { view = single next; place = 0; part = next; seated = ap (λ (k : ℕ). get_elem? (set views seat (single next)) k) (t.owner n ∙ is) ∙ set_here views seat (single next) seated; there = refl; of_node = t.me ∙ (ap me_of part_is ∙ old.of_node) })
           | inr apart ↦ record { view = old.view; place = old.place; part = old.part; seated = ap (λ (k : ℕ). get_elem? (set views seat (single next)) k) (t.owner n) ∙ (set_else views seat (x.owner n) (single next) apart ∙ old.seated); there = old.there; of_node = old.of_node }
         ]
       where
         only : (p q : Part) (k : ℕ) → slice_get (p ∷ []) k ≡ Some q → p ≡ q
         only p q zero e = cc
         only p q (suc k) e = cc
+
     read : (other : ℕ) (view : View) → get_elem? (set views seat (single next)) other ≡ some view → HasRead y other (set words place value) view.words
     read other view e = elim (at_set views seat other (single next) view e) [
       | inl h ↦ subst (λ (v : View). HasRead y other (set words place value) v.words) h.1 (read_none y other (set words place value))

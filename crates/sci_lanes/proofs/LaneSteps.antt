@@ -1,8 +1,8 @@
 -- What each kind of step does to the words of a lane and to what its ends know of it.
-use Rattle.std.proofs.Common.{◌≡◌, ◌≢◌, ℕ, zero, suc, ◌+◌, ◌-◌, ◌*◌, ◌%◌, ◌<◌, ◌≤◌, ◌⊎◌, inl, inr, Bool, true, false, eqb, List, [], ◌∷◌, ◌++◌, length, get_or, set, take, Some, None, refl, sym, ap, subst, ◌∙◌, arith}
+use Rattle.std.proofs.Common.{◌≡◌, ◌≢◌, ℕ, zero, suc, ◌+◌, ◌-◌, ◌<◌, ◌≤◌, inl, inr, Bool, true, false, eqb, List, [], ◌∷◌, ◌++◌, length, get_or, set, take, Some, refl, sym, ap, subst, ◌∙◌, arith}
 use Rattle.std.specs.Prelude.{slice_get}
 use Rattle.std.proofs.lemmas.Bool.{cases_lt, eqb-true, eqb-false, ne_eqb}
-use Rattle.std.proofs.lemmas.List.{length-append, length-take-le, length_push, get_or-take, get_or_append_left, get_or_push}
+use Rattle.std.proofs.lemmas.List.{length-take-le, length_push, get_or-take, get_or_append_left, get_or_push}
 use Rattle.std.proofs.lemmas.Option.{slice_get_within}
 use Rattle.sci_packets.specs.declared.packet.Packet.{Packet}
 use Rattle.sci_packets.specs.Spelling.{IsPacket, words_of}
@@ -47,13 +47,13 @@ pub stored_elsewhere : (words : List ℕ) (lane other turn index value : ℕ) (p
     → Fits words other packets o i → Fits (set words (cell_place lane turn + index) value) other packets o i
 stored_elsewhere words lane other turn index value packets o i apart few f =
     agreeing words (set words (cell_place lane turn + index) value) other packets o i
-      (record {
-        full = λ k j lt less. stored_else words (cell_place lane turn + index) (cell_place other (i.taken + k) + j) value (other_lane lane other turn (i.taken + k) index j apart few less);
-        empty = λ k le lt. stored_else words (cell_place lane turn + index) (cell_place other (i.taken + k) + 0) value (other_lane lane other turn (i.taken + k) index 0 apart few (omega arith));
-        filled = λ j lt. let most = f.few_filled in stored_else words (cell_place lane turn + index) (cell_place other o.sent + suc j) value (other_lane lane other turn o.sent index (suc j) apart few (omega arith));
-        found = λ j lt. let most = f.few_found in stored_else words (cell_place lane turn + index) (cell_place other i.taken + j) value (other_lane lane other turn i.taken index j apart few (omega arith));
-      })
-      f
+    (record {
+      full = λ k j lt less. stored_else words (cell_place lane turn + index) (cell_place other (i.taken + k) + j) value (other_lane lane other turn (i.taken + k) index j apart few less);
+      empty = λ k le lt. stored_else words (cell_place lane turn + index) (cell_place other (i.taken + k) + 0) value (other_lane lane other turn (i.taken + k) index 0 apart few (omega arith));
+      filled = λ j lt. let most = f.few_filled in stored_else words (cell_place lane turn + index) (cell_place other o.sent + suc j) value (other_lane lane other turn o.sent index (suc j) apart few (omega arith));
+      found = λ j lt. let most = f.few_found in stored_else words (cell_place lane turn + index) (cell_place other i.taken + j) value (other_lane lane other turn i.taken index j apart few (omega arith));
+    })
+    f
 
 -- ---- what is known
 
@@ -202,6 +202,7 @@ out_looked words lane packets o i f =
   where
     not_vacant : (word : ℕ) → word ≡ 0 → eqb word 0 ≡ false → ⊥
     not_vacant word e not = eqb-false word 0 not e
+
     nothing_filled : {vacant : Bool} {filled : List ℕ} → (vacant ≡ false → filled ≡ []) → (vacant ≡ true → ⊥) → filled ≡ []
     nothing_filled {vacant = true} h k = absurd (k refl)
     nothing_filled {vacant = false} h k = h refl
@@ -213,11 +214,13 @@ in_looked words lane packets o i f = by_word (word_at words lane i.taken 0) refl
   where
     none : Fits words lane packets o (record i { found = [] })
     none = forget_found words lane 0 packets o i (omega arith) f
+
     some : (word : ℕ) → word_at words lane i.taken 0 ≡ suc word → 0 < length packets
     some word is = elim (cases_lt 0 (length packets)) [
       | inl lt ↦ lt
       | inr le ↦ (let empty = first_empty f 0 le (omega arith) i.taken (omega arith) in absurd (omega arith))
     ]
+
     by_word : (word : ℕ) → word_at words lane i.taken 0 ≡ word → Fits words lane packets o (record i { found = found_first word })
     by_word zero is = none
     by_word (suc word) is = rw (ne_eqb (suc word) 0 (λ e. omega arith)) (more_found words lane (suc word) packets o (record i { found = [] }) (some word is) (omega arith) is none)
@@ -233,14 +236,14 @@ out_filled words lane index word packets o i vacant above few next within f =
     let count : length (take (index - 1) o.filled) ≡ index - 1 = length-take-le (index - 1) o.filled (omega arith) in
     let before : Fits words lane packets (record o { filled = take (index - 1) o.filled }) i = forget_filled words lane (index - 1) packets o i (omega arith) f in
     let kept : Fits others lane packets (record o { filled = take (index - 1) o.filled }) i =
-      agreeing words others lane packets (record o { filled = take (index - 1) o.filled }) i
-        (record {
-          full = λ k j lt small. stored_else words place (cell_place lane (i.taken + k) + j) word (other_cell lane o.sent (i.taken + k) index j (λ e. omega arith) few small);
-          empty = λ k le lt. stored_else words place (cell_place lane (i.taken + k) + 0) word (other_index lane o.sent (i.taken + k) index 0 (λ e. omega arith) few (omega arith));
-          filled = λ j lt. stored_else words place (cell_place lane o.sent + suc j) word (other_index lane o.sent o.sent index (suc j) (λ e. omega arith) few (omega arith));
-          found = λ j lt. let there = f.there (omega arith) in let most = f.few_found in stored_else words place (cell_place lane i.taken + j) word (other_cell lane o.sent i.taken index j (λ e. omega arith) few (omega arith));
-        })
-        before in
+    agreeing words others lane packets (record o { filled = take (index - 1) o.filled }) i
+    (record {
+      full = λ k j lt small. stored_else words place (cell_place lane (i.taken + k) + j) word (other_cell lane o.sent (i.taken + k) index j (λ e. omega arith) few small);
+      empty = λ k le lt. stored_else words place (cell_place lane (i.taken + k) + 0) word (other_index lane o.sent (i.taken + k) index 0 (λ e. omega arith) few (omega arith));
+      filled = λ j lt. stored_else words place (cell_place lane o.sent + suc j) word (other_index lane o.sent o.sent index (suc j) (λ e. omega arith) few (omega arith));
+      found = λ j lt. let there = f.there (omega arith) in let most = f.few_found in stored_else words place (cell_place lane i.taken + j) word (other_cell lane o.sent i.taken index j (λ e. omega arith) few (omega arith));
+    })
+    before in
     let at : suc (length (take (index - 1) o.filled)) ≡ index = omega arith in
     more_filled others lane word packets (record o { filled = take (index - 1) o.filled }) i vacant (omega arith) (ap (λ (k : ℕ). word_at others lane o.sent k) at ∙ stored_here words place word within) kept
 
@@ -249,7 +252,7 @@ pub in_read : (words : List ℕ) (lane index : ℕ) (packets : List Packet) (o :
 in_read words lane index packets o i above few next f =
     let count : length (take index i.found) ≡ index = length-take-le index i.found next in
     more_found words lane (word_at words lane i.taken index) packets o (record i { found = take index i.found }) (f.there (omega arith)) (omega arith) (ap (λ (k : ℕ). word_at words lane i.taken k) count)
-      (forget_found words lane index packets o i next f)
+    (forget_found words lane index packets o i next f)
 
 -- the packet leaves the lane, and its cell is empty
 pub in_freed : (words : List ℕ) (lane : ℕ) (p : Packet) (packets : List Packet) (o : Outbound) (i : Inbound) → cell_place lane i.taken + 0 < length words
@@ -265,12 +268,12 @@ in_freed words lane p packets o i within f =
       counted = omega arith;
       room = omega arith;
       full = λ k j q e lt.
-        let at = slice_get_within packets k q e in
-        stored_else words place (cell_place lane (i.taken + 1 + k) + j) 0 (other_cell lane i.taken (i.taken + 1 + k) 0 j (λ s. omega arith) (omega arith) (below_eleven f (suc k) j q e lt))
-        ∙ (ap (λ (t : ℕ). word_at words lane t j) (sym (later k)) ∙ f.full (suc k) j q e lt);
+          let at = slice_get_within packets k q e in
+          stored_else words place (cell_place lane (i.taken + 1 + k) + j) 0 (other_cell lane i.taken (i.taken + 1 + k) 0 j (λ s. omega arith) (omega arith) (below_eleven f (suc k) j q e lt))
+          ∙ (ap (λ (t : ℕ). word_at words lane t j) (sym (later k)) ∙ f.full (suc k) j q e lt);
       empty = λ k le lt. elim (cases_lt k 3) [
         | inl less ↦ stored_else words place (cell_place lane (i.taken + 1 + k) + 0) 0 (other_cell lane i.taken (i.taken + 1 + k) 0 0 (λ s. omega arith) (omega arith) (omega arith))
-          ∙ (ap (λ (t : ℕ). word_at words lane t 0) (sym (later k)) ∙ f.empty (suc k) (omega arith) (omega arith))
+            ∙ (ap (λ (t : ℕ). word_at words lane t 0) (sym (later k)) ∙ f.empty (suc k) (omega arith) (omega arith))
         | inr most ↦ ap (λ (c : ℕ). get_or others (c + 0) 0) (same_cell lane (i.taken + 1 + k) i.taken (omega arith)) ∙ stored_here words place 0 within
       ];
       vacant = λ is. let less = f.vacant is in omega arith;
@@ -299,9 +302,9 @@ out_published words lane first p packets o i vacant good spelled within f =
       full = λ k j q e lt. elim (at_end packets p k q e) [
         | inl h ↦ (let at = h.0 in stored_else words place (cell_place lane (i.taken + k) + j) first (other_cell lane o.sent (i.taken + k) 0 j (λ s. omega arith) (omega arith) (below_eleven f k j q h.1 lt)) ∙ f.full k j q h.1 lt)
         | inr h ↦ (let turn : o.sent ≡ i.taken + k = (let at = h.0 in omega arith) in
-          subst (λ (t : ℕ). word_at others lane t j ≡ get_or (words_of q) j 0) turn
+            subst (λ (t : ℕ). word_at others lane t j ≡ get_or (words_of q) j 0) turn
             (subst (λ (r : Packet). word_at others lane o.sent j ≡ get_or (words_of r) j 0) h.1
-              (new_word j (subst (λ (r : Packet). j < length (words_of r)) (sym h.1) lt))))
+            (new_word j (subst (λ (r : Packet). j < length (words_of r)) (sym h.1) lt))))
       ];
       empty = λ k le lt. stored_else words place (cell_place lane (i.taken + k) + 0) first (other_cell lane o.sent (i.taken + k) 0 0 (λ s. omega arith) (omega arith) (omega arith)) ∙ f.empty k (omega arith) lt;
       vacant = λ is. cc;

@@ -11,3 +11,4 @@ pub mod Inside
 pub mod Calls
 pub mod Sharing
 pub mod Opening
+pub mod Uniqueness

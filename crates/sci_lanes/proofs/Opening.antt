@@ -7,9 +7,8 @@ use Rattle.std.proofs.lemmas.List.{get_or-replicate, get_or_past, length-replica
 use Rattle.std.proofs.lemmas.List.FromFn.{get_or-map-range_with_len, map-range_with_len_more}
 use mathlib.Core.Option.{some, some-injective, some-ne-none}
 use lib.ListN.{get_elem?}
-use Rattle.atomic_table.specs.Table.{State, Splits, opening as opening_state}
-use Rattle.sci_cache.specs.Cache.{Letter, letter_of}
-use Rattle.sci_packets.specs.declared.packet.Packet.{Packet}
+use Rattle.atomic_table.specs.Table.{Splits, opening as opening_state}
+use Rattle.sci_cache.specs.Cache.{Letter}
 use Rattle.atomic_table.specs.Table.{Me}
 use Rattle.atomic_table.specs.Seated.{TableId}
 use Rattle.sci_words.specs.declared.extent.Extent.{Extent}
@@ -17,18 +16,18 @@ use Rattle.sci_words.specs.declared.limits.TheConstants.{MAX_OPERATIONS}
 use Rattle.sci_cache.specs.Line.{untouched}
 use Rattle.sci_core.specs.Size.{Size, size_of, IsMachineSize}
 use Rattle.sci_core.specs.Node.{NodeOf, opening_node, no_node}
-use Rattle.sci_core.specs.Core.{Core, node_at, lane_at, opening}
+use Rattle.sci_core.specs.Core.{node_at, lane_at, opening}
 use Rattle.sci_core.specs.Reached.{IsReached}
 use Rattle.sci_lanes.specs.declared.end.Inbox.{Inbox}
 use Rattle.sci_lanes.specs.declared.view.Part.{Part}
 use Rattle.sci_lanes.specs.declared.view.View.{View}
-use Rattle.sci_lanes.specs.Cells.{cell_place, lane_count, receiver_of, word_count, word_at}
-use Rattle.sci_lanes.specs.Shown.{Fits, ShowsLane, Whole, nodes_of, me_of, no_outbound, no_inbound, outbound_at, inbound_at, single, opening_part, first_view, IsKnown, HasRead, IsCovered, Shows, IsKept}
+use Rattle.sci_lanes.specs.Cells.{cell_place, lane_count, word_count}
+use Rattle.sci_lanes.specs.Shown.{Fits, Whole, me_of, no_outbound, no_inbound, inbound_at, single, opening_part, first_view, IsKnown, HasRead, IsKept}
 use Rattle.sci_lanes.specs.Telling.{IsShown, part_of, size_in}
-use Rattle.sci_lanes.specs.Ends.{FitsInside, HasFound, no_inbox, empty_inbox, rest_view, no_view, first_off, first_only, nodes_in, EndOf, IsSeated, opening_ends}
+use Rattle.sci_lanes.specs.Ends.{FitsInside, HasFound, no_inbox, empty_inbox, rest_view, no_view, first_off, first_only, EndOf, IsSeated, opening_ends}
 use Rattle.sci_lanes.proofs.Keeping.{read_none}
 use Rattle.sci_lanes.proofs.Inside.{box_within}
-use Rattle.sci_lanes.proofs.Sharing.{NoneIs, splits}
+use Rattle.sci_lanes.proofs.Sharing.{splits}
 
 reached_opening : (size : Size) → IsMachineSize size → IsReached (opening size)
 reached_opening size ok = record { size = ok; schedule = []; leads = refl }
@@ -98,9 +97,11 @@ opened size words ok long zeros = record {
   where
     x : Whole
     x = record { core = opening size; outbound = λ l. no_outbound; inbound = λ l. no_inbound; owner = λ m. 0 }
+
     known : (seat : ℕ) (view : View) → get_elem? (first_view size ∷ []) seat ≡ some view → AllByRecursion (IsKnown x seat) view.parts
     known zero view e = subst (λ (v : View). AllByRecursion (IsKnown x 0) v.parts) (some-injective (first_view size) view e) (all_opened (IsKnown x 0) size 0 size.nodes (λ n le lt. known_opened size n (omega arith)))
     known (suc seat) view e = absurd (some-ne-none view (sym e))
+
     read : (seat : ℕ) (view : View) → get_elem? (first_view size ∷ []) seat ≡ some view → HasRead x seat words view.words
     read zero view e = subst (λ (v : View). HasRead x 0 words v.words) (some-injective (first_view size) view e) (read_none x 0 words)
     read (suc seat) view e = absurd (some-ne-none view (sym e))
@@ -116,7 +117,7 @@ rest_is size n lt = let e : size.nodes - n ≡ suc (size.nodes - (n + 1)) = omeg
 pub split_asks : (size : Size) (id n : ℕ) (view : View) → n < size.nodes → view ≡ rest_view size n → Splits (IsKept size) id view (first_off view) (first_only view)
 split_asks size id n view lt is =
     subst (λ (v : View). Splits (IsKept size) id v (first_off v) (first_only v)) (sym (is ∙ rest_is size n lt))
-      (splits size id (opening_part size n) (map (opening_part size) (range_with_len (n + 1) (size.nodes - (n + 1)))) (all_opened (λ q. me_of q ≢ n) size (n + 1) (size.nodes - (n + 1)) (λ m le less e. omega arith)))
+    (splits size id (opening_part size n) (map (opening_part size) (range_with_len (n + 1) (size.nodes - (n + 1)))) (all_opened (λ q. me_of q ≢ n) size (n + 1) (size.nodes - (n + 1)) (λ m le less e. omega arith)))
 
 pub split_left : (size : Size) (n : ℕ) (view : View) → n < size.nodes → view ≡ rest_view size n → first_off view ≡ rest_view size (n + 1)
 split_left size n view lt is = ap first_off (is ∙ rest_is size n lt)
@@ -137,10 +138,10 @@ shown_opened size n ok lt = record {
   found = λ lane less is some_found. absurd (let e = ap (λ i. length i.found) (replicated (lane_count size.nodes) lane no_inbound) in omega arith);
   vacant = λ lane less is vacant. absurd (not_vacant (ap (λ o. o.vacant) (sym (replicated (lane_count size.nodes) lane no_outbound)) ∙ vacant));
   own = λ lane less sends receives.
-    let o = ap (λ u. u.sent) (replicated (lane_count size.nodes) lane no_outbound) in
-    let i = ap (λ u. u.taken) (replicated (lane_count size.nodes) lane no_inbound) in
-    let l = ap (λ (ls : List Letter). length ls) (lane_opened size lane) in
-    omega arith;
+      let o = ap (λ u. u.sent) (replicated (lane_count size.nodes) lane no_outbound) in
+      let i = ap (λ u. u.taken) (replicated (lane_count size.nodes) lane no_inbound) in
+      let l = ap (λ (ls : List Letter). length ls) (lane_opened size lane) in
+      omega arith;
 }
   where
     not_vacant : Rattle.std.proofs.Common.false ≡ Rattle.std.proofs.Common.true → ⊥
@@ -149,21 +150,21 @@ shown_opened size n ok lt = record {
 pub inside_opened : (size : Size) (n : ℕ) (node : NodeOf) → IsMachineSize size → n < size.nodes → node ≡ opening_node n size
     → FitsInside (opening_part size n) node node.cache.me size.nodes (replicate (lane_count size.nodes) 0) (replicate (2 * size.nodes) empty_inbox)
 inside_opened size n node ok lt is = subst (λ (m : NodeOf). FitsInside (opening_part size n) m m.cache.me size.nodes (replicate (lane_count size.nodes) 0) (replicate (2 * size.nodes) empty_inbox)) (sym is)
-  (record {
-    shown = shown_opened size n ok lt;
-    node_is = refl;
-    me_is = refl;
-    nodes_is = refl;
-    some_node = lt;
-    outbound_long = length-replicate (lane_count size.nodes) no_outbound;
-    inbound_long = length-replicate (lane_count size.nodes) no_inbound;
-    turns_long = length-replicate (lane_count size.nodes) 0;
-    inboxes_long = length-replicate (2 * size.nodes) empty_inbox;
-    turns_are = λ lane less. zeros_are (lane_count size.nodes) lane ∙ ap (λ u. u.sent % 4) (sym (replicated (lane_count size.nodes) lane no_outbound));
-    taken_are = λ lane less here. ap (λ (b : Inbox). b.turn) (box lane less) ∙ ap (λ u. u.taken % 4) (sym (replicated (lane_count size.nodes) lane no_inbound));
-    found_are = λ lane less here. subst (λ (b : Inbox). HasFound b.words (inbound_at (opening_part size n) lane).found) (sym (box lane less))
-      (subst (λ u. HasFound empty_inbox.words u.found) (sym (replicated (lane_count size.nodes) lane no_inbound)) (record { eleven = refl; begins = λ k few. absurd (omega arith) }));
-  })
+    (record {
+      shown = shown_opened size n ok lt;
+      node_is = refl;
+      me_is = refl;
+      nodes_is = refl;
+      some_node = lt;
+      outbound_long = length-replicate (lane_count size.nodes) no_outbound;
+      inbound_long = length-replicate (lane_count size.nodes) no_inbound;
+      turns_long = length-replicate (lane_count size.nodes) 0;
+      inboxes_long = length-replicate (2 * size.nodes) empty_inbox;
+      turns_are = λ lane less. zeros_are (lane_count size.nodes) lane ∙ ap (λ u. u.sent % 4) (sym (replicated (lane_count size.nodes) lane no_outbound));
+      taken_are = λ lane less here. ap (λ (b : Inbox). b.turn) (box lane less) ∙ ap (λ u. u.taken % 4) (sym (replicated (lane_count size.nodes) lane no_inbound));
+      found_are = λ lane less here. subst (λ (b : Inbox). HasFound b.words (inbound_at (opening_part size n) lane).found) (sym (box lane less))
+          (subst (λ u. HasFound empty_inbox.words u.found) (sym (replicated (lane_count size.nodes) lane no_inbound)) (record { eleven = refl; begins = λ k few. absurd (omega arith) }));
+    })
   where
     box : (lane : ℕ) → lane < lane_count size.nodes → get_or (replicate (2 * size.nodes) empty_inbox) (lane / size.nodes) no_inbox ≡ empty_inbox
     box lane less = get_or-replicate (2 * size.nodes) (lane / size.nodes) empty_inbox no_inbox (box_within size.nodes lane (omega arith) less)

@@ -1,21 +1,20 @@
 -- What a seat that has one node owes at each step, and what it is after it.
-use Rattle.std.proofs.Common.{◌≡◌, ◌≢◌, ℕ, ◌+◌, ◌*◌, ◌%◌, ◌^◌, ◌<◌, ◌⊎◌, inl, inr, true, List, [], ◌∷◌, refl, sym, ap, subst, ◌∙◌, arith}
+use Rattle.std.proofs.Common.{◌≡◌, ℕ, ◌+◌, ◌%◌, ◌^◌, ◌<◌, ◌⊎◌, inl, inr, true, [], sym, ap, subst, ◌∙◌, arith}
 use Rattle.std.proofs.lemmas.Bool.{and_from, eq-eqb}
 use mathlib.Core.Option.{none}
 use Rattle.atomic_table.specs.Table.{Me, step, Allows}
 use Rattle.atomic_table.specs.Seated.{TableId}
 use Rattle.sci_words.specs.declared.extent.Extent.{Extent}
-use Rattle.sci_core.specs.declared.lane.LaneKind.{LaneKind}
-use Rattle.sci_core.specs.Size.{Size, size_of}
+use Rattle.sci_core.specs.Size.{size_of}
 use Rattle.sci_core.specs.Node.{NodeOf}
 use Rattle.sci_core.proofs.WellFormedSteps.{reached_well}
 use Rattle.sci_lanes.specs.declared.cell.CellId.{CellId}
 use Rattle.sci_lanes.specs.declared.view.Part.{Part}
 use Rattle.sci_lanes.specs.declared.view.View.{View}
 use Rattle.sci_lanes.specs.Cells.{cell_place, own_place, lane_count, sender_of, receiver_of, lane_number, word_count}
-use Rattle.sci_lanes.specs.Shown.{me_of, single, outbound_at, inbound_at, IsKept}
-use Rattle.sci_lanes.specs.Knowing.{is_sending, looked}
-use Rattle.sci_lanes.specs.Telling.{part_of, size_in, IsFull, IsShown, IsSameNode, IsSending, IsTaking, IsBeating, Tells}
+use Rattle.sci_lanes.specs.Shown.{me_of, single, outbound_at, IsKept}
+use Rattle.sci_lanes.specs.Knowing.{is_sending}
+use Rattle.sci_lanes.specs.Telling.{part_of, size_in, IsShown, IsSameNode, IsSending, IsTaking, IsBeating, Tells}
 use Rattle.sci_lanes.specs.Plays.{lane_in, number_in, index_in, LooksAt, Looks, Fills, Reads, Publishes, Frees, Beats}
 use Rattle.sci_lanes.specs.Ends.{EndOf, with_part, nodes_in, lane_at_cell, IsNextToSend, IsNextToTake, MayFill, MayRead, IsSeated}
 use Rattle.sci_lanes.proofs.Words.{place_within}
@@ -79,7 +78,7 @@ look_asks key table seat id knows cell nodes place s nodes_are next is =
       s.same,
       place_in_table key table seat knows s lane cell.number 0 place at.lane (omega arith) place_is,
       subst (λ (k : Me (Unit {0}) View). Allows (IsKept (size_of key.0 key.1)) table.slots id k place (λ n. n) (Looks (step table.slots place 0 0 none) k)) (sym s.seated)
-        (subst (λ (p : ℕ). Allows (IsKept (size_of key.0 key.1)) table.slots id (single part, []) p (λ n. n) (Looks (step table.slots p 0 0 none) (single part, []))) (sym place_is)
+          (subst (λ (p : ℕ). Allows (IsKept (size_of key.0 key.1)) table.slots id (single part, []) p (λ n. n) (Looks (step table.slots p 0 0 none) (single part, []))) (sym place_is)
           (looks (size_of key.0 key.1) table.slots id lane cell.number part lane_ok at.number)),
     )
 
@@ -112,7 +111,7 @@ look_told knows after cell nodes place word slots next s nodes_are is told =
     let place_is : place ≡ cell_place (lane_at_cell part cell) cell.number + 0 = is ∙ ap (λ (n : ℕ). cell_place (lane_number n cell) cell.number + 0) nodes_are in
     let number_is : number_in place ≡ cell.number = (let few = at.number in let e = ap number_in place_is ∙ number_found (lane_at_cell part cell) cell.number 0 (omega arith) in omega arith) in
     subst (λ (l : ℕ). LooksAt l cell.number word part after) (ap lane_in place_is ∙ lane_found (lane_at_cell part cell) cell.number 0 (omega arith))
-      (subst (λ (n : ℕ). LooksAt (lane_in place) n word part after) number_is told)
+    (subst (λ (n : ℕ). LooksAt (lane_in place) n word part after) number_is told)
 
 -- the sender's cell is the one that is next
 pub is_sending_here : (part : Part) (cell : CellId) → IsShown part → IsNextToSend part cell → is_sending part (lane_at_cell part cell) cell.number ≡ true
@@ -140,7 +139,7 @@ allowed_seated : (key : Extent × ℕ) (slots id place at : ℕ) (knows : Me (Un
     → knows ≡ (single part, []) → place ≡ at → Allows (IsKept (size_of key.0 key.1)) slots id (single part, []) at f (told at (single part, [])) → Allows (IsKept (size_of key.0 key.1)) slots id knows place f (told place knows)
 allowed_seated key slots id place at knows part f told seated is allowed =
     subst (λ (k : Me (Unit {0}) View). Allows (IsKept (size_of key.0 key.1)) slots id k place f (told place k)) (sym seated)
-      (subst (λ (p : ℕ). Allows (IsKept (size_of key.0 key.1)) slots id (single part, []) p f (told p (single part, []))) (sym is) allowed)
+    (subst (λ (p : ℕ). Allows (IsKept (size_of key.0 key.1)) slots id (single part, []) p f (told p (single part, []))) (sym is) allowed)
 
 module _ (key : Extent × ℕ) (table seat : TableId) (id : ℕ) (knows : Me (Unit {0}) View) (cell : CellId) (nodes place : ℕ) (s : IsSeated key table seat knows) (now : EndOf) (view : record { table = seat; part = part_of knows.0 } ≡ now)
     (nodes_are : nodes ≡ nodes_in now.part) where
@@ -161,7 +160,7 @@ module _ (key : Extent × ℕ) (table seat : TableId) (id : ℕ) (knows : Me (Un
         s.same,
         place_in_table key table seat knows s lane cell.number index place at.lane m.within place_is,
         allowed_seated key table.slots id place (cell_place lane cell.number + index) knows part (λ n. word) (λ p k n. Fills (step table.slots p word 0 none) k word) s.seated place_is
-          (fills (size_of key.0 key.1) table.slots id lane cell.number index word part
+            (fills (size_of key.0 key.1) table.slots id lane cell.number index word part
             (record {
               lane_ok = subst (λ (n : ℕ). lane < lane_count n) size_nodes at.lane;
               sender = subst (λ (n : ℕ). sender_of n lane ≡ me_of part) size_nodes (at.sender ∙ m.next.mine);
@@ -184,7 +183,7 @@ module _ (key : Extent × ℕ) (table seat : TableId) (id : ℕ) (knows : Me (Un
         s.same,
         place_in_table key table seat knows s lane cell.number index place at.lane m.within place_is,
         allowed_seated key table.slots id place (cell_place lane cell.number + index) knows part (λ n. n) (λ p k. Reads (step table.slots p 0 0 none) k) s.seated place_is
-          (reads (size_of key.0 key.1) table.slots id lane cell.number index part
+            (reads (size_of key.0 key.1) table.slots id lane cell.number index part
             (record {
               lane_ok = subst (λ (n : ℕ). lane < lane_count n) size_nodes at.lane;
               receiver = subst (λ (n : ℕ). receiver_of n lane ≡ me_of part) size_nodes (at.receiver ∙ m.next.mine);
@@ -196,7 +195,7 @@ module _ (key : Extent × ℕ) (table seat : TableId) (id : ℕ) (knows : Me (Un
       )
 
   pub publish_asks : (first : ℕ) (next : NodeOf) → IsNextToSend now.part cell → IsSending now.part (lane_at_cell now.part cell) first next → place ≡ cell_place (lane_number nodes cell) cell.number + 0
-    → Asks key table seat id knows place (λ n. first) (λ n. Publishes next (step table.slots place first 0 none) knows first)
+      → Asks key table seat id knows place (λ n. first) (λ n. Publishes next (step table.slots place first 0 none) knows first)
   publish_asks first next to_send may is =
       let part = part_of knows.0 in
       let m = subst (λ (p : Part). IsSending p (lane_at_cell p cell) first next) (sym part_is) may in
@@ -207,11 +206,11 @@ module _ (key : Extent × ℕ) (table seat : TableId) (id : ℕ) (knows : Me (Un
         s.same,
         place_in_table key table seat knows s lane cell.number 0 place at.lane (omega arith) place_is,
         allowed_seated key table.slots id place (cell_place lane cell.number + 0) knows part (λ n. first) (λ p k n. Publishes next (step table.slots p first 0 none) k first) s.seated place_is
-          (publishes (size_of key.0 key.1) table.slots id lane cell.number first part next to_send'.next m),
+            (publishes (size_of key.0 key.1) table.slots id lane cell.number first part next to_send'.next m),
       )
 
   pub free_asks : (next : NodeOf) → IsNextToTake now.part cell → IsTaking now.part (lane_at_cell now.part cell) next → place ≡ cell_place (lane_number nodes cell) cell.number + 0
-    → Asks key table seat id knows place (λ n. 0) (λ n. Frees next (step table.slots place 0 0 none) knows 0)
+      → Asks key table seat id knows place (λ n. 0) (λ n. Frees next (step table.slots place 0 0 none) knows 0)
   free_asks next to_take may is =
       let part = part_of knows.0 in
       let m = subst (λ (p : Part). IsTaking p (lane_at_cell p cell) next) (sym part_is) may in
@@ -222,7 +221,7 @@ module _ (key : Extent × ℕ) (table seat : TableId) (id : ℕ) (knows : Me (Un
         s.same,
         place_in_table key table seat knows s lane cell.number 0 place at.lane (omega arith) place_is,
         allowed_seated key table.slots id place (cell_place lane cell.number + 0) knows part (λ n. 0) (λ p k n. Frees next (step table.slots p 0 0 none) k 0) s.seated place_is
-          (frees (size_of key.0 key.1) table.slots id lane cell.number part next to_take'.next m),
+            (frees (size_of key.0 key.1) table.slots id lane cell.number part next to_take'.next m),
       )
 
   -- ---- what they tell
@@ -235,12 +234,12 @@ module _ (key : Extent × ℕ) (table seat : TableId) (id : ℕ) (knows : Me (Un
 
   -- by a step on a word of the cell that leaves a part as f says, which looks at the lane and the word's number
   pub told_after : (later : TableId) (after : Me (Unit {0}) View) (index : ℕ) (f : ℕ → ℕ → Part → Part) → index < 11 → place ≡ cell_place (lane_number nodes cell) cell.number + index → later ≡ seat
-    → Tells (part_of knows.0) (f (lane_in place) (index_in place) (part_of knows.0)) after → record { table = later; part = part_of after.0 } ≡ with_part now (f (lane_at_cell now.part cell) index now.part)
+      → Tells (part_of knows.0) (f (lane_in place) (index_in place) (part_of knows.0)) after → record { table = later; part = part_of after.0 } ≡ with_part now (f (lane_at_cell now.part cell) index now.part)
   told_after later after index f few is same t =
       view_after seat later knows after now (f (lane_at_cell now.part cell) index now.part) view same
-        (subst (λ (p : Part). Tells p (f (lane_at_cell now.part cell) index p) after) part_is
-          (subst (λ (l : ℕ). Tells (part_of knows.0) (f l index (part_of knows.0)) after) (lane_told index few is)
-            (subst (λ (i : ℕ). Tells (part_of knows.0) (f (lane_in place) i (part_of knows.0)) after) (index_told index few is) t)))
+      (subst (λ (p : Part). Tells p (f (lane_at_cell now.part cell) index p) after) part_is
+      (subst (λ (l : ℕ). Tells (part_of knows.0) (f l index (part_of knows.0)) after) (lane_told index few is)
+      (subst (λ (i : ℕ). Tells (part_of knows.0) (f (lane_in place) i (part_of knows.0)) after) (index_told index few is) t)))
 
 pub beat_asks : (key : Extent × ℕ) (table seat : TableId) (id : ℕ) (knows : Me (Unit {0}) View) (me nodes place : ℕ) (next : NodeOf) → IsSeated key table seat knows → (now : EndOf) → record { table = seat; part = part_of knows.0 } ≡ now
     → me ≡ me_of now.part → nodes ≡ nodes_in now.part → IsBeating now.part next → place ≡ own_place nodes me
@@ -255,5 +254,5 @@ beat_asks key table seat id knows me nodes place next s now view me_is nodes_are
       s.same,
       omega arith,
       allowed_seated key table.slots id place (own_place key.0.nodes (me_of part)) knows part (λ n. (n + 1) % 2 ^ 64) (λ p k. Beats next (step table.slots p 1 0 none) k) s.seated at
-        (beats (size_of key.0 key.1) table.slots id part next (subst (λ (p : Part). IsBeating p next) (sym part_is) may)),
+          (beats (size_of key.0 key.1) table.slots id part next (subst (λ (p : Part). IsBeating p next) (sym part_is) may)),
     )

@@ -1,20 +1,18 @@
 -- Splitting a seat, and joining two, keeps words and views showing the same state.
-use Rattle.std.proofs.Common.{◌≡◌, ◌≢◌, ℕ, zero, suc, ◌<◌, ◌≤◌, ◌⊎◌, inl, inr, true, false, eqb, if◌then◌else◌, List, [], ◌∷◌, ◌++◌, length, get_or, set, Some, None, refl, sym, ap, subst, ◌∙◌, arith, eq-eqb, ne_eqb}
+use Rattle.std.proofs.Common.{◌≡◌, ◌≢◌, ℕ, zero, suc, ◌<◌, ◌⊎◌, inl, inr, eqb, if◌then◌else◌, List, [], ◌∷◌, ◌++◌, length, set, Some, refl, sym, ap, subst, ◌∙◌, eq-eqb, ne_eqb}
 use Rattle.std.specs.Prelude.{slice_get}
 use Rattle.std.specs.List.{AllByRecursion}
 use Rattle.std.proofs.lemmas.Bool.{cases_eq}
 use Rattle.std.proofs.lemmas.List.{length-set}
 use mathlib.Core.Option.{some, some-injective, some-ne-none}
 use lib.ListN.{get_elem?}
-use Rattle.atomic_table.specs.Table.{State, Splits, Joins}
+use Rattle.atomic_table.specs.Table.{Splits, Joins}
 use Rattle.atomic_table.proofs.Lists.{at_set, set_here, set_else, at_longer, at_last}
 use Rattle.sci_core.specs.Size.{Size}
-use Rattle.sci_core.specs.Core.{Core, node_at}
 use Rattle.sci_lanes.specs.declared.view.Part.{Part}
 use Rattle.sci_lanes.specs.declared.view.View.{View}
-use Rattle.sci_lanes.specs.Cells.{lane_count}
-use Rattle.sci_lanes.specs.Shown.{Whole, nodes_of, me_of, single, ShowsLane, IsKnown, HasRead, IsCovered, Shows, IsKept}
-use Rattle.sci_lanes.proofs.Keeping.{all_by, all_at, all_join, get_left, get_right, changed_at, changed_here, changed_else, read_none, read_nothing}
+use Rattle.sci_lanes.specs.Shown.{Whole, nodes_of, me_of, single, IsKnown, HasRead, IsCovered, Shows, IsKept}
+use Rattle.sci_lanes.proofs.Keeping.{all_by, all_join, get_left, get_right, changed_at, changed_here, changed_else, read_none, read_nothing}
 use Rattle.sci_lanes.proofs.Allowed.{within}
 
 -- the last of a list, with its place
@@ -56,18 +54,25 @@ split_shows x words views seat p rest s here none = record { long = s.long; lane
   where
     left : View
     left = record { parts = rest; words = [] }
+
     owner : ℕ → ℕ
     owner = changed_at x.owner (me_of p) (length views)
+
     y : Whole
     y = owned_by x owner
+
     mine : IsKnown x seat p
     mine = (s.known seat (record { parts = p ∷ rest; words = [] }) here).0
+
     same : (m : ℕ) → m ≢ me_of p → owner m ≡ x.owner m
     same m apart = changed_else x.owner (me_of p) (length views) m apart
+
     sized : length (set views seat left) ≡ length views
     sized = length-set views seat left
+
     others : (id : ℕ) (view : View) → id ≢ seat → get_elem? views id ≡ some view → AllByRecursion (IsKnown y id) view.parts
     others id view apart e = all_by (IsKnown x id) (IsKnown y id) (λ q k. moved x owner id id q (same (me_of q) (λ is. apart (sym k.mine ∙ (ap x.owner is ∙ mine.mine))) ∙ k.mine) k) view.parts (s.known id view e)
+
     known : (id : ℕ) (view : View) → get_elem? (set views seat left ++ single p ∷ []) id ≡ some view → AllByRecursion (IsKnown y id) view.parts
     known id view e = elim (last_at? (set views seat left) (single p) id view e) [
       | inl h ↦ elim (at_set views seat id left view h) [
@@ -76,8 +81,10 @@ split_shows x words views seat p rest s here none = record { long = s.long; lane
       ]
       | inr h ↦ subst (λ (v : View). AllByRecursion (IsKnown y id) v.parts) h.1 (moved x owner seat id p (changed_here x.owner (me_of p) (length views) ∙ (sym sized ∙ sym h.0)) mine, tt)
     ]
+
     seated : seat < length views
     seated = within views seat (record { parts = p ∷ rest; words = [] }) here
+
     covered : (n : ℕ) → n < nodes_of x → IsCovered y (set views seat left ++ single p ∷ []) n
     covered n lt = elim (cases_eq n (me_of p)) [
       | inl is ↦ record {
@@ -97,12 +104,13 @@ split_shows x words views seat p rest s here none = record { long = s.long; lane
             some_one : (a b : Part) → Some a ≡ Some b → a ≡ b
             some_one a b h = cc
         in_rest n (suc place) q apart e of_node = (place, e)
+
         elsewhere : (n : ℕ) → n ≢ me_of p → IsCovered x views n → IsCovered y (set views seat left ++ single p ∷ []) n
         elsewhere n apart c = elim (cases_eq (x.owner n) seat) [
           | inl is ↦ (
-            let view_is : record { parts = p ∷ rest; words = [] } ≡ c.view = some-injective _ c.view (sym here ∙ (ap (λ (k : ℕ). get_elem? views k) (sym is) ∙ c.seated)) in
-            let k = in_rest n c.place c.part apart (ap (λ (v : View). slice_get v.parts c.place) view_is ∙ c.there) c.of_node in
-            record { view = left; place = k.0; part = c.part; seated = ap (λ (j : ℕ). get_elem? (set views seat left ++ single p ∷ []) j) (same n apart ∙ is) ∙ at_longer (set views seat left) (single p ∷ []) seat left (set_here views seat left seated); there = k.1; of_node = c.of_node })
+              let view_is : record { parts = p ∷ rest; words = [] } ≡ c.view = some-injective _ c.view (sym here ∙ (ap (λ (k : ℕ). get_elem? views k) (sym is) ∙ c.seated)) in
+              let k = in_rest n c.place c.part apart (ap (λ (v : View). slice_get v.parts c.place) view_is ∙ c.there) c.of_node in
+              record { view = left; place = k.0; part = c.part; seated = ap (λ (j : ℕ). get_elem? (set views seat left ++ single p ∷ []) j) (same n apart ∙ is) ∙ at_longer (set views seat left) (single p ∷ []) seat left (set_here views seat left seated); there = k.1; of_node = c.of_node })
           | inr not ↦ record {
             view = c.view;
             place = c.place;
@@ -112,6 +120,7 @@ split_shows x words views seat p rest s here none = record { long = s.long; lane
             of_node = c.of_node;
           }
         ]
+
     read : (id : ℕ) (view : View) → get_elem? (set views seat left ++ single p ∷ []) id ≡ some view → HasRead y id words view.words
     read id view e = elim (last_at? (set views seat left) (single p) id view e) [
       | inl h ↦ elim (at_set views seat id left view h) [
@@ -138,20 +147,27 @@ join_shows x words views seat other v w s here apart there = record { long = s.l
   where
     both : View
     both = record { parts = v ++ w; words = [] }
+
     spent : View
     spent = record { parts = []; words = [] }
+
     owner : ℕ → ℕ
     owner n = if eqb (x.owner n) other then seat else x.owner n
+
     y : Whole
     y = owned_by x (λ n. if eqb (x.owner n) other then seat else x.owner n)
+
     taken : (n : ℕ) → x.owner n ≡ other → y.owner n ≡ seat
     taken n is = rw (eq-eqb (x.owner n) other is) refl
+
     same : (n : ℕ) → x.owner n ≢ other → y.owner n ≡ x.owner n
     same n not = rw (ne_eqb (x.owner n) other not) refl
+
     both_known : AllByRecursion (IsKnown y seat) (v ++ w)
     both_known = all_join (IsKnown y seat) v w
-      (all_by (IsKnown x seat) (IsKnown y seat) (λ q k. moved x y.owner seat seat q (same (me_of q) (λ is. apart (sym is ∙ k.mine)) ∙ k.mine) k) v (s.known seat (record { parts = v; words = [] }) here))
-      (all_by (IsKnown x other) (IsKnown y seat) (λ q k. moved x y.owner other seat q (taken (me_of q) k.mine) k) w (s.known other (record { parts = w; words = [] }) there))
+        (all_by (IsKnown x seat) (IsKnown y seat) (λ q k. moved x y.owner seat seat q (same (me_of q) (λ is. apart (sym is ∙ k.mine)) ∙ k.mine) k) v (s.known seat (record { parts = v; words = [] }) here))
+        (all_by (IsKnown x other) (IsKnown y seat) (λ q k. moved x y.owner other seat q (taken (me_of q) k.mine) k) w (s.known other (record { parts = w; words = [] }) there))
+
     known : (id : ℕ) (view : View) → get_elem? (set (set views seat both) other spent) id ≡ some view → AllByRecursion (IsKnown y id) view.parts
     known id view e = elim (at_set (set views seat both) other id spent view e) [
       | inl h ↦ subst (λ (u : View). AllByRecursion (IsKnown y id) u.parts) h.1 tt
@@ -160,22 +176,25 @@ join_shows x words views seat other v w s here apart there = record { long = s.l
         | inr k ↦ all_by (IsKnown x id) (IsKnown y id) (λ q t. moved x y.owner id id q (same (me_of q) (λ is. h.0 (sym t.mine ∙ is)) ∙ t.mine) t) view.parts (s.known id view k.1)
       ]
     ]
+
     seat_in : seat < length views
     seat_in = within views seat (record { parts = v; words = [] }) here
+
     at_seat : get_elem? (set (set views seat both) other spent) seat ≡ some both
     at_seat = set_else (set views seat both) other seat spent (λ e. apart (sym e)) ∙ set_here views seat both seat_in
+
     covered : (n : ℕ) → n < nodes_of x → IsCovered y (set (set views seat both) other spent) n
     covered n lt =
         let c = s.covered n lt in
         elim (cases_eq (x.owner n) other) [
           | inl is ↦ (
-            let view_is : record { parts = w; words = [] } ≡ c.view = some-injective _ c.view (sym there ∙ (ap (λ (k : ℕ). get_elem? views k) (sym is) ∙ c.seated)) in
-            let k = get_right v w c.place c.part (ap (λ (u : View). slice_get u.parts c.place) view_is ∙ c.there) in
-            record { view = both; place = k.0; part = c.part; seated = ap (λ (j : ℕ). get_elem? (set (set views seat both) other spent) j) (taken n is) ∙ at_seat; there = k.1; of_node = c.of_node })
+              let view_is : record { parts = w; words = [] } ≡ c.view = some-injective _ c.view (sym there ∙ (ap (λ (k : ℕ). get_elem? views k) (sym is) ∙ c.seated)) in
+              let k = get_right v w c.place c.part (ap (λ (u : View). slice_get u.parts c.place) view_is ∙ c.there) in
+              record { view = both; place = k.0; part = c.part; seated = ap (λ (j : ℕ). get_elem? (set (set views seat both) other spent) j) (taken n is) ∙ at_seat; there = k.1; of_node = c.of_node })
           | inr not ↦ elim (cases_eq (x.owner n) seat) [
             | inl is ↦ (
-              let view_is : record { parts = v; words = [] } ≡ c.view = some-injective _ c.view (sym here ∙ (ap (λ (k : ℕ). get_elem? views k) (sym is) ∙ c.seated)) in
-              record { view = both; place = c.place; part = c.part; seated = ap (λ (j : ℕ). get_elem? (set (set views seat both) other spent) j) (same n not ∙ is) ∙ at_seat; there = get_left v w c.place c.part (ap (λ (u : View). slice_get u.parts c.place) view_is ∙ c.there); of_node = c.of_node })
+                let view_is : record { parts = v; words = [] } ≡ c.view = some-injective _ c.view (sym here ∙ (ap (λ (k : ℕ). get_elem? views k) (sym is) ∙ c.seated)) in
+                record { view = both; place = c.place; part = c.part; seated = ap (λ (j : ℕ). get_elem? (set (set views seat both) other spent) j) (same n not ∙ is) ∙ at_seat; there = get_left v w c.place c.part (ap (λ (u : View). slice_get u.parts c.place) view_is ∙ c.there); of_node = c.of_node })
             | inr neither ↦ record {
               view = c.view;
               place = c.place;
@@ -186,6 +205,7 @@ join_shows x words views seat other v w s here apart there = record { long = s.l
             }
           ]
         ]
+
     read : (id : ℕ) (view : View) → get_elem? (set (set views seat both) other spent) id ≡ some view → HasRead y id words view.words
     read id view e = elim (at_set (set views seat both) other id spent view e) [
       | inl h ↦ subst (λ (u : View). HasRead y id words u.words) h.1 (read_none y id words)

@@ -1,5 +1,5 @@
 -- A step on one lane keeps words and views showing a state.
-use Rattle.std.proofs.Common.{◌≡◌, ◌≢◌, ℕ, ◌+◌, ◌<◌, ◌≤◌, ◌⊎◌, inl, inr, List, [], ◌∷◌, length, get_or, set, refl, sym, ap, subst, ◌∙◌, arith}
+use Rattle.std.proofs.Common.{◌≡◌, ◌≢◌, ℕ, ◌+◌, ◌<◌, inl, inr, List, length, get_or, set, refl, sym, ap, subst, ◌∙◌}
 use Rattle.std.proofs.lemmas.Bool.{cases_eq}
 use Rattle.std.proofs.lemmas.List.{length-set, get_or-set_same, get_or-set_other}
 use mathlib.Core.Option.{some}
@@ -11,10 +11,10 @@ use Rattle.sci_lanes.specs.declared.view.Inbound.{Inbound}
 use Rattle.sci_lanes.specs.declared.view.Part.{Part}
 use Rattle.sci_lanes.specs.declared.view.View.{View}
 use Rattle.sci_lanes.specs.Cells.{cell_place, lane_count, sender_of, receiver_of}
-use Rattle.sci_lanes.specs.Shown.{Whole, nodes_of, me_of, single, no_outbound, no_inbound, outbound_at, inbound_at, ShowsLane, IsKnown, Shows}
+use Rattle.sci_lanes.specs.Shown.{Whole, nodes_of, me_of, single, no_outbound, no_inbound, ShowsLane, IsKnown, Shows}
 use Rattle.sci_lanes.specs.Knowing.{with_lane_known}
 use Rattle.sci_lanes.proofs.LaneSteps.{stored_elsewhere}
-use Rattle.sci_lanes.proofs.Keeping.{Turned, changed_at, changed_here, changed_else, step_shows}
+use Rattle.sci_lanes.proofs.Keeping.{changed_at, changed_here, changed_else, step_shows}
 
 -- A change of a part's node and of what it knows of one lane: to o and i as the part says, to o' and i' as the whole does.
 pub record IsTurn (x : Whole) (part : Part) (lane : ℕ) (core : Core) (next : NodeOf) (o o' : Outbound) (i i' : Inbound) : Type 0 where
@@ -46,19 +46,19 @@ known_turned x seat part lane core next o o' i i' k t =
       outbound_long = length-set part.outbound lane o ∙ (k.outbound_long ∙ ap lane_count (sym size));
       inbound_long = length-set part.inbound lane i ∙ (k.inbound_long ∙ ap lane_count (sym size));
       outbound = λ other lt is.
-        let is' : sender_of n other ≡ me_of part = subst (λ (m : ℕ). sender_of m other ≡ me_of part) size (is ∙ t.me) in
-        elim (cases_eq other lane) [
-          | inl e ↦ subst (λ (l : ℕ). get_or (set part.outbound lane o) l no_outbound ≡ changed_at x.outbound lane o' l) (sym e)
-            (get_or-set_same part.outbound lane o no_outbound lane_in_out ∙ (t.sender (subst (λ (l : ℕ). sender_of n l ≡ me_of part) e is') ∙ sym (changed_here x.outbound lane o')))
-          | inr apart ↦ get_or-set_other part.outbound lane other o no_outbound apart ∙ (k.outbound other (subst (λ (m : ℕ). other < lane_count m) size lt) is' ∙ sym (changed_else x.outbound lane o' other apart))
-        ];
+          let is' : sender_of n other ≡ me_of part = subst (λ (m : ℕ). sender_of m other ≡ me_of part) size (is ∙ t.me) in
+          elim (cases_eq other lane) [
+            | inl e ↦ subst (λ (l : ℕ). get_or (set part.outbound lane o) l no_outbound ≡ changed_at x.outbound lane o' l) (sym e)
+                (get_or-set_same part.outbound lane o no_outbound lane_in_out ∙ (t.sender (subst (λ (l : ℕ). sender_of n l ≡ me_of part) e is') ∙ sym (changed_here x.outbound lane o')))
+            | inr apart ↦ get_or-set_other part.outbound lane other o no_outbound apart ∙ (k.outbound other (subst (λ (m : ℕ). other < lane_count m) size lt) is' ∙ sym (changed_else x.outbound lane o' other apart))
+          ];
       inbound = λ other lt is.
-        let is' : receiver_of n other ≡ me_of part = subst (λ (m : ℕ). receiver_of m other ≡ me_of part) size (is ∙ t.me) in
-        elim (cases_eq other lane) [
-          | inl e ↦ subst (λ (l : ℕ). get_or (set part.inbound lane i) l no_inbound ≡ changed_at x.inbound lane i' l) (sym e)
-            (get_or-set_same part.inbound lane i no_inbound lane_in_in ∙ (t.receiver (subst (λ (l : ℕ). receiver_of n l ≡ me_of part) e is') ∙ sym (changed_here x.inbound lane i')))
-          | inr apart ↦ get_or-set_other part.inbound lane other i no_inbound apart ∙ (k.inbound other (subst (λ (m : ℕ). other < lane_count m) size lt) is' ∙ sym (changed_else x.inbound lane i' other apart))
-        ];
+          let is' : receiver_of n other ≡ me_of part = subst (λ (m : ℕ). receiver_of m other ≡ me_of part) size (is ∙ t.me) in
+          elim (cases_eq other lane) [
+            | inl e ↦ subst (λ (l : ℕ). get_or (set part.inbound lane i) l no_inbound ≡ changed_at x.inbound lane i' l) (sym e)
+                (get_or-set_same part.inbound lane i no_inbound lane_in_in ∙ (t.receiver (subst (λ (l : ℕ). receiver_of n l ≡ me_of part) e is') ∙ sym (changed_here x.inbound lane i')))
+            | inr apart ↦ get_or-set_other part.inbound lane other i no_inbound apart ∙ (k.inbound other (subst (λ (m : ℕ). other < lane_count m) size lt) is' ∙ sym (changed_else x.inbound lane i' other apart))
+          ];
     }
 
 pub lane_step : (x : Whole) (words : List ℕ) (views : List View) (seat lane turn index value : ℕ) (part : Part) (core : Core) (next : NodeOf) (o o' : Outbound) (i i' : Inbound)
@@ -67,31 +67,34 @@ pub lane_step : (x : Whole) (words : List ℕ) (views : List View) (seat lane tu
     → Shows (turned_whole x lane core o' i') (set words (cell_place lane turn + index) value) (set views seat (single (with_lane_known lane next o i part)))
 lane_step x words views seat lane turn index value part core next o o' i i' s here few t shows =
     step_shows x y words views seat place value part (with_lane_known lane next o i part) s here
-      (record {
-        size = ap (λ z. z.nodes) t.size;
-        owner = λ n. refl;
-        me = t.me;
-        others = t.others;
-        outbound = λ other apart. unchanged x.outbound o' other (λ e. t.not_sender (subst (λ (l : ℕ). sender_of (nodes_of x) l ≢ me_of part) e apart));
-        inbound = λ other apart. unchanged x.inbound i' other (λ e. t.not_receiver (subst (λ (l : ℕ). receiver_of (nodes_of x) l ≢ me_of part) e apart));
-        known = known_turned x seat part lane core next o o' i i' (s.known seat (single part) here).0 t;
-      })
-      lanes
+    (record {
+      size = ap (λ z. z.nodes) t.size;
+      owner = λ n. refl;
+      me = t.me;
+      others = t.others;
+      outbound = λ other apart. unchanged x.outbound o' other (λ e. t.not_sender (subst (λ (l : ℕ). sender_of (nodes_of x) l ≢ me_of part) e apart));
+      inbound = λ other apart. unchanged x.inbound i' other (λ e. t.not_receiver (subst (λ (l : ℕ). receiver_of (nodes_of x) l ≢ me_of part) e apart));
+      known = known_turned x seat part lane core next o o' i i' (s.known seat (single part) here).0 t;
+    })
+    lanes
   where
     place : ℕ
     place = cell_place lane turn + index
+
     y : Whole
     y = turned_whole x lane core o' i'
+
     unchanged : {A : Type 0} (f : ℕ → A) (a : A) (other : ℕ) → (other ≡ lane → a ≡ f lane) → changed_at f lane a other ≡ f other
     unchanged f a other same = elim (cases_eq other lane) [
       | inl e ↦ subst (λ (l : ℕ). changed_at f lane a l ≡ f l) (sym e) (changed_here f lane a ∙ same e)
       | inr apart ↦ changed_else f lane a other apart
     ]
+
     lanes : (other : ℕ) → other < lane_count (nodes_of x) → ShowsLane (set words place value) other (lane_at core other) (y.outbound other) (y.inbound other)
     lanes other lt = elim (cases_eq other lane) [
       | inl e ↦ subst (λ (l : ℕ). ShowsLane (set words place value) l (lane_at core l) (y.outbound l) (y.inbound l)) (sym e)
-        (rw (changed_here x.outbound lane o', changed_here x.inbound lane i') shows)
+          (rw (changed_here x.outbound lane o', changed_here x.inbound lane i') shows)
       | inr apart ↦ rw (changed_else x.outbound lane o' other apart, changed_else x.inbound lane i' other apart)
-        (let old = s.lanes other lt in
-        record { packets = old.packets; letters = old.letters ∙ sym (t.lanes other apart); fits = stored_elsewhere words lane other turn index value old.packets (x.outbound other) (x.inbound other) apart few old.fits })
+          (let old = s.lanes other lt in
+          record { packets = old.packets; letters = old.letters ∙ sym (t.lanes other apart); fits = stored_elsewhere words lane other turn index value old.packets (x.outbound other) (x.inbound other) apart few old.fits })
     ]

@@ -11,7 +11,7 @@ use Rattle.sci_packets.specs.Spelling.{SpellsInWords}
 use Rattle.sci_cache.specs.Cache.{Letter, letter_of}
 use Rattle.sci_core.specs.Size.{Size, size_of}
 use Rattle.sci_core.specs.Node.{NodeOf, IsForNode, IsServable}
-use Rattle.sci_core.specs.Core.{Side, Idle, Changes, Sends, Takes, side, node_of}
+use Rattle.sci_core.specs.Core.{Side, Changes, Sends, Takes, side, node_of}
 use Rattle.sci_lanes.specs.declared.cell.CellId.{CellId}
 use Rattle.sci_lanes.specs.declared.cell.TheConstants.{CELL_WORDS}
 use Rattle.sci_lanes.specs.declared.end.Inbox.{Inbox}

@@ -52,9 +52,9 @@ with_lane_known lane node o i part = record { node = node; outbound = slice_set 
 abbrev pub looked : ℕ → ℕ → ℕ → Part → Part
 looked lane number word part =
     with_lane_known lane part.node
-      (if is_sending part lane number then looked_out word (outbound_at part lane) else outbound_at part lane)
-      (if is_receiving part lane number then looked_in word (inbound_at part lane) else inbound_at part lane)
-      part
+    (if is_sending part lane number then looked_out word (outbound_at part lane) else outbound_at part lane)
+    (if is_receiving part lane number then looked_in word (inbound_at part lane) else inbound_at part lane)
+    part
 
 abbrev pub filled : ℕ → ℕ → ℕ → Part → Part
 filled lane index word part = with_lane_known lane part.node (filled_out index word (outbound_at part lane)) (inbound_at part lane) part

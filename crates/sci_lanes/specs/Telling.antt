@@ -11,7 +11,6 @@ use Rattle.sci_core.specs.Size.{Size}
 use Rattle.sci_core.specs.Node.{NodeOf, lines_of, no_node}
 use Rattle.sci_core.specs.Core.{Core, Sends, Takes, Changes, side, node_of, node_at, lane_at, lane_place}
 use Rattle.sci_core.specs.Reached.{IsReached}
-use Rattle.sci_lanes.specs.declared.view.Inbound.{Inbound}
 use Rattle.sci_lanes.specs.declared.view.Part.{Part}
 use Rattle.sci_lanes.specs.declared.view.View.{View}
 use Rattle.sci_lanes.specs.Cells.{lane_count, sender_of, receiver_of}
@@ -48,7 +47,7 @@ pub record IsShown (part : Part) : Type 0 where
   pub vacant : (lane : ℕ) → lane < lane_count core.size.nodes → sender_of core.size.nodes lane ≡ me_of part → (outbound_at part lane).vacant ≡ true → length (lane_at core lane) < 4
   -- the node knows how many packets are in a lane to itself
   pub own : (lane : ℕ) → lane < lane_count core.size.nodes → sender_of core.size.nodes lane ≡ me_of part → receiver_of core.size.nodes lane ≡ me_of part
-    → (outbound_at part lane).sent ≡ (inbound_at part lane).taken + length (lane_at core lane)
+      → (outbound_at part lane).sent ≡ (inbound_at part lane).taken + length (lane_at core lane)
 
 -- such a state in which a lane has four packets
 pub record IsFull (part : Part) (lane : ℕ) : Type 0 where

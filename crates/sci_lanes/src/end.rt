@@ -54,7 +54,12 @@ impl LaneEnd {
     ghost use Rattle.sci_lanes.specs.Ends.{FitsInside, IsNextToSend, IsNextToTake, MayBeat, MayFill, MayFree, MayPublish, MayRead, empty_inbox, lane_at_cell, node_after, nodes_in, taken_by, with_part};
 
     /// The end of a node in a machine of so many nodes, in which nothing was done yet. Refused if memory is.
-    pub(crate) fn new(alloc: Global, seat: NodeSeat, node: Node, nodes: u8) -> Result<LaneEnd, AllocError>
+    pub(crate) fn new(
+        alloc: Global,
+        seat: NodeSeat,
+        node: Node,
+        nodes: u8,
+    ) -> Result<LaneEnd, AllocError>
         requires { FitsInside seat.part node node.cache.me nodes (replicate (lane_count nodes) 0) (replicate (2 * nodes) empty_inbox) }
         ensures { IfOk result (λ end. end ≡ seat) }
     {
@@ -183,7 +188,8 @@ impl LaneEnd {
         ensures shown { IsShown self.new.part }
     {
         make_alone(&mut self.node, event);
-        self.seat.publish::<Brand>(&cell, self.nodes, first, &self.node);
+        self.seat
+            .publish::<Brand>(&cell, self.nodes, first, &self.node);
         let lane = cell.lane(self.nodes);
         self.turns[lane] = (cell.number + 1) % LANE_CELLS;
     }

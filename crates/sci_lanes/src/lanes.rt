@@ -103,5 +103,10 @@ fn split_off(
     let shared = &table.shared;
     let part = shared.split_seat::<First>(seat);
     let seat = NodeSeat::new(Arc::try_clone(table)?, part);
-    LaneEnd::new(alloc, seat, Node::new(alloc, node, extent, limit)?, extent.nodes)
+    LaneEnd::new(
+        alloc,
+        seat,
+        Node::new(alloc, node, extent, limit)?,
+        extent.nodes,
+    )
 }

@@ -5,16 +5,16 @@ mod cell;
 mod end;
 mod event;
 mod lanes;
+mod laws;
 mod rule;
 mod seat;
-mod view;
-
 #[cfg(test)]
 mod tests;
+mod view;
 
 pub use cell::CellId;
 pub use end::LaneEnd;
 pub use lanes::Lanes;
-
+pub use laws::words_show_one_state;
 pub use rule::{Becomes, LaneRule};
 pub use view::{Inbound, Outbound, Part, View};

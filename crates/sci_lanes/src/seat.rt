@@ -83,13 +83,7 @@ impl NodeSeat {
 
     /// Stores the first word of the next cell to send into: the packet is sent, and
     /// the node becomes `after`.
-    pub(crate) fn publish<B: Becomes>(
-        &mut self,
-        cell: &CellId,
-        nodes: u8,
-        first: u64,
-        after: &Node,
-    )
+    pub(crate) fn publish<B: Becomes>(&mut self, cell: &CellId, nodes: u8, first: u64, after: &Node)
         requires after { after.now ≡ B.next }
         requires nodes { nodes ≡ nodes_in self.old.part }
         requires next { IsNextToSend self.old.part cell.now }

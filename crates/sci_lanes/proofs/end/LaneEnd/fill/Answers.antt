@@ -1,5 +1,4 @@
 use Rattle.std.proofs.Common.{sym, ap, subst}
-use Rattle.sci_lanes.specs.declared.view.Part.{Part}
 use Rattle.sci_lanes.specs.Ends.{EndOf, MayFill}
 use Rattle.sci_lanes.proofs.Seats.{sends_in}
 use Rattle.sci_lanes.proofs.Inside.{filled_inside}

@@ -1,12 +1,11 @@
-use Rattle.std.proofs.Common.{◌≡◌, ◌/◌, ℕ, length, get_or, Option, Some, None, refl, sym, ap, subst, ◌∙◌}
-use Rattle.std.specs.Prelude.{slice_index_or, slice_set, IsSome}
+use Rattle.std.proofs.Common.{◌≡◌, ◌/◌, ℕ, get_or, Some, refl, sym, ap, subst, ◌∙◌}
+use Rattle.std.specs.Prelude.{IsSome}
 use Rattle.sci_packets.specs.declared.packet.Packet.{Packet}
-use Rattle.sci_packets.specs.Spelling.{SpellsInWords, words_of}
+use Rattle.sci_packets.specs.Spelling.{SpellsInWords}
 use Rattle.sci_cache.specs.Cache.{letter_of}
 use Rattle.sci_core.specs.Node.{NodeOf}
 use Rattle.sci_core.specs.Core.{side}
-use Rattle.sci_lanes.specs.declared.view.Part.{Part}
-use Rattle.sci_lanes.specs.Ends.{EndOf, FitsInside, MayFree, MayBeGiven, taken_by, lane_at_cell, no_inbox, passed}
+use Rattle.sci_lanes.specs.Ends.{EndOf, MayFree, MayBeGiven, taken_by, lane_at_cell}
 use Rattle.sci_lanes.specs.Shown.{inbound_at}
 use Rattle.sci_lanes.proofs.Seats.{takes_in}
 use Rattle.sci_lanes.proofs.Inside.{freed_inside}
@@ -54,7 +53,7 @@ invariant_of-self c =
     let f = c.self.invariant in
     let may = subst (λ (end : EndOf). MayFree end.part c.args.cell c.args.event.now) (sym c.self.view_is) c.requires in
     rw (c.pass.ensures, c.lane.ensures, c.from.ensures)
-      (freed_inside s.seat.part _ _ _ _ _ f c.args.cell (takes_in s.seat.part c.args.cell f.shown may.next) c.free.new.self.part c.make_taking.new.node c.make_taking.new.node may.next.mine (ap (λ (end : EndOf). end.part) c.free.ensures.part) c.free.ensures.shown refl c.free.ensures.same)
+    (freed_inside s.seat.part _ _ _ _ _ f c.args.cell (takes_in s.seat.part c.args.cell f.shown may.next) c.free.new.self.part c.make_taking.new.node c.make_taking.new.node may.next.mine (ap (λ (end : EndOf). end.part) c.free.ensures.part) c.free.ensures.shown refl c.free.ensures.same)
 
 pub returns-clause-taken : goal.returns-clause-taken
 returns-clause-taken c packet spelled =

@@ -1,13 +1,11 @@
-use Rattle.std.proofs.Common.{ℕ, ◌≡◌, ◌≢◌, ◌⊎◌, inl, inr, ◌/◌, ◌<◌, length, get_or, set, sym, ap, subst, ◌∙◌}
-use Rattle.std.specs.Prelude.{slice_index_or, slice_set}
+use Rattle.std.proofs.Common.{ℕ, ◌≡◌, ◌≢◌, ◌⊎◌, inl, inr, ◌/◌, get_or, sym, ap, subst}
 use Rattle.std.proofs.lemmas.Bool.{cases_eq}
 use Rattle.sci_core.specs.declared.lane.LaneKind.TheVariants.{Requests}
 use Rattle.sci_lanes.specs.declared.cell.CellId.{CellId}
 use Rattle.sci_lanes.specs.declared.view.Part.{Part}
-use Rattle.sci_lanes.specs.Ends.{EndOf, FitsInside, IsNextToSend, IsNextToTake, lane_at_cell, no_inbox, with_word}
-use Rattle.sci_lanes.specs.Shown.{me_of}
+use Rattle.sci_lanes.specs.Ends.{EndOf, IsNextToSend, IsNextToTake, lane_at_cell, no_inbox}
 use Rattle.sci_lanes.specs.Telling.{IsShown, IsFull, SomeLineWaits}
-use Rattle.sci_lanes.proofs.Seats.{IsInLane, either_in}
+use Rattle.sci_lanes.proofs.Seats.{either_in}
 use Rattle.sci_lanes.proofs.Inside.{box_there, elsewhere_inside, other_inside, next_inside}
 use Rattle.sci_lanes.proofs.Calls.{full_waits}
 use Rattle.sci_lanes.proofs.end.LaneEnd.look.Goals as goal
@@ -28,9 +26,9 @@ invariant_of-self c =
     let is = ap (λ (e : EndOf). e.part) c.look-word.ensures.part in
     elim (cases_eq (get_or s.inboxes.items (c.lane.result / c.from.result) no_inbox).turn cell.number) [
       | inl here ↦ rw (c.keep_first.ensures.next here, c.lane.ensures, c.from.ensures)
-        (next_inside s.seat.part _ _ _ _ _ f cell at c.look-word.new.self.part c.look-word.result c.if-cell-self.true (subst (λ (l : ℕ). (get_or s.inboxes.items (l / s.nodes) no_inbox).turn ≡ cell.number) c.lane.ensures (subst (λ (n : ℕ). (get_or s.inboxes.items (c.lane.result / n) no_inbox).turn ≡ cell.number) c.from.ensures here)) is c.look-word.ensures.shown)
+          (next_inside s.seat.part _ _ _ _ _ f cell at c.look-word.new.self.part c.look-word.result c.if-cell-self.true (subst (λ (l : ℕ). (get_or s.inboxes.items (l / s.nodes) no_inbox).turn ≡ cell.number) c.lane.ensures (subst (λ (n : ℕ). (get_or s.inboxes.items (c.lane.result / n) no_inbox).turn ≡ cell.number) c.from.ensures here)) is c.look-word.ensures.shown)
       | inr apart ↦ rw (c.keep_first.ensures.other apart)
-        (other_inside s.seat.part _ _ _ _ _ f cell at c.look-word.new.self.part c.look-word.result c.if-cell-self.true (subst (λ (l : ℕ). (get_or s.inboxes.items (l / s.nodes) no_inbox).turn ≢ cell.number) c.lane.ensures (subst (λ (n : ℕ). (get_or s.inboxes.items (c.lane.result / n) no_inbox).turn ≢ cell.number) c.from.ensures apart)) is c.look-word.ensures.shown)
+          (other_inside s.seat.part _ _ _ _ _ f cell at c.look-word.new.self.part c.look-word.result c.if-cell-self.true (subst (λ (l : ℕ). (get_or s.inboxes.items (l / s.nodes) no_inbox).turn ≢ cell.number) c.lane.ensures (subst (λ (n : ℕ). (get_or s.inboxes.items (c.lane.result / n) no_inbox).turn ≢ cell.number) c.from.ensures apart)) is c.look-word.ensures.shown)
     ]
 
 pub invariant_of-self-else-cell-self : goal.invariant_of-self-else-cell-self

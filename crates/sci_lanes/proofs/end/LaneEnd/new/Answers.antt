@@ -1,7 +1,3 @@
-use Rattle.std.proofs.Common.{◌≡◌, ℕ, ◌*◌, refl, sym, ap, ◌∙◌}
-use Rattle.std.specs.Prelude.{replicate}
-use Rattle.sci_lanes.specs.Cells.{lane_count}
-use Rattle.sci_lanes.specs.Ends.{FitsInside, empty_inbox}
 use Rattle.sci_lanes.proofs.end.LaneEnd.new.Goals as goal
 
 pub invariant_of-result : goal.invariant_of-result

@@ -1,8 +1,7 @@
-use Rattle.std.proofs.Common.{◌≡◌, ◌+◌, ◌%◌, refl, sym, ap, subst, ◌∙◌}
-use Rattle.std.specs.Prelude.{slice_set}
+use Rattle.std.proofs.Common.{refl, sym, ap, subst, ◌∙◌}
 use Rattle.sci_core.specs.Node.{NodeOf}
 use Rattle.sci_core.specs.Core.{side}
-use Rattle.sci_lanes.specs.Ends.{EndOf, FitsInside, MayPublish, node_after, lane_at_cell}
+use Rattle.sci_lanes.specs.Ends.{EndOf, MayPublish, node_after, lane_at_cell}
 use Rattle.sci_lanes.specs.Telling.{IsSending}
 use Rattle.sci_lanes.proofs.Seats.{sends_in}
 use Rattle.sci_lanes.proofs.Inside.{published_inside}
@@ -24,4 +23,4 @@ invariant_of-self c =
     let e = c.args.event.now in
     let may = subst (λ (end : EndOf). MayPublish end.part c.args.cell c.args.first e) (sym c.self.view_is) c.requires in
     rw c.lane-lane.ensures
-      (published_inside s.seat.part _ _ _ _ _ f c.args.cell (sends_in s.seat.part c.args.cell f.shown may.next) c.publish.new.self.part c.make_alone.new.node c.make_alone.new.node _ may.next.next refl (ap (λ (end : EndOf). end.part) c.publish.ensures.part) c.publish.ensures.shown refl c.publish.ensures.same)
+    (published_inside s.seat.part _ _ _ _ _ f c.args.cell (sends_in s.seat.part c.args.cell f.shown may.next) c.publish.new.self.part c.make_alone.new.node c.make_alone.new.node _ may.next.next refl (ap (λ (end : EndOf). end.part) c.publish.ensures.part) c.publish.ensures.shown refl c.publish.ensures.same)

@@ -1,9 +1,7 @@
-use Rattle.std.proofs.Common.{◌/◌, List, sym, ap, subst, ◌∙◌}
-use Rattle.std.specs.Prelude.{slice_index_or, slice_set}
-use Rattle.sci_lanes.specs.declared.end.Inbox.{Inbox}
-use Rattle.sci_lanes.specs.Ends.{EndOf, FitsInside, MayRead, no_inbox, with_word}
-use Rattle.sci_lanes.proofs.Seats.{IsInLane, takes_in}
-use Rattle.sci_lanes.proofs.Inside.{box_there, read_inside}
+use Rattle.std.proofs.Common.{sym, ap, subst}
+use Rattle.sci_lanes.specs.Ends.{EndOf, MayRead}
+use Rattle.sci_lanes.proofs.Seats.{takes_in}
+use Rattle.sci_lanes.proofs.Inside.{read_inside}
 use Rattle.sci_lanes.proofs.end.LaneEnd.read_word.Goals as goal
 
 pub invariant_of-self : goal.invariant_of-self

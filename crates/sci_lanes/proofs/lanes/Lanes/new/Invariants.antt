@@ -1,5 +1,5 @@
 -- The seat has the nodes that are left, and the ends so far are those of the others.
-use Rattle.std.proofs.Common.{◌≡◌, ℕ, []}
+use Rattle.std.proofs.Common.{◌≡◌, []}
 use Rattle.std.specs.Arc.{arc_value}
 use Rattle.sci_core.specs.Size.{size_of}
 use Rattle.sci_lanes.specs.Cells.{word_count}

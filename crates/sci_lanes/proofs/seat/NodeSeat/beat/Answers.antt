@@ -1,4 +1,4 @@
-use Rattle.std.proofs.Common.{ℕ, ◌+◌, ◌%◌, ◌^◌, sym, subst}
+use Rattle.std.proofs.Common.{◌+◌, ◌%◌, ◌^◌, sym, subst}
 use mathlib.Core.Option.{none}
 use Rattle.atomic_table.specs.Table.{step}
 use Rattle.sci_lanes.specs.Plays.{Beats}
@@ -9,4 +9,4 @@ pub fetch_add-requires : goal.fetch_add-requires
 fetch_add-requires g c =
     let s = c.self.inside.seat in
     subst (λ t. Asks t.shared.key t.shared.table_id s.table_id s.id s.me c.own_word-place.result (λ n. (n + 1) % 2 ^ 64) (Beats g.B.Becomes.next (step t.shared.table_id.slots c.own_word-place.result 1 0 none) s.me)) (sym c.deref.ensures)
-      (beat_asks _ _ _ s.id s.me c.args.me c.args.nodes c.own_word-place.result g.B.Becomes.next c.self.invariant c.args.self.now c.self.view_is c.requires.me c.requires.nodes c.requires.beating c.own_word-place.ensures)
+    (beat_asks _ _ _ s.id s.me c.args.me c.args.nodes c.own_word-place.result g.B.Becomes.next c.self.invariant c.args.self.now c.self.view_is c.requires.me c.requires.nodes c.requires.beating c.own_word-place.ensures)
