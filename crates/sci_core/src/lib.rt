@@ -19,10 +19,11 @@ pub use fault::ApplyFault;
 pub use lane::{Lane, LaneKind};
 pub use laws::{
     answers_are_accepted, contents_are_in_range, entries_are_in_range, front_answers_are_accepted,
-    front_requests_are_served, issues_are_pending, issues_in_turn_are_logged_in_order, lines_have_their_shape, logs_are_done,
-    logs_are_lawful, operations_take_effect, performs_end_the_log, reached_nodes_are_parts,
-    reached_nodes_can_go_on, reached_states_are_coherent, reached_states_are_tidy,
-    reached_states_are_well_formed, schedules_are_histories, schedules_are_runs, schedules_reach, sides_make_steps,
+    front_requests_are_served, issues_are_pending, issues_in_turn_are_logged_in_order,
+    lines_have_their_shape, logs_are_done, logs_are_lawful, operations_take_effect,
+    performs_end_the_log, reached_nodes_are_parts, reached_nodes_can_go_on,
+    reached_states_are_coherent, reached_states_are_tidy, reached_states_are_well_formed,
+    schedules_are_histories, schedules_are_runs, schedules_reach, sides_make_steps,
     sole_copies_perform, transactions_alternate, versions_count_makers,
 };
 pub use machine::Machine;

@@ -226,8 +226,7 @@ front_is logs rests loads order n e rest is lt logged front =
     let on : IsAmong e (on_line line logs) = among_filter (is_on_line line) e (all_of logs) (eq-eqb line line refl) (among_logs e logs n among) in
     let versions = (is.lawful line).versions in
     let inside = among_all (IsWithin (length loads)) e (log_of logs n) (recursion_from_All (IsWithin (length loads)) (log_of logs n) (is.within n)) among in
-    let version = among_all (λ (x : Entry). x.version ≤ maker_count (on_line line logs)) e (on_line line logs) versions.within on in
-    (
+    let version = among_all (λ (x : Entry). x.version ≤ maker_count (on_line line logs)) e (on_line line logs) versions.within on in (
       record {
         agrees = front_agrees logs rests is.last order n e rest is.own is.sixteen is.lawful lt logged front;
         counted = λ maker. (is.counts line inside.0).each e.version version;

@@ -70,8 +70,7 @@ pub histories_run : (entries : List Entry) (old new : List Stamped) → length o
 histories_run [] old new long each = ap words_of_lines (ext_get_or zero_stamped new old (sym long) (λ k lt. each k))
 histories_run (entry ∷ entries) old new long each =
     let rest = rest_of entry entries old new long each in
-    let run = histories_run entries (contents_after old entry.op) new (length-set old entry.op.line (after (stamped_at old entry.op.line) entry.op) ∙ long) rest.1 in
-    (
+    let run = histories_run entries (contents_after old entry.op) new (length-set old entry.op.line (after (stamped_at old entry.op.line) entry.op) ∙ long) rest.1 in (
       rest.0 ∙ ap (λ (words : List ℕ). reply_of words entry.op) (sym (line_at-words_of_lines old entry.op.line)),
       subst (λ (memory : List (List ℕ)). IsRun (map pair_of entries) memory (words_of_lines new)) (words_of_lines-contents_after old entry.op) run,
     )
@@ -114,10 +113,13 @@ tail_none node entry entries none = elim (cases_Bool (is_of_node node entry)) [
 
 none_beyond : (entries : List Entry) (bound : ℕ) → ((node : ℕ) → bound ≤ node → filter (is_of_node node) entries ≡ []) → AllByRecursion (λ entry. entry.node < bound) entries
 none_beyond [] bound none = tt
-none_beyond (entry ∷ entries) bound none = (elim (cases_lt entry.node bound) [
-  | inl lt ↦ lt
-  | inr past ↦ absurd (not_none (sym (filter_yes (is_of_node entry.node) entry entries (eq-eqb entry.node entry.node refl)) ∙ none entry.node past))
-], none_beyond entries bound (λ node past. tail_none node entry entries (none node past)))
+none_beyond (entry ∷ entries) bound none = (
+  elim (cases_lt entry.node bound) [
+    | inl lt ↦ lt
+    | inr past ↦ absurd (not_none (sym (filter_yes (is_of_node entry.node) entry entries (eq-eqb entry.node entry.node refl)) ∙ none entry.node past))
+  ],
+  none_beyond entries bound (λ node past. tail_none node entry entries (none node past)),
+)
 
 order_nodes : (logs : List (List Entry)) (last : List Stamped) (order : List Entry) → IsSequentialOrder logs last order → AllByRecursion (λ entry. entry.node < length logs) order
 order_nodes logs last order is = none_beyond order (length logs) (λ node past. is.logged node ∙ get_or_past logs node [] past)

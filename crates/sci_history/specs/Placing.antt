@@ -88,8 +88,8 @@ abbrev pub line_reason : Entry → Entry → Option Reason
 line_reason x y =
     if y.op.line == x.op.line
     then (if is_making x
-      then (if nat_lt y.version x.version then Some (if is_making y then Coherence else FromRead) else None)
-      else (if is_making y then (if y.version == x.version then Some ReadsFrom else None) else None))
+    then (if nat_lt y.version x.version then Some (if is_making y then Coherence else FromRead) else None)
+    else (if is_making y then (if y.version == x.version then Some ReadsFrom else None) else None))
     else None
 
 -- where an entry stands that is left and comes before this one on its line

@@ -21,11 +21,7 @@ use std::alloc::{AllocError, Global};
 /// that there is none. The cycle has at most 32 entries. Refused only if a growth was. It takes the
 /// time of an audit, and then time linear in the number of entries. The caller sees to it that each entry's line is
 /// one of `last`, and its word below 8.
-pub fn sequential_order(
-    alloc: Global,
-    logs: &Logs,
-    last: &Last,
-) -> Result<OrderVerdict, AllocError>
+pub fn sequential_order(alloc: Global, logs: &Logs, last: &Last) -> Result<OrderVerdict, AllocError>
     requires { AreWithin (length last.now) logs.now }
     ensures verdict { IfOk result (IsOrderVerdict logs.now last.now) }
     ensures order { IfOk result (λ verdict. IsOrdered verdict ↔ (Lawful logs.now last.now × IsSequentiallyConsistent logs.now last.now)) }

@@ -14,6 +14,7 @@ use sci_words::{MAX_LINES, MAX_NODES};
 use std::alloc::{AllocError, Global};
 
 const LINES: usize = MAX_LINES as usize;
+
 const NODES: usize = MAX_NODES as usize;
 
 /// What is placed of a line: its version, and how many loads at that version are left.
@@ -70,11 +71,7 @@ fn count_loads(alloc: Global, entries: &[&Entry]) -> Result<Vec<u64>, AllocError
 }
 
 /// Of each line the number of loads at each version.
-pub fn loads_by_version(
-    alloc: Global,
-    logs: &Logs,
-    lines: u8,
-) -> Result<Vec<Vec<u64>>, AllocError>
+pub fn loads_by_version(alloc: Global, logs: &Logs, lines: u8) -> Result<Vec<Vec<u64>>, AllocError>
     requires within { AreWithin lines logs.now }
     requires versions { (line : ℕ) → All (λ entry. entry.version ≤ maker_count (on_line line logs.now)) (on_line line logs.now) }
     ensures lines { IfOk result (λ loads. length loads.items ≡ lines) }
@@ -124,12 +121,7 @@ impl Placing {
 
     /// Places the first entry of a node that isn't placed. False, and nothing is placed, if there is none or it can't be
     /// placed next.
-    fn place_front(
-        &mut self,
-        logs: &Logs,
-        loads: &[Vec<u64>],
-        node: u8,
-    ) -> Result<bool, AllocError>
+    fn place_front(&mut self, logs: &Logs, loads: &[Vec<u64>], node: u8) -> Result<bool, AllocError>
         requires node { node < MAX_NODES }
         requires orderable { AreOrderable logs.now (lists_of_counts loads.now) }
         requires few { length loads.now ≤ MAX_LINES }

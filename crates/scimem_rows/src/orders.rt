@@ -160,7 +160,11 @@ fn a_cycle_further_on(rt: HostRuntime) -> Result<(), Fail> {
 #[test]
 fn an_unlawful_log(rt: HostRuntime) -> Result<(), Fail> {
     match found(rt.alloc(), ONCE, "0 0 store 0 0 1 = - @1\n")? {
-        OrderVerdict::Fault { line: 1, at: None, .. } => Ok(()),
+        OrderVerdict::Fault {
+            line: 1,
+            at: None,
+            ..
+        } => Ok(()),
         other => Err(Fail::new(format_args!("{other:?}"))),
     }
 }

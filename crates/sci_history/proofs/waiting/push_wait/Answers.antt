@@ -46,8 +46,7 @@ returns-in_ok-push-2-clause-leads c =
     let y : Step = record { entry = get_or other c.in-Some.found.place no_entry; place = c.in-Some.found.place; reason = Logged } in
     let below = blocker_below c.args.logs.now c.args.next.now x.entry c.in-Some.found.node c.in-Some.found.place c.in-Some.found.reason c.in-Some.ensures.found in
     let long = ap length c.of-then-next-found.ensures.log in
-    let at = behind_at c.args.logs.now c.in-Some.found.node c.in-Some.found.place other c.of-then-next-found.ensures.log (omega arith) in
-    (
+    let at = behind_at c.args.logs.now c.in-Some.found.node c.in-Some.found.place other c.of-then-next-found.ensures.log (omega arith) in (
       x ∷ y ∷ [],
       c.in_ok-push-2.ensures.items ∙ (ap (λ (steps : List Step). steps ++ y ∷ []) c.in_ok-push.ensures.items ∙ append_assoc c.args.steps.now.items (x ∷ []) (y ∷ [])),
       leads_two c.args.logs.now c.args.next.now c.args.node c.in-Some.found.node c.in-Some.found.place x y c.of.ensures.own begins c.in-Some.ensures.found at refl refl c.if-next-found.true,
