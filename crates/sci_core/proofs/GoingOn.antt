@@ -15,16 +15,7 @@ entry_goes_on (Telling r w false) entry idle = refl
 entry_goes_on (Head f c) entry idle = refl
 entry_goes_on (FreshHead f c) entry idle = refl
 entry_goes_on (Below f b c) entry idle = refl
-entry_goes_on (Joining p true) entry idle = cc
-entry_goes_on (FreshJoining p true c) entry idle = cc
-entry_goes_on (Telling r w true) entry idle = cc
-entry_goes_on Asking entry idle = cc
-entry_goes_on (Purging q c) entry idle = cc
-entry_goes_on (Claiming f c) entry idle = cc
-entry_goes_on (Clearing c) entry idle = cc
-entry_goes_on (Returning c) entry idle = cc
-entry_goes_on (Rolling f b c) entry idle = cc
-entry_goes_on Fading entry idle = cc
+entry_goes_on _ entry idle = cc
 
 pub can_go_on : (n : ℕ) (node : NodeOf) → IsReachedNode n node → CanGoOn node
 can_go_on n node is =

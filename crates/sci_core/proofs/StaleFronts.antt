@@ -160,15 +160,7 @@ fresh_untold (FreshJoining p sent c) b told fresh = refl
 fresh_untold (FreshHead f c) b told fresh = refl
 fresh_untold (Claiming f c) b told fresh = refl
 fresh_untold (Clearing c) b told fresh = refl
-fresh_untold Out b told fresh = cc
-fresh_untold (Joining p sent) b told fresh = cc
-fresh_untold (Head f c) b told fresh = cc
-fresh_untold (Below f d c) b told fresh = cc
-fresh_untold (Purging q c) b told fresh = cc
-fresh_untold (Returning c) b told fresh = cc
-fresh_untold (Rolling f d c) b told fresh = cc
-fresh_untold (Telling r w sent) b told fresh = cc
-fresh_untold Fading b told fresh = cc
+fresh_untold _ b told fresh = cc
 
 record Freshens (state : CacheState) (served : CacheState × Body) : Type 0 where
   pub keeps : (answer : Option Body) → is_fresh served.0 answer ≡ true → is_fresh state answer ≡ true

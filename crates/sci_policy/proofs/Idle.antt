@@ -5,7 +5,7 @@ use Rattle.std.specs.Option.{option_or, option_and_then}
 use Rattle.std.specs.List.{range_with_len}
 use Rattle.std.proofs.lemmas.Bool.{and_parts}
 use Rattle.sci_words.specs.declared.limits.TheConstants.{MAX_LINES}
-use Rattle.sci_cache.specs.State.{CacheState, Out, Asking, Joining, FreshJoining, Head, FreshHead, Below, Purging, Claiming, Clearing, Returning, Rolling, Telling, Fading, is_out}
+use Rattle.sci_cache.specs.State.{CacheState, Out, is_out}
 use Rattle.sci_core.specs.Node.{IsAtRest, NodeOf, node_performing}
 use Rattle.sci_policy.specs.Lines.{can_drain, has_fresh_sharers, has_pending, has_sharers, joins, least, must_send, oldest, some_line, state_on}
 use Rattle.sci_policy.specs.Policy.{PolicyOf, ask_of, contents_wanted, due_wanted, has, held_back, is_claimed, is_purged, operation_asks, perform_wanted, purge_wanted, ruled, send_wanted, set_of, slot_for, slot_wanted, still_draining, wanted}
@@ -13,19 +13,7 @@ use Rattle.sci_policy.proofs.Found.{least_fits, oldest_fits}
 
 out_is : (state : CacheState) → is_out state ≡ true → state ≡ Out
 out_is Out e = refl
-out_is Asking e = cc
-out_is (Joining p sent) e = cc
-out_is (FreshJoining p sent c) e = cc
-out_is (Head f c) e = cc
-out_is (FreshHead f c) e = cc
-out_is (Below f b c) e = cc
-out_is (Purging q c) e = cc
-out_is (Claiming f c) e = cc
-out_is (Clearing c) e = cc
-out_is (Returning c) e = cc
-out_is (Rolling f b c) e = cc
-out_is (Telling r w sent) e = cc
-out_is Fading e = cc
+out_is _ e = cc
 
 all_out : (node : NodeOf) → IsAtRest node → (line : ℕ) → state_on node line ≡ Out
 all_out node rest line = out_is (state_on node line) (rest.none_held line)

@@ -56,18 +56,7 @@ must_ask maker (Joining p true) e = cc
 must_ask maker (FreshJoining p false c) e = (kind.Cread, refl, λ line. refl)
 must_ask maker (FreshJoining p true c) e = cc
 must_ask maker (Telling r w false) e = (kind.Setback, refl, λ line. refl)
-must_ask maker (Telling r w true) e = cc
-must_ask maker Out e = cc
-must_ask maker Asking e = cc
-must_ask maker (Head f c) e = cc
-must_ask maker (FreshHead f c) e = cc
-must_ask maker (Below f b c) e = cc
-must_ask maker (Purging q c) e = cc
-must_ask maker (Claiming f c) e = cc
-must_ask maker (Clearing c) e = cc
-must_ask maker (Returning c) e = cc
-must_ask maker (Rolling f b c) e = cc
-must_ask maker Fading e = cc
+must_ask maker _ e = cc
 
 -- neither waits nor must send
 pub record IsQuiet (state : CacheState) : Type 0 where
@@ -115,17 +104,7 @@ could_ask maker (Head (Some f) c) e = refl
 could_ask maker (FreshHead None c) e = refl
 could_ask maker (FreshHead (Some f) c) e = refl
 could_ask maker (Below f b c) e = refl
-could_ask maker Out e = cc
-could_ask maker Asking e = cc
-could_ask maker (Joining p sent) e = cc
-could_ask maker (FreshJoining p sent c) e = cc
-could_ask maker (Purging q c) e = cc
-could_ask maker (Claiming f c) e = cc
-could_ask maker (Clearing c) e = cc
-could_ask maker (Returning c) e = cc
-could_ask maker (Rolling f b c) e = cc
-could_ask maker (Telling r w sent) e = cc
-could_ask maker Fading e = cc
+could_ask maker _ e = cc
 
 is_mapped : {A B : Type 0} (f : A → B) (o : Option A) → is_some o ≡ true → is_some (option_map f o) ≡ true
 is_mapped f None e = cc

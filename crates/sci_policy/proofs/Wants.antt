@@ -5,7 +5,7 @@ use Rattle.std.specs.Option.{option_or, option_and_then}
 use Rattle.std.proofs.lemmas.Bool.{and_parts, lt-ltb}
 use Rattle.sci_words.specs.declared.event.AskKind.{AskKind}
 use Rattle.sci_words.specs.declared.event.AskKind.TheVariants as kind
-use Rattle.sci_cache.specs.State.{CacheState, Out, Asking, Joining, FreshJoining, Head, FreshHead, Below, Purging, Claiming, Clearing, Returning, Rolling, Telling, Fading, is_out}
+use Rattle.sci_cache.specs.State.{CacheState, Out, Joining, FreshJoining, Head, FreshHead, Below, Telling, is_out}
 use Rattle.sci_cache.specs.Asking.{Asked, asking}
 use Rattle.sci_cache.specs.Line.{ask_or_fault}
 use Rattle.sci_cache.specs.Cache.{cache_asked, cache_asking, has_slot}
@@ -58,37 +58,11 @@ made_ask node line k below makes = ask_enabled node line k below makes.asks (λ 
 
 purges : (state : CacheState) → has_sharers state ≡ true → Makes state kind.Purge
 purges (Head (Some f) c) e = record { asks = refl; entry = λ out. cc }
-purges (Head None c) e = cc
-purges Out e = cc
-purges Asking e = cc
-purges (Joining p sent) e = cc
-purges (FreshJoining p sent c) e = cc
-purges (FreshHead f c) e = cc
-purges (Below f b c) e = cc
-purges (Purging q c) e = cc
-purges (Claiming f c) e = cc
-purges (Clearing c) e = cc
-purges (Returning c) e = cc
-purges (Rolling f b c) e = cc
-purges (Telling r w sent) e = cc
-purges Fading e = cc
+purges _ e = cc
 
 claims : (state : CacheState) → has_fresh_sharers state ≡ true → Makes state kind.Claim
 claims (FreshHead (Some f) c) e = record { asks = refl; entry = λ out. cc }
-claims (FreshHead None c) e = cc
-claims Out e = cc
-claims Asking e = cc
-claims (Joining p sent) e = cc
-claims (FreshJoining p sent c) e = cc
-claims (Head f c) e = cc
-claims (Below f b c) e = cc
-claims (Purging q c) e = cc
-claims (Claiming f c) e = cc
-claims (Clearing c) e = cc
-claims (Returning c) e = cc
-claims (Rolling f b c) e = cc
-claims (Telling r w sent) e = cc
-claims Fading e = cc
+claims _ e = cc
 
 fresh_asks : (maker : Bool) (c : _) → Makes (FreshHead None c) (if maker then kind.Claim else kind.Clear)
 fresh_asks true c = record { asks = refl; entry = λ out. cc }
