@@ -5,9 +5,10 @@ use Rattle.sci_words.specs.declared.event.Event.{Event}
 use Rattle.sci_words.specs.declared.event.Event.TheVariants as event
 use Rattle.sci_history.proofs.Order.{all-append}
 use Rattle.sci_core.specs.Core.{Core, lane_at, node_at, stepping}
+use Rattle.sci_core.specs.Draining.{one_if}
 use Rattle.sci_policy.specs.declared.progress.Progress.{Progress}
 use Rattle.sci_policy.specs.Policy.{PolicyOf, next_policy}
-use Rattle.sci_policy.specs.Turn.{Counts, IsTurnEvent, counted, is_accept, is_service, one_if}
+use Rattle.sci_policy.specs.Turn.{Counts, IsTurnEvent, counted, is_accept, is_service}
 use Rattle.sci_locked.specs.Moves.{Decides, GoesOn, HasEnded, HasGone, IsMade, IsPartOfTurn, IsStep, IsTurn, KeepsRoom, Leads, MadeNothing}
 
 leads_more : (n : ℕ) (before : PolicyOf) (old : Core) (events : List Event) (policy : PolicyOf) (mid : Core) (e : Event) (after : PolicyOf) (new : Core)

@@ -6,6 +6,7 @@ use Rattle.sci_words.specs.declared.event.Event.{Event}
 use Rattle.sci_words.specs.declared.event.Event.TheVariants as event
 use Rattle.sci_words.specs.declared.operation.Op.{Op}
 use Rattle.sci_core.specs.Core.{node_of}
+use Rattle.sci_core.specs.Draining.{one_if}
 use Rattle.sci_core.specs.Node.{NodeOf, lines_of, pending_on}
 use Rattle.sci_policy.specs.declared.progress.Progress.{Progress}
 use Rattle.sci_policy.specs.declared.submit.SubmitFault.{SubmitFault}
@@ -35,10 +36,6 @@ is_ask _ = false
 pub record IsTurnEvent (n : ℕ) (e : Event) : Type 0 where
   pub own : node_of e ≡ n
   pub kind : (is_accept e || (is_service e || (is_reply e || is_ask e))) ≡ true
-
-abbrev pub one_if : Bool → ℕ
-one_if true = 1
-one_if false = 0
 
 -- what is told after one event more
 abbrev pub counted : Progress → Event → Progress
