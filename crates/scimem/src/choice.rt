@@ -42,7 +42,7 @@ pub fn chosen(words: &[&str]) -> Option<Command>
 }
 
 /// The same of words as they are read, the program's own name left out. Refused if memory is.
-fn choice_of(alloc: Global, words: &[String]) -> Result<Option<Command>, AllocError>
+pub fn choice_of(alloc: Global, words: &[String]) -> Result<Option<Command>, AllocError>
     ensures { IfOk result (λ choice. (command : Command)
         → (choice ≡ Some command) ↔ (map (λ word. word.bytes.items) words.now ≡ arguments_of command)) }
 {
