@@ -24,10 +24,10 @@ use Rattle.sci_core.proofs.Nodes.{home_below}
 use Rattle.sci_core.proofs.Packets.{packets_same, packets_served, filter_left, filter_one, lane_has}
 use Rattle.sci_core.proofs.Waits.{idle_has_none, some_has_one}
 use Rattle.sci_core.proofs.TidySteps.{about_from, about_line, about_asker, request_asker, about_answer}
-use Rattle.sci_core.proofs.Views.{Shift}
+use Rattle.sci_core.proofs.Views.{Shift, View}
 use Rattle.sci_core.proofs.Standings.{busy_alike}
 use Rattle.sci_core.proofs.Led.{AlikeIn, alike_moved, alike_same}
-use Rattle.sci_core.proofs.Shapes.{Asks, Shaped, HomeShapes, home_shaped}
+use Rattle.sci_core.proofs.Shapes.{Asks, Shaped, home_shaped}
 use Rattle.sci_core.proofs.CacheShapes.{ServesAs, cache_serves, cache_shaped}
 use Rattle.sci_core.proofs.ShapeSteps.{view_of, ShapedAt, SameLine, same_shaped, request_tells, answer_tells, homes_same}
 
@@ -102,7 +102,7 @@ other_line core n place next request rest body is states homes k other =
     }
 
 -- the asker's line, if no state changes
-pub asks_now : (core : Core) (n place : ℕ) (next : NodeOf) (request : Letter) (rest : List Letter) (body : Body) → Answered core n place next request rest body → IsTidy core → ((k : ℕ) → (line_of next.cache k).state ≡ (line_of (node_at core n).cache k).state)
+asks_now : (core : Core) (n place : ℕ) (next : NodeOf) (request : Letter) (rest : List Letter) (body : Body) → Answered core n place next request rest body → IsTidy core → ((k : ℕ) → (line_of next.cache k).state ≡ (line_of (node_at core n).cache k).state)
     → Asks (view_of core request.line) (view_of (with_lane (with_node core n next) place rest) request.line) request.source ((view_of core request.line).state request.source) body
 asks_now core n place next request rest body is tidy states =
     let new = with_lane (with_node core n next) place rest in
@@ -148,7 +148,7 @@ places_apart c k line same other e =
     let d : c * (k / c) + k % c ≡ c * (line / c) + line % c = ap (λ (i : ℕ). c * i + k % c) e ∙ ap (λ (i : ℕ). c * (line / c) + i) same in
     other (sym a ∙ (d ∙ b))
 
-pub home_changed : (core : Core) (n line : ℕ) (next : NodeOf) (home : HomeState) → n < length core.parts → (node_at core n).cache.nodes ≡ core.size.nodes → line % core.size.nodes ≡ n → next.cache.nodes ≡ core.size.nodes → next.homes ≡ slice_set (node_at core n).homes (home_place (node_at core n) line) home
+home_changed : (core : Core) (n line : ℕ) (next : NodeOf) (home : HomeState) → n < length core.parts → (node_at core n).cache.nodes ≡ core.size.nodes → line % core.size.nodes ≡ n → next.cache.nodes ≡ core.size.nodes → next.homes ≡ slice_set (node_at core n).homes (home_place (node_at core n) line) home
     → (k : ℕ) → k ≢ line → home_at (with_node core n next) k ≡ home_at core k
 home_changed core n line next home below all at same homes k other =
     elim (cases_eq (k % core.size.nodes) n) [
@@ -166,7 +166,7 @@ home_changed core n line next home below all at same homes k other =
       | inr elsewhere ↦ ap (λ (p : NodeOf). home_of p k) (get_or-set_other core.parts n (k % core.size.nodes) next no_node elsewhere)
     ]
 
-pub home_now : (core : Core) (n line : ℕ) (next : NodeOf) (home : HomeState) → n < length core.parts → line % core.size.nodes ≡ n → next.cache.nodes ≡ (node_at core n).cache.nodes → next.homes ≡ slice_set (node_at core n).homes (home_place (node_at core n) line) home
+home_now : (core : Core) (n line : ℕ) (next : NodeOf) (home : HomeState) → n < length core.parts → line % core.size.nodes ≡ n → next.cache.nodes ≡ (node_at core n).cache.nodes → next.homes ≡ slice_set (node_at core n).homes (home_place (node_at core n) line) home
     → home_place (node_at core n) line < length (node_at core n).homes → home_at (with_node core n next) line ≡ home
 home_now core n line next home below at same homes within =
     let part = node_at core n in
@@ -178,28 +178,39 @@ home_now core n line next home below at same homes within =
 abbrev pub with_home : NodeOf → Letter → HomeState → Body → NodeOf
 with_home part request home body = with_answer (record part { homes = slice_set part.homes (home_place part request.line) home }) request body
 
-pub home_kept : (core : Core) (n place : ℕ) (request : Letter) (rest : List Letter) (served : HomeState × Body) → IsPart core.size n (node_at core n) → request.line % core.size.nodes ≡ n → Answered core n place (with_home (node_at core n) request served.0 served.1) request rest served.1
-    → serving_of_home (home_of (node_at core n) request.line) request.source request.body ≡ Some served → IsTidy core → (k : ℕ) (c : Stamped) → ShapedAt core k c → ShapedAt (with_lane (with_node core n (with_home (node_at core n) request served.0 served.1)) place rest) k c
-home_kept core n place request rest served part at is serves tidy k c shaped =
+-- What a home's serving keeps of every line: what is kept of the asker's line, and of one that stands as it stood.
+pub home_keeps : (P : View → HomeState → Type 0) → ((old new : Core) (k : ℕ) → SameLine old new k → P (view_of old k) (home_at old k) → P (view_of new k) (home_at new k))
+    → ((h a : ℕ) (home : HomeState) (old new : View) (asker : CacheState) (letter : Letter) → IsSentIn h asker letter → IfSome (serving_of_home home a letter.body) (λ (served : HomeState × Body). Asks old new a asker served.1 → P old home → P new served.0))
+    → (core : Core) (n place : ℕ) (request : Letter) (rest : List Letter) (served : HomeState × Body) → IsPart core.size n (node_at core n) → request.line % core.size.nodes ≡ n → Answered core n place (with_home (node_at core n) request served.0 served.1) request rest served.1
+    → serving_of_home (home_of (node_at core n) request.line) request.source request.body ≡ Some served → IsTidy core → (k : ℕ) → P (view_of core k) (home_at core k)
+    → P (view_of (with_lane (with_node core n (with_home (node_at core n) request served.0 served.1)) place rest) k) (home_at (with_lane (with_node core n (with_home (node_at core n) request served.0 served.1)) place rest) k)
+home_keeps P stood row core n place request rest served part at is serves tidy k has =
     let old = node_at core n in
     let next = with_home old request served.0 served.1 in
     let new = with_lane (with_node core n next) place rest in
     let line = request.line in
+    let a = request.source in
     let homes = home_changed core n line next served.0 is.below part.all at part.all refl in
     elim (cases_eq k line) [
       | inl here ↦
           let told_a = told_here core n place next request rest served.1 is tidy in
-          let asker = (view_of core line).state request.source in
+          let asker = (view_of core line).state a in
           let within : home_place old line < length old.homes = home_below old line (subst (λ (i : ℕ). line < i) (sym part.each) is.known) part.fits in
           let now : home_at (with_node core n next) line ≡ served.0 = home_now core n line next served.0 is.below at refl refl within in
           let was : home_at core line ≡ home_of old line = ap (λ (j : ℕ). home_of (node_at core j) line) at in
-          let row = home_shaped (line % core.size.nodes) request.source (home_of old line) c (view_of core line) (view_of new line) asker request told_a.sent in
-          let shapes = subst (λ (o : Option (HomeState × Body)). IfSome o (HomeShapes (view_of core line) (view_of new line) request.source asker (home_of old line) c)) serves row in
-          let shaped_here : Shaped (view_of core line) (home_of old line) c = subst (λ (h : HomeState). Shaped (view_of core line) h c) was (subst (λ (j : ℕ). ShapedAt core j c) here shaped) in
-          let then_ = shapes (asks_now core n place next request rest served.1 is tidy (λ j. refl)) shaped_here in
-          subst (λ (j : ℕ). ShapedAt new j c) (sym here) (subst (λ (h : HomeState). Shaped (view_of new line) h c) (sym now) then_)
-      | inr other ↦ same_shaped core new k c (other_line core n place next request rest served.1 is (λ j apart. refl) homes k other) shaped
+          let this = row (line % core.size.nodes) a (home_of old line) (view_of core line) (view_of new line) asker request told_a.sent in
+          let keeps = subst (λ (o : Option (HomeState × Body)). IfSome o (λ (x : HomeState × Body). Asks (view_of core line) (view_of new line) a asker x.1 → P (view_of core line) (home_of old line) → P (view_of new line) x.0)) serves this in
+          let has_here : P (view_of core line) (home_of old line) = subst (P (view_of core line)) was (subst (λ (j : ℕ). P (view_of core j) (home_at core j)) here has) in
+          let then_ = keeps (asks_now core n place next request rest served.1 is tidy (λ j. refl)) has_here in
+          subst (λ (j : ℕ). P (view_of new j) (home_at new j)) (sym here) (subst (P (view_of new line)) (sym now) then_)
+      | inr other ↦ stood core new k (other_line core n place next request rest served.1 is (λ j apart. refl) homes k other) has
     ]
+
+pub home_kept : (core : Core) (n place : ℕ) (request : Letter) (rest : List Letter) (served : HomeState × Body) → IsPart core.size n (node_at core n) → request.line % core.size.nodes ≡ n → Answered core n place (with_home (node_at core n) request served.0 served.1) request rest served.1
+    → serving_of_home (home_of (node_at core n) request.line) request.source request.body ≡ Some served → IsTidy core → (k : ℕ) (c : Stamped) → ShapedAt core k c → ShapedAt (with_lane (with_node core n (with_home (node_at core n) request served.0 served.1)) place rest) k c
+home_kept core n place request rest served part at is serves tidy k c shaped =
+    home_keeps (λ view home. Shaped view home c) (λ old new j same has. same_shaped old new j c same has) (λ h a home old new asker letter sent. home_shaped h a home c old new asker letter sent)
+    core n place request rest served part at is serves tidy k shaped
 
 -- ---- a cache serves
 

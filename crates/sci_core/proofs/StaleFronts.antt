@@ -1,5 +1,5 @@
 -- If the home's contents are gone, the head of the list isn't fresh: only a Fread makes a member fresh, and its home says so.
-use Rattle.std.proofs.Common.{◌≡◌, ◌≢◌, ℕ, ◌<◌, ◌%◌, Bool, true, false, List, [], ◌∷◌, length, arith, Option, Some, None, refl, sym, ap, subst, ◌∙◌, inl, inr}
+use Rattle.std.proofs.Common.{◌≡◌, ◌≢◌, ℕ, ◌<◌, ◌%◌, Bool, true, false, List, [], ◌∷◌, arith, Option, Some, None, refl, sym, ap, subst, ◌∙◌, inl, inr}
 use Rattle.std.specs.Prelude.{IfSome, unwrap_or}
 use Rattle.std.proofs.lemmas.Bool.{cases_Bool, cases_eq}
 use Rattle.std.proofs.lemmas.List.{get_or-set_other, get_or-set_same}
@@ -21,7 +21,7 @@ use Rattle.sci_core.specs.declared.lane.LaneKind.TheVariants.{Requests}
 use Rattle.sci_core.specs.Core.{Core, node_at, opening, run_from, step, stepping, with_lane, with_node}
 use Rattle.sci_core.specs.Done.{performed}
 use Rattle.sci_core.specs.Fresh.{is_fresh}
-use Rattle.sci_core.specs.Node.{NodeOf, home_of, home_place, no_node, node_serving}
+use Rattle.sci_core.specs.Node.{NodeOf, no_node, node_serving}
 use Rattle.sci_core.specs.Reached.{IsReached}
 use Rattle.sci_core.specs.Sharing.{answer_in, home_at, answer_to as told}
 use Rattle.sci_core.specs.Shape.{IsGoneStale}
@@ -31,12 +31,11 @@ use Rattle.sci_core.specs.WellFormed.{IsPart, IsWellFormed}
 use Rattle.sci_core.proofs.Heads.{if_head, next_either}
 use Rattle.sci_core.proofs.Led.{fresh_in, same_fresh}
 use Rattle.sci_core.proofs.NodeSides.{At_home, In_cache, PerformedAs, ServedAs}
-use Rattle.sci_core.proofs.Nodes.{home_below}
 use Rattle.sci_core.proofs.Options.{of_some}
 use Rattle.sci_core.proofs.Packets.{packets_changed}
 use Rattle.sci_core.proofs.Shapes.{Asks}
 use Rattle.sci_core.proofs.ShapeRuns.{LineStep, Performed, Served, Stood, answered, line_steps, operates_so, opening_at_home}
-use Rattle.sci_core.proofs.ShapeServes.{Answered, asks_now, home_changed, home_now, other_line, served_shift, told_here, with_home, with_served}
+use Rattle.sci_core.proofs.ShapeServes.{Answered, home_keeps, other_line, served_shift, with_served}
 use Rattle.sci_core.proofs.ShapeSteps.{SameLine, homes_same, view_of}
 use Rattle.sci_core.proofs.Standings.{Leaves, Makes, Performs, Reads, performing_does}
 use Rattle.sci_core.proofs.Steps.{Stepped, Taken, stepping_stepped}
@@ -245,30 +244,6 @@ performed_stale core n at done does well lt line stale =
     states m (told core m line) (ap (is_fresh ((view_of new line).state m)) (sym same) ∙ fresh) in
     subst (IsStale (view_of new line)) (sym (homes_same core n done.0 operates.homes line)) (keeps_stale (view_of core line) (view_of new line) (home_at core line) none stale)
 
--- the home serves
-home_served : (core : Core) (n place : ℕ) (request : Letter) (rest : List Letter) (served : HomeState × Body) → IsPart core.size n (node_at core n) → request.line % core.size.nodes ≡ n → Answered core n place (with_home (node_at core n) request served.0 served.1) request rest served.1
-    → at_home (home_of (node_at core n) request.line) request.source request.body ≡ Some served → IsTidy core → (k : ℕ) → StaleAt core k → StaleAt (with_lane (with_node core n (with_home (node_at core n) request served.0 served.1)) place rest) k
-home_served core n place request rest served part at is serves tidy k stale =
-    let old = node_at core n in
-    let next = with_home old request served.0 served.1 in
-    let new = with_lane (with_node core n next) place rest in
-    let line = request.line in
-    let homes = home_changed core n line next served.0 is.below part.all at part.all refl in
-    elim (cases_eq k line) [
-      | inl here ↦
-          let told_a = told_here core n place next request rest served.1 is tidy in
-          let asker = (view_of core line).state request.source in
-          let within : home_place old line < length old.homes = home_below old line (subst (λ (i : ℕ). line < i) (sym part.each) is.known) part.fits in
-          let now : home_at (with_node core n next) line ≡ served.0 = home_now core n line next served.0 is.below at refl refl within in
-          let was : home_at core line ≡ home_of old line = ap (λ (j : ℕ). home_of (node_at core j) line) at in
-          let row = home_stale (line % core.size.nodes) request.source (home_of old line) (view_of core line) (view_of new line) asker request told_a.sent in
-          let leaves = subst (λ (o : Option (HomeState × Body)). IfSome o (Leaves_stale (view_of core line) (view_of new line) request.source asker (home_of old line))) serves row in
-          let stale_here : IsStale (view_of core line) (home_of old line) = subst (IsStale (view_of core line)) was (subst (StaleAt core) here stale) in
-          let then_ = leaves (asks_now core n place next request rest served.1 is tidy (λ j. refl)) stale_here in
-          subst (StaleAt new) (sym here) (subst (IsStale (view_of new line)) (sym now) then_)
-      | inr other ↦ stood_stale core new k (other_line core n place next request rest served.1 is (λ j apart. refl) homes k other) stale
-    ]
-
 -- a cache serves
 cache_served : (core : Core) (n place : ℕ) (request : Letter) (rest : List Letter) (served : CacheState × Body) → IsPart core.size n (node_at core n) → Answered core n place (with_served (node_at core n) request served.0 served.1) request rest served.1
     → serving (line_of (node_at core n).cache request.line).state request.source request.body ≡ Some served → IsTidy core → (k : ℕ) → StaleAt core k → StaleAt (with_lane (with_node core n (with_served (node_at core n) request served.0 served.1)) place rest) k
@@ -297,7 +272,7 @@ served_stale core new t well tidy is (At_home served asks serves e) line stale =
     let next = subst (IsPart core.size t.node) (sym e) is in
     let home = t.comes.0.home asks ∙ t.comes.1 in
     subst (λ (x : NodeOf). StaleAt (with_lane (with_node core t.node x) t.place t.rest) line) e
-    (home_served core t.node t.place t.letter t.rest served (well.each_part t.node t.some) home (answered core new node_serving t _ served.1 well answers.free refl next) serves tidy line stale)
+    (home_keeps IsStale stood_stale home_stale core t.node t.place t.letter t.rest served (well.each_part t.node t.some) home (answered core new node_serving t _ served.1 well answers.free refl next) serves tidy line stale)
 served_stale core new t well tidy is (In_cache served serves e) line stale =
     let part = node_at core t.node in
     let answers = of_some (Answers core.size.nodes t.letter part) (node_serving part t.letter) t.next t.takes (serve_answers core.size.nodes part t.letter) in
