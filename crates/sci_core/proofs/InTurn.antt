@@ -19,15 +19,15 @@ use Rattle.sci_core.specs.Core.{Core, node_at, with_node, stepping, step, openin
 use Rattle.sci_core.specs.Done.{performed}
 use Rattle.sci_core.specs.InTurn.{HasOnePending, IssuesInTurn}
 use Rattle.sci_core.specs.Outcome.{logs_of}
-use Rattle.sci_core.specs.Size.{Size, IsMachineSize}
+use Rattle.sci_core.specs.Size.{Size, IsSize}
 use Rattle.sci_core.specs.WellFormed.{IsWellFormed}
 use Rattle.sci_core.proofs.Lists.{if_either, at_place_set}
 use Rattle.sci_core.proofs.NodeSides.{PerformedAs, ServedAs, RefusedAs, perform_as, serve_as, refuse_as, reply_as}
 use Rattle.sci_core.proofs.Nodes.{some_below}
 use Rattle.sci_core.proofs.Options.{of_some, none_in}
 use Rattle.sci_core.proofs.Steps.{Stepped, By_issue, By_perform, By_ask, By_serve, By_refuse, By_reply, By_accept, stepping_stepped}
-use Rattle.sci_core.proofs.WellFormedSteps.{step_well, run_well}
-use Rattle.sci_core.proofs.ReachedLaws.{opened, log_at, log_beyond, beyond_log}
+use Rattle.sci_core.proofs.WellFormedSteps.{step_well, run_well, opened}
+use Rattle.sci_core.proofs.ReachedLaws.{log_at, log_beyond, beyond_log}
 use Rattle.sci_core.proofs.ShapeRuns.{each_mapped}
 use Rattle.sci_core.proofs.Works.{SameWork, ask_work, serve_work, accept_work}
 
@@ -151,12 +151,12 @@ opening_turn : (me : ℕ) (size : Size) → LogsInTurn (opening_node me size)
 opening_turn me size = record { below = tt; rising = empty_in_order; pending = λ line. none_in (λ p. AllByRecursion (λ (entry : Entry). entry.serial < p.serial) []) size.lines line }
 
 -- from the opening on
-pub schedule_turn : (size : Size) (schedule : List Event) (n : ℕ) → IsMachineSize size → IssuesInTurn size schedule n → IsInProgramOrder (node_at (run size schedule) n).log
+pub schedule_turn : (size : Size) (schedule : List Event) (n : ℕ) → IsSize size → IssuesInTurn size schedule n → IsInProgramOrder (node_at (run size schedule) n).log
 schedule_turn size schedule n sizes one =
     let first = each_mapped LogsInTurn (λ (m : ℕ). opening_node m size) no_node 0 size.nodes n (λ m. opening_turn m size) (opening_turn 0 (record { nodes = 1; lines = 0; slots = 0; limit = 0 })) in
     (run_turn (opening size) schedule n (opened size sizes) one first).rising
 
-pub schedules_in_turn : (size : Size) (schedule : List Event) → IsMachineSize size → ((n : ℕ) → n < size.nodes → IssuesInTurn size schedule n) → AreInProgramOrder (logs_of (run size schedule))
+pub schedules_in_turn : (size : Size) (schedule : List Event) → IsSize size → ((n : ℕ) → n < size.nodes → IssuesInTurn size schedule n) → AreInProgramOrder (logs_of (run size schedule))
 schedules_in_turn size schedule sizes each node =
     let core = run size schedule in
     let steps = run_well (opening size) schedule (opened size sizes) in

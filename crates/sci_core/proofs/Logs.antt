@@ -24,5 +24,5 @@ all_logs core logs n long sixteen each = fill_by_all (λ (k : ℕ). (node_at cor
 pub own_log : (core : Core) (n : ℕ) → IsWellFormed core → n < core.size.nodes → All (λ (entry : Entry). entry.node ≡ n) (node_at core n).log
 own_log core n well lt = (well.each_part n lt).own
 
-pub short_log : (core : Core) (n : ℕ) → IsWellFormed core → n < core.size.nodes → length (node_at core n).log ≤ MAX_OPERATIONS
-short_log core n well lt = grind arith
+pub short_log : (core : Core) (n : ℕ) → IsWellFormed core → core.size.limit ≤ MAX_OPERATIONS → n < core.size.nodes → length (node_at core n).log ≤ MAX_OPERATIONS
+short_log core n well few lt = let part = well.each_part n lt in let most = part.most in let logged = part.fits.logged in let issued = part.fits.issued in omega arith

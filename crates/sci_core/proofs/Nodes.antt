@@ -1,5 +1,5 @@
 -- That the parts of a node stay together.
-use Rattle.std.proofs.Common.{◌≡◌, ℕ, ◌+◌, ◌/◌, ◌<◌, ◌≤◌, Some, None, Option, List, [], ◌∷◌, ◌++◌, length, get_or, set, ◌∙◌, arith}
+use Rattle.std.proofs.Common.{◌≡◌, ℕ, ◌+◌, ◌/◌, ◌<◌, Some, None, Option, List, [], ◌∷◌, ◌++◌, length, get_or, set, ◌∙◌, arith}
 use Rattle.std.specs.Prelude.{IfSome, is_some, is_none, count_by, true}
 use Rattle.std.proofs.lemmas.List.Folds.{sum_by-replicate}
 use Rattle.std.proofs.lemmas.List.{length-replicate, get_or-replicate}
@@ -11,7 +11,6 @@ use Rattle.std.proofs.lemmas.Nat.{le-div}
 use Rattle.std.proofs.Math.Nat.{div-mul-le_self}
 use Rattle.sci_words.specs.declared.extent.Extent.{Extent}
 use Rattle.sci_words.specs.declared.operation.Op.{Op}
-use Rattle.sci_words.specs.declared.limits.TheConstants.{MAX_OPERATIONS}
 use Rattle.sci_history.specs.declared.entry.Entry.{Entry}
 use Rattle.sci_home.specs.declared.state.HomeState.{HomeState}
 use Rattle.sci_cache.specs.Cache.{CacheOf, Letter}
@@ -30,11 +29,11 @@ node_with_cache node cache same is = grind arith
 
 -- an answer waits, or none
 pub node_with_waiting : (node : NodeOf) (waiting : Option Letter) → IsNode node → IsNode (record node { waiting = waiting })
-node_with_waiting node waiting is = record { homes = is.homes; some_node = is.some_node; pending = is.pending; each = is.each; logged = is.logged; issued = is.issued; limit = is.limit }
+node_with_waiting node waiting is = record { homes = is.homes; some_node = is.some_node; pending = is.pending; each = is.each; logged = is.logged; issued = is.issued }
 
 -- a home in another state
 pub node_with_homes : (node : NodeOf) (homes : List HomeState) → length homes ≡ length node.homes → IsNode node → IsNode (record node { homes = homes })
-node_with_homes node homes same is = record { homes = same ∙ is.homes; some_node = is.some_node; pending = is.pending; each = is.each; logged = is.logged; issued = is.issued; limit = is.limit }
+node_with_homes node homes same is = record { homes = same ∙ is.homes; some_node = is.some_node; pending = is.pending; each = is.each; logged = is.logged; issued = is.issued }
 
 -- if something is pending, there is such a line
 pub some_below : (pending : List (Option Pending)) (line : ℕ) (p : Pending) → get_or pending line None ≡ Some p → line < length pending
@@ -63,5 +62,5 @@ count_with pending line p below none = grind (arith, sum_by-set, not-true)
 pub node_with_issue : (node : NodeOf) (op : Op) → may_issue node op ≡ true → IsNode node → IsNode (node_issued node op)
 node_with_issue node op may is = grind (arith, and_parts, ltb-true, count_with, length-set, cases_eq, get_or-set_same, get_or-set_other, weaker_serial)
 
-pub opening_is_node : (me : ℕ) (size : Size) → 0 < size.nodes → size.limit ≤ MAX_OPERATIONS → IsNode (opening_node me size)
-opening_is_node me size some few = grind (arith, length-replicate, cases_lt, get_or-replicate, get_or_past, sum_by-replicate)
+pub opening_is_node : (me : ℕ) (size : Size) → 0 < size.nodes → IsNode (opening_node me size)
+opening_is_node me size some = grind (arith, length-replicate, cases_lt, get_or-replicate, get_or_past, sum_by-replicate)

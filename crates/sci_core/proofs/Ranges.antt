@@ -108,13 +108,13 @@ all_mapped P f count h i d lt = grind (arith, length-map-range_with_len, get_or-
 no_log : (core : Core) (node : ℕ) → IsWellFormed core → core.size.nodes ≤ node → (node_at core node).log ≡ []
 no_log core node well past = grind (arith, get_or_past)
 
-pub log_short : (core : Core) (node : ℕ) → IsWellFormed core → length (node_at core node).log ≤ MAX_OPERATIONS
-log_short core node well = grind (arith, cases_lt, short_log, no_log)
+pub log_short : (core : Core) (node : ℕ) → IsWellFormed core → core.size.limit ≤ MAX_OPERATIONS → length (node_at core node).log ≤ MAX_OPERATIONS
+log_short core node well few = grind (arith, cases_lt, short_log, no_log)
 
-makers_few : (core : Core) (line : ℕ) → IsWellFormed core → maker_count (on_line line (logs_of core)) ≤ MAX_NODES * MAX_OPERATIONS
-makers_few core line well =
+makers_few : (core : Core) (line : ℕ) → IsWellFormed core → core.size.limit ≤ MAX_OPERATIONS → maker_count (on_line line (logs_of core)) ≤ MAX_NODES * MAX_OPERATIONS
+makers_few core line well most =
     let logs = logs_of core in
-    let each = all_mapped (λ (log : List Entry). length log ≤ MAX_OPERATIONS) (λ (n : ℕ). (node_at core n).log) MAX_NODES (λ n lt. log_short core n well) in
+    let each = all_mapped (λ (log : List Entry). length log ≤ MAX_OPERATIONS) (λ (n : ℕ). (node_at core n).log) MAX_NODES (λ n lt. log_short core n well most) in
     let all = flat_short logs (recursion_from_All (λ (log : List Entry). length log ≤ MAX_OPERATIONS) logs each) in
     let sixteen : length logs ≡ 16 = length-map-range_with_len (λ (n : ℕ). (node_at core n).log) 0 16 in
     let flat = flat_map (λ (log : List Entry). log) logs in
@@ -143,7 +143,7 @@ line_right core reached line inside =
     let words = all_weaker (IsKnown core.size.lines) HasWords (λ entry h. (h.0.1, h.1)) entries (reached_logged core reached).known in
     let right = history_fits on zero_stamped last history zero_is_line (all-filter HasWords (is_on_line line) entries words) in
     let counted = last_counts core line reached inside in
-    let few = makers_few core line (reached_well core reached) in
+    let few = makers_few core line (reached_well core reached) reached.size.few_operations in
     let most : last.version ≤ MAX_NODES * MAX_OPERATIONS = omega arith in
     record {
       last = record { line = right.0; version = most };

@@ -22,7 +22,7 @@ use Rattle.sci_history.proofs.Lawfulness.{lawful_line}
 use Rattle.sci_history.proofs.Order.{filter_none, filter-filter, all_weaker, all-filter}
 use Rattle.sci_core.specs.Node.{NodeOf, opening_node, no_node}
 use Rattle.sci_core.specs.Core.{Core, node_at, stepping, step, opening, run}
-use Rattle.sci_core.specs.Reached.{IsReached}
+use Rattle.sci_core.specs.Reached.{IsReachable, IsReached}
 use Rattle.sci_core.specs.Done.{ChangesBy, LastChanges, made_by, done}
 use Rattle.sci_core.specs.Outcome.{logs_of}
 use Rattle.sci_core.specs.Coherent.{IsCoherent}
@@ -30,22 +30,19 @@ use Rattle.sci_core.specs.Shape.{HasShapes}
 use Rattle.sci_core.specs.Sharing.{last_at, last_of}
 use Rattle.sci_core.specs.Tidy.{AreAccepted}
 use Rattle.sci_core.specs.WellFormed.{IsWellFormed}
-use Rattle.sci_core.proofs.WellFormedSteps.{step_well, run_well, opening_well, reached_well}
-use Rattle.sci_core.proofs.TidyRuns.{opening_tidy, reached_tidy}
+use Rattle.sci_core.proofs.WellFormedSteps.{step_well, run_well, is_size, reachable, opened, any_well}
+use Rattle.sci_core.proofs.TidyRuns.{opening_tidy, any_tidy, reached_tidy}
 use Rattle.sci_core.proofs.Transactions.{runs_alternate}
 use Rattle.sci_core.proofs.ShapeSteps.{ShapedAt}
 use Rattle.sci_core.proofs.ShapeRuns.{each_mapped, opening_shaped, step_follows}
 use Rattle.sci_core.proofs.ShapeClauses.{last_is, shape_of}
-use Rattle.sci_core.proofs.StaleFronts.{reached_stale}
+use Rattle.sci_core.proofs.StaleFronts.{any_stale}
 use Rattle.sci_core.proofs.Works.{HasSerials, opening_serials}
 use Rattle.sci_core.proofs.Histories.{run_follows, RunLogged, run_logged, IsKnown}
 use Rattle.sci_core.specs.Size.{Size}
-use Rattle.sci_core.specs.Size.{IsMachineSize}
+use Rattle.sci_core.specs.Size.{IsSize}
 
 -- ---- from the opening on
-
-pub opened : (size : Size) → IsMachineSize size → IsWellFormed (opening size)
-opened size sizes = let some = sizes.extent.has_node in opening_well size (omega arith) sizes.few_operations
 
 -- a line's shape where a schedule leads, and its history
 record Traced (size : Size) (schedule : List Event) (line : ℕ) : Type 0 where
@@ -53,13 +50,13 @@ record Traced (size : Size) (schedule : List Event) (line : ℕ) : Type 0 where
   pub shaped : ShapedAt (run size schedule) line contents
   pub history : IsHistory (filter (is_on_line line) (done size schedule)) zero_stamped contents
 
-traced : (size : Size) (schedule : List Event) (line : ℕ) → IsMachineSize size → line < size.lines → Traced size schedule line
+traced : (size : Size) (schedule : List Event) (line : ℕ) → IsSize size → line < size.lines → Traced size schedule line
 traced size schedule line sizes inside =
     let trace = run_follows (opening size) schedule (opened size sizes) (opening_tidy size) line inside zero_stamped (opening_shaped size line) in
     record { contents = trace.0; shaped = trace.1; history = trace.2 }
 
 -- the entries of a schedule on a line are a history of it, from zero words to its last contents
-pub schedule_history : (size : Size) (schedule : List Event) (line : ℕ) → IsMachineSize size → line < size.lines
+pub schedule_history : (size : Size) (schedule : List Event) (line : ℕ) → IsSize size → line < size.lines
     → IsHistory (filter (is_on_line line) (done size schedule)) zero_stamped (last_at (run size schedule) line)
 schedule_history size schedule line sizes inside =
     let trace = traced size schedule line sizes inside in
@@ -68,33 +65,42 @@ schedule_history size schedule line sizes inside =
 
 -- ---- shape
 
-reached_shaped : (core : Core) → IsReached core → (line : ℕ) → line < core.size.lines → (c : Stamped) × ShapedAt core line c
-reached_shaped core reached line inside =
+any_shaped : (core : Core) → IsReachable core → (line : ℕ) → line < core.size.lines → (c : Stamped) × ShapedAt core line c
+any_shaped core reached line inside =
     let trace = traced core.size reached.schedule line reached.size inside in
     subst (λ (x : Core). (c : Stamped) × ShapedAt x line c) reached.leads (trace.contents, trace.shaped)
 
+pub any_shapes : (core : Core) → IsReachable core → HasShapes core
+any_shapes core reached line inside =
+    let shaped = any_shaped core reached line inside in
+    shape_of core line shaped.0 (any_well core reached) (any_tidy core reached) inside shaped.1 (any_stale core line reached inside)
+
 pub reached_shapes : (core : Core) → IsReached core → HasShapes core
-reached_shapes core reached line inside =
-    let shaped = reached_shaped core reached line inside in
-    shape_of core line shaped.0 (reached_well core reached) (reached_tidy core reached) inside shaped.1 (reached_stale core line reached inside)
+reached_shapes core reached = any_shapes core (reachable core reached)
 
 -- no answer comes that its taker doesn't await
-pub reached_accepted : (core : Core) → IsReached core → AreAccepted core
-reached_accepted core reached n line inside =
-    let shaped = reached_shaped core reached line inside in
+pub any_accepted : (core : Core) → IsReachable core → AreAccepted core
+any_accepted core reached n line inside =
+    let shaped = any_shaped core reached line inside in
     shaped.1.1.accepts n
+
+pub reached_accepted : (core : Core) → IsReached core → AreAccepted core
+reached_accepted core reached = any_accepted core (reachable core reached)
 
 -- ---- the last contents
 
 -- each operation takes effect on them at its own Perform
-pub reached_effects : (core : Core) (e : Event) → IsReached core → LastChanges core (step core e) (made_by core e)
-reached_effects core e reached line inside =
-    let well = reached_well core reached in
-    let shaped = reached_shaped core reached line inside in
-    let follows = step_follows core e well (reached_tidy core reached) line inside shaped.0 shaped.1 in
+pub any_effects : (core : Core) (e : Event) → IsReachable core → LastChanges core (step core e) (made_by core e)
+any_effects core e reached line inside =
+    let well = any_well core reached in
+    let shaped = any_shaped core reached line inside in
+    let follows = step_follows core e well (any_tidy core reached) line inside shaped.0 shaped.1 in
     let was = last_is core line shaped.0 well shaped.1 in
     let now = last_is (step core e) line follows.0 (step_well core e well).well follows.1 in
     subst (λ (c : Stamped). ChangesBy (made_by core e) line c (last_at (step core e) line)) (sym was) (subst (ChangesBy (made_by core e) line shaped.0) (sym now) follows.2)
+
+pub reached_effects : (core : Core) (e : Event) → IsReached core → LastChanges core (step core e) (made_by core e)
+reached_effects core e reached = any_effects core e (reachable core reached)
 
 -- ---- logs
 
@@ -102,14 +108,14 @@ opening_log : (size : Size) (n : ℕ) → (node_at (opening size) n).log ≡ []
 opening_log size n = each_mapped (λ (part : NodeOf). part.log ≡ []) (λ (m : ℕ). opening_node m size) no_node 0 size.nodes n (λ m. refl) refl
 
 -- what a schedule logs
-pub schedule_logged : (size : Size) (schedule : List Event) → IsMachineSize size → RunLogged (opening size) (done size schedule) (run size schedule)
+pub schedule_logged : (size : Size) (schedule : List Event) → IsSize size → RunLogged (opening size) (done size schedule) (run size schedule)
 schedule_logged size schedule sizes =
     let first = opening size in
     let serials : (n : ℕ) → HasSerials (node_at first n) = λ n. each_mapped HasSerials (λ (m : ℕ). opening_node m size) no_node 0 size.nodes n (λ m. opening_serials m size) (opening_serials 0 (record { nodes = 1; lines = 0; slots = 0; limit = 0 })) in
     run_logged first schedule (opened size sizes) serials
 
 -- each log has its own node's entries of the schedule
-pub schedule_log : (size : Size) (schedule : List Event) (node : ℕ) → IsMachineSize size → (node_at (run size schedule) node).log ≡ filter (is_of_node node) (done size schedule)
+pub schedule_log : (size : Size) (schedule : List Event) (node : ℕ) → IsSize size → (node_at (run size schedule) node).log ≡ filter (is_of_node node) (done size schedule)
 schedule_log size schedule node sizes = grind (arith, schedule_logged, opening_log)
 
 pub log_at : (core : Core) (node : ℕ) → node < MAX_NODES → log_of (logs_of core) node ≡ (node_at core node).log
@@ -118,16 +124,19 @@ log_at core node lt = get_or-map-range_with_len (λ (n : ℕ). (node_at core n).
 pub log_beyond : (core : Core) (node : ℕ) → MAX_NODES ≤ node → log_of (logs_of core) node ≡ []
 log_beyond core node past = get_or_past (logs_of core) node [] (omega arith)
 
+pub any_logged : (core : Core) (reached : IsReachable core) → RunLogged (opening core.size) (done core.size reached.schedule) core
+any_logged core reached = subst (RunLogged (opening core.size) (done core.size reached.schedule)) reached.leads (schedule_logged core.size reached.schedule reached.size)
+
 pub reached_logged : (core : Core) (reached : IsReached core) → RunLogged (opening core.size) (done core.size reached.schedule) core
-reached_logged core reached = grind (arith, schedule_logged)
+reached_logged core reached = any_logged core (reachable core reached)
 
 -- each log of a reached state has its own node's entries of the schedule
 pub reached_log : (core : Core) (reached : IsReached core) (node : ℕ) → (node_at core node).log ≡ filter (is_of_node node) (done core.size reached.schedule)
-reached_log core reached node = subst (λ (x : Core). (node_at x node).log ≡ filter (is_of_node node) (done core.size reached.schedule)) reached.leads (schedule_log core.size reached.schedule node reached.size)
+reached_log core reached node = subst (λ (x : Core). (node_at x node).log ≡ filter (is_of_node node) (done core.size reached.schedule)) reached.leads (schedule_log core.size reached.schedule node (is_size core.size reached.size))
 
 -- and its entries on a line are the line's history
 pub reached_history : (core : Core) (reached : IsReached core) (line : ℕ) → line < core.size.lines → IsHistory (filter (is_on_line line) (done core.size reached.schedule)) zero_stamped (last_at core line)
-reached_history core reached line inside = grind (arith, schedule_history)
+reached_history core reached line inside = subst (λ (x : Core). IsHistory (filter (is_on_line line) (done core.size reached.schedule)) zero_stamped (last_at x line)) reached.leads (schedule_history core.size reached.schedule line (is_size core.size reached.size) inside)
 
 -- no entry is on a line that the machine doesn't have
 beyond_none : (lines line : ℕ) (entries : List Entry) → lines ≤ line → AllByRecursion (λ entry. entry.op.line < lines) entries → filter (is_on_line line) entries ≡ []
@@ -139,52 +148,11 @@ last_within core line inside = get_or-map-range_with_len (last_at core) 0 core.s
 last_beyond : (core : Core) (line : ℕ) → core.size.lines ≤ line → stamped_at (last_of core) line ≡ zero_stamped
 last_beyond core line past = let all = length-map-range_with_len (last_at core) 0 core.size.lines in get_or_past (last_of core) line zero_stamped (omega arith)
 
-line_history : (core : Core) (reached : IsReached core) (line : ℕ) → IsHistory (filter (is_on_line line) (done core.size reached.schedule)) zero_stamped (stamped_at (last_of core) line)
-line_history core reached line = grind (arith, cases_lt, schedule_history, last_within, beyond_none, all_weaker, reached_logged, last_beyond)
-
-line_logged : (core : Core) (reached : IsReached core) (line node : ℕ) → node < MAX_NODES
-    → filter (is_on_line line) (log_of (logs_of core) node) ≡ filter (is_of_node node) (filter (is_on_line line) (done core.size reached.schedule))
-line_logged core reached line node lt = grind (arith, reached_logged, opening_log, log_at, filter-filter)
-
-line_serials : (core : Core) (reached : IsReached core) (line node : ℕ) → node < MAX_NODES → AllPairs (λ x y. x.serial < y.serial) (filter (is_on_line line) (log_of (logs_of core) node))
-line_serials core reached line node lt =
-    subst (λ (es : List Entry). AllPairs (λ x y. x.serial < y.serial) (filter (is_on_line line) es)) (sym (log_at core node lt)) (((reached_logged core reached).serials node).rising line)
-
-has_history : (core : Core) (reached : IsReached core) (line : ℕ) → HasHistory (logs_of core) line (stamped_at (last_of core) line)
-has_history core reached line =
-    let entries = done core.size reached.schedule in
-    let few = reached.size.extent.few_nodes in
-    let nodes = all_weaker (λ (entry : Entry). entry.node < core.size.nodes) (λ entry. entry.node < MAX_NODES) (λ entry lt. omega arith) entries (reached_logged core reached).nodes in
-    record {
-      entries = filter (is_on_line line) entries;
-      history = line_history core reached line;
-      nodes = all-filter (λ (entry : Entry). entry.node < MAX_NODES) (is_on_line line) entries nodes;
-      logged = λ node lt. line_logged core reached line node lt;
-      serials = λ node lt. line_serials core reached line node lt;
-    }
-
--- the logs are lawful with the last contents
-pub reached_lawful : (core : Core) → IsReached core → Lawful (logs_of core) (last_of core)
-reached_lawful core reached line = lawful_line (logs_of core) line (stamped_at (last_of core) line) refl (has_history core reached line)
-
--- every entry is on one of the machine's lines, and on a word of it
-pub reached_within : (core : Core) → IsReached core → AreWithin core.size.lines (logs_of core)
-reached_within core reached node =
-    let entries = done core.size reached.schedule in
-    let logged = reached_logged core reached in
-    let log : (node_at core node).log ≡ filter (is_of_node node) entries = logged.logs node ∙ ap (λ (es : List Entry). es ++ filter (is_of_node node) entries) (opening_log core.size node) in
-    elim (cases_lt node MAX_NODES) [
-      | inl lt ↦ subst (All (IsWithin core.size.lines)) (sym (log_at core node lt ∙ log)) (All-from_recursion (IsWithin core.size.lines) (filter (is_of_node node) entries) (all-filter (IsWithin core.size.lines) (is_of_node node) entries (all_weaker (IsKnown core.size.lines) (IsWithin core.size.lines) (λ entry h. h.0) entries logged.known)))
-      | inr past ↦ subst (All (IsWithin core.size.lines)) (sym (log_beyond core node past)) (All-from_recursion (IsWithin core.size.lines) [] tt)
-    ]
-
--- ---- all lines together
-
 pub beyond_log : (core : Core) (node : ℕ) → IsWellFormed core → core.size.nodes ≤ node → (node_at core node).log ≡ []
 beyond_log core node well past = let long = well.sizes.parts_long in ap (λ (part : NodeOf). part.log) (get_or_past core.parts node no_node (omega arith))
 
 -- each line of the last contents, one that the machine doesn't have too, has the schedule's entries as its history
-schedule_line : (size : Size) (schedule : List Event) (line : ℕ) → IsMachineSize size
+schedule_line : (size : Size) (schedule : List Event) (line : ℕ) → IsSize size
     → IsHistory (filter (is_on_line line) (done size schedule)) zero_stamped (stamped_at (last_of (run size schedule)) line)
 schedule_line size schedule line sizes =
     let core = run size schedule in
@@ -199,8 +167,51 @@ schedule_line size schedule line sizes =
           subst (λ (es : List Entry). IsHistory es zero_stamped (stamped_at (last_of core) line)) (sym none) (last_beyond core line (omega arith))
     ]
 
+line_history : (core : Core) (reached : IsReachable core) (line : ℕ) → IsHistory (filter (is_on_line line) (done core.size reached.schedule)) zero_stamped (stamped_at (last_of core) line)
+line_history core reached line = subst (λ (x : Core). IsHistory (filter (is_on_line line) (done core.size reached.schedule)) zero_stamped (stamped_at (last_of x) line)) reached.leads (schedule_line core.size reached.schedule line reached.size)
+
+line_logged : (core : Core) (reached : IsReachable core) (line node : ℕ) → node < MAX_NODES
+    → filter (is_on_line line) (log_of (logs_of core) node) ≡ filter (is_of_node node) (filter (is_on_line line) (done core.size reached.schedule))
+line_logged core reached line node lt = grind (arith, any_logged, opening_log, log_at, filter-filter)
+
+line_serials : (core : Core) (reached : IsReachable core) (line node : ℕ) → node < MAX_NODES → AllPairs (λ x y. x.serial < y.serial) (filter (is_on_line line) (log_of (logs_of core) node))
+line_serials core reached line node lt =
+    subst (λ (es : List Entry). AllPairs (λ x y. x.serial < y.serial) (filter (is_on_line line) es)) (sym (log_at core node lt)) (((any_logged core reached).serials node).rising line)
+
+has_history : (core : Core) (reached : IsReachable core) (line : ℕ) → core.size.nodes ≤ MAX_NODES → HasHistory (logs_of core) line (stamped_at (last_of core) line)
+has_history core reached line few =
+    let entries = done core.size reached.schedule in
+    let nodes = all_weaker (λ (entry : Entry). entry.node < core.size.nodes) (λ entry. entry.node < MAX_NODES) (λ entry lt. omega arith) entries (any_logged core reached).nodes in
+    record {
+      entries = filter (is_on_line line) entries;
+      history = line_history core reached line;
+      nodes = all-filter (λ (entry : Entry). entry.node < MAX_NODES) (is_on_line line) entries nodes;
+      logged = λ node lt. line_logged core reached line node lt;
+      serials = λ node lt. line_serials core reached line node lt;
+    }
+
+-- the logs are lawful with the last contents
+pub any_lawful : (core : Core) → IsReachable core → core.size.nodes ≤ MAX_NODES → Lawful (logs_of core) (last_of core)
+any_lawful core reached few line = lawful_line (logs_of core) line (stamped_at (last_of core) line) refl (has_history core reached line few)
+
+pub reached_lawful : (core : Core) → IsReached core → Lawful (logs_of core) (last_of core)
+reached_lawful core reached = any_lawful core (reachable core reached) reached.size.extent.few_nodes
+
+-- every entry is on one of the machine's lines, and on a word of it
+pub reached_within : (core : Core) → IsReached core → AreWithin core.size.lines (logs_of core)
+reached_within core reached node =
+    let entries = done core.size reached.schedule in
+    let logged = reached_logged core reached in
+    let log : (node_at core node).log ≡ filter (is_of_node node) entries = logged.logs node ∙ ap (λ (es : List Entry). es ++ filter (is_of_node node) entries) (opening_log core.size node) in
+    elim (cases_lt node MAX_NODES) [
+      | inl lt ↦ subst (All (IsWithin core.size.lines)) (sym (log_at core node lt ∙ log)) (All-from_recursion (IsWithin core.size.lines) (filter (is_of_node node) entries) (all-filter (IsWithin core.size.lines) (is_of_node node) entries (all_weaker (IsKnown core.size.lines) (IsWithin core.size.lines) (λ entry h. h.0) entries logged.known)))
+      | inr past ↦ subst (All (IsWithin core.size.lines)) (sym (log_beyond core node past)) (All-from_recursion (IsWithin core.size.lines) [] tt)
+    ]
+
+-- ---- all lines together
+
 -- the entries of a schedule are a run of the memory of all lines
-pub schedule_run : (size : Size) (schedule : List Event) → IsMachineSize size → IsRun (map pair_of (done size schedule)) (zero_memory size.lines) (words_of_lines (last_of (run size schedule)))
+pub schedule_run : (size : Size) (schedule : List Event) → IsSize size → IsRun (map pair_of (done size schedule)) (zero_memory size.lines) (words_of_lines (last_of (run size schedule)))
 schedule_run size schedule sizes =
     let core = run size schedule in
     let same : core.size ≡ size = (run_well (opening size) schedule (opened size sizes)).same in
@@ -208,12 +219,11 @@ schedule_run size schedule sizes =
     subst (λ (lines : ℕ). IsRun (map pair_of (done size schedule)) (zero_memory lines) (words_of_lines (last_of core))) long (histories_are_run (done size schedule) (last_of core) (λ line. schedule_line size schedule line sizes))
 
 -- and make its logs sequentially consistent
-pub schedule_order : (size : Size) (schedule : List Event) → IsMachineSize size → IsSequentialOrder (logs_of (run size schedule)) (last_of (run size schedule)) (done size schedule)
-schedule_order size schedule sizes =
+pub schedule_order : (size : Size) (schedule : List Event) → IsSize size → size.nodes ≤ MAX_NODES → IsSequentialOrder (logs_of (run size schedule)) (last_of (run size schedule)) (done size schedule)
+schedule_order size schedule sizes few =
     let core = run size schedule in
     let steps = run_well (opening size) schedule (opened size sizes) in
     let nodes : core.size.nodes ≡ size.nodes = ap (λ (s : Size). s.nodes) steps.same in
-    let few = sizes.extent.few_nodes in
     record {
       logged = λ node. elim (cases_lt node MAX_NODES) [
         | inl lt ↦ sym (log_at core node lt ∙ schedule_log size schedule node sizes)
@@ -223,7 +233,7 @@ schedule_order size schedule sizes =
     }
 
 pub reached_order : (core : Core) (reached : IsReached core) → IsSequentialOrder (logs_of core) (last_of core) (done core.size reached.schedule)
-reached_order core reached = subst (λ (x : Core). IsSequentialOrder (logs_of x) (last_of x) (done core.size reached.schedule)) reached.leads (schedule_order core.size reached.schedule reached.size)
+reached_order core reached = subst (λ (x : Core). IsSequentialOrder (logs_of x) (last_of x) (done core.size reached.schedule)) reached.leads (schedule_order core.size reached.schedule (is_size core.size reached.size) reached.size.extent.few_nodes)
 
 pub reached_consistent : (core : Core) → IsReached core → IsSequentiallyConsistent (logs_of core) (last_of core)
 reached_consistent core reached = (done core.size reached.schedule, reached_order core reached)
@@ -235,7 +245,7 @@ reached_coherent core reached = record {
   reached = reached;
   tidy = reached_tidy core reached;
   accepted = reached_accepted core reached;
-  alternates = λ n line some inside. runs_alternate core.size reached.schedule n line reached.size some inside;
+  alternates = λ n line some inside. runs_alternate core.size reached.schedule n line (is_size core.size reached.size) some inside;
   shapes = reached_shapes core reached;
   explained = λ line inside. reached_history core reached line inside;
   logged = λ node. reached_log core reached node;

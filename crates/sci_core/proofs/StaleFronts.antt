@@ -1,5 +1,5 @@
 -- If the home's contents are gone, the head of the list isn't fresh: only a Fread makes a member fresh, and its home says so.
-use Rattle.std.proofs.Common.{◌≡◌, ◌≢◌, ℕ, ◌<◌, ◌%◌, Bool, true, false, List, [], ◌∷◌, arith, Option, Some, None, refl, sym, ap, subst, ◌∙◌, inl, inr}
+use Rattle.std.proofs.Common.{◌≡◌, ◌≢◌, ℕ, ◌<◌, ◌%◌, Bool, true, false, List, [], ◌∷◌, Option, Some, None, refl, sym, ap, subst, ◌∙◌, inl, inr}
 use Rattle.std.specs.Prelude.{IfSome, unwrap_or}
 use Rattle.std.proofs.lemmas.Bool.{cases_Bool, cases_eq}
 use Rattle.std.proofs.lemmas.List.{get_or-set_other, get_or-set_same}
@@ -22,7 +22,7 @@ use Rattle.sci_core.specs.Core.{Core, node_at, opening, run_from, step, stepping
 use Rattle.sci_core.specs.Done.{performed}
 use Rattle.sci_core.specs.Fresh.{is_fresh}
 use Rattle.sci_core.specs.Node.{NodeOf, no_node, node_serving}
-use Rattle.sci_core.specs.Reached.{IsReached}
+use Rattle.sci_core.specs.Reached.{IsReachable}
 use Rattle.sci_core.specs.Sharing.{answer_in, home_at, answer_to as told}
 use Rattle.sci_core.specs.Shape.{IsGoneStale}
 use Rattle.sci_core.specs.Size.{Size}
@@ -42,7 +42,7 @@ use Rattle.sci_core.proofs.Steps.{Stepped, Taken, stepping_stepped}
 use Rattle.sci_core.proofs.TidyRuns.{opening_tidy, step_tidy}
 use Rattle.sci_core.proofs.Views.{Shift, View}
 use Rattle.sci_core.proofs.WaitingNodes.{Answers, serve_answers}
-use Rattle.sci_core.proofs.WellFormedSteps.{opening_well, step_well}
+use Rattle.sci_core.proofs.WellFormedSteps.{opened, step_well}
 
 -- ---- views
 
@@ -306,9 +306,7 @@ gone_so core line (at.Home c) stale = tt
 gone_so core line (at.Fresh p c) stale = tt
 gone_so core line (at.Gone p) stale = stale
 
-pub reached_stale : (core : Core) (line : ℕ) → IsReached core → line < core.size.lines → IsGoneStale core line (home_at core line)
-reached_stale core line reached inside =
-    let size = reached.size in
-    let first = size.extent.has_node in
-    let run_ = run_stale (opening core.size) reached.schedule line (opening_well core.size (omega arith) size.few_operations) (opening_tidy core.size) inside (opening_stale core.size line) in
+pub any_stale : (core : Core) (line : ℕ) → IsReachable core → line < core.size.lines → IsGoneStale core line (home_at core line)
+any_stale core line reached inside =
+    let run_ = run_stale (opening core.size) reached.schedule line (opened core.size reached.size) (opening_tidy core.size) inside (opening_stale core.size line) in
     gone_so core line (home_at core line) (subst (λ (x : Core). StaleAt x line) reached.leads run_)

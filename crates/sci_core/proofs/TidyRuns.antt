@@ -1,5 +1,5 @@
 -- Every reached state is tidy.
-use Rattle.std.proofs.Common.{◌≡◌, ℕ, zero, suc, ◌+◌, ◌<◌, false, List, [], ◌∷◌, length, map, replicate, Option, Some, None, refl, sym, subst, arith}
+use Rattle.std.proofs.Common.{◌≡◌, ℕ, zero, suc, ◌+◌, ◌<◌, false, List, [], ◌∷◌, length, map, replicate, Option, Some, None, refl, sym, ap, subst, arith}
 use Rattle.std.specs.Prelude.{IfSome, unwrap_or, option_to_list}
 use Rattle.std.specs.List.{flat_map, range_with_len}
 use Rattle.std.proofs.lemmas.List.{get_or-replicate}
@@ -13,18 +13,18 @@ use Rattle.sci_core.specs.declared.lane.LaneKind.TheVariants.{Requests, Answers 
 use Rattle.sci_core.specs.Node.{NodeOf, opening_node, node_issuing, node_performing, node_asking, node_serving, node_refusing, node_replying, node_accepting, lines_of}
 use Rattle.sci_core.specs.Core.{Core, node_at, lane_place, stepping, step, opening, run_from, run}
 use Rattle.sci_core.specs.Done.{performed}
-use Rattle.sci_core.specs.Reached.{IsReached}
+use Rattle.sci_core.specs.Reached.{IsReachable, IsReached}
 use Rattle.sci_core.specs.Sharing.{packets_of}
 use Rattle.sci_core.specs.Tidy.{IsTidy}
 use Rattle.sci_core.specs.WellFormed.{IsPart, IsWellFormed}
 use Rattle.sci_core.proofs.Options.{of_some}
 use Rattle.sci_core.proofs.Parts.{part_serving, part_refusing}
-use Rattle.sci_core.proofs.WellFormedSteps.{step_well, run_well, opening_well}
+use Rattle.sci_core.proofs.WellFormedSteps.{step_well, run_well, is_size, reachable, opened}
 use Rattle.sci_core.proofs.WaitingNodes.{Stays, AsksOnce, Answers, Replies, Accepts, issue_stays, perform_stays, ask_once, serve_answers, refuse_answers, reply_replies, accept_accepts}
 use Rattle.sci_core.proofs.Steps.{Taken, Stepped, By_issue, By_perform, By_ask, By_serve, By_refuse, By_reply, By_accept, stepping_stepped}
 use Rattle.sci_core.proofs.TidySteps.{changed_tidy, asked_tidy, replied_tidy, served_tidy, accepted_tidy}
 use Rattle.sci_core.specs.Size.{Size}
-use Rattle.sci_core.specs.Size.{IsMachineSize}
+use Rattle.sci_core.specs.Size.{IsSize, IsMachineSize}
 
 pub node_below : (core : Core) (n : ℕ) → IsWellFormed core → n < core.size.nodes → n < length core.parts
 node_below core n well lt = let long = well.sizes.parts_long in omega arith
@@ -98,11 +98,21 @@ opening_none size n line = grind (arith, nothing_waits, nothing_carried)
 pub opening_tidy : (size : Size) → IsTidy (opening size)
 opening_tidy size n line lt below = grind (arith, get_or-map-range_with_len, get_or-replicate, opening_none)
 
-pub reached_tidy : (core : Core) → IsReached core → IsTidy core
-reached_tidy core reached = grind (arith, run_tidy, opening_well, opening_tidy)
+pub any_tidy : (core : Core) → IsReachable core → IsTidy core
+any_tidy core reached = subst IsTidy reached.leads (run_tidy (opening core.size) reached.schedule (opened core.size reached.size) (opening_tidy core.size))
 
-pub run_size : (size : Size) (schedule : List Event) → IsMachineSize size → (run size schedule).size ≡ size
-run_size size schedule sizes = let first = sizes.extent.has_node in (run_well (opening size) schedule (opening_well size (omega arith) sizes.few_operations)).same
+pub reached_tidy : (core : Core) → IsReached core → IsTidy core
+reached_tidy core reached = any_tidy core (reachable core reached)
+
+pub run_size : (size : Size) (schedule : List Event) → IsSize size → (run size schedule).size ≡ size
+run_size size schedule sizes = (run_well (opening size) schedule (opened size sizes)).same
+
+pub run_reachable : (size : Size) (schedule : List Event) → IsSize size → IsReachable (run size schedule)
+run_reachable size schedule sizes =
+    let same = run_size size schedule sizes in
+    record { size = subst IsSize (sym same) sizes; schedule = schedule; leads = ap (λ (s : Size). run s schedule) same }
 
 pub run_reached : (size : Size) (schedule : List Event) → IsMachineSize size → IsReached (run size schedule)
-run_reached size schedule sizes = grind (arith, run_size)
+run_reached size schedule sizes =
+    let same = run_size size schedule (is_size size sizes) in
+    record { size = subst IsMachineSize (sym same) sizes; schedule = schedule; leads = ap (λ (s : Size). run s schedule) same }

@@ -22,12 +22,12 @@ use Rattle.sci_core.proofs.Packets.{packets_changed, packets_same, packets_asked
 use Rattle.sci_core.proofs.Parts.{SendsWell, RepliesWell, part_asking, part_serving, part_refusing, part_replying}
 use Rattle.sci_core.proofs.Waits.{idle_has_none, some_has_one}
 use Rattle.sci_core.proofs.WaitingNodes.{Stays, AsksOnce, Answers, Replies, Accepts, issue_stays, perform_stays, ask_once, serve_answers, refuse_answers, reply_replies, accept_accepts}
-use Rattle.sci_core.proofs.WellFormedSteps.{Comes, comes_from_lane, step_well, opening_well}
+use Rattle.sci_core.proofs.WellFormedSteps.{Comes, comes_from_lane, step_well, opened}
 use Rattle.sci_core.proofs.TidySteps.{about_line, about_asker, request_asker, about_answer}
 use Rattle.sci_core.proofs.Steps.{lane_below}
 use Rattle.sci_core.proofs.TidyRuns.{node_below, waiting_answers, step_tidy, opening_none, opening_tidy}
 use Rattle.sci_core.specs.Size.{Size}
-use Rattle.sci_core.specs.Size.{IsMachineSize}
+use Rattle.sci_core.specs.Size.{IsSize}
 
 -- how far the transaction is whose packets are under way
 abbrev pub phase_of : List Letter → Phase
@@ -220,10 +220,9 @@ run_alternates core (e ∷ events) n line well tidy lt below =
     (by_case core (stepping core e) (mark_of core e) n line (stepping_advances core e well tidy) lt below)
     (run_alternates (step core e) events n line next.well (step_tidy core e well tidy) (subst (λ (size : Size). n < size.nodes) (sym next.same) lt) (subst (λ (size : Size). line < size.lines) (sym next.same) below))
 
-pub runs_alternate : (size : Size) (schedule : List Event) (n line : ℕ) → IsMachineSize size → n < size.nodes → line < size.lines → Alternates size schedule n line
+pub runs_alternate : (size : Size) (schedule : List Event) (n line : ℕ) → IsSize size → n < size.nodes → line < size.lines → Alternates size schedule n line
 runs_alternate size schedule n line sizes lt below =
-    let first = sizes.extent.has_node in
     let core = opening size in
     let none = opening_none size n line in
     subst (λ (ps : List Letter). IsAlternating (phase_of ps) (trace core schedule n line)) none
-    (run_alternates core schedule n line (opening_well size (omega arith) sizes.few_operations) (opening_tidy size) lt below)
+    (run_alternates core schedule n line (opened size sizes) (opening_tidy size) lt below)

@@ -1,5 +1,5 @@
 -- Every step leaves a state well formed, and keeps the machine's sizes. So every reached state is.
-use Rattle.std.proofs.Common.{◌≡◌, ℕ, ◌+◌, ◌*◌, ◌/◌, ◌<◌, ◌≤◌, List, [], ◌∷◌, ◌++◌, replicate, cond, not, Option, Some, None, refl, sym, ap, subst, ◌∙◌, inl, inr, arith}
+use Rattle.std.proofs.Common.{◌≡◌, ℕ, ◌+◌, ◌*◌, ◌/◌, ◌<◌, List, [], ◌∷◌, ◌++◌, replicate, cond, not, Option, Some, None, refl, sym, ap, subst, ◌∙◌, inl, inr, arith}
 use Rattle.std.specs.Prelude.{IfSome, unwrap_or, Result, Ok, Err, IfOk, IsErr}
 use Rattle.std.specs.List.{All}
 use Rattle.std.proofs.lemmas.Bool.{cases_lt}
@@ -19,16 +19,16 @@ use Rattle.sci_core.specs.declared.lane.LaneKind.{LaneKind}
 use Rattle.sci_core.specs.declared.lane.LaneKind.TheVariants.{Requests, Answers}
 use Rattle.sci_core.specs.Node.{NodeOf, opening_node, node_issuing, node_performing, node_asking, node_replying, no_node}
 use Rattle.sci_core.specs.Core.{Core, with_node, lane_place, lane_of, with_lane, Side, Idle, Changes, Sends, Takes, changes, performs, sends, side, node_of, sent_by, taken_as, taken_from, step_by, stepping, step, opening, run_from, run}
-use Rattle.sci_core.specs.Reached.{IsReachedNode, IsReached}
+use Rattle.sci_core.specs.Reached.{IsReachable, IsReachedNode, IsReached}
 use Rattle.sci_core.specs.WellFormed.{NamesNodes, HomeNamesNodes, IsRequestLetter, IsAnswerLetter, IsInLane, IsPart, IsWellFormed}
-use Rattle.sci_words.specs.declared.limits.TheConstants.{CONTROLS, MAX_OPERATIONS}
+use Rattle.sci_words.specs.declared.limits.TheConstants.{CONTROLS}
 use Rattle.sci_core.proofs.Nodes.{opening_is_node}
 use Rattle.sci_core.proofs.Lists.{at_place_set}
 use Rattle.sci_core.proofs.Options.{if_below}
 use Rattle.sci_core.proofs.Places.{place_to, place_from, place_requests, place_answers}
 use Rattle.sci_core.proofs.Parts.{SendsWell, RepliesWell, part_issuing, part_performing, part_asking, part_serving, part_refusing, part_replying, part_accepting}
 use Rattle.sci_core.specs.Size.{Size}
-use Rattle.sci_core.specs.Size.{IsMachineSize}
+use Rattle.sci_core.specs.Size.{IsSize, IsMachineSize}
 
 pub record StepsWell (old new : Core) : Type 0 where
   pub well : IsWellFormed new
@@ -179,9 +179,9 @@ run_well core (e ∷ events) well =
 
 -- ---- the opening
 
-opening_part : (me : ℕ) (size : Size) → 0 < size.nodes → size.limit ≤ MAX_OPERATIONS → IsPart size me (opening_node me size)
-opening_part me size some few = record {
-  fits = opening_is_node me size some few;
+opening_part : (me : ℕ) (size : Size) → 0 < size.nodes → IsPart size me (opening_node me size)
+opening_part me size some = record {
+  fits = opening_is_node me size some;
   own = All-nil (λ (e : Entry). e.node ≡ me);
   few = let none : slots_taken (replicate size.lines untouched) ≡ size.lines * 0 = sum_by-replicate (λ (l : LineState). cond {A = ℕ} (not (is_out l.state)) 1 0) size.lines untouched in omega (arith, none);
   me = refl;
@@ -204,22 +204,36 @@ opening_part me size some few = record {
   answer = tt;
 }
 
-pub opening_well : (size : Size) → 0 < size.nodes → size.limit ≤ MAX_OPERATIONS → IsWellFormed (opening size)
-opening_well size some few = record {
+pub opening_well : (size : Size) → 0 < size.nodes → IsWellFormed (opening size)
+opening_well size some = record {
   sizes = record {
     some_node = some;
     parts_long = length-map-range_with_len (λ (n : ℕ). opening_node n size) 0 size.nodes;
     lanes_long = length-replicate (2 * size.nodes * size.nodes) [];
   };
-  each_part = λ n lt. subst (IsPart size n) (sym (get_or-map-range_with_len (λ (m : ℕ). opening_node m size) 0 size.nodes n n no_node lt (omega arith))) (opening_part n size some few);
+  each_part = λ n lt. subst (IsPart size n) (sym (get_or-map-range_with_len (λ (m : ℕ). opening_node m size) 0 size.nodes n n no_node lt (omega arith))) (opening_part n size some);
   each_lane = λ place. elim (cases_lt place (2 * size.nodes * size.nodes)) [
     | inl below ↦ subst (All (IsInLane size.nodes size.lines place)) (sym (get_or-replicate (2 * size.nodes * size.nodes) place [] [] below)) (All-nil (IsInLane size.nodes size.lines place))
     | inr past ↦ subst (All (IsInLane size.nodes size.lines place)) (sym (get_or_past (replicate (2 * size.nodes * size.nodes) []) place [] (rw length-replicate past))) (All-nil (IsInLane size.nodes size.lines place))
   ];
 }
 
+-- ---- where a schedule leads
+
+pub is_size : (size : Size) → IsMachineSize size → IsSize size
+is_size size sizes = record { has_node = sizes.extent.has_node; has_line = sizes.extent.has_line; has_slot = sizes.extent.has_slot; has_operation = sizes.some_operation }
+
+abbrev pub reachable : (core : Core) → IsReached core → IsReachable core
+reachable core reached = record { size = is_size core.size reached.size; schedule = reached.schedule; leads = reached.leads }
+
+pub opened : (size : Size) → IsSize size → IsWellFormed (opening size)
+opened size sizes = let some = sizes.has_node in opening_well size (omega arith)
+
+pub any_well : (core : Core) → IsReachable core → IsWellFormed core
+any_well core reached = subst IsWellFormed reached.leads (run_well (opening core.size) reached.schedule (opened core.size reached.size)).well
+
 pub reached_well : (core : Core) → IsReached core → IsWellFormed core
-reached_well core reached = grind (arith, run_well, opening_well)
+reached_well core reached = any_well core (reachable core reached)
 
 -- one event more
 pub reached_stepping : (core next : Core) (e : Event) → IsReached core → stepping core e ≡ Some next → IsReached next

@@ -2,10 +2,16 @@
 use Rattle.std.specs.Prelude.{◌≡◌, ◌<◌, ℕ, List}
 use Rattle.sci_words.specs.declared.event.Event.{Event}
 use Rattle.sci_core.specs.Core.{Core, node_at, run}
-use Rattle.sci_core.specs.Size.{IsMachineSize}
+use Rattle.sci_core.specs.Size.{IsSize, IsMachineSize}
 use Rattle.sci_core.specs.Node.{NodeOf}
 
--- a schedule is any finite list of events
+-- a state to which a schedule leads a machine of any size; a schedule is any finite list of events
+pub record IsReachable (core : Core) : Type 0 where
+  pub size : IsSize core.size
+  pub schedule : List Event
+  pub leads : run core.size schedule ≡ core
+
+-- the same of a machine within the limits
 pub record IsReached (core : Core) : Type 0 where
   pub size : IsMachineSize core.size
   pub schedule : List Event

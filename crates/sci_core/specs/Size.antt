@@ -14,6 +14,13 @@ pub record Size : Type 0 where
 abbrev pub size_of : Extent → ℕ → Size
 size_of extent limit = record { nodes = extent.nodes; lines = extent.lines; slots = extent.slots; limit = limit }
 
+-- a size of which each number is at least 1, with no limit above
+pub record IsSize (size : Size) : Type 0 where
+  pub has_node : 1 ≤ size.nodes
+  pub has_line : 1 ≤ size.lines
+  pub has_slot : 1 ≤ size.slots
+  pub has_operation : 1 ≤ size.limit
+
 -- a size within the limits
 pub record IsMachineSize (size : Size) : Type 0 where
   pub extent : AreWithinLimits size.nodes size.lines size.slots

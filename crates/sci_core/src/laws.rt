@@ -1,7 +1,12 @@
 //! Laws of the machine, each the contract of a function that does nothing.
+//!
+//! Where a law says of a state that it is reachable (`IsReachable`), or of a size that it is one (`IsSize`), it holds for
+//! every number of nodes, lines, slots and operations from 1 up. A law of reached states (`IsReached`) is of machines
+//! within the limits.
 
-ghost use Rattle.std.specs.Prelude.{◌≡◌, ◌<◌, ℕ, List, filter, map, Some, None, IsSome};
+ghost use Rattle.std.specs.Prelude.{◌≡◌, ◌<◌, ◌≤◌, ℕ, List, filter, map, Some, None, IsSome};
 ghost use Rattle.sci_words.specs.declared.event.Event.{Event};
+ghost use Rattle.sci_words.specs.declared.limits.TheConstants.{MAX_NODES};
 ghost use Rattle.sci_words.specs.Stamped.{zero_stamped};
 ghost use Rattle.sci_history.specs.History.{IsHistory};
 ghost use Rattle.sci_history.specs.Lawful.{Lawful};
@@ -28,36 +33,38 @@ ghost use Rattle.sci_core.specs.GoingOn.{CanGoOn};
 ghost use Rattle.sci_core.specs.InTurn.{IssuesInTurn};
 ghost use Rattle.sci_core.specs.Done.{LastChanges, done, made_by};
 ghost use Rattle.sci_core.specs.Outcome.{logs_of};
-ghost use Rattle.sci_core.specs.Size.{Size, IsMachineSize};
-ghost use Rattle.sci_core.specs.Reached.{IsReached, IsReachedNode};
+ghost use Rattle.sci_core.specs.Size.{Size, IsMachineSize, IsSize};
+ghost use Rattle.sci_core.specs.Reached.{IsReachable, IsReached, IsReachedNode};
 ghost use Rattle.sci_core.specs.WellFormed.{IsPart, IsWellFormed};
 ghost use Rattle.sci_core.specs.Shape.{HasShapes};
 ghost use Rattle.sci_core.specs.Sharing.{last_at, last_of};
 ghost use Rattle.sci_core.specs.Tidy.{AreAccepted, IsTidy};
 ghost use Rattle.sci_core.specs.Alternates.{Alternates};
 
-/// Every state that a schedule leads to is reached, and no other is.
+/// Every state that a schedule leads to is reached, of a machine of any size and of one within the limits; and what a
+/// machine within the limits reaches, a machine of any size does.
 pub fn schedules_reach()
-    ensures { (size : Size) (schedule : List Event) → IsMachineSize size →
-        IsReached (run size schedule) }
+    ensures any { (size : Size) (schedule : List Event) → IsSize size → IsReachable (run size schedule) }
+    ensures within { (size : Size) (schedule : List Event) → IsMachineSize size → IsReached (run size schedule) }
+    ensures reachable { (core : Core) → IsReached core → IsReachable core }
 {}
 
 /// In every reached state each packet is between two nodes of the machine, about one of its lines, in the lane of
 /// its sender and its receiver; each identifier names a node; and each node's parts fit together.
 pub fn reached_states_are_well_formed()
-    ensures { (core : Core) → IsReached core → IsWellFormed core }
+    ensures { (core : Core) → IsReachable core → IsWellFormed core }
 {}
 
 /// In every reached state, for each node and line: exactly one packet of its asks is under way if it waits for
 /// an answer, with the control number of its last ask, and none if it doesn't. A request is the one that the
 /// state sent.
 pub fn reached_states_are_tidy()
-    ensures { (core : Core) → IsReached core → IsTidy core }
+    ensures { (core : Core) → IsReachable core → IsTidy core }
 {}
 
 /// In every reached state no answer is under way that its taker doesn't await.
 pub fn answers_are_accepted()
-    ensures { (core : Core) → IsReached core → AreAccepted core }
+    ensures { (core : Core) → IsReachable core → AreAccepted core }
 {}
 
 /// Each event is its node's side of it together with its one packet: the node changes as its own call says, and the
@@ -87,31 +94,28 @@ pub fn front_requests_are_served()
 /// - if the home is fresh, and below any fresh member that comes, all are fresh down to the authority;
 /// - if the home's contents are gone, the head of the list isn't fresh.
 pub fn lines_have_their_shape()
-    ensures { (core : Core) → IsReached core → HasShapes core }
+    ensures { (core : Core) → IsReachable core → HasShapes core }
 {}
 
 /// Each event of a reached state that performs an operation answers what the operation gives on its line's last
 /// contents, and changes them as the operation says, a maker's version being one more than before; any other event
 /// leaves every line's last contents as they were.
 pub fn operations_take_effect()
-    ensures { (core : Core) (event : Event) → IsReached core →
-        LastChanges core (step core event) (made_by core event) }
+    ensures { (core : Core) (event : Event) → IsReachable core → LastChanges core (step core event) (made_by core event) }
 {}
 
 /// The entries that a schedule makes on a line are, in its order, the line's history from zero words to its last
 /// contents: a run of one memory of one thread.
 pub fn schedules_are_histories()
-    ensures { (size : Size) (schedule : List Event) (line : ℕ) → IsMachineSize size →
-        line < size.lines →
-        IsHistory (filter (is_on_line line) (done size schedule)) zero_stamped
-        (last_at (run size schedule) line) }
+    ensures { (size : Size) (schedule : List Event) (line : ℕ) → IsSize size → line < size.lines →
+        IsHistory (filter (is_on_line line) (done size schedule)) zero_stamped (last_at (run size schedule) line) }
 {}
 
 /// The logs of every reached state are lawful with its last contents: placed by version, the operations logged on a
 /// line are a run of one memory of one thread that gives each the reply it got, and each node's stand in the order
 /// issued.
 pub fn logs_are_lawful()
-    ensures { (core : Core) → IsReached core → Lawful (logs_of core) (last_of core) }
+    ensures { (core : Core) → IsReachable core → core.size.nodes ≤ MAX_NODES → Lawful (logs_of core) (last_of core) }
 {}
 
 /// Every reached state has all of this.
@@ -123,8 +127,7 @@ pub fn reached_states_are_coherent()
 /// an ask and its answer exactly one Serve or Refuse takes the request; and all three have one control number. So
 /// no transaction is answered twice.
 pub fn transactions_alternate()
-    ensures { (size : Size) (schedule : List Event) (n line : ℕ) → IsMachineSize size →
-        n < size.nodes → line < size.lines → Alternates size schedule n line }
+    ensures { (size : Size) (schedule : List Event) (n line : ℕ) → IsSize size → n < size.nodes → line < size.lines → Alternates size schedule n line }
 {}
 
 /// In every reached state the last contents of each line are eight words below 2^64, and their version is at most
@@ -149,8 +152,7 @@ pub fn entries_are_in_range()
 
 /// The log of each node is what the schedule makes on that node, in its order.
 pub fn logs_are_done()
-    ensures { (size : Size) (schedule : List Event) (node : ℕ) → IsMachineSize size →
-        (node_at (run size schedule) node).log ≡ filter (is_of_node node) (done size schedule) }
+    ensures { (size : Size) (schedule : List Event) (node : ℕ) → IsSize size → (node_at (run size schedule) node).log ≡ filter (is_of_node node) (done size schedule) }
 {}
 
 /// An operation that a node issues is pending on its line with the node's next serial; nothing was pending there
@@ -194,17 +196,17 @@ pub fn reached_nodes_can_go_on()
 /// zero words to the last words. They are an order that makes the logs sequentially consistent: each node's log is its
 /// own entries among them, in that order.
 pub fn schedules_are_runs()
-    ensures run { (size : Size) (schedule : List Event) → IsMachineSize size →
+    ensures run { (size : Size) (schedule : List Event) → IsSize size →
         IsRun (map pair_of (done size schedule)) (zero_memory size.lines) (words_of_lines (last_of (run size schedule))) }
-    ensures order { (size : Size) (schedule : List Event) → IsMachineSize size →
+    ensures order { (size : Size) (schedule : List Event) → IsSize size → size.nodes ≤ MAX_NODES →
         IsSequentialOrder (logs_of (run size schedule)) (last_of (run size schedule)) (done size schedule) }
 {}
 
 /// A node that has at most one operation pending all along a schedule logs in program order: its serials rise along its
 /// whole log. If each node has, all logs are in program order, and so sequentially consistent in Lamport's sense.
 pub fn issues_in_turn_are_logged_in_order()
-    ensures one { (size : Size) (schedule : List Event) (n : ℕ) → IsMachineSize size → IssuesInTurn size schedule n →
+    ensures one { (size : Size) (schedule : List Event) (n : ℕ) → IsSize size → IssuesInTurn size schedule n →
         IsInProgramOrder (node_at (run size schedule) n).log }
-    ensures all { (size : Size) (schedule : List Event) → IsMachineSize size →
+    ensures all { (size : Size) (schedule : List Event) → IsSize size →
         ((n : ℕ) → n < size.nodes → IssuesInTurn size schedule n) → AreInProgramOrder (logs_of (run size schedule)) }
 {}

@@ -1,5 +1,5 @@
-use Rattle.sci_core.proofs.TidyRuns.{reached_tidy}
+use Rattle.sci_core.proofs.TidyRuns.{any_tidy}
 use Rattle.sci_core.proofs.laws.reached_states_are_tidy.Goals as goal
 
 pub returns : goal.returns
-returns c = reached_tidy
+returns c = any_tidy

@@ -1,5 +1,5 @@
-use Rattle.sci_core.proofs.WellFormedSteps.{reached_well}
+use Rattle.sci_core.proofs.WellFormedSteps.{any_well}
 use Rattle.sci_core.proofs.laws.reached_states_are_well_formed.Goals as goal
 
 pub returns : goal.returns
-returns c = reached_well
+returns c = any_well

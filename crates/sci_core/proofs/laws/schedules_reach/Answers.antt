@@ -1,5 +1,12 @@
-use Rattle.sci_core.proofs.TidyRuns.{run_reached}
+use Rattle.sci_core.proofs.TidyRuns.{run_reachable, run_reached}
+use Rattle.sci_core.proofs.WellFormedSteps.{reachable}
 use Rattle.sci_core.proofs.laws.schedules_reach.Goals as goal
 
-pub returns : goal.returns
-returns c = run_reached
+pub returns-clause-any : goal.returns-clause-any
+returns-clause-any c = run_reachable
+
+pub returns-clause-within : goal.returns-clause-within
+returns-clause-within c = run_reached
+
+pub returns-clause-reachable : goal.returns-clause-reachable
+returns-clause-reachable c core reached = reachable core reached

@@ -23,7 +23,7 @@ push_log-requires-clause-own c =
 pub push_log-requires-clause-room : goal.push_log-requires-clause-room
 push_log-requires-clause-room c =
     let log = c.log.ensures ∙ ap (λ (node : NodeOf). node.log) c.node.ensures in
-    subst (λ (entries : List Entry). length entries ≤ MAX_OPERATIONS) (sym log) (short_log c.self.inside.state c.loop-n.n (reached_well c.self.inside.state c.self.invariant) (omega arith))
+    subst (λ (entries : List Entry). length entries ≤ MAX_OPERATIONS) (sym log) (short_log c.self.inside.state c.loop-n.n (reached_well c.self.inside.state c.self.invariant) c.self.invariant.size.few_operations (omega arith))
 
 pub returns-clause-logs : goal.returns-clause-logs
 returns-clause-logs c =
