@@ -19,6 +19,7 @@ use Rattle.sci_lanes.specs.declared.view.Part.{Part}
 use Rattle.sci_lanes.specs.declared.view.View.{View}
 use Rattle.sci_lanes.specs.Cells.{lane_count, receiver_of, lane_number, word_count}
 use Rattle.sci_lanes.specs.Shown.{outbound_at, inbound_at, me_of, single, opening_part}
+use Rattle.sci_lanes.specs.Knowing.{looked, filled, read, published, freed, with_node_known}
 use Rattle.sci_lanes.specs.Telling.{part_of, size_in, IsShown}
 
 -- which table it is of, and what it knows
@@ -36,6 +37,34 @@ nodes_in part = part.node.cache.nodes
 -- the number of the lane of a cell
 abbrev pub lane_at_cell : Part → CellId → ℕ
 lane_at_cell part cell = lane_number (nodes_in part) cell
+
+-- ---- an end after each call
+
+-- a cell was looked at, and this word found
+abbrev pub looked_at : CellId → ℕ → EndOf → EndOf
+looked_at cell word end = with_part end (looked (lane_at_cell end.part cell) cell.number word end.part)
+
+-- a word of a cell was filled
+abbrev pub filled_at : CellId → ℕ → ℕ → EndOf → EndOf
+filled_at cell index word end = with_part end (filled (lane_at_cell end.part cell) index word end.part)
+
+-- a word of a cell was read, and this one found
+abbrev pub read_at : CellId → ℕ → ℕ → EndOf → EndOf
+read_at cell index word end = with_part end (read (lane_at_cell end.part cell) index word end.part)
+
+-- a packet was published in a cell, after which the node is this one
+abbrev pub published_at : CellId → NodeOf → EndOf → EndOf
+published_at cell node end = with_part end (published (lane_at_cell end.part cell) node end.part)
+
+-- a cell was freed, after which the node is this one
+abbrev pub freed_at : CellId → NodeOf → EndOf → EndOf
+freed_at cell node end = with_part end (freed (lane_at_cell end.part cell) node end.part)
+
+-- the node became this one
+abbrev pub beaten : NodeOf → EndOf → EndOf
+beaten node end = with_part end (with_node_known node end.part)
+
+-- ---- the next cells
 
 -- the cell into which the part's node sends next in its lane
 pub record IsNextToSend (part : Part) (cell : CellId) : Type 0 where
@@ -102,6 +131,10 @@ node_after node (Changes next) = next
 node_after node (Sends kind next letter) = next
 node_after node _ = node
 
+-- an end's node after such an event
+abbrev pub after_event : EndOf → Event → NodeOf
+after_event end event = node_after end.part.node (side end.part.node event)
+
 -- what becomes of a node that takes a packet
 abbrev pub taken_by : Side → Letter → Option NodeOf
 taken_by (Takes kind from taking) letter = taking letter
@@ -135,6 +168,13 @@ no_inbox = record { turn = 0; words = [] }
 -- with a word kept
 abbrev pub with_word : ℕ → ℕ → Inbox → Inbox
 with_word index word box = record box { words = slice_set box.words index word }
+
+abbrev pub inbox_at : List Inbox → ℕ → Inbox
+inbox_at inboxes place = slice_index_or inboxes place no_inbox
+
+-- the inbox at a place changed
+abbrev pub with_inbox : List Inbox → ℕ → (Inbox → Inbox) → List Inbox
+with_inbox inboxes place change = slice_set inboxes place (change (inbox_at inboxes place))
 
 -- gone on to the next cell
 abbrev pub passed : Inbox → Inbox

@@ -37,7 +37,8 @@ impl Model for LaneEnd {
 
     ghost view = { λ end. end.seat };
 
-    ghost invariant = { λ end. FitsInside end.seat.part end.node end.me end.nodes end.turns.items end.inboxes.items };
+    ghost invariant = { λ end.
+        FitsInside end.seat.part end.node end.me end.nodes end.turns.items end.inboxes.items };
 }
 
 impl LaneEnd {
@@ -49,9 +50,11 @@ impl LaneEnd {
     ghost use Rattle.sci_core.specs.declared.lane.LaneKind.TheVariants.{Requests};
     ghost use Rattle.sci_core.specs.Core.{side};
     ghost use Rattle.sci_lanes.specs.Shown.{inbound_at, me_of};
-    ghost use Rattle.sci_lanes.specs.Knowing.{filled, freed, looked, published, read, with_node_known};
     ghost use Rattle.sci_lanes.specs.Telling.{IsSameNode, IsShown, SomeLineWaits};
-    ghost use Rattle.sci_lanes.specs.Ends.{FitsInside, IsNextToSend, IsNextToTake, MayBeat, MayFill, MayFree, MayPublish, MayRead, empty_inbox, lane_at_cell, node_after, nodes_in, taken_by, with_part};
+    ghost use Rattle.sci_lanes.specs.Ends.{FitsInside, IsNextToSend, IsNextToTake, MayBeat, MayFill};
+    ghost use Rattle.sci_lanes.specs.Ends.{MayFree, MayPublish, MayRead, after_event, beaten, empty_inbox};
+    ghost use Rattle.sci_lanes.specs.Ends.{filled_at, freed_at, lane_at_cell, looked_at, nodes_in};
+    ghost use Rattle.sci_lanes.specs.Ends.{published_at, read_at, taken_by};
 
     /// The end of a node in a machine of so many nodes, in which nothing was done yet. Refused if memory is.
     pub(crate) fn new(
@@ -60,7 +63,8 @@ impl LaneEnd {
         node: Node,
         nodes: u8,
     ) -> Result<LaneEnd, AllocError>
-        requires { FitsInside seat.part node node.cache.me nodes (replicate (lane_count nodes) 0) (replicate (2 * nodes) empty_inbox) }
+        requires { FitsInside seat.part node node.cache.me nodes (replicate (lane_count nodes) 0)
+            (replicate (2 * nodes) empty_inbox) }
         ensures { IfOk result (λ end. end ≡ seat) }
     {
         let pairs = usize::from(nodes) * usize::from(nodes);
@@ -142,9 +146,10 @@ impl LaneEnd {
     /// its node awaits an answer.
     pub fn look(&mut self, cell: CellId) -> u64
         requires { IsNextToSend self.old.part cell ⊎ IsNextToTake self.old.part cell }
-        ensures part { self.new ≡ with_part self.old (looked (lane_at_cell self.old.part cell) cell.number result self.old.part) }
+        ensures part { self.new ≡ looked_at cell result self.old }
         ensures shown { IsShown self.new.part }
-        ensures waits { cell.kind ≡ Requests → IsNextToSend self.old.part cell → result ≢ 0 → SomeLineWaits self.new.part.node }
+        ensures waits { cell.kind ≡ Requests → IsNextToSend self.old.part cell → result ≢ 0 →
+            SomeLineWaits self.new.part.node }
     {
         let word = self.seat.look(&cell, self.nodes);
         if cell.receiver == self.me {
@@ -159,7 +164,7 @@ impl LaneEnd {
     /// it no longer count.
     pub fn fill(&mut self, cell: CellId, index: usize, word: u64)
         requires { MayFill self.old.part cell index }
-        ensures part { self.new ≡ with_part self.old (filled (lane_at_cell self.old.part cell) index word self.old.part) }
+        ensures part { self.new ≡ filled_at cell index word self.old }
         ensures shown { IsShown self.new.part }
     {
         self.seat.fill(&cell, self.nodes, index, word);
@@ -169,7 +174,7 @@ impl LaneEnd {
     /// found. Words that were found after it no longer count.
     pub fn read_word(&mut self, cell: CellId, index: usize) -> u64
         requires { MayRead self.old.part cell index }
-        ensures part { self.new ≡ with_part self.old (read (lane_at_cell self.old.part cell) index result self.old.part) }
+        ensures part { self.new ≡ read_at cell index result self.old }
         ensures shown { IsShown self.new.part }
     {
         let word = self.seat.read(&cell, self.nodes, index);
@@ -183,7 +188,7 @@ impl LaneEnd {
     /// that this event of the node sends, to the receiver of the cell. The node makes its side of the event.
     pub fn publish(&mut self, cell: CellId, first: u64, event: &Event)
         requires { MayPublish self.old.part cell first event.now }
-        ensures part { self.new ≡ with_part self.old (published (lane_at_cell self.old.part cell) (node_after self.old.part.node (side self.old.part.node event.now)) self.old.part) }
+        ensures part { self.new ≡ published_at cell (after_event self.old event.now) self.old }
         ensures same { IsSameNode self.old.part self.new.part }
         ensures shown { IsShown self.new.part }
     {
@@ -199,8 +204,10 @@ impl LaneEnd {
     /// makes its side of the event.
     pub fn free(&mut self, cell: CellId, event: &Event)
         requires { MayFree self.old.part cell event.now }
-        ensures part { self.new ≡ with_part self.old (freed (lane_at_cell self.old.part cell) self.new.part.node self.old.part) }
-        ensures taken { (packet : Packet) → SpellsInWords packet (inbound_at self.old.part (lane_at_cell self.old.part cell)).found → taken_by (side self.old.part.node event.now) (letter_of packet) ≡ Some self.new.part.node }
+        ensures part { self.new ≡ freed_at cell self.new.part.node self.old }
+        ensures taken { (packet : Packet) →
+            SpellsInWords packet (inbound_at self.old.part (lane_at_cell self.old.part cell)).found →
+            taken_by (side self.old.part.node event.now) (letter_of packet) ≡ Some self.new.part.node }
         ensures same { IsSameNode self.old.part self.new.part }
         ensures shown { IsShown self.new.part }
     {
@@ -217,7 +224,7 @@ impl LaneEnd {
     /// Makes an event of the node that concerns no lane: an Issue or a Perform. The caller sees to it that it is enabled.
     pub fn beat(&mut self, event: &Event)
         requires { MayBeat self.old.part event.now }
-        ensures part { self.new ≡ with_part self.old (with_node_known (node_after self.old.part.node (side self.old.part.node event.now)) self.old.part) }
+        ensures part { self.new ≡ beaten (after_event self.old event.now) self.old }
         ensures same { IsSameNode self.old.part self.new.part }
         ensures shown { IsShown self.new.part }
     {
@@ -226,15 +233,17 @@ impl LaneEnd {
     }
 }
 
-ghost use Rattle.std.specs.Prelude.{◌≡◌, ◌≢◌, ◌<◌, length, slice_index_or, slice_set};
+ghost use Rattle.std.specs.Prelude.{◌≡◌, ◌≢◌, ◌<◌, length};
 ghost use Rattle.sci_lanes.specs.declared.cell.TheConstants.{CELL_WORDS};
-ghost use Rattle.sci_lanes.specs.Ends.{no_inbox, passed, with_word};
+ghost use Rattle.sci_lanes.specs.Ends.{inbox_at, passed, with_inbox, with_word};
 
 /// Keeps the first word of a cell, if the cell is the next of its lane.
 fn keep_first(inboxes: &mut Vec<Inbox>, place: usize, number: u8, word: u64)
     requires place { place < length inboxes.old.items }
-    ensures next { (slice_index_or inboxes.old.items place no_inbox).turn ≡ number → inboxes.new.items ≡ slice_set inboxes.old.items place (with_word 0 word (slice_index_or inboxes.old.items place no_inbox)) }
-    ensures other { (slice_index_or inboxes.old.items place no_inbox).turn ≢ number → inboxes.new.items ≡ inboxes.old.items }
+    ensures next { (inbox_at inboxes.old.items place).turn ≡ number →
+        inboxes.new.items ≡ with_inbox inboxes.old.items place (with_word 0 word) }
+    ensures other { (inbox_at inboxes.old.items place).turn ≢ number →
+        inboxes.new.items ≡ inboxes.old.items }
 {
     if inboxes[place].turn == number {
         inboxes[place].words[0] = word;
@@ -245,7 +254,7 @@ fn keep_first(inboxes: &mut Vec<Inbox>, place: usize, number: u8, word: u64)
 fn keep(inboxes: &mut Vec<Inbox>, place: usize, index: usize, word: u64)
     requires place { place < length inboxes.old.items }
     requires index { index < CELL_WORDS }
-    ensures { inboxes.new.items ≡ slice_set inboxes.old.items place (with_word index word (slice_index_or inboxes.old.items place no_inbox)) }
+    ensures { inboxes.new.items ≡ with_inbox inboxes.old.items place (with_word index word) }
 {
     inboxes[place].words[index] = word;
 }
@@ -253,7 +262,7 @@ fn keep(inboxes: &mut Vec<Inbox>, place: usize, index: usize, word: u64)
 /// Goes on to the next cell of a lane.
 fn pass(inboxes: &mut Vec<Inbox>, place: usize)
     requires place { place < length inboxes.old.items }
-    ensures { inboxes.new.items ≡ slice_set inboxes.old.items place (passed (slice_index_or inboxes.old.items place no_inbox)) }
+    ensures { inboxes.new.items ≡ with_inbox inboxes.old.items place passed }
 {
     let turn = inboxes[place].turn;
     inboxes[place].turn = (turn % LANE_CELLS + 1) % LANE_CELLS;

@@ -24,20 +24,23 @@ impl Model for NodeSeat {
 
     ghost view = { λ s. record { table = s.seat.table_id; part = part_of s.seat.me.0 } };
 
-    ghost invariant = { λ s. IsSeated (arc_value s.table).shared.key (arc_value s.table).shared.table_id s.seat.table_id s.seat.me };
+    ghost invariant = { λ s.
+        IsSeated (arc_value s.table).shared.key (arc_value s.table).shared.table_id s.seat.table_id s.seat.me };
 }
 
 impl NodeSeat {
     ghost use Rattle.std.specs.Prelude.{◌≡◌, ◌≢◌, ◌⊎◌};
     ghost use Rattle.std.specs.Arc.{arc_value};
     ghost use Rattle.sci_lanes.specs.Shown.{me_of};
-    ghost use Rattle.sci_lanes.specs.Knowing.{filled, freed, looked, published, read, with_node_known};
     ghost use Rattle.sci_lanes.specs.Telling.{IsBeating, IsFull, IsSameNode, IsSending, IsShown, IsTaking, part_of};
-    ghost use Rattle.sci_lanes.specs.Ends.{IsNextToSend, IsNextToTake, IsSeated, MayFill, MayRead, lane_at_cell, nodes_in, with_part};
+    ghost use Rattle.sci_lanes.specs.Ends.{IsNextToSend, IsNextToTake, IsSeated, MayFill, MayRead, beaten};
+    ghost use Rattle.sci_lanes.specs.Ends.{filled_at, freed_at, lane_at_cell, looked_at, nodes_in};
+    ghost use Rattle.sci_lanes.specs.Ends.{published_at, read_at};
 
     /// A seat that has one node, at its table.
     pub(crate) fn new(table: Arc<LaneTable>, seat: Seat<(), View>) -> NodeSeat
-        requires { IsSeated (arc_value table).shared.key (arc_value table).shared.table_id seat.table_id seat.me }
+        requires { IsSeated (arc_value table).shared.key (arc_value table).shared.table_id
+            seat.table_id seat.me }
         ensures table { result.table ≡ seat.table_id }
         ensures part { result.part ≡ part_of seat.me.0 }
     {
@@ -48,9 +51,10 @@ impl NodeSeat {
     pub(crate) fn look(&mut self, cell: &CellId, nodes: u8) -> u64
         requires nodes { nodes ≡ nodes_in self.old.part }
         requires next { IsNextToSend self.old.part cell.now ⊎ IsNextToTake self.old.part cell.now }
-        ensures part { self.new ≡ with_part self.old (looked (lane_at_cell self.old.part cell.now) cell.now.number result self.old.part) }
+        ensures part { self.new ≡ looked_at cell.now result self.old }
         ensures shown { IsShown self.new.part }
-        ensures full { IsNextToSend self.old.part cell.now → result ≢ 0 → IsFull self.old.part (lane_at_cell self.old.part cell.now) }
+        ensures full { IsNextToSend self.old.part cell.now → result ≢ 0 →
+            IsFull self.old.part (lane_at_cell self.old.part cell.now) }
     {
         let place = cell.place(nodes, 0);
         let shared = &self.table.shared;
@@ -61,7 +65,7 @@ impl NodeSeat {
     pub(crate) fn fill(&mut self, cell: &CellId, nodes: u8, index: usize, word: u64)
         requires nodes { nodes ≡ nodes_in self.old.part }
         requires may { MayFill self.old.part cell.now index }
-        ensures part { self.new ≡ with_part self.old (filled (lane_at_cell self.old.part cell.now) index word self.old.part) }
+        ensures part { self.new ≡ filled_at cell.now index word self.old }
         ensures shown { IsShown self.new.part }
     {
         let place = cell.place(nodes, index);
@@ -73,7 +77,7 @@ impl NodeSeat {
     pub(crate) fn read(&mut self, cell: &CellId, nodes: u8, index: usize) -> u64
         requires nodes { nodes ≡ nodes_in self.old.part }
         requires may { MayRead self.old.part cell.now index }
-        ensures part { self.new ≡ with_part self.old (read (lane_at_cell self.old.part cell.now) index result self.old.part) }
+        ensures part { self.new ≡ read_at cell.now index result self.old }
         ensures shown { IsShown self.new.part }
     {
         let place = cell.place(nodes, index);
@@ -88,7 +92,7 @@ impl NodeSeat {
         requires nodes { nodes ≡ nodes_in self.old.part }
         requires next { IsNextToSend self.old.part cell.now }
         requires sending { IsSending self.old.part (lane_at_cell self.old.part cell.now) first B.next }
-        ensures part { self.new ≡ with_part self.old (published (lane_at_cell self.old.part cell.now) B.next self.old.part) }
+        ensures part { self.new ≡ published_at cell.now B.next self.old }
         ensures same { IsSameNode self.old.part self.new.part }
         ensures shown { IsShown self.new.part }
     {
@@ -104,7 +108,7 @@ impl NodeSeat {
         requires nodes { nodes ≡ nodes_in self.old.part }
         requires next { IsNextToTake self.old.part cell.now }
         requires taking { IsTaking self.old.part (lane_at_cell self.old.part cell.now) B.next }
-        ensures part { self.new ≡ with_part self.old (freed (lane_at_cell self.old.part cell.now) B.next self.old.part) }
+        ensures part { self.new ≡ freed_at cell.now B.next self.old }
         ensures same { IsSameNode self.old.part self.new.part }
         ensures shown { IsShown self.new.part }
     {
@@ -119,7 +123,7 @@ impl NodeSeat {
         requires me { me ≡ me_of self.old.part }
         requires nodes { nodes ≡ nodes_in self.old.part }
         requires beating { IsBeating self.old.part B.next }
-        ensures part { self.new ≡ with_part self.old (with_node_known B.next self.old.part) }
+        ensures part { self.new ≡ beaten B.next self.old }
         ensures same { IsSameNode self.old.part self.new.part }
         ensures shown { IsShown self.new.part }
     {
