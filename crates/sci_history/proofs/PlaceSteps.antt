@@ -1,12 +1,14 @@
 -- The first entry of a log that is left, as the code reads it.
 use Rattle.std.proofs.Common.{◌≡◌, ℕ, zero, suc, ◌+◌, ◌<◌, ◌≤◌, true, false, List, [], ◌∷◌, ◌++◌, length, get_or, set, drop, replicate, refl, sym, ap, subst, ◌∙◌, arith, inl, inr}
 use Rattle.std.specs.Global.{Vec}
-use Rattle.std.proofs.lemmas.List.{get_or-map, length-map, get_or-set_same, get_or-set_other}
+use denote.Ref.{Bor}
+use Rattle.std.proofs.lemmas.List.{map-append, get_or-map, length-map, get_or-set_same, get_or-set_other}
 use Rattle.std.proofs.lemmas.Bool.{cases_eq, cases_lt}
 use Rattle.std.specs.Prelude.{count_by}
 use Rattle.sci_words.specs.declared.limits.TheConstants.{MAX_NODES, MAX_LINES}
 use Rattle.sci_history.specs.declared.entry.Entry.{Entry}
 use Rattle.sci_history.specs.declared.placing.LineState.{LineState}
+use Rattle.sci_history.specs.Audit.{entries_of}
 use Rattle.sci_history.specs.Placed.{log_of, is_making}
 use Rattle.sci_history.specs.Placing.{CanFollow, state_after, state_of, lists_of_counts, rests_of, all_of, IsPlacing, AreOrderable}
 use Rattle.sci_history.proofs.AuditFinds.{no_entry}
@@ -109,3 +111,12 @@ order_within logs count lines rests order is =
     let a = all_counted order in
     let b = all_counted (all_of logs) in
     omega arith
+
+-- ---- references to what is placed
+
+pub entries_long : (refs : List (Bor Entry)) → length (entries_of refs) ≡ length refs
+entries_long refs = length-map refs (λ (ref : Bor Entry). ref.now)
+
+pub entries_pushed : (refs new : List (Bor Entry)) (ref : Bor Entry) (entry : Entry) → new ≡ refs ++ ref ∷ [] → ref.now ≡ entry → entries_of new ≡ entries_of refs ++ entry ∷ []
+entries_pushed refs new ref entry is here =
+    ap entries_of is ∙ (map-append (λ (r : Bor Entry). r.now) refs (ref ∷ []) ∙ ap (λ (e : Entry). entries_of refs ++ e ∷ []) here)

@@ -9,7 +9,7 @@ use Rattle.sci_history.specs.declared.order_verdict.OrderVerdict.TheVariants.{Fa
 use Rattle.sci_history.specs.declared.order_verdict.Reason.{Reason}
 use Rattle.sci_history.specs.declared.order_verdict.Reason.TheVariants.{Logged, ReadsFrom, FromRead, Coherence}
 use Rattle.sci_history.specs.declared.order_verdict.Step.{Step}
-use Rattle.sci_history.specs.Audit.{IsFault}
+use Rattle.sci_history.specs.Audit.{IsFault, entries_of}
 use Rattle.sci_history.specs.Lawful.{Lawful}
 use Rattle.sci_history.specs.Placed.{log_of, is_making}
 use Rattle.sci_history.specs.Sequential.{IsSequentialOrder}
@@ -43,7 +43,7 @@ pub record IsCycle (logs : List (List Entry)) (steps : List Step) : Type 0 where
 -- What a look for an order finds: the audit's fault; else an order; else a cycle, of no more than two entries for each node.
 abbrev pub IsOrderVerdict : List (List Entry) → List Stamped → OrderVerdict → Type 0
 IsOrderVerdict logs last (Fault line kind at) = IsFault logs last line kind at
-IsOrderVerdict logs last (Order order) = Lawful logs last × IsSequentialOrder logs last order.items
+IsOrderVerdict logs last (Order order) = Lawful logs last × IsSequentialOrder logs last (entries_of order.items)
 IsOrderVerdict logs last (Cycle steps) = Lawful logs last × IsCycle logs steps.items × (length steps.items ≤ 2 * MAX_NODES)
 
 -- it found an order

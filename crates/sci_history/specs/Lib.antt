@@ -8,3 +8,4 @@ pub mod Seen
 pub mod Sequential
 pub mod Cycle
 pub mod Placing
+pub mod Judged

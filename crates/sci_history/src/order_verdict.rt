@@ -29,7 +29,7 @@ pub struct Step {
 
 /// What a look for one order of all entries finds.
 #[derive(Debug, Drop)]
-pub enum OrderVerdict {
+pub enum OrderVerdict<'a> {
     /// The logs aren't lawful: what an audit reports of them.
     Fault {
         line: u8,
@@ -38,7 +38,7 @@ pub enum OrderVerdict {
         at: Option<(u8, u32)>,
     },
     /// All entries, in an order that makes the logs sequentially consistent.
-    Order(Vec<Entry>),
+    Order(Vec<&'a Entry>),
     /// There is no such order: each of these entries would have to come after the next, and the last after the first.
     Cycle(Vec<Step>),
 }

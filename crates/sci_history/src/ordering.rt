@@ -6,12 +6,11 @@ ghost use Rattle.sci_history.specs.Cycle.{IsOrderVerdict, IsOrdered};
 ghost use Rattle.sci_history.specs.Lawful.{Lawful};
 ghost use Rattle.sci_history.specs.Sequential.{IsSequentiallyConsistent};
 
-use crate::auditing::audit;
+use crate::faults::LineFault;
 use crate::last::Last;
 use crate::logs::Logs;
 use crate::order_verdict::OrderVerdict;
-use crate::placing::{Placing, loads_by_version, place_all};
-use crate::verdict::Verdict;
+use crate::placing::{Judged, Placing, judge_lines, place_all};
 use crate::waiting::cycle;
 use sci_words::MAX_NODES;
 use std::alloc::{AllocError, Global};
@@ -21,16 +20,21 @@ use std::alloc::{AllocError, Global};
 /// that there is none. The cycle has at most 32 entries. Refused only if a growth was. It takes the
 /// time of an audit, and then time linear in the number of entries. The caller sees to it that each entry's line is
 /// one of `last`, and its word below 8.
-pub fn sequential_order(alloc: Global, logs: &Logs, last: &Last) -> Result<OrderVerdict, AllocError>
+pub fn sequential_order<'a>(
+    alloc: Global,
+    logs: &'a Logs,
+    last: &Last,
+) -> Result<OrderVerdict<'a>, AllocError>
     requires { AreWithin (length last.now) logs.now }
     ensures verdict { IfOk result (IsOrderVerdict logs.now last.now) }
     ensures order { IfOk result (λ verdict. IsOrdered verdict ↔ (Lawful logs.now last.now × IsSequentiallyConsistent logs.now last.now)) }
 {
-    match audit(alloc, logs, last)? {
-        Verdict::Lawful => {}
-        Verdict::Fault { line, kind, at } => return Ok(OrderVerdict::Fault { line, kind, at }),
-    }
-    let loads = loads_by_version(alloc, logs, last.lines())?;
+    let loads = match judge_lines(alloc, logs, last)? {
+        Judged::Fault(line, LineFault { kind, at }) => {
+            return Ok(OrderVerdict::Fault { line, kind, at });
+        }
+        Judged::Loads(loads) => loads,
+    };
     let Placing { next, order, .. } = place_all(alloc, logs, &loads)?;
     for node in 0..MAX_NODES {
         if next[node as usize] < logs.of(node).len() {

@@ -3,12 +3,14 @@
 ghost use Rattle.std.specs.Prelude.{true, false, ◌≡◌, ◌≤◌, ◌<◌, ◌+◌, ◌^◌, ◌↔◌, ℕ, All, IsTrue, IfOk, OnOk, length, slice_index_or, []};
 ghost use Rattle.sci_words.specs.declared.limits.TheConstants.{MAX_LINES, MAX_NODES};
 ghost use Rattle.sci_history.specs.Audit.{AreWithin, entries_of};
-ghost use Rattle.sci_history.specs.Placed.{AreOwn, is_making, maker_count, on_line};
+ghost use Rattle.sci_history.specs.Placed.{is_making, maker_count};
+ghost use Rattle.sci_history.specs.Judged.{IsJudged};
 ghost use Rattle.sci_history.specs.Placing.{AreOrderable, CanFollow, HasCounts, IsPlacing, IsStuckAt, lists_of_counts, rests_of, state_after};
 
 use crate::by_line::by_line;
 use crate::entry::Entry;
-use crate::faults::makers;
+use crate::faults::{LineFault, line_fault, makers};
+use crate::last::Last;
 use crate::logs::Logs;
 use sci_words::{MAX_LINES, MAX_NODES};
 use std::alloc::{AllocError, Global};
@@ -70,37 +72,46 @@ fn count_loads(alloc: Global, entries: &[&Entry]) -> Result<Vec<u64>, AllocError
     Ok(counts)
 }
 
-/// Of each line the number of loads at each version.
-pub fn loads_by_version(alloc: Global, logs: &Logs, lines: u8) -> Result<Vec<Vec<u64>>, AllocError>
-    requires within { AreWithin lines logs.now }
-    requires versions { (line : ℕ) → All (λ entry. entry.version ≤ maker_count (on_line line logs.now)) (on_line line logs.now) }
-    ensures lines { IfOk result (λ loads. length loads.items ≡ lines) }
-    ensures counts { IfOk result (λ loads. (line : ℕ) → line < lines → HasCounts (slice_index_or (lists_of_counts loads.items) line []) (on_line line logs.now)) }
-    ensures own { AreOwn logs.now }
-    ensures sixteen { length logs.now ≡ MAX_NODES }
+/// What a first look at the logs gives: the first fault, or of each line the number of loads at each version.
+#[derive(Drop)]
+pub enum Judged {
+    Fault(u8, LineFault),
+    Loads(Vec<Vec<u64>>),
+}
+
+/// Judges each line as an audit does, and counts its loads while its entries are at hand.
+pub fn judge_lines(alloc: Global, logs: &Logs, last: &Last) -> Result<Judged, AllocError>
+    requires { AreWithin (length last.now) logs.now }
+    ensures judged { IfOk result (IsJudged logs.now last.now) }
+    ensures few { length last.now ≤ MAX_LINES }
 {
+    let lines = last.lines();
     let lists = by_line(alloc, logs, lines)?;
     let mut loads = Vec::new(alloc);
     for line in 0..lines {
-        loads.push(count_loads(alloc, &lists[line as usize])?)?;
+        let entries = &lists[line as usize];
+        if let Some(fault) = line_fault(alloc, entries, last.get(line))? {
+            return Ok(Judged::Fault(line, fault));
+        }
+        loads.push(count_loads(alloc, entries)?)?;
     }
-    Ok(loads)
+    Ok(Judged::Loads(loads))
 }
 
 /// The entries that are placed, in order, and how many those of each node are.
 #[derive(Drop)]
-pub struct Placing {
+pub struct Placing<'a> {
     pub lines: [LineState; LINES],
     pub next: [usize; NODES],
-    pub order: Vec<Entry>,
+    pub order: Vec<&'a Entry>,
 }
 
-impl Placing {
+impl<'a> Placing<'a> {
     /// Nothing is placed yet: every line is at version 0.
-    fn new(alloc: Global, logs: &Logs, loads: &[Vec<u64>]) -> Result<Placing, AllocError>
+    fn new(alloc: Global, logs: &'a Logs, loads: &[Vec<u64>]) -> Result<Placing<'a>, AllocError>
         requires orderable { AreOrderable logs.now (lists_of_counts loads.now) }
         requires few { length loads.now ≤ MAX_LINES }
-        ensures { IfOk result (λ placing. IsPlacing logs.now (length loads.now) placing.lines (rests_of logs.now placing.next) placing.order.items) }
+        ensures { IfOk result (λ placing. IsPlacing logs.now (length loads.now) placing.lines (rests_of logs.now placing.next) (entries_of placing.order.items)) }
     {
         let mut lines = [LineState {
             version: 0,
@@ -121,12 +132,17 @@ impl Placing {
 
     /// Places the first entry of a node that isn't placed. False, and nothing is placed, if there is none or it can't be
     /// placed next.
-    fn place_front(&mut self, logs: &Logs, loads: &[Vec<u64>], node: u8) -> Result<bool, AllocError>
+    fn place_front(
+        &mut self,
+        logs: &'a Logs,
+        loads: &[Vec<u64>],
+        node: u8,
+    ) -> Result<bool, AllocError>
         requires node { node < MAX_NODES }
         requires orderable { AreOrderable logs.now (lists_of_counts loads.now) }
         requires few { length loads.now ≤ MAX_LINES }
-        requires placing { IsPlacing logs.now (length loads.now) self.old.lines (rests_of logs.now self.old.next) self.old.order.items }
-        ensures placing { IfOk result (λ _. IsPlacing logs.now (length loads.now) self.new.lines (rests_of logs.now self.new.next) self.new.order.items) }
+        requires placing { IsPlacing logs.now (length loads.now) self.old.lines (rests_of logs.now self.old.next) (entries_of self.old.order.items) }
+        ensures placing { IfOk result (λ _. IsPlacing logs.now (length loads.now) self.new.lines (rests_of logs.now self.new.next) (entries_of self.new.order.items)) }
         ensures placed { IfOk result (λ placed. placed ≡ true → length self.new.order.items ≡ length self.old.order.items + 1) }
         ensures stuck { IfOk result (λ placed. placed ≡ false →
             (self.new ≡ self.old) × IsStuckAt self.old.lines (rests_of logs.now self.old.next) node) }
@@ -141,17 +157,17 @@ impl Placing {
         if !self.lines[line].can_take(entry) {
             return Ok(false);
         }
-        self.order.push(*entry)?;
+        self.order.push(entry)?;
         self.lines[line] = self.lines[line].after(&loads[line], entry);
         self.next[node as usize] = place + 1;
         Ok(true)
     }
     /// Tries each node once.
-    fn place_round(&mut self, logs: &Logs, loads: &[Vec<u64>]) -> Result<(), AllocError>
+    fn place_round(&mut self, logs: &'a Logs, loads: &[Vec<u64>]) -> Result<(), AllocError>
         requires orderable { AreOrderable logs.now (lists_of_counts loads.now) }
         requires few { length loads.now ≤ MAX_LINES }
-        requires placing { IsPlacing logs.now (length loads.now) self.old.lines (rests_of logs.now self.old.next) self.old.order.items }
-        ensures placing { OnOk result (IsPlacing logs.now (length loads.now) self.new.lines (rests_of logs.now self.new.next) self.new.order.items) }
+        requires placing { IsPlacing logs.now (length loads.now) self.old.lines (rests_of logs.now self.old.next) (entries_of self.old.order.items) }
+        ensures placing { OnOk result (IsPlacing logs.now (length loads.now) self.new.lines (rests_of logs.now self.new.next) (entries_of self.new.order.items)) }
         ensures more { OnOk result (length self.old.order.items ≤ length self.new.order.items) }
         ensures stuck { OnOk result (length self.new.order.items ≡ length self.old.order.items →
             (node : ℕ) → node < MAX_NODES → IsStuckAt self.new.lines (rests_of logs.now self.new.next) node) }
@@ -164,10 +180,14 @@ impl Placing {
 }
 
 /// Places entries until no node has one left that can be placed next.
-pub fn place_all(alloc: Global, logs: &Logs, loads: &[Vec<u64>]) -> Result<Placing, AllocError>
+pub fn place_all<'a>(
+    alloc: Global,
+    logs: &'a Logs,
+    loads: &[Vec<u64>],
+) -> Result<Placing<'a>, AllocError>
     requires orderable { AreOrderable logs.now (lists_of_counts loads.now) }
     requires few { length loads.now ≤ MAX_LINES }
-    ensures placing { IfOk result (λ placing. IsPlacing logs.now (length loads.now) placing.lines (rests_of logs.now placing.next) placing.order.items) }
+    ensures placing { IfOk result (λ placing. IsPlacing logs.now (length loads.now) placing.lines (rests_of logs.now placing.next) (entries_of placing.order.items)) }
     ensures stuck { IfOk result (λ placing. (node : ℕ) → node < MAX_NODES → IsStuckAt placing.lines (rests_of logs.now placing.next) node) }
 {
     let mut placing = Placing::new(alloc, logs, loads)?;

@@ -1,7 +1,10 @@
 //! Small programs of a few nodes on two lines, as they are known for telling memories apart. Each outcome either has one
 //! order of all entries, which is written out, or a cycle, which is.
 
-use sci_history::{OrderVerdict, Reason, sequential_order};
+ghost use Rattle.std.specs.Prelude.{IfOk, length};
+ghost use Rattle.sci_history.specs.Audit.{AreWithin};
+
+use sci_history::{Last, Logs, OrderVerdict, Reason, sequential_order};
 use sci_text::{Tap, read_logs};
 use std::alloc::Global;
 use std::process::Abort;
@@ -10,16 +13,19 @@ use std::test::*;
 /// A word of 1 on each of two lines, stored once.
 const ONCE: &str = "last 0 @1 1 0 0 0 0 0 0 0\nlast 1 @1 1 0 0 0 0 0 0 0\n";
 
-/// What is found of a log with these last contents and entries.
-fn found(alloc: Global, last: &str, entries: &str) -> Result<OrderVerdict, Fail> {
+/// The logs of these last contents and entries.
+fn read(alloc: Global, last: &str, entries: &str) -> Result<(Logs, Last), Fail>
+    ensures { IfOk result (λ read. AreWithin (length read.1) read.0) }
+{
     let log = format!(in alloc; "log 2 4 2\n{last}{entries}")?;
     let (_nodes, logs, last) = read_logs(alloc, &mut Tap::new(log.as_bytes()))?;
-    Ok(sequential_order(alloc, &logs, &last)?)
+    Ok((logs, last))
 }
 
 /// That the entries are found in this order, each told by its node and its serial.
 fn expect_order(alloc: Global, entries: &str, order: &[(u8, u32)]) -> Result<(), Fail> {
-    match found(alloc, ONCE, entries)? {
+    let (logs, last) = read(alloc, ONCE, entries)?;
+    match sequential_order(alloc, &logs, &last)? {
         OrderVerdict::Order(found) => {
             let mut told = Vec::new(alloc);
             for entry in &found {
@@ -41,7 +47,8 @@ fn expect_cycle(
     entries: &str,
     cycle: &[(u8, usize, Reason)],
 ) -> Result<(), Fail> {
-    match found(alloc, last, entries)? {
+    let (logs, last) = read(alloc, last, entries)?;
+    match sequential_order(alloc, &logs, &last)? {
         OrderVerdict::Cycle(steps) => {
             let mut told = Vec::new(alloc);
             for step in &steps {
@@ -159,11 +166,10 @@ fn a_cycle_further_on(rt: HostRuntime) -> Result<(), Fail> {
 /// Logs that an audit finds unlawful get its fault.
 #[test]
 fn an_unlawful_log(rt: HostRuntime) -> Result<(), Fail> {
-    match found(rt.alloc(), ONCE, "0 0 store 0 0 1 = - @1\n")? {
+    let (logs, last) = read(rt.alloc(), ONCE, "0 0 store 0 0 1 = - @1\n")?;
+    match sequential_order(rt.alloc(), &logs, &last)? {
         OrderVerdict::Fault {
-            line: 1,
-            at: None,
-            ..
+            line: 1, at: None, ..
         } => Ok(()),
         other => Err(Fail::new(format_args!("{other:?}"))),
     }

@@ -1,43 +1,39 @@
 use Rattle.std.specs.Global.{Vec}
 use Rattle.std.proofs.Common.{◌≡◌, ℕ, List, length, sym, ap, subst, ◌∙◌, arith}
+use Rattle.sci_history.specs.Audit.{entries_of}
+use Rattle.sci_history.specs.Judged.{IsJudged}
 use Rattle.sci_history.specs.Placing.{AreOrderable, lists_of_counts}
 use Rattle.sci_history.proofs.Cycles.{no_order_with_cycle}
-use Rattle.sci_history.proofs.FoundOrders.{all_done, are_blocked, orderable}
+use Rattle.sci_history.proofs.FoundOrders.{all_done, are_blocked}
 use Rattle.sci_history.proofs.ordering.sequential_order.Goals as goal
 
-pub place_all-requires-clause-orderable : goal.place_all-requires-clause-orderable
-place_all-requires-clause-orderable c =
-    let lawful = c.in_ok-audit.ensures.lawful.0 c.in-Lawful.is in
-    let loads = c.in_ok-loads.ensures in
-    subst (λ (ls : List (Vec ℕ)). AreOrderable c.args.logs.now (lists_of_counts ls)) (sym c.deref.ensures.value)
-    (orderable c.args.logs.now c.args.last.now c.in_ok-loads.loads.items lawful loads.own loads.sixteen c.requires (loads.lines ∙ c.lines.ensures.lines) (λ line below. loads.counts line (omega (arith, below, c.lines.ensures.lines))))
+pub place_all-requires-clause-few : goal.place_all-requires-clause-few
+place_all-requires-clause-few c =
+    let judged = subst (IsJudged c.args.logs.now c.args.last.now) c.in-Loads.is c.in_ok-line.ensures.judged in
+    let long : length c.deref.result.now ≡ length c.args.last.now = ap (λ (ls : List (Vec ℕ)). length ls) c.deref.ensures.value ∙ judged.2 in
+    let few = c.in_ok-line.ensures.few in
+    omega arith
 
 pub cycle-requires-clause-blocked : goal.cycle-requires-clause-blocked
 cycle-requires-clause-blocked c =
-    let lawful = c.in_ok-audit.ensures.lawful.0 c.in-Lawful.is in
-    let loads = c.in_ok-loads.ensures in
-    let able = subst (λ (ls : List (Vec ℕ)). AreOrderable c.args.logs.now (lists_of_counts ls)) (sym c.deref.ensures.value)
-    (orderable c.args.logs.now c.args.last.now c.in_ok-loads.loads.items lawful loads.own loads.sixteen c.requires (loads.lines ∙ c.lines.ensures.lines) (λ line below. loads.counts line (omega (arith, below, c.lines.ensures.lines)))) in
-    are_blocked c.args.logs.now c.deref.result.now c.in_ok-next.field-0.lines c.in_ok-next.field-0.next c.in_ok-next.field-0.order.items able c.in_ok-next.ensures.placing c.in_ok-next.ensures.stuck
+    let judged = subst (IsJudged c.args.logs.now c.args.last.now) c.in-Loads.is c.in_ok-line.ensures.judged in
+    let able = subst (λ (ls : List (Vec ℕ)). AreOrderable c.args.logs.now (lists_of_counts ls)) (sym c.deref.ensures.value) judged.1 in
+    are_blocked c.args.logs.now c.deref.result.now c.in_ok-next.field-0.lines c.in_ok-next.field-0.next (entries_of c.in_ok-next.field-0.order.items) able c.in_ok-next.ensures.placing c.in_ok-next.ensures.stuck
 
 pub returns-then-next-node-clause-order : goal.returns-then-next-node-clause-order
 returns-then-next-node-clause-order c = (λ none. absurd none, λ both. no_order_with_cycle c.args.logs.now c.args.last.now c.in_ok-cycle.field-0.items c.in_ok-cycle.ensures.cycle both.1.0 both.1.1)
 
 pub returns-clause-verdict : goal.returns-clause-verdict
 returns-clause-verdict c =
-    let lawful = c.in_ok-audit.ensures.lawful.0 c.in-Lawful.is in
-    let loads = c.in_ok-loads.ensures in
-    let able = subst (λ (ls : List (Vec ℕ)). AreOrderable c.args.logs.now (lists_of_counts ls)) (sym c.deref.ensures.value)
-    (orderable c.args.logs.now c.args.last.now c.in_ok-loads.loads.items lawful loads.own loads.sixteen c.requires (loads.lines ∙ c.lines.ensures.lines) (λ line below. loads.counts line (omega (arith, below, c.lines.ensures.lines)))) in
-    let long : length c.deref.result.now ≡ length c.args.last.now = ap (λ (ls : List (Vec ℕ)). length ls) c.deref.ensures.value ∙ (loads.lines ∙ c.lines.ensures.lines) in
-    (lawful, all_done c.args.logs.now c.args.last.now c.deref.result.now c.in_ok-next.field-0.lines c.in_ok-next.field-0.next c.in_ok-next.field-0.order.items lawful c.requires long able c.in_ok-next.ensures.placing (λ m lt. c.loop-node.invariant m (omega arith)))
+    let judged = subst (IsJudged c.args.logs.now c.args.last.now) c.in-Loads.is c.in_ok-line.ensures.judged in
+    let able = subst (λ (ls : List (Vec ℕ)). AreOrderable c.args.logs.now (lists_of_counts ls)) (sym c.deref.ensures.value) judged.1 in
+    let long : length c.deref.result.now ≡ length c.args.last.now = ap (λ (ls : List (Vec ℕ)). length ls) c.deref.ensures.value ∙ judged.2 in
+    (judged.0, all_done c.args.logs.now c.args.last.now c.deref.result.now c.in_ok-next.field-0.lines c.in_ok-next.field-0.next (entries_of c.in_ok-next.field-0.order.items) judged.0 c.requires long able c.in_ok-next.ensures.placing (λ m lt. c.loop-node.invariant m (omega arith)))
 
 pub returns-clause-order : goal.returns-clause-order
 returns-clause-order c =
-    let lawful = c.in_ok-audit.ensures.lawful.0 c.in-Lawful.is in
-    let loads = c.in_ok-loads.ensures in
-    let able = subst (λ (ls : List (Vec ℕ)). AreOrderable c.args.logs.now (lists_of_counts ls)) (sym c.deref.ensures.value)
-    (orderable c.args.logs.now c.args.last.now c.in_ok-loads.loads.items lawful loads.own loads.sixteen c.requires (loads.lines ∙ c.lines.ensures.lines) (λ line below. loads.counts line (omega (arith, below, c.lines.ensures.lines)))) in
-    let long : length c.deref.result.now ≡ length c.args.last.now = ap (λ (ls : List (Vec ℕ)). length ls) c.deref.ensures.value ∙ (loads.lines ∙ c.lines.ensures.lines) in
-    let done = all_done c.args.logs.now c.args.last.now c.deref.result.now c.in_ok-next.field-0.lines c.in_ok-next.field-0.next c.in_ok-next.field-0.order.items lawful c.requires long able c.in_ok-next.ensures.placing (λ m lt. c.loop-node.invariant m (omega arith)) in
-    (λ yes_. (lawful, (c.in_ok-next.field-0.order.items, done)), λ both. tt)
+    let judged = subst (IsJudged c.args.logs.now c.args.last.now) c.in-Loads.is c.in_ok-line.ensures.judged in
+    let able = subst (λ (ls : List (Vec ℕ)). AreOrderable c.args.logs.now (lists_of_counts ls)) (sym c.deref.ensures.value) judged.1 in
+    let long : length c.deref.result.now ≡ length c.args.last.now = ap (λ (ls : List (Vec ℕ)). length ls) c.deref.ensures.value ∙ judged.2 in
+    let done = all_done c.args.logs.now c.args.last.now c.deref.result.now c.in_ok-next.field-0.lines c.in_ok-next.field-0.next (entries_of c.in_ok-next.field-0.order.items) judged.0 c.requires long able c.in_ok-next.ensures.placing (λ m lt. c.loop-node.invariant m (omega arith)) in
+    (λ found. (judged.0, ((entries_of c.in_ok-next.field-0.order.items), done)), λ both. tt)

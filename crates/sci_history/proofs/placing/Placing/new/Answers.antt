@@ -1,3 +1,4 @@
+use Rattle.sci_history.specs.Audit.{entries_of}
 use Rattle.std.proofs.Common.{List, ℕ, length, get_or, refl, sym, ap, ◌∙◌, arith}
 use Rattle.std.proofs.lemmas.List.{get_or_default, length-set}
 use Rattle.sci_history.proofs.PlaceSteps.{counts_long, counts_read, nothing_placed, state_more}
@@ -25,4 +26,4 @@ loop-line-preserved c =
     }
 
 pub returns : goal.returns
-returns c = nothing_placed c.args.logs.now c.args.loads.now c.loop-line.lines c.in_ok-with_capacity.field-0.items c.requires.orderable c.in_ok-with_capacity.ensures.items (λ k below. c.loop-line.invariant.states k (omega arith))
+returns c = nothing_placed c.args.logs.now c.args.loads.now c.loop-line.lines (entries_of c.in_ok-with_capacity.field-0.items) c.requires.orderable (ap entries_of c.in_ok-with_capacity.ensures.items) (λ k below. c.loop-line.invariant.states k (omega arith))
