@@ -1,8 +1,8 @@
 //! Laws of the machine, each the contract of a function that does nothing.
 //!
-//! Where a law says of a state that it is reachable (`IsReachable`), or of a size that it is one (`IsSize`), it holds for
-//! every number of nodes, lines, slots and operations from 1 up. A law of reached states (`IsReached`) is of machines
-//! within the limits.
+//! Where a law says of a state that it is reachable (`IsReachable`), or of a size that it is one (`IsSize`), it holds
+//! for every number of nodes, lines, slots and operations from 1 up. A law of reached states (`IsReached`) is of
+//! machines within the limits.
 
 ghost use Rattle.std.specs.Prelude.{◌≡◌, ◌<◌, ◌≤◌, ℕ, List, filter, map, Some, None, IsSome};
 ghost use Rattle.sci_words.specs.declared.event.Event.{Event};
