@@ -27,7 +27,8 @@ pub fn sequential_order<'a>(
 ) -> Result<OrderVerdict<'a>, AllocError>
     requires { AreWithin (length last.now) logs.now }
     ensures verdict { IfOk result (IsOrderVerdict logs.now last.now) }
-    ensures order { IfOk result (λ verdict. IsOrdered verdict ↔ (Lawful logs.now last.now × IsSequentiallyConsistent logs.now last.now)) }
+    ensures order { IfOk result (λ verdict. IsOrdered verdict ↔
+        (Lawful logs.now last.now × IsSequentiallyConsistent logs.now last.now)) }
 {
     let loads = match judge_lines(alloc, logs, last)? {
         Judged::Fault(line, LineFault { kind, at }) => {

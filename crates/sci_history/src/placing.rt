@@ -111,7 +111,8 @@ impl<'a> Placing<'a> {
     fn new(alloc: Global, logs: &'a Logs, loads: &[Vec<u64>]) -> Result<Placing<'a>, AllocError>
         requires orderable { AreOrderable logs.now (lists_of_counts loads.now) }
         requires few { length loads.now ≤ MAX_LINES }
-        ensures { IfOk result (λ placing. IsPlacing logs.now (length loads.now) placing.lines (rests_of logs.now placing.next) (entries_of placing.order.items)) }
+        ensures { IfOk result (λ placing. IsPlacing logs.now (length loads.now) placing.lines
+            (rests_of logs.now placing.next) (entries_of placing.order.items)) }
     {
         let mut lines = [LineState {
             version: 0,
@@ -141,9 +142,12 @@ impl<'a> Placing<'a> {
         requires node { node < MAX_NODES }
         requires orderable { AreOrderable logs.now (lists_of_counts loads.now) }
         requires few { length loads.now ≤ MAX_LINES }
-        requires placing { IsPlacing logs.now (length loads.now) self.old.lines (rests_of logs.now self.old.next) (entries_of self.old.order.items) }
-        ensures placing { IfOk result (λ _. IsPlacing logs.now (length loads.now) self.new.lines (rests_of logs.now self.new.next) (entries_of self.new.order.items)) }
-        ensures placed { IfOk result (λ placed. placed ≡ true → length self.new.order.items ≡ length self.old.order.items + 1) }
+        requires placing { IsPlacing logs.now (length loads.now) self.old.lines
+            (rests_of logs.now self.old.next) (entries_of self.old.order.items) }
+        ensures placing { IfOk result (λ _. IsPlacing logs.now (length loads.now) self.new.lines
+            (rests_of logs.now self.new.next) (entries_of self.new.order.items)) }
+        ensures placed { IfOk result (λ placed. placed ≡ true →
+            length self.new.order.items ≡ length self.old.order.items + 1) }
         ensures stuck { IfOk result (λ placed. placed ≡ false →
             (self.new ≡ self.old) × IsStuckAt self.old.lines (rests_of logs.now self.old.next) node) }
     {
@@ -166,11 +170,14 @@ impl<'a> Placing<'a> {
     fn place_round(&mut self, logs: &'a Logs, loads: &[Vec<u64>]) -> Result<(), AllocError>
         requires orderable { AreOrderable logs.now (lists_of_counts loads.now) }
         requires few { length loads.now ≤ MAX_LINES }
-        requires placing { IsPlacing logs.now (length loads.now) self.old.lines (rests_of logs.now self.old.next) (entries_of self.old.order.items) }
-        ensures placing { OnOk result (IsPlacing logs.now (length loads.now) self.new.lines (rests_of logs.now self.new.next) (entries_of self.new.order.items)) }
+        requires placing { IsPlacing logs.now (length loads.now) self.old.lines
+            (rests_of logs.now self.old.next) (entries_of self.old.order.items) }
+        ensures placing { OnOk result (IsPlacing logs.now (length loads.now) self.new.lines
+            (rests_of logs.now self.new.next) (entries_of self.new.order.items)) }
         ensures more { OnOk result (length self.old.order.items ≤ length self.new.order.items) }
         ensures stuck { OnOk result (length self.new.order.items ≡ length self.old.order.items →
-            (node : ℕ) → node < MAX_NODES → IsStuckAt self.new.lines (rests_of logs.now self.new.next) node) }
+            (node : ℕ) → node < MAX_NODES →
+            IsStuckAt self.new.lines (rests_of logs.now self.new.next) node) }
     {
         for node in 0..MAX_NODES {
             let _placed = self.place_front(logs, loads, node)?;
@@ -187,8 +194,10 @@ pub fn place_all<'a>(
 ) -> Result<Placing<'a>, AllocError>
     requires orderable { AreOrderable logs.now (lists_of_counts loads.now) }
     requires few { length loads.now ≤ MAX_LINES }
-    ensures placing { IfOk result (λ placing. IsPlacing logs.now (length loads.now) placing.lines (rests_of logs.now placing.next) (entries_of placing.order.items)) }
-    ensures stuck { IfOk result (λ placing. (node : ℕ) → node < MAX_NODES → IsStuckAt placing.lines (rests_of logs.now placing.next) node) }
+    ensures placing { IfOk result (λ placing. IsPlacing logs.now (length loads.now) placing.lines
+        (rests_of logs.now placing.next) (entries_of placing.order.items)) }
+    ensures stuck { IfOk result (λ placing. (node : ℕ) → node < MAX_NODES →
+        IsStuckAt placing.lines (rests_of logs.now placing.next) node) }
 {
     let mut placing = Placing::new(alloc, logs, loads)?;
     loop {

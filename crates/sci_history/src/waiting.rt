@@ -34,8 +34,10 @@ fn reason_after(entry: &Entry, other: &Entry) -> Option<Reason>
 
 /// The first place in a log, from one on, of an entry that comes before this one on its line.
 fn blocker_in(log: &[Entry], from: usize, entry: &Entry) -> Option<(usize, Reason)>
-    ensures found { IfSome result (λ found. (from ≤ found.0) × ((other : Entry) × (slice_get log.now found.0 ≡ Some other) × (line_reason entry.now other ≡ Some found.1))) }
-    ensures none { result ≡ None → (place : ℕ) (other : Entry) → from ≤ place → slice_get log.now place ≡ Some other → line_reason entry.now other ≡ None }
+    ensures found { IfSome result (λ found. (from ≤ found.0) × ((other : Entry)
+        × (slice_get log.now found.0 ≡ Some other) × (line_reason entry.now other ≡ Some found.1))) }
+    ensures none { result ≡ None → (place : ℕ) (other : Entry) → from ≤ place →
+        slice_get log.now place ≡ Some other → line_reason entry.now other ≡ None }
 {
     for place in from..log.len() {
         if let Some(reason) = reason_after(entry, &log[place]) {
@@ -55,8 +57,11 @@ struct Blocker {
 
 /// The first entry that is left, by node and place, and comes before this one on its line.
 fn first_blocker(logs: &Logs, next: &[usize; NODES], entry: &Entry) -> Option<Blocker>
-    ensures found { IfSome result (λ found. IsBlocker logs.now next.now entry.now found.node found.place found.reason) }
-    ensures none { result ≡ None → (node : ℕ) → AllByRecursion (λ other. line_reason entry.now other ≡ None) (log_of (rests_of logs.now next.now) node) }
+    ensures found { IfSome result (λ found.
+        IsBlocker logs.now next.now entry.now found.node found.place found.reason) }
+    ensures none { result ≡ None → (node : ℕ) →
+        AllByRecursion (λ other. line_reason entry.now other ≡ None)
+        (log_of (rests_of logs.now next.now) node) }
 {
     for node in 0..MAX_NODES {
         if let Some((place, reason)) = blocker_in(logs.of(node), next[node as usize], entry) {
@@ -83,7 +88,8 @@ fn push_wait(
     requires blocked { AreBlocked (rests_of logs.now next.now) }
     ensures known { IfOk result (λ to. to < MAX_NODES) }
     ensures left { IfOk result (λ to. slice_index_or next.now to 0 < length (log_of logs.now to)) }
-    ensures leads { IfOk result (λ to. (added : List Step) × (steps.new.items ≡ steps.old.items ++ added) × LeadsTo logs.now next.now added node to) }
+    ensures leads { IfOk result (λ to. (added : List Step)
+        × (steps.new.items ≡ steps.old.items ++ added) × LeadsTo logs.now next.now added node to) }
 {
     let place = next[node as usize];
     let entry = logs.of(node)[place];
