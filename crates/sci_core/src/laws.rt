@@ -44,8 +44,10 @@ ghost use Rattle.sci_core.specs.Alternates.{Alternates};
 /// Every state that a schedule leads to is reached, of a machine of any size and of one within the limits; and what a
 /// machine within the limits reaches, a machine of any size does.
 pub fn schedules_reach()
-    ensures any { (size : Size) (schedule : List Event) → IsSize size → IsReachable (run size schedule) }
-    ensures within { (size : Size) (schedule : List Event) → IsMachineSize size → IsReached (run size schedule) }
+    ensures any { (size : Size) (schedule : List Event) → IsSize size →
+        IsReachable (run size schedule) }
+    ensures within { (size : Size) (schedule : List Event) → IsMachineSize size →
+        IsReached (run size schedule) }
     ensures reachable { (core : Core) → IsReached core → IsReachable core }
 {}
 
@@ -101,14 +103,17 @@ pub fn lines_have_their_shape()
 /// contents, and changes them as the operation says, a maker's version being one more than before; any other event
 /// leaves every line's last contents as they were.
 pub fn operations_take_effect()
-    ensures { (core : Core) (event : Event) → IsReachable core → LastChanges core (step core event) (made_by core event) }
+    ensures { (core : Core) (event : Event) → IsReachable core →
+        LastChanges core (step core event) (made_by core event) }
 {}
 
 /// The entries that a schedule makes on a line are, in its order, the line's history from zero words to its last
 /// contents: a run of one memory of one thread.
 pub fn schedules_are_histories()
-    ensures { (size : Size) (schedule : List Event) (line : ℕ) → IsSize size → line < size.lines →
-        IsHistory (filter (is_on_line line) (done size schedule)) zero_stamped (last_at (run size schedule) line) }
+    ensures { (size : Size) (schedule : List Event) (line : ℕ) → IsSize size →
+        line < size.lines →
+        IsHistory (filter (is_on_line line) (done size schedule)) zero_stamped
+        (last_at (run size schedule) line) }
 {}
 
 /// The logs of every reached state are lawful with its last contents: placed by version, the operations logged on a
@@ -127,7 +132,8 @@ pub fn reached_states_are_coherent()
 /// an ask and its answer exactly one Serve or Refuse takes the request; and all three have one control number. So
 /// no transaction is answered twice.
 pub fn transactions_alternate()
-    ensures { (size : Size) (schedule : List Event) (n line : ℕ) → IsSize size → n < size.nodes → line < size.lines → Alternates size schedule n line }
+    ensures { (size : Size) (schedule : List Event) (n line : ℕ) → IsSize size →
+        n < size.nodes → line < size.lines → Alternates size schedule n line }
 {}
 
 /// In every reached state the last contents of each line are eight words below 2^64, and their version is at most
@@ -152,7 +158,8 @@ pub fn entries_are_in_range()
 
 /// The log of each node is what the schedule makes on that node, in its order.
 pub fn logs_are_done()
-    ensures { (size : Size) (schedule : List Event) (node : ℕ) → IsSize size → (node_at (run size schedule) node).log ≡ filter (is_of_node node) (done size schedule) }
+    ensures { (size : Size) (schedule : List Event) (node : ℕ) → IsSize size →
+        (node_at (run size schedule) node).log ≡ filter (is_of_node node) (done size schedule) }
 {}
 
 /// An operation that a node issues is pending on its line with the node's next serial; nothing was pending there

@@ -169,7 +169,9 @@ fn an_unlawful_log(rt: HostRuntime) -> Result<(), Fail> {
     let (logs, last) = read(rt.alloc(), ONCE, "0 0 store 0 0 1 = - @1\n")?;
     match sequential_order(rt.alloc(), &logs, &last)? {
         OrderVerdict::Fault {
-            line: 1, at: None, ..
+            line: 1,
+            at: None,
+            ..
         } => Ok(()),
         other => Err(Fail::new(format_args!("{other:?}"))),
     }
