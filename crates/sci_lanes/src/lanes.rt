@@ -31,7 +31,9 @@ impl Model for Lanes {
 
     ghost view = { λ lanes. record { table = lanes.seat.table_id; size = size_of lanes.extent lanes.limit } };
 
-    ghost invariant = { λ lanes. IsRoot (arc_value lanes.table).shared.key (arc_value lanes.table).shared.table_id lanes.seat.table_id lanes.seat.me lanes.extent lanes.limit };
+    ghost invariant = { λ lanes.
+        IsRoot (arc_value lanes.table).shared.key (arc_value lanes.table).shared.table_id
+        lanes.seat.table_id lanes.seat.me lanes.extent lanes.limit };
 }
 
 impl Lanes {
@@ -51,7 +53,8 @@ impl Lanes {
         requires some { 1 ≤ limit }
         requires few { limit ≤ MAX_OPERATIONS }
         ensures size { IfOk result (λ made. made.0.size ≡ size_of extent limit) }
-        ensures ends { IfOk result (λ made. made.1.items ≡ opening_ends made.0.table (size_of extent limit) extent.nodes) }
+        ensures ends { IfOk result (λ made.
+            made.1.items ≡ opening_ends made.0.table (size_of extent limit) extent.nodes) }
     {
         let words = vec![in alloc; 0; own_word(extent.nodes, extent.nodes)]?;
         let (table, mut seat) = LaneTable::of_words(alloc, &words, &(extent, limit))?;
@@ -98,7 +101,8 @@ fn split_off(
     requires knows { seat.old.me ≡ (rest_view (size_of extent limit) node, []) }
     ensures same { seat.new.table_id ≡ seat.old.table_id }
     ensures knows { seat.new.me ≡ (rest_view (size_of extent limit) (node + 1), []) }
-    ensures end { IfOk result (λ end. end ≡ record { table = seat.old.table_id; part = opening_part (size_of extent limit) node }) }
+    ensures end { IfOk result (λ end. end
+        ≡ record { table = seat.old.table_id; part = opening_part (size_of extent limit) node }) }
 {
     let shared = &table.shared;
     let part = shared.split_seat::<First>(seat);

@@ -7,6 +7,7 @@ ghost use Rattle.sci_lanes.specs.declared.view.View.{View};
 
 /// Words and views show one state: whatever two states of a machine's size they show, the two are the same.
 pub fn words_show_one_state()
-    ensures { (x y : Whole) (words : List ℕ) (views : List View) → IsReached x.core → IsReached y.core → x.core.size ≡ y.core.size →
+    ensures { (x y : Whole) (words : List ℕ) (views : List View) →
+        IsReached x.core → IsReached y.core → x.core.size ≡ y.core.size →
         Shows x words views → Shows y words views → x.core ≡ y.core }
 {}
