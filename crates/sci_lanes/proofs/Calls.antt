@@ -223,6 +223,13 @@ decoded part node me nodes turns inboxes f cell e may box read result only =
     let kept = kept_packet part node me nodes turns inboxes f cell may.packet box may.next may.spelled read in
     only may.packet (length (words_of may.packet)) kept.0 kept.1
 
+-- the same by the calls that find the box: the lane's number, and how many nodes there are
+pub found_packet : (part : Part) (node : NodeOf) (me nodes : ℕ) (turns : List ℕ) (inboxes : List Inbox) → FitsInside part node me nodes turns inboxes → (cell : CellId) (e : Event) (may : MayFree part cell e) (box : Inbox) (lane from : ℕ)
+    → box ≡ get_or inboxes (lane / from) box → lane ≡ lane_number nodes cell → from ≡ nodes
+    → (result : Result (Packet × ℕ) PacketFault) → ((p : Packet) (k : ℕ) → k ≤ length box.words → SpellsInWords p (take k box.words) → result ≡ Ok (p, k)) → result ≡ Ok (may.packet, length (words_of may.packet))
+found_packet part node me nodes turns inboxes f cell e may box lane from read lane_is from_is result only =
+    decoded part node me nodes turns inboxes f cell e may box (read ∙ (λ i. get_or inboxes (lane_is i / from_is i) box)) result only
+
 pub ok_first : {A B E : Type 0} (a c : A) (b d : B) (result : Result (A × B) E) → result ≡ Ok (a, b) → result ≡ Ok (c, d) → a ≡ c
 ok_first {A = A} {B = B} {E = E} a c b d result h k = ap (λ (x : A × B). x.0) (same (a, b) (c, d) (sym h ∙ k))
   where

@@ -16,5 +16,5 @@ pub use cell::CellId;
 pub use end::LaneEnd;
 pub use lanes::Lanes;
 pub use laws::words_show_one_state;
-pub use rule::{Becomes, LaneRule};
+pub use rule::LaneRule;
 pub use view::{Inbound, Outbound, Part, View};

@@ -62,8 +62,8 @@ impl Play<(), View> for Read {
     ghost then = { Reads };
 }
 
-/// What the node of a step becomes. Each call of a program picks it.
-pub trait Becomes {
+/// What the node of a step becomes. Each call picks it.
+pub(crate) trait Becomes {
     ghost next: { NodeOf };
 }
 
