@@ -41,6 +41,13 @@ impl Lane {
         }
     }
 
+    /// The lane of these packets, oldest first. No memory is taken.
+    pub fn of_packets(packets: VecDeque<Packet>) -> Lane
+        ensures { result ≡ map letter_of packets.items }
+    {
+        Lane { packets }
+    }
+
     /// A copy of the lane. Refused if memory is.
     pub fn try_clone(&self, alloc: Global) -> Result<Lane, AllocError>
         ensures { IfOk result (λ lane. lane ≡ self.now) }

@@ -28,6 +28,7 @@ pub use laws::{
 };
 pub use machine::Machine;
 pub use node::Node;
+pub use outcome::push_log;
 pub use pending::Pending;
 pub use progress::{packets_move_on, packets_run_out, weightless_is_drained, weights_are_bounded};
 

@@ -12,3 +12,8 @@ pub mod Calls
 pub mod Sharing
 pub mod Opening
 pub mod Uniqueness
+pub mod Gathering
+pub mod Reading
+pub mod Logged
+pub mod Joining
+pub mod Gathered

@@ -4,3 +4,4 @@ pub mod Knowing
 pub mod Telling
 pub mod Plays
 pub mod Ends
+pub mod Gathering

@@ -50,6 +50,7 @@ impl LaneEnd {
     ghost use Rattle.sci_core.specs.declared.lane.LaneKind.TheVariants.{Requests};
     ghost use Rattle.sci_core.specs.Core.{side};
     ghost use Rattle.sci_lanes.specs.Shown.{inbound_at, me_of};
+    ghost use Rattle.sci_lanes.specs.Gathering.{HasTurns};
     ghost use Rattle.sci_lanes.specs.Telling.{IsSameNode, IsShown, SomeLineWaits};
     ghost use Rattle.sci_lanes.specs.Ends.{FitsInside, IsNextToSend, IsNextToTake, MayBeat, MayFill};
     ghost use Rattle.sci_lanes.specs.Ends.{MayFree, MayPublish, MayRead, after_event, beaten, empty_inbox};
@@ -83,6 +84,21 @@ impl LaneEnd {
             turns,
             inboxes,
         })
+    }
+
+    /// The end in parts: its seat, its node, and what it kept of each lane to it.
+    pub(crate) fn into_parts(self) -> (NodeSeat, Node, Vec<Inbox>)
+        ensures seat { result.0 ≡ self }
+        ensures node { result.1 ≡ self.part.node }
+        ensures turns { HasTurns (nodes_in self.part) self.part result.2.items }
+    {
+        let LaneEnd {
+            seat,
+            node,
+            inboxes,
+            ..
+        } = self;
+        (seat, node, inboxes)
     }
 
     /// The node. It is one of a state where a schedule leads.

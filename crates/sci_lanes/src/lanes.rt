@@ -16,10 +16,10 @@ use std::sync::Arc;
 /// machine.
 #[derive(Drop)]
 pub struct Lanes {
-    table: Arc<LaneTable>,
-    seat: Seat<(), View>,
-    extent: Extent,
-    limit: u32,
+    pub(crate) table: Arc<LaneTable>,
+    pub(crate) seat: Seat<(), View>,
+    pub(crate) extent: Extent,
+    pub(crate) limit: u32,
 }
 
 impl Model for Lanes {

@@ -4,6 +4,7 @@
 mod cell;
 mod end;
 mod event;
+mod gather;
 mod lanes;
 mod laws;
 mod rule;
@@ -14,6 +15,7 @@ mod view;
 
 pub use cell::CellId;
 pub use end::LaneEnd;
+pub use gather::FinishFault;
 pub use lanes::Lanes;
 pub use laws::words_show_one_state;
 pub use rule::LaneRule;

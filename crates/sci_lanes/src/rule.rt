@@ -3,7 +3,7 @@
 ghost use Rattle.sci_core.specs.Node.{NodeOf, no_node};
 
 use crate::view::View;
-use atomic_table::{Play, Split, Table, TableRule};
+use atomic_table::{Join, Play, Split, Table, TableRule};
 use sci_words::Extent;
 use std::alloc::Global;
 use std::marker::{Brand, PhantomData};
@@ -33,6 +33,27 @@ impl Split<View> for First {
     ghost left = { first_off };
 
     ghost right = { first_only };
+}
+
+/// A seat gives all that it has to another.
+pub(crate) struct Both;
+
+impl Join<View> for Both {
+    ghost use Rattle.sci_lanes.specs.Gathering.{both_views};
+    ghost use Rattle.sci_lanes.specs.Ends.{no_view};
+
+    ghost both = { both_views };
+
+    ghost spent = { no_view };
+}
+
+/// A load of the next word by the seat that has every node.
+pub(crate) struct Gather;
+
+impl Play<(), View> for Gather {
+    ghost use Rattle.sci_lanes.specs.Gathering.{Gathers};
+
+    ghost then = { Gathers };
 }
 
 /// A look at the first word of a cell.

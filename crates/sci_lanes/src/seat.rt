@@ -1,7 +1,7 @@
 //! A seat at the table that has one node.
 
 use crate::cell::{CellId, own_word};
-use crate::rule::{Beat, Becomes, Fill, Free, LaneTable, Look, Publish, Read};
+use crate::rule::{Beat, Becomes, Both, Fill, Free, LaneTable, Look, Publish, Read};
 use crate::view::View;
 use atomic_table::Seat;
 use sci_core::Node;
@@ -29,8 +29,9 @@ impl Model for NodeSeat {
 }
 
 impl NodeSeat {
-    ghost use Rattle.std.specs.Prelude.{◌≡◌, ◌≢◌, ◌⊎◌};
+    ghost use Rattle.std.specs.Prelude.{◌≡◌, ◌≢◌, ◌⊎◌, []};
     ghost use Rattle.std.specs.Arc.{arc_value};
+    ghost use Rattle.sci_lanes.specs.Gathering.{joined_with};
     ghost use Rattle.sci_lanes.specs.Shown.{me_of};
     ghost use Rattle.sci_lanes.specs.Telling.{IsBeating, IsFull, IsSameNode, IsSending, IsShown, IsTaking, part_of};
     ghost use Rattle.sci_lanes.specs.Ends.{IsNextToSend, IsNextToTake, IsSeated, MayFill, MayRead, beaten};
@@ -130,5 +131,17 @@ impl NodeSeat {
         let place = own_word(nodes, me);
         let shared = &self.table.shared;
         shared.fetch_add::<Beat<B>>(&mut self.seat, place, 1);
+    }
+    /// Gives the node to a seat of the same table that has read no word.
+    pub(crate) fn join(self, root: &mut Seat<(), View>)
+        requires same { root.old.table_id ≡ self.table }
+        requires unread { root.old.me.0.words ≡ [] }
+        requires none { root.old.me.1 ≡ [] }
+        ensures same { root.new.table_id ≡ root.old.table_id }
+        ensures knows { root.new.me ≡ (joined_with self.part root.old.me.0, []) }
+    {
+        let NodeSeat { table, seat } = self;
+        let shared = &table.shared;
+        shared.join_seat::<Both>(root, seat);
     }
 }

@@ -1,0 +1,120 @@
+-- Joining the ends, one after another in the order of their nodes.
+use Rattle.std.proofs.Common.{◌≡◌, ℕ, zero, suc, ◌+◌, ◌<◌, ◌≤◌, ◌⊎◌, inl, inr, List, [], ◌∷◌, ◌++◌, length, get_or, Some, sym, ap, subst, ◌∙◌, arith}
+use Rattle.std.specs.Prelude.{Vec, slice_get}
+use Rattle.std.specs.List.{remove}
+use Rattle.std.proofs.lemmas.Bool.{cases_lt}
+use Rattle.std.proofs.lemmas.List.{length_push, get_or_append_left, get_or_push}
+use Rattle.atomic_table.specs.Seated.{TableId}
+use Rattle.sci_core.specs.Node.{NodeOf, no_node}
+use Rattle.sci_lanes.specs.declared.end.Inbox.{Inbox}
+use Rattle.sci_lanes.specs.declared.view.Part.{Part}
+use Rattle.sci_lanes.specs.Shown.{me_of}
+use Rattle.sci_lanes.specs.Telling.{no_part}
+use Rattle.sci_lanes.specs.Ends.{EndOf, nodes_in}
+use Rattle.sci_lanes.specs.Gathering.{HasEnd, HasTurns, IsJoinedAt, AreJoined, AreKept, AreAll}
+
+-- ---- a list with one element less
+
+-- what is left came from the list
+from_left : {A : Type 0} (xs : List A) (p j : ℕ) (y : A) → slice_get (remove xs p) j ≡ Some y → (k : ℕ) × (slice_get xs k ≡ Some y)
+from_left [] zero j y e = cc
+from_left [] (suc p) j y e = cc
+from_left (x ∷ xs) zero j y e = (suc j, e)
+from_left (x ∷ xs) (suc p) zero y e = (zero, e)
+from_left (x ∷ xs) (suc p) (suc j) y e = let h = from_left xs p j y e in (suc h.0, h.1)
+
+-- an element of the list is the one that was taken out, or is left
+is_left : {A : Type 0} (xs : List A) (p k : ℕ) (x y : A) → slice_get xs p ≡ Some x → slice_get xs k ≡ Some y → (x ≡ y) ⊎ ((j : ℕ) × (slice_get (remove xs p) j ≡ Some y))
+is_left [] p k x y e f = cc
+is_left (z ∷ xs) zero zero x y e f = inl (some_one x y (sym e ∙ f))
+  where
+    some_one : {A : Type 0} (a b : A) → Some a ≡ Some b → a ≡ b
+    some_one a b e = cc
+is_left (z ∷ xs) zero (suc k) x y e f = inr (k, f)
+is_left (z ∷ xs) (suc p) zero x y e f = inr (zero, f)
+is_left (z ∷ xs) (suc p) (suc k) x y e f = elim (is_left xs p k x y e f) [ inl h ↦ inl h | inr h ↦ inr (suc h.0, h.1) ]
+
+one_less : {A : Type 0} (xs : List A) (p : ℕ) (x : A) → slice_get xs p ≡ Some x → length (remove xs p) + 1 ≡ length xs
+one_less [] p x e = cc
+one_less (z ∷ xs) zero x e = omega arith
+one_less (z ∷ xs) (suc p) x e = let less = one_less xs p x e in omega arith
+
+-- ---- joined so far
+
+module _ {Z : Type 0} where
+  -- the first nodes are joined, and the ends of the others are left
+  pub record AreJoining (table : TableId) (all count : ℕ) (ends left : List EndOf) (parts : List Part) (nodes : List NodeOf) (inboxes : List (Vec Inbox Z)) : Type 0 where
+    pub joined : AreJoined all count parts nodes inboxes
+    pub kept : AreKept ends left nodes
+    pub rest : length left + count ≡ all
+    pub every : (n : ℕ) → count ≤ n → n < all → HasEnd left n
+    pub own : (place : ℕ) (end : EndOf) → slice_get left place ≡ Some end → (end.table ≡ table) × (nodes_in end.part ≡ all)
+
+  pub none_joined : (table : TableId) (all : ℕ) (ends : List EndOf) (parts : List Part) (nodes : List NodeOf) (inboxes : List (Vec Inbox Z)) → parts ≡ [] → nodes ≡ [] → inboxes ≡ [] → AreAll all ends
+      → ((place : ℕ) (end : EndOf) → slice_get ends place ≡ Some end → (end.table ≡ table) × (nodes_in end.part ≡ all)) → AreJoining table all 0 ends ends parts nodes inboxes
+  none_joined table all ends parts nodes inboxes no_parts no_nodes no_boxes a own = record {
+    joined = record { parts_long = ap length no_parts; nodes_long = ap length no_nodes; inboxes_long = ap length no_boxes; each = λ n lt. absurd (omega arith) };
+    kept = λ place end is. inl (place, is);
+    rest = (let count = a.count in omega arith);
+    every = λ n le lt. a.every n lt;
+    own = own;
+  }
+
+  module _ (table : TableId) (all count : ℕ) (ends left : List EndOf) (parts : List Part) (nodes : List NodeOf) (inboxes : List (Vec Inbox Z)) (place : ℕ) (end : EndOf) (node : NodeOf) (box : Vec Inbox Z)
+      (j : AreJoining table all count ends left parts nodes inboxes) (there : slice_get left place ≡ Some end) (numbered : me_of end.part ≡ count) (node_is : node ≡ end.part.node) (turns : HasTurns (nodes_in end.part) end.part box.items) where
+    at_new : (n : ℕ) → n < count + 1 → IsJoinedAt all (parts ++ end.part ∷ []) (nodes ++ node ∷ []) (inboxes ++ box ∷ []) n
+    at_new n lt = elim (cases_lt n count) [
+      | inl less ↦ (
+          let was = j.joined.each n less in
+          let p : get_or (parts ++ end.part ∷ []) n no_part ≡ get_or parts n no_part = get_or_append_left parts (end.part ∷ []) no_part n (let long = j.joined.parts_long in omega arith) in
+          let q : get_or (nodes ++ node ∷ []) n no_node ≡ get_or nodes n no_node = get_or_append_left nodes (node ∷ []) no_node n (let long = j.joined.nodes_long in omega arith) in
+          record {
+            numbered = ap me_of p ∙ was.numbered;
+            node = q ∙ (was.node ∙ ap (λ (x : Part). x.node) (sym p));
+            boxes = λ v is. subst (λ (x : Part). HasTurns all x v.items) (sym p) (was.boxes v (is ∙ get_or_append_left inboxes (box ∷ []) v n (let long = j.joined.inboxes_long in omega arith)));
+          })
+      | inr le ↦ (
+          let same : n ≡ count = omega arith in
+          let p : get_or (parts ++ end.part ∷ []) n no_part ≡ end.part = get_or_push parts end.part no_part n (j.joined.parts_long ∙ sym same) in
+          let q : get_or (nodes ++ node ∷ []) n no_node ≡ node = get_or_push nodes node no_node n (j.joined.nodes_long ∙ sym same) in
+          record {
+            numbered = ap me_of p ∙ (numbered ∙ sym same);
+            node = q ∙ (node_is ∙ ap (λ (x : Part). x.node) (sym p));
+            boxes = λ v is. subst (λ (x : Part). HasTurns all x v.items) (sym p)
+                (subst (λ (w : Vec Inbox Z). HasTurns all end.part w.items) (sym (is ∙ get_or_push inboxes box v n (j.joined.inboxes_long ∙ sym same)))
+                (subst (λ (m : ℕ). HasTurns m end.part box.items) (j.own place end there).1 turns));
+          })
+    ]
+
+    kept_new : AreKept ends (remove left place) (nodes ++ node ∷ [])
+    kept_new k e is =
+        let long = j.joined.nodes_long in
+        let pushed : length (nodes ++ node ∷ []) ≡ length nodes + 1 = length_push nodes node in
+        elim (j.kept k e is) [
+          | inl still ↦ elim (is_left left place still.0 end e there still.1) [
+            | inl same ↦ (
+                let me : me_of e.part ≡ count = ap (λ (x : EndOf). me_of x.part) (sym same) ∙ numbered in
+                inr (omega arith, get_or_push nodes node no_node (me_of e.part) (long ∙ sym me) ∙ (node_is ∙ ap (λ (x : EndOf). x.part.node) same)))
+            | inr more ↦ inl more
+          ]
+          | inr joined ↦ inr (omega (arith, joined.0, pushed), get_or_append_left nodes (node ∷ []) no_node (me_of e.part) joined.0 ∙ joined.1)
+        ]
+
+    pub one_joined : AreJoining table all (count + 1) ends (remove left place) (parts ++ end.part ∷ []) (nodes ++ node ∷ []) (inboxes ++ box ∷ [])
+    one_joined = record {
+      joined = record {
+        parts_long = length_push parts end.part ∙ ap (λ (n : ℕ). n + 1) j.joined.parts_long;
+        nodes_long = length_push nodes node ∙ ap (λ (n : ℕ). n + 1) j.joined.nodes_long;
+        inboxes_long = length_push inboxes box ∙ ap (λ (n : ℕ). n + 1) j.joined.inboxes_long;
+        each = at_new;
+      };
+      kept = kept_new;
+      rest = (let less = one_less left place end there in let rest = j.rest in omega arith);
+      every = λ n le lt. (
+          let h = j.every n (omega arith) lt in
+          elim (is_left left place h.place end h.end there h.there) [
+            | inl same ↦ absurd (let a = numbered in let b = h.numbered in let c = ap (λ (x : EndOf). me_of x.part) same in omega arith)
+            | inr more ↦ record { place = more.0; end = h.end; there = more.1; numbered = h.numbered }
+          ]);
+      own = λ k e is. (let from = from_left left place k e is in j.own from.0 e from.1);
+    }

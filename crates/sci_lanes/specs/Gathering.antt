@@ -1,0 +1,165 @@
+-- Gathering: all ends are joined, and the state that their lanes show is read.
+use Rattle.std.specs.Prelude.{◌≡◌, ℕ, ◌+◌, ◌*◌, ◌/◌, ◌%◌, ◌<◌, ◌≤◌, ◌⊎◌, List, [], ◌∷◌, ◌++◌, length, map, slice_get, slice_index, slice_index_or, Some, Vec, vec_len, vec_capacity}
+use Rattle.std.specs.List.{AllByRecursion}
+use Rattle.std.specs.VecDeque.{deque_len, deque_capacity}
+use Rattle.atomic_table.specs.Table.{Me, Step}
+use Rattle.sci_history.specs.declared.entry.Entry.{Entry}
+use Rattle.sci_history.specs.Placed.{log_of}
+use Rattle.sci_words.specs.declared.stamped.Stamped.{Stamped}
+use Rattle.sci_packets.specs.declared.packet.Packet.{Packet}
+use Rattle.sci_packets.specs.Spelling.{IsPacket, words_of}
+use Rattle.sci_cache.specs.Cache.{Letter, letter_of}
+use Rattle.sci_core.specs.Size.{Size}
+use Rattle.sci_core.specs.Node.{NodeOf, no_node}
+use Rattle.sci_core.specs.Core.{Core, node_at, lane_at}
+use Rattle.sci_core.specs.Reached.{IsReached}
+use Rattle.sci_core.specs.Outcome.{logs_of}
+use Rattle.sci_core.specs.Sharing.{last_of}
+use Rattle.sci_lanes.specs.declared.end.Inbox.{Inbox}
+use Rattle.sci_lanes.specs.declared.gather.Room.{Room}
+use Rattle.sci_lanes.specs.declared.view.Inbound.{Inbound}
+use Rattle.sci_lanes.specs.declared.view.Outbound.{Outbound}
+use Rattle.sci_lanes.specs.declared.view.Part.{Part}
+use Rattle.sci_lanes.specs.declared.view.View.{View}
+use Rattle.sci_lanes.specs.Cells.{lane_count, receiver_of, word_count}
+use Rattle.sci_lanes.specs.Shown.{Fits, ShowsLane, Whole, nodes_of, me_of, inbound_at, IsKnown, HasRead}
+use Rattle.sci_lanes.specs.Telling.{no_part, size_in}
+use Rattle.sci_lanes.specs.Ends.{EndOf, LanesOf, inbox_at}
+
+-- ---- the ends that are given
+
+-- an end of these lanes: of their table, and of a machine of their size
+pub record IsOf (lanes : LanesOf) (end : EndOf) : Type 0 where
+  pub table : end.table ≡ lanes.table
+  pub sized : size_in end.part ≡ lanes.size
+
+-- an end has this number
+pub record HasEnd (ends : List EndOf) (n : ℕ) : Type 0 where
+  pub place : ℕ
+  pub end : EndOf
+  pub there : slice_get ends place ≡ Some end
+  pub numbered : me_of end.part ≡ n
+
+-- they are the ends of all nodes of a machine, each once
+pub record AreAll (nodes : ℕ) (ends : List EndOf) : Type 0 where
+  pub count : length ends ≡ nodes
+  pub every : (n : ℕ) → n < nodes → HasEnd ends n
+
+-- ---- what comes out
+
+-- A state where a schedule leads, whose nodes are those of the ends, with its logs and its last contents.
+pub record AreGathered (size : Size) (ends : List EndOf) (logs : List (List Entry)) (last : List Stamped) : Type 0 where
+  pub core : Core
+  pub reached : IsReached core
+  pub sized : core.size ≡ size
+  pub nodes : (place : ℕ) (end : EndOf) → slice_get ends place ≡ Some end → node_at core (me_of end.part) ≡ end.part.node
+  pub logs_are : logs ≡ logs_of core
+  pub last_are : last ≡ last_of core
+
+-- each end's log is its node's
+abbrev pub HaveLogs : List EndOf → List (List Entry) → Type 0
+HaveLogs ends logs = (place : ℕ) (end : EndOf) → slice_get ends place ≡ Some end → log_of logs (me_of end.part) ≡ end.part.node.log
+
+-- ---- steps
+
+-- what two seats know together
+abbrev pub both_views : View → View → View
+both_views view other = record { parts = view.parts ++ other.parts; words = [] }
+
+-- a part joins those that a seat has
+abbrev pub joined_with : Part → View → View
+joined_with part view = record { parts = view.parts ++ part ∷ []; words = [] }
+
+-- one word more was read
+abbrev pub read_more : ℕ → View → View
+read_more word view = record view { words = view.words ++ word ∷ [] }
+
+-- a state that some words show, the first of which a seat has read that has each node
+pub record IsReadOff (view : View) : Type 0 where
+  pub whole : Whole
+  pub seat : ℕ
+  pub words : List ℕ
+  pub reached : IsReached whole.core
+  pub long : length words ≡ word_count (nodes_of whole)
+  pub lanes : (lane : ℕ) → lane < lane_count (nodes_of whole) → ShowsLane words lane (lane_at whole.core lane) (whole.outbound lane) (whole.inbound lane)
+  pub known : AllByRecursion (IsKnown whole seat) view.parts
+  pub read : HasRead whole seat words view.words
+
+pub record GathersFrom (view : View) (word : ℕ) (after : Me (Unit {0}) View) : Type 0 where
+  pub more : after ≡ (read_more word view, [])
+  pub read : IsReadOff after.0
+
+abbrev pub Gathers : Step (Unit {0}) → Me (Unit {0}) View → ℕ → Me (Unit {0}) View → Type 0
+Gathers s before word after = GathersFrom before.0 word after
+
+-- ---- inside
+
+-- each node of a machine of this size is among the parts
+abbrev pub HasNodes : ℕ → List Part → Type 0
+HasNodes nodes parts = (n : ℕ) → n < nodes → (place : ℕ) × (part : Part) × (slice_get parts place ≡ Some part) × (me_of part ≡ n)
+
+-- for each lane to a node, what is kept of it has the number of the cell to take from
+pub record HasTurns (nodes : ℕ) (part : Part) (boxes : List Inbox) : Type 0 where
+  pub long : length boxes ≡ 2 * nodes
+  pub turns : (lane : ℕ) → lane < lane_count nodes → receiver_of nodes lane ≡ me_of part → (inbox_at boxes (lane / nodes)).turn ≡ (inbound_at part lane).taken % 4
+
+module _ {Z : Type 0} where
+  -- the node with this number, among those that were joined
+  pub record IsJoinedAt (all : ℕ) (parts : List Part) (nodes : List NodeOf) (inboxes : List (Vec Inbox Z)) (n : ℕ) : Type 0 where
+    pub numbered : me_of (slice_index_or parts n no_part) ≡ n
+    pub node : slice_index_or nodes n no_node ≡ (slice_index_or parts n no_part).node
+    pub boxes : (v : Vec Inbox Z) → v ≡ slice_index_or inboxes n v → HasTurns all (slice_index_or parts n no_part) v.items
+
+  -- the nodes below a number were joined, in their order
+  pub record AreJoined (all count : ℕ) (parts : List Part) (nodes : List NodeOf) (inboxes : List (Vec Inbox Z)) : Type 0 where
+    pub parts_long : length parts ≡ count
+    pub nodes_long : length nodes ≡ count
+    pub inboxes_long : length inboxes ≡ count
+    pub each : (n : ℕ) → n < count → IsJoinedAt all parts nodes inboxes n
+
+-- each end that was given is still there, or its node was joined
+abbrev pub AreKept : List EndOf → List EndOf → List NodeOf → Type 0
+AreKept ends left nodes = (place : ℕ) (end : EndOf) → slice_get ends place ≡ Some end → ((k : ℕ) × (slice_get left k ≡ Some end)) ⊎ ((me_of end.part < length nodes) × (slice_index_or nodes (me_of end.part) no_node ≡ end.part.node))
+
+-- a vector with nothing in it that has room for so many
+abbrev pub HasRoom : {X Z : Type 0} → ℕ → Vec X Z → Type 0
+HasRoom count v = (v.items ≡ []) × (vec_len v ≡ 0) × (count ≤ vec_capacity v)
+
+-- there are no packets yet, and there is room for those of a lane
+abbrev pub HasFour : List Packet → ℕ → ℕ → Type 0
+HasFour items count capacity = (items ≡ []) × (count ≡ 0) × (4 ≤ capacity)
+
+-- the words of a packet begin at this place
+pub record IsPacketAt (words : List ℕ) (place : ℕ) (packet : Packet) : Type 0 where
+  pub good : IsPacket packet
+  pub within : place + length (words_of packet) ≤ length words
+  pub same : (j : ℕ) → j < length (words_of packet) → slice_index words (place + j) ≡ slice_index (words_of packet) j
+
+-- memory for a gathering, in which nothing is yet
+pub record IsFresh (count : ℕ) (room : Room) : Type 0 where
+  pub nodes : HasRoom count room.nodes
+  pub inboxes : HasRoom count room.inboxes
+  pub words : HasRoom (word_count count) room.words
+  pub lanes : HasRoom (lane_count count) room.lanes
+  pub packets_long : length room.packets.items ≡ lane_count count
+  pub packets : AllByRecursion (λ q. HasFour q.items (deque_len q) (deque_capacity q)) room.packets.items
+
+-- sixteen logs: that of an end of each node, and empty ones for the others
+pub record AreLogged (nodes : ℕ) (ends : List EndOf) (logs : List (List Entry)) : Type 0 where
+  pub sixteen : length logs ≡ 16
+  pub here : (n : ℕ) → n < nodes → (place : ℕ) × (end : EndOf) × (slice_get ends place ≡ Some end) × (me_of end.part ≡ n) × (log_of logs n ≡ end.part.node.log)
+  pub none : (n : ℕ) → nodes ≤ n → log_of logs n ≡ []
+
+module _ {Z : Type 0} where
+  -- in the inbox of a lane the number of the cell to take from is this one
+  abbrev pub TakesFrom : ℕ → List (Vec Inbox Z) → ℕ → ℕ → Type 0
+  TakesFrom nodes inboxes lane number = (v : Vec Inbox Z) → v ≡ slice_index_or inboxes (lane % nodes) v → (inbox_at v.items (lane / nodes)).turn ≡ number
+
+  -- each node has an inbox for each lane to it
+  abbrev pub HaveBoxes : ℕ → List (Vec Inbox Z) → Type 0
+  HaveBoxes nodes inboxes = (n : ℕ) (v : Vec Inbox Z) → n < nodes → v ≡ slice_index_or inboxes n v → length v.items ≡ 2 * nodes
+
+  -- the packets of the first lanes, whatever the words show there
+  pub record AreLanes (nodes : ℕ) (words : List ℕ) (inboxes : List (Vec Inbox Z)) (count : ℕ) (lanes : List (List Letter)) : Type 0 where
+    pub long : length lanes ≡ count
+    pub each : (lane : ℕ) (packets : List Packet) (o : Outbound) (i : Inbound) → lane < count → Fits words lane packets o i → TakesFrom nodes inboxes lane (i.taken % 4) → slice_index_or lanes lane [] ≡ map letter_of packets

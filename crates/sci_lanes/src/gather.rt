@@ -1,0 +1,309 @@
+//! Gathering: all ends are joined, and the state that their lanes show is read.
+
+use crate::cell::{CELL_WORDS, own_word};
+use crate::end::{Inbox, LaneEnd};
+use crate::lanes::Lanes;
+use crate::rule::{Gather, LaneTable};
+use crate::view::View;
+use atomic_table::Seat;
+use sci_core::{Lane, Machine, Node, push_log};
+use sci_history::{Last, Logs};
+use sci_packets::{Packet, from_words};
+use sci_words::LANE_CELLS;
+use std::alloc::{AllocError, Global};
+use std::collections::VecDeque;
+
+/// Why the ends can't be gathered.
+#[derive(Clone, Copy, Debug, PartialEq, Eq)]
+pub enum FinishFault {
+    /// They are not the ends of all nodes, each once.
+    Missing,
+    /// Memory was refused.
+    Memory,
+}
+
+impl Lanes {
+    ghost use Rattle.std.specs.Prelude.{◌≡◌, ℕ, Some, IfErr, IfOk, slice_get};
+    ghost use Rattle.sci_history.specs.Lawful.{Lawful};
+    ghost use Rattle.sci_history.specs.Sequential.{IsSequentiallyConsistent};
+    ghost use Rattle.sci_lanes.specs.declared.gather.FinishFault.TheVariants.{Memory, Missing};
+    ghost use Rattle.sci_lanes.specs.Ends.{EndOf};
+    ghost use Rattle.sci_lanes.specs.Gathering.{AreAll, AreGathered, AreLogged, HaveLogs, IsFresh, IsOf};
+
+    /// Gives the logs of all nodes, and the last contents of each line, in the state that the table shows. The ends may
+    /// come in any order, with packets in their lanes. The caller sees to it that they are ends of these lanes.
+    ///
+    /// Refused with the first of these, and then all comes back as it was:
+    ///
+    /// - Missing if the ends are not those of all nodes, each once.
+    /// - Memory if memory is refused.
+    pub fn gather(
+        self,
+        alloc: Global,
+        ends: Vec<LaneEnd>,
+    ) -> Result<(Logs, Last), (FinishFault, Lanes, Vec<LaneEnd>)>
+        requires own { (place : ℕ) (end : EndOf) → slice_get ends.items place ≡ Some end →
+            IsOf self end }
+        ensures gathered { IfOk result
+            (λ done. AreGathered self.size ends.items done.0 done.1) }
+        ensures all { IfOk result (λ _. AreAll self.size.nodes ends.items) }
+        ensures logs { IfOk result (λ done. HaveLogs ends.items done.0) }
+        ensures lawful { IfOk result (λ done. Lawful done.0 done.1) }
+        ensures consistent { IfOk result (λ done. IsSequentiallyConsistent done.0 done.1) }
+        ensures missing { IfErr result (λ back. back.0 ≡ Missing → ¬ AreAll self.size.nodes ends.items) }
+        ensures memory { IfErr result (λ back. back.0 ≡ Memory → AreAll self.size.nodes ends.items) }
+        ensures lanes { IfErr result (λ back. back.1 ≡ self) }
+        ensures ends { IfErr result (λ back. back.2.items ≡ ends.items) }
+    {
+        if !are_all(&ends, self.extent.nodes) {
+            return Err((FinishFault::Missing, self, ends));
+        }
+        match Room::new(alloc, self.extent.nodes, &ends) {
+            Ok(room) => Ok(self.read(ends, room)),
+            Err(_) => Err((FinishFault::Memory, self, ends)),
+        }
+    }
+
+    /// Joins the ends, and reads the state that the table shows.
+    fn read(self, ends: Vec<LaneEnd>, room: Room) -> (Logs, Last)
+        requires own { (place : ℕ) (end : EndOf) → slice_get ends.items place ≡ Some end →
+            IsOf self end }
+        requires all { AreAll self.size.nodes ends.items }
+        requires fresh { IsFresh self.size.nodes room }
+        requires logs { AreLogged self.size.nodes ends.items room.logs }
+        ensures { AreGathered self.size ends.items result.0 result.1 }
+    {
+        let Lanes {
+            table,
+            mut seat,
+            extent,
+            limit,
+        } = self;
+        let Room {
+            logs,
+            mut nodes,
+            mut inboxes,
+            mut words,
+            packets,
+            mut lanes,
+        } = room;
+        join_all(&mut seat, ends, &mut nodes, &mut inboxes, extent.nodes);
+        read_words(&table, &mut seat, &mut words, extent.nodes);
+        read_lanes(&mut lanes, packets, &words, &inboxes, extent.nodes);
+        let machine = Machine::of_parts(extent, limit, nodes, lanes);
+        (logs, machine.last())
+    }
+}
+
+ghost use Rattle.std.specs.Prelude.{◌≡◌, ◌≢◌, ℕ, ◌+◌, ◌*◌, ◌%◌, ◌<◌, ◌≤◌, true, false, [], ◌∷◌, ◌++◌, List, length, map, None, Some, IfOk, IfSome, slice_get, slice_index};
+ghost use Rattle.std.specs.List.{AllByRecursion};
+ghost use Rattle.std.specs.VecDeque.{deque_capacity, deque_len};
+ghost use Rattle.sci_packets.specs.declared.packet.Packet.{Packet};
+ghost use Rattle.sci_cache.specs.Cache.{letter_of};
+ghost use Rattle.sci_core.specs.Size.{size_of};
+ghost use Rattle.sci_lanes.specs.declared.view.Inbound.{Inbound};
+ghost use Rattle.sci_lanes.specs.declared.view.Outbound.{Outbound};
+ghost use Rattle.sci_lanes.specs.Cells.{lane_count, word_count};
+ghost use Rattle.sci_lanes.specs.Shown.{Fits, me_of};
+ghost use Rattle.sci_lanes.specs.Ends.{EndOf, no_view, nodes_in};
+ghost use Rattle.sci_lanes.specs.Gathering.{AreAll, AreJoined, AreKept, AreLanes, AreLogged, HasEnd};
+ghost use Rattle.sci_lanes.specs.Gathering.{HasFour, HasNodes, HasRoom, HaveBoxes, IsFresh, IsPacketAt, IsReadOff};
+
+/// Memory for a gathering, all of it made before the first end is joined.
+struct Room {
+    /// The logs of all nodes.
+    logs: Logs,
+    nodes: Vec<Node>,
+    /// What each node keeps of the lanes to it.
+    inboxes: Vec<Vec<Inbox>>,
+    words: Vec<u64>,
+    /// The packets of each lane.
+    packets: Vec<VecDeque<Packet>>,
+    lanes: Vec<Lane>,
+}
+
+impl Room {
+    /// Memory for the gathering of these ends, which are those of all nodes, with their logs.
+    fn new(alloc: Global, nodes: u8, ends: &[LaneEnd]) -> Result<Room, AllocError>
+        requires few { nodes ≤ 16 }
+        requires all { AreAll nodes ends.now }
+        ensures fresh { IfOk result (IsFresh nodes) }
+        ensures logs { IfOk result (λ room. AreLogged nodes ends.now room.logs) }
+    {
+        let count = usize::from(nodes);
+        let lane_count = 2 * count * count;
+        let mut packets = Vec::with_capacity(alloc, lane_count)?;
+        for _lane in 0..lane_count {
+            packets.push_reserved(VecDeque::with_capacity(alloc, usize::from(LANE_CELLS))?);
+        }
+        Ok(Room {
+            logs: logs_of(alloc, nodes, ends)?,
+            nodes: Vec::with_capacity(alloc, count)?,
+            inboxes: Vec::with_capacity(alloc, count)?,
+            words: Vec::with_capacity(alloc, own_word(nodes, nodes))?,
+            packets,
+            lanes: Vec::with_capacity(alloc, lane_count)?,
+        })
+    }
+}
+
+/// The logs of these ends, which are those of all nodes. Refused if memory is.
+fn logs_of(alloc: Global, nodes: u8, ends: &[LaneEnd]) -> Result<Logs, AllocError>
+    requires few { nodes ≤ 16 }
+    requires all { AreAll nodes ends.now }
+    ensures { IfOk result (AreLogged nodes ends.now) }
+{
+    let mut logs = Logs::new(alloc);
+    for n in 0..nodes {
+        let Some(place) = place_of(ends, n) else {
+            unreachable!()
+        };
+        push_log(&mut logs, n, ends[place].node().log())?;
+    }
+    Ok(logs)
+}
+
+/// Where the end of a node is.
+fn place_of(ends: &[LaneEnd], n: u8) -> Option<usize>
+    ensures some { IfSome result (λ place. (end : EndOf) × (slice_get ends.now place ≡ Some end)
+        × (me_of end.part ≡ n)) }
+    ensures none { result ≡ None → ¬ HasEnd ends.now n }
+{
+    for (place, end) in ends.iter().enumerate() {
+        if end.me() == n {
+            return Some(place);
+        }
+    }
+    None
+}
+
+/// Whether these are the ends of all nodes, each once.
+fn are_all(ends: &[LaneEnd], nodes: u8) -> bool
+    ensures all { result ≡ true → AreAll nodes ends.now }
+    ensures not { result ≡ false → ¬ AreAll nodes ends.now }
+{
+    for n in 0..nodes {
+        if place_of(ends, n).is_none() {
+            return false;
+        }
+    }
+    ends.len() == usize::from(nodes)
+}
+
+/// Joins the ends to a seat that has no node, in the order of their nodes, and keeps their nodes and what they kept of
+/// the lanes to them.
+fn join_all(
+    seat: &mut Seat<(), View>,
+    mut ends: Vec<LaneEnd>,
+    nodes: &mut Vec<Node>,
+    inboxes: &mut Vec<Vec<Inbox>>,
+    count: u8,
+)
+    requires own { (place : ℕ) (end : EndOf) → slice_get ends.items place ≡ Some end →
+        (end.table ≡ seat.old.table_id) × (nodes_in end.part ≡ count) }
+    requires all { AreAll count ends.items }
+    requires spent { seat.old.me ≡ (no_view, []) }
+    requires nodes { HasRoom count nodes.old }
+    requires inboxes { HasRoom count inboxes.old }
+    ensures same { seat.new.table_id ≡ seat.old.table_id }
+    ensures knows { seat.new.me ≡ (record { parts = seat.new.me.0.parts; words = [] }, []) }
+    ensures joined { AreJoined count count seat.new.me.0.parts nodes.new.items
+        inboxes.new.items }
+    ensures kept { AreKept ends.items [] nodes.new.items }
+{
+    for n in 0..count {
+        let Some(place) = place_of(&ends, n) else {
+            unreachable!()
+        };
+        let (part, node, inbox) = ends.remove(place).into_parts();
+        part.join(seat);
+        nodes.push_reserved(node);
+        inboxes.push_reserved(inbox);
+    }
+}
+
+/// Reads all words of the table with a seat that has every node.
+fn read_words(table: &LaneTable, seat: &mut Seat<(), View>, words: &mut Vec<u64>, nodes: u8)
+    requires some { 0 < nodes }
+    requires sized { (size_of table.now.shared.key.0 table.now.shared.key.1).nodes ≡ nodes }
+    requires long { table.now.shared.table_id.words ≡ word_count nodes }
+    requires same { seat.old.table_id ≡ table.now.shared.table_id }
+    requires every { HasNodes nodes seat.old.me.0.parts }
+    requires unread { seat.old.me ≡ (record { parts = seat.old.me.0.parts; words = [] }, []) }
+    requires words { HasRoom (word_count nodes) words.old }
+    ensures read { IsReadOff (record { parts = seat.old.me.0.parts; words = words.new.items }) }
+    ensures long { length words.new.items ≡ word_count nodes }
+{
+    for place in 0..own_word(nodes, nodes) {
+        words.push_reserved(table.shared.load::<Gather>(seat, place));
+    }
+}
+
+/// Reads the packets of all lanes off the words of the table.
+fn read_lanes(
+    lanes: &mut Vec<Lane>,
+    packets: Vec<VecDeque<Packet>>,
+    words: &[u64],
+    inboxes: &[Vec<Inbox>],
+    nodes: u8,
+)
+    requires some { 0 < nodes }
+    requires words { length words.now ≡ word_count nodes }
+    requires inboxes { length inboxes.now ≡ nodes }
+    requires long { length packets.items ≡ lane_count nodes }
+    requires packets { AllByRecursion (λ q. HasFour q.items (deque_len q) (deque_capacity q))
+        packets.items }
+    requires lanes { HasRoom (lane_count nodes) lanes.old }
+    requires boxes { HaveBoxes nodes inboxes.now }
+    ensures { AreLanes nodes words.now inboxes.now (lane_count nodes) lanes.new.items }
+{
+    let nodes = usize::from(nodes);
+    for room in packets {
+        let lane = lanes.len();
+        let turn = inboxes[lane % nodes][lane / nodes].turn;
+        lanes.push_reserved(read_lane(words, lane, turn, room));
+    }
+}
+
+/// The packets of a lane, oldest first, by its words and the number of the cell to take from.
+fn read_lane(words: &[u64], lane: usize, turn: u8, mut packets: VecDeque<Packet>) -> Lane
+    requires inside { (lane + 1) * 44 ≤ length words.now }
+    requires room { HasFour packets.items (deque_len packets) (deque_capacity packets) }
+    ensures { (shown : List Packet) (o : Outbound) (i : Inbound) → Fits words.now lane shown o i →
+        turn ≡ i.taken % 4 → result ≡ map letter_of shown }
+{
+    let cells = usize::from(LANE_CELLS);
+    for passed in 0..LANE_CELLS {
+        let number = usize::from(turn % LANE_CELLS + passed) % cells;
+        let place = (lane * cells + number) * CELL_WORDS;
+        if !read_cell(&mut packets, words, place) {
+            break;
+        }
+    }
+    Lane::of_packets(packets)
+}
+
+/// Ends a deque with the packet whose words begin at a place, and tells whether there is one. Words that are of no packet
+/// have none, too.
+fn read_cell(packets: &mut VecDeque<Packet>, words: &[u64], place: usize) -> bool
+    requires inside { place < length words.now }
+    requires room { deque_len packets.old < deque_capacity packets.old }
+    ensures empty { slice_index words.now place ≡ 0 →
+        (result ≡ false) × (packets.new ≡ packets.old) }
+    ensures full { (packet : Packet) → slice_index words.now place ≢ 0 →
+        IsPacketAt words.now place packet →
+        (result ≡ true) × (packets.new.items ≡ packets.old.items ++ packet ∷ []) }
+    ensures len { deque_len packets.new ≤ deque_len packets.old + 1 }
+    ensures capacity { deque_capacity packets.new ≡ deque_capacity packets.old }
+{
+    if words[place] == 0 {
+        return false;
+    }
+    match from_words(&words[place..]) {
+        Ok((packet, _)) => {
+            packets.push_back_reserved(packet);
+            true
+        }
+        Err(_) => false,
+    }
+}
