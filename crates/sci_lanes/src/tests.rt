@@ -1,6 +1,12 @@
-use crate::{LaneEnd, Lanes};
+ghost use Rattle.std.specs.Prelude.{◌≡◌, ℕ, Some, slice_get};
+ghost use Rattle.sci_lanes.specs.Ends.{EndOf};
+ghost use Rattle.sci_lanes.specs.Gathering.{IsOf};
+
+use crate::{FinishFault, LaneEnd, Lanes};
 use sci_core::LaneKind;
+use sci_history::{Last, Logs};
 use sci_words::{Act, Event, Extent, Op};
+use std::alloc::Global;
 use std::test::*;
 
 /// An error unless the next cells of a node's lanes of a kind, to and from another, are empty.
@@ -56,4 +62,55 @@ fn a_machine_opens(rt: HostRuntime) -> Result<(), Fail> {
         issues(end, op)?;
     }
     Ok(())
+}
+
+/// An error unless all logs are empty, and each of two lines is at version 0.
+fn is_untouched(logs: &Logs, last: &Last) -> Result<(), Fail> {
+    for n in 0..logs.nodes() {
+        if !logs.of(n).is_empty() {
+            return Err(Fail::new(format_args!("an entry of node {n}")));
+        }
+    }
+    if last.lines() != 2 || last.get(0).version != 0 || last.get(1).version != 0 {
+        return Err(Fail::from("a line that was written"));
+    }
+    Ok(())
+}
+
+/// An error unless the ends are gathered, the second time if memory was refused, and nothing was done.
+fn gathers(alloc: Global, lanes: Lanes, ends: Vec<LaneEnd>) -> Result<(), Fail>
+    requires own { (place : ℕ) (end : EndOf) → slice_get ends.items place ≡ Some end →
+        IsOf lanes end }
+{
+    let (lanes, ends) = match lanes.gather(alloc, ends) {
+        Ok((logs, last)) => return is_untouched(&logs, &last),
+        Err((FinishFault::Missing, _, _)) => return Err(Fail::from("an end is missing")),
+        Err((FinishFault::Memory, lanes, ends)) => (lanes, ends),
+    };
+    match lanes.gather(alloc, ends) {
+        Ok((logs, last)) => is_untouched(&logs, &last),
+        Err(_) => Err(Fail::from("refused again")),
+    }
+}
+
+/// Ends come back if one of them is missing, or memory is refused: with every allocation granted the first gathering is
+/// refused for the missing one alone. With it they are gathered.
+#[test]
+fn ends_are_gathered_or_come_back(rt: HostRuntime) -> Result<(), Fail> {
+    let extent = Extent::new(3, 2, 1).ok_or("an extent")?;
+    let Ok((lanes, mut ends)) = Lanes::new(rt.alloc(), extent, 1) else {
+        return Ok(());
+    };
+    let Some(end) = ends.pop() else {
+        return Err(Fail::from("no end"));
+    };
+    let (lanes, mut ends) = match lanes.gather(rt.alloc(), ends) {
+        Err((FinishFault::Missing, lanes, ends)) => (lanes, ends),
+        _ => return Err(Fail::from("gathered without an end")),
+    };
+    assert_eq!(rt; ends.len(), 2);
+    if ends.push(end).is_err() {
+        return Err(Fail::from("no room for the end that was taken out"));
+    }
+    gathers(rt.alloc(), lanes, ends)
 }
