@@ -59,26 +59,3 @@ can_reply core n answer lt waits =
 
 pub can_ask : (core : Core) (n line : ℕ) (kind : AskKind) → n < core.size.nodes → IsSome (node_asking (node_at core n) line kind) → IsEnabled core (Ask n line kind)
 can_ask core n line kind lt some = subst IsSome (sym ((steps_by_sides core n lt).ask line kind)) (there (λ (s : NodeOf × Letter). sent_by core n Requests s.0 s.1) (node_asking (node_at core n) line kind) some)
-
--- ---- what the policy decides
-
-refused_if : (keep refuse : Bool) → (if keep then decision.Keep else if refuse then decision.Refuse else decision.Serve) ≡ decision.Refuse → refuse ≡ true
-refused_if true refuse e = cc
-refused_if false true e = refl
-refused_if false false e = cc
-
-cread_alone : (b : Body) → is_cread b ≡ true → is_setback b ≡ false
-cread_alone body.Cread e = refl
-cread_alone (body.Setback w) e = cc
-cread_alone _ e = refl
-
--- what is refused is no Setback
-pub refuses_no_setback : (policy : PolicyOf) (node : NodeOf) (request : Letter) → decided policy node request ≡ decision.Refuse → is_setback request.body ≡ false
-refuses_no_setback policy node request e =
-    let refused : refused_by policy node request ≡ true = refused_if (kept_by policy node request) (refused_by policy node request) e in
-    cread_alone request.body (and_parts (is_cread request.body) _ refused).0
-
--- what isn't there isn't seen
-pub none_seen : {A B : Type 0} (seen : Option A → Option B) → seen None ≡ None → (o : Option A) (waiting : Option B) → seen o ≡ waiting → is_some o ≡ false → waiting ≡ None
-none_seen seen blind None waiting e none = sym e ∙ blind
-none_seen seen blind (Some x) waiting e none = cc

@@ -5,28 +5,8 @@ use Rattle.std.proofs.lemmas.Bool.{and_parts, eqb-true, not-true}
 use Rattle.sci_core.specs.Core.{Core, node_at}
 use Rattle.sci_policy.specs.declared.progress.Progress.{Progress}
 use Rattle.sci_policy.specs.Policy.{PolicyOf, next_policy, next_wanted, turned}
-use Rattle.sci_policy.specs.Turn.{is_idle}
+use Rattle.sci_policy.specs.Turn.{MadeNothing, is_idle}
 use Rattle.sci_locked.specs.Idle.{AsksNothing, HasNoAnswers, IsHeldUp, IsIdleTurn, IsReplyHeldUp, TakesNone}
-use Rattle.sci_locked.specs.Moves.{MadeNothing}
-
-no_value : {A : Type 0} (o : Option A) → is_none o ≡ true → o ≡ None
-no_value None e = refl
-no_value (Some x) e = cc
-
-pub idle_tells : (progress : Progress) → is_idle progress ≡ true → MadeNothing progress × (progress.ready ≡ None)
-idle_tells progress idle =
-    let both = and_parts _ _ idle in
-    let taken = and_parts _ _ both.0 in
-    let others = and_parts _ _ both.1 in
-    let sent = and_parts _ _ others.0 in (
-      record {
-        accepted = eqb-true progress.accepted 0 taken.0;
-        served = eqb-true progress.served 0 taken.1;
-        replied = not-true progress.replied sent.0;
-        asked = not-true progress.asked sent.1;
-      },
-      no_value progress.ready others.1,
-    )
 
 -- what each step of the turn has found, of the same state
 pub idle_turn : (n : ℕ) (before begun policy after : PolicyOf) (old replied accepted taken new : Core) (told : Progress) → begun ≡ turned before → replied ≡ old → accepted ≡ replied → taken ≡ accepted → policy ≡ begun

@@ -33,7 +33,8 @@ use Rattle.sci_policy.proofs.Wants.{wanted_enabled}
 use Rattle.sci_locked.specs.Idle.{HasNothingToDo, IsFull, IsHeldUp}
 use Rattle.sci_locked.specs.Moves.{decided_event, taking_event}
 use Rattle.sci_locked.proofs.Enabled.{no_front, some_front}
-use Rattle.sci_locked.proofs.Targets.{asked_target, waiting_target}
+use Rattle.sci_policy.proofs.Deciding.{keeps_no_own}
+use Rattle.sci_policy.proofs.Targets.{asked_target, waiting_target}
 
 -- ---- a machine of one node
 
@@ -56,21 +57,8 @@ keep_of Keep from n e = refl
 keep_of Refuse from n e = cc
 keep_of Serve from n e = cc
 
-kept_if : (keep refuse : Bool) → (if keep then Keep else if refuse then Refuse else Serve) ≡ Keep → keep ≡ true
-kept_if true refuse e = refl
-kept_if false true e = cc
-kept_if false false e = cc
-
-not_true : (b : Bool) → not b ≡ true → b ≡ true → ⊥
-not_true true e f = cc
-not_true false e f = cc
-
--- a node's own requests are never kept
 own_taken : (policy : PolicyOf) (node : NodeOf) (request : Letter) (n : ℕ) → request.source ≡ node.cache.me → decided_event (decided policy node request) n n ≡ None → ⊥
-own_taken policy node request n own none =
-    let kept : kept_by policy node request ≡ true = kept_if (kept_by policy node request) (refused_by policy node request) (keep_of (decided policy node request) n n none) in
-    let other = (and_parts _ (not (request.source == node.cache.me)) (and_parts _ _ kept).0).1 in
-    not_true (request.source == node.cache.me) other (eq-eqb request.source node.cache.me own)
+own_taken policy node request n own none = keeps_no_own policy node request own (keep_of (decided policy node request) n n none)
 
 taken_if : (policy : PolicyOf) (node : NodeOf) (n : ℕ) (front : Option Letter) → node.waiting ≡ None → IfSome front (λ request. request.source ≡ node.cache.me) → taking_event policy node n n front ≡ None → front ≡ None
 taken_if policy node n None free own none = refl

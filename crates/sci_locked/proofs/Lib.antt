@@ -4,7 +4,6 @@ pub mod Rooms
 pub mod Enabled
 pub mod Taking
 pub mod Asking
-pub mod Targets
 pub mod Idling
 pub mod IdleTurns
 pub mod Circles

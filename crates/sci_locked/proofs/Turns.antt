@@ -8,8 +8,9 @@ use Rattle.sci_core.specs.Core.{Core, lane_at, node_at, stepping}
 use Rattle.sci_core.specs.Draining.{one_if}
 use Rattle.sci_policy.specs.declared.progress.Progress.{Progress}
 use Rattle.sci_policy.specs.Policy.{PolicyOf, next_policy}
-use Rattle.sci_policy.specs.Turn.{Counts, IsTurnEvent, counted, is_accept, is_service}
-use Rattle.sci_locked.specs.Moves.{Decides, GoesOn, HasEnded, HasGone, IsMade, IsPartOfTurn, IsStep, IsTurn, KeepsRoom, Leads, MadeNothing}
+use Rattle.sci_policy.specs.Turn.{Counts, IsTurnEvent, MadeNothing, counted, is_accept, is_service}
+use Rattle.sci_policy.proofs.Telling.{one, tells_something}
+use Rattle.sci_locked.specs.Moves.{Decides, GoesOn, HasEnded, HasGone, IsMade, IsPartOfTurn, IsStep, IsTurn, KeepsRoom, Leads}
 
 leads_more : (n : ℕ) (before : PolicyOf) (old : Core) (events : List Event) (policy : PolicyOf) (mid : Core) (e : Event) (after : PolicyOf) (new : Core)
     → Leads n before old events policy mid → stepping mid e ≡ Some new → Decides policy mid n e after → Leads n before old (events ++ e ∷ []) after new
@@ -66,24 +67,6 @@ goes_then n before between after old mid new first then_ tells one two = record 
       let earlier = one.still later.1.1 in
       (later.0 ∙ earlier.0, (later.1.0 ∙ earlier.1.0, earlier.1.1)));
 }
-
-one : (b : Bool) → one_if b ≤ 1
-one true = omega arith
-one false = omega arith
-
-or_true : (b : Bool) → (b || true) ≡ false → ⊥
-or_true true e = cc
-or_true false e = cc
-
--- what is told of an event isn't nothing
-pub tells_something : (n : ℕ) (e : Event) (told tells : Progress) → IsTurnEvent n e → tells ≡ counted told e → MadeNothing tells → ⊥
-tells_something n (event.Issue m op) told tells own is nothing = let kind = own.kind in cc
-tells_something n (event.Perform m line) told tells own is nothing = let kind = own.kind in cc
-tells_something n (event.Ask m line kind) told tells own is nothing = or_true told.asked (sym (ap (λ (p : Progress). p.asked) is) ∙ nothing.asked)
-tells_something n (event.Serve from m) told tells own is nothing = let more : tells.served ≡ told.served + 1 = ap (λ (p : Progress). p.served) is in let none = nothing.served in omega arith
-tells_something n (event.Refuse from m) told tells own is nothing = let more : tells.served ≡ told.served + 1 = ap (λ (p : Progress). p.served) is in let none = nothing.served in omega arith
-tells_something n (event.Reply m) told tells own is nothing = or_true told.replied (sym (ap (λ (p : Progress). p.replied) is) ∙ nothing.replied)
-tells_something n (event.Accept from m) told tells own is nothing = let more : tells.accepted ≡ told.accepted + 1 = ap (λ (p : Progress). p.accepted) is in let none = nothing.accepted in omega arith
 
 -- an event of the node that is made and counted
 pub step_made : (old new : Core) (told tells : Progress) (e : Event) → KeepsRoom old new → IsMade old e new told tells → IsStep 1 old new told tells

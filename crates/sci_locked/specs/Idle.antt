@@ -9,7 +9,8 @@ use Rattle.sci_policy.specs.declared.progress.Progress.{Progress}
 use Rattle.sci_policy.specs.declared.want.Want.{Want}
 use Rattle.sci_policy.specs.declared.want.Want.TheVariants.{Perform, Ask}
 use Rattle.sci_policy.specs.Policy.{PolicyOf, next_policy, next_wanted, turned}
-use Rattle.sci_locked.specs.Moves.{MadeNothing, taken_next}
+use Rattle.sci_policy.specs.Turn.{MadeNothing}
+use Rattle.sci_locked.specs.Moves.{taken_next}
 
 -- a lane has no room for one packet more
 abbrev pub IsFull : Core → LaneKind → ℕ → ℕ → Type 0

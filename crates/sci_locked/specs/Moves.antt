@@ -1,5 +1,5 @@
 -- What a node's turn does to the machine, and to the node's policy.
-use Rattle.std.specs.Prelude.{◌≡◌, ◌≤◌, ◌<◌, ◌+◌, ◌⊎◌, ℕ, nat_lt, Bool, false, List, [], ◌∷◌, ◌++◌, length, slice_get, if◌then◌else◌, Option, Some, None, IfSome, IsSome, is_some}
+use Rattle.std.specs.Prelude.{◌≡◌, ◌≤◌, ◌<◌, ◌+◌, ◌⊎◌, ℕ, nat_lt, Bool, false, List, [], ◌∷◌, ◌++◌, length, slice_get, if◌then◌else◌, Option, Some, None, is_some}
 use Rattle.std.specs.List.{AllByRecursion}
 use Rattle.sci_words.specs.declared.limits.TheConstants.{LANE_CELLS}
 use Rattle.sci_words.specs.declared.event.Event.{Event}
@@ -7,13 +7,13 @@ use Rattle.sci_words.specs.declared.event.Event.TheVariants as event
 use Rattle.sci_cache.specs.Cache.{Letter}
 use Rattle.sci_core.specs.declared.lane.LaneKind.TheVariants.{Requests}
 use Rattle.sci_core.specs.Core.{Core, lane_at, lane_of, node_at, stepping}
-use Rattle.sci_core.specs.Node.{NodeOf, node_performing}
+use Rattle.sci_core.specs.Node.{NodeOf}
 use Rattle.sci_policy.specs.declared.decision.Decision.{Decision}
 use Rattle.sci_policy.specs.declared.decision.Decision.TheVariants.{Keep, Refuse, Serve}
 use Rattle.sci_policy.specs.declared.progress.Progress.{Progress}
 use Rattle.sci_policy.specs.declared.want.Want.TheVariants.{Ask}
 use Rattle.sci_policy.specs.Policy.{PolicyOf, decided, next_policy, next_wanted, turned}
-use Rattle.sci_policy.specs.Turn.{Counts, IsTurnEvent, counted}
+use Rattle.sci_policy.specs.Turn.{Counts, IsTurnEvent, MadeNothing, counted}
 
 -- ---- which request is taken, and how
 
@@ -69,10 +69,6 @@ pub record IsPartOfTurn (n : ℕ) (before : PolicyOf) (old : Core) (after : Poli
   pub progress : Progress
   pub turn : IsTurn n before old after new progress
 
--- the line that is told of, if any, has an operation that can be performed
-abbrev pub MayPerform : NodeOf → Option ℕ → Type 0
-MayPerform node ready = IfSome ready (λ line. IsSome (node_performing node line))
-
 -- no lane grows beyond the cells that it has
 abbrev pub KeepsRoom : Core → Core → Type 0
 KeepsRoom old new = (place : ℕ) → LANE_CELLS < length (lane_at new place) → length (lane_at new place) ≤ length (lane_at old place)
@@ -85,13 +81,6 @@ pub record IsMade (old : Core) (e : Event) (new : Core) (told tells : Progress) 
   pub counted : tells ≡ counted told e
   pub counts : (events : List Event) → Counts events told → Counts (events ++ e ∷ []) tells
   pub size : new.size ≡ old.size
-
--- what is told of a turn in which no event was made
-pub record MadeNothing (progress : Progress) : Type 0 where
-  pub accepted : progress.accepted ≡ 0
-  pub served : progress.served ≡ 0
-  pub replied : progress.replied ≡ false
-  pub asked : progress.asked ≡ false
 
 -- a step of a turn makes at most so many events of a kind, and no lane grows beyond its cells
 pub record IsStep (most : ℕ) (old new : Core) (told tells : Progress) : Type 0 where

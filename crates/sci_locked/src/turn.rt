@@ -9,9 +9,9 @@ ghost use Rattle.sci_core.specs.Node.{node_asking};
 ghost use Rattle.sci_core.specs.Reached.{IsReached};
 ghost use Rattle.sci_policy.specs.Policy.{PolicyOf};
 ghost use Rattle.sci_policy.specs.Rest.{MayIdle};
-ghost use Rattle.sci_policy.specs.Turn.{is_idle};
+ghost use Rattle.sci_policy.specs.Turn.{MadeNothing, MayPerform, is_idle};
 ghost use Rattle.sci_locked.specs.Idle.{AsksNothing, HasNoAnswers, IsIdleTurn, IsReplyHeldUp, TakesNone};
-ghost use Rattle.sci_locked.specs.Moves.{EndsTurn, GoesOn, IsMade, IsPartOfTurn, IsStep, IsTurn, KeepsRoom, MadeNothing, MayPerform, can_send, taken_next};
+ghost use Rattle.sci_locked.specs.Moves.{EndsTurn, GoesOn, IsMade, IsPartOfTurn, IsStep, IsTurn, KeepsRoom, can_send, taken_next};
 
 use sci_core::{ApplyFault, LaneKind, Machine};
 use sci_policy::{Decision, Policy, Progress, Want};

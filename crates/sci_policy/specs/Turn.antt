@@ -1,5 +1,5 @@
 -- What a node does in a turn, and what is told of it.
-use Rattle.std.specs.Prelude.{◌≡◌, ℕ, ◌+◌, nat_lt, Bool, true, false, not, ◌&&◌, ◌||◌, ◌==◌, is_none, if◌then◌else◌, List, count_by, Option, Some, None, is_some}
+use Rattle.std.specs.Prelude.{◌≡◌, ℕ, ◌+◌, nat_lt, Bool, true, false, not, ◌&&◌, ◌||◌, ◌==◌, is_none, if◌then◌else◌, List, count_by, Option, Some, None, is_some, IfSome, IsSome}
 use Rattle.std.specs.List.{list_any}
 use Rattle.sci_words.specs.declared.limits.TheConstants.{WORDS_PER_LINE}
 use Rattle.sci_words.specs.declared.event.Event.{Event}
@@ -7,7 +7,7 @@ use Rattle.sci_words.specs.declared.event.Event.TheVariants as event
 use Rattle.sci_words.specs.declared.operation.Op.{Op}
 use Rattle.sci_core.specs.Core.{node_of}
 use Rattle.sci_core.specs.Draining.{one_if}
-use Rattle.sci_core.specs.Node.{NodeOf, lines_of, pending_on}
+use Rattle.sci_core.specs.Node.{NodeOf, lines_of, node_performing, pending_on}
 use Rattle.sci_policy.specs.declared.progress.Progress.{Progress}
 use Rattle.sci_policy.specs.declared.submit.SubmitFault.{SubmitFault}
 use Rattle.sci_policy.specs.declared.submit.SubmitFault.TheVariants.{NoSuchLine, NoSuchWord, LineTaken, LogFull}
@@ -52,6 +52,17 @@ pub record Counts (events : List Event) (progress : Progress) : Type 0 where
   pub served : progress.served ≡ count_by is_service events
   pub replied : progress.replied ≡ list_any is_reply events
   pub asked : progress.asked ≡ list_any is_ask events
+
+-- what is told of a turn in which no event was made
+pub record MadeNothing (progress : Progress) : Type 0 where
+  pub accepted : progress.accepted ≡ 0
+  pub served : progress.served ≡ 0
+  pub replied : progress.replied ≡ false
+  pub asked : progress.asked ≡ false
+
+-- the line that is told of, if any, has an operation that can be performed
+abbrev pub MayPerform : NodeOf → Option ℕ → Type 0
+MayPerform node ready = IfSome ready (λ line. IsSome (node_performing node line))
 
 -- ---- what is submitted
 

@@ -1,12 +1,12 @@
 -- What a worker's turn does to its node.
-use Rattle.std.specs.Prelude.{◌≡◌, List, [], ◌∷◌, Some, IfSome, IsSome}
+use Rattle.std.specs.Prelude.{◌≡◌, List, [], ◌∷◌, Some}
 use Rattle.std.specs.List.{AllByRecursion}
 use Rattle.sci_words.specs.declared.event.Event.{Event}
 use Rattle.sci_cache.specs.Cache.{Letter}
 use Rattle.sci_core.specs.Core.{Side, Idle, Changes, Sends, Takes, side}
-use Rattle.sci_core.specs.Node.{NodeOf, node_performing}
+use Rattle.sci_core.specs.Node.{NodeOf}
 use Rattle.sci_policy.specs.declared.progress.Progress.{Progress}
-use Rattle.sci_policy.specs.Turn.{Counts, IsTurnEvent}
+use Rattle.sci_policy.specs.Turn.{Counts, IsTurnEvent, MayPerform}
 
 -- the same operations are pending, as many were submitted, and the log is the same
 pub record HasSameWork (old new : NodeOf) : Type 0 where
@@ -34,4 +34,4 @@ pub record IsNodeTurn (old new : NodeOf) (progress : Progress) : Type 0 where
   pub leads : SidesLead old events new
   pub own : AllByRecursion (IsTurnEvent old.cache.me) events
   pub counts : Counts events progress
-  pub ready : IfSome progress.ready (λ line. IsSome (node_performing new line))
+  pub ready : MayPerform new progress.ready

@@ -2,7 +2,8 @@ use Rattle.std.proofs.Common.{◌≡◌, ◌<◌, ◌*◌, ℕ, []}
 use Rattle.sci_core.specs.declared.lane.LaneKind.TheVariants.{Answers}
 use Rattle.sci_core.specs.Core.{lane_of}
 use Rattle.sci_policy.specs.Policy.{PolicyOf}
-use Rattle.sci_locked.specs.Moves.{GoesOn, IsStep, MadeNothing}
+use Rattle.sci_locked.specs.Moves.{GoesOn, IsStep}
+use Rattle.sci_policy.specs.Turn.{MadeNothing}
 use Rattle.sci_locked.proofs.turn.accept_all.Given as goal
 
 abbrev pub invariant-loop-from : goal.invariant-loop-from

@@ -8,7 +8,8 @@ use Rattle.sci_core.proofs.Sides.{steps_by_sides}
 use Rattle.sci_policy.specs.Policy.{opening_policy}
 use Rattle.sci_policy.specs.Turn.{IsTurnEvent}
 use Rattle.sci_locked.proofs.Rooms.{room_taken}
-use Rattle.sci_locked.proofs.Turns.{goes_made, goes_then, step_made, step_then, tells_something}
+use Rattle.sci_locked.proofs.Turns.{goes_made, goes_then, step_made, step_then}
+use Rattle.sci_policy.proofs.Telling.{tells_something}
 use Rattle.sci_locked.proofs.turn.accept_from.Goals as goal
 
 own : (from n : ℕ) → IsTurnEvent n (Accept from n)

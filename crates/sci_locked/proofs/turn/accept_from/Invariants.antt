@@ -1,6 +1,7 @@
 use Rattle.std.proofs.Common.{◌≡◌}
 use Rattle.sci_policy.specs.Policy.{PolicyOf}
-use Rattle.sci_locked.specs.Moves.{GoesOn, IsStep, MadeNothing}
+use Rattle.sci_locked.specs.Moves.{GoesOn, IsStep}
+use Rattle.sci_policy.specs.Turn.{MadeNothing}
 use Rattle.sci_locked.proofs.turn.accept_from.Given as goal
 
 abbrev pub invariant-loop-cell : goal.invariant-loop-cell

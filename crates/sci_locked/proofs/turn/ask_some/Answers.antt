@@ -13,7 +13,8 @@ use Rattle.sci_locked.specs.Idle.{IsHeldUp}
 use Rattle.sci_locked.proofs.Asking.{full_if, sent_if}
 use Rattle.sci_locked.proofs.Enabled.{can_ask}
 use Rattle.sci_locked.proofs.Rooms.{room_asked}
-use Rattle.sci_locked.proofs.Turns.{ends_asked, ends_ready, goes_made, goes_same, goes_then, step_made, step_then, tells_something}
+use Rattle.sci_locked.proofs.Turns.{ends_asked, ends_ready, goes_made, goes_same, goes_then, step_made, step_then}
+use Rattle.sci_policy.proofs.Telling.{tells_something}
 use Rattle.sci_locked.proofs.turn.ask_some.Goals as goal
 
 own : (n line : ℕ) (kind : AskKind) → IsTurnEvent n (event.Ask n line kind)

@@ -1,5 +1,6 @@
 use Rattle.std.proofs.Common.{◌≡◌}
-use Rattle.sci_locked.specs.Moves.{GoesOn, IsStep, MadeNothing}
+use Rattle.sci_locked.specs.Moves.{GoesOn, IsStep}
+use Rattle.sci_policy.specs.Turn.{MadeNothing}
 use Rattle.sci_locked.proofs.turn.ask_some.Given as goal
 
 abbrev pub invariant-loop-cell : goal.invariant-loop-cell

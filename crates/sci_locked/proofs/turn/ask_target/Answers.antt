@@ -2,7 +2,7 @@ use Rattle.std.proofs.Common.{◌≡◌, ◌<◌, ◌≤◌, ℕ, Some, sym, sub
 use Rattle.sci_cache.specs.Cache.{Letter, letter_of}
 use Rattle.sci_core.specs.Core.{node_at}
 use Rattle.sci_core.specs.Node.{NodeOf, node_asking}
-use Rattle.sci_locked.proofs.Targets.{asked_target, few_nodes}
+use Rattle.sci_policy.proofs.Targets.{asked_target, few_nodes}
 use Rattle.sci_locked.proofs.turn.ask_target.Goals as goal
 
 below : (c : goal.After-get) → c.get.result < c.args.machine.now.size.nodes

@@ -7,7 +7,7 @@ use Rattle.sci_core.specs.Core.{lane_of, node_at}
 use Rattle.sci_locked.specs.Moves.{GoesOn, IsStep}
 use Rattle.sci_locked.proofs.Enabled.{can_reply}
 use Rattle.sci_locked.proofs.Rooms.{room_replied}
-use Rattle.sci_locked.proofs.Targets.{told_target}
+use Rattle.sci_policy.proofs.Targets.{told_target}
 use Rattle.sci_locked.proofs.Turns.{goes_made, goes_same, made_or_same, step_made, step_same}
 use Rattle.sci_locked.proofs.turn.reply.Goals as goal
 

@@ -2,7 +2,7 @@ use Rattle.std.proofs.Common.{◌≡◌, ◌<◌, ◌≤◌, ℕ, Some, sym, sub
 use Rattle.sci_cache.specs.Cache.{letter_of}
 use Rattle.sci_core.specs.Core.{node_at}
 use Rattle.sci_core.specs.Node.{NodeOf}
-use Rattle.sci_locked.proofs.Targets.{few_nodes, waiting_target}
+use Rattle.sci_policy.proofs.Targets.{few_nodes, waiting_target}
 use Rattle.sci_locked.proofs.turn.reply_target.Goals as goal
 
 below : (c : goal.After-get) → c.get.result < c.args.machine.now.size.nodes

@@ -1,6 +1,7 @@
 use Rattle.std.proofs.Common.{◌≡◌, ◌<◌, ◌*◌, ◌+◌, ◌%◌, ℕ, None}
 use Rattle.sci_policy.specs.Policy.{first_sender}
-use Rattle.sci_locked.specs.Moves.{GoesOn, IsStep, MadeNothing, taken_next}
+use Rattle.sci_locked.specs.Moves.{GoesOn, IsStep, taken_next}
+use Rattle.sci_policy.specs.Turn.{MadeNothing}
 use Rattle.sci_locked.proofs.turn.take_all.Given as goal
 
 abbrev pub invariant-loop-place : goal.invariant-loop-place

@@ -1,7 +1,8 @@
 use Rattle.std.proofs.Common.{◌<◌, ◌+◌, ◌*◌, sym, subst, arith}
 use Rattle.sci_core.specs.Size.{Size}
 use Rattle.sci_locked.proofs.Taking.{taken_decides, taken_own, taken_room}
-use Rattle.sci_locked.proofs.Turns.{goes_made, goes_then, step_made, step_most, step_then, tells_something}
+use Rattle.sci_locked.proofs.Turns.{goes_made, goes_then, step_made, step_most, step_then}
+use Rattle.sci_policy.proofs.Telling.{tells_something}
 use Rattle.sci_locked.proofs.turn.take_from.Goals as goal
 
 pub returns-in_err-reply-clause-step : goal.returns-in_err-reply-clause-step

@@ -4,7 +4,8 @@ use Rattle.sci_cache.specs.Cache.{letter_of}
 use Rattle.sci_core.specs.Core.{lane_of, node_at}
 use Rattle.sci_core.specs.declared.lane.LaneKind.TheVariants.{Requests}
 use Rattle.sci_core.specs.Node.{NodeOf}
-use Rattle.sci_locked.proofs.Enabled.{can_refuse, can_serve, none_seen, refuses_no_setback}
+use Rattle.sci_locked.proofs.Enabled.{can_refuse, can_serve}
+use Rattle.sci_policy.proofs.Deciding.{none_seen, refuses_no_setback}
 use Rattle.sci_locked.proofs.turn.taking.Goals as goal
 
 pub returns-in-Serve-clause-enabled : goal.returns-in-Serve-clause-enabled

@@ -5,8 +5,9 @@ use Rattle.sci_policy.specs.Policy.{PolicyOf, turned}
 use Rattle.sci_policy.specs.Rest.{MayIdle}
 use Rattle.sci_locked.specs.Moves.{HasEnded}
 use Rattle.sci_locked.proofs.Idling.{may_idle}
-use Rattle.sci_locked.proofs.IdleTurns.{idle_tells, idle_turn}
+use Rattle.sci_locked.proofs.IdleTurns.{idle_turn}
 use Rattle.sci_locked.proofs.Turns.{ends_there, part_of_turn, turn_begins}
+use Rattle.sci_policy.proofs.Telling.{idle_tells}
 use Rattle.sci_locked.proofs.turn.turn_on.Goals as goal
 
 pub returns-in_err-reply-clause-kept : goal.returns-in_err-reply-clause-kept

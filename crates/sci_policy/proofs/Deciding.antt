@@ -1,0 +1,47 @@
+-- What the policy decides of a request, and what it never does.
+use Rattle.std.proofs.Common.{◌≡◌, Bool, true, false, if◌then◌else◌, Option, Some, None, sym, ◌∙◌, refl}
+use Rattle.std.specs.Prelude.{is_some, not, ◌==◌}
+use Rattle.std.proofs.lemmas.Bool.{and_parts, eq-eqb}
+use Rattle.sci_packets.specs.declared.body.Body.{Body}
+use Rattle.sci_packets.specs.declared.body.Body.TheVariants as body
+use Rattle.sci_cache.specs.Cache.{Letter}
+use Rattle.sci_core.specs.Node.{NodeOf, is_setback}
+use Rattle.sci_policy.specs.declared.decision.Decision.TheVariants as decision
+use Rattle.sci_policy.specs.Policy.{PolicyOf, decided, is_cread, kept_by, refused_by}
+
+refused_if : (keep refuse : Bool) → (if keep then decision.Keep else if refuse then decision.Refuse else decision.Serve) ≡ decision.Refuse → refuse ≡ true
+refused_if true refuse e = cc
+refused_if false true e = refl
+refused_if false false e = cc
+
+cread_alone : (b : Body) → is_cread b ≡ true → is_setback b ≡ false
+cread_alone body.Cread e = refl
+cread_alone (body.Setback w) e = cc
+cread_alone _ e = refl
+
+-- what is refused is no Setback
+pub refuses_no_setback : (policy : PolicyOf) (node : NodeOf) (request : Letter) → decided policy node request ≡ decision.Refuse → is_setback request.body ≡ false
+refuses_no_setback policy node request e =
+    let refused : refused_by policy node request ≡ true = refused_if (kept_by policy node request) (refused_by policy node request) e in
+    cread_alone request.body (and_parts (is_cread request.body) _ refused).0
+
+-- what isn't there isn't seen
+pub none_seen : {A B : Type 0} (seen : Option A → Option B) → seen None ≡ None → (o : Option A) (waiting : Option B) → seen o ≡ waiting → is_some o ≡ false → waiting ≡ None
+none_seen seen blind None waiting e none = sym e ∙ blind
+none_seen seen blind (Some x) waiting e none = cc
+
+kept_if : (keep refuse : Bool) → (if keep then decision.Keep else if refuse then decision.Refuse else decision.Serve) ≡ decision.Keep → keep ≡ true
+kept_if true refuse e = refl
+kept_if false true e = cc
+kept_if false false e = cc
+
+not_true : (b : Bool) → not b ≡ true → b ≡ true → ⊥
+not_true true e f = cc
+not_true false e f = cc
+
+-- a node's own requests are never kept
+pub keeps_no_own : (policy : PolicyOf) (node : NodeOf) (request : Letter) → request.source ≡ node.cache.me → decided policy node request ≡ decision.Keep → ⊥
+keeps_no_own policy node request own keep =
+    let kept : kept_by policy node request ≡ true = kept_if (kept_by policy node request) (refused_by policy node request) keep in
+    let other = (and_parts _ (not (request.source == node.cache.me)) (and_parts _ _ kept).0).1 in
+    not_true (request.source == node.cache.me) other (eq-eqb request.source node.cache.me own)
