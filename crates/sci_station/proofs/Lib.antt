@@ -1,0 +1,4 @@
+pub mod Budgets
+pub mod Stills
+pub mod Cells
+pub mod Spelled

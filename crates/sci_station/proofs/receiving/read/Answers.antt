@@ -1,0 +1,46 @@
+use Rattle.std.proofs.Common.{length, ap, ◌∙◌, arith}
+use Rattle.std.proofs.lemmas.List.{length-set, length-take-le, take-set-le}
+use Rattle.sci_lanes.specs.declared.view.Inbound.{Inbound}
+use Rattle.sci_lanes.specs.Shown.{inbound_at}
+use Rattle.sci_lanes.specs.Ends.{lane_at_cell}
+use Rattle.sci_station.proofs.Budgets.{no_more_less, no_more_then}
+use Rattle.sci_station.proofs.Cells.{read_found}
+use Rattle.sci_station.proofs.Spelled.{found_more}
+use Rattle.sci_station.proofs.Stills.{read_still, still_takes, still_then}
+use Rattle.sci_station.proofs.receiving.read.Goals as goal
+
+pub read_word-requires : goal.read_word-requires
+read_word-requires c =
+    let i = c.loop-index.invariant in
+    let order = i.order in
+    let some = c.requires.some in
+    let few = c.requires.few in
+    let below = c.loop-index-test.true in
+    let long = i.long in
+    let count = ap length i.found ∙ length-take-le c.loop-index.index c.loop-index.words (omega arith) in
+    record {
+      next = still_takes c.args.end.now c.loop-index.end c.args.cell i.still c.requires.next;
+      further = omega arith;
+      within = omega arith;
+      order = omega arith;
+    }
+
+pub loop-index-preserved : goal.loop-index-preserved
+loop-index-preserved c =
+    let i = c.loop-index.invariant in
+    let index = c.loop-index.index in
+    let few = c.requires.few in
+    let below = c.loop-index-test.true in
+    let order = i.order in
+    let long = i.long in
+    let next = still_takes c.args.end.now c.loop-index.end c.args.cell i.still c.requires.next in
+    let found = ap (λ (x : Inbound). x.found) (read_found c.loop-index.end c.read_word.new.self c.args.cell index c.read_word.result i.shown next c.read_word.ensures.part) in
+    record {
+      still = still_then c.args.end.now c.loop-index.end c.read_word.new.self i.still (read_still c.loop-index.end c.read_word.new.self c.args.cell index c.read_word.result c.read_word.ensures.part);
+      shown = c.read_word.ensures.shown;
+      long = length-set c.loop-index.words index c.read_word.result ∙ long;
+      order = omega arith;
+      found = found ∙ found_more (inbound_at c.loop-index.end.part (lane_at_cell c.loop-index.end.part c.args.cell)).found c.loop-index.words index c.read_word.result (omega arith) i.found;
+      begins = take-set-le c.args.from c.loop-index.words index c.read_word.result (omega arith) ∙ i.begins;
+      budget = no_more_then c.args.budget.now.left c.loop-index.budget.left c.spend.new.self.left i.budget (no_more_less 1 c.loop-index.budget.left c.spend.new.self.left c.in_ok-spend.ensures.one);
+    }

@@ -1,0 +1,18 @@
+use Rattle.std.proofs.Common.{◌≡◌, ◌≤◌, length, take}
+use Rattle.sci_lanes.specs.Shown.{inbound_at}
+use Rattle.sci_lanes.specs.Telling.{IsShown}
+use Rattle.sci_lanes.specs.Ends.{lane_at_cell}
+use Rattle.sci_station.specs.Budgets.{HasNoMore}
+use Rattle.sci_station.specs.Ends.{IsStill}
+use Rattle.sci_station.proofs.receiving.read.Given as goal
+
+abbrev pub invariant-loop-index : goal.invariant-loop-index
+invariant-loop-index l = record {
+  still : IsStill l.fn.end l.end;
+  shown : IsShown l.end.part;
+  long : length l.words ≡ 11;
+  order : l.from ≤ l.index;
+  found : (inbound_at l.end.part (lane_at_cell l.end.part l.cell)).found ≡ take l.index l.words;
+  begins : take l.from l.words ≡ take l.from l.fn.words;
+  budget : HasNoMore l.fn.budget.left l.budget.left;
+}

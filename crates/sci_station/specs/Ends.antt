@@ -1,0 +1,44 @@
+-- A station's end, before and after steps on words.
+use Rattle.std.specs.Prelude.{◌≡◌, ℕ}
+use Rattle.sci_cache.specs.Cache.{Letter}
+use Rattle.sci_words.specs.declared.event.Event.{Event}
+use Rattle.sci_core.specs.declared.lane.LaneKind.{LaneKind}
+use Rattle.sci_core.specs.Core.{Sends, side}
+use Rattle.sci_core.specs.Node.{NodeOf}
+use Rattle.sci_lanes.specs.Shown.{inbound_at, outbound_at}
+use Rattle.sci_lanes.specs.Telling.{IsSameNode, IsShown}
+use Rattle.sci_lanes.specs.declared.cell.CellId.{CellId}
+use Rattle.sci_lanes.specs.declared.view.Part.{Part}
+use Rattle.sci_lanes.specs.Ends.{EndOf, IsNextToTake, lane_at_cell}
+use Rattle.sci_packets.specs.Spelling.{SpellsInWords}
+use Rattle.sci_packets.specs.declared.packet.Packet as packets
+use Rattle.sci_station.specs.declared.receiving.Received.{Received}
+use Rattle.sci_station.specs.declared.receiving.Received.TheVariants.{Packet}
+
+-- an end of the same table, of the same node in a machine of the same size
+pub record IsSameEnd (old new : EndOf) : Type 0 where
+  pub table : new.table ≡ old.table
+  pub node : IsSameNode old.part new.part
+
+-- an end that has made no event: its node is the same, and as many packets were sent and taken in each lane
+pub record IsStill (old new : EndOf) : Type 0 where
+  pub table : new.table ≡ old.table
+  pub node : new.part.node ≡ old.part.node
+  pub sent : (lane : ℕ) → (outbound_at new.part lane).sent ≡ (outbound_at old.part lane).sent
+  pub taken : (lane : ℕ) → (inbound_at new.part lane).taken ≡ (inbound_at old.part lane).taken
+
+-- the event sends this packet
+pub record IsSentBy (node : NodeOf) (e : Event) (kind : LaneKind) (letter : Letter) : Type 0 where
+  pub next : NodeOf
+  pub side_is : side node e ≡ Sends kind next letter
+
+-- all words of this packet were found in a cell, and no more
+pub record HasRead (part : Part) (cell : CellId) (packet : packets.Packet) : Type 0 where
+  pub shown : IsShown part
+  pub next : IsNextToTake part cell
+  pub spelled : SpellsInWords packet (inbound_at part (lane_at_cell part cell)).found
+
+-- what was received from a cell
+abbrev pub IsFound : Part → CellId → Received → Type 0
+IsFound part cell (Packet packet) = HasRead part cell packet
+IsFound part cell _ = Unit {0}
