@@ -1,12 +1,9 @@
 -- What a node of a reached state can do, by what it and its lanes show.
-use Rattle.std.proofs.Common.{◌≡◌, ◌≤◌, ◌<◌, ℕ, Bool, true, false, if◌then◌else◌, arith, List, [], ◌∷◌, length, Option, Some, None, refl, sym, ap, subst, ◌∙◌}
-use Rattle.std.specs.Prelude.{IsSome, is_some, option_map, slice_get}
-use Rattle.std.proofs.lemmas.Bool.{and_parts}
+use Rattle.std.proofs.Common.{◌≡◌, ◌≤◌, ◌<◌, ℕ, false, arith, List, [], ◌∷◌, length, Option, Some, None, refl, sym, ap, subst, ◌∙◌}
+use Rattle.std.specs.Prelude.{IfSome, IsSome, option_map, slice_get}
 use Rattle.sci_words.specs.declared.event.AskKind.{AskKind}
 use Rattle.sci_words.specs.declared.event.Event.{Event}
 use Rattle.sci_words.specs.declared.event.Event.TheVariants.{Accept, Ask, Refuse, Reply, Serve}
-use Rattle.sci_packets.specs.declared.body.Body.{Body}
-use Rattle.sci_packets.specs.declared.body.Body.TheVariants as body
 use Rattle.sci_cache.specs.Cache.{Letter}
 use Rattle.sci_core.specs.declared.lane.LaneKind.{LaneKind}
 use Rattle.sci_core.specs.declared.lane.LaneKind.TheVariants.{Answers, Requests}
@@ -16,8 +13,11 @@ use Rattle.sci_core.specs.Reached.{IsReached}
 use Rattle.sci_core.specs.Sides.{TakesFront, taken_to}
 use Rattle.sci_core.proofs.Enabled.{accept_enabled, request_enabled}
 use Rattle.sci_core.proofs.Sides.{steps_by_sides}
+use Rattle.sci_policy.specs.declared.decision.Decision.{Decision}
 use Rattle.sci_policy.specs.declared.decision.Decision.TheVariants as decision
-use Rattle.sci_policy.specs.Policy.{PolicyOf, decided, is_cread, kept_by, refused_by}
+use Rattle.sci_policy.specs.Policy.{PolicyOf, decided}
+use Rattle.sci_policy.specs.Turn.{decided_event}
+use Rattle.sci_policy.proofs.Deciding.{refuses_no_setback}
 
 there : {A B : Type 0} (f : A → B) (o : Option A) → IsSome o → IsSome (option_map f o)
 there f None e = cc
@@ -59,3 +59,15 @@ can_reply core n answer lt waits =
 
 pub can_ask : (core : Core) (n line : ℕ) (kind : AskKind) → n < core.size.nodes → IsSome (node_asking (node_at core n) line kind) → IsEnabled core (Ask n line kind)
 can_ask core n line kind lt some = subst IsSome (sym ((steps_by_sides core n lt).ask line kind)) (there (λ (s : NodeOf × Letter). sent_by core n Requests s.0 s.1) (node_asking (node_at core n) line kind) some)
+
+taken_by : (core : Core) (from n : ℕ) (policy : PolicyOf) (node : NodeOf) (request : Letter) (d : Decision) → IsReached core → from < core.size.nodes → n < core.size.nodes → slice_get (lane_of core Requests from n) 0 ≡ Some request → (node_at core n).waiting ≡ None
+    → d ≡ decided policy node request → IfSome (decided_event d from n) (IsEnabled core)
+taken_by core from n policy node request decision.Keep reached f lt is free decides = tt
+taken_by core from n policy node request decision.Refuse reached f lt is free decides = can_refuse core from n request reached f lt is free (refuses_no_setback policy node request (sym decides))
+taken_by core from n policy node request decision.Serve reached f lt is free decides = can_serve core from n request reached f lt is free
+
+-- the event by which a request is taken
+pub can_take : (core : Core) (from n : ℕ) (policy : PolicyOf) (node : NodeOf) (request : Letter) (d : Decision) (e : Option Event) → IsReached core → from < core.size.nodes → n < core.size.nodes → slice_get (lane_of core Requests from n) 0 ≡ Some request → (node_at core n).waiting ≡ None
+    → d ≡ decided policy node request → e ≡ decided_event d from n → IfSome e (IsEnabled core)
+can_take core from n policy node request d e reached f lt is free decides event_is =
+    subst (λ (o : Option Event). IfSome o (IsEnabled core)) (sym event_is) (taken_by core from n policy node request d reached f lt is free decides)

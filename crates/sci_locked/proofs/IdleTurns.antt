@@ -1,11 +1,9 @@
 -- A turn that reports nothing has found nothing to do.
-use Rattle.std.proofs.Common.{◌≡◌, ℕ, true, Option, Some, None, refl, ap, subst, ◌∙◌}
-use Rattle.std.specs.Prelude.{IfSome, is_none}
-use Rattle.std.proofs.lemmas.Bool.{and_parts, eqb-true, not-true}
+use Rattle.std.proofs.Common.{◌≡◌, ℕ, ap, subst, ◌∙◌}
+use Rattle.std.specs.Prelude.{IfSome}
 use Rattle.sci_core.specs.Core.{Core, node_at}
 use Rattle.sci_policy.specs.declared.progress.Progress.{Progress}
 use Rattle.sci_policy.specs.Policy.{PolicyOf, next_policy, next_wanted, turned}
-use Rattle.sci_policy.specs.Turn.{MadeNothing, is_idle}
 use Rattle.sci_locked.specs.Idle.{AsksNothing, HasNoAnswers, IsHeldUp, IsIdleTurn, IsReplyHeldUp, TakesNone}
 
 -- what each step of the turn has found, of the same state

@@ -1,8 +1,8 @@
 -- A node that finds nothing to do has nothing pending, or awaits an answer of another.
-use Rattle.std.proofs.Common.{◌≡◌, ◌≤◌, ◌<◌, ◌*◌, ◌⊎◌, ℕ, zero, suc, Bool, true, false, if◌then◌else◌, arith, List, [], ◌∷◌, filter, length, get_or, Option, Some, None, refl, sym, ap, subst, ◌∙◌, inl, inr}
-use Rattle.std.specs.Prelude.{IfSome, IsSome, is_some, not, ◌==◌, option_to_list, slice_get}
+use Rattle.std.proofs.Common.{◌≡◌, ◌≤◌, ◌<◌, ◌*◌, ◌⊎◌, ℕ, zero, suc, true, false, if◌then◌else◌, arith, List, [], ◌∷◌, filter, length, get_or, Option, Some, None, refl, sym, ap, subst, ◌∙◌, inl, inr}
+use Rattle.std.specs.Prelude.{IfSome, IsSome, is_some, option_to_list, slice_get}
 use Rattle.std.specs.List.{flat_map}
-use Rattle.std.proofs.lemmas.Bool.{and_parts, cases_lt, eq-eqb}
+use Rattle.std.proofs.lemmas.Bool.{cases_lt}
 use Rattle.std.proofs.lemmas.List.{get_or_past}
 use Rattle.sci_words.specs.declared.event.AskKind.{AskKind}
 use Rattle.sci_cache.specs.State.{waits}
@@ -26,12 +26,13 @@ use Rattle.sci_policy.specs.declared.decision.Decision.TheVariants.{Keep, Refuse
 use Rattle.sci_policy.specs.declared.want.Want.{Want}
 use Rattle.sci_policy.specs.declared.want.Want.TheVariants.{Perform, Ask}
 use Rattle.sci_policy.specs.Lines.{state_on}
-use Rattle.sci_policy.specs.Policy.{IsEnabledWant, PolicyOf, decided, kept_by, next_wanted, refused_by, ticked}
+use Rattle.sci_policy.specs.Policy.{IsEnabledWant, PolicyOf, decided, next_wanted, ticked}
 use Rattle.sci_policy.specs.Rest.{AwaitsOthers, Awaits, MayIdle, MayRest, NothingPending, NothingPends}
 use Rattle.sci_policy.proofs.Rests.{may_rest}
 use Rattle.sci_policy.proofs.Wants.{wanted_enabled}
 use Rattle.sci_locked.specs.Idle.{HasNothingToDo, IsFull, IsHeldUp}
-use Rattle.sci_locked.specs.Moves.{decided_event, taking_event}
+use Rattle.sci_locked.specs.Moves.{taking_event}
+use Rattle.sci_policy.specs.Turn.{decided_event}
 use Rattle.sci_locked.proofs.Enabled.{no_front, some_front}
 use Rattle.sci_policy.proofs.Deciding.{keeps_no_own}
 use Rattle.sci_policy.proofs.Targets.{asked_target, waiting_target}

@@ -12,7 +12,8 @@ use Rattle.sci_policy.specs.declared.decision.Decision.{Decision}
 use Rattle.sci_policy.specs.declared.decision.Decision.TheVariants as decision
 use Rattle.sci_policy.specs.Policy.{PolicyOf, decided}
 use Rattle.sci_policy.specs.Turn.{IsTurnEvent}
-use Rattle.sci_locked.specs.Moves.{Decides, KeepsRoom, decided_event, taken_next, taking_event}
+use Rattle.sci_locked.specs.Moves.{Decides, KeepsRoom, taken_next, taking_event}
+use Rattle.sci_policy.specs.Turn.{decided_event}
 use Rattle.sci_locked.proofs.Rooms.{room_taken}
 
 decided_is : (b : Bool) (d : Decision) (from n : ℕ) (e : Event) → Some e ≡ (if b then None else decided_event d from n) → (e ≡ Serve from n) ⊎ (e ≡ Refuse from n)

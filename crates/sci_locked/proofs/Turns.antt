@@ -1,14 +1,12 @@
 -- A turn with one event more.
-use Rattle.std.proofs.Common.{◌≡◌, ◌≤◌, ◌<◌, ◌+◌, ℕ, Bool, true, false, arith, List, [], ◌∷◌, ◌++◌, length, Some, refl, sym, ap, subst, ◌∙◌, inl, inr}
-use Rattle.std.specs.Prelude.{◌||◌, Result, Ok, Err, IfOk, IsErr}
+use Rattle.std.proofs.Common.{◌≡◌, ◌≤◌, ◌<◌, ◌+◌, ℕ, arith, List, [], ◌∷◌, ◌++◌, length, Some, refl, sym, ap, subst, ◌∙◌, inl, inr}
+use Rattle.std.specs.Prelude.{Result, Ok, Err, IfOk, IsErr}
 use Rattle.sci_words.specs.declared.event.Event.{Event}
-use Rattle.sci_words.specs.declared.event.Event.TheVariants as event
 use Rattle.sci_history.proofs.Order.{all-append}
 use Rattle.sci_core.specs.Core.{Core, lane_at, node_at, stepping}
-use Rattle.sci_core.specs.Draining.{one_if}
 use Rattle.sci_policy.specs.declared.progress.Progress.{Progress}
 use Rattle.sci_policy.specs.Policy.{PolicyOf, next_policy}
-use Rattle.sci_policy.specs.Turn.{Counts, IsTurnEvent, MadeNothing, counted, is_accept, is_service}
+use Rattle.sci_policy.specs.Turn.{Counts, IsTurnEvent, is_accept, is_service}
 use Rattle.sci_policy.proofs.Telling.{one, tells_something}
 use Rattle.sci_locked.specs.Moves.{Decides, GoesOn, HasEnded, HasGone, IsMade, IsPartOfTurn, IsStep, IsTurn, KeepsRoom, Leads}
 

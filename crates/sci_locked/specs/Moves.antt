@@ -8,19 +8,12 @@ use Rattle.sci_cache.specs.Cache.{Letter}
 use Rattle.sci_core.specs.declared.lane.LaneKind.TheVariants.{Requests}
 use Rattle.sci_core.specs.Core.{Core, lane_at, lane_of, node_at, stepping}
 use Rattle.sci_core.specs.Node.{NodeOf}
-use Rattle.sci_policy.specs.declared.decision.Decision.{Decision}
-use Rattle.sci_policy.specs.declared.decision.Decision.TheVariants.{Keep, Refuse, Serve}
 use Rattle.sci_policy.specs.declared.progress.Progress.{Progress}
 use Rattle.sci_policy.specs.declared.want.Want.TheVariants.{Ask}
 use Rattle.sci_policy.specs.Policy.{PolicyOf, decided, next_policy, next_wanted, turned}
-use Rattle.sci_policy.specs.Turn.{Counts, IsTurnEvent, MadeNothing, counted}
+use Rattle.sci_policy.specs.Turn.{Counts, IsTurnEvent, MadeNothing, counted, decided_event}
 
 -- ---- which request is taken, and how
-
-abbrev pub decided_event : Decision → ℕ → ℕ → Option Event
-decided_event Keep from n = None
-decided_event Refuse from n = Some (event.Refuse from n)
-decided_event Serve from n = Some (event.Serve from n)
 
 -- the event that takes a request, if there is one, no answer waits, and the policy doesn't keep it
 abbrev pub taking_event : PolicyOf → NodeOf → ℕ → ℕ → Option Letter → Option Event

@@ -14,7 +14,7 @@ ghost use Rattle.sci_locked.specs.Idle.{AsksNothing, HasNoAnswers, IsIdleTurn, I
 ghost use Rattle.sci_locked.specs.Moves.{EndsTurn, GoesOn, IsMade, IsPartOfTurn, IsStep, IsTurn, KeepsRoom, can_send, taken_next};
 
 use sci_core::{ApplyFault, LaneKind, Machine};
-use sci_policy::{Decision, Policy, Progress, Want};
+use sci_policy::{Policy, Progress, Want};
 use sci_words::{AskKind, Event, LANE_CELLS};
 use std::alloc::AllocError;
 
@@ -243,11 +243,7 @@ fn taking(machine: &Machine, policy: &Policy, from: u8, node: u8) -> Option<Even
         return None;
     }
     let request = machine.front(LaneKind::Requests, from, node)?;
-    match policy.decide(me, request) {
-        Decision::Keep => None,
-        Decision::Refuse => Some(Event::Refuse { from, node }),
-        Decision::Serve => Some(Event::Serve { from, node }),
-    }
+    policy.decide(me, request).event(from, node)
 }
 
 /// Up to four times, the node asks what the policy wants. It ends at a line that can be performed, which is told, and at

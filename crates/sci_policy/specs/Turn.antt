@@ -8,6 +8,8 @@ use Rattle.sci_words.specs.declared.operation.Op.{Op}
 use Rattle.sci_core.specs.Core.{node_of}
 use Rattle.sci_core.specs.Draining.{one_if}
 use Rattle.sci_core.specs.Node.{NodeOf, lines_of, node_performing, pending_on}
+use Rattle.sci_policy.specs.declared.decision.Decision.{Decision}
+use Rattle.sci_policy.specs.declared.decision.Decision.TheVariants.{Keep, Refuse, Serve}
 use Rattle.sci_policy.specs.declared.progress.Progress.{Progress}
 use Rattle.sci_policy.specs.declared.submit.SubmitFault.{SubmitFault}
 use Rattle.sci_policy.specs.declared.submit.SubmitFault.TheVariants.{NoSuchLine, NoSuchWord, LineTaken, LogFull}
@@ -36,6 +38,12 @@ is_ask _ = false
 pub record IsTurnEvent (n : ℕ) (e : Event) : Type 0 where
   pub own : node_of e ≡ n
   pub kind : (is_accept e || (is_service e || (is_reply e || is_ask e))) ≡ true
+
+-- the event by which node n takes a request from another, or none if it is kept
+abbrev pub decided_event : Decision → ℕ → ℕ → Option Event
+decided_event Keep from n = None
+decided_event Refuse from n = Some (event.Refuse from n)
+decided_event Serve from n = Some (event.Serve from n)
 
 -- what is told after one event more
 abbrev pub counted : Progress → Event → Progress
