@@ -1,15 +1,18 @@
 -- What a turn does to a station's node and to its policy.
-use Rattle.std.specs.Prelude.{◌≡◌, ◌≤◌, ◌+◌, ◌⊎◌, ℕ, List, [], ◌∷◌, Some}
+use Rattle.std.specs.Prelude.{◌≡◌, ◌≤◌, ◌+◌, ◌⊎◌, ℕ, List, [], ◌∷◌, ◌++◌, Some}
 use Rattle.std.specs.List.{AllByRecursion}
 use Rattle.sci_words.specs.declared.event.Event.{Event}
 use Rattle.sci_words.specs.declared.event.Event.TheVariants as event
 use Rattle.sci_cache.specs.Cache.{Letter}
+use Rattle.sci_core.specs.declared.lane.LaneKind.TheVariants.{Requests}
+use Rattle.sci_core.specs.Core.{Sends, side}
 use Rattle.sci_core.specs.Node.{NodeOf, node_accepting, node_asking, node_refusing, node_replying, node_serving}
 use Rattle.sci_policy.specs.declared.decision.Decision.TheVariants.{Refuse, Serve}
 use Rattle.sci_policy.specs.declared.progress.Progress.{Progress}
 use Rattle.sci_policy.specs.declared.want.Want.TheVariants.{Ask}
 use Rattle.sci_policy.specs.Policy.{PolicyOf, decided, next_policy, next_wanted, turned}
-use Rattle.sci_policy.specs.Turn.{Counts, IsTurnEvent, MadeNothing}
+use Rattle.sci_policy.specs.Turn.{Counts, IsTurnEvent, MadeNothing, counted}
+use Rattle.sci_lanes.specs.Telling.{SomeLineWaits}
 use Rattle.sci_lanes.specs.Ends.{EndOf}
 use Rattle.sci_station.specs.Ends.{IsSameEnd, IsStill}
 
@@ -76,3 +79,18 @@ pub record GoesOn (n : ℕ) (before : PolicyOf) (old : EndOf) (after : PolicyOf)
 -- the last step of a turn: whatever turn came so far ends by it
 abbrev pub EndsTurn : ℕ → PolicyOf → EndOf → PolicyOf → EndOf → Progress → Progress → Type 0
 EndsTurn n before old after new told tells = (policy : PolicyOf) (start : NodeOf) → HasMoved n policy start before old.part.node told → HasEnded n policy start after new.part.node tells
+
+-- ---- asking
+
+-- the node asked this, and it is counted
+pub record IsAsked (e : Event) (old new : EndOf) (told tells : Progress) : Type 0 where
+  pub request : Letter
+  pub sends : side old.part.node e ≡ Sends Requests new.part.node request
+  pub counted : tells ≡ counted told e
+  pub counts : (events : List Event) → Counts events told → Counts (events ++ e ∷ []) tells
+
+-- the cell of a request is full: nothing was asked, and some line awaits an answer
+pub record WasHeldUp (old new : EndOf) (told tells : Progress) : Type 0 where
+  pub end : IsStill old new
+  pub same : tells ≡ told
+  pub waits : SomeLineWaits new.part.node

@@ -4,3 +4,4 @@
 mod budget;
 mod receiving;
 mod sending;
+mod turn;

@@ -1,0 +1,181 @@
+-- What a station may do with what it has received, and what it has to send.
+use Rattle.std.proofs.Common.{◌≡◌, ◌<◌, ℕ, List, ◌∷◌, get_or, length, Option, Some, None, refl, sym, ap, subst, ◌∙◌}
+use Rattle.std.specs.Prelude.{IsSome}
+use Rattle.sci_words.specs.declared.event.AskKind.{AskKind}
+use Rattle.sci_words.specs.declared.event.Event.{Event}
+use Rattle.sci_words.specs.declared.event.Event.TheVariants as event
+use Rattle.sci_packets.specs.declared.packet.Packet.{Packet}
+use Rattle.sci_packets.proofs.Whole.{one_by_words}
+use Rattle.sci_cache.specs.Cache.{Letter, letter_of}
+use Rattle.sci_core.specs.declared.lane.LaneKind.{LaneKind}
+use Rattle.sci_core.specs.declared.lane.LaneKind.TheVariants.{Answers, Requests}
+use Rattle.sci_core.specs.Core.{Sends, Takes, lane_at, lane_of, lane_place, node_at, sends, side}
+use Rattle.sci_core.specs.Node.{NodeOf, node_accepting, node_asking, node_refusing, node_replying, node_serving, replied_by}
+use Rattle.sci_core.specs.Reached.{IsReachedNode}
+use Rattle.sci_core.proofs.Enabled.{accept_enabled, request_enabled}
+use Rattle.sci_policy.specs.declared.decision.Decision.{Decision}
+use Rattle.sci_policy.specs.declared.decision.Decision.TheVariants as decision
+use Rattle.sci_policy.specs.Policy.{PolicyOf, decided}
+use Rattle.sci_policy.specs.Turn.{IsTurnEvent, decided_event}
+use Rattle.sci_policy.proofs.Deciding.{refuses_no_setback}
+use Rattle.sci_policy.proofs.Targets.{asked_target, waiting_target}
+use Rattle.sci_lanes.specs.declared.cell.CellId.{CellId}
+use Rattle.sci_lanes.specs.declared.view.Part.{Part}
+use Rattle.sci_lanes.specs.Shown.{inbound_at, me_of}
+use Rattle.sci_lanes.specs.Telling.{IsSameNode, IsShown}
+use Rattle.sci_lanes.specs.Ends.{EndOf, MayFree, freed_at, lane_at_cell, nodes_in, taken_by}
+use Rattle.sci_lanes.proofs.Seats.{shown_nodes}
+use Rattle.sci_lanes.proofs.Events.{words_some}
+use Rattle.sci_station.specs.Ends.{HasRead, IsSameEnd, IsStill}
+use Rattle.sci_station.specs.Moves.{IsMade}
+use Rattle.sci_station.proofs.Cells.{front_found}
+
+-- ---- sending
+
+pub reached_node : (part : Part) (n : ℕ) → n ≡ me_of part → IsShown part → IsReachedNode n part.node
+reached_node part n is s = subst (λ (m : ℕ). IsReachedNode m part.node) (sym is) (record { core = s.core; reached = s.reached; some = s.some_node; here = s.here })
+
+-- the answer that waits goes to a node of the machine
+pub reply_target : (part : Part) (answer : Letter) → IsShown part → part.node.waiting ≡ Some answer → answer.target < nodes_in part
+reply_target part answer s waits =
+    subst (λ (n : ℕ). answer.target < n) (sym (shown_nodes part s)) (waiting_target s.core (me_of part) answer s.reached s.some_node (ap (λ (m : NodeOf). m.waiting) s.here ∙ waits))
+
+pub ask_target : (part : Part) (line : ℕ) (kind : AskKind) (sent : NodeOf × Letter) → IsShown part → node_asking part.node line kind ≡ Some sent → sent.1.target < nodes_in part
+ask_target part line kind sent s asks =
+    subst (λ (n : ℕ). sent.1.target < n) (sym (shown_nodes part s)) (asked_target s.core (me_of part) line kind sent s.reached s.some_node (ap (λ (m : NodeOf). node_asking m line kind) s.here ∙ asks))
+
+pub sent_by : (kind : LaneKind) (o : Option (NodeOf × Letter)) (next : NodeOf) (letter : Letter) → sends kind o ≡ Sends kind next letter → o ≡ Some (next, letter)
+sent_by kind None next letter e = cc
+sent_by kind (Some sent) next letter e = ap Some (let node : sent.0 ≡ next = cc in let packet : sent.1 ≡ letter = cc in (λ i. (node i, packet i)))
+
+pub replying : (node : NodeOf) (answer : Letter) → node.waiting ≡ Some answer → node_replying node ≡ Some (record node { waiting = None }, answer)
+replying node answer waits = ap (replied_by node) waits
+
+-- ---- receiving
+
+-- the packet that was read is the oldest of its lane
+front_read : (part : Part) (cell : CellId) (packet : Packet) (read : HasRead part cell packet) (kind : LaneKind) (from : ℕ) → cell.kind ≡ kind → cell.sender ≡ from
+    → (rest : List Letter) × (lane_of read.shown.core kind from (me_of part) ≡ letter_of packet ∷ rest)
+front_read part cell packet read kind from k f =
+    let s = read.shown in
+    let lane = lane_at_cell part cell in
+    let found = (inbound_at part lane).found in
+    let some : 0 < length found = subst (λ (ws : List ℕ). 0 < length ws) (sym read.spelled.spelled_so) (words_some packet) in
+    let front = front_found part cell s read.next some in
+    let same : front.packet ≡ packet = sym (one_by_words packet front.packet read.spelled.packet front.good (λ i a b.
+    ap (λ (ws : List ℕ). get_or ws i 0) (sym read.spelled.spelled_so) ∙ front.agrees i (subst (λ (ws : List ℕ). i < length ws) (sym read.spelled.spelled_so) a) b)) in
+    let place : lane ≡ lane_place s.core.size.nodes kind from (me_of part) = (λ i. lane_place (shown_nodes part s i) (k i) (f i) (read.next.mine i)) in
+    (front.rest, ap (lane_at s.core) (sym place) ∙ (front.front ∙ ap (λ (p : Packet). letter_of p ∷ front.rest) same))
+
+some_of : {A : Type 0} (o : Option A) → IsSome o → (x : A) × (o ≡ Some x)
+some_of None e = cc
+some_of (Some x) e = (x, refl)
+
+sender_below : (part : Part) (cell : CellId) (packet : Packet) (read : HasRead part cell packet) (from : ℕ) → cell.sender ≡ from → from < read.shown.core.size.nodes
+sender_below part cell packet read from f = subst (λ (n : ℕ). from < n) (shown_nodes part read.shown) (subst (λ (j : ℕ). j < nodes_in part) f read.next.other)
+
+-- an answer that was read is accepted
+pub may_accept : (part : Part) (cell : CellId) (packet : Packet) (from n : ℕ) → HasRead part cell packet → cell.kind ≡ Answers → cell.sender ≡ from → n ≡ me_of part → MayFree part cell (event.Accept from n)
+may_accept part cell packet from n read k f is =
+    let s = read.shown in
+    let me = me_of part in
+    let front = front_read part cell packet read Answers from k f in
+    let some = accept_enabled s.core from me s.reached (sender_below part cell packet read from f) s.some_node (letter_of packet) front.0 front.1 in
+    let next = some_of (node_accepting part.node (letter_of packet)) (subst (λ (m : NodeOf). IsSome (node_accepting m (letter_of packet))) s.here some) in
+    record {
+      next = read.next;
+      own = is;
+      packet = packet;
+      taking = node_accepting part.node;
+      after = next.0;
+      side_is = sym (λ i. Takes (k i) (f i) (node_accepting part.node));
+      gives = next.1;
+      spelled = read.spelled;
+    }
+
+may_serve : (part : Part) (cell : CellId) (packet : Packet) (from n : ℕ) → HasRead part cell packet → cell.kind ≡ Requests → cell.sender ≡ from → n ≡ me_of part → part.node.waiting ≡ None → MayFree part cell (event.Serve from n)
+may_serve part cell packet from n read k f is free =
+    let s = read.shown in
+    let me = me_of part in
+    let front = front_read part cell packet read Requests from k f in
+    let free_there : (node_at s.core me).waiting ≡ None = ap (λ (m : NodeOf). m.waiting) s.here ∙ free in
+    let some = (request_enabled s.core from me s.reached (sender_below part cell packet read from f) s.some_node).served (letter_of packet) front.0 front.1 free_there in
+    let next = some_of (node_serving part.node (letter_of packet)) (subst (λ (m : NodeOf). IsSome (node_serving m (letter_of packet))) s.here some) in
+    record {
+      next = read.next;
+      own = is;
+      packet = packet;
+      taking = node_serving part.node;
+      after = next.0;
+      side_is = sym (λ i. Takes (k i) (f i) (node_serving part.node));
+      gives = next.1;
+      spelled = read.spelled;
+    }
+
+may_refuse : (part : Part) (cell : CellId) (packet : Packet) (from n : ℕ) (policy : PolicyOf) → HasRead part cell packet → cell.kind ≡ Requests → cell.sender ≡ from → n ≡ me_of part → part.node.waiting ≡ None → decided policy part.node (letter_of packet) ≡ decision.Refuse
+    → MayFree part cell (event.Refuse from n)
+may_refuse part cell packet from n policy read k f is free refuses =
+    let s = read.shown in
+    let me = me_of part in
+    let front = front_read part cell packet read Requests from k f in
+    let free_there : (node_at s.core me).waiting ≡ None = ap (λ (m : NodeOf). m.waiting) s.here ∙ free in
+    let some = (request_enabled s.core from me s.reached (sender_below part cell packet read from f) s.some_node).refused (letter_of packet) front.0 front.1 free_there (refuses_no_setback policy part.node (letter_of packet) refuses) in
+    let next = some_of (node_refusing part.node (letter_of packet)) (subst (λ (m : NodeOf). IsSome (node_refusing m (letter_of packet))) s.here some) in
+    record {
+      next = read.next;
+      own = is;
+      packet = packet;
+      taking = node_refusing part.node;
+      after = next.0;
+      side_is = sym (λ i. Takes (k i) (f i) (node_refusing part.node));
+      gives = next.1;
+      spelled = read.spelled;
+    }
+
+-- a request that was read is taken as the policy decides
+pub may_take : (part : Part) (cell : CellId) (packet : Packet) (from n : ℕ) (policy : PolicyOf) (d : Decision) (e : Event) → HasRead part cell packet → cell.kind ≡ Requests → cell.sender ≡ from → n ≡ me_of part → part.node.waiting ≡ None
+    → decided policy part.node (letter_of packet) ≡ d → Some e ≡ decided_event d from n → MayFree part cell e
+may_take part cell packet from n policy decision.Keep e read k f is free decides takes = cc
+may_take part cell packet from n policy decision.Refuse e read k f is free decides takes = subst (MayFree part cell) (some_same takes) (may_refuse part cell packet from n policy read k f is free decides)
+  where
+    some_same : Some e ≡ Some (event.Refuse from n) → event.Refuse from n ≡ e
+    some_same h = cc
+may_take part cell packet from n policy decision.Serve e read k f is free decides takes = subst (MayFree part cell) (some_same takes) (may_serve part cell packet from n read k f is free)
+  where
+    some_same : Some e ≡ Some (event.Serve from n) → event.Serve from n ≡ e
+    some_same h = cc
+
+-- ---- events of a turn
+
+pub take_is_own : (d : Decision) (from n : ℕ) (e : Event) → Some e ≡ decided_event d from n → IsTurnEvent n e
+take_is_own decision.Keep from n e is = cc
+take_is_own decision.Refuse from n e is = subst (IsTurnEvent n) (some_same is) (record { own = refl; kind = refl })
+  where
+    some_same : Some e ≡ Some (event.Refuse from n) → event.Refuse from n ≡ e
+    some_same h = cc
+take_is_own decision.Serve from n e is = subst (IsTurnEvent n) (some_same is) (record { own = refl; kind = refl })
+  where
+    some_same : Some e ≡ Some (event.Serve from n) → event.Serve from n ≡ e
+    some_same h = cc
+
+-- a request is taken as the policy decides, and its sender is noted
+pub take_made : (before after : PolicyOf) (old new : NodeOf) (d : Decision) (from n : ℕ) (e : Event) (request : Letter) → decided before old request ≡ d → Some e ≡ decided_event d from n → taken_by (side old e) request ≡ Some new
+    → after ≡ record before { served = Some from } → IsMade before old e after new
+take_made before after old new decision.Keep from n e request decides is takes noted = cc
+take_made before after old new decision.Refuse from n e request decides is takes noted =
+    subst (λ (v : Event). taken_by (side old v) request ≡ Some new → IsMade before old v after new) (some_same is) (λ t. (request, t, decides, noted)) takes
+  where
+    some_same : Some e ≡ Some (event.Refuse from n) → event.Refuse from n ≡ e
+    some_same h = cc
+take_made before after old new decision.Serve from n e request decides is takes noted =
+    subst (λ (v : Event). taken_by (side old v) request ≡ Some new → IsMade before old v after new) (some_same is) (λ t. (request, t, decides, noted)) takes
+  where
+    some_same : Some e ≡ Some (event.Serve from n) → event.Serve from n ≡ e
+    some_same h = cc
+
+-- what a free leaves
+pub freed_same : (old new : EndOf) (cell : CellId) → new ≡ freed_at cell new.part.node old → IsSameNode old.part new.part → IsSameEnd old new
+freed_same old new cell is same = record { table = ap (λ (e : EndOf). e.table) is; node = same }
+
+pub me_still : (me : ℕ) (old new : EndOf) → IsStill old new → me ≡ me_of old.part → me ≡ me_of new.part
+me_still me old new still is = is ∙ ap (λ (n : NodeOf). n.cache.me) (sym still.node)

@@ -1,0 +1,51 @@
+use Rattle.std.proofs.Common.{◌≡◌, None, refl, sym, ap, ◌∙◌}
+use Rattle.std.specs.Prelude.{option_copied, option_map}
+use Rattle.sci_cache.specs.Cache.{letter_of}
+use Rattle.sci_core.specs.Node.{NodeOf}
+use Rattle.sci_policy.specs.Policy.{decided}
+use Rattle.sci_policy.proofs.Deciding.{none_seen}
+use Rattle.sci_station.proofs.Events.{may_take, me_still, take_is_own, take_made}
+use Rattle.sci_station.proofs.Turns.{goes_made, goes_still, goes_then}
+use Rattle.sci_station.proofs.turn.take.Goals as goal
+
+pub free-requires : goal.free-requires
+free-requires c =
+    let cell = c.next_to_take-cell in
+    let part = c.receive.new.end.part in
+    let none = none_seen (λ o. option_map letter_of (option_copied o)) refl c.waiting.result _ c.waiting.ensures (sym c.is_some.ensures ∙ c.if-is_some.false) in
+    let free : part.node.waiting ≡ None = ap (λ (m : NodeOf). m.waiting) (c.receive.ensures.still.node ∙ sym c.node.ensures.node) ∙ none in
+    let request = c.in-Packet.request in
+    let decides : decided c.args.policy.now part.node (letter_of request) ≡ c.decide.result = ap (λ (m : NodeOf). decided c.args.policy.now m (letter_of request)) (sym c.node-2.ensures.node) ∙ sym c.decide.ensures in
+    may_take part cell.result request c.args.from c.args.me c.args.policy.now c.decide.result c.in-Some.event c.in-Packet.ensures.found cell.ensures.cell.0 cell.ensures.cell.1 (me_still c.args.me c.args.end.now c.receive.new.end c.receive.ensures.still c.requires.me) free decides c.in-Some.ensures
+
+pub returns-in_err-reply-clause-goes : goal.returns-in_err-reply-clause-goes
+returns-in_err-reply-clause-goes c =
+    let n = c.args.me in
+    let part = c.receive.new.end.part in
+    let request = c.in-Packet.request in
+    let e = c.in-Some.event in
+    let decides : decided c.args.policy.now part.node (letter_of request) ≡ c.decide.result = ap (λ (m : NodeOf). decided c.args.policy.now m (letter_of request)) (sym c.node-2.ensures.node) ∙ sym c.decide.ensures in
+    let taken = c.free.ensures.taken request c.in-Packet.ensures.found.spelled in
+    goes_then n c.args.policy.now c.args.policy.now c.served.new.self c.args.end.now c.receive.new.end c.reply.new.end c.args.progress.now c.args.progress.now c.reply.new.progress
+    (goes_still n c.args.policy.now c.args.end.now c.receive.new.end c.args.progress.now c.args.progress.now c.receive.ensures.still refl)
+    (goes_then n c.args.policy.now c.served.new.self c.served.new.self c.receive.new.end c.free.new.self c.reply.new.end c.args.progress.now c.count.new.self c.reply.new.progress
+    (goes_made n c.args.policy.now c.served.new.self c.receive.new.end c.free.new.self c.args.progress.now c.count.new.self e (take_is_own c.decide.result c.args.from n e c.in-Some.ensures)
+    (take_made c.args.policy.now c.served.new.self part.node c.free.new.self.part.node c.decide.result c.args.from n e (letter_of request) decides c.in-Some.ensures taken c.served.ensures)
+    c.count.ensures.more c.count.ensures.counted)
+    (c.reply.ensures.goes c.served.new.self))
+
+pub returns-clause-goes : goal.returns-clause-goes
+returns-clause-goes c =
+    let n = c.args.me in
+    let part = c.receive.new.end.part in
+    let request = c.in-Packet.request in
+    let e = c.in-Some.event in
+    let decides : decided c.args.policy.now part.node (letter_of request) ≡ c.decide.result = ap (λ (m : NodeOf). decided c.args.policy.now m (letter_of request)) (sym c.node-2.ensures.node) ∙ sym c.decide.ensures in
+    let taken = c.free.ensures.taken request c.in-Packet.ensures.found.spelled in
+    goes_then n c.args.policy.now c.args.policy.now c.served.new.self c.args.end.now c.receive.new.end c.reply.new.end c.args.progress.now c.args.progress.now c.reply.new.progress
+    (goes_still n c.args.policy.now c.args.end.now c.receive.new.end c.args.progress.now c.args.progress.now c.receive.ensures.still refl)
+    (goes_then n c.args.policy.now c.served.new.self c.served.new.self c.receive.new.end c.free.new.self c.reply.new.end c.args.progress.now c.count.new.self c.reply.new.progress
+    (goes_made n c.args.policy.now c.served.new.self c.receive.new.end c.free.new.self c.args.progress.now c.count.new.self e (take_is_own c.decide.result c.args.from n e c.in-Some.ensures)
+    (take_made c.args.policy.now c.served.new.self part.node c.free.new.self.part.node c.decide.result c.args.from n e (letter_of request) decides c.in-Some.ensures taken c.served.ensures)
+    c.count.ensures.more c.count.ensures.counted)
+    (c.reply.ensures.goes c.served.new.self))

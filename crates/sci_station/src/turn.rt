@@ -1,0 +1,324 @@
+//! A station's turn, over its end and its policy.
+
+ghost use Rattle.std.specs.Prelude.{◌≡◌, ◌≢◌, ◌<◌, true, false, None, IfOk, IsErr, IsOk, IsSome, []};
+ghost use Rattle.sci_words.specs.declared.event.Event.TheVariants.{Ask};
+ghost use Rattle.sci_core.specs.Node.{node_asking};
+ghost use Rattle.sci_policy.specs.Policy.{PolicyOf};
+ghost use Rattle.sci_policy.specs.Rest.{MayIdle, MayRest};
+ghost use Rattle.sci_policy.specs.Turn.{Counts, MadeNothing, MayPerform, is_idle};
+ghost use Rattle.sci_lanes.specs.Shown.{me_of};
+ghost use Rattle.sci_lanes.specs.Ends.{nodes_in};
+ghost use Rattle.sci_station.specs.Budgets.{HasNoMore};
+ghost use Rattle.sci_station.specs.Ends.{IsSameEnd, IsStill};
+ghost use Rattle.sci_station.specs.Moves.{EndsTurn, GoesOn, IsAsked, IsStep, IsTurn, WasHeldUp};
+
+use crate::budget::{Budget, Spent};
+use crate::receiving::{Received, receive};
+use crate::sending::send;
+use sci_core::LaneKind;
+use sci_lanes::LaneEnd;
+use sci_policy::{Policy, Progress, Want};
+use sci_words::{AskKind, Event, LANE_CELLS};
+
+/// Takes a turn of a node, and tells what it did. It sends the answer that waits; accepts up to four answers from each node;
+/// serves or refuses up to four requests from each node, beginning after the one served last, and sends each answer; and
+/// asks up to four times what the policy wants. If it has made as many steps as it may, the turn ends there.
+pub(crate) fn take_turn(
+    end: &mut LaneEnd,
+    policy: &mut Policy,
+    progress: &mut Progress,
+    budget: &mut Budget,
+) -> Result<(), Spent>
+    requires nothing { Counts [] progress.old }
+    requires ready { progress.old.ready ≡ None }
+    ensures turn { IsTurn (me_of end.old.part) policy.old end.old.part.node
+        policy.new end.new.part.node progress.new }
+    ensures ready { MayPerform end.new.part.node progress.new.ready }
+    ensures rest { IsOk result → is_idle progress.new ≡ true → 1 < nodes_in end.new.part →
+        MayIdle end.new.part.node }
+    ensures same { IsSameEnd end.old end.new }
+    ensures budget { HasNoMore budget.old.left budget.new.left }
+    ensures spent { IsErr result → budget.old.left ≢ None }
+{
+    let me = end.me();
+    policy.begin_turn();
+    reply(end, progress, budget, me)?;
+    accept_all(end, progress, budget, me)?;
+    take_all(end, policy, progress, budget, me)?;
+    ask_some(end, policy, progress, budget, me)
+}
+
+/// The answer that waits goes out, if one does and its cell is empty.
+fn reply(
+    end: &mut LaneEnd,
+    progress: &mut Progress,
+    budget: &mut Budget,
+    me: u8,
+) -> Result<(), Spent>
+    requires me { me ≡ me_of end.old.part }
+    requires accepted { progress.old.accepted < u32.MAX }
+    requires served { progress.old.served < u32.MAX }
+    ensures step { IsStep 1 end.old end.new progress.old progress.new }
+    ensures goes { (policy : PolicyOf) →
+        GoesOn me policy end.old policy end.new progress.old progress.new }
+    ensures budget { HasNoMore budget.old.left budget.new.left }
+    ensures spent { IsErr result → budget.old.left ≢ None }
+{
+    // By a `match`: the toolchain builds no proof for a packet behind `?`.
+    let answer = match end.node().waiting() {
+        Some(answer) => *answer,
+        None => return Ok(()),
+    };
+    let event = Event::Reply { node: me };
+    if send(end, budget, LaneKind::Answers, &answer, &event)? {
+        progress.count(&event);
+    }
+    Ok(())
+}
+
+/// Up to four answers from each node are accepted.
+fn accept_all(
+    end: &mut LaneEnd,
+    progress: &mut Progress,
+    budget: &mut Budget,
+    me: u8,
+) -> Result<(), Spent>
+    requires me { me ≡ me_of end.old.part }
+    requires accepted { progress.old.accepted < 1000 }
+    requires served { progress.old.served < 1000 }
+    ensures step { IsStep 1020 end.old end.new progress.old progress.new }
+    ensures goes { (policy : PolicyOf) →
+        GoesOn me policy end.old policy end.new progress.old progress.new }
+    ensures budget { HasNoMore budget.old.left budget.new.left }
+    ensures spent { IsErr result → budget.old.left ≢ None }
+{
+    let nodes = end.nodes();
+    for from in 0..nodes {
+        accept_from(end, progress, budget, me, from)?;
+    }
+    Ok(())
+}
+
+/// Up to four answers from a node are accepted.
+fn accept_from(
+    end: &mut LaneEnd,
+    progress: &mut Progress,
+    budget: &mut Budget,
+    me: u8,
+    from: u8,
+) -> Result<(), Spent>
+    requires me { me ≡ me_of end.old.part }
+    requires from { from < nodes_in end.old.part }
+    requires accepted { progress.old.accepted < 100000 }
+    requires served { progress.old.served < 100000 }
+    ensures step { IsStep 4 end.old end.new progress.old progress.new }
+    ensures goes { (policy : PolicyOf) →
+        GoesOn me policy end.old policy end.new progress.old progress.new }
+    ensures budget { HasNoMore budget.old.left budget.new.left }
+    ensures spent { IsErr result → budget.old.left ≢ None }
+{
+    for _cell in 0..LANE_CELLS {
+        if !accept(end, progress, budget, me, from)? {
+            break;
+        }
+    }
+    Ok(())
+}
+
+/// The oldest answer from a node is accepted. False if none has come.
+fn accept(
+    end: &mut LaneEnd,
+    progress: &mut Progress,
+    budget: &mut Budget,
+    me: u8,
+    from: u8,
+) -> Result<bool, Spent>
+    requires me { me ≡ me_of end.old.part }
+    requires from { from < nodes_in end.old.part }
+    requires accepted { progress.old.accepted < u32.MAX }
+    requires served { progress.old.served < u32.MAX }
+    ensures step { IsStep 1 end.old end.new progress.old progress.new }
+    ensures goes { (policy : PolicyOf) →
+        GoesOn me policy end.old policy end.new progress.old progress.new }
+    ensures budget { HasNoMore budget.old.left budget.new.left }
+    ensures spent { IsErr result → budget.old.left ≢ None }
+{
+    let cell = end.next_to_take(LaneKind::Answers, from);
+    match receive(end, budget, cell) {
+        Received::Packet(_answer) => {}
+        Received::Nothing => return Ok(false),
+        Received::Cut => return Err(Spent),
+    }
+    budget.spend()?;
+    let event = Event::Accept { from, node: me };
+    end.free(cell, &event);
+    progress.count(&event);
+    Ok(true)
+}
+
+/// Up to four requests from each node are served or refused, beginning after the node served last.
+fn take_all(
+    end: &mut LaneEnd,
+    policy: &mut Policy,
+    progress: &mut Progress,
+    budget: &mut Budget,
+    me: u8,
+) -> Result<(), Spent>
+    requires me { me ≡ me_of end.old.part }
+    requires accepted { progress.old.accepted < 10000 }
+    requires served { progress.old.served < 10000 }
+    ensures step { IsStep 2040 end.old end.new progress.old progress.new }
+    ensures goes { GoesOn me policy.old end.old policy.new end.new progress.old progress.new }
+    ensures budget { HasNoMore budget.old.left budget.new.left }
+    ensures spent { IsErr result → budget.old.left ≢ None }
+{
+    let nodes = end.node().extent().nodes;
+    let first = policy.first_sender(nodes);
+    for place in 0..nodes {
+        let from = (first + place) % nodes;
+        take_from(end, policy, progress, budget, me, from)?;
+    }
+    Ok(())
+}
+
+/// Up to four requests from a node are served or refused, and each is answered if the cell for the answer is empty.
+fn take_from(
+    end: &mut LaneEnd,
+    policy: &mut Policy,
+    progress: &mut Progress,
+    budget: &mut Budget,
+    me: u8,
+    from: u8,
+) -> Result<(), Spent>
+    requires me { me ≡ me_of end.old.part }
+    requires from { from < nodes_in end.old.part }
+    requires accepted { progress.old.accepted < 100000 }
+    requires served { progress.old.served < 100000 }
+    ensures step { IsStep 8 end.old end.new progress.old progress.new }
+    ensures goes { GoesOn me policy.old end.old policy.new end.new progress.old progress.new }
+    ensures budget { HasNoMore budget.old.left budget.new.left }
+    ensures spent { IsErr result → budget.old.left ≢ None }
+{
+    for _cell in 0..LANE_CELLS {
+        if !take(end, policy, progress, budget, me, from)? {
+            break;
+        }
+    }
+    Ok(())
+}
+
+/// The oldest request from a node is served or refused, and the answer sent if its cell is empty. False if none has come,
+/// an answer waits, or the policy keeps it.
+fn take(
+    end: &mut LaneEnd,
+    policy: &mut Policy,
+    progress: &mut Progress,
+    budget: &mut Budget,
+    me: u8,
+    from: u8,
+) -> Result<bool, Spent>
+    requires me { me ≡ me_of end.old.part }
+    requires from { from < nodes_in end.old.part }
+    requires accepted { progress.old.accepted < 200000 }
+    requires served { progress.old.served < 200000 }
+    ensures step { IsStep 2 end.old end.new progress.old progress.new }
+    ensures goes { GoesOn me policy.old end.old policy.new end.new progress.old progress.new }
+    ensures budget { HasNoMore budget.old.left budget.new.left }
+    ensures spent { IsErr result → budget.old.left ≢ None }
+{
+    if end.node().waiting().is_some() {
+        return Ok(false);
+    }
+    let cell = end.next_to_take(LaneKind::Requests, from);
+    let request = match receive(end, budget, cell) {
+        Received::Packet(request) => request,
+        Received::Nothing => return Ok(false),
+        Received::Cut => return Err(Spent),
+    };
+    let Some(event) = policy.decide(end.node(), &request).event(from, me) else {
+        return Ok(false);
+    };
+    budget.spend()?;
+    end.free(cell, &event);
+    progress.count(&event);
+    policy.served(from);
+    reply(end, progress, budget, me)?;
+    Ok(true)
+}
+
+/// Up to four times, the node asks what the policy wants. It ends at a line that can be performed, which is told, and at an
+/// ask whose cell is full.
+fn ask_some(
+    end: &mut LaneEnd,
+    policy: &mut Policy,
+    progress: &mut Progress,
+    budget: &mut Budget,
+    me: u8,
+) -> Result<(), Spent>
+    requires me { me ≡ me_of end.old.part }
+    requires accepted { progress.old.accepted < 100000 }
+    requires served { progress.old.served < 100000 }
+    requires ready { progress.old.ready ≡ None }
+    ensures turn { EndsTurn me policy.old end.old policy.new end.new progress.old progress.new }
+    ensures ready { MayPerform end.new.part.node progress.new.ready }
+    ensures idle { IsOk result → MadeNothing progress.new → progress.new.ready ≡ None →
+        MayRest end.new.part.node }
+    ensures same { IsSameEnd end.old end.new }
+    ensures budget { HasNoMore budget.old.left budget.new.left }
+    ensures spent { IsErr result → budget.old.left ≢ None }
+{
+    for _cell in 0..LANE_CELLS {
+        match policy.next(end.node()) {
+            Some(Want::Ask(line, kind)) => {
+                if !ask(end, progress, budget, me, line, kind)? {
+                    break;
+                }
+            }
+            Some(Want::Perform(line)) => {
+                progress.ready = Some(line);
+                return Ok(());
+            }
+            None => break,
+        }
+    }
+    Ok(())
+}
+
+/// The node asks a request of this kind about a line. False if the cell for it is full. The caller sees to it that the node
+/// can ask it.
+fn ask(
+    end: &mut LaneEnd,
+    progress: &mut Progress,
+    budget: &mut Budget,
+    me: u8,
+    line: u8,
+    kind: AskKind,
+) -> Result<bool, Spent>
+    requires me { me ≡ me_of end.old.part }
+    requires asks { IsSome (node_asking end.old.part.node line kind) }
+    requires accepted { progress.old.accepted < u32.MAX }
+    requires served { progress.old.served < u32.MAX }
+    ensures asked { IfOk result (λ asked. asked ≡ true →
+        IsAsked (Ask me line kind) end.old end.new progress.old progress.new) }
+    ensures full { IfOk result (λ asked. asked ≡ false →
+        WasHeldUp end.old end.new progress.old progress.new) }
+    ensures cut { IsErr result → IsStill end.old end.new × (progress.new ≡ progress.old) }
+    ensures same { IsSameEnd end.old end.new }
+    ensures budget { HasNoMore budget.old.left budget.new.left }
+    ensures spent { IsErr result → budget.old.left ≢ None }
+{
+    let event = Event::Ask {
+        node: me,
+        line,
+        kind,
+    };
+    let request = match end.node().asked(line, kind) {
+        Some(request) => request,
+        None => unreachable!(),
+    };
+    let sent = send(end, budget, LaneKind::Requests, &request, &event)?;
+    if sent {
+        progress.count(&event);
+    }
+    Ok(sent)
+}
