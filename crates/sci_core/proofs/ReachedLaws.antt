@@ -178,7 +178,7 @@ line_serials : (core : Core) (reached : IsReachable core) (line node : ℕ) → 
 line_serials core reached line node lt =
     subst (λ (es : List Entry). AllPairs (λ x y. x.serial < y.serial) (filter (is_on_line line) es)) (sym (log_at core node lt)) (((any_logged core reached).serials node).rising line)
 
-has_history : (core : Core) (reached : IsReachable core) (line : ℕ) → core.size.nodes ≤ MAX_NODES → HasHistory (logs_of core) line (stamped_at (last_of core) line)
+pub has_history : (core : Core) (reached : IsReachable core) (line : ℕ) → core.size.nodes ≤ MAX_NODES → HasHistory (logs_of core) line (stamped_at (last_of core) line)
 has_history core reached line few =
     let entries = done core.size reached.schedule in
     let nodes = all_weaker (λ (entry : Entry). entry.node < core.size.nodes) (λ entry. entry.node < MAX_NODES) (λ entry lt. omega arith) entries (any_logged core reached).nodes in

@@ -66,19 +66,3 @@ pub perform_makes : (core new : Core) (n line : ℕ) → IsReached core → n < 
 perform_makes core new n line reached some steps =
     let made = performed_by core new n (node_performing (node_at core n) line) reached some (sym ((steps_by_sides core n some).perform line) ∙ steps) in
     (made.0, made.1, perform_puts (node_at core n) (node_at new n) line made.0 (node_fits core n reached some) made.1)
-
-pub same_serial : (o : Option Pending) (p q : Pending) → o ≡ Some p → o ≡ Some q → p.serial ≡ q.serial
-same_serial None p q e f = cc
-same_serial (Some x) p q e f = let same : p ≡ q = cc in ap (λ (r : Pending). r.serial) same
-
--- ---- the end of a log
-
-pub last_entry : (log old : List Entry) (entry : Entry) → log ≡ old ++ entry ∷ [] → slice_get log (length log - 1) ≡ Some entry
-last_entry log old entry e =
-    let long = length_push old entry in
-    let place : length old ≡ length (old ++ entry ∷ []) - 1 = omega arith in
-    let below : length (old ++ entry ∷ []) - 1 < length (old ++ entry ∷ []) = omega arith in
-    rw e (slice_get-get_or (old ++ entry ∷ []) (length (old ++ entry ∷ []) - 1) entry below ∙ ap Some (get_or_push old entry entry (length (old ++ entry ∷ []) - 1) place))
-
-pub same_some : {A : Type 0} (x y : A) → Some x ≡ Some y → x ≡ y
-same_some x y e = cc

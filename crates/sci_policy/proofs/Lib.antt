@@ -7,3 +7,4 @@ pub mod Idle
 pub mod Targets
 pub mod Deciding
 pub mod Telling
+pub mod LogEnds

@@ -5,3 +5,5 @@ pub mod Spelled
 pub mod Turns
 pub mod Events
 pub mod Idling
+pub mod OneLogs
+pub mod Beats

@@ -2,6 +2,13 @@
 #![tactic(auto)]
 
 mod budget;
+mod fabric;
 mod receiving;
 mod sending;
+mod station;
+#[cfg(test)]
+mod tests;
 mod turn;
+
+pub use fabric::Fabric;
+pub use station::Station;

@@ -4,7 +4,8 @@ use Rattle.sci_history.specs.declared.entry.Entry.{Entry}
 use Rattle.sci_words.specs.declared.event.Event.TheVariants.{Perform}
 use Rattle.sci_core.specs.Core.{node_at, stepping}
 use Rattle.sci_core.specs.Node.{NodeOf, node_performing}
-use Rattle.sci_locked.proofs.Steps.{last_entry, no_fault, perform_enabled, perform_makes, same_some}
+use Rattle.sci_policy.proofs.LogEnds.{last_entry, same_some}
+use Rattle.sci_locked.proofs.Steps.{no_fault, perform_enabled, perform_makes}
 use Rattle.sci_locked.proofs.lent.perform_on.Goals as goal
 
 pub unreachable-requires : goal.unreachable-requires

@@ -3,7 +3,8 @@ use Rattle.std.specs.Prelude.{IsSome}
 use Rattle.sci_words.specs.declared.event.Event.TheVariants.{Issue}
 use Rattle.sci_core.specs.Core.{node_at, stepping}
 use Rattle.sci_core.specs.Node.{NodeOf, node_issuing, pending_on}
-use Rattle.sci_locked.proofs.Steps.{issue_enabled, issue_makes, no_fault, same_serial}
+use Rattle.sci_policy.proofs.LogEnds.{same_serial}
+use Rattle.sci_locked.proofs.Steps.{issue_enabled, issue_makes, no_fault}
 use Rattle.sci_locked.proofs.lent.submit_on.Goals as goal
 
 pub unreachable-requires : goal.unreachable-requires

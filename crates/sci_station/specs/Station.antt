@@ -1,0 +1,19 @@
+-- A station, as its owner sees it.
+use Rattle.sci_core.specs.Node.{NodeOf}
+use Rattle.sci_policy.specs.Policy.{PolicyOf, opening_policy}
+use Rattle.sci_lanes.specs.Ends.{EndOf, beaten}
+
+pub record StationOf : Type 0 where
+  pub end : EndOf
+  pub policy : PolicyOf
+
+abbrev pub node_in : StationOf → NodeOf
+node_in station = station.end.part.node
+
+-- a station that has taken no turn yet
+abbrev pub opening_station : EndOf → StationOf
+opening_station end = record { end = end; policy = opening_policy }
+
+-- the station after an event of its node that concerns no lane, after which the node is this one
+abbrev pub beaten_to : NodeOf → StationOf → StationOf
+beaten_to node station = record station { end = beaten node station.end }

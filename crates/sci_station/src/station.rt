@@ -1,0 +1,157 @@
+//! A station: a node that runs by itself.
+
+use crate::budget::Budget;
+use crate::turn::take_turn;
+use sci_history::Entry;
+use sci_lanes::LaneEnd;
+use sci_policy::{Policy, Progress, SubmitFault, check_submit};
+use sci_words::{Event, Op};
+use std::marker::Model;
+
+/// A node of a machine, with its end of the lanes and its policy. Whoever owns it runs it, in any thread: no call waits for
+/// another, or takes memory. Contracts see its end and what its policy remembers.
+#[derive(Drop)]
+pub struct Station {
+    end: LaneEnd,
+    policy: Policy,
+}
+
+impl Model for Station {
+    ghost use Rattle.sci_station.specs.Station.{StationOf};
+
+    ghost Value = { StationOf };
+
+    ghost view = { λ station. record { end = station.end; policy = station.policy } };
+}
+
+impl Station {
+    ghost use Rattle.std.specs.Prelude.{◌≡◌, ◌<◌, ◌≤◌, true, Some, None, IfErr, IfOk, IfSome, IsErr, IsOk};
+    ghost use Rattle.sci_core.specs.Node.{node_issuing, node_performing};
+    ghost use Rattle.sci_policy.specs.Policy.{opening_policy};
+    ghost use Rattle.sci_policy.specs.Rest.{MayIdle};
+    ghost use Rattle.sci_policy.specs.Turn.{MayPerform, is_idle, submit_fault};
+    ghost use Rattle.sci_lanes.specs.Ends.{nodes_in};
+    ghost use Rattle.sci_lanes.specs.Shown.{me_of};
+    ghost use Rattle.sci_station.specs.Ends.{IsSameEnd};
+    ghost use Rattle.sci_station.specs.Moves.{IsTurn};
+    ghost use Rattle.sci_station.specs.OneLog.{IsOneLog};
+    ghost use Rattle.sci_station.specs.Station.{beaten_to, node_in, opening_station};
+
+    /// The station of an end whose node has taken no turn yet.
+    pub(crate) fn new(end: LaneEnd) -> Station
+        ensures { result ≡ opening_station end }
+    {
+        Station {
+            end,
+            policy: Policy::new(),
+        }
+    }
+
+    /// Submits an operation, and gives its serial: the count of operations submitted before. Refused, unchanged, with the
+    /// first of `SubmitFault`'s causes that holds.
+    pub fn submit(&mut self, op: Op) -> Result<u32, SubmitFault>
+        ensures issued { IfOk result
+            (λ serial. node_issuing (node_in self.old) op ≡ Some (node_in self.new)) }
+        ensures serial { IfOk result (λ serial. serial ≡ (node_in self.old).issued) }
+        ensures may { IsOk result → submit_fault (node_in self.old) op ≡ None }
+        ensures fault { IfErr result
+            (λ fault. submit_fault (node_in self.old) op ≡ Some fault) }
+        ensures beaten { self.new ≡ beaten_to (node_in self.new) self.old }
+        ensures same { IsErr result → self.new ≡ self.old }
+        ensures end { IsSameEnd self.old.end self.new.end }
+    {
+        check_submit(self.end.node(), &op)?;
+        let event = Event::Issue {
+            node: self.end.me(),
+            op,
+        };
+        self.end.beat(&event);
+        match self.end.node().pending(op.line) {
+            Some(pending) => Ok(pending.serial),
+            None => unreachable!(),
+        }
+    }
+
+    /// Performs the operation that is pending on a line, and gives its entry, which now ends the log. None, unchanged, if
+    /// none is pending there or the line's state doesn't allow it.
+    pub fn perform(&mut self, line: u8) -> Option<Entry>
+        ensures performed { IfSome result (λ entry.
+            node_performing (node_in self.old) line ≡ Some (node_in self.new, entry)) }
+        ensures none { result ≡ None → node_performing (node_in self.old) line ≡ None }
+        ensures beaten { self.new ≡ beaten_to (node_in self.new) self.old }
+        ensures same { result ≡ None → self.new ≡ self.old }
+        ensures end { IsSameEnd self.old.end self.new.end }
+    {
+        if !self.end.node().may_perform(line) {
+            return None;
+        }
+        let event = Event::Perform {
+            node: self.end.me(),
+            line,
+        };
+        self.end.beat(&event);
+        match self.end.node().log().last() {
+            Some(entry) => Some(*entry),
+            None => unreachable!(),
+        }
+    }
+
+    /// Takes a turn. It sends the answer that waits; accepts up to four answers from each node; serves or refuses up to
+    /// four requests from each node, beginning after the one served last, and sends each answer; and asks up to four times
+    /// what the policy wants. A request that the policy keeps stays where it is, to be looked at again in a later turn.
+    ///
+    /// - Each event is the node's own, enabled when it comes. The policy counts the turn, decides each request that is
+    ///   taken, and wants each ask.
+    /// - What is told counts the events. A line that is told of has an operation that can be performed.
+    /// - Nothing is told only if no operation is pending, or there are other nodes and some line awaits an answer.
+    pub fn turn(&mut self) -> Progress
+        ensures turn { IsTurn (me_of self.old.end.part) self.old.policy (node_in self.old)
+            self.new.policy (node_in self.new) result }
+        ensures ready { MayPerform (node_in self.new) result.ready }
+        ensures rest { is_idle result ≡ true → 1 < nodes_in self.new.end.part →
+            MayIdle (node_in self.new) }
+        ensures end { IsSameEnd self.old.end self.new.end }
+    {
+        let mut progress = Progress::new();
+        let mut budget = Budget { left: None };
+        match take_turn(&mut self.end, &mut self.policy, &mut progress, &mut budget) {
+            Ok(()) => progress,
+            Err(_) => unreachable!(),
+        }
+    }
+
+    /// Takes a turn that ends before it would make more than `steps` steps on words of the table, and tells how many it
+    /// made. What it didn't come to is not told. A packet that was partly sent or partly read is begun again in a later
+    /// turn.
+    pub fn turn_within(&mut self, steps: u32) -> (Progress, u32)
+        ensures turn { IsTurn (me_of self.old.end.part) self.old.policy (node_in self.old)
+            self.new.policy (node_in self.new) result.0 }
+        ensures ready { MayPerform (node_in self.new) result.0.ready }
+        ensures steps { result.1 ≤ steps }
+        ensures end { IsSameEnd self.old.end self.new.end }
+    {
+        let mut progress = Progress::new();
+        let mut budget = Budget { left: Some(steps) };
+        let _ended = take_turn(&mut self.end, &mut self.policy, &mut progress, &mut budget);
+        match budget.left {
+            Some(left) => (progress, steps - left),
+            None => unreachable!(),
+        }
+    }
+
+    /// The entries of the operations performed so far, in their order. On each line serials rise, versions don't fall, and
+    /// the version of a maker is above all before it.
+    pub fn log(&self) -> &[Entry]
+        ensures log { result.now ≡ (node_in self.now).log }
+        ensures one { IsOneLog result.now }
+    {
+        self.end.node().log()
+    }
+
+    /// The node's number.
+    pub fn me(&self) -> u8
+        ensures { result ≡ me_of self.now.end.part }
+    {
+        self.end.me()
+    }
+}

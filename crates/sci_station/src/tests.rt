@@ -1,0 +1,132 @@
+use crate::{Fabric, Station};
+use sci_history::Entry;
+use sci_words::{Act, Extent, Op, Reply};
+use std::test::*;
+
+/// An operation on word 0 of a line.
+fn op(line: u8, act: Act) -> Op {
+    Op { line, word: 0, act }
+}
+
+/// An error unless this holds.
+fn holds(fact: bool, what: &'static str) -> Result<(), Fail> {
+    if fact { Ok(()) } else { Err(Fail::from(what)) }
+}
+
+/// The stations of row stations-by-hand, up to the turn in which the home grants the second node's copy.
+fn up_to_the_grant(first: &mut Station, second: &mut Station) -> Result<(), Fail> {
+    holds(
+        first.submit(op(0, Act::Store(7))) == Ok(0),
+        "the serial of the store",
+    )?;
+    for _turn in 0..3 {
+        first.turn();
+    }
+    let stored = Entry {
+        node: 0,
+        serial: 0,
+        op: op(0, Act::Store(7)),
+        reply: Reply::Stored,
+        version: 1,
+    };
+    holds(first.perform(0) == Some(stored), "the entry of the store")?;
+    holds(
+        second.submit(op(0, Act::Load)) == Ok(0),
+        "the serial of the load",
+    )?;
+    second.turn();
+    first.turn();
+    second.turn();
+    Ok(())
+}
+
+/// The load of node 1 after both have gone on.
+fn loads_in_the_end(first: &mut Station, second: &mut Station) -> Result<(), Fail> {
+    first.turn();
+    second.turn();
+    let loaded = Entry {
+        node: 1,
+        serial: 0,
+        op: op(0, Act::Load),
+        reply: Reply::Got(7),
+        version: 1,
+    };
+    holds(second.perform(0) == Some(loaded), "the entry of the load")?;
+    holds(second.log() == [loaded].as_slice(), "the log of node 1")
+}
+
+/// Two stations of a new machine of two nodes.
+fn two(rt: &HostRuntime, extent: Extent, limit: u32) -> Result<(Station, Station), Fail> {
+    let (_fabric, mut stations) = Fabric::new(rt.alloc(), extent, limit)?;
+    let second = stations.pop().ok_or("no second station")?;
+    let first = stations.pop().ok_or("no first station")?;
+    Ok((first, second))
+}
+
+/// Stations by hand: a store at the home, and a load at the other node that joins the home's list. The loader's turns are
+/// cut after any number of steps, and the rest is done in the turns after.
+#[test]
+fn stations_by_hand(rt: HostRuntime) -> Result<(), Fail> {
+    let extent = Extent::new(2, 1, 1).ok_or("an extent")?;
+    let (mut first, mut second) = two(&rt, extent, 1)?;
+    up_to_the_grant(&mut first, &mut second)?;
+    first.turn();
+    loads_in_the_end(&mut first, &mut second)
+}
+
+/// Two transactions of one node at a time, on two lines.
+#[test]
+fn two_transactions(rt: HostRuntime) -> Result<(), Fail> {
+    let extent = Extent::new(2, 3, 2).ok_or("an extent")?;
+    let (mut first, mut second) = two(&rt, extent, 2)?;
+    holds(second.submit(op(0, Act::Load)) == Ok(0), "the first serial")?;
+    holds(
+        second.submit(op(2, Act::Load)) == Ok(1),
+        "the second serial",
+    )?;
+    second.turn();
+    holds(first.turn().served == 2, "two served")?;
+    let progress = second.turn();
+    holds(progress.accepted == 2, "two accepted")?;
+    holds(progress.ready == Some(0), "line 0 is ready")?;
+    let entry = |line, serial| Entry {
+        node: 1,
+        serial,
+        op: op(line, Act::Load),
+        reply: Reply::Got(0),
+        version: 0,
+    };
+    holds(
+        second.perform(2) == Some(entry(2, 1)),
+        "the entry of line 2",
+    )?;
+    holds(
+        second.perform(0) == Some(entry(0, 0)),
+        "the entry of line 0",
+    )?;
+    holds(
+        second.log() == [entry(2, 1), entry(0, 0)].as_slice(),
+        "the log of node 1",
+    )
+}
+
+/// The home's last turn by hand, cut after each number of steps, leaves what later turns can finish; and it makes as many
+/// steps as it may, up to those of the whole turn.
+#[test]
+fn a_turn_is_cut_anywhere(rt: HostRuntime) -> Result<(), Fail> {
+    let extent = Extent::new(2, 1, 1).ok_or("an extent")?;
+    let (mut first, mut second) = two(&rt, extent, 1)?;
+    up_to_the_grant(&mut first, &mut second)?;
+    let (_whole, most) = first.turn_within(1000);
+    holds(most > 11, "a packet of eleven words is sent")?;
+    for steps in 0..=most {
+        let (mut first, mut second) = two(&rt, extent, 1)?;
+        up_to_the_grant(&mut first, &mut second)?;
+        let (_progress, made) = first.turn_within(steps);
+        holds(made == steps, "the steps made")?;
+        first.turn();
+        second.turn();
+        loads_in_the_end(&mut first, &mut second)?;
+    }
+    Ok(())
+}
