@@ -1,5 +1,5 @@
 -- Joining the ends, one after another in the order of their nodes.
-use Rattle.std.proofs.Common.{◌≡◌, ℕ, zero, suc, ◌+◌, ◌<◌, ◌≤◌, ◌⊎◌, inl, inr, List, [], ◌∷◌, ◌++◌, length, get_or, Some, sym, ap, subst, ◌∙◌, arith}
+use Rattle.std.proofs.Common.{◌≡◌, ℕ, zero, suc, ◌+◌, ◌<◌, ◌≤◌, ◌⊎◌, inl, inr, List, [], ◌∷◌, ◌++◌, length, get_or, Some, refl, sym, ap, subst, ◌∙◌, arith, map}
 use Rattle.std.specs.Prelude.{Vec, slice_get}
 use Rattle.std.specs.List.{remove}
 use Rattle.std.proofs.lemmas.Bool.{cases_lt}
@@ -11,7 +11,7 @@ use Rattle.sci_lanes.specs.declared.view.Part.{Part}
 use Rattle.sci_lanes.specs.Shown.{me_of}
 use Rattle.sci_lanes.specs.Telling.{no_part}
 use Rattle.sci_lanes.specs.Ends.{EndOf, nodes_in}
-use Rattle.sci_lanes.specs.Gathering.{HasEnd, HasTurns, IsJoinedAt, AreJoined, AreKept, AreAll}
+use Rattle.sci_lanes.specs.Gathering.{HasEndOf, HasTurns, IsJoinedAt, AreJoined, AreKept, AreAll}
 
 -- ---- a list with one element less
 
@@ -39,6 +39,23 @@ one_less [] p x e = cc
 one_less (z ∷ xs) zero x e = omega arith
 one_less (z ∷ xs) (suc p) x e = let less = one_less xs p x e in omega arith
 
+-- ---- what a list's elements have
+
+-- the element of a list at a place has what is there in the list of what they have
+pub mapped_at : {A B : Type 0} (f : A → B) (xs : List A) (k : ℕ) (x : A) (y : B) → x ≡ get_or xs k x → slice_get (map f xs) k ≡ Some y → f x ≡ y
+mapped_at f [] k x y e h = cc
+mapped_at f (z ∷ xs) zero x y e h = some_one (f x) y (ap (λ w. Some (f w)) e ∙ h)
+  where
+    some_one : {A : Type 0} (a b : A) → Some a ≡ Some b → a ≡ b
+    some_one a b e = cc
+mapped_at f (z ∷ xs) (suc k) x y e h = mapped_at f xs k x y e h
+
+pub mapped_less : {A B : Type 0} (f : A → B) (xs : List A) (p : ℕ) → map f (remove xs p) ≡ remove (map f xs) p
+mapped_less f [] zero = refl
+mapped_less f [] (suc p) = refl
+mapped_less f (x ∷ xs) zero = refl
+mapped_less f (x ∷ xs) (suc p) = ap (λ ys. f x ∷ ys) (mapped_less f xs p)
+
 -- ---- joined so far
 
 module _ {Z : Type 0} where
@@ -47,7 +64,7 @@ module _ {Z : Type 0} where
     pub joined : AreJoined all count parts nodes inboxes
     pub kept : AreKept ends left nodes
     pub rest : length left + count ≡ all
-    pub every : (n : ℕ) → count ≤ n → n < all → HasEnd left n
+    pub every : (n : ℕ) → count ≤ n → n < all → HasEndOf left n
     pub own : (place : ℕ) (end : EndOf) → slice_get left place ≡ Some end → (end.table ≡ table) × (nodes_in end.part ≡ all)
 
   pub none_joined : (table : TableId) (all : ℕ) (ends : List EndOf) (parts : List Part) (nodes : List NodeOf) (inboxes : List (Vec Inbox Z)) → parts ≡ [] → nodes ≡ [] → inboxes ≡ [] → AreAll all ends

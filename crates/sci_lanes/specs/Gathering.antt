@@ -33,8 +33,11 @@ pub record IsOf (lanes : LanesOf) (end : EndOf) : Type 0 where
   pub table : end.table ≡ lanes.table
   pub sized : size_in end.part ≡ lanes.size
 
+abbrev pub AreOf : LanesOf → List EndOf → Type 0
+AreOf lanes ends = (place : ℕ) (end : EndOf) → slice_get ends place ≡ Some end → IsOf lanes end
+
 -- an end has this number
-pub record HasEnd (ends : List EndOf) (n : ℕ) : Type 0 where
+pub record HasEndOf (ends : List EndOf) (n : ℕ) : Type 0 where
   pub place : ℕ
   pub end : EndOf
   pub there : slice_get ends place ≡ Some end
@@ -43,7 +46,7 @@ pub record HasEnd (ends : List EndOf) (n : ℕ) : Type 0 where
 -- they are the ends of all nodes of a machine, each once
 pub record AreAll (nodes : ℕ) (ends : List EndOf) : Type 0 where
   pub count : length ends ≡ nodes
-  pub every : (n : ℕ) → n < nodes → HasEnd ends n
+  pub every : (n : ℕ) → n < nodes → HasEndOf ends n
 
 -- ---- what comes out
 

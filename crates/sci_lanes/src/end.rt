@@ -18,6 +18,34 @@ pub(crate) struct Inbox {
     pub(crate) words: [u64; CELL_WORDS],
 }
 
+/// Whoever has an end of the lanes, and maybe more.
+pub trait HasEnd {
+    ghost use Rattle.std.specs.Prelude.{◌≡◌};
+    ghost use Rattle.sci_lanes.specs.Ends.{EndOf};
+
+    ghost end_of: { Self → EndOf };
+
+    /// The end.
+    fn end(&self) -> &LaneEnd
+        ensures { result.now ≡ end_of self.now };
+
+    /// Gives the end away, and drops what else there is.
+    fn into_end(self) -> LaneEnd
+        ensures { result ≡ end_of self };
+}
+
+impl HasEnd for LaneEnd {
+    ghost end_of = { λ end. end };
+
+    fn end(&self) -> &LaneEnd {
+        self
+    }
+
+    fn into_end(self) -> LaneEnd {
+        self
+    }
+}
+
 /// A node, and its end of every lane that it sends or receives in. Contracts see the table that it is of, and what it
 /// knows.
 #[derive(Drop)]

@@ -1,7 +1,7 @@
 //! Gathering: all ends are joined, and the state that their lanes show is read.
 
 use crate::cell::{CELL_WORDS, own_word};
-use crate::end::{Inbox, LaneEnd};
+use crate::end::{HasEnd, Inbox};
 use crate::lanes::Lanes;
 use crate::rule::{Gather, LaneTable};
 use crate::view::View;
@@ -23,35 +23,34 @@ pub enum FinishFault {
 }
 
 impl Lanes {
-    ghost use Rattle.std.specs.Prelude.{◌≡◌, ℕ, Some, IfErr, IfOk, slice_get};
+    ghost use Rattle.std.specs.Prelude.{◌≡◌, IfErr, IfOk, map};
     ghost use Rattle.sci_history.specs.Lawful.{Lawful};
     ghost use Rattle.sci_history.specs.Sequential.{IsSequentiallyConsistent};
     ghost use Rattle.sci_lanes.specs.declared.gather.FinishFault.TheVariants.{Memory, Missing};
-    ghost use Rattle.sci_lanes.specs.Ends.{EndOf};
-    ghost use Rattle.sci_lanes.specs.Gathering.{AreAll, AreGathered, AreLogged, HaveLogs, IsFresh, IsOf};
+    ghost use Rattle.sci_lanes.specs.Gathering.{AreAll, AreGathered, AreLogged, AreOf, HaveLogs, IsFresh};
 
     /// Gives the logs of all nodes, and the last contents of each line, in the state that the table shows. The ends may
-    /// come in any order, with packets in their lanes. The caller sees to it that they are ends of these lanes.
+    /// come in any order, with packets in their lanes, or with who has them. The caller sees to it that they are ends of
+    /// these lanes.
     ///
     /// Refused with the first of these, and then all comes back as it was:
     ///
     /// - Missing if the ends are not those of all nodes, each once.
     /// - Memory if memory is refused.
-    pub fn gather(
+    pub fn gather<E: HasEnd + Drop>(
         self,
         alloc: Global,
-        ends: Vec<LaneEnd>,
-    ) -> Result<(Logs, Last), (FinishFault, Lanes, Vec<LaneEnd>)>
-        requires own { (place : ℕ) (end : EndOf) → slice_get ends.items place ≡ Some end →
-            IsOf self end }
+        ends: Vec<E>,
+    ) -> Result<(Logs, Last), (FinishFault, Lanes, Vec<E>)>
+        requires own { AreOf self (map E.end_of ends.items) }
         ensures gathered { IfOk result
-            (λ done. AreGathered self.size ends.items done.0 done.1) }
-        ensures all { IfOk result (λ _. AreAll self.size.nodes ends.items) }
-        ensures logs { IfOk result (λ done. HaveLogs ends.items done.0) }
+            (λ done. AreGathered self.size (map E.end_of ends.items) done.0 done.1) }
+        ensures all { IfOk result (λ _. AreAll self.size.nodes (map E.end_of ends.items)) }
+        ensures logs { IfOk result (λ done. HaveLogs (map E.end_of ends.items) done.0) }
         ensures lawful { IfOk result (λ done. Lawful done.0 done.1) }
         ensures consistent { IfOk result (λ done. IsSequentiallyConsistent done.0 done.1) }
-        ensures missing { IfErr result (λ back. back.0 ≡ Missing → ¬ AreAll self.size.nodes ends.items) }
-        ensures memory { IfErr result (λ back. back.0 ≡ Memory → AreAll self.size.nodes ends.items) }
+        ensures missing { IfErr result (λ back. back.0 ≡ Missing → ¬ AreAll self.size.nodes (map E.end_of ends.items)) }
+        ensures memory { IfErr result (λ back. back.0 ≡ Memory → AreAll self.size.nodes (map E.end_of ends.items)) }
         ensures lanes { IfErr result (λ back. back.1 ≡ self) }
         ensures ends { IfErr result (λ back. back.2.items ≡ ends.items) }
     {
@@ -65,13 +64,12 @@ impl Lanes {
     }
 
     /// Joins the ends, and reads the state that the table shows.
-    fn read(self, ends: Vec<LaneEnd>, room: Room) -> (Logs, Last)
-        requires own { (place : ℕ) (end : EndOf) → slice_get ends.items place ≡ Some end →
-            IsOf self end }
-        requires all { AreAll self.size.nodes ends.items }
+    fn read<E: HasEnd + Drop>(self, ends: Vec<E>, room: Room) -> (Logs, Last)
+        requires own { AreOf self (map E.end_of ends.items) }
+        requires all { AreAll self.size.nodes (map E.end_of ends.items) }
         requires fresh { IsFresh self.size.nodes room }
-        requires logs { AreLogged self.size.nodes ends.items room.logs }
-        ensures { AreGathered self.size ends.items result.0 result.1 }
+        requires logs { AreLogged self.size.nodes (map E.end_of ends.items) room.logs }
+        ensures { AreGathered self.size (map E.end_of ends.items) result.0 result.1 }
     {
         let Lanes {
             table,
@@ -106,7 +104,7 @@ ghost use Rattle.sci_lanes.specs.declared.view.Outbound.{Outbound};
 ghost use Rattle.sci_lanes.specs.Cells.{lane_count, word_count};
 ghost use Rattle.sci_lanes.specs.Shown.{Fits, me_of};
 ghost use Rattle.sci_lanes.specs.Ends.{EndOf, no_view, nodes_in};
-ghost use Rattle.sci_lanes.specs.Gathering.{AreAll, AreJoined, AreKept, AreLanes, AreLogged, HasEnd};
+ghost use Rattle.sci_lanes.specs.Gathering.{AreAll, AreJoined, AreKept, AreLanes, AreLogged, HasEndOf};
 ghost use Rattle.sci_lanes.specs.Gathering.{HasFour, HasNodes, HasRoom, HaveBoxes, IsFresh, IsPacketAt, IsReadOff};
 
 /// Memory for a gathering, all of it made before the first end is joined.
@@ -124,11 +122,11 @@ struct Room {
 
 impl Room {
     /// Memory for the gathering of these ends, which are those of all nodes, with their logs.
-    fn new(alloc: Global, nodes: u8, ends: &[LaneEnd]) -> Result<Room, AllocError>
+    fn new<E: HasEnd>(alloc: Global, nodes: u8, ends: &[E]) -> Result<Room, AllocError>
         requires few { nodes ≤ 16 }
-        requires all { AreAll nodes ends.now }
+        requires all { AreAll nodes (map E.end_of ends.now) }
         ensures fresh { IfOk result (IsFresh nodes) }
-        ensures logs { IfOk result (λ room. AreLogged nodes ends.now room.logs) }
+        ensures logs { IfOk result (λ room. AreLogged nodes (map E.end_of ends.now) room.logs) }
     {
         let count = usize::from(nodes);
         let lane_count = 2 * count * count;
@@ -148,29 +146,29 @@ impl Room {
 }
 
 /// The logs of these ends, which are those of all nodes. Refused if memory is.
-fn logs_of(alloc: Global, nodes: u8, ends: &[LaneEnd]) -> Result<Logs, AllocError>
+fn logs_of<E: HasEnd>(alloc: Global, nodes: u8, ends: &[E]) -> Result<Logs, AllocError>
     requires few { nodes ≤ 16 }
-    requires all { AreAll nodes ends.now }
-    ensures { IfOk result (AreLogged nodes ends.now) }
+    requires all { AreAll nodes (map E.end_of ends.now) }
+    ensures { IfOk result (AreLogged nodes (map E.end_of ends.now)) }
 {
     let mut logs = Logs::new(alloc);
     for n in 0..nodes {
         let Some(place) = place_of(ends, n) else {
             unreachable!()
         };
-        push_log(&mut logs, n, ends[place].node().log())?;
+        push_log(&mut logs, n, ends[place].end().node().log())?;
     }
     Ok(logs)
 }
 
 /// Where the end of a node is.
-fn place_of(ends: &[LaneEnd], n: u8) -> Option<usize>
-    ensures some { IfSome result (λ place. (end : EndOf) × (slice_get ends.now place ≡ Some end)
+fn place_of<E: HasEnd>(ends: &[E], n: u8) -> Option<usize>
+    ensures some { IfSome result (λ place. (end : EndOf) × (slice_get (map E.end_of ends.now) place ≡ Some end)
         × (me_of end.part ≡ n)) }
-    ensures none { result ≡ None → ¬ HasEnd ends.now n }
+    ensures none { result ≡ None → ¬ HasEndOf (map E.end_of ends.now) n }
 {
     for (place, end) in ends.iter().enumerate() {
-        if end.me() == n {
+        if end.end().me() == n {
             return Some(place);
         }
     }
@@ -178,9 +176,9 @@ fn place_of(ends: &[LaneEnd], n: u8) -> Option<usize>
 }
 
 /// Whether these are the ends of all nodes, each once.
-fn are_all(ends: &[LaneEnd], nodes: u8) -> bool
-    ensures all { result ≡ true → AreAll nodes ends.now }
-    ensures not { result ≡ false → ¬ AreAll nodes ends.now }
+fn are_all<E: HasEnd>(ends: &[E], nodes: u8) -> bool
+    ensures all { result ≡ true → AreAll nodes (map E.end_of ends.now) }
+    ensures not { result ≡ false → ¬ AreAll nodes (map E.end_of ends.now) }
 {
     for n in 0..nodes {
         if place_of(ends, n).is_none() {
@@ -192,16 +190,17 @@ fn are_all(ends: &[LaneEnd], nodes: u8) -> bool
 
 /// Joins the ends to a seat that has no node, in the order of their nodes, and keeps their nodes and what they kept of
 /// the lanes to them.
-fn join_all(
+fn join_all<E: HasEnd + Drop>(
     seat: &mut Seat<(), View>,
-    mut ends: Vec<LaneEnd>,
+    mut ends: Vec<E>,
     nodes: &mut Vec<Node>,
     inboxes: &mut Vec<Vec<Inbox>>,
     count: u8,
 )
-    requires own { (place : ℕ) (end : EndOf) → slice_get ends.items place ≡ Some end →
+    requires own { (place : ℕ) (end : EndOf) →
+        slice_get (map E.end_of ends.items) place ≡ Some end →
         (end.table ≡ seat.old.table_id) × (nodes_in end.part ≡ count) }
-    requires all { AreAll count ends.items }
+    requires all { AreAll count (map E.end_of ends.items) }
     requires spent { seat.old.me ≡ (no_view, []) }
     requires nodes { HasRoom count nodes.old }
     requires inboxes { HasRoom count inboxes.old }
@@ -209,13 +208,13 @@ fn join_all(
     ensures knows { seat.new.me ≡ (record { parts = seat.new.me.0.parts; words = [] }, []) }
     ensures joined { AreJoined count count seat.new.me.0.parts nodes.new.items
         inboxes.new.items }
-    ensures kept { AreKept ends.items [] nodes.new.items }
+    ensures kept { AreKept (map E.end_of ends.items) [] nodes.new.items }
 {
     for n in 0..count {
         let Some(place) = place_of(&ends, n) else {
             unreachable!()
         };
-        let (part, node, inbox) = ends.remove(place).into_parts();
+        let (part, node, inbox) = ends.remove(place).into_end().into_parts();
         part.join(seat);
         nodes.push_reserved(node);
         inboxes.push_reserved(inbox);

@@ -14,7 +14,7 @@ mod tests;
 mod view;
 
 pub use cell::CellId;
-pub use end::LaneEnd;
+pub use end::{HasEnd, LaneEnd};
 pub use gather::FinishFault;
 pub use lanes::Lanes;
 pub use laws::words_show_one_state;

@@ -1,6 +1,5 @@
-ghost use Rattle.std.specs.Prelude.{◌≡◌, ℕ, Some, slice_get};
-ghost use Rattle.sci_lanes.specs.Ends.{EndOf};
-ghost use Rattle.sci_lanes.specs.Gathering.{IsOf};
+ghost use Rattle.std.specs.Prelude.{map};
+ghost use Rattle.sci_lanes.specs.Gathering.{AreOf};
 
 use crate::{FinishFault, LaneEnd, Lanes};
 use sci_core::LaneKind;
@@ -79,8 +78,7 @@ fn is_untouched(logs: &Logs, last: &Last) -> Result<(), Fail> {
 
 /// An error unless the ends are gathered, the second time if memory was refused, and nothing was done.
 fn gathers(alloc: Global, lanes: Lanes, ends: Vec<LaneEnd>) -> Result<(), Fail>
-    requires own { (place : ℕ) (end : EndOf) → slice_get ends.items place ≡ Some end →
-        IsOf lanes end }
+    requires own { AreOf lanes (map (λ end. end) ends.items) }
 {
     let (lanes, ends) = match lanes.gather(alloc, ends) {
         Ok((logs, last)) => return is_untouched(&logs, &last),

@@ -7,6 +7,9 @@ pub record StationOf : Type 0 where
   pub end : EndOf
   pub policy : PolicyOf
 
+abbrev pub end_in : StationOf → EndOf
+end_in station = station.end
+
 abbrev pub node_in : StationOf → NodeOf
 node_in station = station.end.part.node
 

@@ -1,7 +1,8 @@
 //! The machine that stations make together.
 
 use crate::station::Station;
-use sci_lanes::Lanes;
+use sci_history::{Last, Logs};
+use sci_lanes::{FinishFault, Lanes};
 use sci_words::Extent;
 use std::alloc::{AllocError, Global};
 use std::marker::Model;
@@ -20,12 +21,23 @@ impl Model for Fabric {
     ghost view = { λ fabric. fabric.lanes };
 }
 
+/// The logs of all stations, and the last contents of each line.
+#[derive(Drop)]
+pub struct Finished {
+    pub logs: Logs,
+    pub last: Last,
+}
+
 impl Fabric {
-    ghost use Rattle.std.specs.Prelude.{◌≡◌, ◌≤◌, IfOk, map};
+    ghost use Rattle.std.specs.Prelude.{◌≡◌, ◌≤◌, IfErr, IfOk, map};
+    ghost use Rattle.sci_history.specs.Lawful.{Lawful};
+    ghost use Rattle.sci_history.specs.Sequential.{IsSequentiallyConsistent};
+    ghost use Rattle.sci_lanes.specs.declared.gather.FinishFault.TheVariants.{Memory, Missing};
+    ghost use Rattle.sci_lanes.specs.Gathering.{AreAll, AreGathered, AreOf, HaveLogs};
     ghost use Rattle.sci_words.specs.declared.limits.TheConstants.{MAX_OPERATIONS};
     ghost use Rattle.sci_core.specs.Size.{size_of};
     ghost use Rattle.sci_lanes.specs.Ends.{opening_ends};
-    ghost use Rattle.sci_station.specs.Station.{opening_station};
+    ghost use Rattle.sci_station.specs.Station.{end_in, opening_station};
 
     /// The lanes of a machine of this size, and its stations, numbered from 0. Each may submit `limit` operations; the
     /// caller sees to it that this is 1 to 65,536. Refused if memory is. No call of a station takes memory.
@@ -46,5 +58,37 @@ impl Fabric {
             stations.push(Station::new(end))?;
         }
         Ok((Fabric { lanes }, stations))
+    }
+    /// Gives the logs of all stations, and the last contents of each line. The stations may come in any order, and need
+    /// not have finished their work. The caller sees to it that they are stations of this fabric.
+    ///
+    /// Refused with the first of these, and then all comes back as it was:
+    ///
+    /// - Missing if the stations are not all of the fabric's, each once.
+    /// - Memory if memory is refused.
+    pub fn finish(
+        self,
+        alloc: Global,
+        stations: Vec<Station>,
+    ) -> Result<Finished, (FinishFault, Fabric, Vec<Station>)>
+        requires own { AreOf self (map end_in stations.items) }
+        ensures gathered { IfOk result (λ done.
+            AreGathered self.size (map end_in stations.items) done.logs done.last) }
+        ensures all { IfOk result (λ _. AreAll self.size.nodes (map end_in stations.items)) }
+        ensures logs { IfOk result (λ done. HaveLogs (map end_in stations.items) done.logs) }
+        ensures lawful { IfOk result (λ done. Lawful done.logs done.last) }
+        ensures consistent { IfOk result
+            (λ done. IsSequentiallyConsistent done.logs done.last) }
+        ensures missing { IfErr result (λ back. back.0 ≡ Missing →
+            ¬ AreAll self.size.nodes (map end_in stations.items)) }
+        ensures memory { IfErr result (λ back. back.0 ≡ Memory →
+            AreAll self.size.nodes (map end_in stations.items)) }
+        ensures fabric { IfErr result (λ back. back.1 ≡ self) }
+        ensures stations { IfErr result (λ back. back.2.items ≡ stations.items) }
+    {
+        match self.lanes.gather(alloc, stations) {
+            Ok((logs, last)) => Ok(Finished { logs, last }),
+            Err((fault, lanes, stations)) => Err((fault, Fabric { lanes }, stations)),
+        }
     }
 }

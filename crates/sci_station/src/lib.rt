@@ -10,5 +10,5 @@ mod station;
 mod tests;
 mod turn;
 
-pub use fabric::Fabric;
+pub use fabric::{Fabric, Finished};
 pub use station::Station;

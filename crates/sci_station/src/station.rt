@@ -3,7 +3,7 @@
 use crate::budget::Budget;
 use crate::turn::take_turn;
 use sci_history::Entry;
-use sci_lanes::LaneEnd;
+use sci_lanes::{HasEnd, LaneEnd};
 use sci_policy::{Policy, Progress, SubmitFault, check_submit};
 use sci_words::{Event, Op};
 use std::marker::Model;
@@ -22,6 +22,18 @@ impl Model for Station {
     ghost Value = { StationOf };
 
     ghost view = { λ station. record { end = station.end; policy = station.policy } };
+}
+
+impl HasEnd for Station {
+    ghost end_of = { λ station. station.end };
+
+    fn end(&self) -> &LaneEnd {
+        &self.end
+    }
+
+    fn into_end(self) -> LaneEnd {
+        self.end
+    }
 }
 
 impl Station {
