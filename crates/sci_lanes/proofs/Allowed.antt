@@ -1,6 +1,7 @@
 -- Each kind of step keeps the rule, and tells its seat what it should.
 use Rattle.std.proofs.Common.{◌≡◌, ◌≢◌, ℕ, zero, suc, ◌+◌, ◌%◌, ◌<◌, inl, inr, Bool, true, false, if◌then◌else◌, eqb, List, [], ◌∷◌, length, get_or, set, refl, sym, ap, subst, ◌∙◌, arith}
-use Rattle.std.proofs.lemmas.Bool.{and_parts, and_left, eqb-true, ne_eqb, cases_lt}
+use Rattle.std.specs.Prelude.{not}
+use Rattle.std.proofs.lemmas.Bool.{and_parts, and_left, eq-eqb, eqb-true, ne_eqb, cases_lt}
 use Rattle.std.proofs.lemmas.List.{set-get_or}
 use mathlib.Core.Option.{some, none, some-ne-none}
 use lib.ListN.{get_elem?}
@@ -16,7 +17,7 @@ use Rattle.sci_lanes.specs.declared.view.Part.{Part}
 use Rattle.sci_lanes.specs.declared.view.View.{View}
 use Rattle.sci_lanes.specs.Cells.{cell_place, lane_count, sender_of, receiver_of, word_at}
 use Rattle.sci_lanes.specs.Shown.{Fits, ShowsLane, Whole, nodes_of, me_of, single, outbound_at, inbound_at, IsKnown, Shows, IsKept}
-use Rattle.sci_lanes.specs.Knowing.{is_sending, is_receiving, looked_out, looked_in, looked}
+use Rattle.sci_lanes.specs.Knowing.{has_sent_more, is_sending, is_receiving, looked_out, looked_in, looked}
 use Rattle.sci_lanes.specs.Telling.{IsShown, IsSameNode, size_in}
 use Rattle.sci_lanes.specs.Plays.{lane_in, number_in, index_in, Looks}
 use Rattle.sci_lanes.proofs.Words.{same_cell}
@@ -107,14 +108,18 @@ maybe_out : (b : Bool) (words : List ℕ) (lane word : ℕ) (packets : List Pack
 maybe_out true words lane word packets o i is f = subst (λ (w : ℕ). Fits words lane packets (looked_out w o) i) (sym (is refl)) (out_looked words lane packets o i f)
 maybe_out false words lane word packets o i is f = f
 
-maybe_in : (b : Bool) (words : List ℕ) (lane word : ℕ) (packets : List Packet) (o : Outbound) (i : Inbound) → (b ≡ true → word ≡ word_at words lane i.taken 0) → Fits words lane packets o i
-    → Fits words lane packets o (if b then looked_in word i else i)
-maybe_in true words lane word packets o i is f = subst (λ (w : ℕ). Fits words lane packets o (looked_in w i)) (sym (is refl)) (in_looked words lane packets o i f)
-maybe_in false words lane word packets o i is f = f
+maybe_in : (b sure : Bool) (words : List ℕ) (lane word : ℕ) (packets : List Packet) (o : Outbound) (i : Inbound) → (b ≡ true → word ≡ word_at words lane i.taken 0) → (b ≡ true → sure ≡ true → 0 < length packets) → Fits words lane packets o i
+    → Fits words lane packets o (if b then looked_in sure word i else i)
+maybe_in true sure words lane word packets o i is there f = subst (λ (w : ℕ). Fits words lane packets o (looked_in sure w i)) (sym (is refl)) (in_looked words lane packets o i sure (there refl) f)
+maybe_in false sure words lane word packets o i is there f = f
 
 if_false : {X : Type 0} (b : Bool) (x y : X) → b ≡ false → (if b then x else y) ≡ y
 if_false true x y e = cc
 if_false false x y e = refl
+
+not_true : (b : Bool) → not b ≡ true → b ≡ true → ⊥
+not_true true e f = cc
+not_true false e f = cc
 
 pub looks : (size : Size) (slots id lane number : ℕ) (part : Part) → lane < lane_count size.nodes → number < 4
     → Allows (IsKept size) slots id (single part, []) (cell_place lane number + 0) (λ n. n) (Looks (step slots (cell_place lane number + 0) 0 0 none) (single part, []))
@@ -163,11 +168,14 @@ looks size slots id lane number part lt few = allows size slots id place part (�
         c : Bool
         c = is_receiving part lane number
 
+        sure : Bool
+        sure = has_sent_more part lane
+
         o' : Outbound
         o' = if b then looked_out word (x.outbound lane) else x.outbound lane
 
         i' : Inbound
-        i' = if c then looked_in word (x.inbound lane) else x.inbound lane
+        i' = if c then looked_in sure word (x.inbound lane) else x.inbound lane
 
         y : Whole
         y = turned_whole x lane x.core o' i'
@@ -193,23 +201,41 @@ looks size slots id lane number part lt few = allows size slots id place part (�
         old : ShowsLane s.words lane (lane_at x.core lane) (x.outbound lane) (x.inbound lane)
         old = kept.shown.lanes lane lane_ok
 
+        -- what the node has sent to itself and not taken is there
+        surely : c ≡ true → sure ≡ true → 0 < length old.packets
+        surely takes more =
+            let both = and_parts (eqb (receiver_of part.node.cache.nodes lane) (me_of part)) (eqb number ((inbound_at part lane).taken % 4)) takes in
+            let receiver : receiver_of (nodes_of x) lane ≡ me_of part = subst (λ (n : ℕ). receiver_of n lane ≡ me_of part) nodes (eqb-true (receiver_of part.node.cache.nodes lane) (me_of part) both.0) in
+            let sends = and_parts (eqb (sender_of part.node.cache.nodes lane) (me_of part)) (not (eqb (outbound_at part lane).sent (inbound_at part lane).taken)) more in
+            let sender : sender_of (nodes_of x) lane ≡ me_of part = subst (λ (n : ℕ). sender_of n lane ≡ me_of part) nodes (eqb-true (sender_of part.node.cache.nodes lane) (me_of part) sends.0) in
+            let sent = ap (λ (o : Outbound). o.sent) (out_is sender) in
+            let taken = ap (λ (i : Inbound). i.taken) (in_is receiver) in
+            let counted = old.fits.counted in
+            elim (cases_lt 0 (length old.packets)) [
+              | inl packets ↦ packets
+              | inr few ↦
+                  let same : (outbound_at part lane).sent ≡ (inbound_at part lane).taken = omega arith in
+                  let yes = eq-eqb (outbound_at part lane).sent (inbound_at part lane).taken same in
+                  absurd (not_true (eqb (outbound_at part lane).sent (inbound_at part lane).taken) sends.1 yes)
+            ]
+
         shows_lane : ShowsLane (set s.words place word) lane (lane_at x.core lane) o' i'
         shows_lane = record {
           packets = old.packets;
           letters = old.letters;
           fits = subst (λ (ws : List ℕ). Fits ws lane old.packets o' i') (sym (set-get_or s.words place 0))
-              (maybe_in c s.words lane word old.packets o' (x.inbound lane) receives_here (maybe_out b s.words lane word old.packets (x.outbound lane) (x.inbound lane) sends_here old.fits));
+              (maybe_in c sure s.words lane word old.packets o' (x.inbound lane) receives_here surely (maybe_out b s.words lane word old.packets (x.outbound lane) (x.inbound lane) sends_here old.fits));
         }
 
         shows : Shows y (set s.words place word) (set s.views id (single (looked lane number word part)))
         shows = lane_step x s.words s.views id lane number 0 word part x.core part.node
             (if b then looked_out word (outbound_at part lane) else outbound_at part lane) o'
-            (if c then looked_in word (inbound_at part lane) else inbound_at part lane) i'
+            (if c then looked_in sure word (inbound_at part lane) else inbound_at part lane) i'
             kept.shown here (omega arith)
             (still x id part lane _ o' _ i' k lane_ok
             (λ is. ap (λ (o : Outbound). if b then looked_out word o else o) (out_is is))
             (λ apart. if_false b _ (x.outbound lane) (and_left (eqb (sender_of part.node.cache.nodes lane) (me_of part)) _ (ne_eqb (sender_of part.node.cache.nodes lane) (me_of part) (λ e. apart (subst (λ (n : ℕ). sender_of n lane ≡ me_of part) nodes e)))))
-            (λ is. ap (λ (i : Inbound). if c then looked_in word i else i) (in_is is))
+            (λ is. ap (λ (i : Inbound). if c then looked_in sure word i else i) (in_is is))
             (λ apart. if_false c _ (x.inbound lane) (and_left (eqb (receiver_of part.node.cache.nodes lane) (me_of part)) _ (ne_eqb (receiver_of part.node.cache.nodes lane) (me_of part) (λ e. apart (subst (λ (n : ℕ). receiver_of n lane ≡ me_of part) nodes e))))))
             shows_lane
 

@@ -1,5 +1,6 @@
 -- How the fields of an end fit together after each call.
 use Rattle.std.proofs.Common.{◌≡◌, ◌≢◌, ℕ, ◌+◌, ◌*◌, ◌/◌, ◌%◌, ◌<◌, ◌≤◌, inl, inr, Bool, true, false, if◌then◌else◌, eqb, List, [], ◌∷◌, ◌++◌, length, get_or, set, take, refl, sym, ap, subst, ◌∙◌, arith}
+use Rattle.std.specs.Prelude.{◌&&◌, not}
 use Rattle.std.proofs.lemmas.Bool.{and_from, and_left, and_right, eq-eqb, ne_eqb, cases_eq, cases_lt}
 use Rattle.std.proofs.Math.Nat.{div-lt_iff_lt-mul, div-add-mod}
 use Rattle.std.proofs.Common.{mul_assoc}
@@ -12,7 +13,7 @@ use Rattle.sci_lanes.specs.declared.view.Inbound.{Inbound}
 use Rattle.sci_lanes.specs.declared.view.Part.{Part}
 use Rattle.sci_lanes.specs.Cells.{lane_count, receiver_of, lane_number}
 use Rattle.sci_lanes.specs.Shown.{me_of, no_outbound, no_inbound, outbound_at, inbound_at}
-use Rattle.sci_lanes.specs.Knowing.{with_lane_known, found_first, looked_in, looked_out, looked, is_sending, is_receiving, filled, filled_out, read, read_in, published, published_out, freed, freed_in, with_node_known}
+use Rattle.sci_lanes.specs.Knowing.{has_sent_more, with_lane_known, found_first, looked_in, looked_out, looked, is_sending, is_receiving, filled, filled_out, read, read_in, published, published_out, freed, freed_in, with_node_known}
 use Rattle.sci_lanes.specs.Telling.{IsShown, IsSameNode}
 use Rattle.sci_lanes.specs.Ends.{nodes_in, lane_at_cell, no_inbox, HasFound, FitsInside, with_word, passed}
 use Rattle.sci_lanes.proofs.Seats.{IsInLane}
@@ -100,8 +101,8 @@ kept_more words found index word few le h =
     }
 
 -- the first word of a cell is kept, if a packet is there
-pub kept_first : (words found : List ℕ) (word : ℕ) → HasFound words found → HasFound (set words 0 word) (found_first word)
-kept_first words found word h = by_word (eqb word 0) (kept_more words found 0 word (omega arith) (omega arith) h)
+pub kept_first : (words found : List ℕ) (sure : Bool) (word : ℕ) → HasFound words found → HasFound (set words 0 word) (found_first sure word)
+kept_first words found sure word h = by_word (eqb word 0 && not sure) (kept_more words found 0 word (omega arith) (omega arith) h)
   where
     by_word : (b : Bool) → HasFound (set words 0 word) (word ∷ []) → HasFound (set words 0 word) (if b then [] else word ∷ [])
     by_word true k = record { eleven = k.eleven; begins = λ j lt. absurd (omega arith) }
@@ -180,8 +181,8 @@ module _ (part : Part) (node : NodeOf) (me nodes : ℕ) (turns : List ℕ) (inbo
   out_sent false word o = refl
 
   looked_as : (b : Bool) (new : Part) (word : ℕ) → is_receiving part lane cell.number ≡ b → new ≡ looked lane cell.number word part
-      → new ≡ with_lane_known lane part.node (if is_sending part lane cell.number then looked_out word (outbound_at part lane) else outbound_at part lane) (if b then looked_in word (inbound_at part lane) else inbound_at part lane) part
-  looked_as b new word e is = is ∙ ap (λ (c : Bool). with_lane_known lane part.node (if is_sending part lane cell.number then looked_out word (outbound_at part lane) else outbound_at part lane) (if c then looked_in word (inbound_at part lane) else inbound_at part lane) part) e
+      → new ≡ with_lane_known lane part.node (if is_sending part lane cell.number then looked_out word (outbound_at part lane) else outbound_at part lane) (if b then looked_in (has_sent_more part lane) word (inbound_at part lane) else inbound_at part lane) part
+  looked_as b new word e is = is ∙ ap (λ (c : Bool). with_lane_known lane part.node (if is_sending part lane cell.number then looked_out word (outbound_at part lane) else outbound_at part lane) (if c then looked_in (has_sent_more part lane) word (inbound_at part lane) else inbound_at part lane) part) e
 
   -- the look isn't the receiver's
   unreceived : (new : Part) (word : ℕ) → is_receiving part lane cell.number ≡ false → new ≡ looked lane cell.number word part → IsShown new → FitsInside new node me nodes turns inboxes
@@ -208,13 +209,13 @@ module _ (part : Part) (node : NodeOf) (me nodes : ℕ) (turns : List ℕ) (inbo
       let old = old_box receives in
       let box = with_word 0 word (get_or inboxes (lane_number nodes cell / nodes) no_inbox) in
       let o = if is_sending part lane cell.number then looked_out word (outbound_at part lane) else outbound_at part lane in
-      let i = looked_in word (inbound_at part lane) in
+      let i = looked_in (has_sent_more part lane) word (inbound_at part lane) in
       let does : is_receiving part lane cell.number ≡ true = and_from (eqb (receiver_of (nodes_in part) lane) (me_of part)) (eqb cell.number ((inbound_at part lane).taken % 4))
       (eq-eqb (receiver_of (nodes_in part) lane) (me_of part) (at.receiver ∙ (mine ∙ f.me_is))) (eq-eqb cell.number ((inbound_at part lane).taken % 4) (sym next ∙ old.turn)) in
       let is' : new ≡ with_lane_known lane part.node o i part = looked_as true new word does is in
       subst (λ (p : Part). FitsInside p node me nodes turns (set inboxes (lane_number nodes cell / nodes) box)) (sym is')
       (inside_changed part node me nodes turns turns inboxes (set inboxes (lane_number nodes cell / nodes) box) lane part.node node o i f
-      (rekept o i box (out_sent (is_sending part lane cell.number) word (outbound_at part lane)) receives old.turn (kept_first (get_or inboxes (lane_number nodes cell / nodes) no_inbox).words (inbound_at part lane).found word old.found))
+      (rekept o i box (out_sent (is_sending part lane cell.number) word (outbound_at part lane)) receives old.turn (kept_first (get_or inboxes (lane_number nodes cell / nodes) no_inbox).words (inbound_at part lane).found (has_sent_more part lane) word old.found))
       (subst IsShown is' shown) f.node_is refl refl)
 
   pub published_inside : (new : Part) (next node' : NodeOf) (turn : ℕ) → cell.number ≡ (outbound_at part lane).sent % 4 → turn ≡ (cell.number + 1) % 4 → new ≡ published lane next part → IsShown new → node' ≡ next → IsSameNode part new

@@ -209,8 +209,8 @@ out_looked words lane packets o i f =
 
 -- ---- the other steps
 
-pub in_looked : (words : List ℕ) (lane : ℕ) (packets : List Packet) (o : Outbound) (i : Inbound) → Fits words lane packets o i → Fits words lane packets o (looked_in (word_at words lane i.taken 0) i)
-in_looked words lane packets o i f = by_word (word_at words lane i.taken 0) refl
+pub in_looked : (words : List ℕ) (lane : ℕ) (packets : List Packet) (o : Outbound) (i : Inbound) (sure : Bool) → (sure ≡ true → 0 < length packets) → Fits words lane packets o i → Fits words lane packets o (looked_in sure (word_at words lane i.taken 0) i)
+in_looked words lane packets o i sure there f = by_word sure there (word_at words lane i.taken 0) refl
   where
     none : Fits words lane packets o (record i { found = [] })
     none = forget_found words lane 0 packets o i (omega arith) f
@@ -221,9 +221,10 @@ in_looked words lane packets o i f = by_word (word_at words lane i.taken 0) refl
       | inr le ↦ (let empty = first_empty f 0 le (omega arith) i.taken (omega arith) in absurd (omega arith))
     ]
 
-    by_word : (word : ℕ) → word_at words lane i.taken 0 ≡ word → Fits words lane packets o (record i { found = found_first word })
-    by_word zero is = none
-    by_word (suc word) is = rw (ne_eqb (suc word) 0 (λ e. omega arith)) (more_found words lane (suc word) packets o (record i { found = [] }) (some word is) (omega arith) is none)
+    by_word : (s : Bool) → (s ≡ true → 0 < length packets) → (word : ℕ) → word_at words lane i.taken 0 ≡ word → Fits words lane packets o (record i { found = found_first s word })
+    by_word true full zero is = more_found words lane 0 packets o (record i { found = [] }) (full refl) (omega arith) is none
+    by_word false full zero is = none
+    by_word s full (suc word) is = rw (ne_eqb (suc word) 0 (λ e. omega arith)) (more_found words lane (suc word) packets o (record i { found = [] }) (some word is) (omega arith) is none)
 
 pub out_filled : (words : List ℕ) (lane index word : ℕ) (packets : List Packet) (o : Outbound) (i : Inbound) → o.vacant ≡ true → 0 < index → index < 11 → index ≤ length o.filled + 1
     → cell_place lane o.sent + index < length words

@@ -1,5 +1,5 @@
 -- What each kind of step does to what a part knows.
-use Rattle.std.specs.Prelude.{ℕ, ◌+◌, ◌-◌, ◌%◌, Bool, false, ◌==◌, ◌&&◌, if◌then◌else◌, List, [], ◌∷◌, ◌++◌, take, slice_set}
+use Rattle.std.specs.Prelude.{ℕ, ◌+◌, ◌-◌, ◌%◌, Bool, false, not, ◌==◌, ◌&&◌, if◌then◌else◌, List, [], ◌∷◌, ◌++◌, take, slice_set}
 use Rattle.sci_core.specs.Node.{NodeOf}
 use Rattle.sci_lanes.specs.declared.view.Outbound.{Outbound}
 use Rattle.sci_lanes.specs.declared.view.Inbound.{Inbound}
@@ -13,12 +13,12 @@ use Rattle.sci_lanes.specs.Shown.{outbound_at, inbound_at, me_of}
 abbrev pub looked_out : ℕ → Outbound → Outbound
 looked_out word o = record o { vacant = word == 0 }
 
--- a receiver that looks at its next cell begins to read, if a packet is there
-abbrev pub found_first : ℕ → List ℕ
-found_first word = if word == 0 then [] else word ∷ []
+-- a receiver that looks at its next cell begins to read, if a packet is there; sometimes it is sure of that before
+abbrev pub found_first : Bool → ℕ → List ℕ
+found_first sure word = if word == 0 && not sure then [] else word ∷ []
 
-abbrev pub looked_in : ℕ → Inbound → Inbound
-looked_in word i = record i { found = found_first word }
+abbrev pub looked_in : Bool → ℕ → Inbound → Inbound
+looked_in sure word i = record i { found = found_first sure word }
 
 -- a further word is filled; those after it are forgotten
 abbrev pub filled_out : ℕ → ℕ → Outbound → Outbound
@@ -44,6 +44,11 @@ is_sending part lane number = sender_of part.node.cache.nodes lane == me_of part
 abbrev pub is_receiving : Part → ℕ → ℕ → Bool
 is_receiving part lane number = receiver_of part.node.cache.nodes lane == me_of part && number == (inbound_at part lane).taken % 4
 
+-- whether the part's node sends in a lane more than was taken there: in a lane to itself it is sure then that packets are
+-- there
+abbrev pub has_sent_more : Part → ℕ → Bool
+has_sent_more part lane = sender_of part.node.cache.nodes lane == me_of part && not ((outbound_at part lane).sent == (inbound_at part lane).taken)
+
 -- the part with this node, and this known of a lane
 abbrev pub with_lane_known : ℕ → NodeOf → Outbound → Inbound → Part → Part
 with_lane_known lane node o i part = record { node = node; outbound = slice_set part.outbound lane o; inbound = slice_set part.inbound lane i }
@@ -53,7 +58,7 @@ abbrev pub looked : ℕ → ℕ → ℕ → Part → Part
 looked lane number word part =
     with_lane_known lane part.node
     (if is_sending part lane number then looked_out word (outbound_at part lane) else outbound_at part lane)
-    (if is_receiving part lane number then looked_in word (inbound_at part lane) else inbound_at part lane)
+    (if is_receiving part lane number then looked_in (has_sent_more part lane) word (inbound_at part lane) else inbound_at part lane)
     part
 
 abbrev pub filled : ℕ → ℕ → ℕ → Part → Part
