@@ -1,24 +1,18 @@
 -- A node that finds nothing to do has nothing pending, or awaits an answer of another.
-use Rattle.std.proofs.Common.{◌≡◌, ◌≤◌, ◌<◌, ◌*◌, ◌⊎◌, ℕ, zero, suc, true, false, if◌then◌else◌, arith, List, [], ◌∷◌, filter, length, get_or, Option, Some, None, refl, sym, ap, subst, ◌∙◌, inl, inr}
-use Rattle.std.specs.Prelude.{IfSome, IsSome, is_some, option_to_list, slice_get}
-use Rattle.std.specs.List.{flat_map}
+use Rattle.std.proofs.Common.{◌≡◌, ◌≤◌, ◌<◌, ℕ, true, if◌then◌else◌, arith, List, [], length, Option, Some, None, refl, sym, ap, subst, ◌∙◌, inl, inr}
+use Rattle.std.specs.Prelude.{IfSome, IsSome, is_some, slice_get}
 use Rattle.std.proofs.lemmas.Bool.{cases_lt}
-use Rattle.std.proofs.lemmas.List.{get_or_past}
 use Rattle.sci_words.specs.declared.event.AskKind.{AskKind}
 use Rattle.sci_cache.specs.State.{waits}
-use Rattle.sci_cache.specs.Line.{LineState, untouched}
-use Rattle.sci_cache.specs.Cache.{Letter, line_of}
+use Rattle.sci_cache.specs.Cache.{Letter}
 use Rattle.sci_core.specs.declared.lane.LaneKind.TheVariants.{Answers, Requests}
-use Rattle.sci_core.specs.Core.{Core, lane_at, lane_of, lane_place, node_at}
-use Rattle.sci_core.specs.Node.{NodeOf, no_node, node_asking}
+use Rattle.sci_core.specs.Core.{Core, lane_of, lane_place, node_at}
+use Rattle.sci_core.specs.Node.{NodeOf, node_asking}
 use Rattle.sci_core.specs.Reached.{IsReached}
-use Rattle.sci_core.specs.Sharing.{is_about, packets_of, under_way}
-use Rattle.sci_core.specs.Tidy.{HasItsPackets}
 use Rattle.sci_core.proofs.Applied.{front_holds}
 use Rattle.sci_core.proofs.Enabled.{request_enabled}
 use Rattle.sci_core.proofs.Options.{of_some}
 use Rattle.sci_core.proofs.Places.{place_from}
-use Rattle.sci_core.proofs.TidyRuns.{reached_tidy}
 use Rattle.sci_core.proofs.WellFormedSteps.{reached_well}
 use Rattle.sci_core.specs.WellFormed.{IsInLane}
 use Rattle.sci_policy.specs.declared.decision.Decision.{Decision}
@@ -34,17 +28,11 @@ use Rattle.sci_locked.specs.Idle.{HasNothingToDo, IsFull, IsHeldUp}
 use Rattle.sci_locked.specs.Moves.{taking_event}
 use Rattle.sci_policy.specs.Turn.{decided_event}
 use Rattle.sci_locked.proofs.Enabled.{no_front, some_front}
-use Rattle.sci_policy.proofs.Deciding.{keeps_no_own}
+use Rattle.sci_policy.proofs.Alone.{alone_rests, first_only}
+use Rattle.sci_policy.proofs.Deciding.{keep_of, keeps_no_own}
 use Rattle.sci_policy.proofs.Targets.{asked_target, waiting_target}
 
 -- ---- a machine of one node
-
-none_flat : {X : Type 0} (f : X → List Letter) (xs : List X) (d : X) → ((i : ℕ) → i < length xs → f (get_or xs i d) ≡ []) → flat_map f xs ≡ []
-none_flat f [] d none = refl
-none_flat f (x ∷ xs) d none = rw (none 0 (omega arith), none_flat f xs d (λ i below. none (suc i) (omega arith))) refl
-
-first_only : (i n : ℕ) → i < n → n ≡ 1 → i ≡ 0
-first_only i n below one = omega arith
 
 free_by : (core : Core) (n : ℕ) (waiting : Option Letter) → IfSome waiting (λ answer. IsFull core Answers n answer.target) → ((answer : Letter) → waiting ≡ Some answer → lane_of core Answers n answer.target ≡ []) → waiting ≡ None
 free_by core n None full empty = refl
@@ -52,11 +40,6 @@ free_by core n (Some answer) full empty =
     let long : length (lane_of core Answers n answer.target) ≡ 0 = ap length (empty answer refl) in
     let many : 4 ≤ length (lane_of core Answers n answer.target) = full in
     absurd (omega arith)
-
-keep_of : (d : Decision) (from n : ℕ) → decided_event d from n ≡ None → d ≡ Keep
-keep_of Keep from n e = refl
-keep_of Refuse from n e = cc
-keep_of Serve from n e = cc
 
 own_taken : (policy : PolicyOf) (node : NodeOf) (request : Letter) (n : ℕ) → request.source ≡ node.cache.me → decided_event (decided policy node request) n n ≡ None → ⊥
 own_taken policy node request n own none = keeps_no_own policy node request own (keep_of (decided policy node request) n n none)
@@ -71,17 +54,9 @@ front_own : (P : Letter → Type 0) (lane : List Letter) (front : Option Letter)
 front_own P lane None is all = tt
 front_own P lane (Some letter) is all = all letter is
 
-two_lanes : (i nodes lanes : ℕ) → i < lanes → lanes ≡ 2 * nodes * nodes → nodes ≡ 1 → i < 2
-two_lanes i nodes lanes below long one = let two : lanes ≡ 2 = long ∙ ap (λ (k : ℕ). 2 * k * k) one in omega arith
-
-place_alone : (nodes : ℕ) (i : ℕ) → nodes ≡ 1 → i < 2 → (lane_place nodes Requests 0 0 ≡ i) ⊎ (lane_place nodes Answers 0 0 ≡ i)
-place_alone nodes zero one few = inl (rw one refl)
-place_alone nodes (suc zero) one few = inr (rw one refl)
-place_alone nodes (suc (suc i)) one few = absurd (omega arith)
-
--- no packet is under way if a node that is alone has nothing to do
-alone_quiet : (policy : PolicyOf) (core : Core) → IsReached core → core.size.nodes ≡ 1 → HasNothingToDo policy core 0 → (line : ℕ) → packets_of core 0 line ≡ []
-alone_quiet policy core reached one nothing line =
+-- no line awaits an answer if a node that is alone has nothing to do
+alone_idle : (policy : PolicyOf) (core : Core) → IsReached core → core.size.nodes ≡ 1 → HasNothingToDo policy core 0 → (line : ℕ) → waits (state_on (node_at core 0) line) ≡ true → ⊥
+alone_idle policy core reached one nothing line awaits =
     let well = reached_well core reached in
     let some : 0 < core.size.nodes = omega arith in
     let node = node_at core 0 in
@@ -93,30 +68,7 @@ alone_quiet policy core reached one nothing line =
     (front_holds (IsInLane core.size.nodes core.size.lines place) (lane_of core Requests 0 0) letter front (well.each_lane place)).from ∙ (place_from core.size.nodes Requests 0 0 some some ∙ sym (well.each_part 0 some).me) in
     let front = slice_get (lane_of core Requests 0 0) 0 in
     let requests : lane_of core Requests 0 0 ≡ [] = no_front (lane_of core Requests 0 0) (taken_if policy node 0 front free (front_own (λ request. request.source ≡ node.cache.me) (lane_of core Requests 0 0) front refl own) (nothing.requests 0 some)) in
-    let parts : flat_map (λ (part : NodeOf). option_to_list part.waiting) core.parts ≡ [] = none_flat (λ (part : NodeOf). option_to_list part.waiting) core.parts no_node (λ i below.
-    let first : i ≡ 0 = first_only i core.size.nodes (let long = well.sizes.parts_long in omega arith) one in
-    subst (λ (j : ℕ). option_to_list (node_at core j).waiting ≡ []) (sym first) (ap option_to_list free)) in
-    let lanes : flat_map (λ (lane : List Letter). lane) core.lanes ≡ [] = none_flat (λ (lane : List Letter). lane) core.lanes [] (λ i below.
-    let two : i < 2 = two_lanes i core.size.nodes (length core.lanes) below well.sizes.lanes_long one in
-    elim (place_alone core.size.nodes i one two) [
-      | inl is ↦ subst (λ (p : ℕ). lane_at core p ≡ []) is requests
-      | inr is ↦ subst (λ (p : ℕ). lane_at core p ≡ []) is answers
-    ]) in
-    let all : under_way core ≡ [] = rw (parts, lanes) refl in
-    ap (filter (is_about 0 line)) all
-
-waits_for_one : (home : ℕ) (line : LineState) (packets : List Letter) → HasItsPackets home line packets → packets ≡ [] → waits line.state ≡ true → ⊥
-waits_for_one home line [] has none awaits = let clash : true ≡ false = sym awaits ∙ has in cc
-waits_for_one home line (letter ∷ packets) has none awaits = cc
-
--- ---- any machine
-
-beyond_out : (core : Core) (n line : ℕ) → IsReached core → n < core.size.nodes → core.size.lines ≤ line → waits (state_on (node_at core n) line) ≡ true → ⊥
-beyond_out core n line reached some past awaits =
-    let all = ((reached_well core reached).each_part n some).each in
-    let none : line_of (node_at core n).cache line ≡ untouched = get_or_past (node_at core n).cache.lines line untouched (omega arith) in
-    let clash : true ≡ false = sym awaits ∙ ap (λ (l : LineState). waits l.state) none in
-    cc
+    alone_rests core reached one free requests answers line awaits
 
 -- a line that awaits an answer awaits one of another node
 awaits_others : (policy : PolicyOf) (core : Core) (n : ℕ) → IsReached core → n < core.size.nodes → HasNothingToDo policy core n → (line : ℕ) → waits (state_on (node_at core n) line) ≡ true → MayIdle (node_at core n)
@@ -128,11 +80,7 @@ awaits_others policy core n reached some nothing line awaits =
           let first : n ≡ 0 = omega arith in
           let nothing_here = subst (HasNothingToDo policy core) first nothing in
           let awaits_here = subst (λ (m : ℕ). waits (state_on (node_at core m) line) ≡ true) first awaits in
-          let here : 0 < core.size.nodes = omega arith in
-          absurd (elim (cases_lt line core.size.lines) [
-            | inl inside ↦ waits_for_one _ (line_of (node_at core 0).cache line) _ (reached_tidy core reached 0 line here inside) (alone_quiet policy core reached one nothing_here line) awaits_here
-            | inr past ↦ beyond_out core 0 line reached here past awaits_here
-          ])
+          absurd (alone_idle policy core reached one nothing_here line awaits_here)
     ]
 
 idle_by : (policy : PolicyOf) (core : Core) (n : ℕ) → IsReached core → n < core.size.nodes → HasNothingToDo policy core n → MayRest (node_at core n) → MayIdle (node_at core n)

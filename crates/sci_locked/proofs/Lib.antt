@@ -6,4 +6,3 @@ pub mod Taking
 pub mod Asking
 pub mod Idling
 pub mod IdleTurns
-pub mod Circles

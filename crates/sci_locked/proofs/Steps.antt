@@ -1,8 +1,7 @@
 -- What an Issue and a Perform of a node do to a reached state.
-use Rattle.std.proofs.Common.{◌≡◌, ℕ, ◌<◌, true, false, ◌-◌, List, [], ◌∷◌, ◌++◌, length, Option, Some, None, refl, sym, ap, ◌∙◌, arith}
-use Rattle.std.specs.Prelude.{IsSome, is_some, option_map, slice_get}
-use Rattle.std.proofs.lemmas.List.{get_or-set_same, get_or_push, length_push}
-use Rattle.std.proofs.lemmas.Option.{slice_get-get_or}
+use Rattle.std.proofs.Common.{◌≡◌, ℕ, ◌<◌, true, false, Option, Some, None, refl, sym, ap, ◌∙◌, arith}
+use Rattle.std.specs.Prelude.{IsSome, is_some, option_map}
+use Rattle.std.proofs.lemmas.List.{get_or-set_same}
 use Rattle.sci_words.specs.declared.event.Event.{Event}
 use Rattle.sci_words.specs.declared.event.Event.TheVariants.{Issue, Perform}
 use Rattle.sci_words.specs.declared.operation.Op.{Op}
@@ -12,7 +11,6 @@ use Rattle.sci_core.specs.declared.fault.ApplyFault.TheVariants.{NotEnabled, Mem
 use Rattle.sci_core.specs.Core.{Core, node_at, stepping, with_node}
 use Rattle.sci_core.specs.Fault.{IsFaultOf, is_sending}
 use Rattle.sci_core.specs.Node.{IsNode, NodeOf, no_node, node_issuing, node_performing}
-use Rattle.sci_core.specs.declared.pending.Pending.{Pending}
 use Rattle.sci_core.specs.Reached.{IsReached}
 use Rattle.sci_core.specs.Work.{IsIssued, IsLogged}
 use Rattle.sci_core.proofs.Pendings.{issue_puts, perform_puts}

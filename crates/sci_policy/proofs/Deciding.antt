@@ -1,13 +1,15 @@
 -- What the policy decides of a request, and what it never does.
-use Rattle.std.proofs.Common.{◌≡◌, Bool, true, false, if◌then◌else◌, Option, Some, None, sym, ◌∙◌, refl}
+use Rattle.std.proofs.Common.{◌≡◌, ℕ, Bool, true, false, if◌then◌else◌, Option, Some, None, sym, ◌∙◌, refl}
 use Rattle.std.specs.Prelude.{is_some, not, ◌==◌}
 use Rattle.std.proofs.lemmas.Bool.{and_parts, eq-eqb}
 use Rattle.sci_packets.specs.declared.body.Body.{Body}
 use Rattle.sci_packets.specs.declared.body.Body.TheVariants as body
 use Rattle.sci_cache.specs.Cache.{Letter}
 use Rattle.sci_core.specs.Node.{NodeOf, is_setback}
+use Rattle.sci_policy.specs.declared.decision.Decision.{Decision}
 use Rattle.sci_policy.specs.declared.decision.Decision.TheVariants as decision
 use Rattle.sci_policy.specs.Policy.{PolicyOf, decided, is_cread, kept_by, refused_by}
+use Rattle.sci_policy.specs.Turn.{decided_event}
 
 refused_if : (keep refuse : Bool) → (if keep then decision.Keep else if refuse then decision.Refuse else decision.Serve) ≡ decision.Refuse → refuse ≡ true
 refused_if true refuse e = cc
@@ -45,3 +47,9 @@ keeps_no_own policy node request own keep =
     let kept : kept_by policy node request ≡ true = kept_if (kept_by policy node request) (refused_by policy node request) keep in
     let other = (and_parts _ (not (request.source == node.cache.me)) (and_parts _ _ kept).0).1 in
     not_true (request.source == node.cache.me) other (eq-eqb request.source node.cache.me own)
+
+-- only what is kept is taken by no event
+pub keep_of : (d : Decision) (from n : ℕ) → decided_event d from n ≡ None → d ≡ decision.Keep
+keep_of decision.Keep from n e = refl
+keep_of decision.Refuse from n e = cc
+keep_of decision.Serve from n e = cc

@@ -8,3 +8,5 @@ pub mod Targets
 pub mod Deciding
 pub mod Telling
 pub mod LogEnds
+pub mod Alone
+pub mod Circles

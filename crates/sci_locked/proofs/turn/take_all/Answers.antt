@@ -3,7 +3,7 @@ use Rattle.std.proofs.lemmas.Bool.{cases_lt}
 use Rattle.sci_core.specs.Core.{Core}
 use Rattle.sci_policy.specs.Policy.{PolicyOf, first_sender}
 use Rattle.sci_locked.specs.Moves.{taken_next}
-use Rattle.sci_locked.proofs.Circles.{comes_by}
+use Rattle.sci_policy.proofs.Circles.{comes_by}
 use Rattle.sci_locked.proofs.Turns.{goes_then, step_most, step_then}
 use Rattle.sci_locked.proofs.turn.take_all.Goals as goal
 
