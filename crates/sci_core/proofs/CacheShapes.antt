@@ -21,7 +21,7 @@ use Rattle.sci_core.proofs.Heads.{if_head, next_either}
 use Rattle.sci_core.proofs.Views.{View, link_in, Shift}
 use Rattle.sci_core.proofs.Standings.{Coming, Leading, Following, role_of, Agrees, Alike, alike_itself}
 use Rattle.sci_core.proofs.Led.{role_in, AgreesIn, IsLed, AlikeIn, alike_moved, same_link, Stands, alike_stands, led_stands, led_without, Joins, led_joins}
-use Rattle.sci_core.proofs.Shapes.{AcceptsIn, IsLedFrom, Shaped, shaped_alike}
+use Rattle.sci_core.proofs.Shapes.{AcceptsIn, IsLedFrom, IsShaped, Shaped, shaped_alike}
 
 -- stands as it stood, but for the link
 pub record Stood (old : CacheState) (was : Option Body) (new : CacheState) (now : Option Body) : Type 0 where
@@ -316,7 +316,7 @@ cache_serves h a q old (Telling r w false) letter sent here = elim sent [ ]
 -- ---- one line, before and after
 
 -- neither asker nor server
-other_alike : (old new : View) (a q : ℕ) (next : CacheState) (body : Body) → Shift old new a q next body → (n : ℕ) → n ≢ a → n ≢ q → AlikeIn old new n
+pub other_alike : (old new : View) (a q : ℕ) (next : CacheState) (body : Body) → Shift old new a q next body → (n : ℕ) → n ≢ a → n ≢ q → AlikeIn old new n
 other_alike old new a q next body shift n not_asker not_server =
     alike_moved old new n (old.answer n) (old.state n) (old.answer n) refl (shift.others n not_server) (shift.other_answers n not_asker) (alike_itself (old.state n) (old.answer n))
 
@@ -330,7 +330,7 @@ asker_alike old new a q served shift keeps asks =
       | inr apart ↦ alike_moved old new a None (old.state a) (Some served.1) shift.unanswered (shift.others a apart) shift.answered asks
     ]
 
-kept_alike : (old new : View) (a q : ℕ) (served : CacheState × Body) → Shift old new a q served.0 served.1 → ((answer : Option Body) → Alike (old.state q) answer served.0 answer) → Alike (old.state a) None (old.state a) (Some served.1) → (n : ℕ) → AlikeIn old new n
+pub kept_alike : (old new : View) (a q : ℕ) (served : CacheState × Body) → Shift old new a q served.0 served.1 → ((answer : Option Body) → Alike (old.state q) answer served.0 answer) → Alike (old.state a) None (old.state a) (Some served.1) → (n : ℕ) → AlikeIn old new n
 kept_alike old new a q served shift keeps asks n =
     elim (cases_eq n a) [
       | inl asker ↦ subst (AlikeIn old new) (sym asker) (asker_alike old new a q served shift keeps asks)
@@ -381,106 +381,149 @@ accepts_both old new a q served shift apart accepted still all n =
       ]
     ]
 
-joined_shaped : (old new : View) (a q : ℕ) (served : CacheState × Body) (home : HomeState) (c : Stamped) → Shift old new a q served.0 served.1 → JoinsAs a q (old.state a) (old.state q) served → Shaped old home c → Shaped new home c
-joined_shaped old new a q served home c shift joins (ns, is) =
+-- one joins before another, and every link stays
+pub record JoinedAt (old new : View) (a q : ℕ) : Type 0 where
+  pub joins : Joins old new a q
+  pub links : (n : ℕ) → link_in new n ≡ link_in old n
+
+pub joined_at : (old new : View) (a q : ℕ) (served : CacheState × Body) → Shift old new a q served.0 served.1 → JoinsAs a q (old.state a) (old.state q) served → JoinedAt old new a q
+joined_at old new a q served shift joins =
     let apart : a ≢ q = λ e. joins.differ (ap old.state e) in
     let see = sights old new a q served shift apart in
     let none = shift.idle joins.idle in
     let was : link_in old a ≡ Some (Some q) = see.asker_was link_of ∙ joins.before in
     let server_same : link_in new q ≡ link_in old q = see.server_is link_of ∙ (ap (link_of served.0) none ∙ (joins.link ∙ ap (link_of (old.state q)) (sym none))) in
-    let same : (n : ℕ) → link_in new n ≡ link_in old n = λ n. elim (cases_eq n a) [
-      | inl asker ↦ ap (link_in new) asker ∙ (see.asker_is link_of ∙ (joins.still ∙ (sym was ∙ ap (link_in old) (sym asker))))
-      | inr not_asker ↦ elim (cases_eq n q) [
-        | inl server ↦ ap (link_in new) server ∙ (server_same ∙ ap (link_in old) (sym server))
-        | inr other ↦ same_link old new n (other_alike old new a q served.0 served.1 shift n not_asker other)
-      ]
-    ] in
     let server_agreed : (d : Stamped) → AgreesIn d old q → Agrees d (old.state q) None = λ d h. subst (Agrees d (old.state q)) none h in
-    let led_so : Joins old new a q = record {
-      link = was;
-      coming = see.asker_was role_of ∙ joins.coming;
-      leading = ap (role_of (old.state q)) none ∙ joins.leading;
-      leads = see.asker_is role_of ∙ joins.leads;
-      follows = see.server_is role_of ∙ (ap (role_of served.0) none ∙ joins.follows);
-      fresh = see.asker_is is_fresh ∙ (joins.fresh ∙ sym (see.asker_was is_fresh));
-      keeps = λ d h. server_agrees old new a q served d shift apart (subst (Agrees d served.0) (sym none) (joins.keeps d (server_agreed d h)));
-      takes = λ d h k. asker_agrees old new a q served d shift apart (joins.takes d (server_agreed d h) (asker_agreed old a d shift.unanswered k));
-      others = λ n not_asker not_server. alike_stands old new n (other_alike old new a q served.0 served.1 shift n not_asker not_server);
-    } in
-    let at = is.list.all a (Some q) was in (
+    record {
+      links = λ n. elim (cases_eq n a) [
+        | inl asker ↦ ap (link_in new) asker ∙ (see.asker_is link_of ∙ (joins.still ∙ (sym was ∙ ap (link_in old) (sym asker))))
+        | inr not_asker ↦ elim (cases_eq n q) [
+          | inl server ↦ ap (link_in new) server ∙ (server_same ∙ ap (link_in old) (sym server))
+          | inr other ↦ same_link old new n (other_alike old new a q served.0 served.1 shift n not_asker other)
+        ]
+      ];
+      joins = record {
+        link = was;
+        coming = see.asker_was role_of ∙ joins.coming;
+        leading = ap (role_of (old.state q)) none ∙ joins.leading;
+        leads = see.asker_is role_of ∙ joins.leads;
+        follows = see.server_is role_of ∙ (ap (role_of served.0) none ∙ joins.follows);
+        fresh = see.asker_is is_fresh ∙ (joins.fresh ∙ sym (see.asker_was is_fresh));
+        keeps = λ d h. server_agrees old new a q served d shift apart (subst (Agrees d served.0) (sym none) (joins.keeps d (server_agreed d h)));
+        takes = λ d h k. asker_agrees old new a q served d shift apart (joins.takes d (server_agreed d h) (asker_agreed old a d shift.unanswered k));
+        others = λ n not_asker not_server. alike_stands old new n (other_alike old new a q served.0 served.1 shift n not_asker not_server);
+      };
+    }
+
+joined_shaped : (old new : View) (a q : ℕ) (served : CacheState × Body) (home : HomeState) (c : Stamped) → Shift old new a q served.0 served.1 → JoinsAs a q (old.state a) (old.state q) served → Shaped old home c → Shaped new home c
+joined_shaped old new a q served home c shift joins (ns, is) =
+    let apart : a ≢ q = λ e. joins.differ (ap old.state e) in
+    let none = shift.idle joins.idle in
+    let joined = joined_at old new a q served shift joins in
+    let at = is.list.all a (Some q) joined.joins.link in (
       ns,
       record {
-        list = chain_same (link_in old) (link_in new) (head_of home) (head_of home) ns refl same is.list;
-        led = map_led old new home c ns ns (λ must led. led_joins old new a q c must (head_of home) ns led_so is.list.linked is.list.once at led) is.led;
+        list = chain_same (link_in old) (link_in new) (head_of home) (head_of home) ns refl joined.links is.list;
+        led = map_led old new home c ns ns (λ must led. led_joins old new a q c must (head_of home) ns joined.joins is.list.linked is.list.once at led) is.led;
         accepts = accepts_both old new a q served shift apart joins.accepted (subst (IsAccepted served.0) (sym none) tt) is.accepts;
       },
     )
 
-purged_shaped : (old new : View) (a q : ℕ) (served : CacheState × Body) (home : HomeState) (c : Stamped) → Shift old new a q served.0 served.1 → PurgesAs q (old.state a) (old.state q) served → Shaped old home c → Shaped new home c
-purged_shaped old new a q served home c shift purges (ns, is) =
+-- one that follows leaves, behind the one that links to it, and every other stands as it stood
+pub record LeftAt (old new : View) (x y : ℕ) : Type 0 where
+  pub out : TakenOut (link_in old) (link_in new) x y
+  pub follows : role_in old y ≡ Some Following
+  pub stand : (n : ℕ) → n ≢ y → Stands old new n
+
+-- a list without the one that left
+left_shaped : (old new : View) (x y : ℕ) (home : HomeState) (c : Stamped) (ns : List ℕ) → LeftAt old new x y → IsShaped old home c ns → ((n : ℕ) → AcceptsIn new n) → Shaped new home c
+left_shaped old new x y home c ns left is accepts =
+    let stand : (n : ℕ) → IsAmong n (without y ns) → Stands old new n = λ n h. left.stand n (not_in_without y n ns h) in (
+      without y ns,
+      record {
+        list = chain_taken_out (link_in old) (link_in new) (head_of home) (head_of home) x y ns refl left.out is.list;
+        led = map_led old new home c ns (without y ns) (λ must led. led_stands old new c must (without y ns) stand (led_without old c must y ns left.follows led)) is.led;
+        accepts = accepts;
+      },
+    )
+
+-- the next after the one that is purged
+purged_next : (old new : View) (a q : ℕ) (served : CacheState × Body) (home : HomeState) (c : Stamped) (ns : List ℕ) → Shift old new a q served.0 served.1 → PurgesAs q (old.state a) (old.state q) served → IsShaped old home c ns → (f : Option ℕ) × (link_in old q ≡ Some f)
+purged_next old new a q served home c ns shift purges is =
+    let see = sights old new a q served shift (λ e. purges.differ (ap old.state e)) in
+    next_is_member (link_in old) (head_of home) a q ns is.list (see.asker_was link_of ∙ purges.before)
+
+pub purged_at : (old new : View) (a q : ℕ) (served : CacheState × Body) (home : HomeState) (c : Stamped) (ns : List ℕ) → Shift old new a q served.0 served.1 → PurgesAs q (old.state a) (old.state q) served → IsShaped old home c ns → LeftAt old new a q
+purged_at old new a q served home c ns shift purges is =
     let apart : a ≢ q = λ e. purges.differ (ap old.state e) in
     let see = sights old new a q served shift apart in
-    let was : link_in old a ≡ Some (Some q) = see.asker_was link_of ∙ purges.before in
-    let next = next_is_member (link_in old) (head_of home) a q ns is.list was in
+    let next = purged_next old new a q served home c ns shift purges is in
     let same : next.0 ≡ purges.next = purges.link (old.answer q) next.0 next.1 in
-    let follows : role_in old q ≡ Some Following = purges.follows (old.answer q) next.0 next.1 in
-    let out : TakenOut (link_in old) (link_in new) a q = record {
-      before = was;
-      behind = see.asker_is link_of ∙ (purges.behind ∙ (ap Some (sym same) ∙ sym next.1));
-      gone = see.server_is link_of ∙ purges.gone (old.answer q);
-      apart = apart;
-      others = λ n not_asker not_server. same_link old new n (other_alike old new a q served.0 served.1 shift n not_asker not_server);
-    } in
     let asker : Stands old new a = record {
       role = see.asker_is role_of ∙ (purges.stood.role ∙ sym (see.asker_was role_of));
       fresh = see.asker_is is_fresh ∙ (purges.stood.fresh ∙ sym (see.asker_was is_fresh));
       agrees = λ d h. asker_agrees old new a q served d shift apart (purges.stood.agrees d (asker_agreed old a d shift.unanswered h));
     } in
-    let stand : (n : ℕ) → IsAmong n (without q ns) → Stands old new n = λ n h. elim (cases_eq n a) [
-      | inl e ↦ subst (Stands old new) (sym e) asker
-      | inr other ↦ alike_stands old new n (other_alike old new a q served.0 served.1 shift n other (not_in_without q n ns h))
-    ] in (
-      without q ns,
-      record {
-        list = chain_taken_out (link_in old) (link_in new) (head_of home) (head_of home) a q ns refl out is.list;
-        led = map_led old new home c ns (without q ns) (λ must led. led_stands old new c must (without q ns) stand (led_without old c must q ns follows led)) is.led;
-        accepts = accepts_both old new a q served shift apart purges.accepted (purges.still (old.answer q) next.0 next.1) is.accepts;
-      },
-    )
+    record {
+      out = record {
+        before = see.asker_was link_of ∙ purges.before;
+        behind = see.asker_is link_of ∙ (purges.behind ∙ (ap Some (sym same) ∙ sym next.1));
+        gone = see.server_is link_of ∙ purges.gone (old.answer q);
+        apart = apart;
+        others = λ n not_asker not_server. same_link old new n (other_alike old new a q served.0 served.1 shift n not_asker not_server);
+      };
+      follows = purges.follows (old.answer q) next.0 next.1;
+      stand = λ n not_server. elim (cases_eq n a) [
+        | inl e ↦ subst (Stands old new) (sym e) asker
+        | inr other ↦ alike_stands old new n (other_alike old new a q served.0 served.1 shift n other not_server)
+      ];
+    }
 
-rolled_shaped : (old new : View) (a q : ℕ) (served : CacheState × Body) (home : HomeState) (c : Stamped) → Shift old new a q served.0 served.1 → RollsAs a (old.state a) (old.state q) served → Shaped old home c → Shaped new home c
-rolled_shaped old new a q served home c shift rolls (ns, is) =
+purged_shaped : (old new : View) (a q : ℕ) (served : CacheState × Body) (home : HomeState) (c : Stamped) → Shift old new a q served.0 served.1 → PurgesAs q (old.state a) (old.state q) served → Shaped old home c → Shaped new home c
+purged_shaped old new a q served home c shift purges (ns, is) =
+    let apart : a ≢ q = λ e. purges.differ (ap old.state e) in
+    let next = purged_next old new a q served home c ns shift purges is in
+    left_shaped old new a q home c ns (purged_at old new a q served home c ns shift purges is) is (accepts_both old new a q served shift apart purges.accepted (purges.still (old.answer q) next.0 next.1) is.accepts)
+
+-- the next after the one that rolls out
+rolled_next : (old new : View) (a q : ℕ) (served : CacheState × Body) (home : HomeState) (c : Stamped) (ns : List ℕ) → Shift old new a q served.0 served.1 → RollsAs a (old.state a) (old.state q) served → IsShaped old home c ns → (f : Option ℕ) × (link_in old a ≡ Some f)
+rolled_next old new a q served home c ns shift rolls is = next_is_member (link_in old) (head_of home) q a ns is.list (ap (link_of (old.state q)) (shift.idle rolls.idle) ∙ rolls.before)
+
+pub rolled_at : (old new : View) (a q : ℕ) (served : CacheState × Body) (home : HomeState) (c : Stamped) (ns : List ℕ) → Shift old new a q served.0 served.1 → RollsAs a (old.state a) (old.state q) served → IsShaped old home c ns → LeftAt old new q a
+rolled_at old new a q served home c ns shift rolls is =
     let apart : a ≢ q = λ e. rolls.differ (ap old.state e) in
     let see = sights old new a q served shift apart in
     let none = shift.idle rolls.idle in
-    let was : link_in old q ≡ Some (Some a) = ap (link_of (old.state q)) none ∙ rolls.before in
-    let next = next_is_member (link_in old) (head_of home) q a ns is.list was in
+    let next = rolled_next old new a q served home c ns shift rolls is in
     let asker_link : link_of (old.state a) None ≡ Some next.0 = sym (see.asker_was link_of) ∙ next.1 in
     let same : next.0 ≡ rolls.next = rolls.link next.0 asker_link in
-    let follows : role_in old a ≡ Some Following = see.asker_was role_of ∙ rolls.follows next.0 asker_link in
-    let out : TakenOut (link_in old) (link_in new) q a = record {
-      before = was;
-      behind = see.server_is link_of ∙ (ap (link_of served.0) none ∙ (rolls.behind ∙ (ap Some (sym same) ∙ sym next.1)));
-      gone = see.asker_is link_of ∙ rolls.gone;
-      apart = λ e. apart (sym e);
-      others = λ n not_server not_asker. same_link old new n (other_alike old new a q served.0 served.1 shift n not_asker not_server);
-    } in
     let server : Stands old new q = record {
       role = see.server_is role_of ∙ (ap (role_of served.0) none ∙ (rolls.stood.role ∙ ap (role_of (old.state q)) (sym none)));
       fresh = see.server_is is_fresh ∙ (ap (is_fresh served.0) none ∙ (rolls.stood.fresh ∙ ap (is_fresh (old.state q)) (sym none)));
       agrees = λ d h. server_agrees old new a q served d shift apart (subst (Agrees d served.0) (sym none) (rolls.stood.agrees d (subst (Agrees d (old.state q)) none h)));
     } in
-    let stand : (n : ℕ) → IsAmong n (without a ns) → Stands old new n = λ n h. elim (cases_eq n q) [
-      | inl e ↦ subst (Stands old new) (sym e) server
-      | inr other ↦ alike_stands old new n (other_alike old new a q served.0 served.1 shift n (not_in_without a n ns h) other)
-    ] in (
-      without a ns,
-      record {
-        list = chain_taken_out (link_in old) (link_in new) (head_of home) (head_of home) q a ns refl out is.list;
-        led = map_led old new home c ns (without a ns) (λ must led. led_stands old new c must (without a ns) stand (led_without old c must a ns follows led)) is.led;
-        accepts = accepts_both old new a q served shift apart (rolls.accepted next.0 asker_link) (subst (IsAccepted served.0) (sym none) tt) is.accepts;
-      },
-    )
+    record {
+      out = record {
+        before = ap (link_of (old.state q)) none ∙ rolls.before;
+        behind = see.server_is link_of ∙ (ap (link_of served.0) none ∙ (rolls.behind ∙ (ap Some (sym same) ∙ sym next.1)));
+        gone = see.asker_is link_of ∙ rolls.gone;
+        apart = λ e. apart (sym e);
+        others = λ n not_server not_asker. same_link old new n (other_alike old new a q served.0 served.1 shift n not_asker not_server);
+      };
+      follows = see.asker_was role_of ∙ rolls.follows next.0 asker_link;
+      stand = λ n not_asker. elim (cases_eq n q) [
+        | inl e ↦ subst (Stands old new) (sym e) server
+        | inr other ↦ alike_stands old new n (other_alike old new a q served.0 served.1 shift n not_asker other)
+      ];
+    }
+
+rolled_shaped : (old new : View) (a q : ℕ) (served : CacheState × Body) (home : HomeState) (c : Stamped) → Shift old new a q served.0 served.1 → RollsAs a (old.state a) (old.state q) served → Shaped old home c → Shaped new home c
+rolled_shaped old new a q served home c shift rolls (ns, is) =
+    let apart : a ≢ q = λ e. rolls.differ (ap old.state e) in
+    let see = sights old new a q served shift apart in
+    let next = rolled_next old new a q served home c ns shift rolls is in
+    left_shaped old new q a home c ns (rolled_at old new a q served home c ns shift rolls is) is
+    (accepts_both old new a q served shift apart (rolls.accepted next.0 (sym (see.asker_was link_of) ∙ next.1)) (subst (IsAccepted served.0) (sym (shift.idle rolls.idle)) tt) is.accepts)
 
 pub cache_shaped : (old new : View) (a q : ℕ) (served : CacheState × Body) (home : HomeState) (c : Stamped) → Shift old new a q served.0 served.1 → ServesAs a q (old.state a) (old.state q) served → Shaped old home c → Shaped new home c
 cache_shaped old new a q served home c shift (Keeps keeps asks) shaped = shaped_alike old new home c (kept_alike old new a q served shift keeps asks) shaped

@@ -56,12 +56,12 @@ there : {A B : Type 0} (f : A → B) (o : Option A) → IsSome o → IsSome (opt
 there f None e = cc
 there f (Some x) e = refl
 
-made_by : {A : Type 0} (f : A → Core) (o : Option A) (new : Core) → option_map f o ≡ Some new → (x : A) × (o ≡ Some x) × (new ≡ f x)
+pub made_by : {A : Type 0} (f : A → Core) (o : Option A) (new : Core) → option_map f o ≡ Some new → (x : A) × (o ≡ Some x) × (new ≡ f x)
 made_by f None new e = cc
 made_by f (Some x) new e = (x, refl, cc)
 
 -- the front of a lane was taken, and this is the node next
-record Took (core new : Core) (kind : LaneKind) (n from : ℕ) (taking : NodeOf → Letter → Option NodeOf) : Type 0 where
+pub record Took (core new : Core) (kind : LaneKind) (n from : ℕ) (taking : NodeOf → Letter → Option NodeOf) : Type 0 where
   pub letter : Letter
   pub rest : List Letter
   pub next : NodeOf
@@ -69,21 +69,21 @@ record Took (core new : Core) (kind : LaneKind) (n from : ℕ) (taking : NodeOf 
   pub takes : taking (node_at core n) letter ≡ Some next
   pub then_ : new ≡ taken_to core n kind from rest next
 
-took_along : (core new : Core) (kind : LaneKind) (n from : ℕ) (taking : NodeOf → Letter → Option NodeOf) (e : Event) (lane : List Letter) → TakesFront core n kind taking from e → lane_of core kind from n ≡ lane → stepping core e ≡ Some new → Took core new kind n from taking
+pub took_along : (core new : Core) (kind : LaneKind) (n from : ℕ) (taking : NodeOf → Letter → Option NodeOf) (e : Event) (lane : List Letter) → TakesFront core n kind taking from e → lane_of core kind from n ≡ lane → stepping core e ≡ Some new → Took core new kind n from taking
 took_along core new kind n from taking e [] takes is steps = let none = takes.empty is in let clash : None ≡ Some new = sym none ∙ steps in cc
 took_along core new kind n from taking e (letter ∷ rest) takes is steps =
     let made = made_by (taken_to core n kind from rest) (taking (node_at core n) letter) new (sym (takes.front letter rest is) ∙ steps) in
     record { letter = letter; rest = rest; next = made.0; front = is; takes = made.1; then_ = made.2 }
 
 -- the node of an event that is enabled is there, and so is the sender of what it takes
-some_node : (core new : Core) (e : Event) → stepping core e ≡ Some new → node_of e < core.size.nodes
+pub some_node : (core new : Core) (e : Event) → stepping core e ≡ Some new → node_of e < core.size.nodes
 some_node core new e steps =
     elim (cases_lt (node_of e) core.size.nodes) [
       | inl below ↦ below
       | inr past ↦ (let none = stepping_nobody core e past in let clash : None ≡ Some new = sym none ∙ steps in cc)
     ]
 
-some_sender : (core new : Core) (e : Event) (kind : LaneKind) (from : ℕ) (taking : Letter → Option NodeOf) → node_of e < core.size.nodes → side (node_at core (node_of e)) e ≡ Takes kind from taking → stepping core e ≡ Some new → from < core.size.nodes
+pub some_sender : (core new : Core) (e : Event) (kind : LaneKind) (from : ℕ) (taking : Letter → Option NodeOf) → node_of e < core.size.nodes → side (node_at core (node_of e)) e ≡ Takes kind from taking → stepping core e ≡ Some new → from < core.size.nodes
 some_sender core new e kind from taking lt is steps =
     elim (cases_lt from core.size.nodes) [
       | inl below ↦ below

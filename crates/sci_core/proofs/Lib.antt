@@ -50,3 +50,5 @@ pub mod GoingOn
 pub mod Drains
 pub mod Burdens
 pub mod InTurn
+pub mod Turns
+pub mod TurnSteps

@@ -85,7 +85,7 @@ seen_before f old new q state next moves is = ap (f (old.state q)) moves.none �
 seen_after : {X : Type 0} (f : CacheState → Option Body → X) (old new : View) (q : ℕ) (state next : CacheState) → Moves old new q state → state ≡ next → f (new.state q) (new.answer q) ≡ f next None
 seen_after f old new q state next moves is = ap (f (new.state q)) (moves.answers q ∙ moves.none) ∙ ap (λ (s : CacheState). f s None) (moves.here ∙ is)
 
-made_view : (old new : View) (q : ℕ) (c d : Stamped) (next : CacheState) → Moves old new q next → old.state q ≡ Head None c → next ≡ Head None d → Made old new q d
+pub made_view : (old new : View) (q : ℕ) (c d : Stamped) (next : CacheState) → Moves old new q next → old.state q ≡ Head None c → next ≡ Head None d → Made old new q d
 made_view old new q c d next moves was is = record {
   ends = seen_before link_of old new q (Head None c) next moves was;
   leading = seen_before role_of old new q (Head None c) next moves was;
@@ -96,7 +96,7 @@ made_view old new q c d next moves was is = record {
   same_answer = λ n other. moves.answers n;
 }
 
-made_links : (old new : View) (q : ℕ) (c d : Stamped) (next : CacheState) → Moves old new q next → old.state q ≡ Head None c → next ≡ Head None d → (n : ℕ) → link_in new n ≡ link_in old n
+pub made_links : (old new : View) (q : ℕ) (c d : Stamped) (next : CacheState) → Moves old new q next → old.state q ≡ Head None c → next ≡ Head None d → (n : ℕ) → link_in new n ≡ link_in old n
 made_links old new q c d next moves was is n =
     elim (cases_eq n q) [
       | inl here ↦ ap (link_in new) here ∙ (seen_after link_of old new q next (Head None d) moves is ∙ (sym (seen_before link_of old new q (Head None c) next moves was) ∙ ap (link_in old) (sym here)))

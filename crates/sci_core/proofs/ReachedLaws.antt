@@ -65,7 +65,7 @@ schedule_history size schedule line sizes inside =
 
 -- ---- shape
 
-any_shaped : (core : Core) → IsReachable core → (line : ℕ) → line < core.size.lines → (c : Stamped) × ShapedAt core line c
+pub any_shaped : (core : Core) → IsReachable core → (line : ℕ) → line < core.size.lines → (c : Stamped) × ShapedAt core line c
 any_shaped core reached line inside =
     let trace = traced core.size reached.schedule line reached.size inside in
     subst (λ (x : Core). (c : Stamped) × ShapedAt x line c) reached.leads (trace.contents, trace.shaped)

@@ -62,17 +62,17 @@ held (FreshJoining p sent e) (Some (body.Cdata d)) = record { leads = refl; same
 held _ _ = tt
 
 -- whoever leads is the authority, and a member
-record Leader (state : CacheState) (answer : Option Body) : Type 0 where
+pub record Leader (state : CacheState) (answer : Option Body) : Type 0 where
   pub holds : IsSome (contents_held state answer)
   pub member : (f : Option ℕ) × (link_of state answer ≡ Some f)
 
 -- a member that follows has contents
-record Follower (state : CacheState) (answer : Option Body) : Type 0 where
+pub record Follower (state : CacheState) (answer : Option Body) : Type 0 where
   pub follows_one : follows state ≡ true
   pub has : (c : Stamped) → Agrees c state answer → contents_of state ≡ Some c
 
 -- what a role says of a state
-abbrev Standing : Option Role → CacheState → Option Body → Type 0
+abbrev pub Standing : Option Role → CacheState → Option Body → Type 0
 Standing None state answer = Unit {0}
 Standing (Some Coming) state answer = comes state ≡ true
 Standing (Some Leading) state answer = Leader state answer
@@ -107,7 +107,7 @@ standing (Rolling f b d) None = record { follows_one = refl; has = λ c h. ap So
 standing (Rolling f b d) (Some body.Busy) = record { follows_one = refl; has = λ c h. ap Some h.0 }
 standing _ _ = tt
 
-stands_as : (state : CacheState) (answer : Option Body) (role : Option Role) → role_of state answer ≡ role → Standing role state answer
+pub stands_as : (state : CacheState) (answer : Option Body) (role : Option Role) → role_of state answer ≡ role → Standing role state answer
 stands_as state answer role e = subst (λ (r : Option Role). Standing r state answer) e (standing state answer)
 
 -- who takes contents from a home asks for them
@@ -159,7 +159,7 @@ led_only view c must (n ∷ ns) a b (front, inr comes) la lb (inr ha) (inr hb) =
 
 -- ---- what stands before and behind it
 
-record Parts (view : View) (c : Stamped) (must : Bool) (before : List ℕ) (a : ℕ) (after : List ℕ) : Type 0 where
+pub record Parts (view : View) (c : Stamped) (must : Bool) (before : List ℕ) (a : ℕ) (after : List ℕ) : Type 0 where
   pub coming : AllByRecursion (λ n. role_in view n ≡ Some Coming) before
   pub following : AreFollowing view c after
   pub fresh : must ≡ true → AllByRecursion (λ n. fresh_in view n ≡ true) (before ++ a ∷ [])
@@ -186,7 +186,7 @@ led_below view c must (n ∷ before) m middle a after leading fresh (front, inr 
 -- ---- a line of a machine
 
 -- nodes beyond the machine's are no members
-member_below : (core : Core) (line n : ℕ) (f : Option ℕ) → IsWellFormed core → link_in (view_of core line) n ≡ Some f → n < core.size.nodes
+pub member_below : (core : Core) (line n : ℕ) (f : Option ℕ) → IsWellFormed core → link_in (view_of core line) n ≡ Some f → n < core.size.nodes
 member_below core line n f well member = grind (arith, cases_lt, get_or_past, link_in, view_of)
 
 -- an authority's contents, and that it leads
@@ -202,13 +202,13 @@ authority_so core line n (Some d) is holds some = record { contents = d; are = i
 authority_of : (core : Core) (line n : ℕ) → IsAuthority core line n → Authority core line n
 authority_of core line n authority = authority_so core line n (authority_contents (sharer_of core line n)) refl (held (state_at core line n) (told core n line)) authority
 
-authority_leads : (core : Core) (line n : ℕ) → IsAuthority core line n → role_in (view_of core line) n ≡ Some Leading
+pub authority_leads : (core : Core) (line n : ℕ) → IsAuthority core line n → role_in (view_of core line) n ≡ Some Leading
 authority_leads core line n authority = (authority_of core line n authority).holds.leads
 
-leads_authority : (core : Core) (line n : ℕ) → role_in (view_of core line) n ≡ Some Leading → IsAuthority core line n
+pub leads_authority : (core : Core) (line n : ℕ) → role_in (view_of core line) n ≡ Some Leading → IsAuthority core line n
 leads_authority core line n leads = (stands_as (state_at core line n) (told core n line) (Some Leading) leads).holds
 
-leads_member : (core : Core) (line n : ℕ) → role_in (view_of core line) n ≡ Some Leading → (f : Option ℕ) × (link_in (view_of core line) n ≡ Some f)
+pub leads_member : (core : Core) (line n : ℕ) → role_in (view_of core line) n ≡ Some Leading → (f : Option ℕ) × (link_in (view_of core line) n ≡ Some f)
 leads_member core line n leads = (stands_as (state_at core line n) (told core n line) (Some Leading) leads).member
 
 same_if : (o : Option Stamped) (c : Stamped) → ((d : Stamped) → o ≡ Some d → d ≡ c) → IfSome o (λ d. d ≡ c)
@@ -302,7 +302,7 @@ split_led core line (at.Home d) c ns a authority is = absurd (no_authority core 
 split_led core line (at.Fresh p d) c ns a authority is = is.led.1
 split_led core line (at.Gone p) c ns a authority is = is.led
 
-split_parts : (core : Core) (line : ℕ) (home : HomeState) (c : Stamped) (ns before : List ℕ) (a : ℕ) (after : List ℕ) → IsShaped (view_of core line) home c ns → IsSplit core line ns before a after → Parts (view_of core line) c (is_home_fresh home) before a after
+pub split_parts : (core : Core) (line : ℕ) (home : HomeState) (c : Stamped) (ns before : List ℕ) (a : ℕ) (after : List ℕ) → IsShaped (view_of core line) home c ns → IsSplit core line ns before a after → Parts (view_of core line) c (is_home_fresh home) before a after
 split_parts core line home c ns before a after is split =
     led_parts (view_of core line) c (is_home_fresh home) before a after (authority_leads core line a split.authority)
     (subst (IsLed (view_of core line) c (is_home_fresh home)) split.whole (split_led core line home c ns a split.authority is))

@@ -5,6 +5,8 @@ use Rattle.std.specs.List.{range_with_len}
 use Rattle.std.proofs.lemmas.Bool.{cases_eq}
 use Rattle.std.proofs.lemmas.List.{get_or-set_same, get_or-set_other}
 use Rattle.sci_words.specs.declared.event.Event.{Event}
+use Rattle.sci_words.specs.declared.event.AskKind.{AskKind}
+use Rattle.sci_words.specs.declared.operation.Op.{Op}
 use Rattle.sci_words.specs.declared.stamped.Stamped.{Stamped}
 use Rattle.sci_words.specs.Stamped.{after, zero_stamped}
 use Rattle.sci_history.specs.declared.entry.Entry.{Entry}
@@ -24,11 +26,11 @@ use Rattle.sci_core.specs.Tidy.{IsTidy}
 use Rattle.sci_core.specs.WellFormed.{IsPart, IsWellFormed}
 use Rattle.sci_core.proofs.Options.{of_some}
 use Rattle.sci_core.proofs.Nodes.{some_below}
-use Rattle.sci_core.proofs.Parts.{part_serving, part_refusing}
+use Rattle.sci_core.proofs.Parts.{SendsWell, RepliesWell, part_serving, part_refusing}
 use Rattle.sci_core.proofs.WaitingNodes.{Stays, AsksOnce, Answers, Replies, Accepts, issue_stays, ask_once, serve_answers, refuse_answers, reply_replies, accept_accepts}
 use Rattle.sci_core.proofs.TidySteps.{about_asker, answer_asker}
 use Rattle.sci_core.proofs.TidyRuns.{node_below, waiting_answers, opening_none}
-use Rattle.sci_core.proofs.Steps.{Taken, Stepped, By_issue, By_perform, By_ask, By_serve, By_refuse, By_reply, By_accept, stepping_stepped}
+use Rattle.sci_core.proofs.Steps.{Sent, Taken, Stepped, By_issue, By_perform, By_ask, By_serve, By_refuse, By_reply, By_accept, stepping_stepped}
 use Rattle.sci_core.proofs.Standings.{Performs, performing_does, alike_itself}
 use Rattle.sci_core.proofs.NodeSides.{Unmoved, PerformedAs, AsksAlike, ServedAs, At_home, In_cache, RefusedAs, AcceptsAlike, issue_unmoved, perform_as, ask_alike, serve_as, refuse_as, reply_as, accept_alike}
 use Rattle.sci_core.proofs.ShapeSteps.{view_of, ShapedAt, SameLine, same_shaped, changed_same, Operates, performed_same, performed_did, asked_same, replied_same, accepted_same}
@@ -120,28 +122,27 @@ pub data LineStep (core new : Core) (made : Option Entry) (line : ℕ) : Type 0 
   Performed : (n at : ℕ) (done : NodeOf × Entry) → n < core.size.nodes → PerformedAs (node_at core n) at done → with_node core n done.0 ≡ new → made ≡ Some done.1 → LineStep core new made line
   Served : (t : Taken core new Requests node_serving) → made ≡ None → IsPart core.size t.node t.next → ServedAs (node_at core t.node) t.letter t.next → LineStep core new made line
 
-pub line_steps : (core new : Core) (e : Event) (made : Option Entry) → IsWellFormed core → IsTidy core → Stepped core e made new → (line : ℕ) → line < core.size.lines → LineStep core new made line
-line_steps core new e made well tidy (By_issue n op next event lt is then_ none) line inside =
+-- an operation is issued
+pub issue_stands : (core : Core) (n : ℕ) (op : Op) (next : NodeOf) → IsWellFormed core → n < core.size.nodes → node_issuing (node_at core n) op ≡ Some next → (line : ℕ) → SameLine core (with_node core n next) line
+issue_stands core n op next well lt is line =
     let part = node_at core n in
     let stays = of_some (Stays core.size.nodes part) (node_issuing part op) next is (issue_stays core.size.nodes part op) in
-    let same = changed_same core n next (node_below core n well lt) (of_some (Unmoved part) (node_issuing part op) next is (issue_unmoved part op)) stays.waiting line in
-    Stood none (subst (λ (x : Core). SameLine core x line) then_ same)
-line_steps core new e made well tidy (By_perform n at done lt is then_ some) line inside =
-    let part = node_at core n in
-    Performed n at done lt (of_some (PerformedAs part at) (node_performing part at) done is (perform_as part at)) then_ some
-line_steps core new e made well tidy (By_ask n at kind sent is sends_well s none) line inside =
+    changed_same core n next (node_below core n well lt) (of_some (Unmoved part) (node_issuing part op) next is (issue_unmoved part op)) stays.waiting line
+
+-- a request is sent
+pub ask_stands : (core new : Core) (n at : ℕ) (kind : AskKind) (sent : NodeOf × Letter) → IsWellFormed core → IsTidy core → node_asking (node_at core n) at kind ≡ Some sent → SendsWell core.size n sent → Sent core new Requests n sent → (line : ℕ) → SameLine core new line
+ask_stands core new n at kind sent well tidy is sends_well s line =
     let node = node_at core n in
     let part = well.each_part n s.some in
     let once = of_some (AsksOnce core.size.nodes at node) (node_asking node at kind) sent is (ask_once core.size.nodes node at kind part.all (part.asks at)) in
     let alike = of_some (AsksAlike node) (node_asking node at kind) sent is (ask_alike node at kind) in
     let known : at < core.size.lines = subst (λ (k : ℕ). at < k) part.each once.below in
     let same = asked_same core n at (lane_place core.size.nodes Requests n sent.1.target) sent.0 sent.1 s.some (node_below core n well s.some) s.within sends_well.request.asks sends_well.from known once alike tidy line in
-    Stood none (subst (λ (x : Core). SameLine core x line) s.then_ same)
-line_steps core new e made well tidy (By_serve t none) line inside =
-    let part = node_at core t.node in
-    let is = of_some (IsPart core.size t.node) (node_serving part t.letter) t.next t.takes (part_serving core.size t.node part t.letter t.comes.0 t.comes.1 (well.each_part t.node t.some)) in
-    Served t none is (of_some (ServedAs part t.letter) (node_serving part t.letter) t.next t.takes (serve_as part t.letter))
-line_steps core new e made well tidy (By_refuse t none) line inside =
+    subst (λ (x : Core). SameLine core x line) s.then_ same
+
+-- a request is refused
+pub refuse_stands : (core new : Core) (t : Taken core new Requests node_refusing) → IsWellFormed core → IsTidy core → (line : ℕ) → SameLine core new line
+refuse_stands core new t well tidy line =
     let part = node_at core t.node in
     let is = of_some (IsPart core.size t.node) (node_refusing part t.letter) t.next t.takes (part_refusing core.size t.node part t.letter t.comes.0 t.comes.1 (well.each_part t.node t.some)) in
     let answers = of_some (Answers core.size.nodes t.letter part) (node_refusing part t.letter) t.next t.takes (refuse_answers core.size.nodes part t.letter) in
@@ -149,8 +150,11 @@ line_steps core new e made well tidy (By_refuse t none) line inside =
     let next = subst (IsPart core.size t.node) (sym does.then_) is in
     let same = refused_same core t.node t.place t.letter t.rest does.other (answered core new node_refusing t (with_answer part t.letter Busy) Busy well answers.free refl next) tidy line in
     let then_ = subst (λ (x : NodeOf). SameLine core (with_lane (with_node core t.node x) t.place t.rest) line) does.then_ same in
-    Stood none (subst (λ (x : Core). SameLine core x line) t.then_ then_)
-line_steps core new e made well tidy (By_reply n sent is sends_well s none) line inside =
+    subst (λ (x : Core). SameLine core x line) t.then_ then_
+
+-- an answer is sent
+pub reply_stands : (core new : Core) (n : ℕ) (sent : NodeOf × Letter) → IsWellFormed core → IsTidy core → node_replying (node_at core n) ≡ Some sent → RepliesWell core.size n sent → Sent core new AnswerLane n sent → (line : ℕ) → line < core.size.lines → SameLine core new line
+reply_stands core new n sent well tidy is sends_well s line inside =
     let part = node_at core n in
     let replies = of_some (Replies core.size.nodes part) (node_replying part) sent is (reply_replies core.size.nodes part) in
     let e = of_some (λ (x : NodeOf × Letter). (record part { waiting = None }) ≡ x.0) (node_replying part) sent is (reply_as part) in
@@ -159,15 +163,40 @@ line_steps core new e made well tidy (By_reply n sent is sends_well s none) line
     let target : letter.target < core.size.nodes = sends_well.answer.letter_ok.target in
     let asker : (m k : ℕ) → is_about m k letter ≡ true → m < core.size.nodes = λ m k about. subst (λ (j : ℕ). j < core.size.nodes) (sym (answer_asker letter sends_well.answer.answers) ∙ about_asker m k letter about) target in
     let same = replied_same core n (lane_place core.size.nodes AnswerLane n letter.target) sent.0 letter (node_below core n well s.some) s.within asker replies unmoved tidy line inside in
-    Stood none (subst (λ (x : Core). SameLine core x line) s.then_ same)
-line_steps core new e made well tidy (By_accept t none) line inside =
+    subst (λ (x : Core). SameLine core x line) s.then_ same
+
+-- an answer is accepted
+pub accept_stands : (core new : Core) (t : Taken core new AnswerLane node_accepting) → IsWellFormed core → IsTidy core → (line : ℕ) → SameLine core new line
+accept_stands core new t well tidy line =
     let part = node_at core t.node in
     let known = t.comes.0.letter_ok.about in
     let on_line : t.letter.line < lines_of part = subst (λ (k : ℕ). t.letter.line < k) (sym (well.each_part t.node t.some).each) known in
     let accepts = of_some (Accepts t.letter.line part) (node_accepting part t.letter) t.next t.takes (accept_accepts part t.letter) in
     let alike = of_some (AcceptsAlike t.letter part) (node_accepting part t.letter) t.next t.takes (accept_alike part t.letter) in
     let same = accepted_same core t.node t.place t.next t.letter t.rest t.some (node_below core t.node well t.some) t.within t.front t.comes.0.answers t.comes.1 known on_line accepts alike tidy line in
-    Stood none (subst (λ (x : Core). SameLine core x line) t.then_ same)
+    subst (λ (x : Core). SameLine core x line) t.then_ same
+
+-- a request is served: the node is a part still, and how its home or its cache served
+pub serve_does : (core new : Core) (t : Taken core new Requests node_serving) → IsWellFormed core → IsPart core.size t.node t.next × ServedAs (node_at core t.node) t.letter t.next
+serve_does core new t well =
+    let part = node_at core t.node in (
+      of_some (IsPart core.size t.node) (node_serving part t.letter) t.next t.takes (part_serving core.size t.node part t.letter t.comes.0 t.comes.1 (well.each_part t.node t.some)),
+      of_some (ServedAs part t.letter) (node_serving part t.letter) t.next t.takes (serve_as part t.letter),
+    )
+
+pub line_steps : (core new : Core) (e : Event) (made : Option Entry) → IsWellFormed core → IsTidy core → Stepped core e made new → (line : ℕ) → line < core.size.lines → LineStep core new made line
+line_steps core new e made well tidy (By_issue n op next event lt is then_ none) line inside =
+    Stood none (subst (λ (x : Core). SameLine core x line) then_ (issue_stands core n op next well lt is line))
+line_steps core new e made well tidy (By_perform n at done lt is then_ some) line inside =
+    let part = node_at core n in
+    Performed n at done lt (of_some (PerformedAs part at) (node_performing part at) done is (perform_as part at)) then_ some
+line_steps core new e made well tidy (By_ask n at kind sent is sends_well s none) line inside = Stood none (ask_stands core new n at kind sent well tidy is sends_well s line)
+line_steps core new e made well tidy (By_serve t none) line inside =
+    let does = serve_does core new t well in
+    Served t none does.0 does.1
+line_steps core new e made well tidy (By_refuse t none) line inside = Stood none (refuse_stands core new t well tidy line)
+line_steps core new e made well tidy (By_reply n sent is sends_well s none) line inside = Stood none (reply_stands core new n sent well tidy is sends_well s line inside)
+line_steps core new e made well tidy (By_accept t none) line inside = Stood none (accept_stands core new t well tidy line)
 
 line_follows : (core new : Core) (made : Option Entry) (line : ℕ) → IsWellFormed core → IsTidy core → LineStep core new made line → (c : Stamped) → ShapedAt core line c → Follows new made line c
 line_follows core new made line well tidy (Stood none same) c shaped = same_follows core new made line c none same shaped

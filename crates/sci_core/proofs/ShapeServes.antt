@@ -178,6 +178,31 @@ home_now core n line next home below at same homes within =
 abbrev pub with_home : NodeOf → Letter → HomeState → Body → NodeOf
 with_home part request home body = with_answer (record part { homes = slice_set part.homes (home_place part request.line) home }) request body
 
+-- what a home's serving does to every line: the asker's, and any other, which stands as it stood
+pub record HomeTurn (core new : Core) (request : Letter) (home : HomeState) (served : HomeState × Body) : Type 0 where
+  pub was : home_at core request.line ≡ home
+  pub now : home_at new request.line ≡ served.0
+  pub sent : IsSentIn (request.line % core.size.nodes) ((view_of core request.line).state request.source) request
+  pub asks : Asks (view_of core request.line) (view_of new request.line) request.source ((view_of core request.line).state request.source) served.1
+  pub others : (k : ℕ) → k ≢ request.line → SameLine core new k
+
+pub home_turns : (core : Core) (n place : ℕ) (request : Letter) (rest : List Letter) (served : HomeState × Body) → IsPart core.size n (node_at core n) → request.line % core.size.nodes ≡ n → Answered core n place (with_home (node_at core n) request served.0 served.1) request rest served.1 → IsTidy core
+    → HomeTurn core (with_lane (with_node core n (with_home (node_at core n) request served.0 served.1)) place rest) request (home_of (node_at core n) request.line) served
+home_turns core n place request rest served part at is tidy =
+    let old = node_at core n in
+    let next = with_home old request served.0 served.1 in
+    let line = request.line in
+    let told_a = told_here core n place next request rest served.1 is tidy in
+    let within : home_place old line < length old.homes = home_below old line (subst (λ (i : ℕ). line < i) (sym part.each) is.known) part.fits in
+    let homes = home_changed core n line next served.0 is.below part.all at part.all refl in
+    record {
+      was = ap (λ (j : ℕ). home_of (node_at core j) line) at;
+      now = home_now core n line next served.0 is.below at refl refl within;
+      sent = told_a.sent;
+      asks = asks_now core n place next request rest served.1 is tidy (λ j. refl);
+      others = other_line core n place next request rest served.1 is (λ j apart. refl) homes;
+    }
+
 -- What a home's serving keeps of every line: what is kept of the asker's line, and of one that stands as it stood.
 pub home_keeps : (P : View → HomeState → Type 0) → ((old new : Core) (k : ℕ) → SameLine old new k → P (view_of old k) (home_at old k) → P (view_of new k) (home_at new k))
     → ((h a : ℕ) (home : HomeState) (old new : View) (asker : CacheState) (letter : Letter) → IsSentIn h asker letter → IfSome (serving_of_home home a letter.body) (λ (served : HomeState × Body). Asks old new a asker served.1 → P old home → P new served.0))
@@ -185,25 +210,19 @@ pub home_keeps : (P : View → HomeState → Type 0) → ((old new : Core) (k : 
     → serving_of_home (home_of (node_at core n) request.line) request.source request.body ≡ Some served → IsTidy core → (k : ℕ) → P (view_of core k) (home_at core k)
     → P (view_of (with_lane (with_node core n (with_home (node_at core n) request served.0 served.1)) place rest) k) (home_at (with_lane (with_node core n (with_home (node_at core n) request served.0 served.1)) place rest) k)
 home_keeps P stood row core n place request rest served part at is serves tidy k has =
-    let old = node_at core n in
-    let next = with_home old request served.0 served.1 in
-    let new = with_lane (with_node core n next) place rest in
+    let new = with_lane (with_node core n (with_home (node_at core n) request served.0 served.1)) place rest in
     let line = request.line in
     let a = request.source in
-    let homes = home_changed core n line next served.0 is.below part.all at part.all refl in
+    let turn = home_turns core n place request rest served part at is tidy in
     elim (cases_eq k line) [
       | inl here ↦
-          let told_a = told_here core n place next request rest served.1 is tidy in
+          let home = home_of (node_at core n) line in
           let asker = (view_of core line).state a in
-          let within : home_place old line < length old.homes = home_below old line (subst (λ (i : ℕ). line < i) (sym part.each) is.known) part.fits in
-          let now : home_at (with_node core n next) line ≡ served.0 = home_now core n line next served.0 is.below at refl refl within in
-          let was : home_at core line ≡ home_of old line = ap (λ (j : ℕ). home_of (node_at core j) line) at in
-          let this = row (line % core.size.nodes) a (home_of old line) (view_of core line) (view_of new line) asker request told_a.sent in
-          let keeps = subst (λ (o : Option (HomeState × Body)). IfSome o (λ (x : HomeState × Body). Asks (view_of core line) (view_of new line) a asker x.1 → P (view_of core line) (home_of old line) → P (view_of new line) x.0)) serves this in
-          let has_here : P (view_of core line) (home_of old line) = subst (P (view_of core line)) was (subst (λ (j : ℕ). P (view_of core j) (home_at core j)) here has) in
-          let then_ = keeps (asks_now core n place next request rest served.1 is tidy (λ j. refl)) has_here in
-          subst (λ (j : ℕ). P (view_of new j) (home_at new j)) (sym here) (subst (P (view_of new line)) (sym now) then_)
-      | inr other ↦ stood core new k (other_line core n place next request rest served.1 is (λ j apart. refl) homes k other) has
+          let this = row (line % core.size.nodes) a home (view_of core line) (view_of new line) asker request turn.sent in
+          let keeps = subst (λ (o : Option (HomeState × Body)). IfSome o (λ (x : HomeState × Body). Asks (view_of core line) (view_of new line) a asker x.1 → P (view_of core line) home → P (view_of new line) x.0)) serves this in
+          let has_here : P (view_of core line) home = subst (P (view_of core line)) turn.was (subst (λ (j : ℕ). P (view_of core j) (home_at core j)) here has) in
+          subst (λ (j : ℕ). P (view_of new j) (home_at new j)) (sym here) (subst (P (view_of new line)) (sym turn.now) (keeps turn.asks has_here))
+      | inr other ↦ stood core new k (turn.others k other) has
     ]
 
 pub home_kept : (core : Core) (n place : ℕ) (request : Letter) (rest : List Letter) (served : HomeState × Body) → IsPart core.size n (node_at core n) → request.line % core.size.nodes ≡ n → Answered core n place (with_home (node_at core n) request served.0 served.1) request rest served.1

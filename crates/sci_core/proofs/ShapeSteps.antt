@@ -95,17 +95,23 @@ performed_same core n line next done is k other =
       alike = λ m. alike_same (view_of core k) (view_of new k) m (ap (λ (l : LineState). l.state) (same_line core n line next m k is.others is.below (λ h. other h.1))) (ap answer_in (packets_changed core n next m k is.below is.waiting));
     }
 
-pub performed_did : (core : Core) (n line : ℕ) (op : Op) (next : NodeOf) (done : Performed) (is : Operates core n next done line) (performs : Performs (line_of (node_at core n).cache line).state op done) → n < core.size.nodes → line < core.size.lines → IsTidy core → (c : Stamped) → ShapedAt core line c
-    → Did (view_of (with_node core n next) line) (home_at (with_node core n next) line) c op done
-performed_did core n line op next done is performs lt known tidy c shaped =
+pub performed_moves : (core : Core) (n line : ℕ) (op : Op) (next : NodeOf) (done : Performed) (is : Operates core n next done line) (performs : Performs (line_of (node_at core n).cache line).state op done) → n < core.size.nodes → line < core.size.lines → IsTidy core
+    → Moves (view_of core line) (view_of (with_node core n next) line) n done.next
+performed_moves core n line op next done is performs lt known tidy =
     let new = with_node core n next in
     let at : node_at new n ≡ next = get_or-set_same core.parts n next no_node is.below in
-    let moves : Moves (view_of core line) (view_of new line) n done.next = record {
+    record {
       none = ap answer_in (idle_has_none (line % core.size.nodes) (line_of (node_at core n).cache line) (packets_of core n line) performs.idle (tidy n line lt known));
       here = ap (λ (p : NodeOf). (line_of p.cache line).state) at ∙ is.state;
       others = λ m apart. ap (λ (p : NodeOf). (line_of p.cache line).state) (get_or-set_other core.parts n m next no_node apart);
       answers = λ m. ap answer_in (packets_changed core n next m line is.below is.waiting);
-    } in
+    }
+
+pub performed_did : (core : Core) (n line : ℕ) (op : Op) (next : NodeOf) (done : Performed) (is : Operates core n next done line) (performs : Performs (line_of (node_at core n).cache line).state op done) → n < core.size.nodes → line < core.size.lines → IsTidy core → (c : Stamped) → ShapedAt core line c
+    → Did (view_of (with_node core n next) line) (home_at (with_node core n next) line) c op done
+performed_did core n line op next done is performs lt known tidy c shaped =
+    let new = with_node core n next in
+    let moves = performed_moves core n line op next done is performs lt known tidy in
     subst (λ (h : HomeState). Did (view_of new line) h c op done) (sym (homes_same core n next is.homes line)) (performed_shaped (view_of core line) (view_of new line) (home_at core line) c n op done performs moves shaped)
 
 -- ---- Ask

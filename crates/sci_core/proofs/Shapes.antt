@@ -68,10 +68,10 @@ pub record Asks (old new : View) (a : ℕ) (asker : CacheState) (body : Body) : 
   pub answered : new.answer a ≡ Some body
   pub others : (n : ℕ) → n ≢ a → AlikeIn old new n
 
-before : {X : Type 0} (f : CacheState → Option Body → X) (old new : View) (a : ℕ) (asker : CacheState) (body : Body) → Asks old new a asker body → f (old.state a) (old.answer a) ≡ f asker None
+pub before : {X : Type 0} (f : CacheState → Option Body → X) (old new : View) (a : ℕ) (asker : CacheState) (body : Body) → Asks old new a asker body → f (old.state a) (old.answer a) ≡ f asker None
 before f old new a asker body asks = ap (f (old.state a)) asks.unanswered ∙ ap (λ (s : CacheState). f s None) asks.was
 
-after : {X : Type 0} (f : CacheState → Option Body → X) (old new : View) (a : ℕ) (asker : CacheState) (body : Body) → Asks old new a asker body → f (new.state a) (new.answer a) ≡ f asker (Some body)
+pub after : {X : Type 0} (f : CacheState → Option Body → X) (old new : View) (a : ℕ) (asker : CacheState) (body : Body) → Asks old new a asker body → f (new.state a) (new.answer a) ≡ f asker (Some body)
 after f old new a asker body asks = ap (f (new.state a)) asks.answered ∙ ap (λ (s : CacheState). f s (Some body)) asks.state
 
 agrees_before : (c : Stamped) (old new : View) (a : ℕ) (asker : CacheState) (body : Body) → Asks old new a asker body → AgreesIn c old a → Agrees c asker None
@@ -89,9 +89,9 @@ accepts_after old new a asker body asks accepted all n =
     ]
 
 -- refused by the home: the asker stands as it stood
-stays : (old new : View) (home : HomeState) (c : Stamped) (a : ℕ) (asker : CacheState) (body : Body) → Asks old new a asker body → Alike asker None asker (Some body) → Shaped old home c → Shaped new home c
-stays old new home c a asker body asks alike shaped =
-    shaped_alike old new home c (λ n. elim (cases_eq n a) [
+pub stays_alike : (old new : View) (a : ℕ) (asker : CacheState) (body : Body) → Asks old new a asker body → Alike asker None asker (Some body) → (n : ℕ) → AlikeIn old new n
+stays_alike old new a asker body asks alike n =
+    elim (cases_eq n a) [
       | inl here ↦ subst (λ (m : ℕ). AlikeIn old new m) (sym here) (record {
         sight = after sight_of old new a asker body asks ∙ (alike.sight ∙ sym (before sight_of old new a asker body asks));
         agrees = λ d h. agrees_after d old new a asker body asks (alike.agrees d (agrees_before d old new a asker body asks h));
@@ -100,12 +100,15 @@ stays old new home c a asker body asks alike shaped =
             subst (IsAccepted (new.state a)) (sym asks.answered) (subst (λ (s : CacheState). IsAccepted s (Some body)) (sym asks.state) accepted));
       })
       | inr other ↦ asks.others n other
-    ]) shaped
+    ]
+
+stays : (old new : View) (home : HomeState) (c : Stamped) (a : ℕ) (asker : CacheState) (body : Body) → Asks old new a asker body → Alike asker None asker (Some body) → Shaped old home c → Shaped new home c
+stays old new home c a asker body asks alike shaped = shaped_alike old new home c (stays_alike old new a asker body asks alike) shaped
 
 -- ---- a new front
 
 -- the asker, which was no member, is the front now
-fronts_list : (old new : View) (home home' : HomeState) (a : ℕ) (asker : CacheState) (body : Body) (ns : List ℕ) → Asks old new a asker body → link_of asker None ≡ None → link_of asker (Some body) ≡ Some (head_of home) → head_of home' ≡ Some a
+pub fronts_list : (old new : View) (home home' : HomeState) (a : ℕ) (asker : CacheState) (body : Body) (ns : List ℕ) → Asks old new a asker body → link_of asker None ≡ None → link_of asker (Some body) ≡ Some (head_of home) → head_of home' ≡ Some a
     → IsListOf (link_in old) (head_of home) ns → IsListOf (link_in new) (head_of home') (a ∷ ns)
 fronts_list old new home home' a asker body ns asks none joins head list =
     chain_front (link_in old) (link_in new) (head_of home) (head_of home') a ns (before link_of old new a asker body asks ∙ none) (after link_of old new a asker body asks ∙ joins) head
@@ -207,7 +210,7 @@ claimed_led old new a n f c d ns asks here absent (front, inr comes) =
     let both : Some Leading ≡ Some Coming = sym was ∙ (ap (role_in old) (sym here) ∙ comes.0) in
     absurd cc
 
-claimed_list : (old new : View) (a p : ℕ) (f : Option ℕ) (d : Stamped) (ns : List ℕ) → Asks old new a (Claiming f d) body.Wbok → p ≡ a → IsListOf (link_in old) (Some p) ns → IsListOf (link_in new) (Some a) ns
+pub claimed_list : (old new : View) (a p : ℕ) (f : Option ℕ) (d : Stamped) (ns : List ℕ) → Asks old new a (Claiming f d) body.Wbok → p ≡ a → IsListOf (link_in old) (Some p) ns → IsListOf (link_in new) (Some a) ns
 claimed_list old new a p f d ns asks same list =
     chain_same (link_in old) (link_in new) (Some p) (Some a) ns (ap Some (sym same)) (λ n. elim (cases_eq n a) [
       | inl here ↦ ap (link_in new) here ∙ (after link_of old new a (Claiming f d) body.Wbok asks ∙ (sym (before link_of old new a (Claiming f d) body.Wbok asks) ∙ ap (link_in old) (sym here)))

@@ -236,18 +236,23 @@ pub reached_well : (core : Core) → IsReached core → IsWellFormed core
 reached_well core reached = any_well core (reachable core reached)
 
 -- one event more
-pub reached_stepping : (core next : Core) (e : Event) → IsReached core → stepping core e ≡ Some next → IsReached next
-reached_stepping core next e reached steps =
-    let well = reached_well core reached in
-    let kept = subst (λ (o : Option Core). IfSome o (StepsWell core)) steps (stepping_well core e well) in
+pub reachable_stepping : (core next : Core) (e : Event) → IsReachable core → stepping core e ≡ Some next → IsReachable next
+reachable_stepping core next e reached steps =
+    let kept = subst (λ (o : Option Core). IfSome o (StepsWell core)) steps (stepping_well core e (any_well core reached)) in
     let all = reached.schedule ++ e ∷ [] in
     let leads : run core.size all ≡ next =
     fold-append step (opening core.size) reached.schedule (e ∷ []) ∙ (ap (λ (k : Core). step k e) reached.leads ∙ ap (λ (o : Option Core). unwrap_or o core) steps) in
     record {
-      size = subst IsMachineSize (sym kept.same) reached.size;
+      size = subst IsSize (sym kept.same) reached.size;
       schedule = all;
       leads = subst (λ (size : Size). run size all ≡ next) (sym kept.same) leads;
     }
+
+pub reached_stepping : (core next : Core) (e : Event) → IsReached core → stepping core e ≡ Some next → IsReached next
+reached_stepping core next e reached steps =
+    let kept = subst (λ (o : Option Core). IfSome o (StepsWell core)) steps (stepping_well core e (reached_well core reached)) in
+    let more = reachable_stepping core next e (reachable core reached) steps in
+    record { size = subst IsMachineSize (sym kept.same) reached.size; schedule = more.schedule; leads = more.leads }
 
 -- a call that steps, or leaves the state as it was
 pub reached_either : {T E : Type 0} (result : Result T E) (old new : Core) (e : Event) → IsReached old → IfOk result (λ _. stepping old e ≡ Some new) → (IsErr result → new ≡ old) → IsReached new

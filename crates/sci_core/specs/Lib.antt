@@ -23,3 +23,4 @@ pub mod Coherent
 pub mod GoingOn
 pub mod Draining
 pub mod InTurn
+pub mod FirstCome

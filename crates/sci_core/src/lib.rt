@@ -12,6 +12,7 @@ mod node;
 mod outcome;
 mod pending;
 mod progress;
+mod queue;
 mod state;
 mod taking;
 
@@ -31,6 +32,7 @@ pub use node::Node;
 pub use outcome::push_log;
 pub use pending::Pending;
 pub use progress::{packets_move_on, packets_run_out, weightless_is_drained, weights_are_bounded};
+pub use queue::{first_come_first_served, members_wait_in_line, the_first_is_served};
 
 #[cfg(test)]
 mod tests;

@@ -1,0 +1,5 @@
+use Rattle.sci_core.proofs.TurnSteps.{any_waiting}
+use Rattle.sci_core.proofs.queue.members_wait_in_line.Goals as goal
+
+pub returns : goal.returns
+returns c = any_waiting
