@@ -250,7 +250,7 @@ drained core none = record {
 }
 
 -- a place of a lane is that of its kind, its sender and its receiver
-record IsPlace (nodes place : ℕ) (kind : LaneKind) : Type 0 where
+pub record IsPlace (nodes place : ℕ) (kind : LaneKind) : Type 0 where
   pub from : ℕ
   pub to : ℕ
   pub sender : from < nodes
@@ -275,7 +275,7 @@ two_squares nodes = grind arith
 after_requests : (nodes from to : ℕ) → lane_place nodes Answers from to ≡ nodes * nodes + (from * nodes + to)
 after_requests nodes from to = grind arith
 
-place_of : (nodes place : ℕ) → 0 < nodes → place < 2 * nodes * nodes → IsPlace nodes place Requests ⊎ IsPlace nodes place Answers
+pub place_of : (nodes place : ℕ) → 0 < nodes → place < 2 * nodes * nodes → IsPlace nodes place Requests ⊎ IsPlace nodes place Answers
 place_of nodes place some below =
     elim (cases_lt place (nodes * nodes)) [
       | inl first ↦ inl (let same : 0 + place ≡ place = omega arith in subst (λ (p : ℕ). IsPlace nodes p Requests) same (parted nodes place 0 Requests some first (λ from to. omega arith)))
@@ -290,23 +290,32 @@ place_of nodes place some below =
 none_waiting : (core : Core) → sum_by (λ (part : NodeOf). answer_weight part.waiting) core.parts ≡ 0 → (n : ℕ) → (node_at core n).waiting ≡ None
 none_waiting core none n = none_waits (node_at core n).waiting (none_of_sum (λ (part : NodeOf). answer_weight part.waiting) core.parts n no_node none refl)
 
-reply_on : (core : Core) (n : ℕ) (answer : Letter) → n < core.size.nodes → (node_at core n).waiting ≡ Some answer → IsEnabled core (event.Reply n)
+pub reply_on : (core : Core) (n : ℕ) (answer : Letter) → n < core.size.nodes → (node_at core n).waiting ≡ Some answer → IsEnabled core (event.Reply n)
 reply_on core n answer lt waits =
     subst IsSome (sym ((steps_by_sides core n lt).reply ∙ ap (option_map (λ (s : NodeOf × Letter). sent_by core n Answers s.0 s.1)) (waits_replying (node_at core n) answer waits))) refl
 
 taken_on : (core : Core) (n from : ℕ) (kind : LaneKind) (taking : NodeOf → Letter → Option NodeOf) (e : Event) (letter : Letter) (rest : List Letter) → TakesFront core n kind taking from e → lane_of core kind from n ≡ letter ∷ rest → IsSome (taking (node_at core n) letter) → IsEnabled core e
 taken_on core n from kind taking e letter rest takes is some = subst IsSome (sym (takes.front letter rest is)) (there (taken_to core n kind from rest) (taking (node_at core n) letter) some)
 
+-- a request is served if no answer waits, and an answer is accepted
+pub serve_on : (core : Core) (from n : ℕ) (letter : Letter) (rest : List Letter) → IsReached core → from < core.size.nodes → n < core.size.nodes → (node_at core n).waiting ≡ None → lane_of core Requests from n ≡ letter ∷ rest → IsEnabled core (event.Serve from n)
+serve_on core from n letter rest reached f lt free is =
+    let comes = front_comes core from n Requests letter (reached_well core reached) f lt (ap (λ (lane : List Letter). slice_get lane 0) is) in
+    taken_on core n from Requests node_serving (event.Serve from n) letter rest ((steps_by_sides core n lt).serve from f) is (serve_enabled (node_at core n) letter comes.0.asks free)
+
+pub accept_on : (core : Core) (from n : ℕ) (letter : Letter) (rest : List Letter) → IsReached core → from < core.size.nodes → n < core.size.nodes → lane_of core Answers from n ≡ letter ∷ rest → IsEnabled core (event.Accept from n)
+accept_on core from n letter rest reached f lt is =
+    taken_on core n from Answers node_accepting (event.Accept from n) letter rest ((steps_by_sides core n lt).accept from f) is (accept_enabled core from n reached f lt letter rest is)
+
 lane_drains : (core : Core) (place : ℕ) → IsReached core → ((n : ℕ) → (node_at core n).waiting ≡ None) → 0 < lane_weight (lane_at core place) → IsPlace core.size.nodes place Requests ⊎ IsPlace core.size.nodes place Answers → CanDrain core
 lane_drains core place reached free some (inl at) =
     let front = some_lane (lane_at core place) some in
     let is : lane_of core Requests at.from at.to ≡ front.0 ∷ front.1 = ap (lane_at core) at.here ∙ front.2 in
-    let comes = front_comes core at.from at.to Requests front.0 (reached_well core reached) at.sender at.receiver (ap (λ (lane : List Letter). slice_get lane 0) is) in
-    Drains (event.Serve at.from at.to) refl (taken_on core at.to at.from Requests node_serving (event.Serve at.from at.to) front.0 front.1 ((steps_by_sides core at.to at.receiver).serve at.from at.sender) is (serve_enabled (node_at core at.to) front.0 comes.0.asks (free at.to)))
+    Drains (event.Serve at.from at.to) refl (serve_on core at.from at.to front.0 front.1 reached at.sender at.receiver (free at.to) is)
 lane_drains core place reached free some (inr at) =
     let front = some_lane (lane_at core place) some in
     let is : lane_of core Answers at.from at.to ≡ front.0 ∷ front.1 = ap (lane_at core) at.here ∙ front.2 in
-    Drains (event.Accept at.from at.to) refl (taken_on core at.to at.from Answers node_accepting (event.Accept at.from at.to) front.0 front.1 ((steps_by_sides core at.to at.receiver).accept at.from at.sender) is (accept_enabled core at.from at.to reached at.sender at.receiver front.0 front.1 is))
+    Drains (event.Accept at.from at.to) refl (accept_on core at.from at.to front.0 front.1 reached at.sender at.receiver is)
 
 -- some answer goes out, or some packet is taken, or nothing is under way
 pub can_drain : (core : Core) → IsReached core → CanDrain core

@@ -52,3 +52,5 @@ pub mod Burdens
 pub mod InTurn
 pub mod Turns
 pub mod TurnSteps
+pub mod Leading
+pub mod Moves

@@ -24,3 +24,4 @@ pub mod GoingOn
 pub mod Draining
 pub mod InTurn
 pub mod FirstCome
+pub mod Settling

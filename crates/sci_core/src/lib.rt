@@ -3,6 +3,7 @@
 #![tactic(auto)]
 
 mod apply;
+mod drain;
 mod fault;
 mod lane;
 mod last;

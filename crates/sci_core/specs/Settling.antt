@@ -1,0 +1,54 @@
+-- Events that are made one after another, and the state where the machine has come to rest.
+use Rattle.std.specs.Prelude.{◌≡◌, ◌<◌, ◌≤◌, ℕ, ◌+◌, ◌*◌, Bool, true, false, List, [], ◌∷◌, length, is_some, count_by}
+use Rattle.std.specs.List.{range_with_len, sum_by}
+use Rattle.sci_words.specs.declared.event.Event.{Event}
+use Rattle.sci_words.specs.declared.event.Event.TheVariants as event
+use Rattle.sci_words.specs.declared.stamped.Stamped.{Stamped}
+use Rattle.sci_home.specs.declared.state.HomeState.TheVariants.{Home}
+use Rattle.sci_core.specs.Core.{Core, IsEnabled, node_at, run_from, step}
+use Rattle.sci_core.specs.Draining.{IsDrained}
+use Rattle.sci_core.specs.Node.{IsAtRest}
+use Rattle.sci_core.specs.Sharing.{home_at}
+
+-- ---- events that are made
+
+-- every event but an Issue and a Refuse
+abbrev pub settles : Event → Bool
+settles (event.Issue n op) = false
+settles (event.Refuse from n) = false
+settles _ = true
+
+-- each of the events passes a test, and is enabled when it comes
+abbrev pub AreMade : (Event → Bool) → Core → List Event → Type 0
+AreMade may core [] = Unit {0}
+AreMade may core (e ∷ events) = (may e ≡ true) × IsEnabled core e × AreMade may (step core e) events
+
+-- that many such events lead from one state to another
+pub record Leads (may : Event → Bool) (old new : Core) (count : ℕ) : Type 0 where
+  pub events : List Event
+  pub made : AreMade may old events
+  pub counted : length events ≡ count
+  pub then_ : run_from old events ≡ new
+
+-- so does some number of them
+pub record LeadsOn (may : Event → Bool) (old new : Core) : Type 0 where
+  pub count : ℕ
+  pub leads : Leads may old new count
+
+-- ---- at rest
+
+-- Nothing is under way, no operation is pending, no cache has an entry, and each line's home has it alone.
+pub record IsSettled (core : Core) : Type 0 where
+  pub drained : IsDrained core
+  pub rest : (n : ℕ) → IsAtRest (node_at core n)
+  pub homes : (line : ℕ) → line < core.size.lines → (c : Stamped) × (home_at core line ≡ Home c)
+
+-- how many operations are pending
+abbrev pub pending_count : Core → ℕ
+pending_count core = sum_by (λ n. count_by is_some (node_at core n).pending) (range_with_len 0 core.size.nodes)
+
+-- The most events that it takes: 11 for each line with an entry that each node may have, of which there are no more than
+-- lines, and no more than version slots; and 9 for each pending operation.
+pub record IsWithin (core : Core) (count : ℕ) : Type 0 where
+  pub lines : count ≤ 11 * (core.size.nodes * core.size.lines) + 9 * pending_count core
+  pub slots : count ≤ 11 * (core.size.nodes * core.size.slots) + 9 * pending_count core
