@@ -5,6 +5,7 @@ use Rattle.std.specs.List.{sum_by}
 use Rattle.std.proofs.lemmas.Bool.{cases_lt}
 use Rattle.std.proofs.lemmas.List.Sums.{sum_by-cons, sum_by-set, sum_by_push}
 use Rattle.std.proofs.Math.Nat.{div-add-mod, div-lt_iff_lt-mul, mod-lt, mul_comm}
+use Rattle.sci_words.specs.declared.event.AskKind.{AskKind}
 use Rattle.sci_words.specs.declared.event.Event.{Event}
 use Rattle.sci_words.specs.declared.event.Event.TheVariants as event
 use Rattle.sci_history.specs.declared.entry.Entry.{Entry}
@@ -14,18 +15,19 @@ use Rattle.sci_core.specs.declared.lane.LaneKind.{LaneKind}
 use Rattle.sci_core.specs.declared.lane.LaneKind.TheVariants.{Requests, Answers}
 use Rattle.sci_core.specs.Core.{Core, IsEnabled, Takes, lane_at, lane_of, lane_place, node_at, node_of, run_from, sent_by, side, step, stepping, with_lane, with_node}
 use Rattle.sci_core.specs.Draining.{AskNothing, CanDrain, Drained, Drains, IsDrained, answer_weight, is_asking, lane_weight, letter_weight, moves_made, moves_on, one_if, weight}
-use Rattle.sci_core.specs.Node.{NodeOf, no_node, node_accepting, node_issuing, node_performing, node_refusing, node_replying, node_serving}
+use Rattle.sci_core.specs.Node.{NodeOf, no_node, node_accepting, node_asking, node_issuing, node_performing, node_refusing, node_replying, node_serving}
 use Rattle.sci_core.specs.Reached.{IsReached}
 use Rattle.sci_core.specs.Sides.{TakesFront, taken_to}
 use Rattle.sci_core.specs.WellFormed.{IsAnswerLetter, IsWellFormed}
 use Rattle.sci_core.proofs.Applied.{front_comes, waits_replying}
 use Rattle.sci_core.proofs.Enabled.{accept_enabled, serve_enabled}
 use Rattle.sci_core.proofs.Options.{of_some}
+use Rattle.sci_core.proofs.Parts.{SendsWell, part_asking}
 use Rattle.sci_core.proofs.Sides.{steps_by_sides}
 use Rattle.sci_core.proofs.Stepping.{stepping_from_nobody, stepping_nobody}
 use Rattle.sci_core.proofs.Steps.{lane_below}
 use Rattle.sci_core.proofs.TidyRuns.{node_below}
-use Rattle.sci_core.proofs.WaitingNodes.{Accepts, Answers as AnswersTo, Replies, Stays, accept_accepts, issue_stays, perform_stays, refuse_answers, reply_replies, serve_answers}
+use Rattle.sci_core.proofs.WaitingNodes.{Accepts, Answers as AnswersTo, AsksOnce, Replies, Stays, ask_once, accept_accepts, issue_stays, perform_stays, refuse_answers, reply_replies, serve_answers}
 use Rattle.sci_core.proofs.WellFormedSteps.{reached_stepping, reached_well}
 
 -- ---- weights after a change
@@ -129,6 +131,24 @@ weighs_replied core new n sent well lt replies then_ =
     let more = sum_by_push letter_weight lane sent.1 in
     let light = answer_weighs sent.1 answers.answers in
     let is : weight new ≡ weight (sent_by core n Answers sent.0 sent.1) = ap weight then_ in
+    omega arith
+
+-- an Ask adds a request
+pub weighs_asked : (core new : Core) (n line : ℕ) (kind : AskKind) → IsWellFormed core → stepping core (event.Ask n line kind) ≡ Some new → weight new ≡ weight core + 3
+weighs_asked core new n line kind well steps =
+    let lt = some_node core new (event.Ask n line kind) steps in
+    let part = node_at core n in
+    let made = made_by (λ (s : NodeOf × Letter). sent_by core n Requests s.0 s.1) (node_asking part line kind) new (sym ((steps_by_sides core n lt).ask line kind) ∙ steps) in
+    let sent = made.0 in
+    let sends = of_some (SendsWell core.size n) (node_asking part line kind) sent made.1 (part_asking core.size n part line kind well.sizes.some_node lt (well.each_part n lt)) in
+    let once = of_some (AsksOnce core.size.nodes line part) (node_asking part line kind) sent made.1 (ask_once core.size.nodes part line kind (well.each_part n lt).all ((well.each_part n lt).asks line)) in
+    let place = lane_place core.size.nodes Requests n sent.1.target in
+    let lane = lane_at core place in
+    let both = weighs_both core n place sent.0 (lane ++ sent.1 ∷ []) (node_below core n well lt) (lane_below core Requests n sent.1.target well lt sends.request.letter_ok.target) in
+    let same : answer_weight sent.0.waiting ≡ answer_weight part.waiting = ap answer_weight once.waiting in
+    let more = sum_by_push letter_weight lane sent.1 in
+    let heavy_ = request_weighs sent.1 sends.request.asks in
+    let is : weight new ≡ weight (sent_by core n Requests sent.0 sent.1) = ap weight made.2 in
     omega arith
 
 weighs_stayed : (core new : Core) (n : ℕ) (next : NodeOf) → IsWellFormed core → n < core.size.nodes → next.waiting ≡ (node_at core n).waiting → new ≡ with_node core n next → weight core ≡ weight new + 0

@@ -54,3 +54,11 @@ pub mod Turns
 pub mod TurnSteps
 pub mod Leading
 pub mod Moves
+pub mod Shifts
+pub mod Rounds
+pub mod RoundSteps
+pub mod Resting
+pub mod Ranks
+pub mod Emptying
+pub mod EmptyRuns
+pub mod PendingRuns

@@ -143,7 +143,7 @@ sent_back h (Telling r w false) letter d sent is = elim sent [ ]
 
 -- ---- the one that leads
 
-led_leader : (view : View) (c : Stamped) (must : Bool) (ns : List ℕ) → IsLed view c must ns → (a : ℕ) × (role_in view a ≡ Some Leading)
+pub led_leader : (view : View) (c : Stamped) (must : Bool) (ns : List ℕ) → IsLed view c must ns → (a : ℕ) × (role_in view a ≡ Some Leading)
 led_leader view c must [] led = elim led [ ]
 led_leader view c must (n ∷ ns) (front, inl leads) = (n, leads.0)
 led_leader view c must (n ∷ ns) (front, inr comes) = led_leader view c (fresh_in view n) ns comes.1

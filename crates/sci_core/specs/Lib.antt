@@ -25,3 +25,4 @@ pub mod Draining
 pub mod InTurn
 pub mod FirstCome
 pub mod Settling
+pub mod Rounds

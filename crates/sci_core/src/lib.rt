@@ -14,6 +14,7 @@ mod outcome;
 mod pending;
 mod progress;
 mod queue;
+mod settle;
 mod state;
 mod taking;
 

@@ -105,3 +105,22 @@ fn a_copy_goes_its_own_way(rt: HostRuntime) -> Result<(), Fail> {
     assert_eq!(rt; logs.of(0).len(), 0);
     Ok(())
 }
+
+#[test]
+fn a_machine_comes_to_rest(rt: HostRuntime) -> Result<(), Fail> {
+    let extent = Extent::new(2, 1, 1).ok_or("an extent")?;
+    let mut machine = Machine::new(rt.alloc(), extent, 1).ok().ok_or("no memory")?;
+    assert_eq!(rt; machine.settle(), Ok(0));
+    let events = schedule();
+    assert_eq!(rt; machine.run(&events[..3]), Ok(()));
+    assert_eq!(rt; machine.drain(), Ok(2));
+    assert_eq!(rt; machine.settle(), Ok(13));
+    let logs = machine.logs(rt.alloc()).ok().ok_or("no memory")?;
+    assert_eq!(rt; logs.of(0).len(), 1);
+    assert_eq!(rt; logs.of(0)[0], entry());
+    let last = machine.last();
+    if last.lines() > 0 {
+        assert_eq!(rt; last.get(0), stored(7));
+    }
+    Ok(())
+}

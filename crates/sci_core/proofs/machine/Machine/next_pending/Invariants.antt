@@ -1,0 +1,11 @@
+-- Nothing is pending at the nodes and on the lines so far.
+use Rattle.std.proofs.Common.{◌≡◌, ◌<◌, ℕ, None}
+use Rattle.sci_core.specs.Core.{node_at}
+use Rattle.sci_core.specs.Node.{pending_on}
+use Rattle.sci_core.proofs.machine.Machine.next_pending.Given as goal
+
+abbrev pub invariant-nodes : goal.invariant-nodes
+invariant-nodes l = (n line : ℕ) → n < l.node → line < l.extent.lines → pending_on (node_at l.self n) line ≡ None
+
+abbrev pub invariant-lines : goal.invariant-lines
+invariant-lines l = ((n line : ℕ) → n < l.node → line < l.extent.lines → pending_on (node_at l.self n) line ≡ None) × ((line : ℕ) → line < l.line → pending_on (node_at l.self l.node) line ≡ None)
