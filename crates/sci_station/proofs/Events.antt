@@ -1,6 +1,6 @@
 -- What a station may do with what it has received, and what it has to send.
 use Rattle.std.proofs.Common.{◌≡◌, ◌<◌, ℕ, List, ◌∷◌, get_or, length, Option, Some, None, refl, sym, ap, subst, ◌∙◌}
-use Rattle.std.specs.Prelude.{IsSome}
+use Rattle.std.specs.Prelude.{IsSome, slice_get}
 use Rattle.sci_words.specs.declared.event.AskKind.{AskKind}
 use Rattle.sci_words.specs.declared.event.Event.{Event}
 use Rattle.sci_words.specs.declared.event.Event.TheVariants as event
@@ -12,6 +12,10 @@ use Rattle.sci_core.specs.declared.lane.LaneKind.TheVariants.{Answers, Requests}
 use Rattle.sci_core.specs.Core.{Sends, Takes, lane_at, lane_of, lane_place, node_at, sends, side}
 use Rattle.sci_core.specs.Node.{NodeOf, node_accepting, node_asking, node_refusing, node_replying, node_serving, replied_by}
 use Rattle.sci_core.specs.Reached.{IsReachedNode}
+use Rattle.sci_core.specs.WellFormed.{IsInLane}
+use Rattle.sci_core.proofs.Applied.{front_holds}
+use Rattle.sci_core.proofs.Places.{place_from}
+use Rattle.sci_core.proofs.WellFormedSteps.{reached_well}
 use Rattle.sci_core.proofs.Enabled.{accept_enabled, request_enabled}
 use Rattle.sci_policy.specs.declared.decision.Decision.{Decision}
 use Rattle.sci_policy.specs.declared.decision.Decision.TheVariants as decision
@@ -179,3 +183,13 @@ freed_same old new cell is same = record { table = ap (λ (e : EndOf). e.table) 
 
 pub me_still : (me : ℕ) (old new : EndOf) → IsStill old new → me ≡ me_of old.part → me ≡ me_of new.part
 me_still me old new still is = is ∙ ap (λ (n : NodeOf). n.cache.me) (sym still.node)
+
+-- a request in the lane of a node to itself is its own
+pub own_request : (part : Part) (cell : CellId) (packet : Packet) → HasRead part cell packet → cell.kind ≡ Requests → cell.sender ≡ me_of part → (letter_of packet).source ≡ part.node.cache.me
+own_request part cell packet read k f =
+    let s = read.shown in
+    let me = me_of part in
+    let front = front_read part cell packet read Requests me k f in
+    let place = lane_place s.core.size.nodes Requests me me in
+    let first : slice_get (lane_at s.core place) 0 ≡ Some (letter_of packet) = ap (λ (ls : List Letter). slice_get ls 0) front.1 in
+    (front_holds (IsInLane s.core.size.nodes s.core.size.lines place) (lane_at s.core place) (letter_of packet) first ((reached_well s.core s.reached).each_lane place)).from ∙ place_from s.core.size.nodes Requests me me s.some_node s.some_node

@@ -7,3 +7,4 @@ pub mod Events
 pub mod Idling
 pub mod OneLogs
 pub mod Beats
+pub mod Working

@@ -1,5 +1,5 @@
 -- The log of a node of a reached state, by itself.
-use Rattle.std.proofs.Common.{◌≡◌, ℕ, ◌<◌, ◌≤◌, List, [], ◌∷◌, refl, sym, ap, subst, ◌∙◌, arith}
+use Rattle.std.proofs.Common.{◌≡◌, ℕ, ◌<◌, ◌≤◌, List, [], ◌∷◌, sym, ap, subst, ◌∙◌, arith}
 use Rattle.std.specs.Prelude.{IsTrue, AllPairs, filter}
 use Rattle.std.specs.List.{AllByRecursion}
 use Rattle.std.proofs.lemmas.List.Elements.{All-from_recursion}
@@ -19,7 +19,7 @@ use Rattle.sci_core.proofs.WellFormedSteps.{reachable}
 use Rattle.sci_lanes.specs.declared.view.Part.{Part}
 use Rattle.sci_lanes.specs.Shown.{me_of}
 use Rattle.sci_lanes.specs.Telling.{IsShown}
-use Rattle.sci_station.specs.OneLog.{ComesLater, IsOneLog}
+use Rattle.sci_station.specs.OneLog.{IsOneLog}
 
 -- a later entry of a line's history
 abbrev HasLaterVersion : Entry → Entry → Type 0

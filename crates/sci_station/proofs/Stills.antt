@@ -7,7 +7,7 @@ use Rattle.sci_lanes.specs.declared.view.Inbound.{Inbound}
 use Rattle.sci_lanes.specs.declared.view.Outbound.{Outbound}
 use Rattle.sci_lanes.specs.declared.view.Part.{Part}
 use Rattle.sci_lanes.specs.Shown.{inbound_at, no_inbound, no_outbound, outbound_at}
-use Rattle.sci_lanes.specs.Knowing.{filled_out, is_receiving, is_sending, looked_in, looked_out, read_in, with_lane_known}
+use Rattle.sci_lanes.specs.Knowing.{has_sent_more, filled_out, is_receiving, is_sending, looked_in, looked_out, read_in, with_lane_known}
 use Rattle.sci_lanes.specs.Telling.{size_in}
 use Rattle.sci_lanes.specs.Ends.{EndOf, IsNextToSend, IsNextToTake, filled_at, lane_at_cell, looked_at, read_at, with_part}
 use Rattle.sci_core.specs.Node.{NodeOf}
@@ -74,7 +74,7 @@ look_still end new cell word is =
     let lane = lane_at_cell end.part cell in
     known_still end new lane
     (if is_sending end.part lane cell.number then looked_out word (outbound_at end.part lane) else outbound_at end.part lane)
-    (if is_receiving end.part lane cell.number then looked_in word (inbound_at end.part lane) else inbound_at end.part lane)
+    (if is_receiving end.part lane cell.number then looked_in (has_sent_more end.part lane) word (inbound_at end.part lane) else inbound_at end.part lane)
     (if_same (λ (o : Outbound). o.sent) (is_sending end.part lane cell.number) _ _ _ refl refl)
     (if_same (λ (i : Inbound). i.taken) (is_receiving end.part lane cell.number) _ _ _ refl refl)
     is

@@ -9,6 +9,7 @@ mod station;
 #[cfg(test)]
 mod tests;
 mod turn;
+mod worker;
 
 pub use fabric::{Fabric, Finished};
 pub use station::Station;

@@ -8,7 +8,7 @@ ghost use Rattle.sci_lanes.specs.Shown.{me_of, outbound_at};
 ghost use Rattle.sci_lanes.specs.Telling.{IsShown, SomeLineWaits};
 ghost use Rattle.sci_lanes.specs.Ends.{IsNextToSend, lane_at_cell, nodes_in};
 ghost use Rattle.sci_station.specs.Budgets.{HasNoMore};
-ghost use Rattle.sci_station.specs.Ends.{IsSameEnd, IsSentBy, IsStill};
+ghost use Rattle.sci_station.specs.Ends.{IsEmptied, IsSameEnd, IsSentBy, IsStill};
 
 use crate::budget::{Budget, Spent};
 use sci_core::LaneKind;
@@ -38,6 +38,8 @@ pub(crate) fn send(
     ensures cut { IsErr result → IsStill end.old end.new }
     ensures waits { IfOk result (λ sent. sent ≡ false → kind ≡ Requests →
         SomeLineWaits end.new.part.node) }
+    ensures own { IfOk result (λ sent. sent ≡ false → packet.now.target ≡ me_of end.new.part →
+        IsEmptied end.new.part kind → ⊥) }
     ensures same { IsSameEnd end.old end.new }
     ensures budget { HasNoMore budget.old.left budget.new.left }
     ensures spent { IsErr result → budget.old.left ≢ None }

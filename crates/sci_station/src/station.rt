@@ -39,10 +39,10 @@ impl HasEnd for Station {
 impl Station {
     ghost use Rattle.std.specs.Prelude.{◌≡◌, ◌<◌, ◌≤◌, true, Some, None, IfErr, IfOk, IfSome, IsErr, IsOk};
     ghost use Rattle.sci_core.specs.Node.{node_issuing, node_performing};
-    ghost use Rattle.sci_policy.specs.Policy.{opening_policy};
+    ghost use Rattle.sci_core.specs.Work.{IsIssued, IsLogged};
     ghost use Rattle.sci_policy.specs.Rest.{MayIdle};
     ghost use Rattle.sci_policy.specs.Turn.{MayPerform, is_idle, submit_fault};
-    ghost use Rattle.sci_lanes.specs.Ends.{nodes_in};
+    ghost use Rattle.sci_policy.specs.Worker.{HasSameWork};
     ghost use Rattle.sci_lanes.specs.Shown.{me_of};
     ghost use Rattle.sci_station.specs.Ends.{IsSameEnd};
     ghost use Rattle.sci_station.specs.Moves.{IsTurn};
@@ -65,6 +65,8 @@ impl Station {
         ensures issued { IfOk result
             (λ serial. node_issuing (node_in self.old) op ≡ Some (node_in self.new)) }
         ensures serial { IfOk result (λ serial. serial ≡ (node_in self.old).issued) }
+        ensures pending { IfOk result
+            (λ serial. IsIssued (node_in self.old) (node_in self.new) op) }
         ensures may { IsOk result → submit_fault (node_in self.old) op ≡ None }
         ensures fault { IfErr result
             (λ fault. submit_fault (node_in self.old) op ≡ Some fault) }
@@ -89,6 +91,8 @@ impl Station {
     pub fn perform(&mut self, line: u8) -> Option<Entry>
         ensures performed { IfSome result (λ entry.
             node_performing (node_in self.old) line ≡ Some (node_in self.new, entry)) }
+        ensures logged { IfSome result
+            (λ entry. IsLogged (node_in self.old) (node_in self.new) line entry) }
         ensures none { result ≡ None → node_performing (node_in self.old) line ≡ None }
         ensures beaten { self.new ≡ beaten_to (node_in self.new) self.old }
         ensures same { result ≡ None → self.new ≡ self.old }
@@ -120,16 +124,19 @@ impl Station {
         ensures turn { IsTurn (me_of self.old.end.part) self.old.policy (node_in self.old)
             self.new.policy (node_in self.new) result }
         ensures ready { MayPerform (node_in self.new) result.ready }
-        ensures rest { is_idle result ≡ true → 1 < nodes_in self.new.end.part →
-            MayIdle (node_in self.new) }
+        ensures work { HasSameWork (node_in self.old) (node_in self.new) }
+        ensures rest { is_idle result ≡ true → MayIdle (node_in self.new) }
         ensures end { IsSameEnd self.old.end self.new.end }
     {
         let mut progress = Progress::new();
         let mut budget = Budget { left: None };
         match take_turn(&mut self.end, &mut self.policy, &mut progress, &mut budget) {
-            Ok(()) => progress,
+            Ok(()) => {}
             Err(_) => unreachable!(),
         }
+        // Read, so that the prover knows that the node is one of a state.
+        let _node = self.end.node();
+        progress
     }
 
     /// Takes a turn that ends before it would make more than `steps` steps on words of the table, and tells how many it
@@ -139,6 +146,7 @@ impl Station {
         ensures turn { IsTurn (me_of self.old.end.part) self.old.policy (node_in self.old)
             self.new.policy (node_in self.new) result.0 }
         ensures ready { MayPerform (node_in self.new) result.0.ready }
+        ensures work { HasSameWork (node_in self.old) (node_in self.new) }
         ensures steps { result.1 ≤ steps }
         ensures end { IsSameEnd self.old.end self.new.end }
     {

@@ -1,3 +1,6 @@
+ghost use Rattle.std.specs.Prelude.{◌≤◌};
+ghost use Rattle.sci_words.specs.declared.limits.TheConstants.{MAX_OPERATIONS};
+
 use crate::{Fabric, Station};
 use sci_history::Entry;
 use sci_words::{Act, Extent, Op, Reply};
@@ -56,7 +59,10 @@ fn loads_in_the_end(first: &mut Station, second: &mut Station) -> Result<(), Fai
 }
 
 /// Two stations of a new machine of two nodes.
-fn two(rt: &HostRuntime, extent: Extent, limit: u32) -> Result<(Station, Station), Fail> {
+fn two(rt: &HostRuntime, extent: Extent, limit: u32) -> Result<(Station, Station), Fail>
+    requires some { 1 ≤ limit }
+    requires few { limit ≤ MAX_OPERATIONS }
+{
     let (_fabric, mut stations) = Fabric::new(rt.alloc(), extent, limit)?;
     let second = stations.pop().ok_or("no second station")?;
     let first = stations.pop().ok_or("no first station")?;

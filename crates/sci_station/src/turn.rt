@@ -2,15 +2,16 @@
 
 ghost use Rattle.std.specs.Prelude.{◌≡◌, ◌≢◌, ◌<◌, true, false, None, IfOk, IsErr, IsOk, IsSome, []};
 ghost use Rattle.sci_words.specs.declared.event.Event.TheVariants.{Ask};
+ghost use Rattle.sci_core.specs.declared.lane.LaneKind.TheVariants.{Answers, Requests};
 ghost use Rattle.sci_core.specs.Node.{node_asking};
 ghost use Rattle.sci_policy.specs.Policy.{PolicyOf};
-ghost use Rattle.sci_policy.specs.Rest.{MayIdle, MayRest};
+ghost use Rattle.sci_policy.specs.Rest.{MayRest};
 ghost use Rattle.sci_policy.specs.Turn.{Counts, MadeNothing, MayPerform, is_idle};
 ghost use Rattle.sci_lanes.specs.Shown.{me_of};
 ghost use Rattle.sci_lanes.specs.Ends.{nodes_in};
 ghost use Rattle.sci_station.specs.Budgets.{HasNoMore};
-ghost use Rattle.sci_station.specs.Ends.{IsSameEnd, IsStill};
-ghost use Rattle.sci_station.specs.Moves.{EndsTurn, GoesOn, IsAsked, IsStep, IsTurn, WasHeldUp};
+ghost use Rattle.sci_station.specs.Ends.{HasNothingToDo, IsEmptied, IsReplyHeldUp, IsSameEnd, IsStill};
+ghost use Rattle.sci_station.specs.Moves.{EndsTurn, GoesOn, IsAsked, IsStep, IsTurn, WasHeldUp, WasStill};
 
 use crate::budget::{Budget, Spent};
 use crate::receiving::{Received, receive};
@@ -34,13 +35,12 @@ pub(crate) fn take_turn(
     ensures turn { IsTurn (me_of end.old.part) policy.old end.old.part.node
         policy.new end.new.part.node progress.new }
     ensures ready { MayPerform end.new.part.node progress.new.ready }
-    ensures rest { IsOk result → is_idle progress.new ≡ true → 1 < nodes_in end.new.part →
-        MayIdle end.new.part.node }
+    ensures rest { IsOk result → is_idle progress.new ≡ true → HasNothingToDo end.new.part }
     ensures same { IsSameEnd end.old end.new }
     ensures budget { HasNoMore budget.old.left budget.new.left }
     ensures spent { IsErr result → budget.old.left ≢ None }
 {
-    let me = end.me();
+    let me = end.node().me();
     policy.begin_turn();
     reply(end, progress, budget, me)?;
     accept_all(end, progress, budget, me)?;
@@ -61,6 +61,7 @@ fn reply(
     ensures step { IsStep 1 end.old end.new progress.old progress.new }
     ensures goes { (policy : PolicyOf) →
         GoesOn me policy end.old policy end.new progress.old progress.new }
+    ensures idle { IsOk result → MadeNothing progress.new → IsReplyHeldUp end.new.part }
     ensures budget { HasNoMore budget.old.left budget.new.left }
     ensures spent { IsErr result → budget.old.left ≢ None }
 {
@@ -84,11 +85,13 @@ fn accept_all(
     me: u8,
 ) -> Result<(), Spent>
     requires me { me ≡ me_of end.old.part }
+    requires here { me < nodes_in end.old.part }
     requires accepted { progress.old.accepted < 1000 }
     requires served { progress.old.served < 1000 }
     ensures step { IsStep 1020 end.old end.new progress.old progress.new }
     ensures goes { (policy : PolicyOf) →
         GoesOn me policy end.old policy end.new progress.old progress.new }
+    ensures idle { IsOk result → MadeNothing progress.new → IsEmptied end.new.part Answers }
     ensures budget { HasNoMore budget.old.left budget.new.left }
     ensures spent { IsErr result → budget.old.left ≢ None }
 {
@@ -114,6 +117,8 @@ fn accept_from(
     ensures step { IsStep 4 end.old end.new progress.old progress.new }
     ensures goes { (policy : PolicyOf) →
         GoesOn me policy end.old policy end.new progress.old progress.new }
+    ensures idle { IsOk result → MadeNothing progress.new → from ≡ me →
+        IsEmptied end.new.part Answers }
     ensures budget { HasNoMore budget.old.left budget.new.left }
     ensures spent { IsErr result → budget.old.left ≢ None }
 {
@@ -140,6 +145,9 @@ fn accept(
     ensures step { IsStep 1 end.old end.new progress.old progress.new }
     ensures goes { (policy : PolicyOf) →
         GoesOn me policy end.old policy end.new progress.old progress.new }
+    ensures idle { IfOk result (λ accepted. accepted ≡ false → from ≡ me →
+        IsEmptied end.new.part Answers) }
+    ensures told { IfOk result (λ accepted. accepted ≡ true → MadeNothing progress.new → ⊥) }
     ensures budget { HasNoMore budget.old.left budget.new.left }
     ensures spent { IsErr result → budget.old.left ≢ None }
 {
@@ -165,10 +173,13 @@ fn take_all(
     me: u8,
 ) -> Result<(), Spent>
     requires me { me ≡ me_of end.old.part }
+    requires here { me < nodes_in end.old.part }
     requires accepted { progress.old.accepted < 10000 }
     requires served { progress.old.served < 10000 }
     ensures step { IsStep 2040 end.old end.new progress.old progress.new }
     ensures goes { GoesOn me policy.old end.old policy.new end.new progress.old progress.new }
+    ensures idle { IsOk result → MadeNothing progress.new → end.new.part.node.waiting ≡ None →
+        IsEmptied end.new.part Requests }
     ensures budget { HasNoMore budget.old.left budget.new.left }
     ensures spent { IsErr result → budget.old.left ≢ None }
 {
@@ -196,6 +207,8 @@ fn take_from(
     requires served { progress.old.served < 100000 }
     ensures step { IsStep 8 end.old end.new progress.old progress.new }
     ensures goes { GoesOn me policy.old end.old policy.new end.new progress.old progress.new }
+    ensures idle { IsOk result → MadeNothing progress.new → from ≡ me →
+        end.new.part.node.waiting ≡ None → IsEmptied end.new.part Requests }
     ensures budget { HasNoMore budget.old.left budget.new.left }
     ensures spent { IsErr result → budget.old.left ≢ None }
 {
@@ -223,6 +236,9 @@ fn take(
     requires served { progress.old.served < 200000 }
     ensures step { IsStep 2 end.old end.new progress.old progress.new }
     ensures goes { GoesOn me policy.old end.old policy.new end.new progress.old progress.new }
+    ensures idle { IfOk result (λ taken. taken ≡ false → from ≡ me →
+        end.new.part.node.waiting ≡ None → IsEmptied end.new.part Requests) }
+    ensures told { IfOk result (λ taken. taken ≡ true → MadeNothing progress.new → ⊥) }
     ensures budget { HasNoMore budget.old.left budget.new.left }
     ensures spent { IsErr result → budget.old.left ≢ None }
 {
@@ -263,6 +279,8 @@ fn ask_some(
     ensures ready { MayPerform end.new.part.node progress.new.ready }
     ensures idle { IsOk result → MadeNothing progress.new → progress.new.ready ≡ None →
         MayRest end.new.part.node }
+    ensures still { MadeNothing progress.new →
+        WasStill policy.old end.old policy.old end.new progress.old }
     ensures same { IsSameEnd end.old end.new }
     ensures budget { HasNoMore budget.old.left budget.new.left }
     ensures spent { IsErr result → budget.old.left ≢ None }

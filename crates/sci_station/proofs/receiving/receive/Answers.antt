@@ -1,4 +1,4 @@
-use Rattle.sci_station.proofs.Cells.{looked_found}
+use Rattle.sci_station.proofs.Cells.{looked_found, looked_nothing}
 use Rattle.sci_station.proofs.Stills.{look_still, still_then}
 use Rattle.sci_station.proofs.receiving.receive.Goals as goal
 
@@ -15,3 +15,6 @@ returns-in-Ok-clause-still c =
 pub returns-in-Err-clause-still : goal.returns-in-Err-clause-still
 returns-in-Err-clause-still c =
     still_then c.args.end.now c.look-first.new.self c.read_packet.new.end (look_still c.args.end.now c.look-first.new.self c.args.cell c.look-first.result c.look-first.ensures.part) c.read_packet.ensures.still
+
+pub returns-then-first-eq0-clause-found : goal.returns-then-first-eq0-clause-found
+returns-then-first-eq0-clause-found c = looked_nothing c.args.end.now c.look-first.new.self c.args.cell c.look-first.result c.look-first.ensures.shown c.requires c.look-first.ensures.part c.if-first-eq0.true

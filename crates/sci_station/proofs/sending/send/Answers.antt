@@ -1,10 +1,11 @@
-use Rattle.std.proofs.Common.{◌≡◌, ◌⊎◌, inl, inr, ℕ, ◌+◌, ◌-◌, List, ◌∷◌, get_or, length, refl, sym, ap, ◌∙◌, arith}
+use Rattle.std.proofs.Common.{◌≡◌, ◌⊎◌, inl, inr, ℕ, ◌+◌, ◌-◌, List, ◌∷◌, get_or, length, refl, sym, ap, subst, ◌∙◌, arith}
 use Rattle.sci_packets.specs.Spelling.{words_of}
 use Rattle.sci_cache.specs.Cache.{letter_of}
 use Rattle.sci_core.specs.declared.lane.LaneKind.{LaneKind}
 use Rattle.sci_core.specs.Core.{Sends, side}
 use Rattle.sci_core.specs.Node.{NodeOf}
-use Rattle.sci_station.proofs.Cells.{looked_vacant}
+use Rattle.sci_station.specs.Ends.{IsEmptied}
+use Rattle.sci_station.proofs.Cells.{looked_full, looked_vacant}
 use Rattle.sci_station.proofs.Spelled.{whole_words}
 use Rattle.sci_station.proofs.Stills.{look_still, still_sends, still_then}
 use Rattle.sci_station.proofs.sending.send.Goals as goal
@@ -48,3 +49,11 @@ publish-requires c =
     counted : (count n : ℕ) → (count ≡ 2) ⊎ (count ≡ 11) → count ≡ n → n ≡ count - 1 + 1
     counted count n (inl two) is = omega arith
     counted count n (inr eleven) is = omega arith
+
+pub returns-then-look-ne0-clause-own : goal.returns-then-look-ne0-clause-own
+returns-then-look-ne0-clause-own c = λ _ target emptied.
+    let cell = c.next_to_send-cell in
+    let new = c.look.new.self in
+    let still = look_still c.args.end.now new cell.result c.look.result c.look.ensures.part in
+    let own = cell.ensures.cell.1 ∙ (c.target_of.ensures ∙ (target ∙ ap (λ (n : NodeOf). n.cache.me) still.node)) in
+    looked_full c.args.end.now new cell.result c.look.result c.look.ensures.shown cell.ensures.next c.look.ensures.part c.if-look-ne0.true own (subst (IsEmptied new.part) (sym cell.ensures.cell.0) emptied)

@@ -1,4 +1,8 @@
-use Rattle.std.proofs.Common.{◌+◌, ◌*◌, arith}
+use Rattle.std.proofs.Common.{◌+◌, ◌*◌, refl, arith, inl, inr}
+use Rattle.std.proofs.lemmas.Bool.{cases_lt}
+use Rattle.sci_core.specs.declared.lane.LaneKind.TheVariants.{Answers}
+use Rattle.sci_policy.specs.Policy.{opening_policy}
+use Rattle.sci_station.proofs.Cells.{emptied_still}
 use Rattle.sci_station.proofs.Budgets.{no_more_then}
 use Rattle.sci_station.proofs.Turns.{goes_then, step_most, step_then}
 use Rattle.sci_station.proofs.turn.accept_all.Goals as goal
@@ -12,5 +16,12 @@ loop-from-preserved c =
     record {
       step = step_most (4 * from + 4) (4 * (from + 1)) _ _ _ _ (omega arith) (step_then (4 * from) 4 _ _ _ _ _ _ c.loop-from.invariant.step c.accept_from.ensures.step);
       goes = λ policy. goes_then c.args.me policy policy policy _ _ _ _ _ _ (c.loop-from.invariant.goes policy) (c.accept_from.ensures.goes policy);
+      none = λ nothing below. (
+          let later = c.accept_from.ensures.goes opening_policy in
+          let still = later.still nothing in
+          elim (cases_lt c.args.me from) [
+            | inl before ↦ emptied_still c.loop-from.end c.accept_from.new.end Answers still.end (c.loop-from.invariant.none still.nothing before)
+            | inr past ↦ c.in_ok-accept_from.ensures.idle refl nothing (omega arith)
+          ]);
       budget = no_more_then _ _ _ c.loop-from.invariant.budget c.accept_from.ensures.budget;
     }

@@ -1,4 +1,7 @@
-use Rattle.std.proofs.Common.{◌*◌}
+use Rattle.std.proofs.Common.{◌*◌, ◌<◌}
+use Rattle.sci_core.specs.declared.lane.LaneKind.TheVariants.{Answers}
+use Rattle.sci_policy.specs.Turn.{MadeNothing}
+use Rattle.sci_station.specs.Ends.{IsEmptied}
 use Rattle.sci_policy.specs.Policy.{PolicyOf}
 use Rattle.sci_station.specs.Budgets.{HasNoMore}
 use Rattle.sci_station.specs.Moves.{GoesOn, IsStep}
@@ -8,5 +11,6 @@ abbrev pub invariant-loop-from : goal.invariant-loop-from
 invariant-loop-from l = record {
   step : IsStep (4 * l.from) l.fn.end l.end l.fn.progress l.progress;
   goes : (policy : PolicyOf) → GoesOn l.me policy l.fn.end policy l.end l.fn.progress l.progress;
+  none : MadeNothing l.progress → l.me < l.from → IsEmptied l.end.part Answers;
   budget : HasNoMore l.fn.budget.left l.budget.left;
 }

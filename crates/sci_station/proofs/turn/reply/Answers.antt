@@ -4,6 +4,7 @@ use Rattle.sci_cache.specs.Cache.{letter_of}
 use Rattle.sci_core.specs.declared.lane.LaneKind.TheVariants.{Answers}
 use Rattle.sci_core.specs.Core.{sends}
 use Rattle.sci_core.specs.Node.{NodeOf, node_replying}
+use Rattle.sci_policy.proofs.Telling.{tells_something}
 use Rattle.sci_station.proofs.Events.{reply_target, replying, sent_by}
 use Rattle.sci_station.proofs.Turns.{goes_made}
 use Rattle.sci_station.proofs.turn.reply.Goals as goal
@@ -25,3 +26,6 @@ returns-then-branch-clause-goes c = λ policy.
     let answer = letter_of c.in-Some.answer.now in
     let sent = sent_by Answers (node_replying c.args.end.now.part.node) c.send.new.end.part.node answer (c.in_ok-send.ensures.sent c.if-branch.true) in
     goes_made n policy policy c.args.end.now c.send.new.end c.args.progress.now c.count.new.self (Reply n) (record { own = refl; kind = refl }) (answer, sent, refl) c.count.ensures.more c.count.ensures.counted
+
+pub returns-then-branch-clause-idle : goal.returns-then-branch-clause-idle
+returns-then-branch-clause-idle c = λ _ nothing. absurd (tells_something c.args.me (Reply c.args.me) c.args.progress.now c.count.new.self (record { own = refl; kind = refl }) c.count.ensures.more nothing)

@@ -3,8 +3,9 @@ use Rattle.std.specs.Prelude.{option_copied, option_map}
 use Rattle.sci_cache.specs.Cache.{letter_of}
 use Rattle.sci_core.specs.Node.{NodeOf}
 use Rattle.sci_policy.specs.Policy.{decided}
-use Rattle.sci_policy.proofs.Deciding.{none_seen}
-use Rattle.sci_station.proofs.Events.{may_take, me_still, take_is_own, take_made}
+use Rattle.sci_policy.proofs.Deciding.{keep_of, keeps_no_own, none_seen}
+use Rattle.sci_policy.proofs.Telling.{tells_something}
+use Rattle.sci_station.proofs.Events.{may_take, me_still, own_request, take_is_own, take_made}
 use Rattle.sci_station.proofs.Turns.{goes_made, goes_still, goes_then}
 use Rattle.sci_station.proofs.turn.take.Goals as goal
 
@@ -49,3 +50,18 @@ returns-clause-goes c =
     (take_made c.args.policy.now c.served.new.self part.node c.free.new.self.part.node c.decide.result c.args.from n e (letter_of request) decides c.in-Some.ensures taken c.served.ensures)
     c.count.ensures.more c.count.ensures.counted)
     (c.reply.ensures.goes c.served.new.self))
+
+pub returns-clause-told : goal.returns-clause-told
+returns-clause-told c = λ _ nothing.
+    let earlier = (c.reply.ensures.goes c.served.new.self).still nothing in
+    tells_something c.args.me c.in-Some.event c.args.progress.now c.count.new.self (take_is_own c.decide.result c.args.from c.args.me c.in-Some.event c.in-Some.ensures) c.count.ensures.more earlier.nothing
+
+pub returns-in_default-clause-idle : goal.returns-in_default-clause-idle
+returns-in_default-clause-idle c = λ _ own none.
+    let cell = c.next_to_take-cell in
+    let part = c.receive.new.end.part in
+    let request = c.in-Packet.request in
+    let me = me_still c.args.me c.args.end.now c.receive.new.end c.receive.ensures.still c.requires.me in
+    let source = own_request part cell.result request c.in-Packet.ensures.found cell.ensures.cell.0 (cell.ensures.cell.1 ∙ (own ∙ me)) in
+    let decides : decided c.args.policy.now part.node (letter_of request) ≡ c.decide.result = ap (λ (m : NodeOf). decided c.args.policy.now m (letter_of request)) (sym c.node-2.ensures.node) ∙ sym c.decide.ensures in
+    absurd (keeps_no_own c.args.policy.now part.node (letter_of request) source (decides ∙ keep_of c.decide.result c.args.from c.args.me (sym c.event.ensures ∙ c.in_default.is)))

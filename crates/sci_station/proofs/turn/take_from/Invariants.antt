@@ -1,4 +1,5 @@
-use Rattle.std.proofs.Common.{◌*◌}
+use Rattle.std.proofs.Common.{◌≡◌, ◌*◌}
+use Rattle.sci_policy.specs.Turn.{MadeNothing}
 use Rattle.sci_station.specs.Budgets.{HasNoMore}
 use Rattle.sci_station.specs.Moves.{GoesOn, IsStep}
 use Rattle.sci_station.proofs.turn.take_from.Given as goal
@@ -7,5 +8,6 @@ abbrev pub invariant-loop-cell : goal.invariant-loop-cell
 invariant-loop-cell l = record {
   step : IsStep (2 * l._cell) l.fn.end l.end l.fn.progress l.progress;
   goes : GoesOn l.me l.fn.policy l.fn.end l.policy l.end l.fn.progress l.progress;
+  first : MadeNothing l.progress → l._cell ≡ 0;
   budget : HasNoMore l.fn.budget.left l.budget.left;
 }

@@ -1,6 +1,7 @@
 use Rattle.std.proofs.Common.{◌≡◌, None, Some, refl, sym, ap, subst, ◌∙◌}
 use Rattle.std.specs.Prelude.{IsSome}
 use Rattle.sci_core.specs.Node.{NodeOf, node_issuing, pending_on}
+use Rattle.sci_core.specs.Work.{IsIssued}
 use Rattle.sci_core.proofs.Pendings.{issue_puts}
 use Rattle.sci_lanes.specs.Ends.{EndOf}
 use Rattle.sci_lanes.proofs.Calls.{issue_beats}
@@ -32,3 +33,11 @@ returns-clause-serial c =
     let issued = issue_puts old.node new c.args.op (shown_fits old c.node.ensures.shown) made in
     let at : pending_on new c.args.op.line ≡ Some c.in-Some.pending = sym (subst (λ (m : NodeOf). c.pending.result ≡ pending_on m c.args.op.line) c.node-2.ensures.node c.pending.ensures) ∙ c.in-Some.is in
     same_serial (pending_on new c.args.op.line) c.in-Some.pending _ at issued.pending ∙ ap (λ (s : StationOf). s.end.part.node.issued) c.self.view_is
+
+pub returns-clause-pending : goal.returns-clause-pending
+returns-clause-pending c =
+    let old = c.self.inside.end.part in
+    let new = c.beat.new.self.part.node in
+    let enabled = subst (λ (m : NodeOf). IsSome (node_issuing m c.args.op)) c.node.ensures.node (c.in_ok-check_submit.ensures.enabled refl) in
+    let made = changed_to old.node new (node_issuing old.node c.args.op) enabled (ap (λ (e : EndOf). e.part.node) c.beat.ensures.part) in
+    subst (λ (s : StationOf). IsIssued s.end.part.node new c.args.op) c.self.view_is (issue_puts old.node new c.args.op (shown_fits old c.node.ensures.shown) made)
