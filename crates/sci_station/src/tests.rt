@@ -5,6 +5,7 @@ use crate::{Fabric, Station};
 use sci_history::Entry;
 use sci_words::{Act, Extent, Op, Reply};
 use std::test::*;
+use std::thread;
 
 /// An operation on word 0 of a line.
 fn op(line: u8, act: Act) -> Op {
@@ -135,4 +136,67 @@ fn a_turn_is_cut_anywhere(rt: HostRuntime) -> Result<(), Fail> {
         loads_in_the_end(&mut first, &mut second)?;
     }
     Ok(())
+}
+
+/// A station can be moved into another thread, and takes its turn there.
+#[test]
+fn a_station_moves_into_a_thread(rt: HostRuntime) -> Result<(), Fail> {
+    let extent = Extent::new(2, 1, 1).ok_or("an extent")?;
+    let (first, mut second) = two(&rt, extent, 1)?;
+    let child = thread::spawn(&rt, move || {
+        second.turn();
+        second.me()
+    })?;
+    let moved = child.join(&rt);
+    holds(moved == 1, "the number of the station that was moved")?;
+    holds(first.me() == 0, "the number of the station that stays")
+}
+
+/// A go of a node: it submits the next operation of its script if none is pending, performs what it can, and takes a turn.
+fn go(station: &mut Station, script: &[Op], next: usize) -> usize {
+    let submitted = match script.get(next) {
+        Some(op) => station.submit(*op).is_ok(),
+        None => false,
+    };
+    station.perform(0);
+    station.turn();
+    if submitted {
+        next.saturating_add(1)
+    } else {
+        next
+    }
+}
+
+/// A load and a store of one node, and a load of another, end in an order of goes that once went round for ever.
+#[test]
+fn an_order_ends(rt: HostRuntime) -> Result<(), Fail> {
+    let extent = Extent::new(2, 1, 1).ok_or("an extent")?;
+    let (mut first, mut second) = two(&rt, extent, 2)?;
+    let firsts = [op(0, Act::Load), op(0, Act::Store(7))];
+    let seconds = [op(0, Act::Load)];
+    let (mut one, mut two) = (0, 0);
+    for node in [0, 0, 0, 0, 1, 0, 1] {
+        if node == 0 {
+            one = go(&mut first, &firsts, one);
+        } else {
+            two = go(&mut second, &seconds, two);
+        }
+    }
+    for _round in 0..1000 {
+        one = go(&mut first, &firsts, one);
+        one = go(&mut first, &firsts, one);
+        two = go(&mut second, &seconds, two);
+    }
+    holds(first.log().len() == 2, "the log of node 0")?;
+    holds(second.log().len() == 1, "the log of node 1")
+}
+
+/// A turn that finds nothing looks once at the cell whose turn it is in each lane to the node, and makes no other step.
+#[test]
+fn an_idle_turn_looks_at_each_lane_once(rt: HostRuntime) -> Result<(), Fail> {
+    let extent = Extent::new(2, 3, 2).ok_or("an extent")?;
+    let (mut first, _second) = two(&rt, extent, 1)?;
+    let (progress, made) = first.turn_within(1000);
+    holds(progress.is_idle(), "nothing was done")?;
+    holds(made == 4, "two lanes of answers and two of requests")
 }
