@@ -263,38 +263,54 @@ target_so : (core : Core) (line nodes : ℕ) (cache : CacheOf) (to : Option ℕ)
 target_so core line nodes cache None all = ap (λ (k : ℕ). line % k) all
 target_so core line nodes cache (Some p) all = refl
 
-pub rounds : (core : Core) (n line : ℕ) (kind : AskKind) (target : ℕ) (next : NodeOf) (letter : Letter) → IsReached core → IsDrained core → n < core.size.nodes → line < core.size.lines → node_asking (node_at core n) line kind ≡ Some (next, letter) → letter.target ≡ target → Rounds core n line kind target
-rounds core n line kind target next letter reached drained lt inside is at =
-    let well = reached_well core reached in
-    let one = asks_one core n line kind reached lt (ap is_some is) in
-    let a = one.1 in
-    let first = one.0 in
-    let reached_1 = reached_stepping core first (event.Ask n line kind) reached one.2 in
-    let part = well.each_part n lt in
-    let below : line < lines_of (node_at core n) = a.as_.below in
-    let shift_1 : Shifts core first n line a.as_.asked.next = shifts core first n line a.sent.0 (line_asked (line_of (node_at core n).cache line) a.as_.asked) (node_below core n well lt) below
-    (ap (λ (p : NodeOf). p.cache) a.as_.next) (ap (λ (p : NodeOf). p.pending) a.as_.next) (ap (λ (x : Core). x.parts) a.then_) (ap (λ (x : Core). x.size) a.then_) in
-    let two = serves_one core first n line kind a reached reached_1 lt drained shift_1.size in
-    let s = two.1 in
-    let t = a.sent.1.target in
-    let reached_2 = reached_stepping first two.0 (event.Serve n t) reached_1 two.2 in
-    let size_2 = s.shift.size ∙ shift_1.size in
-    let three = replies_one core first two.0 n line kind a s reached reached_1 reached_2 lt drained shift_1.size size_2 in
-    let reached_3 = reached_stepping two.0 three.0 (event.Reply t) reached_2 three.2 in
-    let shift_3 = three.1.shift n line in
-    let size_3 = shift_3.size ∙ size_2 in
+-- the answer is accepted, after the three other events
+fourth : (core first second third : Core) (n line : ℕ) (kind : AskKind) (a : Asks core first n line kind) (s : Serves core first second n line a.sent.1 a.as_.asked.request) → Replies second third n a.sent.1.target (answering a.sent.1 s.answer) → Shifts core first n line a.as_.asked.next → IsWellFormed core → IsReached third → n < core.size.nodes → line < core.size.lines
+    → stepping core (event.Ask n line kind) ≡ Some first → stepping first (event.Serve n a.sent.1.target) ≡ Some second → stepping second (event.Reply a.sent.1.target) ≡ Some third → Rounds core n line kind a.sent.1.target
+fourth core first second third n line kind a s r shift well reached lt inside ask serve reply =
+    let shift_3 = r.shift n line in
+    let size = shift_3.size ∙ (s.shift.size ∙ shift.size) in
     let about : a.sent.1.line ≡ line = ap (λ (l : Letter). l.line) a.as_.letter in
-    let four = accepts_one three.0 n t line (answering a.sent.1 s.answer) reached_3 (subst (λ (x : Size). n < x.nodes) (sym size_3) lt) (subst (λ (x : Size). t < x.nodes) (sym size_3) a.well.request.letter_ok.target) about (subst (λ (x : Size). line < x.lines) (sym size_3) inside) three.1.lane in
-    let to : t ≡ server_of core line a.as_.asked.to = ap (λ (l : Letter). l.target) a.as_.letter ∙ target_so core line core.size.nodes (node_at core n).cache a.as_.asked.to part.all in
-    let same : t ≡ target = (let both : Some a.sent ≡ Some (next, letter) = sym a.is ∙ is in ap (λ (o : Option (NodeOf × Letter)). (unwrap_or o a.sent).1.target) both ∙ at) in
+    let last = accepts_one third n a.sent.1.target line (answering a.sent.1 s.answer) reached (subst (λ (x : Size). n < x.nodes) (sym size) lt) (subst (λ (x : Size). a.sent.1.target < x.nodes) (sym size) a.well.request.letter_ok.target) about (subst (λ (x : Size). line < x.lines) (sym size) inside) r.lane in
+    let to : a.sent.1.target ≡ server_of core line a.as_.asked.to = ap (λ (l : Letter). l.target) a.as_.letter ∙ target_so core line core.size.nodes (node_at core n).cache a.as_.asked.to (well.each_part n lt).all in
     record {
       first = first;
-      ask = one.2;
-      second = two.0;
-      serve = subst (λ (k : ℕ). stepping first (event.Serve n k) ≡ Some two.0) same two.2;
-      third = three.0;
-      reply = subst (λ (k : ℕ). stepping two.0 (event.Reply k) ≡ Some three.0) same three.2;
-      last = four.0;
-      accept = subst (λ (k : ℕ). stepping three.0 (event.Accept k n) ≡ Some four.0) same four.2;
-      round = round_of core first two.0 three.0 four.0 n line kind a s shift_1 shift_3 four.1 to;
+      ask = ask;
+      second = second;
+      serve = serve;
+      third = third;
+      reply = reply;
+      last = last.0;
+      accept = last.2;
+      round = round_of core first second third last.0 n line kind a s shift shift_3 last.1 to;
     }
+
+-- the answer goes out, after the two other events
+third : (core first second : Core) (n line : ℕ) (kind : AskKind) (a : Asks core first n line kind) (s : Serves core first second n line a.sent.1 a.as_.asked.request) → Shifts core first n line a.as_.asked.next → IsReached core → IsReached first → IsReached second → IsDrained core → n < core.size.nodes → line < core.size.lines
+    → stepping core (event.Ask n line kind) ≡ Some first → stepping first (event.Serve n a.sent.1.target) ≡ Some second → Rounds core n line kind a.sent.1.target
+third core first second n line kind a s shift reached reached_1 reached_2 drained lt inside ask serve =
+    let next = replies_one core first second n line kind a s reached reached_1 reached_2 lt drained shift.size (s.shift.size ∙ shift.size) in
+    fourth core first second next.0 n line kind a s next.1 shift (reached_well core reached) (reached_stepping second next.0 (event.Reply a.sent.1.target) reached_2 next.2) lt inside ask serve next.2
+
+-- the request is served, after it was asked
+second : (core first : Core) (n line : ℕ) (kind : AskKind) (a : Asks core first n line kind) → Shifts core first n line a.as_.asked.next → IsReached core → IsReached first → IsDrained core → n < core.size.nodes → line < core.size.lines → stepping core (event.Ask n line kind) ≡ Some first → Rounds core n line kind a.sent.1.target
+second core first n line kind a shift reached reached_1 drained lt inside ask =
+    let next = serves_one core first n line kind a reached reached_1 lt drained shift.size in
+    third core first next.0 n line kind a next.1 shift reached reached_1 (reached_stepping first next.0 (event.Serve n a.sent.1.target) reached_1 next.2) drained lt inside ask next.2
+
+-- what the asker's line becomes as it asks
+first_shift : (core first : Core) (n line : ℕ) (kind : AskKind) (a : Asks core first n line kind) → IsWellFormed core → n < core.size.nodes → Shifts core first n line a.as_.asked.next
+first_shift core first n line kind a well lt =
+    shifts core first n line a.sent.0 (line_asked (line_of (node_at core n).cache line) a.as_.asked) (node_below core n well lt) a.as_.below (ap (λ (p : NodeOf). p.cache) a.as_.next) (ap (λ (p : NodeOf). p.pending) a.as_.next) (ap (λ (x : Core). x.parts) a.then_) (ap (λ (x : Core). x.size) a.then_)
+
+-- the target is that of the request
+target_is : (core first : Core) (n line : ℕ) (kind : AskKind) (target : ℕ) (next : NodeOf) (letter : Letter) (a : Asks core first n line kind) → node_asking (node_at core n) line kind ≡ Some (next, letter) → letter.target ≡ target → a.sent.1.target ≡ target
+target_is core first n line kind target next letter a is at =
+    let both : Some a.sent ≡ Some (next, letter) = sym a.is ∙ is in
+    ap (λ (o : Option (NodeOf × Letter)). (unwrap_or o a.sent).1.target) both ∙ at
+
+pub rounds : (core : Core) (n line : ℕ) (kind : AskKind) (target : ℕ) (next : NodeOf) (letter : Letter) → IsReached core → IsDrained core → n < core.size.nodes → line < core.size.lines → node_asking (node_at core n) line kind ≡ Some (next, letter) → letter.target ≡ target → Rounds core n line kind target
+rounds core n line kind target next letter reached drained lt inside is at =
+    let one = asks_one core n line kind reached lt (ap is_some is) in
+    let shift = first_shift core one.0 n line kind one.1 (reached_well core reached) lt in
+    let same = target_is core one.0 n line kind target next letter one.1 is at in
+    subst (Rounds core n line kind) same (second core one.0 n line kind one.1 shift reached (reached_stepping core one.0 (event.Ask n line kind) reached one.2) drained lt inside one.2)

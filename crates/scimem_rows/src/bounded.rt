@@ -39,6 +39,11 @@ impl Bounded {
         }
     }
 
+    /// Brings the machine to rest, and tells how many events that took.
+    pub fn settle(&mut self) -> Result<u32, Fail> {
+        Ok(self.machine.settle()?)
+    }
+
     /// How many nodes there are.
     pub fn nodes(&self) -> u8 {
         self.machine.extent().nodes

@@ -1,12 +1,15 @@
 //! Walks: schedules whose events are taken by chance, from fixed seeds, mostly among the enabled ones. On the way
 //! and at the end, what the machine shows is compared with what a plain look at the nodes and at the events that
-//! happened gives, and its logs are audited and put into one order.
+//! happened gives, and its logs are audited and put into one order. At last each machine comes to rest.
 
 use crate::choices::{any_event, enabled_event};
 use crate::plain_lists::holds;
 use crate::random::Random;
 use crate::walked::{Counts, Walked};
+use sci_cache::Held;
+use sci_core::LaneKind;
 use sci_history::{OrderVerdict, sequential_order};
+use sci_home::HomeState;
 use sci_text::{Tap, read_logs};
 use sci_words::Extent;
 use std::alloc::Global;
@@ -67,6 +70,64 @@ fn step(random: &mut Random, walked: &mut Walked) -> Result<(), Fail> {
     Ok(())
 }
 
+/// Whether nothing of a line is left at a node or under way from it, and the line's home has it alone.
+fn rests(walked: &Walked, n: u8, line: u8) -> bool {
+    let machine = &walked.machine;
+    let is_home = machine
+        .home(line)
+        .is_some_and(|home| matches!(home.state(), HomeState::Home(_)));
+    let is_out = machine
+        .held(n, line)
+        .is_some_and(|held| matches!(held, Held::Out(_)));
+    is_home && is_out && machine.pending(n, line).is_none()
+}
+
+/// How many operations are issued and not yet performed.
+fn pending(walked: &Walked) -> u64 {
+    let mut pending: u64 = 0;
+    for n in 0..walked.extent.nodes {
+        for line in 0..walked.extent.lines {
+            if walked.machine.pending(n, line).is_some() {
+                pending = pending.saturating_add(1);
+            }
+        }
+    }
+    pending
+}
+
+/// An error if the machine doesn't come to rest within as many events as it may take, or its logs aren't lawful then, or
+/// lack an operation.
+fn settle(alloc: Global, walked: &mut Walked) -> Result<(), Fail> {
+    let extent = walked.extent;
+    let entries = u64::from(extent.nodes) * u64::from(extent.lines.min(extent.slots));
+    let most = (11 * entries).saturating_add(pending(walked).saturating_mul(9));
+    let events = walked.machine.settle()?;
+    if u64::from(events) > most {
+        return Err(Fail::new(format_args!("{events} events, not {most}")));
+    }
+    for n in 0..extent.nodes {
+        if walked.machine.waiting(n).is_some() {
+            return Err(Fail::from("an answer that waits"));
+        }
+        if walked.machine.entries(n) != walked.issued(n) as usize {
+            return Err(Fail::from("an operation that isn't performed"));
+        }
+        for to in 0..extent.nodes {
+            for kind in [LaneKind::Requests, LaneKind::Answers] {
+                if walked.machine.count(kind, n, to) > 0 {
+                    return Err(Fail::from("a packet under way"));
+                }
+            }
+        }
+        for line in 0..extent.lines {
+            if !rests(walked, n, line) {
+                return Err(Fail::new(format_args!("node {n} and line {line}")));
+            }
+        }
+    }
+    audit_logs(alloc, walked)
+}
+
 /// What happens in the walk of a seed.
 fn walk(alloc: Global, walks: &Walks, seed: u64) -> Result<Counts, Fail> {
     let extent = Extent::new(walks.nodes, walks.lines, walks.slots).ok_or("an extent")?;
@@ -79,6 +140,7 @@ fn walk(alloc: Global, walks: &Walks, seed: u64) -> Result<Counts, Fail> {
         step(&mut random, &mut walked)?;
     }
     compare(alloc, &walked)?;
+    settle(alloc, &mut walked)?;
     Ok(walked.counts)
 }
 
