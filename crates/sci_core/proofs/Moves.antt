@@ -56,12 +56,12 @@ some_letter : (lane : List Letter) → 0 < length lane → (letter : Letter) × 
 some_letter [] some = absurd (omega arith)
 some_letter (letter ∷ rest) some = (letter, rest, refl)
 
-waits_so : (waiting : Option Letter) → IsSome waiting → (answer : Letter) × (waiting ≡ Some answer)
-waits_so None some = cc
-waits_so (Some answer) some = (answer, refl)
+pub found : {X : Type 0} (o : Option X) → IsSome o → (x : X) × (o ≡ Some x)
+found None some = cc
+found (Some x) some = (x, refl)
 
 pub reply_found : (core : Core) (n : ℕ) → n < core.size.nodes → IsSome (node_at core n).waiting → IsEnabled core (event.Reply n)
-reply_found core n lt some = let answer = waits_so (node_at core n).waiting some in reply_on core n answer.0 lt answer.1
+reply_found core n lt some = let answer = found (node_at core n).waiting some in reply_on core n answer.0 lt answer.1
 
 pub accept_found : (core : Core) (from n : ℕ) → IsReached core → from < core.size.nodes → n < core.size.nodes → 0 < length (lane_of core Answers from n) → IsEnabled core (event.Accept from n)
 accept_found core from n reached f lt not = let front = some_letter (lane_of core Answers from n) not in accept_on core from n front.0 front.1 reached f lt front.2

@@ -36,7 +36,7 @@ use Rattle.sci_core.proofs.Emptying.{asks_if, home_round, known}
 use Rattle.sci_core.proofs.EmptyRuns.{pending_same}
 use Rattle.sci_core.proofs.Leading.{leads_join, leads_more, leads_on, leads_weaker}
 use Rattle.sci_core.proofs.Lists.{at_place_set}
-use Rattle.sci_core.proofs.Moves.{drained_weighs}
+use Rattle.sci_core.proofs.Moves.{drained_weighs, found}
 use Rattle.sci_core.proofs.NodeSides.{At_home, In_cache, PerformedAs, ServedAs, perform_as, reply_as, serve_as}
 use Rattle.sci_core.proofs.Options.{of_some}
 use Rattle.sci_core.proofs.Pendings.{sole_performs}
@@ -77,10 +77,6 @@ move_pending core new (event.Accept from n) is steps m =
     let as_ = of_some (AcceptedAs (node_at core n) took.letter) (node_accepting (node_at core n) took.letter) took.next took.takes (accepted_as (node_at core n) took.letter) in
     ap (λ (x : Core). (node_at x m).pending) took.then_ ∙ one_pending core n took.next (ap (λ (p : NodeOf). p.pending) as_.then_) m
 move_pending core new _ is steps m = cc
-
-found : {X : Type 0} (o : Option X) → IsSome o → (x : X) × (o ≡ Some x)
-found None some = cc
-found (Some x) some = (x, refl)
 
 -- moves keep the size, and what is pending
 pub record Kept (old new : Core) : Type 0 where

@@ -26,6 +26,7 @@ use Rattle.sci_core.specs.WellFormed.{IsWellFormed}
 use Rattle.sci_core.proofs.Applied.{waits_replying}
 use Rattle.sci_core.proofs.Enabled.{accept_enabled, serve_enabled}
 use Rattle.sci_core.proofs.Lists.{at_place_set}
+use Rattle.sci_core.proofs.Moves.{found}
 use Rattle.sci_core.proofs.NodeSides.{AsksAlike, At_home as Home_served, In_cache as Cache_served, ServedAs, ask_alike, serve_as}
 use Rattle.sci_core.proofs.Options.{of_some}
 use Rattle.sci_core.proofs.Parts.{SendsWell, part_asking}
@@ -36,10 +37,6 @@ use Rattle.sci_core.proofs.Sides.{steps_by_sides}
 use Rattle.sci_core.proofs.Steps.{lane_below}
 use Rattle.sci_core.proofs.TidyRuns.{node_below}
 use Rattle.sci_core.proofs.WellFormedSteps.{reached_stepping, reached_well}
-
-found : {X : Type 0} (o : Option X) → IsSome o → (x : X) × (o ≡ Some x)
-found None some = cc
-found (Some x) some = (x, refl)
 
 -- ---- the request is asked
 

@@ -14,8 +14,8 @@ use Rattle.sci_core.specs.Shape.{IsAuthority}
 use Rattle.sci_core.specs.Sharing.{authority_contents, sharer_of}
 use Rattle.sci_core.specs.SharingList.{IsSharingList}
 
--- Those who wait on a line, whoever is to be the authority next first: the members of its list before the authority, from
--- the one directly before it to the front. Nobody waits if the line has no list.
+-- Those who wait on a line, whoever is to be the authority next first: the members of its list before the authority,
+-- from the one directly before it to the front. Nobody waits if the line has no list.
 pub data AreWaiting (core : Core) (line : ℕ) (waiting : List ℕ) : Type 0 where
   Nobody : IsSharingList core line [] → waiting ≡ [] → AreWaiting core line waiting
   Before : (authority : ℕ) (after : List ℕ) → IsSharingList core line (reverse waiting ++ authority ∷ after) → IsAuthority core line authority → AreWaiting core line waiting
@@ -63,7 +63,7 @@ succeeded core (e ∷ events) line = successors core (step core e) line ++ succe
 abbrev pub IsInTurn : Core → Event → ℕ → List ℕ → List ℕ → Type 0
 IsInTurn core e line waiting then_ = waiting ++ entrants core e line ≡ successors core (step core e) line ++ then_
 
--- of a whole schedule: the nodes become the authority in the order in which the home let them in, and those that have not
--- become it yet wait
+-- of a whole schedule: the nodes become the authority in the order in which the home let them in, and those that have
+-- not become it yet wait
 abbrev pub AreInTurn : Size → List Event → ℕ → List ℕ → Type 0
 AreInTurn size schedule line waiting = entered (opening size) schedule line ≡ succeeded (opening size) schedule line ++ waiting

@@ -29,7 +29,8 @@ pub data IsServed (core : Core) (n line : ℕ) (request : Body) (old new : Cache
   At_home : (home : HomeState) → home_serving (home_at core line) n request ≡ Some (home, answer) → new ≡ old → IsServed core n line request old new answer
   In_cache : serving old n request ≡ Some (new, answer) → IsServed core n line request old new answer
 
--- node n asks about a line, and takes the answer; no other state changes but the server's, and no operation is performed
+-- node n asks about a line, and takes the answer; no other state changes but the server's, and no operation is
+-- performed
 pub record IsRound (core new : Core) (n line : ℕ) (ask : AskKind) : Type 0 where
   pub asked : Asked
   pub asks : asking (state_at core line n) ask ≡ Some asked

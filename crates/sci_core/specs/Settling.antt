@@ -47,8 +47,8 @@ pub record IsSettled (core : Core) : Type 0 where
 abbrev pub pending_count : Core → ℕ
 pending_count core = sum_by (λ n. count_by is_some (node_at core n).pending) (range_with_len 0 core.size.nodes)
 
--- The most events that it takes: 11 for each line with an entry that each node may have, of which there are no more than
--- lines, and no more than version slots; and 9 for each pending operation.
+-- The most events that it takes: 11 for each line with an entry that each node may have, of which there are no more
+-- than lines, and no more than version slots; and 9 for each pending operation.
 pub record IsWithin (core : Core) (count : ℕ) : Type 0 where
   pub lines : count ≤ 11 * (core.size.nodes * core.size.lines) + 9 * pending_count core
   pub slots : count ≤ 11 * (core.size.nodes * core.size.slots) + 9 * pending_count core

@@ -14,9 +14,9 @@ impl Machine {
     ghost use Rattle.sci_core.specs.Reached.{IsReached};
     ghost use Rattle.sci_core.specs.Settling.{Leads, LeadsOn};
 
-    /// Brings all that is under way to its end, and gives the number of events: each is a Serve, a Reply or an Accept, and
-    /// there are as many as the packets under way weigh. If memory is refused, the machine stands where the events
-    /// made so far lead.
+    /// Brings all that is under way to its end, and gives the number of events: each is a Serve, a Reply or an
+    /// Accept, and there are as many as the packets under way weigh. If memory is refused, the machine stands where
+    /// the events made so far lead.
     pub fn drain(&mut self) -> Result<u32, AllocError>
         ensures drained { IfOk result (λ count. IsDrained self.new) }
         ensures made { IfOk result (λ count. Leads brings_on self.old self.new count) }

@@ -1,4 +1,5 @@
-//! Laws of first come, first served, each the contract of a function that does nothing. They hold of machines of any size.
+//! Laws of first come, first served, each the contract of a function that does nothing. They hold of machines of any
+//! size.
 
 ghost use Rattle.std.specs.Prelude.{◌<◌, ℕ, List};
 ghost use Rattle.sci_words.specs.declared.event.Event.{Event};
@@ -14,16 +15,16 @@ pub fn members_wait_in_line()
         (waiting : List ℕ) × AreWaiting core line waiting }
 {}
 
-/// At each step of a reached state those who wait on a line are a queue: whoever the home lets in waits last, and only the
-/// first of those who wait becomes the authority, or whoever is let in if nobody waits.
+/// At each step of a reached state those who wait on a line are a queue: whoever the home lets in waits last, and
+/// only the first of those who wait becomes the authority, or whoever is let in if nobody waits.
 pub fn the_first_is_served()
     ensures { (core : Core) (event : Event) (line : ℕ) (waiting then_ : List ℕ) → IsReachable core →
-        line < core.size.lines → AreWaiting core line waiting → AreWaiting (step core event) line then_ →
-        IsInTurn core event line waiting then_ }
+        line < core.size.lines → AreWaiting core line waiting →
+        AreWaiting (step core event) line then_ → IsInTurn core event line waiting then_ }
 {}
 
-/// In every schedule the nodes become the authority of a line in the order in which its home let them in, and those that
-/// have not become it yet wait. So nobody whom the home served later becomes the authority earlier.
+/// In every schedule the nodes become the authority of a line in the order in which its home let them in, and those
+/// that have not become it yet wait. So nobody whom the home served later becomes the authority earlier.
 pub fn first_come_first_served()
     ensures { (size : Size) (schedule : List Event) (line : ℕ) (waiting : List ℕ) → IsSize size →
         line < size.lines → AreWaiting (run size schedule) line waiting →

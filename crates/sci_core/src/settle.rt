@@ -9,8 +9,8 @@ use sci_cache::Held;
 use sci_words::{AskKind, Event};
 use std::alloc::AllocError;
 
-/// Whom a look among the nodes is for, by what they have of a line: one that has to tell another, the head of the list, or
-/// one that is to join before a node.
+/// Whom a look among the nodes is for, by what they have of a line: one that has to tell another, the head of the
+/// list, or one that is to join before a node.
 #[derive(Clone, Copy)]
 pub(crate) enum Wanted {
     Teller,
@@ -59,9 +59,9 @@ impl Machine {
     ghost use Rattle.sci_core.specs.Rounds.{AreOut, IsNext, IsRound, rank};
     ghost use Rattle.sci_core.specs.Settling.{IsSettled, IsWithin, Leads, LeadsOn, pending_count, settles};
 
-    /// A node asks about a line, and the request is served, answered and accepted. The caller sees to it that nothing is
-    /// under way, that there is such a line, and that the node can ask. If memory is refused, the machine stands where the
-    /// events made so far lead.
+    /// A node asks about a line, and the request is served, answered and accepted. The caller sees to it that nothing
+    /// is under way, that there is such a line, and that the node can ask. If memory is refused, the machine stands
+    /// where the events made so far lead.
     fn round(&mut self, node: u8, line: u8, kind: AskKind) -> Result<(), AllocError>
         requires drained { IsDrained self.old }
         requires node { node < self.old.size.nodes }
@@ -147,8 +147,8 @@ impl Machine {
         None
     }
 
-    /// Brings every line to its home, and gives the number of events. The caller sees to it that nothing is under way. If
-    /// memory is refused, the machine stands where the events made so far lead.
+    /// Brings every line to its home, and gives the number of events. The caller sees to it that nothing is under
+    /// way. If memory is refused, the machine stands where the events made so far lead.
     fn empty_lines(&mut self) -> Result<u32, AllocError>
         requires { IsDrained self.old }
         ensures drained { IfOk result (λ count. IsDrained self.new) }
@@ -190,10 +190,10 @@ impl Machine {
         None
     }
 
-    /// Performs the operation that is pending at a node on a line, and gives the number of events: the node reads the line,
-    /// performs the operation, and writes the line back. The caller sees to it that there is such an operation, that
-    /// nothing is under way, and that no cache has an entry. If memory is refused, the machine stands where the events made
-    /// so far lead.
+    /// Performs the operation that is pending at a node on a line, and gives the number of events: the node reads the
+    /// line, performs the operation, and writes the line back. The caller sees to it that there is such an operation,
+    /// that nothing is under way, and that no cache has an entry. If memory is refused, the machine stands where the
+    /// events made so far lead.
     fn perform_pending(&mut self, node: u8, line: u8) -> Result<u32, AllocError>
         requires drained { IsDrained self.old }
         requires empty { AreOut self.old }
@@ -217,8 +217,9 @@ impl Machine {
     }
 
     /// Brings the machine to rest, and gives the number of events: none of them is an Issue or a Refuse, and each is
-    /// enabled when it comes. At the end every pending operation is performed, no cache has an entry, each line's home has
-    /// it alone, and nothing is under way. If memory is refused, the machine stands where the events made so far lead.
+    /// enabled when it comes. At the end every pending operation is performed, no cache has an entry, each line's
+    /// home has it alone, and nothing is under way. If memory is refused, the machine stands where the events made so
+    /// far lead.
     pub fn settle(&mut self) -> Result<u32, AllocError>
         ensures settled { IfOk result (λ count. IsSettled self.new) }
         ensures made { IfOk result (λ count. Leads settles self.old self.new count) }

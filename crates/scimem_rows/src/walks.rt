@@ -95,8 +95,8 @@ fn pending(walked: &Walked) -> u64 {
     pending
 }
 
-/// An error if the machine doesn't come to rest within as many events as it may take, or its logs aren't lawful then, or
-/// lack an operation.
+/// An error if the machine doesn't come to rest within as many events as it may take, or its logs aren't lawful then,
+/// or lack an operation.
 fn settle(alloc: Global, walked: &mut Walked) -> Result<(), Fail> {
     let extent = walked.extent;
     let entries = u64::from(extent.nodes) * u64::from(extent.lines.min(extent.slots));
