@@ -178,6 +178,9 @@ machine_size extent limit some_operation few = record {
   few_operations = few;
 }
 
+pub size_opened : (size : Size) (m : ℕ) → size_in (opening_part size m) ≡ size
+size_opened size m = λ i. record { nodes = size.nodes; lines = length-replicate size.lines untouched i; slots = size.slots; limit = size.limit }
+
 pub seated_opened : (extent : Extent) (limit n : ℕ) (key : Extent × ℕ) (table seat : TableId) (knows : Me (Unit {0}) View) → IsMachineSize (size_of extent limit) → n < extent.nodes → key ≡ (extent, limit) → seat ≡ table → seat.words ≡ word_count extent.nodes
     → knows ≡ (single (opening_part (size_of extent limit) n), []) → IsSeated key table seat knows
 seated_opened extent limit n key table seat knows ok lt key_is same long is =
@@ -189,9 +192,6 @@ seated_opened extent limit n key table seat knows ok lt key_is same long is =
       shown = subst IsShown (sym part_is) (shown_opened (size_of extent limit) n ok lt);
       sized = ap size_in part_is ∙ (size_opened (size_of extent limit) n ∙ ap (λ (k : Extent × ℕ). size_of k.0 k.1) (sym key_is));
     }
-  where
-    size_opened : (size : Size) (m : ℕ) → size_in (opening_part size m) ≡ size
-    size_opened size m = λ i. record { nodes = size.nodes; lines = length-replicate size.lines untouched i; slots = size.slots; limit = size.limit }
 
 -- ---- what a split leaves
 

@@ -23,7 +23,8 @@ pub enum FinishFault {
 }
 
 impl Lanes {
-    ghost use Rattle.std.specs.Prelude.{◌≡◌, IfErr, IfOk, map};
+    ghost use Rattle.std.specs.Prelude.{◌≡◌, IfErr, IfOk, length, map};
+    ghost use Rattle.sci_history.specs.Audit.{AreWithin};
     ghost use Rattle.sci_history.specs.Lawful.{Lawful};
     ghost use Rattle.sci_history.specs.Sequential.{IsSequentiallyConsistent};
     ghost use Rattle.sci_lanes.specs.declared.gather.FinishFault.TheVariants.{Memory, Missing};
@@ -47,6 +48,8 @@ impl Lanes {
             (λ done. AreGathered self.size (map E.end_of ends.items) done.0 done.1) }
         ensures all { IfOk result (λ _. AreAll self.size.nodes (map E.end_of ends.items)) }
         ensures logs { IfOk result (λ done. HaveLogs (map E.end_of ends.items) done.0) }
+        ensures within { IfOk result (λ done. AreWithin (length done.1) done.0) }
+        ensures lines { IfOk result (λ done. length done.1 ≡ self.size.lines) }
         ensures lawful { IfOk result (λ done. Lawful done.0 done.1) }
         ensures consistent { IfOk result (λ done. IsSequentiallyConsistent done.0 done.1) }
         ensures missing { IfErr result (λ back. back.0 ≡ Missing → ¬ AreAll self.size.nodes (map E.end_of ends.items)) }

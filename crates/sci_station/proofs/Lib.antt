@@ -8,3 +8,4 @@ pub mod Idling
 pub mod OneLogs
 pub mod Beats
 pub mod Working
+pub mod Belonging

@@ -29,7 +29,8 @@ pub struct Finished {
 }
 
 impl Fabric {
-    ghost use Rattle.std.specs.Prelude.{◌≡◌, ◌≤◌, IfErr, IfOk, map};
+    ghost use Rattle.std.specs.Prelude.{◌≡◌, ◌≤◌, IfErr, IfOk, length, map};
+    ghost use Rattle.sci_history.specs.Audit.{AreWithin};
     ghost use Rattle.sci_history.specs.Lawful.{Lawful};
     ghost use Rattle.sci_history.specs.Sequential.{IsSequentiallyConsistent};
     ghost use Rattle.sci_lanes.specs.declared.gather.FinishFault.TheVariants.{Memory, Missing};
@@ -76,6 +77,8 @@ impl Fabric {
             AreGathered self.size (map end_in stations.items) done.logs done.last) }
         ensures all { IfOk result (λ _. AreAll self.size.nodes (map end_in stations.items)) }
         ensures logs { IfOk result (λ done. HaveLogs (map end_in stations.items) done.logs) }
+        ensures within { IfOk result (λ done. AreWithin (length done.last) done.logs) }
+        ensures lines { IfOk result (λ done. length done.last ≡ self.size.lines) }
         ensures lawful { IfOk result (λ done. Lawful done.logs done.last) }
         ensures consistent { IfOk result
             (λ done. IsSequentiallyConsistent done.logs done.last) }

@@ -3,6 +3,8 @@
 
 mod budget;
 mod fabric;
+#[cfg(test)]
+mod finish_tests;
 mod receiving;
 mod sending;
 mod station;
