@@ -18,20 +18,25 @@ pub trait Worker {
 
     ghost node: { Self → NodeOf };
 
+    // What no call changes of a worker: the machine that it is part of, and its place there.
+    ghost stays: { Self → Self → Type 0 };
+
     /// Submits an operation, and gives its serial. Refused, unchanged, with the first of `SubmitFault`'s causes that
     /// holds.
     fn submit(&mut self, op: Op) -> Result<u32, SubmitFault>
         ensures issued { IfOk result (λ serial. IsIssued (node self.old) (node self.new) op) }
         ensures serial { IfOk result (λ serial. serial ≡ (node self.old).issued) }
         ensures fault { IfErr result (λ fault. submit_fault (node self.old) op ≡ Some fault) }
-        ensures same { IsErr result → node self.new ≡ node self.old };
+        ensures same { IsErr result → node self.new ≡ node self.old }
+        ensures stays { stays self.old self.new };
 
     /// Performs the operation that is pending on a line, and gives its entry, which now ends the log. None, with the
     /// same work, if none is pending there or it can't be performed yet.
     fn perform(&mut self, line: u8) -> Option<Entry>
         ensures performed { IfSome result
             (λ entry. IsLogged (node self.old) (node self.new) line entry) }
-        ensures same { result ≡ None → node self.new ≡ node self.old };
+        ensures same { result ≡ None → node self.new ≡ node self.old }
+        ensures stays { stays self.old self.new };
 
     /// Takes a turn: takes what others sent, and sends what comes next. No operation is submitted or performed by it.
     /// What it tells counts its events, and a line that it calls ready has an operation that can be performed. It tells
@@ -40,5 +45,10 @@ pub trait Worker {
     fn turn(&mut self) -> Result<Progress, AllocError>
         ensures turn { IfOk result (IsNodeTurn (node self.old) (node self.new)) }
         ensures rest { IfOk result (λ progress. is_idle progress ≡ true → MayIdle (node self.new)) }
-        ensures work { HasSameWork (node self.old) (node self.new) };
+        ensures work { HasSameWork (node self.old) (node self.new) }
+        ensures stays { stays self.old self.new };
+
+    ghost stays_itself: { (x : Self) → stays x x };
+
+    ghost stays_through: { (x y z : Self) → stays x y → stays y z → stays x z };
 }

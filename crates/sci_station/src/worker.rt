@@ -7,9 +7,13 @@ use sci_words::Op;
 use std::alloc::AllocError;
 
 impl Worker for Station {
+    ghost use Rattle.sci_station.specs.Ends.{IsSameEnd};
     ghost use Rattle.sci_station.specs.Station.{node_in};
+    ghost use Rattle.std.proofs.Common.{rules};
 
     ghost node = { node_in };
+
+    ghost stays = { λ old new. IsSameEnd old.end new.end };
 
     fn submit(&mut self, op: Op) -> Result<u32, SubmitFault> {
         Station::submit(self, op)
@@ -22,4 +26,8 @@ impl Worker for Station {
     fn turn(&mut self) -> Result<Progress, AllocError> {
         Ok(Station::turn(self))
     }
+
+    ghost stays_itself = { Prim.search rules };
+
+    ghost stays_through = { Prim.search rules };
 }

@@ -1,0 +1,12 @@
+use Rattle.std.proofs.Common.{◌≡◌, length, ℕ, ◌-◌}
+use Rattle.sci_drive.specs.Driving.{DriverOf, IsDriven}
+use Rattle.sci_drive.proofs.driver.Driver.perform.Given as goal
+
+abbrev pub invariant-loop-place : goal.invariant-loop-place
+invariant-loop-place g l =
+    IsDriven (record { script = l.self-inside.script.now; next = l.self-inside.next; pending = l.self-inside.pending.items }) (g.W.Worker.node l.worker)
+    × (l.self-inside.script ≡ l.initial.self-inside.script)
+    × g.W.Worker.stays l.initial.worker l.worker
+
+abbrev pub decreases-loop-place : goal.decreases-loop-place
+decreases-loop-place g l = length l.self-inside.pending.items - l.place

@@ -1,0 +1,44 @@
+-- A driver beside the worker that it drives.
+use Rattle.std.specs.Prelude.{◌≡◌, ◌<◌, ◌≤◌, ◌⊎◌, ℕ, List, [], length, All, Option, Some, None, slice_get}
+use Rattle.std.specs.List.{Contains}
+use Rattle.sci_words.specs.declared.operation.Op.{Op}
+use Rattle.sci_core.specs.Node.{NodeOf, pending_on}
+use Rattle.sci_core.specs.declared.pending.Pending.{Pending}
+use Rattle.sci_drive.specs.Script.{IsNamedBy, times_answered}
+
+-- a script, how many of its operations were submitted, and the lines on which one of them is pending, by serial
+pub record DriverOf : Type 0 where
+  pub script : List Op
+  pub next : ℕ
+  pub pending : List ℕ
+
+abbrev pub opening_driver : List Op → DriverOf
+opening_driver script = record { script = script; next = 0; pending = [] }
+
+-- nothing was submitted, and nothing is logged
+pub record HasSubmittedNothing (node : NodeOf) : Type 0 where
+  pub issued : node.issued ≡ 0
+  pub pending : (line : ℕ) → pending_on node line ≡ None
+  pub log : node.log ≡ []
+
+-- what is pending on a line: an operation of the script that was submitted and has no entry yet
+pub record IsAwaited (driver : DriverOf) (node : NodeOf) (line : ℕ) (pending : Pending) : Type 0 where
+  pub on : pending.op.line ≡ line
+  pub named : slice_get driver.script pending.serial ≡ Some pending.op
+  pub submitted : pending.serial < driver.next
+  pub unanswered : times_answered pending.serial node.log ≡ 0
+  pub known : Contains driver.pending line
+
+-- the operation of this serial has its one entry, or it is pending
+abbrev pub IsAnsweredOrPending : NodeOf → ℕ → Type 0
+IsAnsweredOrPending node serial = (times_answered serial node.log ≡ 1) ⊎ ((op : Op) × (pending_on node op.line ≡ Some (record { serial = serial; op = op })))
+
+-- The worker's node has done the script as far as the driver has come: what was submitted is pending or has its one entry,
+-- and nothing else is pending or logged.
+pub record IsDriven (driver : DriverOf) (node : NodeOf) : Type 0 where
+  pub issued : node.issued ≡ driver.next
+  pub within : driver.next ≤ length driver.script
+  pub named : All (IsNamedBy driver.script) node.log
+  pub submitted : (serial : ℕ) → serial < driver.next → IsAnsweredOrPending node serial
+  pub later : (serial : ℕ) → driver.next ≤ serial → times_answered serial node.log ≡ 0
+  pub pending : (line : ℕ) (p : Pending) → pending_on node line ≡ Some p → IsAwaited driver node line p

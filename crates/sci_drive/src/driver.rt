@@ -1,0 +1,146 @@
+//! A script that is being driven, a round at a time.
+
+use crate::gate::Gate;
+use arrayvec::ArrayVec;
+use sci_policy::{Progress, Worker};
+use sci_words::Op;
+use std::alloc::AllocError;
+use std::marker::Model;
+
+/// How many operations of a script are pending at most.
+const WINDOW: usize = 4;
+
+/// A script that is being driven. Contracts see the script, how many of its operations were submitted, and the lines on which
+/// one is pending.
+#[derive(Drop)]
+pub struct Driver<'a> {
+    script: &'a [Op],
+    next: usize,
+    // the lines on which an operation is pending, by serial
+    pending: ArrayVec<u8, WINDOW>,
+    was_done: bool,
+}
+
+impl<'a> Model for Driver<'a> {
+    ghost use Rattle.std.specs.Prelude.{◌≤◌, length};
+    ghost use Rattle.sci_words.specs.declared.limits.TheConstants.{MAX_OPERATIONS};
+    ghost use Rattle.sci_drive.specs.Driving.{DriverOf};
+
+    ghost Value = { DriverOf };
+
+    ghost view = { λ driver. record {
+      script = driver.script.now;
+      next = driver.next;
+      pending = driver.pending.items;
+    } };
+
+    ghost invariant = { λ driver. length driver.script.now ≤ MAX_OPERATIONS };
+}
+
+/// What a round did.
+#[derive(Clone, Copy, Debug, PartialEq, Eq)]
+pub struct Round {
+    /// Whether an operation was answered.
+    pub answered: bool,
+    /// What the worker's turn did.
+    pub progress: Progress,
+}
+
+impl<'a> Driver<'a> {
+    ghost use Rattle.std.specs.Prelude.{◌≡◌, ◌≤◌, ◌↔◌, true, [], length};
+    ghost use Rattle.sci_words.specs.declared.limits.TheConstants.{MAX_OPERATIONS};
+    ghost use Rattle.sci_drive.specs.Driving.{IsDriven, opening_driver};
+
+    /// A driver that has submitted nothing yet. The caller sees to it that the script has at most 65,536 operations.
+    pub fn new(script: &'a [Op]) -> Driver<'a>
+        requires few { length script.now ≤ MAX_OPERATIONS }
+        ensures { result ≡ opening_driver script.now }
+    {
+        Driver {
+            script,
+            next: 0,
+            pending: ArrayVec::new(),
+            was_done: false,
+        }
+    }
+
+    /// Whether each operation of the script has its entry.
+    pub fn is_answered(&self) -> bool
+        ensures { (result ≡ true) ↔
+            ((self.now.next ≡ length self.now.script) × (self.now.pending ≡ [])) }
+    {
+        self.next == self.script.len() && self.pending.is_empty()
+    }
+
+    /// Does one round:
+    ///
+    /// - submits the next operation if fewer than four are pending, none on its line, and the gate allows it;
+    /// - performs what can be performed, by serial, and tells the gate of each entry;
+    /// - takes one turn;
+    /// - the first time that the whole script is answered, tells the gate that it is done.
+    ///
+    /// The caller sees to it that the worker is the one that this driver has driven. Refused if the worker's turn is.
+    pub fn round<W: Worker, G: Gate>(
+        &mut self,
+        worker: &mut W,
+        gate: &mut G,
+    ) -> Result<Round, AllocError>
+        requires driven { IsDriven self.old (W.node worker.old) }
+        ensures driven { IsDriven self.new (W.node worker.new) }
+        ensures script { self.new.script ≡ self.old.script }
+        ensures stays { W.stays worker.old worker.new }
+    {
+        self.submit(worker, gate);
+        let answered = self.perform(worker, gate);
+        let progress = worker.turn()?;
+        if self.is_answered() && !self.was_done {
+            self.was_done = true;
+            gate.done();
+        }
+        Ok(Round { answered, progress })
+    }
+
+    /// Submits the next operation if it may be.
+    fn submit<W: Worker, G: Gate>(&mut self, worker: &mut W, gate: &mut G)
+        requires driven { IsDriven self.old (W.node worker.old) }
+        ensures driven { IsDriven self.new (W.node worker.new) }
+        ensures script { self.new.script ≡ self.old.script }
+        ensures stays { W.stays worker.old worker.new }
+    {
+        if self.pending.is_full() {
+            return;
+        }
+        let Some(op) = self.script.get(self.next) else {
+            return;
+        };
+        if self.pending.contains(&op.line) || !gate.may_issue(self.next as u32) {
+            return;
+        }
+        if let Ok(_serial) = worker.submit(*op) {
+            self.pending.push(op.line);
+            self.next += 1;
+        }
+    }
+
+    /// Performs what can be performed. Whether an operation was answered.
+    fn perform<W: Worker, G: Gate>(&mut self, worker: &mut W, gate: &mut G) -> bool
+        requires driven { IsDriven self.old (W.node worker.old) }
+        ensures driven { IsDriven self.new (W.node worker.new) }
+        ensures script { self.new.script ≡ self.old.script }
+        ensures stays { W.stays worker.old worker.new }
+    {
+        let mut answered = false;
+        let mut place = 0;
+        while place < self.pending.len() {
+            match worker.perform(self.pending[place]) {
+                Some(entry) => {
+                    self.pending.remove(place);
+                    gate.answered(&entry);
+                    answered = true;
+                }
+                None => place += 1,
+            }
+        }
+        answered
+    }
+}
