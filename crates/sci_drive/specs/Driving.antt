@@ -1,5 +1,5 @@
 -- A driver beside the worker that it drives.
-use Rattle.std.specs.Prelude.{◌≡◌, ◌<◌, ◌≤◌, ◌⊎◌, ℕ, List, [], length, All, Option, Some, None, slice_get}
+use Rattle.std.specs.Prelude.{◌≡◌, ◌<◌, ◌≤◌, ◌⊎◌, ℕ, List, [], length, All, Some, None, slice_get}
 use Rattle.std.specs.List.{Contains}
 use Rattle.sci_words.specs.declared.operation.Op.{Op}
 use Rattle.sci_core.specs.Node.{NodeOf, pending_on}

@@ -1,7 +1,6 @@
-use Rattle.std.proofs.Common.{arith, ◌≡◌, ◌<◌, ℕ, List, length, refl, sym, ap, subst, ◌∙◌}
+use Rattle.std.proofs.Common.{arith, ◌≡◌, ◌<◌, ℕ, List, length, sym, ap, subst, ◌∙◌}
 use Rattle.std.specs.Prelude.{slice_index_or}
 use Rattle.std.proofs.lemmas.List.{get_or_default}
-use Rattle.sci_core.specs.Node.{NodeOf}
 use Rattle.sci_core.specs.Work.{IsLogged}
 use Rattle.sci_drive.specs.Driving.{DriverOf, IsDriven}
 use Rattle.sci_drive.proofs.Drives.{performs}

@@ -1,5 +1,5 @@
-use Rattle.std.proofs.Common.{◌≡◌, length, ℕ, ◌-◌}
-use Rattle.sci_drive.specs.Driving.{DriverOf, IsDriven}
+use Rattle.std.proofs.Common.{◌≡◌, length, ◌-◌}
+use Rattle.sci_drive.specs.Driving.{IsDriven}
 use Rattle.sci_drive.proofs.driver.Driver.perform.Given as goal
 
 abbrev pub invariant-loop-place : goal.invariant-loop-place

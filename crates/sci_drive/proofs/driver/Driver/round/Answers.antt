@@ -1,4 +1,3 @@
-use Rattle.std.proofs.Common.{◌≡◌}
 use Rattle.sci_drive.proofs.Drives.{turns}
 use Rattle.sci_drive.proofs.driver.Driver.round.Goals as goal
 

@@ -2,7 +2,6 @@ use Rattle.std.proofs.Common.{◌≡◌, ◌+◌, ℕ, List, length, Some, refl,
 use Rattle.std.specs.Prelude.{slice_get}
 use Rattle.std.proofs.lemmas.Bool.{ltb-true}
 use Rattle.std.proofs.lemmas.Option.{slice_get_read}
-use Rattle.sci_core.specs.Node.{NodeOf}
 use Rattle.sci_core.specs.Work.{IsIssued}
 use Rattle.sci_drive.specs.Driving.{DriverOf, IsDriven}
 use Rattle.sci_drive.proofs.Drives.{submits}

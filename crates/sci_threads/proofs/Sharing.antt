@@ -1,0 +1,185 @@
+-- The stations of a run, before it and after it.
+use Rattle.std.proofs.Common.{◌≡◌, ◌≤◌, ◌<◌, ◌+◌, ℕ, arith, Bool, true, List, [], ◌∷◌, ◌++◌, All, length, filter, map, take, drop, replicate, get_or, Option, Some, None, Result, Ok, Err, IfOk, Vec, refl, sym, ap, subst, ◌∙◌, inl, inr}
+use Rattle.std.specs.Prelude.{slice_get, slice_index_or, count_by, ◌==◌, option_map}
+use Rattle.std.specs.List.{range_with_len}
+use Rattle.std.proofs.lemmas.Bool.{cases_lt}
+use Rattle.std.proofs.lemmas.List.{append-nil, drop_all, get_or-map, get_or-replicate, get_or_past, length-map, length-replicate, take_all}
+use Rattle.std.proofs.lemmas.List.Elements.{All-get_or, All-map}
+use Rattle.std.proofs.lemmas.List.FromFn.{get_or-map-range_with_len, length-map-range_with_len}
+use Rattle.std.proofs.lemmas.List.Sums.{length-filter}
+use Rattle.std.proofs.lemmas.Option.{get_or_from_slice_get, slice_get-get_or, slice_get-map, slice_get_within}
+use Rattle.atomic_table.specs.Seated.{TableId}
+use Rattle.sci_words.specs.declared.limits.TheConstants.{MAX_OPERATIONS}
+use Rattle.sci_words.specs.declared.operation.Op.{Op}
+use Rattle.sci_history.specs.declared.entry.Entry.{Entry}
+use Rattle.sci_history.specs.Placed.{log_of}
+use Rattle.sci_text.specs.Script.{ScriptValue, IsScript}
+use Rattle.sci_core.specs.Size.{Size}
+use Rattle.sci_core.specs.declared.pending.Pending.{Pending}
+use Rattle.sci_core.specs.Node.{NodeOf, opening_node, pending_on}
+use Rattle.sci_lanes.specs.Shown.{me_of, opening_part}
+use Rattle.sci_lanes.specs.Ends.{EndOf, LanesOf, opening_ends}
+use Rattle.sci_lanes.specs.Gathering.{AreAll, AreOf, HaveLogs, IsOf}
+use Rattle.sci_drive.specs.Driving.{HasSubmittedNothing}
+use Rattle.sci_drive.specs.Script.{IsLogOf, IsWholeLogOf}
+use Rattle.sci_station.specs.Ends.{IsSameEnd}
+use Rattle.sci_station.specs.Station.{StationOf, end_in, node_in, opening_station}
+use Rattle.sci_station.proofs.Belonging.{opened_of, same_of}
+use Rattle.sci_threads.specs.Shares.{HasRun, operations_of, own_of}
+
+-- ---- lists
+
+-- what holds of each image holds of each element through the map
+pub all_unmapped : {A B : Type 0} (P : B → Type 0) (f : A → B) (xs : List A) → All P (map f xs) → All (λ x. P (f x)) xs
+all_unmapped P f xs all k d lt =
+    let long = length-map xs f in
+    subst P (get_or-map f xs k d (f d) lt) (all k (f d) (omega arith))
+
+-- what holds of each element holds of the one that stands at a place
+pub all_there : {A : Type 0} (P : A → Type 0) (xs : List A) (k : ℕ) (x : A) → All P xs → slice_get xs k ≡ Some x → P x
+all_there P xs k x all at = subst P (get_or_from_slice_get xs k x x at) (all k x (slice_get_within xs k x at))
+
+-- ---- the operations of each node
+
+pub few_own : (s : ScriptValue) (node : ℕ) → IsScript s → node < s.nodes → length (operations_of node s.operations) ≤ MAX_OPERATIONS
+few_own s node good lt =
+    let counted = length-filter (λ (p : ℕ × Op). p.0 == node) s.operations in
+    let long = length-map (filter (λ (p : ℕ × Op). p.0 == node) s.operations) (λ (p : ℕ × Op). p.1) in
+    omega (arith, good.counts node lt)
+
+-- the operations that stand under a node's number are the node's
+pub own_is : {Z : Type 0} (s : ScriptValue) (all : List (Vec Op Z)) (node : ℕ) → length all ≡ s.nodes → ((n : ℕ) (d : Vec Op Z) → n < s.nodes → (slice_index_or all n d).items ≡ operations_of n s.operations) → node < s.nodes
+    → own_of all node ≡ operations_of node s.operations
+own_is s [] node long each lt = absurd (omega arith)
+own_is s (v ∷ all) node long each lt = get_or-map (λ own. own.items) (v ∷ all) node v [] (omega arith) ∙ each node v lt
+
+-- ---- the stations of a new fabric
+
+-- what is given for a place past the end stands everywhere
+replicated : {A : Type 0} (count k : ℕ) (a : A) → get_or (replicate count a) k a ≡ a
+replicated count k a = elim (cases_lt k count) [
+    inl lt ↦ get_or-replicate count k a a lt
+  | inr le ↦ get_or_past (replicate count a) k a (let c = length-replicate count a in omega arith)
+  ]
+
+pub opened_fresh : (n : ℕ) (size : Size) → HasSubmittedNothing (opening_node n size)
+opened_fresh n size = record { issued = refl; pending = λ line. replicated size.lines line None; log = refl }
+
+module _ (table : TableId) (size : Size) (count : ℕ) where
+  abbrev pub opened : List StationOf
+  opened = map opening_station (opening_ends table size count)
+
+  end_at : ℕ → EndOf
+  end_at n = record { table = table; part = opening_part size n }
+
+  pub opened_long : length opened ≡ count
+  opened_long = length-map (opening_ends table size count) opening_station ∙ length-map-range_with_len (λ n. record { table = table; part = opening_part size n }) 0 count
+
+  pub opened_at : (k : ℕ) (d : StationOf) → k < count → slice_index_or opened k d ≡ opening_station (record { table = table; part = opening_part size k })
+  opened_at k d lt =
+      let make : ℕ → EndOf = λ n. record { table = table; part = opening_part size n } in
+      let long = length-map-range_with_len make 0 count in
+      get_or-map opening_station (opening_ends table size count) k (make k) d (omega arith) ∙ ap opening_station (get_or-map-range_with_len make 0 count k k (make k) lt (omega arith))
+
+  pub opened_known : All (λ s. me_of s.end.part < count) opened
+  opened_known k d lt = let long = opened_long in subst (λ (s : StationOf). me_of s.end.part < count) (sym (opened_at k d (omega arith))) (omega arith)
+
+  pub opened_all_fresh : All (λ s. HasSubmittedNothing (node_in s)) opened
+  opened_all_fresh k d lt = let long = opened_long in subst (λ (s : StationOf). HasSubmittedNothing (node_in s)) (sym (opened_at k d (omega arith))) (opened_fresh k size)
+
+-- ---- the stations after the run
+
+-- the same stations, each later
+pub record AreSame (old new : List StationOf) : Type 0 where
+  pub long : length new ≡ length old
+  pub each : (k : ℕ) (d : StationOf) → k < length old → IsSameEnd (slice_index_or old k d).end (slice_index_or new k d).end
+
+module _ (table : TableId) (size : Size) (count : ℕ) (new : List StationOf) (same : AreSame (opened table size count) new) where
+  new_long : length new ≡ count
+  new_long = same.long ∙ opened_long table size count
+
+  same_at : (k : ℕ) (d : StationOf) → k < count → IsSameEnd (record { table = table; part = opening_part size k }) (slice_index_or new k d).end
+  same_at k d lt =
+      let long = opened_long table size count in
+      subst (λ (s : StationOf). IsSameEnd s.end (slice_index_or new k d).end) (opened_at table size count k d lt) (same.each k d (omega arith))
+
+  pub still_all : AreAll count (map end_in new)
+  still_all = record {
+    count = length-map new end_in ∙ new_long;
+    every = λ n lt.
+        let long = new_long in
+        let d : StationOf = opening_station (record { table = table; part = opening_part size n }) in
+        let here : slice_get new n ≡ Some (slice_index_or new n d) = slice_get-get_or new n d (omega arith) in record {
+          place = n;
+          end = (slice_index_or new n d).end;
+          there = slice_get-map end_in new n ∙ ap (option_map end_in) here;
+          numbered = (same_at n d lt).node.me;
+        };
+  }
+
+  -- of one fabric before, of it after
+  same_one : (f : LanesOf) → f.table ≡ table → f.size ≡ size → (k : ℕ) (d : StationOf) → k < count → IsOf f (slice_index_or new k d).end
+  same_one f named sized k d lt =
+      let first = opened_of table size (k ∷ []) 0 (record { table = table; part = opening_part size k }) refl in
+      let here : IsOf f (record { table = table; part = opening_part size k }) = record { table = first.table ∙ sym named; sized = first.sized ∙ sym sized } in
+      same_of f (record { table = table; part = opening_part size k }) (slice_index_or new k d).end (same_at k d lt) here
+
+  pub still_of : (f : LanesOf) → f.table ≡ table → f.size ≡ size → AreOf f (map end_in new)
+  still_of f named sized place end at =
+      let mapped = length-map new end_in in
+      let long = new_long in
+      let within = slice_get_within (map end_in new) place end at in
+      let d : StationOf = opening_station end in
+      let there : (slice_index_or new place d).end ≡ end = sym (get_or-map end_in new place d end (omega arith)) ∙ get_or_from_slice_get (map end_in new) place end end at in
+      subst (IsOf f) there (same_one f named sized place d (omega arith))
+
+-- ---- what the logs say
+
+-- a log that each end's log is, of the operations that stand under its number
+pub logs_have : (Good : List Op → List Entry → Type 0) (operations : ℕ → List Op) (ends : List EndOf) (logs : List (List Entry)) (count : ℕ) → AreAll count ends → HaveLogs ends logs → All (λ end. Good (operations (me_of end.part)) end.part.node.log) ends
+    → (node : ℕ) → node < count → Good (operations node) (log_of logs node)
+logs_have Good operations ends logs count all have good node lt =
+    let it = all.every node lt in
+    let said = all_there (λ end. Good (operations (me_of end.part)) end.part.node.log) ends it.place it.end good it.there in
+    let log = have it.place it.end it.there in
+    subst (λ (n : ℕ). Good (operations n) (log_of logs n)) it.numbered (subst (λ (l : List Entry). Good (operations (me_of it.end.part)) l) (sym log) said)
+
+module _ {A : Type 0} (station : A → StationOf) (operations : ℕ → List Op) where
+  -- of what holds of each share, each end's log is of its operations
+  pub named_ends : {E : Type 0} (finished : A → Result Bool E) (shares : List A) → All (λ s. HasRun operations (station s).end (finished s)) shares → All (λ end. IsLogOf (operations (me_of end.part)) end.part.node.log) (map end_in (map station shares))
+  named_ends finished shares run =
+      let Good : EndOf → Type 0 = λ end. IsLogOf (operations (me_of end.part)) end.part.node.log in
+      All-map Good end_in (map station shares) (All-map (λ (s : StationOf). Good s.end) station shares (λ k d lt. (run k d lt).named))
+
+  pub whole_ends : {E : Type 0} (finished : A → Result Bool E) (shares : List A) → All (λ s. HasRun operations (station s).end (finished s)) shares → All (λ s. finished s ≡ Ok true) shares
+      → All (λ end. IsWholeLogOf (operations (me_of end.part)) end.part.node.log) (map end_in (map station shares))
+  whole_ends finished shares run all =
+      let Good : EndOf → Type 0 = λ end. IsWholeLogOf (operations (me_of end.part)) end.part.node.log in
+      All-map Good end_in (map station shares) (All-map (λ (s : StationOf). Good s.end) station shares (λ k d lt. whole_if (operations (me_of (station (slice_index_or shares k d)).end.part)) (station (slice_index_or shares k d)).end.part.node.log (finished (slice_index_or shares k d)) (run k d lt).whole (all k d lt)))
+    where
+      whole_if : {E : Type 0} (script : List Op) (log : List Entry) (r : Result Bool E) → IfOk r (λ b. b ≡ true → IsWholeLogOf script log) → r ≡ Ok true → IsWholeLogOf script log
+      whole_if script log (Ok b) h is = h cc
+      whole_if script log (Err e) h is = absurd cc
+
+  -- what a run does to each share, it does to each station
+  pub same_stations : (old new : List A) → length new ≡ length old → ((k : ℕ) (d : A) → k < length old → IsSameEnd (station (slice_index_or old k d)).end (station (slice_index_or new k d)).end) → AreSame (map station old) (map station new)
+  same_stations [] new long each = record { long = length-map new station ∙ (long ∙ sym (length-map [] station)); each = λ k d lt. absurd (omega arith) }
+  same_stations (x ∷ xs) new long each = record {
+    long = length-map new station ∙ (long ∙ sym (length-map (x ∷ xs) station));
+    each = λ k d lt.
+        let mapped = length-map (x ∷ xs) station in
+        let within : k < length (x ∷ xs) = omega arith in
+        let before = get_or-map station (x ∷ xs) k x d within in
+        let after = get_or-map station new k x d (omega (arith, long)) in
+        subst (λ (s : StationOf). IsSameEnd s.end (slice_index_or (map station new) k d).end) (sym before)
+        (subst (λ (s : StationOf). IsSameEnd (station (slice_index_or (x ∷ xs) k x)).end s.end) (sym after) (each k x within));
+  }
+
+  pub same_after : (table : TableId) (size : Size) (count : ℕ) (before after : List A) → map station before ≡ opened table size count → length after ≡ length before → ((k : ℕ) (d : A) → k < length before → IsSameEnd (station (slice_index_or before k d)).end (station (slice_index_or after k d)).end)
+      → AreSame (opened table size count) (map station after)
+  same_after table size count before after made long each = subst (λ (old : List StationOf). AreSame old (map station after)) made (same_stations before after long each)
+
+-- a slice that is written back over a vector of its length is all of it
+pub written_back : {A : Type 0} (len : ℕ) (new old : List A) → len ≡ length old → length new ≡ length old → take len (new ++ drop (length new) old) ≡ new
+written_back len new old is long =
+    ap (λ rest. take len (new ++ rest)) (drop_all (length new) old (omega (arith, long))) ∙ (ap (take len) (append-nil new) ∙ take_all len new (omega (arith, is, long)))

@@ -1,0 +1,110 @@
+use Rattle.std.proofs.Common.{◌≡◌, ◌<◌, ◌≤◌, ℕ, List, [], All, Ok, true, Vec, length, map, get_or, arith, refl, sym, ap, subst, ◌∙◌}
+use Rattle.std.specs.Prelude.{slice_index_or}
+use Rattle.sci_words.specs.declared.operation.Op.{Op}
+use Rattle.sci_history.specs.Placed.{log_of}
+use Rattle.sci_lanes.specs.Ends.{EndOf}
+use Rattle.sci_words.specs.declared.limits.TheConstants.{MAX_OPERATIONS}
+use Rattle.sci_core.specs.Size.{Size, size_of}
+use Rattle.sci_lanes.specs.Shown.{me_of}
+use Rattle.sci_lanes.specs.Gathering.{AreAll, AreOf}
+use Rattle.sci_drive.specs.Driving.{HasSubmittedNothing}
+use Rattle.sci_drive.specs.Script.{IsLogOf, IsWholeLogOf}
+use Rattle.sci_station.specs.Ends.{IsSameEnd}
+use Rattle.sci_station.specs.Station.{StationOf, end_in, node_in}
+use Rattle.sci_threads.proofs.Sharing.{all_unmapped, opened, opened_long, opened_known, opened_all_fresh, logs_have, named_ends, own_is, same_after, still_all, still_of, whole_ends, written_back}
+use Rattle.sci_threads.specs.declared.shares.Share.{Share}
+use Rattle.sci_threads.specs.Shares.{operations_of, own_of}
+use Rattle.sci_threads.proofs.running.run_nodes.Goals as goal
+
+pub shares-requires : goal.shares-requires
+shares-requires g c =
+    let f = c.in_ok-fabric.fabric in
+    let long = ap length c.in_ok-fabric.ensures.stations ∙ opened_long f.table (size_of c.extent.result MAX_OPERATIONS) c.extent.result.nodes in
+    record { gates = c.requires.gates ∙ (sym c.extent.ensures.nodes ∙ sym long) }
+
+pub run_all-requires-clause-known : goal.run_all-requires-clause-known
+run_all-requires-clause-known g c =
+    let f = c.in_ok-fabric.fabric in
+    let size = size_of c.extent.result MAX_OPERATIONS in
+    let count = c.extent.result.nodes in
+    let made = c.in_ok-shares.ensures ∙ c.in_ok-fabric.ensures.stations in
+    let known : All (λ (s : StationOf). me_of s.end.part < count) (map (λ share. share.station) c.in_ok-shares.shares.items) = subst (All (λ (s : StationOf). me_of s.end.part < count)) (sym made) (opened_known f.table size count) in
+    let each = all_unmapped (λ (s : StationOf). me_of s.end.part < count) (λ share. share.station) c.in_ok-shares.shares.items known in
+    let all = subst (All (λ share. me_of share.station.end.part < count)) (sym c.deref_mut.ensures.value) each in
+    let long = c.extent.ensures.nodes ∙ (sym c.in_ok-operations.ensures.nodes ∙ sym (ap length c.deref.ensures.value)) in
+    λ lts met k d lt. subst (λ (n : ℕ). me_of (get_or c.deref_mut.result.now k d).station.end.part < n) long (all k d lt)
+
+pub run_all-requires-clause-fresh : goal.run_all-requires-clause-fresh
+run_all-requires-clause-fresh g c =
+    let f = c.in_ok-fabric.fabric in
+    let size = size_of c.extent.result MAX_OPERATIONS in
+    let count = c.extent.result.nodes in
+    let Fresh : StationOf → Type 0 = λ s. HasSubmittedNothing (node_in s) in
+    let made = c.in_ok-shares.ensures ∙ c.in_ok-fabric.ensures.stations in
+    let fresh : All Fresh (map (λ share. share.station) c.in_ok-shares.shares.items) = subst (All Fresh) (sym made) (opened_all_fresh f.table size count) in
+    λ lts met. subst (All (λ share. Fresh share.station)) (sym c.deref_mut.ensures.value) (all_unmapped Fresh (λ share. share.station) c.in_ok-shares.shares.items fresh)
+
+pub finish-requires : goal.finish-requires
+finish-requires g c =
+    let f = c.in_ok-fabric.fabric in
+    let before = c.in_ok-shares.shares in
+    let after = c.run_all.new.shares in
+    let long : length after ≡ length before.items = c.run_all.auto.shares ∙ ap length c.deref_mut.ensures.value in
+    let stations : c.in_ok-stations.stations.items ≡ map (λ share. share.station) after = c.in_ok-stations.ensures.stations ∙ ap (map (λ share. share.station)) (written_back before.len after before.items before.ok.0 long) in
+    let size = size_of c.extent.result MAX_OPERATIONS in
+    let count = c.extent.result.nodes in
+    let each = subst (λ (xs : List (Share g.row.G.Denot)). (k : ℕ) (d : Share g.row.G.Denot) → k < length xs → IsSameEnd (get_or xs k d).station.end (get_or after k d).station.end) c.deref_mut.ensures.value c.run_all.ensures.same in
+    let same = same_after (λ (share : Share g.row.G.Denot). share.station) (λ _. []) f.table size count before.items after (c.in_ok-shares.ensures ∙ c.in_ok-fabric.ensures.stations) long each in
+    record { own = subst (λ (xs : List StationOf). AreOf f (map end_in xs)) (sym stations) (still_of f.table size count (map (λ share. share.station) after) same f refl c.in_ok-fabric.ensures.size) }
+
+pub unreachable-requires : goal.unreachable-requires
+unreachable-requires g c =
+    let f = c.in_ok-fabric.fabric in
+    let before = c.in_ok-shares.shares in
+    let after = c.run_all.new.shares in
+    let long : length after ≡ length before.items = c.run_all.auto.shares ∙ ap length c.deref_mut.ensures.value in
+    let stations : c.in_ok-stations.stations.items ≡ map (λ share. share.station) after = c.in_ok-stations.ensures.stations ∙ ap (map (λ share. share.station)) (written_back before.len after before.items before.ok.0 long) in
+    let size = size_of c.extent.result MAX_OPERATIONS in
+    let count = c.extent.result.nodes in
+    let each = subst (λ (xs : List (Share g.row.G.Denot)). (k : ℕ) (d : Share g.row.G.Denot) → k < length xs → IsSameEnd (get_or xs k d).station.end (get_or after k d).station.end) c.deref_mut.ensures.value c.run_all.ensures.same in
+    let same = same_after (λ (share : Share g.row.G.Denot). share.station) (λ _. []) f.table size count before.items after (c.in_ok-shares.ensures ∙ c.in_ok-fabric.ensures.stations) long each in
+    let nodes : f.size.nodes ≡ count = ap (λ (z : Size). z.nodes) c.in_ok-fabric.ensures.size in
+    let all : AreAll f.size.nodes (map end_in c.in_ok-stations.stations.items) = subst (λ (xs : List StationOf). AreAll f.size.nodes (map end_in xs)) (sym stations) (subst (λ (n : ℕ). AreAll n (map end_in (map (λ share. share.station) after))) (sym nodes) (still_all f.table size count (map (λ share. share.station) after) same)) in
+    c.in-Err-Missing-default-default.ensures.missing c.in-Err-Missing-default-default.field-0-0-is all
+
+pub returns-in-Ok-clause-named : goal.returns-in-Ok-clause-named
+returns-in-Ok-clause-named g c = λ node lt.
+    let f = c.in_ok-fabric.fabric in
+    let before = c.in_ok-shares.shares in
+    let after = c.run_all.new.shares in
+    let long : length after ≡ length before.items = c.run_all.auto.shares ∙ ap length c.deref_mut.ensures.value in
+    let stations : c.in_ok-stations.stations.items ≡ map (λ share. share.station) after = c.in_ok-stations.ensures.stations ∙ ap (map (λ share. share.station)) (written_back before.len after before.items before.ok.0 long) in
+    let operations = c.deref.result.now in
+    let script = c.args.script.now in
+    let many : length operations ≡ script.nodes = ap length c.deref.ensures.value ∙ c.in_ok-operations.ensures.nodes in
+    let own : (n : ℕ) (d : Vec Op _) → n < script.nodes → (slice_index_or operations n d).items ≡ operations_of n script.operations = subst (λ (all : List (Vec Op _)). (n : ℕ) (d : Vec Op _) → n < script.nodes → (slice_index_or all n d).items ≡ operations_of n script.operations) (sym c.deref.ensures.value) c.in_ok-operations.ensures.each in
+    let nodes : f.size.nodes ≡ script.nodes = ap (λ (z : Size). z.nodes) c.in_ok-fabric.ensures.size ∙ c.extent.ensures.nodes in
+    let ends = named_ends (λ share. share.station) (own_of operations) (λ share. share.finished) after c.run_all.ensures.run in
+    let Good : EndOf → Type 0 = λ end. IsLogOf (own_of operations (me_of end.part)) end.part.node.log in
+    let good = subst (λ (xs : List StationOf). All Good (map end_in xs)) (sym stations) ends in
+    let log = logs_have IsLogOf (own_of operations) (map end_in c.in_ok-stations.stations.items) c.in-Ok.field-0.logs f.size.nodes c.in-Ok.ensures.all c.in-Ok.ensures.logs good node (subst (λ (n : ℕ). node < n) (sym nodes) lt) in
+    subst (λ (ops : List Op). IsLogOf ops (log_of c.in-Ok.field-0.logs node)) (own_is script operations node many own lt) log
+
+pub returns-in-Ok-clause-whole : goal.returns-in-Ok-clause-whole
+returns-in-Ok-clause-whole g c = λ finished node lt.
+    let f = c.in_ok-fabric.fabric in
+    let before = c.in_ok-shares.shares in
+    let after = c.run_all.new.shares in
+    let long : length after ≡ length before.items = c.run_all.auto.shares ∙ ap length c.deref_mut.ensures.value in
+    let stations : c.in_ok-stations.stations.items ≡ map (λ share. share.station) after = c.in_ok-stations.ensures.stations ∙ ap (map (λ share. share.station)) (written_back before.len after before.items before.ok.0 long) in
+    let operations = c.deref.result.now in
+    let script = c.args.script.now in
+    let many : length operations ≡ script.nodes = ap length c.deref.ensures.value ∙ c.in_ok-operations.ensures.nodes in
+    let own : (n : ℕ) (d : Vec Op _) → n < script.nodes → (slice_index_or operations n d).items ≡ operations_of n script.operations = subst (λ (all : List (Vec Op _)). (n : ℕ) (d : Vec Op _) → n < script.nodes → (slice_index_or all n d).items ≡ operations_of n script.operations) (sym c.deref.ensures.value) c.in_ok-operations.ensures.each in
+    let nodes : f.size.nodes ≡ script.nodes = ap (λ (z : Size). z.nodes) c.in_ok-fabric.ensures.size ∙ c.extent.ensures.nodes in
+    let done = subst (All (λ share. share.finished ≡ Ok true)) (written_back before.len after before.items before.ok.0 long) (c.in_ok-stations.ensures.finished finished) in
+    let ends = whole_ends (λ share. share.station) (own_of operations) (λ share. share.finished) after c.run_all.ensures.run done in
+    let Good : EndOf → Type 0 = λ end. IsWholeLogOf (own_of operations (me_of end.part)) end.part.node.log in
+    let good = subst (λ (xs : List StationOf). All Good (map end_in xs)) (sym stations) ends in
+    let log = logs_have IsWholeLogOf (own_of operations) (map end_in c.in_ok-stations.stations.items) c.in-Ok.field-0.logs f.size.nodes c.in-Ok.ensures.all c.in-Ok.ensures.logs good node (subst (λ (n : ℕ). node < n) (sym nodes) lt) in
+    subst (λ (ops : List Op). IsWholeLogOf ops (log_of c.in-Ok.field-0.logs node)) (own_is script operations node many own lt) log

@@ -1,0 +1,51 @@
+-- What each node of a machine does of a script.
+use Rattle.std.specs.Prelude.{◌≡◌, ◌<◌, ◌==◌, ℕ, Bool, true, List, [], filter, map, Result, IfOk, slice_index_or, Vec}
+use Rattle.sci_words.specs.declared.limits.TheConstants.{MAX_OPERATIONS}
+use Rattle.sci_words.specs.declared.operation.Op.{Op}
+use Rattle.sci_words.specs.declared.stamped.Stamped.{Stamped}
+use Rattle.sci_history.specs.declared.entry.Entry.{Entry}
+use Rattle.sci_history.specs.Placed.{log_of}
+use Rattle.sci_text.specs.Script.{ScriptValue}
+use Rattle.sci_core.specs.Size.{Size}
+use Rattle.sci_core.specs.Core.{Core}
+use Rattle.sci_core.specs.Outcome.{logs_of}
+use Rattle.sci_core.specs.Reached.{IsReached}
+use Rattle.sci_core.specs.Sharing.{last_of}
+use Rattle.sci_lanes.specs.Shown.{me_of}
+use Rattle.sci_lanes.specs.Ends.{EndOf}
+use Rattle.sci_drive.specs.Script.{IsLogOf, IsWholeLogOf}
+
+-- the operations of a node, in their order
+abbrev pub operations_of : ℕ → List (ℕ × Op) → List Op
+operations_of node operations = map (λ p. p.1) (filter (λ p. p.0 == node) operations)
+
+-- each node's log is of its operations: each entry has the operation that its serial names, and no serial stands twice
+abbrev pub HaveLogsOf : ScriptValue → List (List Entry) → Type 0
+HaveLogsOf script logs = (node : ℕ) → node < script.nodes → IsLogOf (operations_of node script.operations) (log_of logs node)
+
+-- and each operation has just one entry
+abbrev pub HaveWholeLogsOf : ScriptValue → List (List Entry) → Type 0
+HaveWholeLogsOf script logs = (node : ℕ) → node < script.nodes → IsWholeLogOf (operations_of node script.operations) (log_of logs node)
+
+-- the machine that a script is run on, whose nodes may each issue 65,536 operations
+abbrev pub size_for : ScriptValue → Size
+size_for script = record { nodes = script.nodes; lines = script.lines; slots = script.slots; limit = MAX_OPERATIONS }
+
+-- logs and last contents of a state where a schedule leads a machine of this size
+pub record AreLedTo (size : Size) (logs : List (List Entry)) (last : List Stamped) : Type 0 where
+  pub core : Core
+  pub reached : IsReached core
+  pub sized : core.size ≡ size
+  pub logs_are : logs ≡ logs_of core
+  pub last_are : last ≡ last_of core
+
+-- ---- inside
+
+-- the operations of the node with this number
+abbrev pub own_of : {Z : Type 0} → List (Vec Op Z) → ℕ → List Op
+own_of all node = slice_index_or (map (λ own. own.items) all) node []
+
+-- the log of the end's node is of the operations that stand under its number, and whole if it has finished
+pub record HasRun {E : Type 0} (operations : ℕ → List Op) (end : EndOf) (finished : Result Bool E) : Type 0 where
+  pub named : IsLogOf (operations (me_of end.part)) end.part.node.log
+  pub whole : IfOk finished (λ all. all ≡ true → IsWholeLogOf (operations (me_of end.part)) end.part.node.log)

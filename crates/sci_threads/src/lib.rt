@@ -1,0 +1,7 @@
+//! Runs a script by threads: each node's station is driven by a thread of its own.
+#![tactic(auto)]
+
+mod running;
+mod shares;
+
+pub use running::run_nodes;

@@ -1,0 +1,51 @@
+//! A script that is run by threads.
+
+ghost use Rattle.std.specs.Prelude.{◌≡◌, IfOk, true, length};
+ghost use Rattle.sci_words.specs.declared.limits.TheConstants.{MAX_OPERATIONS};
+ghost use Rattle.sci_history.specs.Lawful.{Lawful};
+ghost use Rattle.sci_history.specs.Sequential.{IsSequentiallyConsistent};
+ghost use Rattle.sci_threads.specs.Shares.{AreLedTo, HaveLogsOf, HaveWholeLogsOf, size_for};
+
+use crate::shares::{gathered, operations_by_node, run_all, shares};
+use sci_drive::Gate;
+use sci_history::{Last, Logs};
+use sci_lanes::FinishFault;
+use sci_station::{Fabric, Finished};
+use sci_text::Script;
+use sci_words::MAX_OPERATIONS;
+use std::alloc::{AllocError, Global};
+use std::thread::Threads;
+
+/// Runs a script: the station of each node is driven through the node's operations, with its own gate, in a thread of its
+/// own, for at most `turns` turns. A node whose thread can't be made is driven without one, and the run may then end
+/// unfinished. Gives the logs, the last contents, and whether all nodes have finished. The caller sees to it that there is
+/// one gate for each node. Refused if memory is.
+///
+/// - The logs and the last contents are those of a state where a schedule leads the machine, whatever the threads did.
+/// - In each node's log each entry has the operation of the node that its serial names, and no serial stands twice.
+/// - If all have finished, each operation of the script has just one entry.
+pub fn run_nodes<R: Threads + Sync, G: Gate + Send + Drop>(
+    rt: &R,
+    alloc: Global,
+    script: &Script,
+    gates: Vec<G>,
+    turns: u32,
+) -> Result<(Logs, Last, bool), AllocError>
+    requires gates { length gates.items ≡ script.now.nodes }
+    ensures named { IfOk result (λ ran. HaveLogsOf script.now ran.0) }
+    ensures whole { IfOk result (λ ran. ran.2 ≡ true → HaveWholeLogsOf script.now ran.0) }
+    ensures led { IfOk result (λ ran. AreLedTo (size_for script.now) ran.0 ran.1) }
+    ensures lawful { IfOk result (λ ran. Lawful ran.0 ran.1) }
+    ensures consistent { IfOk result (λ ran. IsSequentiallyConsistent ran.0 ran.1) }
+{
+    let operations = operations_by_node(alloc, script)?;
+    let (fabric, stations) = Fabric::new(alloc, script.extent(), MAX_OPERATIONS)?;
+    let mut shares = shares(alloc, stations, gates)?;
+    run_all(rt, &mut shares, &operations, turns);
+    let (stations, finished) = gathered(alloc, shares)?;
+    match fabric.finish(alloc, stations) {
+        Ok(Finished { logs, last }) => Ok((logs, last, finished)),
+        Err((FinishFault::Memory, _fabric, _stations)) => Err(AllocError),
+        Err((FinishFault::Missing, _fabric, _stations)) => unreachable!(),
+    }
+}
