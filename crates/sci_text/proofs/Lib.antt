@@ -23,3 +23,4 @@ pub mod LogShort
 pub mod LogMeets
 pub mod LogForms
 pub mod LogOneFault
+mod WholeNumbers

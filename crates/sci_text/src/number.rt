@@ -1,6 +1,7 @@
 //! Numbers in decimal digits.
 
-ghost use Rattle.std.specs.Prelude.{◌≡◌, ◌≤◌};
+ghost use Rattle.std.specs.Prelude.{◌≡◌, ◌↔◌, ◌≤◌, ◌<◌, ◌^◌, ℕ, Some};
+ghost use Rattle.sci_text.specs.Number.{number};
 ghost use Rattle.sci_text.specs.Reading.{Gives, with_digit, digits_read, number_read, field_read};
 
 /// A number of a text, or None if it is 2^64 or more.
@@ -64,6 +65,14 @@ pub fn number(bytes: &[u8]) -> Option<(Number, &[u8])>
         [digit @ b'1'..=b'9', rest @ ..] => Some(with_more_digits(u64::from(*digit - b'0'), rest)),
         _ => None,
     }
+}
+
+/// The number that these bytes are, all of them. None if they are no number, or one of 2^64 or more.
+pub fn whole_number(bytes: &[u8]) -> Option<u64>
+    ensures { (n : ℕ) → (result ≡ Some n) ↔ ((bytes.now ≡ number n) × (n < 2 ^ 64)) }
+{
+    let (value, rest) = number(bytes)?;
+    if rest.is_empty() { value } else { None }
 }
 
 /// The number behind one space at the front of `bytes`, and the bytes after it.

@@ -1,7 +1,9 @@
 //! Runs a script by threads: each node's station is driven by a thread of its own.
 #![tactic(auto)]
 
+mod gate;
 mod running;
 mod shares;
 
+pub use gate::YieldingGate;
 pub use running::run_nodes;

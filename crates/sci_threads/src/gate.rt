@@ -1,0 +1,55 @@
+//! The gate of nodes that only wait for each other's end.
+
+use sci_drive::Gate;
+use sci_history::Entry;
+use std::alloc::{AllocError, Global};
+use std::sync::atomic::{AtomicU64, Ordering};
+use std::thread;
+
+/// Lets a node submit each operation as soon as it can, counts the nodes that are done, and yields the thread where nothing
+/// moves.
+#[derive(Drop)]
+pub struct YieldingGate<'a> {
+    done: &'a AtomicU64,
+    nodes: u8,
+}
+
+impl<'a> YieldingGate<'a> {
+    ghost use Rattle.std.specs.Prelude.{◌≡◌, IfOk, length};
+
+    /// One gate for each of so many nodes, which count those that are done in one word. It is 0 before the run. Refused
+    /// if memory is.
+    pub fn for_nodes(
+        alloc: Global,
+        nodes: u8,
+        done: &'a AtomicU64,
+    ) -> Result<Vec<YieldingGate<'a>>, AllocError>
+        ensures { IfOk result (λ gates. length gates.items ≡ nodes) }
+    {
+        let mut gates = Vec::with_capacity(alloc, nodes as usize)?;
+        for _node in 0..nodes {
+            gates.push(YieldingGate { done, nodes })?;
+        }
+        Ok(gates)
+    }
+}
+
+impl<'a> Gate for YieldingGate<'a> {
+    fn may_issue(&mut self, _index: u32) -> bool {
+        true
+    }
+
+    fn answered(&mut self, _entry: &Entry) {}
+
+    fn done(&mut self) {
+        let _before = self.done.fetch_add(1, Ordering::SeqCst);
+    }
+
+    fn all_done(&mut self) -> bool {
+        self.done.load(Ordering::SeqCst) >= u64::from(self.nodes)
+    }
+
+    fn rest(&mut self) {
+        thread::yield_now();
+    }
+}
