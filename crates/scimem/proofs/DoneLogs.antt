@@ -79,39 +79,15 @@ history_answers (entry ∷ entries) c d history =
 abbrev ReplyIsRight : Entry → Type 0
 ReplyIsRight entry = Answers entry.op.act entry.reply × ReplyFits entry.reply
 
--- a history makes no more versions than it has entries
-version_if : (makes : Bool) (v : ℕ) → (if makes then v + 1 else v) ≤ v + 1
-version_if true v = omega arith
-version_if false v = omega arith
-
-version_step : (c : Stamped) (op : Op) → (after c op).version ≤ c.version + 1
-version_step c op = version_if (is_maker op) c.version
-
-history_short : (entries : List Entry) (c d : Stamped) → IsHistory entries c d → d.version ≤ c.version + length entries
-history_short [] c d history = let same : d.version ≡ c.version = ap (λ (s : Stamped). s.version) history in omega arith
-history_short (entry ∷ entries) c d history =
-    let step = version_step c entry.op in
-    let rest = history_short entries (after c entry.op) d history.2 in
-    omega arith
-
 -- ---- entries of a machine
 
 -- entries within a machine's size, that are each line's history from zero words to its last contents
 pub record AreDone (nodes lines : ℕ) (entries : List Entry) (last_at : ℕ → Stamped) : Type 0 where
   pub within : AllByRecursion (λ entry. IsWithin nodes lines entry.node entry.op) entries
   pub histories : (line : ℕ) → line < lines → IsHistory (filter (is_on_line line) entries) zero_stamped (last_at line)
-  pub few : length entries < 2 ^ 64
+  pub small : (line : ℕ) → line < lines → (last_at line).version < 2 ^ 64
   pub serials : (node : ℕ) → node < MAX_NODES → AllByRecursion (λ entry. entry.serial < MAX_OPERATIONS) (filter (is_of_node node) entries)
   pub short : (node : ℕ) → node < MAX_NODES → length (filter (is_of_node node) entries) ≤ MAX_OPERATIONS
-
-filter_short : (p : Entry → Bool) (entries : List Entry) → length (filter p entries) ≤ length entries
-filter_short p [] = omega arith
-filter_short p (entry ∷ entries) =
-    let rest = filter_short p entries in
-    elim (cases_Bool (p entry)) [
-      | inl yes_ ↦ subst (λ (es : List Entry). length es ≤ length (entry ∷ entries)) (sym (filter_yes p entry entries yes_)) (omega arith)
-      | inr no_ ↦ subst (λ (es : List Entry). length es ≤ length (entry ∷ entries)) (sym (filter_no p entry entries no_)) (omega arith)
-    ]
 
 -- what is right in an entry beside its operation and its serial
 abbrev IsRight : Entry → Type 0
@@ -132,10 +108,7 @@ line_right nodes lines entries last_at line h inside =
     let Given = λ (entry : Entry). Answers entry.op.act entry.reply in
     let Fits = λ (entry : Entry). IsReply entry.reply in
     let right = all_weaker (λ entry. Given entry × Fits entry) ReplyIsRight (λ entry r. (r.0, reply_fits entry.reply r.1)) on (all_both Given Fits on (history_answers on zero_stamped last history) fits.1) in
-    let end = history_short on zero_stamped last history in
-    let part = filter_short (is_on_line line) entries in
-    let few = h.few in
-    let small : last.version < 2 ^ 64 = omega arith in
+    let small = h.small line inside in
     let versions = all_weaker (λ (entry : Entry). entry.version ≤ last.version) (λ entry. entry.version < 2 ^ 64) (λ entry le. omega arith) on (versions-within on zero_stamped last history) in
     record { last_line = fits.0; last_version = small; right = all_both ReplyIsRight (λ (entry : Entry). entry.version < 2 ^ 64) on right versions }
 

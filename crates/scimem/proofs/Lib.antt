@@ -8,3 +8,5 @@ pub mod ReplayLogs
 pub mod DoneLogs
 pub mod OracleLogs
 pub mod Audited
+pub mod ReachedLogs
+pub mod ThreadLogs

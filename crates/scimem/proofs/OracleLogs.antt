@@ -1,5 +1,6 @@
 -- The logs and the last contents of an oracle can be written as a text, which says them alone.
-use Rattle.std.proofs.Common.{◌≡◌, ℕ, ◌+◌, ◌<◌, ◌≤◌, List, [], ◌∷◌, ◌++◌, length, filter, refl, sym, ap, subst, arith, length-append}
+use Rattle.std.proofs.Common.{◌≡◌, ℕ, ◌+◌, ◌<◌, ◌≤◌, Bool, true, false, if◌then◌else◌, List, [], ◌∷◌, ◌++◌, length, filter, refl, sym, ap, subst, arith, length-append, inl, inr}
+use Rattle.std.proofs.lemmas.Bool.{cases_Bool}
 use Rattle.std.specs.Prelude.{Option, Some, None, IfSome, count_by}
 use Rattle.std.specs.List.{AllByRecursion, flat_map}
 use Rattle.std.proofs.lemmas.List.Elements.{recursion_from_All}
@@ -7,9 +8,13 @@ use Rattle.std.proofs.lemmas.List.Sums.{length-filter}
 use Rattle.sci_words.specs.declared.limits.TheConstants.{MAX_NODES, MAX_OPERATIONS, MAX_INPUT_BYTES}
 use Rattle.sci_words.specs.declared.operation.Op.{Op}
 use Rattle.sci_history.specs.declared.entry.Entry.{Entry}
-use Rattle.sci_history.specs.Placed.{is_of_node}
+use Rattle.sci_words.specs.declared.stamped.Stamped.{Stamped}
+use Rattle.sci_words.specs.Operation.{is_maker}
+use Rattle.sci_words.specs.Stamped.{after, zero_stamped}
+use Rattle.sci_history.specs.History.{IsHistory}
+use Rattle.sci_history.specs.Placed.{is_of_node, is_on_line}
 use Rattle.sci_history.specs.Oracle.{Issue, IsInRange, entry_after, done_after, oracle_entries, oracle_logs, oracle_last}
-use Rattle.sci_history.proofs.Order.{all_weaker, all-append}
+use Rattle.sci_history.proofs.Order.{filter_yes, filter_no, all_weaker, all-append}
 use Rattle.sci_history.proofs.Oracles.{oracle-lawful, stamped_of, traced_none, traced_all, log_of-logs_of}
 use Rattle.sci_history.proofs.OracleSteps.{Ran, ran_serial}
 use Rattle.sci_text.specs.Script.{ScriptValue, IsScript, IsWithin, machine_line, operation_line, script_text}
@@ -21,6 +26,31 @@ use Rattle.scimem.proofs.Counts.{few_of_each}
 use Rattle.scimem.proofs.DoneLogs.{AreDone, are_logs}
 
 -- ---- the entries
+
+-- a history makes no more versions than it has entries
+version_if : (makes : Bool) (v : ℕ) → (if makes then v + 1 else v) ≤ v + 1
+version_if true v = omega arith
+version_if false v = omega arith
+
+version_step : (c : Stamped) (op : Op) → (after c op).version ≤ c.version + 1
+version_step c op = version_if (is_maker op) c.version
+
+history_short : (entries : List Entry) (c d : Stamped) → IsHistory entries c d → d.version ≤ c.version + length entries
+history_short [] c d history = let same : d.version ≡ c.version = ap (λ (s : Stamped). s.version) history in omega arith
+history_short (entry ∷ entries) c d history =
+    let step = version_step c entry.op in
+    let rest = history_short entries (after c entry.op) d history.2 in
+    omega arith
+
+filter_short : (p : Entry → Bool) (entries : List Entry) → length (filter p entries) ≤ length entries
+filter_short p [] = omega arith
+filter_short p (entry ∷ entries) =
+    let rest = filter_short p entries in
+    elim (cases_Bool (p entry)) [
+      | inl yes_ ↦ subst (λ (es : List Entry). length es ≤ length (entry ∷ entries)) (sym (filter_yes p entry entries yes_)) (omega arith)
+      | inr no_ ↦ subst (λ (es : List Entry). length es ≤ length (entry ∷ entries)) (sym (filter_no p entry entries no_)) (omega arith)
+    ]
+
 
 done_within : (nodes lines : ℕ) (done : List Entry) (script : List Issue) → AllByRecursion (λ entry. IsWithin nodes lines entry.node entry.op) done → AllByRecursion (λ p. IsWithin nodes lines p.0 p.1) script → AllByRecursion (λ entry. IsWithin nodes lines entry.node entry.op) (done_after lines done script)
 unfolding done_after
@@ -65,7 +95,11 @@ oracle_done s good few =
     record {
       within = done_within s.nodes s.lines [] s.operations tt (recursion_from_All (λ p. IsWithin s.nodes s.lines p.0 p.1) s.operations good.within);
       histories = traced.histories;
-      few = omega (arith, done_long s.lines [] s.operations, text_long s, few);
+      small = λ line inside.
+          let on = filter (is_on_line line) done in
+          let end = stamped_of s.lines done line in
+          let made = history_short on zero_stamped end (traced.histories line inside) in
+          omega (arith, done_long s.lines [] s.operations, text_long s, few, filter_short (is_on_line line) done);
       serials = λ node lt. all_weaker (λ (entry : Entry). entry.serial < count_by (is_of_node node) done) (λ entry. entry.serial < MAX_OPERATIONS) (λ entry below. omega (arith, below, short node lt, length-filter (is_of_node node) done)) (filter (is_of_node node) done) (traced.counted node);
       short = short;
     }

@@ -9,3 +9,4 @@ pub mod OracleAnswer
 pub mod Refusal
 pub mod ReplayAnswer
 pub mod LogAnswer
+pub mod ThreadsAnswer

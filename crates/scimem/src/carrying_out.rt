@@ -15,14 +15,17 @@ use crate::decode::decode_bytes;
 use crate::oracle::oracle;
 use crate::outcome::Outcome;
 use crate::replay::replay;
+use crate::threads::threads;
 use crate::upgrade::upgrade;
 use sci_text::Tap;
 use std::alloc::Global;
 use std::io::{Read, Write};
 use std::process::ExitCode;
+use std::thread::Threads;
 
 /// Carries out a command: reads its input to the end, and writes its answer.
-fn outcome_of<R: Read, W: Write>(
+fn outcome_of<T: Threads + Sync, R: Read, W: Write>(
+    rt: &T,
     alloc: Global,
     command: Command,
     reader: &mut Tap<R>,
@@ -44,6 +47,7 @@ fn outcome_of<R: Read, W: Write>(
     match command {
         Command::Oracle => oracle(alloc, reader, writer),
         Command::Replay => replay(alloc, reader, writer),
+        Command::Threads { turns } => threads(rt, alloc, reader, writer, turns),
         Command::Decode => decode_bytes(alloc, reader, writer),
         Command::Audit => audit_text(alloc, reader, writer),
         Command::Upgrade => upgrade(alloc, reader, writer),
@@ -52,7 +56,8 @@ fn outcome_of<R: Read, W: Write>(
 
 /// Carries out a command, and answers the exit status of the program: 0 for Done, 1 for Unlawful and 2 for Refused.
 /// After the first read or write that fails nothing more is read or written.
-pub fn carried_out<R: Read, W: Write>(
+pub fn carried_out<T: Threads + Sync, R: Read, W: Write>(
+    rt: &T,
     alloc: Global,
     command: Command,
     reader: &mut Tap<R>,
@@ -76,6 +81,6 @@ pub fn carried_out<R: Read, W: Write>(
     ensures read_no_more { is_called_again reader.new ≡ is_called_again reader.old }
     ensures wrote_no_more { is_called_again writer.new ≡ is_called_again writer.old }
 {
-    let outcome = outcome_of(alloc, command, reader, writer);
+    let outcome = outcome_of(rt, alloc, command, reader, writer);
     ExitCode::from(outcome.status())
 }

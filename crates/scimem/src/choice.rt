@@ -1,15 +1,20 @@
 //! The words of the command line.
 
-ghost use Rattle.std.specs.Prelude.{◌≡◌, ◌↔◌, IfOk, Some, map};
+ghost use Rattle.std.specs.Prelude.{◌≡◌, ◌↔◌, ◌≤◌, ℕ, IfOk, Some, map};
+ghost use Rattle.sci_text.specs.Number.{number};
 ghost use Rattle.scimem.specs.declared.choice.Command.{Command};
-ghost use Rattle.scimem.specs.Choice.{arguments_of};
+ghost use Rattle.scimem.specs.Choice.{Chooses};
 
+use sci_text::whole_number;
 use std::alloc::{AllocError, Global};
 use std::rt::Env;
 use std::{env, io};
 
 /// The words that the program knows.
-pub const USAGE: &str = "usage: scimem oracle | replay | audit | decode | upgrade";
+pub const USAGE: &str = "usage: scimem oracle | replay | threads [--turns T] | audit | decode | upgrade";
+
+/// How many turns a node of `threads` takes at most, and does if the words don't say.
+pub const MAX_TURNS: u32 = 1_000_000_000;
 
 /// What the program is asked to do.
 #[derive(Clone, Copy, Debug, PartialEq, Eq)]
@@ -18,6 +23,8 @@ pub enum Command {
     Oracle,
     /// Write the log of the machine after a schedule.
     Replay,
+    /// Write the log of a run with one thread a node, each for at most so many turns, 1 to 1,000,000,000.
+    Threads { turns: u32 },
     /// Write a line for each packet of the input.
     Decode,
     /// Write whether a log is lawful, or the first rule that it breaks.
@@ -26,14 +33,31 @@ pub enum Command {
     Upgrade,
 }
 
+/// The number of turns that a word says, from 1 to the most. None if it says none.
+fn turns_of(word: &str) -> Option<u32>
+    ensures { (turns : ℕ) → (result ≡ Some turns) ↔
+        ((word.now ≡ number turns) × (1 ≤ turns) × (turns ≤ MAX_TURNS)) }
+{
+    let turns = whole_number(word.as_bytes())?;
+    if turns < 1 || turns > u64::from(MAX_TURNS) {
+        return None;
+    }
+    Some(turns as u32)
+}
+
 /// The command that the words of the command line choose, the program's own name left out.
 pub fn chosen(words: &[&str]) -> Option<Command>
     ensures { (command : Command)
-        → (result ≡ Some command) ↔ (map (λ word. word.now) words.now ≡ arguments_of command) }
+        → (result ≡ Some command) ↔ Chooses (map (λ word. word.now) words.now) command }
 {
     match words {
         ["oracle"] => Some(Command::Oracle),
         ["replay"] => Some(Command::Replay),
+        ["threads"] => Some(Command::Threads { turns: MAX_TURNS }),
+        ["threads", "--turns", turns] => {
+            let turns = turns_of(turns)?;
+            Some(Command::Threads { turns })
+        }
         ["decode"] => Some(Command::Decode),
         ["audit"] => Some(Command::Audit),
         ["upgrade"] => Some(Command::Upgrade),
@@ -44,7 +68,8 @@ pub fn chosen(words: &[&str]) -> Option<Command>
 /// The same of words as they are read, the program's own name left out. Refused if memory is.
 pub fn choice_of(alloc: Global, words: &[String]) -> Result<Option<Command>, AllocError>
     ensures { IfOk result (λ choice. (command : Command)
-        → (choice ≡ Some command) ↔ (map (λ word. word.bytes.items) words.now ≡ arguments_of command)) }
+        → (choice ≡ Some command) ↔
+        Chooses (map (λ word. word.bytes.items) words.now) command) }
 {
     let mut texts = Vec::with_capacity(alloc, words.len())?;
     for word in words {

@@ -12,6 +12,7 @@ mod packet_line;
 mod printing;
 mod refusal;
 mod replay;
+mod threads;
 mod upgrade;
 mod writing;
 
@@ -40,5 +41,5 @@ fn main(rt: HostRuntime) -> ExitCode {
     };
     let mut reader = Tap::new(rt.stdin());
     let mut writer = Tap::new(rt.stdout());
-    carried_out(rt.alloc(), command, &mut reader, &mut writer)
+    carried_out(&rt, rt.alloc(), command, &mut reader, &mut writer)
 }

@@ -1,0 +1,55 @@
+-- What a run by threads writes.
+use Rattle.std.proofs.Common.{◌≡◌, ℕ, ◌≤◌, Bool, true, false, List, length, ap, sym, subst, arith, refl, ◌∙◌}
+use Rattle.std.specs.Prelude.{Option, Some, None, IfSome}
+use Rattle.sci_words.specs.declared.limits.TheConstants.{MAX_INPUT_BYTES}
+use Rattle.sci_words.specs.declared.stamped.Stamped.{Stamped}
+use Rattle.sci_history.specs.declared.entry.Entry.{Entry}
+use Rattle.sci_history.specs.Lawful.{Lawful}
+use Rattle.sci_history.specs.Sequential.{IsSequentiallyConsistent}
+use Rattle.sci_core.specs.Size.{Size}
+use Rattle.sci_core.specs.Outcome.{logs_of}
+use Rattle.sci_core.specs.Sharing.{last_of}
+use Rattle.sci_text.specs.Script.{ScriptValue, IsScript, script_text}
+use Rattle.sci_text.specs.Log.{log_text}
+use Rattle.sci_text.specs.LogValue.{AreLogs, IsLogs}
+use Rattle.sci_text.proofs.LogLaws.{written_again}
+use Rattle.sci_threads.specs.Shares.{AreLedTo, HaveLogsOf, HaveWholeLogsOf, size_for}
+use Rattle.scimem.specs.declared.outcome.Outcome.{Outcome}
+use Rattle.scimem.specs.declared.outcome.Outcome.TheVariants.{Done}
+use Rattle.scimem.specs.ThreadsAnswer.{IsThreadsOf}
+use Rattle.scimem.proofs.ReachedLogs.{reached_logs}
+
+-- what a run gives
+pub record IsRunOf (s : ScriptValue) (logs : List (List Entry)) (last : List Stamped) (finished : Bool) : Type 0 where
+  pub led : AreLedTo (size_for s) logs last
+  pub lawful : Lawful logs last
+  pub consistent : IsSequentiallyConsistent logs last
+  pub named : HaveLogsOf s logs
+  pub whole : finished ≡ true → HaveWholeLogsOf s logs
+
+run_are_logs : (s : ScriptValue) (logs : List (List Entry)) (last : List Stamped) → AreLedTo (size_for s) logs last → AreLogs s.nodes logs last
+run_are_logs s logs last led =
+    let core = led.core in
+    let there : AreLogs s.nodes (logs_of core) (last_of core) = subst (λ (z : Size). AreLogs z.nodes (logs_of core) (last_of core)) led.sized (reached_logs core led.reached) in
+    subst (λ (l : List (List Entry)). AreLogs s.nodes l last) (sym led.logs_are) (subst (AreLogs s.nodes (logs_of core)) (sym led.last_are) there)
+
+pub threads_is : (input text : List ℕ) (s : ScriptValue) (logs : List (List Entry)) (last : List Stamped) (finished : Bool) (outcome : Outcome) → IsScript s → input ≡ script_text s → text ≡ log_text s.nodes logs last → IsRunOf s logs last finished → (outcome ≡ Done → finished ≡ true) → IsThreadsOf input text outcome
+threads_is input text s logs last finished outcome good read written run ends = record {
+  script = s;
+  good = good;
+  read = read;
+  logs = logs;
+  last = last;
+  written = written;
+  says = subst (λ (bytes : List ℕ). IsLogs bytes s.nodes logs last) (sym written) (written_again s.nodes logs last (run_are_logs s logs last run.led));
+  lawful = run.lawful;
+  consistent = run.consistent;
+  named = run.named;
+  whole = λ is. run.whole (ends is);
+}
+
+-- the same for an input that was read
+pub threads_if : (known : Option (List ℕ)) (text : List ℕ) (s : ScriptValue) (logs : List (List Entry)) (last : List Stamped) (finished : Bool) (outcome : Outcome) → IsScript s → length (script_text s) ≤ MAX_INPUT_BYTES → IfSome known (λ input. input ≡ script_text s) → text ≡ log_text s.nodes logs last → IsRunOf s logs last finished
+    → (outcome ≡ Done → finished ≡ true) → IfSome known (λ input. (length input ≤ MAX_INPUT_BYTES) × IsThreadsOf input text outcome)
+threads_if None text s logs last finished outcome good few read written run ends = tt
+threads_if (Some input) text s logs last finished outcome good few read written run ends = (omega (arith, few, ap length read), threads_is input text s logs last finished outcome good read written run ends)

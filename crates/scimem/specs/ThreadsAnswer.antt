@@ -1,0 +1,38 @@
+-- What `threads` writes for its input.
+use Rattle.std.specs.Prelude.{◌≡◌, ℕ, Bool, List, Option}
+use Rattle.sci_words.specs.declared.stamped.Stamped.{Stamped}
+use Rattle.sci_history.specs.declared.entry.Entry.{Entry}
+use Rattle.sci_history.specs.Lawful.{Lawful}
+use Rattle.sci_history.specs.Sequential.{IsSequentiallyConsistent}
+use Rattle.sci_text.specs.Script.{ScriptValue, IsScript, script_text}
+use Rattle.sci_text.specs.FirstFault.{IsTold}
+use Rattle.sci_text.specs.ScriptFault.{IsScriptFault}
+use Rattle.sci_text.specs.Log.{log_text}
+use Rattle.sci_text.specs.LogValue.{IsLogs}
+use Rattle.sci_threads.specs.Shares.{HaveLogsOf, HaveWholeLogsOf}
+use Rattle.scimem.specs.Input.{IsReadAs}
+use Rattle.scimem.specs.Refusal.{IsRefusalBy}
+use Rattle.scimem.specs.declared.outcome.Outcome.{Outcome}
+use Rattle.scimem.specs.declared.outcome.Outcome.TheVariants.{Done, Unlawful, Refused}
+
+-- The input is the text of a script, and the text of logs is written that are lawful and sequentially consistent, and of
+-- the script: in each node's log each entry has the operation that its serial names, and no serial stands twice. If it
+-- is done, each operation has just one entry.
+pub record IsThreadsOf (input text : List ℕ) (outcome : Outcome) : Type 0 where
+  pub script : ScriptValue
+  pub good : IsScript script
+  pub read : input ≡ script_text script
+  pub logs : List (List Entry)
+  pub last : List Stamped
+  pub written : text ≡ log_text script.nodes logs last
+  pub says : IsLogs text script.nodes logs last
+  pub lawful : Lawful logs last
+  pub consistent : IsSequentiallyConsistent logs last
+  pub named : HaveLogsOf script logs
+  pub whole : outcome ≡ Done → HaveWholeLogsOf script logs
+
+-- what is written, and how the command ends, for the bytes of a reader, which has failed or not
+abbrev pub IsThreadsAnswer : Option (List ℕ) → Bool → List ℕ → Outcome → Type 0
+IsThreadsAnswer input failed text Done = IsReadAs input failed (λ bytes. IsThreadsOf bytes text Done)
+IsThreadsAnswer input failed text Unlawful = IsReadAs input failed (λ bytes. IsThreadsOf bytes text Unlawful)
+IsThreadsAnswer input failed text Refused = IsRefusalBy (λ kind line. IsTold IsScriptFault kind input failed line) text

@@ -1,0 +1,90 @@
+//! The command `threads`: the log of a run of a script with one thread a node.
+
+ghost use Rattle.std.specs.Prelude.{◌≡◌, ℕ, List, false, true, IfOk, IfErr};
+ghost use Rattle.std.specs.Io.KnownBytes.{Appends};
+ghost use Rattle.sci_text.specs.FirstFault.{IsTold};
+ghost use Rattle.sci_text.specs.ScriptFault.{IsScriptFault};
+ghost use Rattle.sci_text.specs.Tap.{has_failed, is_called_again, tapped};
+ghost use Rattle.scimem.specs.declared.outcome.Outcome.{Outcome};
+ghost use Rattle.scimem.specs.ThreadsAnswer.{IsThreadsAnswer, IsThreadsOf};
+ghost use Rattle.scimem.specs.Input.{IsReadAs};
+ghost use Rattle.scimem.specs.Writing.{WritesFront};
+
+use crate::outcome::Outcome;
+use crate::refusal::refuse;
+use crate::writing::write_answer;
+use sci_text::{Tap, TextFault, logs_text, read_script};
+use sci_threads::{YieldingGate, run_nodes};
+use std::alloc::Global;
+use std::io::{Read, Write};
+use std::sync::atomic::AtomicU64;
+use std::thread::Threads;
+
+/// The text of the log of a run of the script that the reader gives, and Done if all nodes have finished, else Unlawful; or
+/// the script's fault.
+fn answer<T: Threads + Sync, R: Read>(
+    rt: &T,
+    alloc: Global,
+    reader: &mut Tap<R>,
+    turns: u32,
+) -> Result<(Vec<u8>, Outcome), TextFault>
+    requires { has_failed reader.old ≡ false }
+    ensures text { IfOk result (λ answer.
+        IsReadAs (R.remaining (tapped reader.old)) (has_failed reader.new)
+        (λ input. IsThreadsOf input answer.0.items answer.1)) }
+    ensures ends { IfOk result (λ answer. answer.1 ≡ Outcome.Refused → ⊥) }
+    ensures fault { IfErr result (λ fault. IsTold IsScriptFault fault.kind
+        (R.remaining (tapped reader.old)) (has_failed reader.new) fault.line) }
+    ensures again { is_called_again reader.new ≡ is_called_again reader.old }
+{
+    let script = read_script(alloc, reader)?;
+    let nodes = script.extent().nodes;
+    let done = AtomicU64::new(0);
+    let gates = YieldingGate::for_nodes(alloc, nodes, &done)?;
+    let (logs, last, finished) = run_nodes(rt, alloc, &script, gates, turns)?;
+    drop(script);
+    let outcome = if finished {
+        Outcome::Done
+    } else {
+        Outcome::Unlawful
+    };
+    Ok((logs_text(alloc, nodes, &logs, &last)?, outcome))
+}
+
+/// Reads a script to its end, runs it with one thread a node, each for at most `turns` turns, and writes the logs and the
+/// last contents in format 2: Done if each node has done all its operations, else Unlawful. A script with a fault is
+/// Refused, with the line `refused at line K: KIND` alone, and KIND is `syntax`, `range` or `too-many`; and, with K = 0,
+/// if a read fails (`read`), for an input of more than 134,217,728 bytes (`too-many`), and if an allocation fails
+/// (`memory`). The whole text is made before its first byte is written. After a failed read or write nothing more is read
+/// or written; after a failed write it is Refused.
+///
+/// The logs are lawful and sequentially consistent, whatever the threads did. A node whose thread can't be made is driven
+/// without one, and the run may then end Unlawful.
+pub fn threads<T: Threads + Sync, R: Read, W: Write>(
+    rt: &T,
+    alloc: Global,
+    reader: &mut Tap<R>,
+    writer: &mut Tap<W>,
+    turns: u32,
+) -> Outcome
+    requires reader { has_failed reader.old ≡ false }
+    requires writer { has_failed writer.old ≡ false }
+
+    // The answer to the input is written, and nothing else.
+    ensures written { has_failed writer.new ≡ false → (text : List ℕ)
+        × Appends (W.contents (tapped writer.old)) (W.contents (tapped writer.new)) text
+        × IsThreadsAnswer (R.remaining (tapped reader.old)) (has_failed reader.new) text result }
+
+    // If a write fails, a prefix of it is.
+    ensures front { (text : List ℕ) × (outcome : Outcome)
+        × WritesFront (W.contents (tapped writer.old)) (W.contents (tapped writer.new)) text
+        × IsThreadsAnswer (R.remaining (tapped reader.old)) (has_failed reader.new) text outcome }
+    ensures failed { has_failed writer.new ≡ true → result ≡ Outcome.Refused }
+    ensures read_no_more { is_called_again reader.new ≡ is_called_again reader.old }
+    ensures wrote_no_more { is_called_again writer.new ≡ is_called_again writer.old }
+{
+    match answer(rt, alloc, reader, turns) {
+        Ok((text, outcome)) => write_answer(writer, &text, outcome),
+        Err(fault) => refuse(alloc, writer, fault),
+    }
+}
