@@ -70,15 +70,15 @@ module _ (driver : DriverOf) (old new : NodeOf) (op : Op) (d : IsDriven driver o
 
   submitted_now : (serial : ℕ) → serial < driver.next + 1 → IsAnsweredOrPending new serial
   submitted_now serial lt = elim (cases_lt serial driver.next) [
-      inl low ↦ answered_or_pending serial (d.submitted serial low)
+    | inl low ↦ answered_or_pending serial (d.submitted serial low)
     | inr high ↦
         let same : serial ≡ driver.next = omega arith in
         inr (op, pending_here ∙ ap (λ (n : ℕ). Some (record { serial = n; op = op })) (sym same))
-    ]
+  ]
 
   awaited_now : (line : ℕ) (p : Pending) → pending_on new line ≡ Some p → IsAwaited after new line p
   awaited_now line p is = elim (cases_eq line op.line) [
-      inl here ↦
+    | inl here ↦
         let same : record { serial = driver.next; op = op } ≡ p = same_some (pending_on new line) (record { serial = driver.next; op = op }) p (ap (pending_on new) here ∙ pending_here) is in
         subst (λ (q : Pending). IsAwaited after new line q) same (record {
           on = sym here;
@@ -96,7 +96,7 @@ module _ (driver : DriverOf) (old new : NodeOf) (op : Op) (d : IsDriven driver o
           unanswered = times_stay p.serial ∙ was.unanswered;
           known = Contains-append_left driver.pending (op.line ∷ []) line was.known;
         }
-    ]
+  ]
 
   pub submits : IsDriven (record driver { next = driver.next + 1; pending = driver.pending ++ op.line ∷ [] }) new
   submits = record {
@@ -116,12 +116,12 @@ still_there items place line d within other there =
     let short = length-remove items place within in
     let lt = there.1 in
     elim (cases_lt there.0 place) [
-      inl low ↦ (there.0, omega arith, get_or-remove_below items place line there.0 low within ∙ there.2)
-    | inr high ↦ elim (cases_eq there.0 place) [
-        inl same ↦ absurd (other (get_or_default items place d line within ∙ (ap (λ (k : ℕ). slice_index_or items k line) (sym same) ∙ there.2)))
-      | inr apart ↦
-          let above : place < there.0 = omega (arith, apart) in
-          (there.0 - 1, omega arith, get_or-remove_above items place line (there.0 - 1) (omega arith) within ∙ (ap (λ (k : ℕ). slice_index_or items k line) (omega arith) ∙ there.2))
+      | inl low ↦ (there.0, omega arith, get_or-remove_below items place line there.0 low within ∙ there.2)
+      | inr high ↦ elim (cases_eq there.0 place) [
+        | inl same ↦ absurd (other (get_or_default items place d line within ∙ (ap (λ (k : ℕ). slice_index_or items k line) (sym same) ∙ there.2)))
+        | inr apart ↦
+            let above : place < there.0 = omega (arith, apart) in
+            (there.0 - 1, omega arith, get_or-remove_above items place line (there.0 - 1) (omega arith) within ∙ (ap (λ (k : ℕ). slice_index_or items k line) (omega arith) ∙ there.2))
       ]
     ]
 
@@ -153,13 +153,13 @@ module _ (driver : DriverOf) (old new : NodeOf) (place line : ℕ) (entry : Entr
 
   submitted_then : (serial : ℕ) → serial < driver.next → IsAnsweredOrPending new serial
   submitted_then serial lt = elim (cases_eq entry.serial serial) [
-      inl same ↦ inl (one_now serial same)
+    | inl same ↦ inl (one_now serial same)
     | inr other ↦ answered_or_pending' serial other (d.submitted serial lt)
-    ]
+  ]
 
   awaited_then : (line' : ℕ) (p : Pending) → pending_on new line' ≡ Some p → IsAwaited (record driver { pending = remove driver.pending place }) new line' p
   awaited_then line' p is = elim (cases_eq line' line) [
-      inl same ↦ absurd (never_both (pending_on new line) p i.done (ap (pending_on new) (sym same) ∙ is))
+    | inl same ↦ absurd (never_both (pending_on new line) p i.done (ap (pending_on new) (sym same) ∙ is))
     | inr other ↦
         let before = sym (i.others line' other) ∙ is in
         let its = d.pending line' p before in record {
@@ -169,7 +169,7 @@ module _ (driver : DriverOf) (old new : NodeOf) (place line : ℕ) (entry : Entr
           unanswered = other_times p.serial (other_serial line' p other before) ∙ its.unanswered;
           known = still_there driver.pending place line' line within (λ same. other (sym same ∙ here)) its.known;
         }
-    ]
+  ]
 
   later_then : (serial : ℕ) → driver.next ≤ serial → times_answered serial new.log ≡ 0
   later_then serial le =
@@ -211,12 +211,12 @@ turns driver old new work d =
 
 at_most_once : (driver : DriverOf) (node : NodeOf) → IsDriven driver node → (serial : ℕ) → times_answered serial node.log ≤ 1
 at_most_once driver node d serial = elim (cases_lt serial driver.next) [
-    inl low ↦ elim (d.submitted serial low) [
-        inl one ↦ omega (arith, one)
-      | inr waits ↦ let none = (d.pending waits.0.line (record { serial = serial; op = waits.0 }) waits.1).unanswered in omega (arith, none)
-      ]
-  | inr high ↦ let none = d.later serial high in omega (arith, none)
+  | inl low ↦ elim (d.submitted serial low) [
+    | inl one ↦ omega (arith, one)
+    | inr waits ↦ let none = (d.pending waits.0.line (record { serial = serial; op = waits.0 }) waits.1).unanswered in omega (arith, none)
   ]
+  | inr high ↦ let none = d.later serial high in omega (arith, none)
+]
 
 pub log_of : (driver : DriverOf) (node : NodeOf) → IsDriven driver node → IsLogOf driver.script node.log
 log_of driver node d = record { named = d.named; once = at_most_once driver node d }
@@ -226,10 +226,10 @@ pub whole_of : (driver : DriverOf) (node : NodeOf) → driver.next ≡ length dr
 whole_of driver node all none d = record {
   named = d.named;
   each = λ serial lt. elim (d.submitted serial (omega (arith, all))) [
-      inl one ↦ one
+    | inl one ↦ one
     | inr waits ↦
         let known : Contains driver.pending waits.0.line = (d.pending waits.0.line (record { serial = serial; op = waits.0 }) waits.1).known in
         let empty : Contains [] waits.0.line = subst (λ (l : List ℕ). Contains l waits.0.line) none known in
         let lt' = empty.1 in absurd (omega arith)
-    ];
+  ];
 }

@@ -1,10 +1,10 @@
 //! Drives a worker through a script: it submits the operations, performs them, and takes turns until each has its entry.
 #![tactic(auto)]
 
-mod running;
 mod driver;
 mod gate;
+mod running;
 
-pub use running::{Ran, drive};
 pub use driver::{Driver, Round};
 pub use gate::Gate;
+pub use running::{Ran, drive};

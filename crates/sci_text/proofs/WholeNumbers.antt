@@ -15,9 +15,9 @@ whole_of (Some (value, b ∷ rest)) = None
 
 fits_as : (m n : ℕ) → fitting m ≡ Some n → (m ≡ n) × (n < 2 ^ 64)
 fits_as m n e = elim (cases_lt m (2 ^ 64)) [
-    inl lt ↦ let same : m ≡ n = fitting_some m n e in (same, omega arith)
+  | inl lt ↦ let same : m ≡ n = fitting_some m n e in (same, omega arith)
   | inr le ↦ absurd (none_is n (sym (fitting_above m le) ∙ e))
-  ]
+]
   where
     none_is : (b : ℕ) → None ≡ Some b → ⊥
     none_is b e = cc

@@ -58,9 +58,9 @@ own_is s (v ∷ all) node long each lt = get_or-map (λ own. own.items) (v ∷ a
 -- what is given for a place past the end stands everywhere
 replicated : {A : Type 0} (count k : ℕ) (a : A) → get_or (replicate count a) k a ≡ a
 replicated count k a = elim (cases_lt k count) [
-    inl lt ↦ get_or-replicate count k a a lt
+  | inl lt ↦ get_or-replicate count k a a lt
   | inr le ↦ get_or_past (replicate count a) k a (let c = length-replicate count a in omega arith)
-  ]
+]
 
 pub opened_fresh : (n : ℕ) (size : Size) → HasSubmittedNothing (opening_node n size)
 opened_fresh n size = record { issued = refl; pending = λ line. replicated size.lines line None; log = refl }

@@ -64,7 +64,7 @@ pub(crate) fn run_all<R: Threads + Sync, G: Gate + Send>(
             × HasSubmittedNothing (node_in share.now.station) }
         ensures { IsSameEnd share.entry.now.station.end share.exit.now.station.end
             × HasRun (own_of operations.entry.now)
-                share.exit.now.station.end share.exit.now.finished }
+            share.exit.now.station.end share.exit.now.finished }
     { share.run(operations, turns) };
     thread::for_each_mut(rt, shares, MAX_NODES as usize, &run);
 }
@@ -83,7 +83,9 @@ pub(crate) fn gathered<G: Drop>(
     let mut all = true;
     for share in shares {
         let Share {
-            station, finished, ..
+            station,
+            finished,
+            ..
         } = share;
         if !finished? {
             all = false;
@@ -94,10 +96,7 @@ pub(crate) fn gathered<G: Drop>(
 }
 
 /// The operations of each node, in their order. Refused if memory is.
-pub(crate) fn operations_by_node(
-    alloc: Global,
-    script: &Script,
-) -> Result<Vec<Vec<Op>>, AllocError>
+pub(crate) fn operations_by_node(alloc: Global, script: &Script) -> Result<Vec<Vec<Op>>, AllocError>
     ensures nodes { IfOk result (λ all. length all.items ≡ script.now.nodes) }
     ensures each { IfOk result (λ all. (node : ℕ) (d : _) → node < script.now.nodes →
         (slice_index_or all.items node d).items ≡ operations_of node script.now.operations) }

@@ -51,7 +51,6 @@ filter_short p (entry ∷ entries) =
       | inr no_ ↦ subst (λ (es : List Entry). length es ≤ length (entry ∷ entries)) (sym (filter_no p entry entries no_)) (omega arith)
     ]
 
-
 done_within : (nodes lines : ℕ) (done : List Entry) (script : List Issue) → AllByRecursion (λ entry. IsWithin nodes lines entry.node entry.op) done → AllByRecursion (λ p. IsWithin nodes lines p.0 p.1) script → AllByRecursion (λ entry. IsWithin nodes lines entry.node entry.op) (done_after lines done script)
 unfolding done_after
 done_within nodes lines done [] h each = h

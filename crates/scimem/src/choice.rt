@@ -11,7 +11,8 @@ use std::rt::Env;
 use std::{env, io};
 
 /// The words that the program knows.
-pub const USAGE: &str = "usage: scimem oracle | replay | threads [--turns T] | audit | decode | upgrade";
+pub const USAGE: &str =
+    "usage: scimem oracle | replay | threads [--turns T] | audit | decode | upgrade";
 
 /// How many turns a node of `threads` takes at most, and does if the words don't say.
 pub const MAX_TURNS: u32 = 1_000_000_000;

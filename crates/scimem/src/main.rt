@@ -33,6 +33,8 @@ mod oracle_tests;
 mod replay_tests;
 #[cfg(test)]
 mod tests;
+#[cfg(test)]
+mod thread_tests;
 
 fn main(rt: HostRuntime) -> ExitCode {
     let Ok(Some(command)) = asked(&rt) else {

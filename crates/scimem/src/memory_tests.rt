@@ -6,6 +6,7 @@ use crate::decode::decode_bytes;
 use crate::oracle::oracle;
 use crate::outcome::Outcome;
 use crate::replay::replay;
+use crate::threads::threads;
 use crate::upgrade::upgrade;
 use sci_text::Tap;
 use std::process::Abort;
@@ -37,6 +38,20 @@ fn memory_for_oracle(rt: HostRuntime) {
         rt.alloc(),
         &mut Tap::new(script),
         &mut Tap::new(&mut written),
+    );
+    expect_log_or_memory(&rt, written.as_slice(), outcome, LOG.as_bytes());
+}
+
+#[test]
+fn memory_for_threads(rt: HostRuntime) {
+    let script = b"machine 1 1 1\np 0 store 0 0 7\n".as_slice();
+    let mut written = Vec::new(rt.alloc());
+    let outcome = threads(
+        &rt,
+        rt.alloc(),
+        &mut Tap::new(script),
+        &mut Tap::new(&mut written),
+        1000,
     );
     expect_log_or_memory(&rt, written.as_slice(), outcome, LOG.as_bytes());
 }

@@ -6,16 +6,18 @@ use crate::outcome::Outcome;
 use crate::threads::threads;
 use sci_drive::Gate;
 use sci_history::Entry;
-use sci_text::{Script, Tap, logs_text};
+use sci_text::{Script, Tap, logs_text, push_text, read_logs};
 use sci_threads::run_nodes;
-use sci_words::{Act, Extent, LockOp, Op};
-use std::alloc::Global;
+use sci_words::{Act, Extent, Op, Reply};
+use std::alloc::{AllocError, Global};
 use std::sync::atomic::{AtomicU64, Ordering};
 use std::test::*;
 use std::thread;
 use std::thread::Threads;
 
 const TURNS: u32 = 1_000_000_000;
+
+const MANY: u32 = 10_000_000;
 
 /// What is written for a script, and how the command ends.
 fn ran<T: Threads + Sync>(rt: &T, alloc: Global, script: &[u8], turns: u32) -> (Vec<u8>, Outcome) {
@@ -30,9 +32,261 @@ fn ran<T: Threads + Sync>(rt: &T, alloc: Global, script: &[u8], turns: u32) -> (
     (text, outcome)
 }
 
-/// What `audit` writes for a log.
-fn audited(alloc: Global, log: &[u8]) -> Vec<u8> {
+/// A script in which each node adds 1 to one word so many times.
+fn hammering(
+    alloc: Global,
+    machine: &str,
+    nodes: &[&str],
+    times: u32,
+) -> Result<Vec<u8>, AllocError> {
+    let mut script = Vec::new(alloc);
+    push_text(&mut script, machine)?;
+    for _time in 0..times {
+        for line in nodes {
+            push_text(&mut script, line)?;
+        }
+    }
+    Ok(script)
+}
+
+/// An error unless the replies of all nodes together are 0 up to the count, each once.
+fn each_reply_once(alloc: Global, log: &[u8], count: usize) -> Result<(), Fail> {
+    let (_nodes, logs, _last) = match read_logs(alloc, &mut Tap::new(log)) {
+        Ok(read) => read,
+        Err(_) => return Err(Fail::from("no log was written")),
+    };
+    let mut seen = vec![in alloc; false; count]?;
+    let mut entries = 0usize;
+    for node in 0..logs.nodes() {
+        for entry in logs.of(node) {
+            let Reply::Got(reply) = entry.reply else {
+                return Err(Fail::from("a reply without a word"));
+            };
+            match seen.get_mut(reply as usize) {
+                Some(place) if !*place => *place = true,
+                _ => return Err(Fail::from("a reply that came twice, or is too large")),
+            }
+            entries = entries.saturating_add(1);
+        }
+    }
+    if entries == count {
+        Ok(())
+    } else {
+        Err(Fail::from("an operation without a reply"))
+    }
+}
+
+/// An error unless an audit finds the log lawful.
+fn lawful(alloc: Global, log: &[u8]) -> Result<(), Fail> {
     let mut said = Vec::new(alloc);
-    let _outcome = audit_text(alloc, &mut Tap::new(log), &mut Tap::new(&mut said));
-    said
+    let outcome = audit_text(alloc, &mut Tap::new(log), &mut Tap::new(&mut said));
+    if outcome == Outcome::Done && said.as_slice() == b"lawful\n".as_slice() {
+        Ok(())
+    } else {
+        Err(Fail::from("a log that isn't lawful"))
+    }
+}
+
+#[test]
+fn hammer(rt: HostRuntime) -> Result<(), Fail> {
+    let alloc = rt.alloc();
+    let nodes = [
+        "p 0 fetch-add 0 0 1\n",
+        "p 1 fetch-add 0 0 1\n",
+        "p 2 fetch-add 0 0 1\n",
+        "p 3 fetch-add 0 0 1\n",
+    ];
+    let script = hammering(alloc, "machine 4 1 1\n", &nodes, 1000)?;
+    let (text, outcome) = ran(&rt, alloc, &script, TURNS);
+    assert_eq!(rt; outcome, Outcome::Done);
+    assert!(rt; text.starts_with(b"log 2 4 1\nlast 0 @4000 4000 0 0 0 0 0 0 0\n"));
+    each_reply_once(alloc, &text, 4000)?;
+    lawful(alloc, &text)
+}
+
+#[test]
+fn sixteen(rt: HostRuntime) -> Result<(), Fail> {
+    let alloc = rt.alloc();
+    let nodes = [
+        "p 0 fetch-add 0 0 1\n",
+        "p 1 fetch-add 0 0 1\n",
+        "p 2 fetch-add 0 0 1\n",
+        "p 3 fetch-add 0 0 1\n",
+        "p 4 fetch-add 0 0 1\n",
+        "p 5 fetch-add 0 0 1\n",
+        "p 6 fetch-add 0 0 1\n",
+        "p 7 fetch-add 0 0 1\n",
+        "p 8 fetch-add 0 0 1\n",
+        "p 9 fetch-add 0 0 1\n",
+        "p 10 fetch-add 0 0 1\n",
+        "p 11 fetch-add 0 0 1\n",
+        "p 12 fetch-add 0 0 1\n",
+        "p 13 fetch-add 0 0 1\n",
+        "p 14 fetch-add 0 0 1\n",
+        "p 15 fetch-add 0 0 1\n",
+    ];
+    let script = hammering(alloc, "machine 16 1 1\n", &nodes, 100)?;
+    let (text, outcome) = ran(&rt, alloc, &script, TURNS);
+    assert_eq!(rt; outcome, Outcome::Done);
+    assert!(rt; text.starts_with(b"log 2 16 1\nlast 0 @1600 1600 0 0 0 0 0 0 0\n"));
+    each_reply_once(alloc, &text, 1600)?;
+    lawful(alloc, &text)
+}
+
+#[test]
+fn one_turn(rt: HostRuntime) {
+    let script = b"machine 1 1 1\np 0 store 0 0 7\n".as_slice();
+    let (text, outcome) = ran(&rt, rt.alloc(), script, 1);
+    assert_eq!(rt;
+        text.as_slice(),
+        b"log 2 1 1\nlast 0 @0 0 0 0 0 0 0 0 0\n".as_slice()
+    );
+    assert_eq!(rt; outcome, Outcome::Unlawful);
+}
+
+#[test]
+fn an_empty_script_and_one_node_with_all(rt: HostRuntime) -> Result<(), Fail> {
+    let alloc = rt.alloc();
+    let (text, outcome) = ran(&rt, alloc, b"machine 3 1 1\n", 1);
+    assert_eq!(rt; outcome, Outcome::Unlawful);
+    assert_eq!(rt;
+        text.as_slice(),
+        b"log 2 3 1\nlast 0 @0 0 0 0 0 0 0 0 0\n".as_slice()
+    );
+    let (_text, outcome) = ran(&rt, alloc, b"machine 3 1 1\n", TURNS);
+    assert_eq!(rt; outcome, Outcome::Done);
+    let script = hammering(alloc, "machine 4 2 1\n", &["p 2 fetch-add 1 0 1\n"], 500)?;
+    let (text, outcome) = ran(&rt, alloc, &script, TURNS);
+    assert_eq!(rt; outcome, Outcome::Done);
+    each_reply_once(alloc, &text, 500)?;
+    lawful(alloc, &text)
+}
+
+#[test]
+fn scripts_with_a_fault(rt: HostRuntime) {
+    let (text, outcome) = ran(&rt, rt.alloc(), b"machine 1 1 1\np 0 store 0 8 1\n", TURNS);
+    assert_eq!(rt; text.as_slice(), b"refused at line 2: range\n".as_slice());
+    assert_eq!(rt; outcome, Outcome::Refused);
+}
+
+#[test]
+fn words_of_threads(rt: HostRuntime) {
+    assert_eq!(rt;
+        chosen(&["threads"]),
+        Some(Command::Threads { turns: TURNS })
+    );
+    let some = chosen(&["threads", "--turns", "12"]);
+    assert_eq!(rt; some, Some(Command::Threads { turns: 12 }));
+    let most = chosen(&["threads", "--turns", "1000000000"]);
+    assert_eq!(rt; most, Some(Command::Threads { turns: TURNS }));
+    for turns in [
+        "0",
+        "1000000001",
+        "01",
+        "+1",
+        "",
+        " 1",
+        "1 ",
+        "x",
+        "18446744073709551617",
+    ] {
+        assert_eq!(rt; chosen(&["threads", "--turns", turns]), None, "{turns}");
+    }
+    assert_eq!(rt; chosen(&["threads", "--turns"]), None);
+    assert_eq!(rt; chosen(&["threads", "12"]), None);
+}
+
+/// At its first entry, sets its flag and looks for the other's.
+#[derive(Drop)]
+struct Meeting<'a> {
+    own: &'a AtomicU64,
+    other: &'a AtomicU64,
+    met: &'a AtomicU64,
+    done: &'a AtomicU64,
+    entries: u32,
+}
+
+impl Gate for Meeting<'_> {
+    fn may_issue(&mut self, _index: u32) -> bool {
+        true
+    }
+
+    fn answered(&mut self, _entry: &Entry) {
+        if self.entries > 0 {
+            return;
+        }
+        self.entries = 1;
+        self.own.store(1, Ordering::SeqCst);
+        for _look in 0..MANY {
+            if self.other.load(Ordering::SeqCst) == 1 {
+                let _before = self.met.fetch_add(1, Ordering::SeqCst);
+                return;
+            }
+            thread::yield_now();
+        }
+    }
+
+    fn done(&mut self) {
+        let _before = self.done.fetch_add(1, Ordering::SeqCst);
+    }
+
+    fn all_done(&mut self) -> bool {
+        self.done.load(Ordering::SeqCst) == 2
+    }
+
+    fn rest(&mut self) {
+        thread::yield_now();
+    }
+}
+
+/// A store to word 0 of a line.
+fn store(line: u8, word: u64) -> Op {
+    Op {
+        line,
+        word: 0,
+        act: Act::Store(word),
+    }
+}
+
+#[test]
+fn two_gates(rt: HostRuntime) -> Result<(), Fail> {
+    let alloc = rt.alloc();
+    let extent = Extent::new(2, 2, 2).ok_or("an extent")?;
+    let mut script = Script::new(alloc, extent);
+    for (node, op) in [(0, store(0, 1)), (1, store(1, 2)), (1, store(1, 3))] {
+        if script.push(node, op).is_err() {
+            return Err(Fail::from("an operation that was refused"));
+        }
+    }
+    let (zero, one) = (AtomicU64::new(0), AtomicU64::new(0));
+    let (met, done) = (AtomicU64::new(0), AtomicU64::new(0));
+    let (met, done) = (&met, &done);
+    let first = Meeting {
+        own: &zero,
+        other: &one,
+        met,
+        done,
+        entries: 0,
+    };
+    let second = Meeting {
+        own: &one,
+        other: &zero,
+        met,
+        done,
+        entries: 0,
+    };
+    let mut gates = Vec::with_capacity(alloc, 2)?;
+    gates.push(first)?;
+    gates.push(second)?;
+    if gates.len() != script.extent().nodes as usize {
+        return Err(Fail::from("a gate too many or too few"));
+    }
+    let (logs, last, finished) = run_nodes(&rt, alloc, &script, gates, MANY)?;
+    assert!(rt; finished);
+    assert_eq!(rt; met.load(Ordering::SeqCst), 2);
+    let text = logs_text(alloc, 2, &logs, &last)?;
+    let expected = "log 2 2 2\nlast 0 @1 1 0 0 0 0 0 0 0\nlast 1 @2 3 0 0 0 0 0 0 0\n\
+        0 0 store 0 0 1 = - @1\n1 0 store 1 0 2 = - @1\n1 1 store 1 0 3 = - @2\n";
+    assert_eq!(rt; text.as_slice(), expected.as_bytes());
+    Ok(())
 }

@@ -14,9 +14,10 @@ returns-clause-text g c =
     let text = c.in_ok-logs_text.field-0.items in
     let run : IsRunOf script ran.logs ran.last ran.finished = record { led = ran.ensures.led; lawful = ran.ensures.lawful; consistent = ran.ensures.consistent; named = ran.ensures.named; whole = ran.ensures.whole } in
     let outcome = c.if-finished.outcome in
-    let ends : outcome ≡ Done → ran.finished ≡ true = λ done. (elim c.if-finished.branch [ then-finished w ↦ w.if-finished.true | else-finished w ↦ absurd (apart (sym w.outcome-is ∙ done)) ]) in
-    (c.in_ok-script.ensures.unfailed,
-     threads_if (g.R.Read.remaining (tapped c.args.reader.now)) text script ran.logs ran.last ran.finished outcome c.in_ok-script.ensures.good c.in_ok-script.ensures.few c.in_ok-script.ensures.text (c.in_ok-logs_text.ensures.text ∙ ap (λ (n : ℕ). log_text n ran.logs ran.last) c.extent-nodes.ensures.nodes) run ends)
+    let ends : outcome ≡ Done → ran.finished ≡ true = λ done. (elim c.if-finished.branch [ then-finished w ↦ w.if-finished.true | else-finished w ↦ absurd (apart (sym w.outcome-is ∙ done)) ]) in (
+      c.in_ok-script.ensures.unfailed,
+      threads_if (g.R.Read.remaining (tapped c.args.reader.now)) text script ran.logs ran.last ran.finished outcome c.in_ok-script.ensures.good c.in_ok-script.ensures.few c.in_ok-script.ensures.text (c.in_ok-logs_text.ensures.text ∙ ap (λ (n : ℕ). log_text n ran.logs ran.last) c.extent-nodes.ensures.nodes) run ends,
+    )
   where
     apart : Unlawful ≡ Done → ⊥
     apart e = cc

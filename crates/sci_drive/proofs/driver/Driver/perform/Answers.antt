@@ -19,7 +19,8 @@ loop-place-preserved-in-Some g c =
     let line : ℕ = slice_index_or c.deref.result.now at.place 0 in
     let logged : IsLogged old new line c.in-Some.entry = c.in-Some.ensures.performed in
     let here : slice_index_or driver.pending at.place line ≡ line = ap (λ (l : List ℕ). slice_index_or l at.place line) (sym c.deref.ensures.0) ∙ get_or_default c.deref.result.now at.place line 0 (subst (λ (l : List ℕ). at.place < length l) (sym c.deref.ensures.0) within) in
-    let made = performs driver old new at.place line c.in-Some.entry at.invariant.0 logged within here in
-    (subst (λ (lines : List ℕ). IsDriven (record driver { pending = lines }) new) (sym c.remove.ensures.items) made,
-     at.invariant.1,
-     g.met.W.Worker.stays_through c.args.worker.now at.worker c.perform.new.self at.invariant.2 c.perform.ensures.stays)
+    let made = performs driver old new at.place line c.in-Some.entry at.invariant.0 logged within here in (
+      subst (λ (lines : List ℕ). IsDriven (record driver { pending = lines }) new) (sym c.remove.ensures.items) made,
+      at.invariant.1,
+      g.met.W.Worker.stays_through c.args.worker.now at.worker c.perform.new.self at.invariant.2 c.perform.ensures.stays,
+    )
