@@ -211,3 +211,21 @@ fn a_refused_cache_is_none(rt: HostRuntime) -> Result<(), Fail> {
     }
     Ok(())
 }
+
+#[test]
+fn a_refused_copy_is_none(rt: HostRuntime) -> Result<(), Fail> {
+    let extent = Extent::new(1, 64, 1).ok_or("an extent")?;
+    let Ok(cache) = Cache::new(rt.alloc(), 0, extent) else {
+        return Ok(());
+    };
+    let copy = match cache.try_clone(rt.alloc()) {
+        Ok(copy) => copy,
+        Err(fault) => {
+            assert_eq!(rt; fault, AllocError);
+            cache.try_clone(rt.alloc()).ok().ok_or("refused twice")?
+        }
+    };
+    assert_eq!(rt; copy.lines(), 64);
+    assert!(rt; is_held(&copy, &Held::Out(OutState)));
+    Ok(())
+}

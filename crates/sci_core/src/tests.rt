@@ -25,7 +25,7 @@ fn stored(word: u64) -> Stamped {
 }
 
 /// One node takes line 0 to write, and stores 7.
-fn schedule() -> [Event; 6] {
+pub fn schedule() -> [Event; 6] {
     let node = 0;
     let from = 0;
     [
@@ -42,7 +42,8 @@ fn schedule() -> [Event; 6] {
     ]
 }
 
-fn entry() -> Entry {
+/// What the schedule logs.
+pub fn entry() -> Entry {
     Entry {
         node: 0,
         serial: 0,

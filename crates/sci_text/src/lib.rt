@@ -45,6 +45,8 @@ pub use tap::Tap;
 pub use writing::write_text;
 
 #[cfg(test)]
+mod memory_tests;
+#[cfg(test)]
 mod schedule_tests;
 #[cfg(test)]
 mod tap_tests;

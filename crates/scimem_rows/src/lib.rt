@@ -12,6 +12,8 @@ mod fresh_lists;
 #[cfg(test)]
 mod lists;
 #[cfg(test)]
+mod memory;
+#[cfg(test)]
 mod orders;
 #[cfg(test)]
 mod pairs;

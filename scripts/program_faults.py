@@ -1,0 +1,245 @@
+"""Trials of the built program: refused allocations, little address space, and devices that fail. scripts/try_faults.py says
+more."""
+
+import os
+import signal
+import subprocess
+import sys
+import time
+from collections import namedtuple
+from errno import EAGAIN, EINTR, EIO, ENOSPC, EPIPE
+
+from fault_runs import Ran, Trial
+
+# A run of the program: a name, the words of its command line, its input, and what it has to write.
+Case = namedtuple("Case", "name words given status output errors")
+
+USAGE = b"usage: scimem oracle | replay | audit | decode | upgrade\n"
+
+
+def refusal(case, kind):
+    """The refusal of a command's whole input."""
+    return b"refused at %s 0: %s\n" % (b"byte" if case.words == ["decode"] else b"line", kind)
+
+
+def stored_cases(top):
+    """The cases of cases/ whose input is a file."""
+    for name in sorted(os.listdir(f"{top}/cases")):
+        part = lambda it: open(f"{top}/cases/{name}/{it}", "rb").read() if has(it) else b""
+        has = lambda it: os.path.isfile(f"{top}/cases/{name}/{it}")
+        if has("input") and not any(map(has, ("reads_from", "writes_to", "kilobytes"))):
+            words = part("words").decode().split()
+            yield Case(name, words, part("input"), int(part("status")), part("output"), part("errors"))
+
+
+def larger_cases(faults, program, count):
+    """A case of each command whose input has `count` operations, events, entries and packets of each node or kind."""
+    made = lambda *words: subprocess.run([sys.executable, *words], stdout=subprocess.PIPE, check=True).stdout
+    folder = f"{faults.top}/scripts"
+    script = made(f"{folder}/make_script.py", str(count), "4")
+    schedule = made(f"{folder}/make_schedule.py").split(b"\n")[: count * 16 + 1]
+    log = faults.run([program, "oracle"], script).output
+    inputs = {
+        "oracle": script,
+        "replay": b"\n".join(schedule) + b"\n",
+        "audit": log,
+        "upgrade": log,
+        "decode": made(f"{folder}/make_packets.py", str(count)),
+    }
+    for command, given in inputs.items():
+        whole = faults.run([program, command], given)
+        yield Case(f"{command}, {len(given):,} bytes", [command], given, whole.status, whole.output, whole.errors)
+
+
+def is_whole(ran, case):
+    return ran[:3] == (case.status, case.output, case.errors)
+
+
+def is_memory(ran, case):
+    """Whether memory is told and nothing else; or, if the command line couldn't be read, the usage line."""
+    if ran.told != b"a" and ran[:3] == (2, b"", USAGE):
+        return True
+    return ran[:3] == (2, refusal(case, b"memory"), b"")
+
+
+def try_allocations(faults, program, case):
+    """Refuses each allocation in turn, until a run refuses none."""
+    trial = Trial(f"allocations of {case.name}")
+    for number in range(1, 1_000_000):
+        ran = faults.run([program, *case.words], case.given, fault=f"alloc:{number}")
+        trial.count(ran.told)
+        if not (is_whole(ran, case) or ran.told and is_memory(ran, case)):
+            trial.fail(f"allocation {number}", ran)
+        if not ran.told:
+            return trial
+
+
+def try_reads(faults, program, case):
+    """Has each read fail in turn, while a read gives at most five bytes."""
+    trial = Trial(f"reads of {case.name}")
+    for error in (EIO, EINTR, EAGAIN):
+        for number in range(1, 1_000_000):
+            how = {"fault": f"read:{number}", "error": error, "most": 5}
+            ran = faults.run([program, *case.words], case.given, **how)
+            trial.count(ran.told)
+            refused = ran[:3] == (2, refusal(case, b"read"), b"")
+            if not (refused if ran.told else is_whole(ran, case)):
+                trial.fail(f"read {number} with error {error}", ran)
+            if not ran.told:
+                break
+    return trial
+
+
+def try_writes(faults, program, case):
+    """Has each write fail in turn, while a write takes at most seven bytes."""
+    trial = Trial(f"writes of {case.name}")
+    for error in (ENOSPC, EPIPE, EINTR, 0):
+        for number in range(1, 1_000_000):
+            how = {"fault": f"write:{number}", "error": error, "most": 7}
+            ran = faults.run([program, *case.words], case.given, **how)
+            trial.count(ran.told)
+            cut = ran[:3] == (2, case.output[: 7 * (number - 1)], b"")
+            if not (cut if ran.told else is_whole(ran, case)):
+                trial.fail(f"write {number} with error {error}", ran)
+            if not ran.told:
+                break
+    return trial
+
+
+def try_one_byte(faults, program, case):
+    """One byte with each read, and with each write."""
+    trial = Trial(f"single bytes of {case.name}")
+    trial.refused = 1
+    ran = faults.run([program, *case.words], case.given, most=1)
+    return trial if is_whole(ran, case) else trial.fail("one byte at a time", ran)
+
+
+def least_space(faults, program):
+    """The least address space, in steps of 4 KB, with which the program starts: it then writes its usage line."""
+    starts = lambda kilobytes: faults.run([program], kilobytes=kilobytes)[:3] == (2, b"", USAGE)
+    low, high = 0, 1 << 14
+    while high - low > 4:
+        middle = (low + high) // 8 * 4
+        low, high = (low, middle) if starts(middle) else (middle, high)
+    return high
+
+
+def try_space(faults, program, case, least, steps):
+    """Limits the address space in even steps, from the least to a size with which the answer is whole."""
+    trial = Trial(f"address space of {case.name}")
+    run = lambda kilobytes: faults.run([program, *case.words], case.given, kilobytes=kilobytes)
+    enough = next((1 << bits for bits in range(6, 20) if is_whole(run(least + (1 << bits)), case)), None)
+    if not enough:
+        return trial.fail("half a gigabyte is not enough", None)
+    limits = [least + enough * step // steps for step in range(steps + 1)]
+    for kilobytes, ran in zip(limits, faults.pool.map(run, limits)):
+        trial.count(not is_whole(ran, case))
+        if not (is_whole(ran, case) or is_memory(ran, case)):
+            trial.fail(f"{kilobytes} KB", ran)
+    return trial
+
+
+def with_files(program, case, **files):
+    """A run whose standard input and output are these files, or are closed (None). It tells only what it wrote to a pipe."""
+    closed = " ".join(f"{word}-" for word, name in (("<&", "stdin"), (">&", "stdout")) if files.get(name, 0) is None)
+    files = {name: file for name, file in files.items() if file is not None}
+    words = ["bash", "-c", f'exec "$0" "$@" {closed}', program, *case.words]
+    files = {"stdin": subprocess.DEVNULL, "stdout": subprocess.PIPE, **files}
+    ran = subprocess.run(words, stderr=subprocess.PIPE, timeout=60, **files)
+    return Ran(ran.returncode, ran.stdout or b"", ran.stderr, b"")
+
+
+def input_devices(program, case):
+    """Standard inputs that can't be read: what each is, and a run with it."""
+    yield "closed", with_files(program, case, stdin=None)
+    with open("/dev/full", "wb") as full:
+        yield "open for writing alone", with_files(program, case, stdin=full)
+    folder = os.open("/", os.O_RDONLY)
+    yield "a folder", with_files(program, case, stdin=folder)
+    os.close(folder)
+
+
+def output_devices(faults, program, case):
+    """Standard outputs that can't be written: what each is, and a run with it."""
+    path = f"{faults.room}/given"
+    with open(path, "wb") as file:
+        file.write(case.given)
+    with open(path, "rb") as file, open("/dev/full", "wb") as full:
+        yield "/dev/full", with_files(program, case, stdin=file, stdout=full)
+    with open(path, "rb") as file:
+        yield "closed", with_files(program, case, stdin=file, stdout=None)
+    with open(path, "rb") as file, open(path, "rb") as other:
+        yield "open for reading alone", with_files(program, case, stdin=file, stdout=other)
+    reader, writer = os.pipe()
+    os.close(reader)
+    with open(path, "rb") as file:
+        yield "a pipe without a reader", with_files(program, case, stdin=file, stdout=writer)
+    os.close(writer)
+
+
+def reader_that_leaves(program, case):
+    """The status of a run whose output is read for ten bytes alone."""
+    words = [program, *case.words]
+    with subprocess.Popen(words, stdin=subprocess.PIPE, stdout=subprocess.PIPE, bufsize=0) as ran:
+        ran.stdin.write(case.given)
+        ran.stdin.close()
+        front = ran.stdout.read(10)
+        ran.stdout.close()
+        return Ran(ran.wait(60), front, b"", b"")
+
+
+def halting_writer(program, case):
+    """A run that is stopped and continued while it waits for input, which comes in two parts."""
+    words = [program, *case.words]
+    with subprocess.Popen(words, stdin=subprocess.PIPE, stdout=subprocess.PIPE, stderr=subprocess.PIPE) as ran:
+        half = len(case.given) // 2
+        ran.stdin.write(case.given[:half])
+        ran.stdin.flush()
+        for sent in (signal.SIGSTOP, signal.SIGCONT, signal.SIGWINCH):
+            time.sleep(0.02)
+            ran.send_signal(sent)
+        output, errors = ran.communicate(case.given[half:], timeout=60)
+        return Ran(ran.returncode, output, errors, b"")
+
+
+def try_devices(faults, program, case):
+    """Real devices that fail, with no library between."""
+    trial = Trial(f"devices of {case.words[0]}")
+    runs = [(what, ran, refusal(case, b"read")) for what, ran in input_devices(program, case)]
+    runs += [(what, ran, b"") for what, ran in output_devices(faults, program, case)]
+    # (a pipe holds 65,536 bytes, so that a writer of more than a megabyte is still writing)
+    if len(case.output) > 1 << 20:
+        runs.append(("a reader that leaves", reader_that_leaves(program, case), case.output[:10]))
+    for what, ran, output in runs:
+        trial.count(True)
+        if ran[:3] != (2, output, b""):
+            trial.fail(what, ran)
+    trial.count(True)
+    ran = halting_writer(program, case)
+    return trial if is_whole(ran, case) else trial.fail("a stopped run", ran)
+
+
+def tell(what, trials):
+    """Prints how many calls were refused in trials, or how many runs were made."""
+    print(f"scimem: {len(trials)} inputs, {sum(it.refused for it in trials)} {what}", flush=True)
+    return trials
+
+
+def try_program(faults):
+    """All trials of the program."""
+    program = f"{faults.top}/crates/scimem/out/scimem"
+    if not os.path.isfile(program):
+        return [Trial("scimem").fail("the program is not built: run make faults", None)]
+    stored, larger = list(stored_cases(faults.top)), list(larger_cases(faults, program, 300))
+    each = lambda call, cases: list(faults.pool.map(lambda it: call(faults, program, it), cases))
+    trials = tell("allocations refused", each(try_allocations, stored + larger))
+    trials += tell("reads failed", each(try_reads, stored))
+    trials += tell("writes failed", each(try_writes, stored))
+    trials += tell("runs with one byte a read and a write", each(try_one_byte, stored + larger))
+    least = least_space(faults, program)
+    space = [try_space(faults, program, it, least, 32) for it in stored]
+    space += [try_space(faults, program, it, least, 256) for it in larger]
+    largest = list(larger_cases(faults, program, 16_384))
+    space += [try_space(faults, program, it, least, 64) for it in largest]
+    trials += tell(f"runs refused for want of address space, from {least} KB on", space)
+    return trials + tell("devices that fail", each(try_devices, largest))
