@@ -68,21 +68,28 @@ fn memory_for_a_node(rt: HostRuntime) -> Result<(), Fail> {
     Ok(())
 }
 
+/// How many packets node 0 has sent to itself that were not taken.
+fn under_way(machine: &Machine) -> usize {
+    if machine.extent().nodes == 0 {
+        return 0;
+    }
+    let requests = machine.count(LaneKind::Requests, 0, 0);
+    requests.saturating_add(machine.count(LaneKind::Answers, 0, 0))
+}
+
 #[test]
 fn a_refused_event_changes_nothing(rt: HostRuntime) -> Result<(), Fail> {
     let extent = Extent::new(1, 1, 1).ok_or("an extent")?;
     let mut machine = machine(rt.alloc(), extent)?;
     for event in &schedule() {
-        let requests = machine.count(LaneKind::Requests, 0, 0);
-        let answers = machine.count(LaneKind::Answers, 0, 0);
+        let before = under_way(&machine);
         match machine.apply(event) {
             Ok(()) => {}
             Err(fault) => {
                 assert_eq!(rt; fault, ApplyFault::Memory(AllocError), "{event:?}");
                 let grows = matches!(event, Event::Ask { .. } | Event::Reply { .. });
                 assert!(rt; grows, "{event:?}");
-                assert_eq!(rt; machine.count(LaneKind::Requests, 0, 0), requests);
-                assert_eq!(rt; machine.count(LaneKind::Answers, 0, 0), answers);
+                assert_eq!(rt; under_way(&machine), before, "{event:?}");
                 assert_eq!(rt; machine.apply(event), Ok(()), "{event:?}");
             }
         }

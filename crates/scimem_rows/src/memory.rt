@@ -4,27 +4,28 @@
 ghost use Rattle.std.specs.Prelude.{IfOk, length};
 ghost use Rattle.sci_history.specs.Audit.{AreWithin};
 
-use crate::orders::{ONCE, read};
 use sci_history::{Last, Logs, OrderVerdict, Verdict, audit, sequential_order};
+use sci_text::{Tap, TextFault, read_logs};
 use std::alloc::Global;
 use std::test::*;
 
-/// Each node stores to one line and then loads the other; node 1 sees the store of node 0.
+/// Each of two nodes stores to one line and then loads the other. Node 1 sees the store of node 0.
 const ORDERED: &str =
-    "0 0 store 0 0 1 = - @1\n0 1 load 1 0 = 0 @0\n1 0 store 1 0 1 = - @1\n1 1 load 0 0 = 1 @1\n";
+    "log 2 2 2\nlast 0 @1 1 0 0 0 0 0 0 0\nlast 1 @1 1 0 0 0 0 0 0 0\n0 0 store 0 0 1 = - @1\n0 1 load 1 0 = 0 @0\n1 0 store 1 0 1 = - @1\n1 1 load 0 0 = 1 @1\n";
 
 /// The same, but neither sees the other's store.
 const STALE: &str =
-    "0 0 store 0 0 1 = - @1\n0 1 load 1 0 = 0 @0\n1 0 store 1 0 1 = - @1\n1 1 load 0 0 = 0 @0\n";
+    "log 2 2 2\nlast 0 @1 1 0 0 0 0 0 0 0\nlast 1 @1 1 0 0 0 0 0 0 0\n0 0 store 0 0 1 = - @1\n0 1 load 1 0 = 0 @0\n1 0 store 1 0 1 = - @1\n1 1 load 0 0 = 0 @0\n";
 
-/// The logs of these entries. They are read again if memory is refused.
-fn logs_of(alloc: Global, entries: &str) -> Result<(Logs, Last), Fail>
+/// The logs of a text. It is read again if memory is refused.
+fn logs_of(alloc: Global, log: &str) -> Result<(Logs, Last), TextFault>
     ensures { IfOk result (λ read. AreWithin (length read.1) read.0) }
 {
-    match read(alloc, ONCE, entries) {
-        Ok(read) => Ok(read),
-        Err(_refused) => read(alloc, ONCE, entries),
-    }
+    let (_nodes, logs, last) = match read_logs(alloc, &mut Tap::new(log.as_bytes())) {
+        Ok(read) => read,
+        Err(_refused) => read_logs(alloc, &mut Tap::new(log.as_bytes()))?,
+    };
+    Ok((logs, last))
 }
 
 /// What a look for one order finds. It looks again if memory is refused.

@@ -11,10 +11,10 @@ use std::process::Abort;
 use std::test::*;
 
 /// A word of 1 on each of two lines, stored once.
-pub const ONCE: &str = "last 0 @1 1 0 0 0 0 0 0 0\nlast 1 @1 1 0 0 0 0 0 0 0\n";
+const ONCE: &str = "last 0 @1 1 0 0 0 0 0 0 0\nlast 1 @1 1 0 0 0 0 0 0 0\n";
 
 /// The logs of these last contents and entries.
-pub fn read(alloc: Global, last: &str, entries: &str) -> Result<(Logs, Last), Fail>
+fn read(alloc: Global, last: &str, entries: &str) -> Result<(Logs, Last), Fail>
     ensures { IfOk result (λ read. AreWithin (length read.1) read.0) }
 {
     let log = format!(in alloc; "log 2 4 2\n{last}{entries}")?;
