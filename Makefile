@@ -2,7 +2,7 @@
 
 NEED_RT = command -v rt > /dev/null || { echo "rt is missing: put the bin folder of a Rattle kit (rattle-kit-13b or later) on your PATH"; exit 1; }
 
-.PHONY: run test cases check fmt clean
+.PHONY: run test cases faults check fmt clean
 
 # Builds the program and runs its stored example.
 run:
@@ -10,7 +10,7 @@ run:
 	@if [ -f crates/scimem/src/main.rt ]; then cd crates/scimem && rt run -- $$(cat args) < stdin; else echo "scimem isn't built yet: there is nothing to run"; fi
 
 # The gate: every proof from nothing, the edits that must fail, and the tests; then the program that it built, on the
-# stored cases. The last line is 'N passed, M failed'.
+# stored cases; then program and tests with memory, reads and writes refused. The last line is 'N passed, M failed'.
 test:
 	@$(NEED_RT)
 	@scripts/test.sh
@@ -20,6 +20,12 @@ cases:
 	@$(NEED_RT)
 	@cd crates/scimem && rt run -- $$(cat args) < stdin > /dev/null
 	@scripts/run_cases.sh
+
+# Builds tests and the program over what earlier checks kept, and has memory, reads and writes refused. With CRATE=NAME
+# it tries that crate alone.
+faults:
+	@$(NEED_RT)
+	@scripts/try_faults.py --build $(CRATE)
 
 # Every crate, over what earlier checks kept.
 check:

@@ -1,5 +1,6 @@
 #!/bin/sh
-# The gate (rt ci), and then the program that it built on the stored cases. The last line says how much passed of both.
+# The gate (rt ci). Then the program that it built runs on the stored cases, and program and tests run with memory, reads and
+# writes refused. The last line says how much passed of all three.
 cd "$(dirname "$0")/.." || exit 2
 room=$(mktemp -d) || exit 2
 trap 'rm -rf "$room"' EXIT
@@ -10,22 +11,28 @@ count() {
     echo "${found:-0}"
 }
 
-# Ends with the count of both, and fails unless all passed.
+# Ends with the count of all, and fails unless all passed.
 finish() {
-    echo "$(($(count "$room/gate" 1) + $(count "$room/cases" 1))) passed, $1 failed"
+    echo "$(($(count "$room/gate" 1) + $(count "$room/cases" 1) + $(count "$room/faults" 1))) passed, $1 failed"
     [ "$1" -eq 0 ]
     exit
 }
 
-: > "$room/cases"
-{ rt ci; echo $? > "$room/status"; } 2>&1 | tee "$room/gate"
-if [ "$(cat "$room/status")" -ne 0 ]; then
-    failed=$(count "$room/gate" 2)
-    [ "$failed" -gt 0 ] || failed=1
-    finish "$failed"
-fi
+# Runs the script of the rest of the words, shows what it prints and keeps it in the file $1 of the room. It leaves in
+# `failed` how much failed, at least 1 if the script says that something did.
+run() {
+    name=$1
+    shift
+    { "$@"; echo $? > "$room/status"; } 2>&1 | tee "$room/$name"
+    failed=$(count "$room/$name" 2)
+    [ "$(cat "$room/status")" -eq 0 ] || [ "$failed" -gt 0 ] || failed=1
+}
 
-{ scripts/run_cases.sh; echo $? > "$room/status"; } 2>&1 | tee "$room/cases"
-failed=$(count "$room/cases" 2)
-[ "$(cat "$room/status")" -eq 0 ] || [ "$failed" -gt 0 ] || failed=1
-finish "$failed"
+: > "$room/cases"
+: > "$room/faults"
+run gate rt ci
+[ "$failed" -eq 0 ] || finish "$failed"
+run cases scripts/run_cases.sh
+cases_failed=$failed
+run faults scripts/try_faults.py
+finish $((cases_failed + failed))

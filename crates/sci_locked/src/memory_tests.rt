@@ -1,6 +1,5 @@
-//! Turns whose allocations are refused. With every allocation granted each turn is taken whole; `rt try --test
-//! --fail-alloc N` refuses the allocation of number N, and then the turn that needed it keeps what it had done, and later
-//! turns go on from there.
+//! Turns whose allocations are refused. With every allocation granted each turn is taken whole. `make faults` refuses one
+//! allocation in turn: then the turn that needed it keeps what it had done, and later turns go on from there.
 
 use crate::lent::{perform_on, submit_on};
 use crate::turn::turn_on;

@@ -1,5 +1,5 @@
-//! Commands whose allocations are refused. With every allocation granted the whole answer is written; `rt try --test
-//! --fail-alloc N` refuses the allocation of number N, and then memory is told and nothing else, or nothing at all.
+//! Commands whose allocations are refused. With every allocation granted the whole answer is written. `make faults` refuses
+//! one allocation in turn: then memory is told and nothing else, or nothing at all.
 
 use crate::audit::audit_text;
 use crate::decode::decode_bytes;
