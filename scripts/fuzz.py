@@ -2,10 +2,12 @@
 """Gives the built program hostile inputs, made by chance from a seed, and looks whether it answers as promised.
 
     scripts/fuzz.py [SEED [COUNT]]
+    scripts/fuzz.py largest
 
 An input is a good text or run of packets in which something was changed: bytes, lines, numbers, ends of lines, or the size.
 Each command reads it. The program has to end by itself, with a status from 0 to 2, and write one of the forms that
 docs/TEXTS.md has. Whatever of its output is a log is read again: it is its own upgrade, and lawful unless the input was a log.
+With `largest` each command reads inputs of the greatest length, and of one byte more, that repeat one thing.
 The last line is 'N passed, M failed', of runs.
 """
 
@@ -26,6 +28,24 @@ PIECES = (b"\0", b"\r", b"\r\n", b"\n", b"\n\n", b" ", b"  ", b"\t", b"\xef\xbb\
 OPERATIONS = ("load", "store", "fetch-add", "mask-swap", "compare-swap", "bounded-add", "wrap-add")
 OPERANDS = {"load": 0, "store": 1, "fetch-add": 1}
 KINDS = ("mread", "fread", "cread", "claim", "clear", "purge", "roll", "wback", "setback")
+
+MREAD = bytes.fromhex("0000000100010000000000000000ffff")
+MREAD_LINE = b"mread to 0 from 1 control 0 line 0\n"
+
+MOST_BYTES = 134_217_728
+LAST = b"last 0 @0 0 0 0 0 0 0 0 0\n"
+# What each of the largest inputs begins with, and what it then repeats.
+LARGEST = {
+    "zero bytes": (b"", b"\0"),
+    "line feeds": (b"", b"\n"),
+    "one number": (b"machine 1 1 1\np 0 store 0 0 ", b"9"),
+    "spaces": (b"machine 1 1 1", b" "),
+    "operations": (b"machine 1 1 1\n", b"p 0 load 0 0\n"),
+    "events": (b"machine 1 1 1\n", b"reply 0\n"),
+    "last contents": (b"log 2 1 64\n", LAST),
+    "entries": (b"log 2 1 1\n" + LAST, b"0 0 load 0 0 = 0 @0\n"),
+    "packets": (b"", MREAD),
+}
 
 REFUSED = {
     "text": re.compile(rb"refused at line [0-9]+: (syntax|range|too-many)\n"),
@@ -151,6 +171,24 @@ def is_promised(command, given, status, output):
     return status == 0 and bool(LOG.fullmatch(output)) and log_is_kept(command, output)
 
 
+def largest_failures():
+    """What goes wrong with the largest inputs: for each run a text, or None."""
+    for name, (front, unit) in LARGEST.items():
+        whole = front + unit * (MOST_BYTES // len(unit) + 1)
+        for size in (MOST_BYTES, MOST_BYTES + 1):
+            given = whole[:size]
+            for command in COMMANDS:
+                status, output = ran(command, given)
+                place = b"byte" if command == "decode" else b"line"
+                if size > MOST_BYTES:
+                    well = (status, output) == (2, b"refused at %s 0: too-many\n" % place)
+                elif (name, command) == ("packets", "decode"):
+                    well = (status, output) == (0, MREAD_LINE * (size // len(MREAD)))
+                else:
+                    well = is_promised(command, given, status, output)
+                yield None if well else f"{size:,} bytes of {name}: {command}, status {status}, output {output[:200]!r}"
+
+
 def failure(number):
     """What goes wrong with the input of this number, or None; and the status of the run."""
     chance = random.Random(number)
@@ -164,7 +202,16 @@ def failure(number):
     return f"input {number}: {command}, status {status}, output {output[:200]!r}" if wrong else None, command, status
 
 
+def tell(count, failures):
+    """Prints what went wrong, and how much passed. The answer is the exit status."""
+    print("\n".join([*failures[:20], f"{count - len(failures)} passed, {len(failures)} failed"]))
+    return 1 if failures else 0
+
+
 def main(words):
+    if words == ["largest"]:
+        found = list(largest_failures())
+        return tell(len(found), [it for it in found if it])
     seed = int(words[0]) if words else 1
     count = int(words[1]) if len(words) > 1 else 10_000
     statuses, failures = {}, []
@@ -175,8 +222,7 @@ def main(words):
                 failures.append(wrong)
     for (command, status), runs in sorted(statuses.items(), key=str):
         print(f"{command}: status {status}, {runs} inputs")
-    print("\n".join([*failures[:20], f"{count - len(failures)} passed, {len(failures)} failed"]))
-    return 1 if failures else 0
+    return tell(count, failures)
 
 
 if __name__ == "__main__":

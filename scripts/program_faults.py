@@ -14,7 +14,11 @@ from fault_runs import Ran, Trial
 # A run of the program: a name, the words of its command line, its input, and what it has to write.
 Case = namedtuple("Case", "name words given status output errors")
 
-USAGE = b"usage: scimem oracle | replay | audit | decode | upgrade\n"
+TOP = os.path.dirname(os.path.dirname(os.path.abspath(__file__)))
+
+# What the program writes on standard error if the words of its command line choose no command.
+with open(f"{TOP}/cases/no-word/errors", "rb") as file:
+    USAGE = file.read()
 
 
 def refusal(case, kind):
