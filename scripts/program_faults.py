@@ -11,6 +11,9 @@ from errno import EAGAIN, EINTR, EIO, ENOSPC, EPIPE
 
 from fault_runs import Ran, Trial
 
+# Words that choose no command.
+ODD_WORDS = ([b"\xff"], [b""], [b"oracle", b"\xff"], [b"oracle\n"], [b"\xef\xbb\xbforacle"], [b"oracle"] * 100_000, [b"o" * 130_000])
+
 # A run of the program: a name, the words of its command line, its input, and what it has to write.
 Case = namedtuple("Case", "name words given status output errors")
 
@@ -161,13 +164,15 @@ def input_devices(program, case):
     folder = os.open("/", os.O_RDONLY)
     yield "a folder", with_files(program, case, stdin=folder)
     os.close(folder)
+    reader, writer = os.pipe()
+    os.set_blocking(reader, False)
+    yield "an empty pipe that never waits", with_files(program, case, stdin=reader)
+    os.close(reader)
+    os.close(writer)
 
 
-def output_devices(faults, program, case):
-    """Standard outputs that can't be written: what each is, and a run with it."""
-    path = f"{faults.room}/given"
-    with open(path, "wb") as file:
-        file.write(case.given)
+def output_devices(program, case, path):
+    """Standard outputs that can't be written: what each is, and a run with it, whose input is the file."""
     with open(path, "rb") as file, open("/dev/full", "wb") as full:
         yield "/dev/full", with_files(program, case, stdin=file, stdout=full)
     with open(path, "rb") as file:
@@ -179,6 +184,17 @@ def output_devices(faults, program, case):
     with open(path, "rb") as file:
         yield "a pipe without a reader", with_files(program, case, stdin=file, stdout=writer)
     os.close(writer)
+
+
+def full_pipe(program, case, path):
+    """A run into a pipe that never waits, and that nobody reads until the run has ended. Its input is the file."""
+    reader, writer = os.pipe()
+    os.set_blocking(writer, False)
+    with open(path, "rb") as file:
+        ran = with_files(program, case, stdin=file, stdout=writer)
+    os.close(writer)
+    with os.fdopen(reader, "rb") as taken:
+        return ran._replace(output=taken.read())
 
 
 def reader_that_leaves(program, case):
@@ -209,11 +225,15 @@ def halting_writer(program, case):
 def try_devices(faults, program, case):
     """Real devices that fail, with no library between."""
     trial = Trial(f"devices of {case.words[0]}")
+    path = f"{faults.room}/{case.words[0]}"
+    with open(path, "wb") as file:
+        file.write(case.given)
     runs = [(what, ran, refusal(case, b"read")) for what, ran in input_devices(program, case)]
-    runs += [(what, ran, b"") for what, ran in output_devices(faults, program, case)]
+    runs += [(what, ran, b"") for what, ran in output_devices(program, case, path)]
     # (a pipe holds 65,536 bytes, so that a writer of more than a megabyte is still writing)
     if len(case.output) > 1 << 20:
         runs.append(("a reader that leaves", reader_that_leaves(program, case), case.output[:10]))
+        runs.append(("a full pipe", full_pipe(program, case, path), case.output[: 1 << 16]))
     for what, ran, output in runs:
         trial.count(True)
         if ran[:3] != (2, output, b""):
@@ -221,6 +241,13 @@ def try_devices(faults, program, case):
     trial.count(True)
     ran = halting_writer(program, case)
     return trial if is_whole(ran, case) else trial.fail("a stopped run", ran)
+
+
+def try_words(faults, program, words):
+    """A command line that chooses no command: the usage line, status 2, and nothing is read."""
+    trial = Trial(f"{len(words)} words {words[0][:20]!r}")
+    ran = faults.run([program, *words])
+    return trial if ran[:3] == (2, b"", USAGE) else trial.fail("odd words", ran)
 
 
 def tell(what, trials):
@@ -246,4 +273,7 @@ def try_program(faults):
     largest = list(larger_cases(faults, program, 16_384))
     space += [try_space(faults, program, it, least, 64) for it in largest]
     trials += tell(f"runs refused for want of address space, from {least} KB on", space)
-    return trials + tell("devices that fail", each(try_devices, largest))
+    trials += tell("devices that fail", each(try_devices, largest))
+    odd = [try_words(faults, program, it) for it in ODD_WORDS]
+    print(f"scimem: {len(odd)} command lines that choose no command", flush=True)
+    return trials + odd
