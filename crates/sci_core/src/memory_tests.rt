@@ -56,7 +56,9 @@ fn memory_for_a_node(rt: HostRuntime) -> Result<(), Fail> {
     let extent = Extent::new(1, 2, 1).ok_or("an extent")?;
     let mut node = match Node::new(rt.alloc(), 0, extent, 1) {
         Ok(node) => node,
-        Err(_) => Node::new(rt.alloc(), 0, extent, 1).ok().ok_or("refused twice")?,
+        Err(_) => Node::new(rt.alloc(), 0, extent, 1)
+            .ok()
+            .ok_or("refused twice")?,
     };
     assert_eq!(rt; node.issue(entry().op), Some(0));
     let copy = match node.try_clone(rt.alloc()) {

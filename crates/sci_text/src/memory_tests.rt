@@ -15,7 +15,8 @@ const SCRIPT: &[u8] = b"machine 2 1 1\n\
 const SCHEDULE: &[u8] =
     b"machine 2 1 1\nissue 0 store 0 0 7\nask 0 0 mread\nserve 0 0\nreply 0\naccept 0 0\nperform 0 0\n";
 
-const LOG: &[u8] = b"log 2 2 1\nlast 0 @1 7 0 0 0 0 0 0 0\n0 0 store 0 0 7 = - @1\n1 0 load 0 0 = 7 @1\n";
+const LOG: &[u8] =
+    b"log 2 2 1\nlast 0 @1 7 0 0 0 0 0 0 0\n0 0 store 0 0 7 = - @1\n1 0 load 0 0 = 7 @1\n";
 
 /// What a call says whose allocation was refused.
 const MEMORY: TextFault = TextFault {
