@@ -5,8 +5,10 @@
     scripts/fuzz.py largest
 
 An input is a good text or run of packets in which something was changed: bytes, lines, numbers, ends of lines, or the size.
-Each command reads it. The program has to end by itself, with a status from 0 to 2, and write one of the forms that
-docs/TEXTS.md has. Whatever of its output is a log is read again: it is its own upgrade, and lawful unless the input was a log.
+A text's answer has to be the one that scripts/plain_answers.py works out. What a schedule or packets give has to have one of
+the forms that docs/TEXTS.md and README.md have. Whatever of the output is a log is read again: it is its own upgrade, and
+lawful unless the input was a log. The program has to end by itself.
+
 With `largest` each command reads inputs of the greatest length, and of one byte more, that repeat one thing.
 The last line is 'N passed, M failed', of runs.
 """
@@ -17,6 +19,8 @@ import re
 import subprocess
 import sys
 from concurrent.futures import ThreadPoolExecutor
+
+import plain_answers
 
 TOP = os.path.dirname(os.path.dirname(os.path.abspath(__file__)))
 PROGRAM = f"{TOP}/crates/scimem/out/scimem"
@@ -33,6 +37,8 @@ MREAD = bytes.fromhex("0000000100010000000000000000ffff")
 MREAD_LINE = b"mread to 0 from 1 control 0 line 0\n"
 
 MOST_BYTES = 134_217_728
+# Above this many bytes an answer isn't worked out anew.
+MOST_PLAIN = 2_000_000
 LAST = b"last 0 @0 0 0 0 0 0 0 0 0\n"
 # What each of the largest inputs begins with, and what it then repeats.
 LARGEST = {
@@ -111,21 +117,31 @@ def good(chance, command):
     return "".join(it + "\n" for it in make(chance, chance.randint(1, 16), chance.choice((1, 2, 3, 64)))).encode()
 
 
+def line_length(given, at):
+    """How long the line is that has this place."""
+    end = given.find(b"\n", at)
+    return (end if end >= 0 else len(given)) - given.rfind(b"\n", 0, at) - 1
+
+
 def changed(chance, given):
     """The input with one thing changed."""
     at = chance.randrange(len(given) + 1)
     number = str(chance.choice(NUMBERS)).encode()
-    how = chance.randrange(10)
+    how = chance.randrange(13)
     if how == 0:
         return given[:at] + chance.choice(PIECES) + given[at:]
     if how == 1:
         return given[:at] + bytes([chance.randrange(256)]) + given[at + 1 :]
     if how == 2:
         return given[:at] + given[at + chance.randrange(1, 9) :]
-    if how == 3:
+    if how in (3, 10, 11, 12):
         found = list(re.finditer(rb"[0-9]+", given))
-        place = chance.choice(found).span() if found else (at, at)
-        return given[: place[0]] + number + given[place[1] :]
+        start, end = chance.choice(found).span() if found else (at, at)
+        if how == 10:
+            number = b"9" * max(0, chance.choice((255, 256, 257)) - line_length(given, start) + end - start)
+        elif how > 10 and start < end:
+            number = b"%d" % max(0, int(given[start:end][:40]) + chance.choice((-1, 1)))
+        return given[:start] + number + given[end:]
     if how == 4:
         return given[:at]
     if how == 5:
@@ -158,7 +174,10 @@ def log_is_kept(command, output):
 
 
 def is_promised(command, given, status, output):
-    """Whether an answer has one of the promised forms."""
+    """Whether an answer is the one that scripts/plain_answers.py works out, or else has one of the promised forms."""
+    wanted = None if command == "decode" or len(given) > MOST_PLAIN else plain_answers.answer(command, given)
+    if wanted:
+        return (status, output) == wanted
     if command == "decode":
         refusal = REFUSED["packets"].search(output) if status == 2 else None
         front = output[: refusal.start()] if refusal else output
