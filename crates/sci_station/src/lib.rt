@@ -5,7 +5,13 @@ mod budget;
 mod fabric;
 #[cfg(test)]
 mod finish_tests;
+#[cfg(test)]
+mod order_tests;
+#[cfg(test)]
+mod random;
 mod receiving;
+#[cfg(test)]
+mod running;
 mod sending;
 mod station;
 #[cfg(test)]

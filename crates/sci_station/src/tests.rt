@@ -3,7 +3,8 @@ ghost use Rattle.sci_words.specs.declared.limits.TheConstants.{MAX_OPERATIONS};
 
 use crate::{Fabric, Station};
 use sci_history::Entry;
-use sci_words::{Act, Extent, Op, Reply};
+use sci_policy::SubmitFault;
+use sci_words::{Act, Extent, LockOp, Op, Reply};
 use std::test::*;
 use std::thread;
 
@@ -152,43 +153,52 @@ fn a_station_moves_into_a_thread(rt: HostRuntime) -> Result<(), Fail> {
     holds(first.me() == 0, "the number of the station that stays")
 }
 
-/// A go of a node: it submits the next operation of its script if none is pending, performs what it can, and takes a turn.
-fn go(station: &mut Station, script: &[Op], next: usize) -> usize {
-    let submitted = match script.get(next) {
-        Some(op) => station.submit(*op).is_ok(),
-        None => false,
-    };
-    station.perform(0);
-    station.turn();
-    if submitted {
-        next.saturating_add(1)
-    } else {
-        next
+/// An error unless a station refuses an operation for this.
+fn refuses(station: &mut Station, op: Op, fault: SubmitFault) -> Result<(), Fail> {
+    match station.submit(op) {
+        Err(found) if found == fault => Ok(()),
+        found => Err(Fail::new(format_args!("{found:?}"))),
     }
 }
 
-/// A load and a store of one node, and a load of another, end in an order of goes that once went round for ever.
-#[test]
-fn an_order_ends(rt: HostRuntime) -> Result<(), Fail> {
-    let extent = Extent::new(2, 1, 1).ok_or("an extent")?;
-    let (mut first, mut second) = two(&rt, extent, 2)?;
-    let firsts = [op(0, Act::Load), op(0, Act::Store(7))];
-    let seconds = [op(0, Act::Load)];
-    let (mut one, mut two) = (0, 0);
-    for node in [0, 0, 0, 0, 1, 0, 1] {
-        if node == 0 {
-            one = go(&mut first, &firsts, one);
-        } else {
-            two = go(&mut second, &seconds, two);
+/// A station submits an operation on line 0, which gets this serial, and performs it within four turns.
+fn does(station: &mut Station, op: Op, serial: u32) -> Result<(), Fail> {
+    holds(station.submit(op) == Ok(serial), "the serial")?;
+    for _turn in 0..4 {
+        if let Some(entry) = station.perform(0) {
+            return holds(entry.serial == serial, "the serial of the entry");
         }
+        station.turn();
     }
-    for _round in 0..1000 {
-        one = go(&mut first, &firsts, one);
-        one = go(&mut first, &firsts, one);
-        two = go(&mut second, &seconds, two);
+    Err(Fail::from("not performed"))
+}
+
+/// The causes for which a station refuses an operation, each with nothing changed: what is submitted next gets the next
+/// serial, and the log has no entry more.
+#[test]
+fn station_refusals(rt: HostRuntime) -> Result<(), Fail> {
+    let extent = Extent::new(1, 64, 8).ok_or("an extent")?;
+    let (_fabric, mut stations) = Fabric::new(rt.alloc(), extent, 65_536)?;
+    let mut station = stations.pop().ok_or("no station")?;
+    let load = op(0, Act::Load);
+    refuses(&mut station, op(64, Act::Load), SubmitFault::NoSuchLine)?;
+    refuses(
+        &mut station,
+        Op { word: 8, ..load },
+        SubmitFault::NoSuchWord,
+    )?;
+    does(&mut station, load, 0)?;
+    holds(station.submit(load) == Ok(1), "the second serial")?;
+    refuses(&mut station, load, SubmitFault::LineTaken)?;
+    holds(station.log().len() == 1, "one entry")?;
+    holds(station.perform(0).is_some(), "the pending load")?;
+    let add = op(0, Act::Lock(LockOp::FetchAdd { datum: 1 }));
+    for serial in 2..65_536 {
+        does(&mut station, add, serial)?;
     }
-    holds(first.log().len() == 2, "the log of node 0")?;
-    holds(second.log().len() == 1, "the log of node 1")
+    refuses(&mut station, load, SubmitFault::LogFull)?;
+    refuses(&mut station, op(1, Act::Load), SubmitFault::LogFull)?;
+    holds(station.log().len() == 65_536, "as many entries")
 }
 
 /// A turn that finds nothing looks once at the cell whose turn it is in each lane to the node, and makes no other step.

@@ -2,7 +2,7 @@ use Rattle.std.proofs.Common.{map, sym, subst}
 use Rattle.sci_lanes.specs.Ends.{LanesOf}
 use Rattle.sci_lanes.specs.Gathering.{AreOf}
 use Rattle.sci_station.specs.Station.{end_in}
-use Rattle.sci_station.proofs.finish_tests.Running.finish.Goals as goal
+use Rattle.sci_station.proofs.running.Running.finish.Goals as goal
 
 pub invariant_of-result : goal.invariant_of-result
 invariant_of-result c =

@@ -2,7 +2,7 @@ use Rattle.std.proofs.Common.{map, sym, subst, arith}
 use Rattle.sci_lanes.specs.Gathering.{AreOf}
 use Rattle.sci_station.specs.Station.{end_in}
 use Rattle.sci_station.proofs.Belonging.{of_swapped}
-use Rattle.sci_station.proofs.finish_tests.Running.swap.Goals as goal
+use Rattle.sci_station.proofs.running.Running.swap.Goals as goal
 
 pub invariant_of-self : goal.invariant_of-self
 invariant_of-self c =

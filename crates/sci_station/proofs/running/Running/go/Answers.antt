@@ -1,7 +1,7 @@
 use Rattle.std.proofs.Common.{arith, set}
 use Rattle.std.proofs.lemmas.List.{length-set}
 use Rattle.sci_station.proofs.Belonging.{of_at, of_put, same_of}
-use Rattle.sci_station.proofs.finish_tests.Running.go.Goals as goal
+use Rattle.sci_station.proofs.running.Running.go.Goals as goal
 
 pub invariant_of-self : goal.invariant_of-self
 invariant_of-self c =

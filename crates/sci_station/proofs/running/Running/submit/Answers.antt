@@ -1,6 +1,6 @@
 use Rattle.std.proofs.Common.{arith}
 use Rattle.sci_station.proofs.Belonging.{of_at, of_put, same_of}
-use Rattle.sci_station.proofs.finish_tests.Running.submit.Goals as goal
+use Rattle.sci_station.proofs.running.Running.submit.Goals as goal
 
 pub invariant_of-self : goal.invariant_of-self
 invariant_of-self c =
