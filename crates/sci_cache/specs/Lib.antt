@@ -5,5 +5,7 @@ pub mod Accepting
 pub mod Performing
 pub mod Held
 pub mod Line
+pub mod LineSet
 pub mod Cache
+pub mod Entries
 pub mod Member

@@ -5,6 +5,7 @@ ghost use Rattle.std.specs.Prelude.{◌≡◌, ◌+◌, ◌<◌, true, false, co
 use crate::fault::{AskFault, NotAwaited};
 use crate::held::Held;
 use crate::line::CachedLine;
+use crate::line_set::LineSet;
 use sci_packets::{NodeId, Packet};
 use sci_words::{AskKind, Extent, Op, Reply};
 use std::alloc::{AllocError, Global};
@@ -19,17 +20,20 @@ pub struct Cache {
     lines: Vec<CachedLine>,
     /// How many lines have an entry: each takes a version slot.
     taken: usize,
+    /// The lines that have an entry.
+    entries: LineSet,
 }
 
 impl Model for Cache {
     ghost use Rattle.std.specs.Prelude.{◌≡◌};
-    ghost use Rattle.sci_cache.specs.Cache.{CacheOf, slots_taken};
+    ghost use Rattle.sci_cache.specs.Cache.{CacheOf};
+    ghost use Rattle.sci_cache.specs.Entries.{HasEntries};
 
     ghost Value = { CacheOf };
 
     ghost view = { λ cache. record { me = cache.me; nodes = cache.extent.nodes; slots = cache.extent.slots; lines = cache.lines.items } };
 
-    ghost invariant = { λ cache. cache.taken ≡ slots_taken cache.lines.items };
+    ghost invariant = { λ cache. HasEntries cache.taken cache.entries cache.lines.items };
 }
 
 /// The identifier of a node by its number.
@@ -53,11 +57,13 @@ fn taken_after(taken: usize, was_out: bool, is_out: bool) -> usize
 }
 
 impl Cache {
-    ghost use Rattle.std.specs.Prelude.{◌≡◌, ◌<◌, ◌%◌, Some, None, Ok, Err, IfOk, IfErr, IfSome, IsErr, IsOk, length, replicate};
-    ghost use Rattle.sci_words.specs.declared.limits.TheConstants.{WORDS_PER_LINE};
+    ghost use Rattle.std.specs.Prelude.{◌≡◌, ◌<◌, ◌≤◌, ◌%◌, ℕ, true, Some, None, Ok, Err, IfOk, IfErr, IfSome, IsErr, IsOk, length, replicate};
+    ghost use Rattle.sci_words.specs.declared.limits.TheConstants.{MAX_LINES, WORDS_PER_LINE};
     ghost use Rattle.sci_cache.specs.Serving.{IsForCache};
     ghost use Rattle.sci_cache.specs.Line.{untouched};
     ghost use Rattle.sci_cache.specs.Held.{state_of};
+    ghost use Rattle.sci_cache.specs.State.{is_out};
+    ghost use Rattle.sci_cache.specs.LineSet.{IsBefore};
     ghost use Rattle.sci_cache.specs.Cache.{CacheOf, line_of, has_slot, letter_of, slots_taken, cache_asking, cache_serving, cache_accepting, cache_performing};
 
     /// The cache of node `me` in a machine of this size, with no entry for any line. The caller sees to it that
@@ -81,6 +87,7 @@ impl Cache {
             extent,
             lines,
             taken: 0,
+            entries: LineSet::new(),
         })
     }
 
@@ -97,6 +104,7 @@ impl Cache {
             extent: self.extent,
             lines,
             taken: self.taken,
+            entries: self.entries.copy(),
         })
     }
 
@@ -129,6 +137,22 @@ impl Cache {
         ensures { result ≡ slots_taken self.now.lines }
     {
         self.taken
+    }
+
+    /// The least line from a line on that has an entry, or None if there is none.
+    pub fn next_entry(&self, from: u8) -> Option<u8>
+        ensures order { IfSome result (λ line. from ≤ line) }
+        ensures here { IfSome result (λ line. line < length self.now.lines) }
+        ensures small { IfSome result (λ line. line < MAX_LINES) }
+        ensures between { (line : ℕ) → from ≤ line → IsBefore line result →
+            is_out (line_of self.now line).state ≡ true }
+    {
+        let line = self.entries.next_from(from)?;
+        if usize::from(line) < self.lines.len() {
+            Some(line)
+        } else {
+            None
+        }
     }
 
     /// The node that has the home of a line.
@@ -203,6 +227,7 @@ impl Cache {
         let was_out = part.is_out();
         part.ask(kind);
         self.taken = taken_after(self.taken, was_out, part.is_out());
+        self.entries.put(line, !part.is_out());
     }
 
     /// Serves a Cread, Purge, Roll or Setback about a line, and gives the answer, which goes back to the
@@ -222,6 +247,7 @@ impl Cache {
         let was_out = part.is_out();
         let answer = part.serve(request.source, &request.body);
         self.taken = taken_after(self.taken, was_out, part.is_out());
+        self.entries.put(request.line as u8, !part.is_out());
         request.answer(answer)
     }
 
@@ -241,6 +267,7 @@ impl Cache {
         let was_out = part.is_out();
         part.accept(answer.control, &answer.body)?;
         self.taken = taken_after(self.taken, was_out, part.is_out());
+        self.entries.put(answer.line as u8, !part.is_out());
         Ok(())
     }
 

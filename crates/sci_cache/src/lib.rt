@@ -9,6 +9,7 @@ mod fault;
 mod held;
 pub mod laws;
 mod line;
+mod line_set;
 mod may_perform;
 mod perform;
 mod serve;
@@ -17,6 +18,7 @@ mod states;
 pub use cache::Cache;
 pub use fault::{AskFault, NotAwaited};
 pub use held::Held;
+pub use line_set::LineSet;
 pub use states::{
     Asking, Below, Claiming, Clearing, Fading, FreshHead, FreshJoining, HeadState, Joining,
     OutState, Purging, Returning, Rolling, Telling,

@@ -1,4 +1,5 @@
 pub mod Node
+pub mod PendingSet
 pub mod Inside
 pub mod Taking
 pub mod Core

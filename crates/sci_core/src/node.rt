@@ -3,7 +3,7 @@
 ghost use Rattle.std.specs.Prelude.{◌≡◌, true};
 ghost use Rattle.sci_words.specs.Operation.{has_words};
 
-use crate::pending::Pending;
+use crate::pending::{Pending, PendingOps};
 use crate::taking::Taking;
 use sci_cache::{Cache, Held};
 use sci_history::Entry;
@@ -22,7 +22,7 @@ pub struct Node {
     limit: u32,
     cache: Cache,
     homes: Vec<Home>,
-    pending: Vec<Option<Pending>>,
+    pending: PendingOps,
     issued: u32,
     log: Vec<Entry>,
     waiting: Option<Packet>,
@@ -36,9 +36,9 @@ impl Model for Node {
 
     ghost Value = { NodeOf };
 
-    ghost view = { λ node. record { cache = node.cache; homes = node.homes.items; pending = node.pending.items; issued = node.issued; limit = node.limit; log = node.log.items; waiting = option_map letter_of node.waiting } };
+    ghost view = { λ node. record { cache = node.cache; homes = node.homes.items; pending = node.pending; issued = node.issued; limit = node.limit; log = node.log.items; waiting = option_map letter_of node.waiting } };
 
-    ghost invariant = { λ node. FitsInside node.me node.extent node.cache (vec_capacity node.log) node.limit × IsNode (record { cache = node.cache; homes = node.homes.items; pending = node.pending.items; issued = node.issued; limit = node.limit; log = node.log.items; waiting = option_map letter_of node.waiting }) };
+    ghost invariant = { λ node. FitsInside node.me node.extent node.cache (vec_capacity node.log) node.limit × IsNode (record { cache = node.cache; homes = node.homes.items; pending = node.pending; issued = node.issued; limit = node.limit; log = node.log.items; waiting = option_map letter_of node.waiting }) };
 }
 
 /// Reads the operands of an operation, which tells the prover that they are words.
@@ -71,12 +71,14 @@ fn read_words(act: Act)
 }
 
 impl Node {
-    ghost use Rattle.std.specs.Prelude.{◌≡◌, ◌≢◌, ◌<◌, ◌≤◌, ◌%◌, length, Some, None, Ok, Err, true, false, IfOk, IfSome, IsErr, IsSome, MatchOption, MatchBool, is_some, IsTrue, option_map, option_copied};
-    ghost use Rattle.sci_words.specs.declared.limits.TheConstants.{MAX_OPERATIONS};
+    ghost use Rattle.std.specs.Prelude.{◌≡◌, ◌≢◌, ◌<◌, ◌≤◌, ◌%◌, ℕ, length, Some, None, Ok, Err, true, false, IfOk, IfSome, IsErr, IsSome, MatchOption, MatchBool, is_some, IsTrue, option_map, option_copied};
+    ghost use Rattle.sci_words.specs.declared.limits.TheConstants.{MAX_LINES, MAX_OPERATIONS};
     ghost use Rattle.sci_core.specs.Size.{size_of};
     ghost use Rattle.sci_core.specs.Taking.{IsTakable, node_taking};
     ghost use Rattle.sci_home.specs.Serving.{is_for_home, IsForHome};
     ghost use Rattle.sci_cache.specs.Held.{state_of};
+    ghost use Rattle.sci_cache.specs.LineSet.{IsBefore};
+    ghost use Rattle.sci_cache.specs.State.{is_out};
     ghost use Rattle.sci_cache.specs.Cache.{has_slot, letter_of, line_of};
     ghost use Rattle.sci_core.specs.Node.{IsAtRest, NodeOf, opening_node, lines_of, home_of, pending_on, IsForNode, IsServable, node_issuing, node_performing, node_asking, node_serving, node_refusing, node_replying, node_accepting, may_issue as may_issue_of, serving_at_home, serving_in_cache, answering};
 
@@ -94,10 +96,7 @@ impl Node {
         for _place in 0..homes_here {
             homes.push(Home::new())?;
         }
-        let mut pending = Vec::with_capacity(alloc, usize::from(extent.lines))?;
-        for _line in 0..extent.lines {
-            pending.push(None)?;
-        }
+        let pending = PendingOps::new(alloc, extent.lines)?;
         let log = Vec::with_capacity(alloc, limit as usize)?;
         let cache = Cache::new(alloc, me, extent)?;
         Ok(Node {
@@ -121,8 +120,7 @@ impl Node {
         for home in &self.homes {
             homes.push(home.copy())?;
         }
-        let mut pending = Vec::with_capacity(alloc, self.pending.len())?;
-        pending.extend_from_slice(&self.pending)?;
+        let pending = self.pending.try_clone(alloc)?;
         let mut log = Vec::with_capacity(alloc, self.limit as usize)?;
         log.extend_from_slice(&self.log)?;
         let cache = self.cache.try_clone(alloc)?;
@@ -162,7 +160,7 @@ impl Node {
             return None;
         }
         let serial = self.issued;
-        self.pending[usize::from(op.line)] = Some(Pending { serial, op });
+        self.pending.put(op.line, Some(Pending { serial, op }));
         self.issued += 1;
         Some(serial)
     }
@@ -177,7 +175,7 @@ impl Node {
         read_words(op.act);
         op.line < self.extent.lines
             && usize::from(op.word) < WORDS_PER_LINE
-            && self.pending[usize::from(op.line)].is_none()
+            && self.pending.get(op.line).is_none()
             && self.issued < self.limit
     }
 
@@ -198,7 +196,7 @@ impl Node {
             reply,
             version,
         };
-        self.pending[usize::from(line)] = None;
+        self.pending.put(line, None);
         match self.log.push(entry) {
             Ok(()) => Some(entry),
             Err(_) => unreachable!(),
@@ -389,10 +387,29 @@ impl Node {
     pub fn pending(&self, line: u8) -> Option<Pending>
         ensures { result ≡ pending_on self.now line }
     {
-        match self.pending.get(usize::from(line)) {
-            Some(pending) => *pending,
-            None => None,
-        }
+        self.pending.get(line)
+    }
+
+    /// The least line from a line on that has an entry, or None if there is none. It looks at no other line.
+    pub fn next_entry(&self, from: u8) -> Option<u8>
+        ensures order { IfSome result (λ line. from ≤ line) }
+        ensures here { IfSome result (λ line. line < lines_of self.now) }
+        ensures small { IfSome result (λ line. line < MAX_LINES) }
+        ensures between { (line : ℕ) → from ≤ line → IsBefore line result →
+            is_out (line_of self.now.cache line).state ≡ true }
+    {
+        self.cache.next_entry(from)
+    }
+
+    /// The least line from a line on with an operation pending, or None if there is none. It looks at no other line.
+    pub fn next_pending(&self, from: u8) -> Option<u8>
+        ensures order { IfSome result (λ line. from ≤ line) }
+        ensures here { IfSome result (λ line. line < lines_of self.now) }
+        ensures small { IfSome result (λ line. line < MAX_LINES) }
+        ensures between { (line : ℕ) → from ≤ line → IsBefore line result →
+            pending_on self.now line ≡ None }
+    {
+        self.pending.next_from(from)
     }
 
     /// The answer that waits to be sent, if one does.

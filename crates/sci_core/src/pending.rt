@@ -1,6 +1,9 @@
 //! Operations that are issued and not yet performed.
 
+use sci_cache::LineSet;
 use sci_words::Op;
+use std::alloc::{AllocError, Global};
+use std::marker::Model;
 
 /// An operation that a node has issued and not yet performed.
 #[derive(Clone, Copy, Debug, PartialEq, Eq)]
@@ -9,4 +12,92 @@ pub struct Pending {
     pub serial: u32,
     /// The operation.
     pub op: Op,
+}
+
+/// For each line the operation that is pending on it, if one is. Contracts see it as a list.
+#[derive(Drop)]
+pub(crate) struct PendingOps {
+    ops: Vec<Option<Pending>>,
+    /// The lines on which one is.
+    lines: LineSet,
+}
+
+impl Model for PendingOps {
+    ghost use Rattle.std.specs.Prelude.{List, Option};
+    ghost use Rattle.sci_core.specs.declared.pending.Pending.{Pending};
+    ghost use Rattle.sci_core.specs.PendingSet.{IsPendingSet};
+
+    ghost Value = { List (Option Pending) };
+
+    ghost view = { λ pending. pending.ops.items };
+
+    ghost invariant = { λ pending. IsPendingSet pending.lines pending.ops.items };
+}
+
+impl PendingOps {
+    ghost use Rattle.std.specs.Prelude.{◌≡◌, ◌<◌, ◌≤◌, ℕ, None, IfOk, IfSome, length, replicate, slice_index_or, slice_set};
+    ghost use Rattle.sci_words.specs.declared.limits.TheConstants.{MAX_LINES};
+    ghost use Rattle.sci_cache.specs.LineSet.{IsBefore};
+
+    /// Of so many lines, none of which has an operation pending. Refused if memory is.
+    pub(crate) fn new(alloc: Global, lines: u8) -> Result<PendingOps, AllocError>
+        requires { lines ≤ MAX_LINES }
+        ensures { IfOk result (λ pending. pending ≡ replicate lines None) }
+    {
+        let mut ops = Vec::with_capacity(alloc, usize::from(lines))?;
+        for _line in 0..lines {
+            ops.push(None)?;
+        }
+        Ok(PendingOps {
+            ops,
+            lines: LineSet::new(),
+        })
+    }
+
+    /// A copy. Refused if memory is.
+    pub(crate) fn try_clone(&self, alloc: Global) -> Result<PendingOps, AllocError>
+        ensures { IfOk result (λ pending. pending ≡ self.now) }
+    {
+        let mut ops = Vec::with_capacity(alloc, self.ops.len())?;
+        ops.extend_from_slice(&self.ops)?;
+        Ok(PendingOps {
+            ops,
+            lines: self.lines.copy(),
+        })
+    }
+
+    /// The operation that is pending on a line, or None if there is none.
+    pub(crate) fn get(&self, line: u8) -> Option<Pending>
+        ensures { result ≡ slice_index_or self.now line None }
+    {
+        match self.ops.get(usize::from(line)) {
+            Some(pending) => *pending,
+            None => None,
+        }
+    }
+
+    /// Makes an operation pending on a line, or none. The caller sees to it that there is such a line.
+    pub(crate) fn put(&mut self, line: u8, pending: Option<Pending>)
+        requires { line < length self.old }
+        ensures { self.new ≡ slice_set self.old line pending }
+    {
+        self.ops[usize::from(line)] = pending;
+        self.lines.put(line, pending.is_some());
+    }
+
+    /// The least line from a line on with an operation pending, or None if there is none.
+    pub(crate) fn next_from(&self, from: u8) -> Option<u8>
+        ensures order { IfSome result (λ line. from ≤ line) }
+        ensures here { IfSome result (λ line. line < length self.now) }
+        ensures small { IfSome result (λ line. line < MAX_LINES) }
+        ensures between { (line : ℕ) → from ≤ line → IsBefore line result →
+            slice_index_or self.now line None ≡ None }
+    {
+        let line = self.lines.next_from(from)?;
+        if usize::from(line) < self.ops.len() {
+            Some(line)
+        } else {
+            None
+        }
+    }
 }

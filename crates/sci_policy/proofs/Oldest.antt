@@ -1,5 +1,5 @@
 -- The oldest of the operations of some lines.
-use Rattle.std.proofs.Common.{◌≡◌, ℕ, ◌+◌, nat_lt, ◌&&◌, Bool, true, false, if◌then◌else◌, cond, List, [], ◌∷◌, ◌++◌, filter, Option, Some, None, refl, sym, ap, subst, ◌∙◌, arith, inl, inr}
+use Rattle.std.proofs.Common.{◌≡◌, ℕ, zero, suc, ◌+◌, ◌-◌, ◌<◌, ◌≤◌, nat_lt, ◌&&◌, Bool, true, false, if◌then◌else◌, cond, List, [], ◌∷◌, ◌++◌, filter, Option, Some, None, refl, sym, ap, subst, ◌∙◌, arith, inl, inr}
 use Rattle.std.specs.Prelude.{IfSome, is_some, option_map}
 use Rattle.std.specs.List.{range_with_len}
 use Rattle.std.proofs.lemmas.Bool.{cases_Bool}
@@ -110,3 +110,16 @@ pub not_older : (node : NodeOf) (IsMeant : (ℕ → Bool) → Type 0) (line : �
 not_older node IsMeant line found p at younger was =
     let serial : serial_on node line ≡ p.serial = ap serial_in at in
     (was.0, λ tested is. found_left node tested line found was.0 (was.1 tested is) (λ older. (let clash : true ≡ false = sym older ∙ (ap (λ (s : ℕ). is_older_than s found) serial ∙ younger) in cc)))
+
+-- ---- lines that are passed over, since no operation is pending on them
+
+pub none_between : (node : NodeOf) (IsMeant : (ℕ → Bool) → Type 0) (k d : ℕ) (found : Option (ℕ × ℕ)) → ((j : ℕ) → k ≤ j → j < k + d → pending_on node j ≡ None) → IsFoundBelow node IsMeant k found → IsFoundBelow node IsMeant (k + d) found
+none_between node IsMeant k zero found none was = let same : k ≡ k + 0 = omega arith in subst (λ (n : ℕ). IsFoundBelow node IsMeant n found) same was
+none_between node IsMeant k (suc d) found none was =
+    let same : (k + d) + 1 ≡ k + suc d = omega arith in
+    subst (λ (n : ℕ). IsFoundBelow node IsMeant n found) same (nothing_pending node IsMeant (k + d) found (none (k + d) (omega arith) (omega arith)) (none_between node IsMeant k d found (λ j from below. (let lt : j < k + suc d = omega arith in none j from lt)) was))
+
+pub none_up_to : (node : NodeOf) (IsMeant : (ℕ → Bool) → Type 0) (k n : ℕ) (found : Option (ℕ × ℕ)) → k ≤ n → ((j : ℕ) → k ≤ j → j < n → pending_on node j ≡ None) → IsFoundBelow node IsMeant k found → IsFoundBelow node IsMeant n found
+none_up_to node IsMeant k n found le none was =
+    let whole : k + (n - k) ≡ n = omega arith in
+    subst (λ (m : ℕ). IsFoundBelow node IsMeant m found) whole (none_between node IsMeant k (n - k) found (λ j from below. none j from (omega arith)) was)

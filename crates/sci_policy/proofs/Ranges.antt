@@ -1,5 +1,5 @@
 -- The least number that passes a test.
-use Rattle.std.proofs.Common.{◌≡◌, ℕ, zero, suc, ◌+◌, ◌-◌, ◌<◌, Bool, true, false, cond, List, [], ◌∷◌, ◌++◌, Option, Some, None, refl, ap, ◌∙◌, arith}
+use Rattle.std.proofs.Common.{◌≡◌, ℕ, zero, suc, ◌+◌, ◌-◌, ◌<◌, ◌≤◌, Bool, true, false, cond, List, [], ◌∷◌, ◌++◌, Option, Some, None, refl, ap, subst, ◌∙◌, arith}
 use Rattle.std.specs.Option.{option_or}
 use Rattle.std.specs.List.{find, range_with_len}
 use Rattle.std.proofs.lemmas.List.Folds.{find-append}
@@ -34,3 +34,15 @@ here_first p k n none passes below =
     let same : 0 + k ≡ k = omega arith in
     let split : range_with_len 0 n ≡ range_with_len 0 k ++ range_with_len k (suc rest) = ap (range_with_len 0) whole ∙ (range_parts 0 k (suc rest) ∙ ap (λ (j : ℕ). range_with_len 0 k ++ range_with_len j (suc rest)) same) in
     ap (find p) split ∙ (find-append p (range_with_len 0 k) (range_with_len k (suc rest)) ∙ (after (find p (range_with_len 0 k)) (find p (range_with_len k (suc rest))) none ∙ ap (λ (c : Bool). cond {A = Option ℕ} c (Some k) (find p (range_with_len (k + 1) rest))) passes))
+
+-- no number from a place to another passes
+pub none_between : (p : ℕ → Bool) (k d : ℕ) → find p (range_with_len 0 k) ≡ None → ((j : ℕ) → k ≤ j → j < k + d → p j ≡ false) → find p (range_with_len 0 (k + d)) ≡ None
+none_between p k zero none fails = let same : k ≡ k + 0 = omega arith in subst (λ (n : ℕ). find p (range_with_len 0 n) ≡ None) same none
+none_between p k (suc d) none fails =
+    let same : (k + d) + 1 ≡ k + suc d = omega arith in
+    subst (λ (n : ℕ). find p (range_with_len 0 n) ≡ None) same (none_more p (k + d) (none_between p k d none (λ j from below. (let lt : j < k + suc d = omega arith in fails j from lt))) (fails (k + d) (omega arith) (omega arith)))
+
+pub none_up_to : (p : ℕ → Bool) (k n : ℕ) → k ≤ n → find p (range_with_len 0 k) ≡ None → ((j : ℕ) → k ≤ j → j < n → p j ≡ false) → find p (range_with_len 0 n) ≡ None
+none_up_to p k n le none fails =
+    let whole : k + (n - k) ≡ n = omega arith in
+    subst (λ (m : ℕ). find p (range_with_len 0 m) ≡ None) whole (none_between p k (n - k) none (λ j from below. fails j from (omega arith)))

@@ -6,7 +6,7 @@ ghost use Rattle.sci_cache.specs.State.{Out, is_out as is_out_in};
 ghost use Rattle.sci_policy.specs.Policy.{awaits_home as awaits_home_in, is_busy_now as is_busy_now_in};
 ghost use Rattle.sci_core.specs.Node.{lines_of};
 ghost use Rattle.sci_policy.specs.Lines.{can_drain as can_drain_in, could_give_way as could_give_way_in, gives_way as gives_way_in, has_fresh_sharers as has_fresh_sharers_in, has_maker as has_maker_on, has_pending as has_pending_on, has_sharers as has_sharers_in, is_head as is_head_in, joins as joins_in, least as least_of, must_send as must_send_in, oldest as oldest_with, own_ask as own_ask_in, state_on};
-ghost use Rattle.sci_policy.specs.Scan.{IsTest, is_older_than};
+ghost use Rattle.sci_policy.specs.Scan.{IsOfEntries, IsTest, is_older_than};
 
 use sci_cache::Held;
 use sci_core::Node;
@@ -169,28 +169,33 @@ pub(crate) fn own_ask(node: &Node, line: u8) -> Option<AskKind>
     }
 }
 
-/// The least line of which something is true.
+/// The least line of which something is true, that is never true of a line with no entry. It looks at no other line.
 pub(crate) fn least<F: Fn(u8) -> bool>(node: &Node, test: F) -> Option<u8>
     requires { (line : ℕ) → line < lines_of node.now → F.pre test line }
     ensures { (tested : ℕ → Bool) → IsTest (lines_of node.now) (F.post test) tested →
-        result ≡ least_of node.now tested }
+        IsOfEntries node.now tested → result ≡ least_of node.now tested }
 {
-    for line in 0..node.extent().lines {
+    let mut from = 0;
+    'entries: while let Some(line) = node.next_entry(from) {
         if test(line) {
             return Some(line);
         }
+        from = line + 1;
     }
     None
 }
 
-/// Of the lines with an operation pending, and of which something is true, the one whose operation is the oldest.
+/// Of the lines with an operation pending, and of which something is true, the one whose operation is the oldest. It looks
+/// at no other line.
 pub(crate) fn oldest<F: Fn(u8) -> bool>(node: &Node, test: F) -> Option<u8>
     requires { (line : ℕ) → line < lines_of node.now → F.pre test line }
     ensures { (tested : ℕ → Bool) → IsTest (lines_of node.now) (F.post test) tested →
         result ≡ oldest_with node.now tested }
 {
     let mut found = None;
-    for line in 0..node.extent().lines {
+    let mut from = 0;
+    'pending: while let Some(line) = node.next_pending(from) {
+        from = line + 1;
         let Some(pending) = node.pending(line) else {
             continue;
         };

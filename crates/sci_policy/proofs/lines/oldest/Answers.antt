@@ -1,25 +1,41 @@
-use Rattle.std.proofs.Common.{◌≡◌, ℕ, ◌<◌, ◌+◌, Some, true, false, sym, subst, ◌∙◌}
+use Rattle.std.proofs.Common.{rules, ◌≡◌, ℕ, ◌<◌, ◌+◌, Some, true, false, sym, subst, ◌∙◌, arith}
 use Rattle.sci_core.specs.Node.{lines_of, pending_on}
-use Rattle.sci_policy.proofs.Oldest.{IsFoundBelow, nothing_pending, older_found, not_meant, not_older}
+use Rattle.sci_policy.proofs.Oldest.{line_found, none_up_to, nothing_pending, older_found, not_meant, not_older}
 use Rattle.sci_policy.proofs.lines.oldest.Goals as goal
-use Rattle.sci_policy.proofs.lines.oldest.Goals.{then-is_older+then-test, else-is_older, else-is_older-via-then-is_older+else-test, else-is_older-via-else-is_older}
+use Rattle.sci_policy.proofs.lines.oldest.Goals.{else-is_older-via-then-is_older+else-test, else-is_older-via-else-is_older}
 
-pub loop-line-preserved-in_default : goal.loop-line-preserved-in_default
-loop-line-preserved-in_default g c = nothing_pending c.args.node.now _ c.loop-line.line c.loop-line.found (sym c.pending.ensures ∙ c.in_default.is) c.loop-line.invariant
+pub pending-preserved-in_default-pending : goal.pending-preserved-in_default-pending
+pending-preserved-in_default-pending g c =
+    let below = c.in-Some.ensures.here in
+    let there = none_up_to c.args.node.now _ c.pending.from c.in-Some.line c.pending.found c.in-Some.ensures.order c.in-Some.ensures.between c.pending.invariant.1 in
+    (omega arith, nothing_pending c.args.node.now _ c.in-Some.line c.pending.found (sym c.pending-in-Some.ensures ∙ c.in_default-pending.is) there)
 
-pub loop-line-preserved : goal.loop-line-preserved
-loop-line-preserved g c =
+pub pending-preserved-then-test : goal.pending-preserved-then-test
+pending-preserved-then-test g c =
     let node = c.args.node.now in
-    let line = c.loop-line.line in
-    let below : line < lines_of node = subst (λ (n : ℕ). line < n) c.extent-line-end.ensures.lines c.loop-line-test.true in
-    let at : pending_on node line ≡ Some c.in-Some.pending = sym c.pending.ensures ∙ c.in-Some.is in
-    elim c.if-is_older.branch [
-      | then-is_older+then-test w ↦
-          subst (IsFoundBelow node _ (line + 1)) (sym w.found-is) (older_found node _ line c.loop-line.found c.in-Some.pending at (sym c.is_older.ensures ∙ w.if-is_older.true) (λ tested is. sym (is line true below w.if-test.ensures)) c.loop-line.invariant)
-      | else-is_older w ↦
-          subst (IsFoundBelow node _ (line + 1)) (sym w.found-is)
-          (elim w.else-is_older.branch [
-            | else-is_older-via-then-is_older+else-test v ↦ not_meant node _ line c.loop-line.found c.in-Some.pending at (λ tested is. sym (is line false below v.if-test.ensures)) c.loop-line.invariant
-            | else-is_older-via-else-is_older v ↦ not_older node _ line c.loop-line.found c.in-Some.pending at (sym c.is_older.ensures ∙ v.if-is_older.false) c.loop-line.invariant
-          ])
-    ]
+    let line = c.in-Some.line in
+    let below = c.in-Some.ensures.here in
+    let there = none_up_to node _ c.pending.from line c.pending.found c.in-Some.ensures.order c.in-Some.ensures.between c.pending.invariant.1 in
+    let at : pending_on node line ≡ Some c.in-Some-pending.pending = sym c.pending-in-Some.ensures ∙ c.in-Some-pending.is in
+    (omega arith, older_found node _ line c.pending.found c.in-Some-pending.pending at (sym c.is_older.ensures ∙ c.if-is_older.true) (λ tested is. sym (is line true below c.if-test.ensures)) there)
+
+pub pending-preserved : goal.pending-preserved
+pending-preserved g c =
+    let node = c.args.node.now in
+    let line = c.in-Some.line in
+    let below = c.in-Some.ensures.here in
+    let there = none_up_to node _ c.pending.from line c.pending.found c.in-Some.ensures.order c.in-Some.ensures.between c.pending.invariant.1 in
+    let at : pending_on node line ≡ Some c.in-Some-pending.pending = sym c.pending-in-Some.ensures ∙ c.in-Some-pending.is in
+    (
+      omega arith,
+      elim c.else-is_older.branch [
+        | else-is_older-via-then-is_older+else-test v ↦ not_meant node _ line c.pending.found c.in-Some-pending.pending at (λ tested is. sym (is line false below v.if-test.ensures)) there
+        | else-is_older-via-else-is_older v ↦ not_older node _ line c.pending.found c.in-Some-pending.pending at (sym c.is_older.ensures ∙ v.if-is_older.false) there
+      ],
+    )
+
+pub returns : goal.returns
+returns g c = λ tested is.
+    let found = none_up_to c.args.node.now _ c.pending.from (lines_of c.args.node.now) c.pending.found c.pending.invariant.0 (λ j from before. c.in_default.ensures.between j from tt) c.pending.invariant.1 in
+    let mapped : c.map.result ≡ line_found c.pending.found = search rules in
+    mapped ∙ found.1 tested is

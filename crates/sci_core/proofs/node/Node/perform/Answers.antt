@@ -23,5 +23,5 @@ invariant_of-self-2 c =
     let room = kept.room in
     let capacity = c.push.ensures.capacity in (
       record { me = kept.me; nodes = kept.nodes; slots = kept.slots; lines = kept.lines; room = omega arith },
-      rw (log, c.from.ensures) (node_with_entry node c.args.line c.in_ok-pending.pending c.perform.new.self _ same at c.self.invariant.1),
+      rw (log, c.put.ensures) (node_with_entry node c.args.line c.in_ok-pending.pending c.perform.new.self _ same at c.self.invariant.1),
     )

@@ -1,0 +1,55 @@
+-- The bits of a set of lines.
+use Rattle.std.proofs.Common.{◌≡◌, ◌≢◌, ◌<◌, ◌≤◌, ℕ, ◌+◌, ◌-◌, ◌/◌, ◌%◌, ◌*◌, bit_and, bit_or, w64, Bool, true, false, sym, subst, ap, ◌∙◌, arith, inl, inr}
+use Rattle.std.specs.Prelude.{◌==◌, ◌^◌}
+use Rattle.std.specs.Int.{bit_at, trailing_zeros}
+use Rattle.std.proofs.lemmas.Bool.{cases_lt}
+use Rattle.std.proofs.lemmas.Nat.{shr-shr}
+use Rattle.std.proofs.lemmas.Nat.Bits.{bit_at_above, bit_at_and, bit_at_clear_other, bit_at_clear_same, bit_at_set_other, bit_at_set_same, bit_at-trailing_zeros, bit_at-zero}
+use Rattle.sci_cache.specs.LineSet.{is_in}
+
+is_one : (a b : ℕ) → a ≡ b → (a == 1) ≡ (b == 1)
+is_one a b e = ap (λ n. n == 1) e
+
+pub none_in : (line : ℕ) → is_in 0 line ≡ false
+none_in line = is_one _ 0 (bit_at-zero line)
+
+above_none : (set line : ℕ) → set < 2 ^ 64 → 64 ≤ line → is_in set line ≡ false
+above_none set line small far = is_one _ 0 (bit_at_above set 64 line small far)
+
+-- ---- a line put in or taken out
+
+pub set_here : (set line : ℕ) → line < 64 → is_in (bit_or set (1 * 2 ^ line % 18446744073709551616)) line ≡ true
+set_here set line lt = is_one _ 1 (bit_at_set_same w64 set line lt)
+
+pub set_other : (set line other : ℕ) → line < 64 → other ≢ line → is_in (bit_or set (1 * 2 ^ line % 18446744073709551616)) other ≡ is_in set other
+set_other set line other lt ne = is_one _ _ (bit_at_set_other w64 set line lt other ne)
+
+pub clear_here : (set line : ℕ) → line < 64 → is_in (bit_and set (18446744073709551615 - 1 * 2 ^ line % 18446744073709551616)) line ≡ false
+clear_here set line lt = is_one _ 0 (bit_at_clear_same w64 set line lt)
+
+pub clear_other : (set line other : ℕ) → set < 2 ^ 64 → line < 64 → other ≢ line → is_in (bit_and set (18446744073709551615 - 1 * 2 ^ line % 18446744073709551616)) other ≡ is_in set other
+clear_other set line other small lt ne = elim (cases_lt other 64) [
+  | inl below ↦ is_one _ _ (bit_at_clear_other w64 set line lt other below ne)
+  | inr above ↦ is_one _ _ (let both = bit_at_and set (18446744073709551615 - 1 * 2 ^ line % 18446744073709551616) other in let none = bit_at_above set 64 other small above in omega arith)
+]
+
+-- ---- the lines from one on
+
+shifted : (set from line : ℕ) → is_in (set / 2 ^ from) line ≡ is_in set (from + line)
+shifted set from line = ap (λ n. n % 2 == 1) (shr-shr set from line)
+
+pub none_above : (set from line : ℕ) → set / 2 ^ from ≡ 0 → from ≤ line → is_in set line ≡ false
+none_above set from line none le =
+    let there : from + (line - from) ≡ line = omega arith in
+    ap (is_in set) (sym there) ∙ (sym (shifted set from (line - from)) ∙ (ap (λ n. is_in n (line - from)) none ∙ none_in (line - from)))
+
+pub none_so_far : (set from line : ℕ) → set < 2 ^ 64 → 64 ≤ from → from ≤ line → is_in set line ≡ false
+none_so_far set from line small far le = above_none set line small (omega arith)
+
+pub first_in : (set from : ℕ) → 0 < set / 2 ^ from → set / 2 ^ from < 2 ^ 64 → is_in set (from + trailing_zeros w64 (set / 2 ^ from)) ≡ true
+first_in set from some small = sym (shifted set from _) ∙ is_one _ 1 (bit_at-trailing_zeros w64 (set / 2 ^ from) some small).1
+
+pub none_between : (set from line : ℕ) → 0 < set / 2 ^ from → set / 2 ^ from < 2 ^ 64 → from ≤ line → line < from + trailing_zeros w64 (set / 2 ^ from) → is_in set line ≡ false
+none_between set from line some small le before =
+    let there : from + (line - from) ≡ line = omega arith in
+    ap (is_in set) (sym there) ∙ (sym (shifted set from (line - from)) ∙ is_one _ 0 ((bit_at-trailing_zeros w64 (set / 2 ^ from) some small).2 (line - from) (omega arith)))

@@ -1,0 +1,70 @@
+//! Sets of lines.
+
+use sci_words::MAX_LINES;
+use std::marker::Model;
+
+/// A set of lines. Contracts see it as a number with a bit for each line.
+#[derive(Debug, Drop)]
+pub struct LineSet {
+    bits: u64,
+}
+
+impl Model for LineSet {
+    ghost use Rattle.std.specs.Prelude.{ℕ};
+
+    ghost Value = { ℕ };
+
+    ghost view = { λ set. set.bits };
+}
+
+impl LineSet {
+    ghost use Rattle.std.specs.Prelude.{◌≡◌, ◌≢◌, ◌<◌, ◌≤◌, ℕ, true, false, None, IfSome};
+    ghost use Rattle.sci_words.specs.declared.limits.TheConstants.{MAX_LINES};
+    ghost use Rattle.sci_cache.specs.LineSet.{IsBefore, is_in};
+
+    /// The set of no line.
+    pub fn new() -> LineSet
+        ensures { (line : ℕ) → is_in result line ≡ false }
+    {
+        LineSet { bits: 0 }
+    }
+
+    /// The same set.
+    pub fn copy(&self) -> LineSet
+        ensures { result ≡ self.now }
+    {
+        LineSet { bits: self.bits }
+    }
+
+    /// Puts a line into the set or takes it out. The caller sees to it that a machine can have such a line.
+    pub fn put(&mut self, line: u8, inside: bool)
+        requires { line < MAX_LINES }
+        ensures here { is_in self.new line ≡ inside }
+        ensures others { (other : ℕ) → other ≢ line → is_in self.new other ≡ is_in self.old other }
+    {
+        let bit = 1u64 << line;
+        if inside {
+            self.bits |= bit;
+        } else {
+            self.bits &= !bit;
+        }
+    }
+
+    /// The least line of the set from a line on, or None if there is none.
+    pub fn next_from(&self, from: u8) -> Option<u8>
+        ensures order { IfSome result (λ line. from ≤ line) }
+        ensures found { IfSome result (λ line. is_in self.now line ≡ true) }
+        ensures between { (line : ℕ) → from ≤ line → IsBefore line result →
+            is_in self.now line ≡ false }
+    {
+        let bits = self.bits;
+        if from >= MAX_LINES {
+            return None;
+        }
+        let above = bits >> from;
+        if above == 0 {
+            return None;
+        }
+        Some(from + above.trailing_zeros() as u8)
+    }
+}
