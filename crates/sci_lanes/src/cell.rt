@@ -1,6 +1,6 @@
 //! The cells of the table.
 
-ghost use Rattle.std.specs.Prelude.{◌≡◌, ◌+◌, ◌<◌, ◌≤◌};
+ghost use Rattle.std.specs.Prelude.{◌≡◌, ◌+◌, ◌*◌, ◌/◌, ◌<◌, ◌≤◌};
 ghost use Rattle.sci_lanes.specs.Cells.{cell_place, lane_number, own_place};
 ghost use Rattle.sci_lanes.specs.declared.cell.TheConstants.{CELL_WORDS};
 
@@ -34,6 +34,21 @@ impl CellId {
         };
         let nodes = usize::from(nodes);
         (kind * nodes + usize::from(self.sender)) * nodes + usize::from(self.receiver)
+    }
+
+    /// The number of the cell's lane among the lanes to its receiver: the quotient of `lane` by the number of nodes. The
+    /// caller sees to it that the receiver is one of them.
+    pub(crate) fn inbox(&self, nodes: u8) -> usize
+        requires { self.now.receiver < nodes }
+        ensures place { result ≡ lane_number nodes self.now / nodes }
+        ensures few { self.now.sender < nodes → result < 2 * nodes }
+    {
+        let sender = self.sender;
+        let kind = match self.kind {
+            LaneKind::Requests => 0,
+            LaneKind::Answers => 1,
+        };
+        kind * usize::from(nodes) + usize::from(sender)
     }
 
     /// Where a word of the cell stands in the table of a machine of so many nodes.

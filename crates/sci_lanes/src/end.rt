@@ -181,7 +181,7 @@ impl LaneEnd {
             receiver: self.me,
             number: 0,
         };
-        let number = self.inboxes[cell.lane(self.nodes) / usize::from(self.nodes)].turn;
+        let number = self.inboxes[cell.inbox(self.nodes)].turn;
         CellId { number, ..cell }
     }
 
@@ -197,7 +197,7 @@ impl LaneEnd {
     {
         let word = self.seat.look(&cell, self.nodes);
         if cell.receiver == self.me {
-            let place = cell.lane(self.nodes) / usize::from(self.nodes);
+            let place = cell.inbox(self.nodes);
             keep_first(&mut self.inboxes, place, cell.number, word);
         }
         word

@@ -11,7 +11,7 @@ use Rattle.sci_policy.specs.Lines.{can_drain, has_fresh_sharers, has_pending, ha
 use Rattle.sci_policy.specs.Policy.{PolicyOf, ask_of, contents_wanted, due_wanted, has, held_back, is_claimed, is_purged, operation_asks, perform_wanted, purge_wanted, ruled, send_wanted, set_of, slot_for, slot_wanted, still_draining, wanted}
 use Rattle.sci_policy.proofs.Found.{least_fits, oldest_fits}
 
-out_is : (state : CacheState) → is_out state ≡ true → state ≡ Out
+pub out_is : (state : CacheState) → is_out state ≡ true → state ≡ Out
 out_is Out e = refl
 out_is _ e = cc
 
@@ -30,7 +30,7 @@ no_oldest node test rest =
 no_least : (node : NodeOf) (test : ℕ → Bool) → ((line : ℕ) → test line ≡ false) → least node test ≡ None
 no_least node test fails = absent (least node test) _ (least_fits node test) (λ line fits. (let clash : true ≡ false = sym fits.1 ∙ fails line in cc))
 
-and_no : (a b : Bool) → b ≡ false → (a && b) ≡ false
+pub and_no : (a b : Bool) → b ≡ false → (a && b) ≡ false
 and_no true b e = e
 and_no false b e = refl
 
@@ -49,10 +49,3 @@ rest_wants_none policy node rest =
     let no_contents : contents_wanted node ≡ None = ap (option_and_then (operation_asks node)) (no_oldest node (λ line. is_some (operation_asks node line)) rest) in
     let none : ruled policy node ≡ None = neither _ _ no_perform (neither _ _ no_purge (neither _ _ no_send (neither _ _ no_due (neither _ _ no_slot no_contents)))) in
     ap (held_back (some_line node (λ line. joins (state_on node line)))) none
-
-none_mapped : (test : ℕ → Bool) (a n : ℕ) → ((line : ℕ) → test line ≡ false) → map test (range_with_len a n) ≡ replicate n false
-none_mapped test a zero fails = refl
-none_mapped test a (suc n) fails = rw (fails a, none_mapped test (a + 1) n fails) refl
-
-pub rest_drains_none : (policy : PolicyOf) (node : NodeOf) → IsAtRest node → replicate MAX_LINES false ≡ set_of (still_draining policy node)
-rest_drains_none policy node rest = sym (none_mapped (still_draining policy node) 0 MAX_LINES (λ line. and_no (has policy.draining line) (can_drain (state_on node line)) (ap can_drain (all_out node rest line))))

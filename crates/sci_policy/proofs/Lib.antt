@@ -1,4 +1,5 @@
 pub mod Ranges
+pub mod Marks
 pub mod Oldest
 pub mod Found
 pub mod Wants

@@ -118,10 +118,13 @@ impl Policy {
     fn still_draining(&self, node: &Node) -> LineSet
         ensures { result ≡ set_of (still_draining self.now node.now) }
     {
-        if node.is_at_rest() {
-            return [false; LINES];
+        let mut lines = [false; LINES];
+        let mut from = 0;
+        'entries: while let Some(line) = node.next_entry(from) {
+            lines[usize::from(line)] = has(&self.draining, line) && can_drain(node, line);
+            from = line + 1;
         }
-        lines_that(|line| has(&self.draining, line) && can_drain(node, line))
+        lines
     }
 
     /// The lines that are draining when patience has ended.

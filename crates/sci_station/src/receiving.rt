@@ -29,6 +29,7 @@ pub(crate) enum Received {
 
 /// Looks at the next cell of a lane to this node, and reads the packet that is there, all its words and no more. The caller
 /// sees to it that the cell is the next to take from.
+#[inline]
 pub(crate) fn receive(end: &mut LaneEnd, budget: &mut Budget, cell: CellId) -> Received
     requires { IsNextToTake end.old.part cell }
     ensures found { IsFound end.new.part cell result }
@@ -50,6 +51,7 @@ pub(crate) fn receive(end: &mut LaneEnd, budget: &mut Budget, cell: CellId) -> R
 }
 
 /// Reads the packet in the next cell to take from, of which this first word is found.
+#[inline(never)]
 fn read_packet(
     end: &mut LaneEnd,
     budget: &mut Budget,

@@ -14,7 +14,7 @@ pub keep_first-requires : goal.keep_first-requires
 keep_first-requires c =
     let s = c.self.inside in
     let next = subst (λ (e : EndOf). IsNextToSend e.part c.args.cell ⊎ IsNextToTake e.part c.args.cell) (sym c.self.view_is) c.requires in
-    record { place = rw (c.lane.ensures, c.from.ensures) (box_there s.seat.part _ _ _ _ _ c.self.invariant c.args.cell (either_in s.seat.part c.args.cell c.self.invariant.shown next)) }
+    record { place = rw c.inbox-place.ensures.place (box_there s.seat.part _ _ _ _ _ c.self.invariant c.args.cell (either_in s.seat.part c.args.cell c.self.invariant.shown next)) }
 
 pub invariant_of-self : goal.invariant_of-self
 invariant_of-self c =
@@ -24,11 +24,11 @@ invariant_of-self c =
     let next = subst (λ (e : EndOf). IsNextToSend e.part cell ⊎ IsNextToTake e.part cell) (sym c.self.view_is) c.requires in
     let at = either_in s.seat.part cell f.shown next in
     let is = ap (λ (e : EndOf). e.part) c.look-word.ensures.part in
-    elim (cases_eq (get_or s.inboxes.items (c.lane.result / c.from.result) no_inbox).turn cell.number) [
-      | inl here ↦ rw (c.keep_first.ensures.next here, c.lane.ensures, c.from.ensures)
-          (next_inside s.seat.part _ _ _ _ _ f cell at c.look-word.new.self.part c.look-word.result c.if-cell-self.true (subst (λ (l : ℕ). (get_or s.inboxes.items (l / s.nodes) no_inbox).turn ≡ cell.number) c.lane.ensures (subst (λ (n : ℕ). (get_or s.inboxes.items (c.lane.result / n) no_inbox).turn ≡ cell.number) c.from.ensures here)) is c.look-word.ensures.shown)
+    elim (cases_eq (get_or s.inboxes.items c.inbox-place.result no_inbox).turn cell.number) [
+      | inl here ↦ rw (c.keep_first.ensures.next here, c.inbox-place.ensures.place)
+          (next_inside s.seat.part _ _ _ _ _ f cell at c.look-word.new.self.part c.look-word.result c.if-cell-self.true (subst (λ (l : ℕ). (get_or s.inboxes.items l no_inbox).turn ≡ cell.number) c.inbox-place.ensures.place here) is c.look-word.ensures.shown)
       | inr apart ↦ rw (c.keep_first.ensures.other apart)
-          (other_inside s.seat.part _ _ _ _ _ f cell at c.look-word.new.self.part c.look-word.result c.if-cell-self.true (subst (λ (l : ℕ). (get_or s.inboxes.items (l / s.nodes) no_inbox).turn ≢ cell.number) c.lane.ensures (subst (λ (n : ℕ). (get_or s.inboxes.items (c.lane.result / n) no_inbox).turn ≢ cell.number) c.from.ensures apart)) is c.look-word.ensures.shown)
+          (other_inside s.seat.part _ _ _ _ _ f cell at c.look-word.new.self.part c.look-word.result c.if-cell-self.true (subst (λ (l : ℕ). (get_or s.inboxes.items l no_inbox).turn ≢ cell.number) c.inbox-place.ensures.place apart) is c.look-word.ensures.shown)
     ]
 
 pub invariant_of-self-else-cell-self : goal.invariant_of-self-else-cell-self

@@ -1,4 +1,4 @@
-use Rattle.std.proofs.Common.{ℕ, ◌≡◌, ◌<◌, ◌/◌, get_or, sym, subst}
+use Rattle.std.proofs.Common.{ℕ, ◌≡◌, ◌<◌, ◌/◌, get_or, sym, subst, arith}
 use Rattle.sci_lanes.specs.Ends.{EndOf, nodes_in, IsNextToTake}
 use Rattle.sci_lanes.proofs.Calls.{next_take}
 use Rattle.sci_lanes.proofs.end.LaneEnd.next_to_take.Goals as goal
@@ -9,4 +9,13 @@ returns-clause-next c =
     let box = c.index.result.now in
     subst (λ (e : EndOf). IsNextToTake e.part (record { kind = c.args.kind; sender = c.args.from; receiver = s.me; number = box.turn })) c.self.view_is
     (next_take s.seat.part _ _ _ _ _ c.self.invariant c.args.kind c.args.from box (subst (λ (e : EndOf). c.args.from < nodes_in e.part) (sym c.self.view_is) c.requires)
-    (subst (λ (l : ℕ). box ≡ get_or s.inboxes.items (l / s.nodes) box) c.lane.ensures (subst (λ (n : ℕ). box ≡ get_or s.inboxes.items (c.lane.result / n) box) c.from.ensures c.index.ensures)))
+    (subst (λ (l : ℕ). box ≡ get_or s.inboxes.items l box) c.inbox.ensures.place c.index.ensures))
+
+pub index-requires : goal.index-requires
+index-requires c =
+    let inside = c.self.invariant in
+    let from : c.args.from < nodes_in c.self.inside.seat.part = subst (λ (e : EndOf). c.args.from < nodes_in e.part) (sym c.self.view_is) c.requires in
+    let nodes = inside.nodes_is in
+    let few = c.inbox.ensures.few (omega arith) in
+    let long = inside.inboxes_long in
+    omega arith
