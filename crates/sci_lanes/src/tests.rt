@@ -94,7 +94,7 @@ fn gathers(alloc: Global, lanes: Lanes, ends: Vec<LaneEnd>) -> Result<(), Fail>
 /// Ends come back if one of them is missing, or memory is refused: with every allocation granted the first gathering is
 /// refused for the missing one alone. With it they are gathered.
 #[test]
-fn ends_are_gathered_or_come_back(rt: HostRuntime) -> Result<(), Fail> {
+fn a_refused_gathering_gives_all_back(rt: HostRuntime) -> Result<(), Fail> {
     let extent = Extent::new(3, 2, 1).ok_or("an extent")?;
     let Ok((lanes, mut ends)) = Lanes::new(rt.alloc(), extent, 1) else {
         return Ok(());

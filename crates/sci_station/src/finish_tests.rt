@@ -20,7 +20,11 @@ fn op(act: Act) -> Op {
 /// The machine of the stations by hand: node 0 has stored 7, and its copy is under way to node 1, which loads.
 fn with_a_copy_under_way(alloc: Global) -> Result<Running, Fail> {
     let extent = Extent::new(2, 1, 1).ok_or("an extent")?;
-    let mut running = Running::new(alloc, extent, 1)?;
+    run_to_a_copy(Running::new(alloc, extent, 1)?)
+}
+
+/// Runs two stations until the copy of what node 0 has stored is under way to node 1.
+fn run_to_a_copy(mut running: Running) -> Result<Running, Fail> {
     running.submit(0, op(Act::Store(7)))?;
     for n in [0, 0, 0, 0] {
         running.go(n)?;
@@ -54,6 +58,17 @@ fn has_the_store_alone(finished: &Finished) -> Result<(), Fail> {
 #[test]
 fn a_copy_under_way_is_last(rt: HostRuntime) -> Result<(), Fail> {
     let running = with_a_copy_under_way(rt.alloc())?;
+    has_the_store_alone(&finished(rt.alloc(), running)?)
+}
+
+/// The same with an allocation refused: then there is no machine, or finishing gives all back and is done the second time.
+#[test]
+fn a_refused_finish_gives_all_back(rt: HostRuntime) -> Result<(), Fail> {
+    let extent = Extent::new(2, 1, 1).ok_or("an extent")?;
+    let Ok(running) = Running::new(rt.alloc(), extent, 1) else {
+        return Ok(());
+    };
+    let running = run_to_a_copy(running)?;
     has_the_store_alone(&finished(rt.alloc(), running)?)
 }
 
