@@ -1,14 +1,12 @@
 -- A node at rest wants nothing, and none of its lines drains.
-use Rattle.std.proofs.Common.{◌≡◌, ℕ, ◌&&◌, ◌||◌, Bool, true, false, map, replicate, Option, Some, None, refl, sym, ap, ◌∙◌, zero, suc, ◌+◌}
+use Rattle.std.proofs.Common.{◌≡◌, ℕ, ◌&&◌, ◌||◌, Bool, true, false, Option, Some, None, refl, sym, ap, ◌∙◌}
 use Rattle.std.specs.Prelude.{IfSome, is_some, option_map}
 use Rattle.std.specs.Option.{option_or, option_and_then}
-use Rattle.std.specs.List.{range_with_len}
 use Rattle.std.proofs.lemmas.Bool.{and_parts}
-use Rattle.sci_words.specs.declared.limits.TheConstants.{MAX_LINES}
 use Rattle.sci_cache.specs.State.{CacheState, Out, is_out}
 use Rattle.sci_core.specs.Node.{IsAtRest, NodeOf, node_performing}
-use Rattle.sci_policy.specs.Lines.{can_drain, has_fresh_sharers, has_pending, has_sharers, joins, least, must_send, oldest, some_line, state_on}
-use Rattle.sci_policy.specs.Policy.{PolicyOf, ask_of, contents_wanted, due_wanted, has, held_back, is_claimed, is_purged, operation_asks, perform_wanted, purge_wanted, ruled, send_wanted, set_of, slot_for, slot_wanted, still_draining, wanted}
+use Rattle.sci_policy.specs.Lines.{has_fresh_sharers, has_pending, has_sharers, joins, least, must_send, oldest, some_line, state_on}
+use Rattle.sci_policy.specs.Policy.{PolicyOf, ask_of, contents_wanted, due_wanted, has, held_back, is_claimed, is_purged, operation_asks, perform_wanted, purge_wanted, ruled, send_wanted, slot_for, slot_wanted, wanted}
 use Rattle.sci_policy.proofs.Found.{least_fits, oldest_fits}
 
 pub out_is : (state : CacheState) → is_out state ≡ true → state ≡ Out

@@ -1,6 +1,5 @@
 -- A set of lines that is marked line by line, from the least on.
-use Rattle.std.proofs.Common.{◌≡◌, ◌≢◌, ◌⊎◌, ℕ, ◌+◌, ◌<◌, ◌≤◌, Bool, false, List, length, get_or, set, replicate, map, sym, ap, ◌∙◌, arith, inl, inr}
-use Rattle.std.specs.List.{range_with_len}
+use Rattle.std.proofs.Common.{◌≡◌, ◌≢◌, ◌⊎◌, ℕ, ◌+◌, ◌<◌, ◌≤◌, Bool, false, List, length, get_or, set, replicate, sym, ap, ◌∙◌, arith, inl, inr}
 use Rattle.std.proofs.lemmas.Bool.{cases_eq, cases_lt}
 use Rattle.std.proofs.lemmas.List.{ext_get_or, get_or_past, get_or-replicate, get_or-set_other, get_or-set_same, length-replicate, length-set}
 use Rattle.std.proofs.lemmas.List.FromFn.{get_or-map-range_with_len, length-map-range_with_len}
@@ -24,10 +23,10 @@ none_marked tested = record { long = length-replicate MAX_LINES false; below = �
 
 pub mark : (tested : ℕ → Bool) (from line : ℕ) (b : Bool) (marks : List Bool) → from ≤ line → line < MAX_LINES → ((k : ℕ) → from ≤ k → k < line → tested k ≡ false) → b ≡ tested line → AreMarked tested from marks → AreMarked tested (line + 1) (set marks line b)
 mark tested from line b marks le lt none is was = record {
-      long = length-set marks line b ∙ was.long;
-      below = λ k below. below_at k below (cases_eq k line) (cases_lt k from);
-      above = λ k above. (let ne : k ≢ line = (λ same. omega arith) in get_or-set_other marks line k b false ne ∙ was.above k (omega arith));
-    }
+  long = length-set marks line b ∙ was.long;
+  below = λ k below. below_at k below (cases_eq k line) (cases_lt k from);
+  above = λ k above. (let ne : k ≢ line = (λ same. omega arith) in get_or-set_other marks line k b false ne ∙ was.above k (omega arith));
+}
   where
     below_at : (k : ℕ) → k < line + 1 → (k ≡ line) ⊎ (k ≢ line) → (k < from) ⊎ (from ≤ k) → get_or (set marks line b) k false ≡ tested k
     below_at k below (inl same) _ =

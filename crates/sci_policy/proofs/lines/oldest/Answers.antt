@@ -1,4 +1,4 @@
-use Rattle.std.proofs.Common.{rules, ◌≡◌, ℕ, ◌<◌, ◌+◌, Some, true, false, sym, subst, ◌∙◌, arith}
+use Rattle.std.proofs.Common.{rules, ◌≡◌, Some, true, false, sym, ◌∙◌, arith}
 use Rattle.sci_core.specs.Node.{lines_of, pending_on}
 use Rattle.sci_policy.proofs.Oldest.{line_found, none_up_to, nothing_pending, older_found, not_meant, not_older}
 use Rattle.sci_policy.proofs.lines.oldest.Goals as goal
@@ -25,8 +25,7 @@ pending-preserved g c =
     let line = c.in-Some.line in
     let below = c.in-Some.ensures.here in
     let there = none_up_to node _ c.pending.from line c.pending.found c.in-Some.ensures.order c.in-Some.ensures.between c.pending.invariant.1 in
-    let at : pending_on node line ≡ Some c.in-Some-pending.pending = sym c.pending-in-Some.ensures ∙ c.in-Some-pending.is in
-    (
+    let at : pending_on node line ≡ Some c.in-Some-pending.pending = sym c.pending-in-Some.ensures ∙ c.in-Some-pending.is in (
       omega arith,
       elim c.else-is_older.branch [
         | else-is_older-via-then-is_older+else-test v ↦ not_meant node _ line c.pending.found c.in-Some-pending.pending at (λ tested is. sym (is line false below v.if-test.ensures)) there

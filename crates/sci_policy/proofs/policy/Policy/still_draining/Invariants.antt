@@ -1,4 +1,4 @@
-use Rattle.std.proofs.Common.{◌≤◌, ◌-◌}
+use Rattle.std.proofs.Common.{◌-◌}
 use Rattle.sci_core.specs.Node.{lines_of}
 use Rattle.sci_policy.specs.Policy.{still_draining}
 use Rattle.sci_policy.proofs.Marks.{AreMarked}
