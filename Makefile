@@ -2,7 +2,7 @@
 
 NEED_RT = command -v rt > /dev/null || { echo "rt is missing: put the bin folder of a Rattle kit (rattle-kit-13b or later) on your PATH"; exit 1; }
 
-.PHONY: run test cases faults check fmt clean
+.PHONY: run test cases faults soak check fmt clean
 
 # Builds the program and runs its stored example.
 run:
@@ -26,6 +26,13 @@ cases:
 faults:
 	@$(NEED_RT)
 	@scripts/try_faults.py --build $(CRATE)
+
+# Builds the program over what earlier checks kept, and runs seeded scripts of every shape by threads for so many seconds:
+# make soak SECONDS=600 SEED=2. It isn't part of the gate.
+soak:
+	@$(NEED_RT)
+	@cd crates/scimem && rt run -- $$(cat args) < stdin > /dev/null
+	@scripts/soak.py $(or $(SECONDS),60) $(or $(SEED),1)
 
 # Every crate, over what earlier checks kept.
 check:
