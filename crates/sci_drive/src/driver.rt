@@ -47,7 +47,11 @@ pub struct Round {
 }
 
 impl<'a> Driver<'a> {
-    ghost use Rattle.std.specs.Prelude.{◌≡◌, ◌≤◌, ◌↔◌, true, [], length};
+    ghost use Rattle.std.specs.Prelude.{◌≡◌, ◌<◌, ◌≤◌, ◌↔◌, true, false, [], IfOk, length};
+    ghost use Rattle.sci_core.specs.Node.{NodeOf};
+    ghost use Rattle.sci_policy.specs.Rest.{MayIdle};
+    ghost use Rattle.sci_policy.specs.Turn.{is_idle};
+    ghost use Rattle.sci_policy.specs.Worker.{IsNodeTurn};
     ghost use Rattle.sci_words.specs.declared.limits.TheConstants.{MAX_OPERATIONS};
     ghost use Rattle.sci_drive.specs.Driving.{IsDriven, opening_driver};
 
@@ -79,7 +83,8 @@ impl<'a> Driver<'a> {
     /// - takes one turn;
     /// - the first time that the whole script is answered, tells the gate that it is done.
     ///
-    /// The caller sees to it that the worker is the one that this driver has driven. Refused if the worker's turn is.
+    /// It tells whether an operation was answered, and what the turn did. The caller sees to it that the worker is the one
+    /// that this driver has driven. Refused if the worker's turn is.
     pub fn round<W: Worker, G: Gate>(
         &mut self,
         worker: &mut W,
@@ -87,6 +92,14 @@ impl<'a> Driver<'a> {
     ) -> Result<Round, AllocError>
         requires driven { IsDriven self.old (W.node worker.old) }
         ensures driven { IsDriven self.new (W.node worker.new) }
+        ensures answered { IfOk result (λ round. round.answered ≡ true →
+            length (W.node worker.old).log < length (W.node worker.new).log) }
+        ensures none { IfOk result (λ round. round.answered ≡ false →
+            (W.node worker.new).log ≡ (W.node worker.old).log) }
+        ensures turn { IfOk result (λ round. (before : NodeOf)
+            × IsNodeTurn before (W.node worker.new) round.progress) }
+        ensures rest { IfOk result (λ round.
+            is_idle round.progress ≡ true → MayIdle (W.node worker.new)) }
         ensures script { self.new.script ≡ self.old.script }
         ensures stays { W.stays worker.old worker.new }
     {
@@ -104,6 +117,7 @@ impl<'a> Driver<'a> {
     fn submit<W: Worker, G: Gate>(&mut self, worker: &mut W, gate: &mut G)
         requires driven { IsDriven self.old (W.node worker.old) }
         ensures driven { IsDriven self.new (W.node worker.new) }
+        ensures log { (W.node worker.new).log ≡ (W.node worker.old).log }
         ensures script { self.new.script ≡ self.old.script }
         ensures stays { W.stays worker.old worker.new }
     {
@@ -126,6 +140,9 @@ impl<'a> Driver<'a> {
     fn perform<W: Worker, G: Gate>(&mut self, worker: &mut W, gate: &mut G) -> bool
         requires driven { IsDriven self.old (W.node worker.old) }
         ensures driven { IsDriven self.new (W.node worker.new) }
+        ensures answered { result ≡ true →
+            length (W.node worker.old).log < length (W.node worker.new).log }
+        ensures none { result ≡ false → (W.node worker.new).log ≡ (W.node worker.old).log }
         ensures script { self.new.script ≡ self.old.script }
         ensures stays { W.stays worker.old worker.new }
     {

@@ -6,6 +6,7 @@ ghost use Rattle.scimem.specs.Decoding.{IsDecoded};
 ghost use Rattle.scimem.specs.LogAnswer.{IsAuditOf, verdict_text};
 ghost use Rattle.scimem.specs.OracleAnswer.{IsOracleOf};
 ghost use Rattle.scimem.specs.ReplayAnswer.{IsReplayOf};
+ghost use Rattle.scimem.specs.ThreadsAnswer.{IsThreadsOf};
 ghost use Rattle.sci_history.specs.declared.verdict.Verdict.TheVariants as verdicts;
 
 use sci_packets::laws::{no_proper_prefix, one_packet};
@@ -35,6 +36,15 @@ pub fn replays_are_lawful()
 pub fn oracles_are_lawful()
     ensures { (input text said : List ℕ) (outcome : Outcome)
         → IsOracleOf input text → IsAuditOf text said outcome
+        → (said ≡ verdict_text verdicts.Lawful) × (outcome ≡ Outcome.Done) }
+{
+    one_log();
+}
+
+/// What `threads` writes for any script an audit finds lawful.
+pub fn runs_are_lawful()
+    ensures { (input text said : List ℕ) (ends outcome : Outcome)
+        → IsThreadsOf input text ends → IsAuditOf text said outcome
         → (said ≡ verdict_text verdicts.Lawful) × (outcome ≡ Outcome.Done) }
 {
     one_log();

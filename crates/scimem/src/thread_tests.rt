@@ -7,7 +7,7 @@ use crate::threads::threads;
 use sci_drive::Gate;
 use sci_history::Entry;
 use sci_text::{Script, Tap, logs_text, push_text, read_logs};
-use sci_threads::run_nodes;
+use sci_threads::{YieldingGate, run_nodes};
 use sci_words::{Act, Extent, Op, Reply};
 use std::alloc::{AllocError, Global};
 use std::sync::atomic::{AtomicU64, Ordering};
@@ -196,14 +196,43 @@ fn words_of_threads(rt: HostRuntime) {
     assert_eq!(rt; chosen(&["threads", "12"]), None);
 }
 
-/// At its first entry, sets its flag and looks for the other's.
+/// Which of two nodes had an entry, how many saw the other's, and how many are done.
+#[derive(Drop)]
+struct Flags {
+    first: AtomicU64,
+    second: AtomicU64,
+    met: AtomicU64,
+    done: AtomicU64,
+}
+
+/// At its first entry, sets its node's flag and looks for the other's.
 #[derive(Drop)]
 struct Meeting<'a> {
-    own: &'a AtomicU64,
-    other: &'a AtomicU64,
-    met: &'a AtomicU64,
-    done: &'a AtomicU64,
-    entries: u32,
+    flags: &'a Flags,
+    is_first: bool,
+    was_answered: bool,
+}
+
+impl Meeting<'_> {
+    /// Sets its own flag.
+    fn set(&self) {
+        let own = if self.is_first {
+            &self.flags.first
+        } else {
+            &self.flags.second
+        };
+        own.store(1, Ordering::SeqCst);
+    }
+
+    /// Whether the other's flag is set.
+    fn sees_the_other(&self) -> bool {
+        let other = if self.is_first {
+            &self.flags.second
+        } else {
+            &self.flags.first
+        };
+        other.load(Ordering::SeqCst) == 1
+    }
 }
 
 impl Gate for Meeting<'_> {
@@ -212,14 +241,14 @@ impl Gate for Meeting<'_> {
     }
 
     fn answered(&mut self, _entry: &Entry) {
-        if self.entries > 0 {
+        if self.was_answered {
             return;
         }
-        self.entries = 1;
-        self.own.store(1, Ordering::SeqCst);
+        self.was_answered = true;
+        self.set();
         for _look in 0..MANY {
-            if self.other.load(Ordering::SeqCst) == 1 {
-                let _before = self.met.fetch_add(1, Ordering::SeqCst);
+            if self.sees_the_other() {
+                let _before = self.flags.met.fetch_add(1, Ordering::SeqCst);
                 return;
             }
             thread::yield_now();
@@ -227,11 +256,11 @@ impl Gate for Meeting<'_> {
     }
 
     fn done(&mut self) {
-        let _before = self.done.fetch_add(1, Ordering::SeqCst);
+        let _before = self.flags.done.fetch_add(1, Ordering::SeqCst);
     }
 
     fn all_done(&mut self) -> bool {
-        self.done.load(Ordering::SeqCst) == 2
+        self.flags.done.load(Ordering::SeqCst) == 2
     }
 
     fn rest(&mut self) {
@@ -258,35 +287,72 @@ fn two_gates(rt: HostRuntime) -> Result<(), Fail> {
             return Err(Fail::from("an operation that was refused"));
         }
     }
-    let (zero, one) = (AtomicU64::new(0), AtomicU64::new(0));
-    let (met, done) = (AtomicU64::new(0), AtomicU64::new(0));
-    let (met, done) = (&met, &done);
-    let first = Meeting {
-        own: &zero,
-        other: &one,
-        met,
-        done,
-        entries: 0,
-    };
-    let second = Meeting {
-        own: &one,
-        other: &zero,
-        met,
-        done,
-        entries: 0,
+    let flags = Flags {
+        first: AtomicU64::new(0),
+        second: AtomicU64::new(0),
+        met: AtomicU64::new(0),
+        done: AtomicU64::new(0),
     };
     let mut gates = Vec::with_capacity(alloc, 2)?;
-    gates.push(first)?;
-    gates.push(second)?;
+    for is_first in [true, false] {
+        gates.push(Meeting {
+            flags: &flags,
+            is_first,
+            was_answered: false,
+        })?;
+    }
     if gates.len() != script.extent().nodes as usize {
         return Err(Fail::from("a gate too many or too few"));
     }
     let (logs, last, finished) = run_nodes(&rt, alloc, &script, gates, MANY)?;
     assert!(rt; finished);
-    assert_eq!(rt; met.load(Ordering::SeqCst), 2);
+    assert_eq!(rt; flags.met.load(Ordering::SeqCst), 2);
     let text = logs_text(alloc, 2, &logs, &last)?;
     let expected = "log 2 2 2\nlast 0 @1 1 0 0 0 0 0 0 0\nlast 1 @2 3 0 0 0 0 0 0 0\n\
         0 0 store 0 0 1 = - @1\n1 0 store 1 0 2 = - @1\n1 1 store 1 0 3 = - @2\n";
     assert_eq!(rt; text.as_slice(), expected.as_bytes());
     Ok(())
+}
+
+/// The next number of a sequence, by a step of a linear congruence.
+fn next(state: u64) -> u64 {
+    state
+        .wrapping_mul(6_364_136_223_846_793_005)
+        .wrapping_add(1_442_695_040_888_963_407)
+}
+
+/// An operation on any line and word, by the numbers of a sequence.
+fn any_op(state: u64) -> Op {
+    let act = if (state >> 40) & 1 == 0 {
+        Act::Load
+    } else {
+        Act::Store(state)
+    };
+    Op {
+        line: ((state >> 58) & 63) as u8,
+        word: ((state >> 50) & 7) as u8,
+        act,
+    }
+}
+
+#[test]
+fn sixteen_nodes_over_all_lines_with_one_slot_each(rt: HostRuntime) -> Result<(), Fail> {
+    let alloc = rt.alloc();
+    let extent = Extent::new(16, 64, 1).ok_or("an extent")?;
+    let mut script = Script::new(alloc, extent);
+    let mut state = 1;
+    for _time in 0..4096 {
+        for node in 0..16 {
+            state = next(state);
+            if script.push(node, any_op(state)).is_err() {
+                return Err(Fail::from("an operation that was refused"));
+            }
+        }
+    }
+    let done = AtomicU64::new(0);
+    let gates = YieldingGate::for_nodes(alloc, script.extent().nodes, &done)?;
+    let (logs, last, finished) = run_nodes(&rt, alloc, &script, gates, TURNS)?;
+    assert!(rt; finished);
+    let text = logs_text(alloc, 16, &logs, &last)?;
+    lawful(alloc, &text)
 }
