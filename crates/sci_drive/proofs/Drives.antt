@@ -1,9 +1,9 @@
 -- What the calls of a worker make of a driver and its node.
-use Rattle.std.proofs.Common.{◌≡◌, ◌≢◌, ◌≤◌, ◌<◌, ◌+◌, ◌-◌, ℕ, arith, Bool, List, [], ◌∷◌, ◌++◌, length, All, Option, Some, None, cond, ◌==◌, sym, ap, subst, ◌∙◌, inl, inr}
+use Rattle.std.proofs.Common.{◌≡◌, ◌≢◌, ◌≤◌, ◌<◌, ◌+◌, ◌-◌, ℕ, arith, true, false, Bool, List, [], ◌∷◌, ◌++◌, length, All, Option, Some, None, cond, ◌==◌, refl, sym, ap, subst, ◌∙◌, inl, inr}
 use Rattle.std.specs.Prelude.{slice_get, slice_index_or}
 use Rattle.std.specs.List.{Contains, remove}
 use Rattle.std.proofs.lemmas.Bool.{cases_eq, cases_lt, eq-eqb, ne_eqb}
-use Rattle.std.proofs.lemmas.List.{get_or_default}
+use Rattle.std.proofs.lemmas.List.{get_or_default, length_push}
 use Rattle.std.proofs.lemmas.Option.{slice_get_within}
 use Rattle.std.proofs.lemmas.List.Edits.{get_or-remove_below, get_or-remove_above, length-remove}
 use Rattle.std.proofs.lemmas.List.Elements.{All-nil, All-push, Contains-append_left, Contains-push}
@@ -233,3 +233,10 @@ whole_of driver node all none d = record {
         let lt' = empty.1 in absurd (omega arith)
   ];
 }
+
+-- ---- how the log grows
+
+-- the log is longer than it was, or the same, and one entry comes: it is longer
+pub grows : (first old new : List Entry) (e : Entry) (answered : Bool) → (answered ≡ true → length first < length old) → (answered ≡ false → old ≡ first) → new ≡ old ++ e ∷ [] → length first < length new
+grows first old new e true longer same is = let long = length_push old e in let more = longer refl in omega (arith, ap length is)
+grows first old new e false longer same is = let long = length_push old e in let equal = ap length (same refl) in omega (arith, ap length is)

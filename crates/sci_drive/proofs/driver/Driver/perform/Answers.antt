@@ -1,9 +1,9 @@
-use Rattle.std.proofs.Common.{arith, ◌≡◌, ◌<◌, ℕ, List, length, sym, ap, subst, ◌∙◌}
+use Rattle.std.proofs.Common.{arith, true, false, ◌≡◌, ◌<◌, ℕ, List, length, sym, ap, subst, ◌∙◌}
 use Rattle.std.specs.Prelude.{slice_index_or}
 use Rattle.std.proofs.lemmas.List.{get_or_default}
 use Rattle.sci_core.specs.Work.{IsLogged}
 use Rattle.sci_drive.specs.Driving.{DriverOf, IsDriven}
-use Rattle.sci_drive.proofs.Drives.{performs}
+use Rattle.sci_drive.proofs.Drives.{grows, performs}
 use Rattle.sci_drive.proofs.driver.Driver.perform.Goals as goal
 
 -- src/driver.rt:132:9
@@ -23,4 +23,9 @@ loop-place-preserved-in-Some g c =
       subst (λ (lines : List ℕ). IsDriven (record driver { pending = lines }) new) (sym c.remove.ensures.items) made,
       at.invariant.1,
       g.met.W.Worker.stays_through c.args.worker.now at.worker c.perform.new.self at.invariant.2 c.perform.ensures.stays,
+      λ _. grows (g.W.Worker.node c.args.worker.now).log old.log new.log c.in-Some.entry at.answered at.invariant.3 at.invariant.4 logged.log,
+      λ no. absurd (apart no),
     )
+  where
+    apart : true ≡ false → ⊥
+    apart e = cc
