@@ -10,8 +10,8 @@ use std::marker::Model;
 /// How many operations of a script are pending at most.
 const WINDOW: usize = 4;
 
-/// A script that is being driven. Contracts see the script, how many of its operations were submitted, and the lines on which
-/// one is pending.
+/// A script that is being driven. Contracts see the script, how many of its operations were submitted, and the lines
+/// on which one is pending.
 #[derive(Drop)]
 pub struct Driver<'a> {
     script: &'a [Op],
@@ -83,8 +83,8 @@ impl<'a> Driver<'a> {
     /// - takes one turn;
     /// - the first time that the whole script is answered, tells the gate that it is done.
     ///
-    /// It tells whether an operation was answered, and what the turn did. The caller sees to it that the worker is the one
-    /// that this driver has driven. Refused if the worker's turn is.
+    /// It tells whether an operation was answered, and what the turn did. The caller sees to it that the worker is the
+    /// one that this driver has driven. Refused if the worker's turn is.
     pub fn round<W: Worker, G: Gate>(
         &mut self,
         worker: &mut W,

@@ -1,4 +1,4 @@
-//! Drives a worker through a script: it submits the operations, performs them, and takes turns until each has its entry.
+//! Drives a worker through a script: submits the operations, performs them, and takes turns until each has its entry.
 #![tactic(auto)]
 
 mod driver;

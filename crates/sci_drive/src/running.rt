@@ -23,9 +23,9 @@ pub struct Ran {
     pub turns: u32,
 }
 
-/// Drives a worker through a script, a round at a time, for at most so many turns. It ends finished as soon as the whole
-/// script is answered and the gate says that all are done. The gate's rest is called after each turn in which nothing
-/// moved, and after 16 turns in a row without an entry or a rest.
+/// Drives a worker through a script, a round at a time, for at most so many turns. It ends finished as soon as the
+/// whole script is answered and the gate says that all are done. The gate's rest is called after each turn in which
+/// nothing moved, and after 16 turns in a row without an entry or a rest.
 ///
 /// The caller sees to it that the worker has submitted nothing, and that the script has at most 65,536 operations. An
 /// operation that the worker refuses is tried again in each round. Refused if a turn of the worker is.

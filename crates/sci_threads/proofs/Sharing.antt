@@ -1,10 +1,9 @@
 -- The stations of a run, before it and after it.
-use Rattle.std.proofs.Common.{◌≡◌, ◌≤◌, ◌<◌, ◌+◌, ℕ, arith, Bool, true, List, [], ◌∷◌, ◌++◌, All, length, filter, map, take, drop, replicate, get_or, Option, Some, None, Result, Ok, Err, IfOk, Vec, refl, sym, ap, subst, ◌∙◌, inl, inr}
-use Rattle.std.specs.Prelude.{slice_get, slice_index_or, count_by, ◌==◌, option_map}
-use Rattle.std.specs.List.{range_with_len}
+use Rattle.std.proofs.Common.{◌≡◌, ◌≤◌, ◌<◌, ℕ, arith, Bool, true, List, [], ◌∷◌, ◌++◌, All, length, filter, map, take, drop, replicate, get_or, Some, None, Result, Ok, Err, IfOk, Vec, refl, sym, ap, subst, ◌∙◌, inl, inr}
+use Rattle.std.specs.Prelude.{slice_get, slice_index_or, ◌==◌, option_map}
 use Rattle.std.proofs.lemmas.Bool.{cases_lt}
 use Rattle.std.proofs.lemmas.List.{append-nil, drop_all, get_or-map, get_or-replicate, get_or_past, length-map, length-replicate, take_all}
-use Rattle.std.proofs.lemmas.List.Elements.{All-get_or, All-map}
+use Rattle.std.proofs.lemmas.List.Elements.{All-map}
 use Rattle.std.proofs.lemmas.List.FromFn.{get_or-map-range_with_len, length-map-range_with_len}
 use Rattle.std.proofs.lemmas.List.Sums.{length-filter}
 use Rattle.std.proofs.lemmas.Option.{get_or_from_slice_get, slice_get-get_or, slice_get-map, slice_get_within}
@@ -15,8 +14,7 @@ use Rattle.sci_history.specs.declared.entry.Entry.{Entry}
 use Rattle.sci_history.specs.Placed.{log_of}
 use Rattle.sci_text.specs.Script.{ScriptValue, IsScript}
 use Rattle.sci_core.specs.Size.{Size}
-use Rattle.sci_core.specs.declared.pending.Pending.{Pending}
-use Rattle.sci_core.specs.Node.{NodeOf, opening_node, pending_on}
+use Rattle.sci_core.specs.Node.{opening_node}
 use Rattle.sci_lanes.specs.Shown.{me_of, opening_part}
 use Rattle.sci_lanes.specs.Ends.{EndOf, LanesOf, opening_ends}
 use Rattle.sci_lanes.specs.Gathering.{AreAll, AreOf, HaveLogs, IsOf}
@@ -144,6 +142,11 @@ logs_have Good operations ends logs count all have good node lt =
     let log = have it.place it.end it.there in
     subst (λ (n : ℕ). Good (operations n) (log_of logs n)) it.numbered (subst (λ (l : List Entry). Good (operations (me_of it.end.part)) l) (sym log) said)
 
+-- a slice that is written back over a vector of its length is all of it
+pub written_back : {A : Type 0} (len : ℕ) (new old : List A) → len ≡ length old → length new ≡ length old → take len (new ++ drop (length new) old) ≡ new
+written_back len new old is long =
+    ap (λ rest. take len (new ++ rest)) (drop_all (length new) old (omega (arith, long))) ∙ (ap (take len) (append-nil new) ∙ take_all len new (omega (arith, is, long)))
+
 module _ {A : Type 0} (station : A → StationOf) (operations : ℕ → List Op) where
   -- of what holds of each share, each end's log is of its operations
   pub named_ends : {E : Type 0} (finished : A → Result Bool E) (shares : List A) → All (λ s. HasRun operations (station s).end (finished s)) shares → All (λ end. IsLogOf (operations (me_of end.part)) end.part.node.log) (map end_in (map station shares))
@@ -175,11 +178,14 @@ module _ {A : Type 0} (station : A → StationOf) (operations : ℕ → List Op)
         (subst (λ (s : StationOf). IsSameEnd (station (slice_index_or (x ∷ xs) k x)).end s.end) (sym after) (each k x within));
   }
 
-  pub same_after : (table : TableId) (size : Size) (count : ℕ) (before after : List A) → map station before ≡ opened table size count → length after ≡ length before → ((k : ℕ) (d : A) → k < length before → IsSameEnd (station (slice_index_or before k d)).end (station (slice_index_or after k d)).end)
-      → AreSame (opened table size count) (map station after)
-  same_after table size count before after made long each = subst (λ (old : List StationOf). AreSame old (map station after)) made (same_stations before after long each)
-
--- a slice that is written back over a vector of its length is all of it
-pub written_back : {A : Type 0} (len : ℕ) (new old : List A) → len ≡ length old → length new ≡ length old → take len (new ++ drop (length new) old) ≡ new
-written_back len new old is long =
-    ap (λ rest. take len (new ++ rest)) (drop_all (length new) old (omega (arith, long))) ∙ (ap (take len) (append-nil new) ∙ take_all len new (omega (arith, is, long)))
+  -- The stations that come out of the slice which is written back over the vector that lent it: they are of the fabric
+  -- that they were of, and all of its.
+  pub came_back : (f : LanesOf) (size : Size) (count len : ℕ) (before after : List A) (left : List StationOf) → f.size ≡ size → map station before ≡ opened f.table size count → len ≡ length before → length after ≡ length before
+      → ((k : ℕ) (d : A) → k < length before → IsSameEnd (station (slice_index_or before k d)).end (station (slice_index_or after k d)).end) → left ≡ map station (take len (after ++ drop (length after) before))
+      → AreOf f (map end_in left) × AreAll count (map end_in left)
+  came_back f size count len before after left sized made is long each comes =
+      let same : AreSame (opened f.table size count) (map station after) = subst (λ (old : List StationOf). AreSame old (map station after)) made (same_stations before after long each) in
+      let here : left ≡ map station after = comes ∙ ap (map station) (written_back len after before is long) in (
+        subst (λ (xs : List StationOf). AreOf f (map end_in xs)) (sym here) (still_of f.table size count (map station after) same f refl sized),
+        subst (λ (xs : List StationOf). AreAll count (map end_in xs)) (sym here) (still_all f.table size count (map station after) same),
+      )

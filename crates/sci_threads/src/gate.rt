@@ -6,8 +6,8 @@ use std::alloc::{AllocError, Global};
 use std::sync::atomic::{AtomicU64, Ordering};
 use std::thread;
 
-/// Lets a node submit each operation as soon as it can, counts the nodes that are done, and yields the thread where nothing
-/// moves.
+/// Lets a node submit each operation as soon as it can, counts the nodes that are done, and yields the thread where
+/// nothing moves.
 #[derive(Drop)]
 pub struct YieldingGate<'a> {
     done: &'a AtomicU64,

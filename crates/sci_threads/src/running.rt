@@ -16,10 +16,10 @@ use sci_words::MAX_OPERATIONS;
 use std::alloc::{AllocError, Global};
 use std::thread::Threads;
 
-/// Runs a script: the station of each node is driven through the node's operations, with its own gate, in a thread of its
-/// own, for at most `turns` turns. A node whose thread can't be made is driven without one, and the run may then end
-/// unfinished. Gives the logs, the last contents, and whether all nodes have finished. The caller sees to it that there is
-/// one gate for each node. Refused if memory is.
+/// Runs a script: the station of each node is driven through the node's operations, with its own gate, in a thread of
+/// its own, for at most `turns` turns. A node whose thread can't be made is driven without one, and the run may then
+/// end unfinished. Gives the logs, the last contents, and whether all nodes have finished. The caller sees to it that
+/// there is one gate for each node. Refused if memory is.
 ///
 /// - The logs and the last contents are those of a state where a schedule leads the machine, whatever the threads did.
 /// - In each node's log each entry has the operation of the node that its serial names, and no serial stands twice.

@@ -1,5 +1,5 @@
 -- What a run by threads writes.
-use Rattle.std.proofs.Common.{◌≡◌, ℕ, ◌≤◌, Bool, true, false, List, length, ap, sym, subst, arith, refl, ◌∙◌}
+use Rattle.std.proofs.Common.{◌≡◌, ℕ, ◌≤◌, Bool, true, List, length, ap, sym, subst, arith}
 use Rattle.std.specs.Prelude.{Option, Some, None, IfSome}
 use Rattle.sci_words.specs.declared.limits.TheConstants.{MAX_INPUT_BYTES}
 use Rattle.sci_words.specs.declared.stamped.Stamped.{Stamped}

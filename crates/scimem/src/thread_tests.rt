@@ -6,7 +6,7 @@ use crate::outcome::Outcome;
 use crate::threads::threads;
 use sci_drive::Gate;
 use sci_history::Entry;
-use sci_text::{Script, Tap, logs_text, push_text, read_logs};
+use sci_text::{Script, Tap, logs_text, push_field, push_text, read_logs};
 use sci_threads::{YieldingGate, run_nodes};
 use sci_words::{Act, Extent, Op, Reply};
 use std::alloc::{AllocError, Global};
@@ -32,18 +32,17 @@ fn ran<T: Threads + Sync>(rt: &T, alloc: Global, script: &[u8], turns: u32) -> (
     (text, outcome)
 }
 
-/// A script in which each node adds 1 to one word so many times.
-fn hammering(
-    alloc: Global,
-    machine: &str,
-    nodes: &[&str],
-    times: u32,
-) -> Result<Vec<u8>, AllocError> {
+/// A script of one line in which each node adds 1 to one word so many times.
+fn hammering(alloc: Global, nodes: u8, times: u32) -> Result<Vec<u8>, AllocError> {
     let mut script = Vec::new(alloc);
-    push_text(&mut script, machine)?;
+    push_text(&mut script, "machine")?;
+    push_field(&mut script, u64::from(nodes))?;
+    push_text(&mut script, " 1 1\n")?;
     for _time in 0..times {
-        for line in nodes {
-            push_text(&mut script, line)?;
+        for node in 0..nodes {
+            push_text(&mut script, "p")?;
+            push_field(&mut script, u64::from(node))?;
+            push_text(&mut script, " fetch-add 0 0 1\n")?;
         }
     }
     Ok(script)
@@ -87,50 +86,33 @@ fn lawful(alloc: Global, log: &[u8]) -> Result<(), Fail> {
     }
 }
 
-#[test]
-fn hammer(rt: HostRuntime) -> Result<(), Fail> {
-    let alloc = rt.alloc();
-    let nodes = [
-        "p 0 fetch-add 0 0 1\n",
-        "p 1 fetch-add 0 0 1\n",
-        "p 2 fetch-add 0 0 1\n",
-        "p 3 fetch-add 0 0 1\n",
-    ];
-    let script = hammering(alloc, "machine 4 1 1\n", &nodes, 1000)?;
-    let (text, outcome) = ran(&rt, alloc, &script, TURNS);
-    assert_eq!(rt; outcome, Outcome::Done);
-    assert!(rt; text.starts_with(b"log 2 4 1\nlast 0 @4000 4000 0 0 0 0 0 0 0\n"));
-    each_reply_once(alloc, &text, 4000)?;
+/// Each node adds 1 to one word so many times: an error unless all is done, and the log begins so.
+fn hammers<T: Threads + Sync>(
+    rt: &T,
+    alloc: Global,
+    nodes: u8,
+    times: u32,
+    begins: &[u8],
+) -> Result<(), Fail> {
+    let script = hammering(alloc, nodes, times)?;
+    let (text, outcome) = ran(rt, alloc, &script, TURNS);
+    if outcome != Outcome::Done || !text.starts_with(begins) {
+        return Err(Fail::from("another end, or another beginning"));
+    }
+    each_reply_once(alloc, &text, usize::from(nodes) * times as usize)?;
     lawful(alloc, &text)
 }
 
 #[test]
+fn hammer(rt: HostRuntime) -> Result<(), Fail> {
+    let begins = b"log 2 4 1\nlast 0 @4000 4000 0 0 0 0 0 0 0\n";
+    hammers(&rt, rt.alloc(), 4, 1000, begins)
+}
+
+#[test]
 fn sixteen(rt: HostRuntime) -> Result<(), Fail> {
-    let alloc = rt.alloc();
-    let nodes = [
-        "p 0 fetch-add 0 0 1\n",
-        "p 1 fetch-add 0 0 1\n",
-        "p 2 fetch-add 0 0 1\n",
-        "p 3 fetch-add 0 0 1\n",
-        "p 4 fetch-add 0 0 1\n",
-        "p 5 fetch-add 0 0 1\n",
-        "p 6 fetch-add 0 0 1\n",
-        "p 7 fetch-add 0 0 1\n",
-        "p 8 fetch-add 0 0 1\n",
-        "p 9 fetch-add 0 0 1\n",
-        "p 10 fetch-add 0 0 1\n",
-        "p 11 fetch-add 0 0 1\n",
-        "p 12 fetch-add 0 0 1\n",
-        "p 13 fetch-add 0 0 1\n",
-        "p 14 fetch-add 0 0 1\n",
-        "p 15 fetch-add 0 0 1\n",
-    ];
-    let script = hammering(alloc, "machine 16 1 1\n", &nodes, 100)?;
-    let (text, outcome) = ran(&rt, alloc, &script, TURNS);
-    assert_eq!(rt; outcome, Outcome::Done);
-    assert!(rt; text.starts_with(b"log 2 16 1\nlast 0 @1600 1600 0 0 0 0 0 0 0\n"));
-    each_reply_once(alloc, &text, 1600)?;
-    lawful(alloc, &text)
+    let begins = b"log 2 16 1\nlast 0 @1600 1600 0 0 0 0 0 0 0\n";
+    hammers(&rt, rt.alloc(), 16, 100, begins)
 }
 
 #[test]
@@ -145,17 +127,24 @@ fn one_turn(rt: HostRuntime) {
 }
 
 #[test]
-fn an_empty_script_and_one_node_with_all(rt: HostRuntime) -> Result<(), Fail> {
-    let alloc = rt.alloc();
-    let (text, outcome) = ran(&rt, alloc, b"machine 3 1 1\n", 1);
+fn an_empty_script(rt: HostRuntime) {
+    let none = b"log 2 3 1\nlast 0 @0 0 0 0 0 0 0 0 0\n".as_slice();
+    let (text, outcome) = ran(&rt, rt.alloc(), b"machine 3 1 1\n", 1);
     assert_eq!(rt; outcome, Outcome::Unlawful);
-    assert_eq!(rt;
-        text.as_slice(),
-        b"log 2 3 1\nlast 0 @0 0 0 0 0 0 0 0 0\n".as_slice()
-    );
-    let (_text, outcome) = ran(&rt, alloc, b"machine 3 1 1\n", TURNS);
+    assert_eq!(rt; text.as_slice(), none);
+    let (text, outcome) = ran(&rt, rt.alloc(), b"machine 3 1 1\n", TURNS);
     assert_eq!(rt; outcome, Outcome::Done);
-    let script = hammering(alloc, "machine 4 2 1\n", &["p 2 fetch-add 1 0 1\n"], 500)?;
+    assert_eq!(rt; text.as_slice(), none);
+}
+
+#[test]
+fn one_node_has_all(rt: HostRuntime) -> Result<(), Fail> {
+    let alloc = rt.alloc();
+    let mut script = Vec::new(alloc);
+    push_text(&mut script, "machine 4 2 1\n")?;
+    for _time in 0..500 {
+        push_text(&mut script, "p 2 fetch-add 1 0 1\n")?;
+    }
     let (text, outcome) = ran(&rt, alloc, &script, TURNS);
     assert_eq!(rt; outcome, Outcome::Done);
     each_reply_once(alloc, &text, 500)?;

@@ -1,4 +1,4 @@
-use Rattle.std.proofs.Common.{◌≡◌, ◌<◌, ◌≤◌, ℕ, List, [], All, Ok, true, Vec, length, map, get_or, arith, refl, sym, ap, subst, ◌∙◌}
+use Rattle.std.proofs.Common.{◌≡◌, ◌<◌, ℕ, List, [], All, Ok, true, Vec, length, map, get_or, sym, ap, subst, ◌∙◌}
 use Rattle.std.specs.Prelude.{slice_index_or}
 use Rattle.sci_words.specs.declared.operation.Op.{Op}
 use Rattle.sci_history.specs.Placed.{log_of}
@@ -6,12 +6,12 @@ use Rattle.sci_lanes.specs.Ends.{EndOf}
 use Rattle.sci_words.specs.declared.limits.TheConstants.{MAX_OPERATIONS}
 use Rattle.sci_core.specs.Size.{Size, size_of}
 use Rattle.sci_lanes.specs.Shown.{me_of}
-use Rattle.sci_lanes.specs.Gathering.{AreAll, AreOf}
+use Rattle.sci_lanes.specs.Gathering.{AreAll}
 use Rattle.sci_drive.specs.Driving.{HasSubmittedNothing}
 use Rattle.sci_drive.specs.Script.{IsLogOf, IsWholeLogOf}
 use Rattle.sci_station.specs.Ends.{IsSameEnd}
 use Rattle.sci_station.specs.Station.{StationOf, end_in, node_in}
-use Rattle.sci_threads.proofs.Sharing.{all_unmapped, opened, opened_long, opened_known, opened_all_fresh, logs_have, named_ends, own_is, same_after, still_all, still_of, whole_ends, written_back}
+use Rattle.sci_threads.proofs.Sharing.{came_back, all_unmapped, opened_long, opened_known, opened_all_fresh, logs_have, named_ends, own_is, whole_ends, written_back}
 use Rattle.sci_threads.specs.declared.shares.Share.{Share}
 use Rattle.sci_threads.specs.Shares.{operations_of, own_of}
 use Rattle.sci_threads.proofs.running.run_nodes.Goals as goal
@@ -47,30 +47,26 @@ run_all-requires-clause-fresh g c =
 pub finish-requires : goal.finish-requires
 finish-requires g c =
     let f = c.in_ok-fabric.fabric in
+    let size = size_of c.extent.result MAX_OPERATIONS in
     let before = c.in_ok-shares.shares in
     let after = c.run_all.new.shares in
     let long : length after ≡ length before.items = c.run_all.auto.shares ∙ ap length c.deref_mut.ensures.value in
-    let stations : c.in_ok-stations.stations.items ≡ map (λ share. share.station) after = c.in_ok-stations.ensures.stations ∙ ap (map (λ share. share.station)) (written_back before.len after before.items before.ok.0 long) in
-    let size = size_of c.extent.result MAX_OPERATIONS in
-    let count = c.extent.result.nodes in
     let each = subst (λ (xs : List (Share g.row.G.Denot)). (k : ℕ) (d : Share g.row.G.Denot) → k < length xs → IsSameEnd (get_or xs k d).station.end (get_or after k d).station.end) c.deref_mut.ensures.value c.run_all.ensures.same in
-    let same = same_after (λ (share : Share g.row.G.Denot). share.station) (λ _. []) f.table size count before.items after (c.in_ok-shares.ensures ∙ c.in_ok-fabric.ensures.stations) long each in
-    record { own = subst (λ (xs : List StationOf). AreOf f (map end_in xs)) (sym stations) (still_of f.table size count (map (λ share. share.station) after) same f refl c.in_ok-fabric.ensures.size) }
+    let made = c.in_ok-shares.ensures ∙ c.in_ok-fabric.ensures.stations in
+    record { own = (came_back (λ (share : Share g.row.G.Denot). share.station) (λ _. []) f size c.extent.result.nodes before.len before.items after c.in_ok-stations.stations.items c.in_ok-fabric.ensures.size made before.ok.0 long each c.in_ok-stations.ensures.stations).0 }
 
 pub unreachable-requires : goal.unreachable-requires
 unreachable-requires g c =
     let f = c.in_ok-fabric.fabric in
+    let size = size_of c.extent.result MAX_OPERATIONS in
     let before = c.in_ok-shares.shares in
     let after = c.run_all.new.shares in
     let long : length after ≡ length before.items = c.run_all.auto.shares ∙ ap length c.deref_mut.ensures.value in
-    let stations : c.in_ok-stations.stations.items ≡ map (λ share. share.station) after = c.in_ok-stations.ensures.stations ∙ ap (map (λ share. share.station)) (written_back before.len after before.items before.ok.0 long) in
-    let size = size_of c.extent.result MAX_OPERATIONS in
-    let count = c.extent.result.nodes in
     let each = subst (λ (xs : List (Share g.row.G.Denot)). (k : ℕ) (d : Share g.row.G.Denot) → k < length xs → IsSameEnd (get_or xs k d).station.end (get_or after k d).station.end) c.deref_mut.ensures.value c.run_all.ensures.same in
-    let same = same_after (λ (share : Share g.row.G.Denot). share.station) (λ _. []) f.table size count before.items after (c.in_ok-shares.ensures ∙ c.in_ok-fabric.ensures.stations) long each in
-    let nodes : f.size.nodes ≡ count = ap (λ (z : Size). z.nodes) c.in_ok-fabric.ensures.size in
-    let all : AreAll f.size.nodes (map end_in c.in_ok-stations.stations.items) = subst (λ (xs : List StationOf). AreAll f.size.nodes (map end_in xs)) (sym stations) (subst (λ (n : ℕ). AreAll n (map end_in (map (λ share. share.station) after))) (sym nodes) (still_all f.table size count (map (λ share. share.station) after) same)) in
-    c.in-Err-Missing-default-default.ensures.missing c.in-Err-Missing-default-default.field-0-0-is all
+    let made = c.in_ok-shares.ensures ∙ c.in_ok-fabric.ensures.stations in
+    let ends : List EndOf = map end_in c.in_ok-stations.stations.items in
+    let all : AreAll c.extent.result.nodes ends = (came_back (λ (share : Share g.row.G.Denot). share.station) (λ _. []) f size c.extent.result.nodes before.len before.items after c.in_ok-stations.stations.items c.in_ok-fabric.ensures.size made before.ok.0 long each c.in_ok-stations.ensures.stations).1 in
+    c.in-Err-Missing-default-default.ensures.missing c.in-Err-Missing-default-default.field-0-0-is (subst (λ (n : ℕ). AreAll n ends) (sym (ap (λ (z : Size). z.nodes) c.in_ok-fabric.ensures.size)) all)
 
 pub returns-in-Ok-clause-named : goal.returns-in-Ok-clause-named
 returns-in-Ok-clause-named g c = λ node lt.

@@ -1,5 +1,5 @@
 -- What is written is the text of a run of the script that was read.
-use Rattle.std.proofs.Common.{◌≡◌, List, ℕ, true, sym, subst, ap, ◌∙◌}
+use Rattle.std.proofs.Common.{◌≡◌, ℕ, true, sym, ap, ◌∙◌}
 use Rattle.sci_text.specs.Tap.{tapped}
 use Rattle.scimem.proofs.ThreadLogs.{IsRunOf, threads_if}
 use Rattle.sci_text.specs.Log.{log_text}

@@ -1,4 +1,4 @@
-use Rattle.std.proofs.Common.{◌≡◌, ◌<◌, length, ℕ, ◌-◌, true, false}
+use Rattle.std.proofs.Common.{◌≡◌, ◌<◌, length, ◌-◌, true, false}
 use Rattle.sci_drive.specs.Driving.{IsDriven}
 use Rattle.sci_drive.proofs.driver.Driver.perform.Given as goal
 
