@@ -330,7 +330,7 @@ fn sixteen_nodes_over_all_lines_with_one_slot_each(rt: HostRuntime) -> Result<()
     let extent = Extent::new(16, 64, 1).ok_or("an extent")?;
     let mut script = Script::new(alloc, extent);
     let mut state = 1;
-    for _time in 0..4096 {
+    for _time in 0..512 {
         for node in 0..16 {
             state = next(state);
             if script.push(node, any_op(state)).is_err() {
