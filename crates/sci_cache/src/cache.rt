@@ -57,7 +57,7 @@ fn taken_after(taken: usize, was_out: bool, is_out: bool) -> usize
 }
 
 impl Cache {
-    ghost use Rattle.std.specs.Prelude.{◌≡◌, ◌<◌, ◌≤◌, ◌%◌, ℕ, true, Some, None, Ok, Err, IfOk, IfErr, IfSome, IsErr, IsOk, length, replicate};
+    ghost use Rattle.std.specs.Prelude.{◌≡◌, ◌<◌, ◌≤◌, ◌%◌, ℕ, true, false, Some, None, Ok, Err, IfOk, IfErr, IfSome, IsErr, IsOk, length, replicate};
     ghost use Rattle.sci_words.specs.declared.limits.TheConstants.{MAX_LINES, WORDS_PER_LINE};
     ghost use Rattle.sci_cache.specs.Serving.{IsForCache};
     ghost use Rattle.sci_cache.specs.Line.{untouched};
@@ -144,6 +144,8 @@ impl Cache {
         ensures order { IfSome result (λ line. from ≤ line) }
         ensures here { IfSome result (λ line. line < length self.now.lines) }
         ensures small { IfSome result (λ line. line < MAX_LINES) }
+        ensures found { IfSome result
+            (λ line. is_out (line_of self.now line).state ≡ false) }
         ensures between { (line : ℕ) → from ≤ line → IsBefore line result →
             is_out (line_of self.now line).state ≡ true }
     {

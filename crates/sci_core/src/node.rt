@@ -395,6 +395,8 @@ impl Node {
         ensures order { IfSome result (λ line. from ≤ line) }
         ensures here { IfSome result (λ line. line < lines_of self.now) }
         ensures small { IfSome result (λ line. line < MAX_LINES) }
+        ensures found { IfSome result
+            (λ line. is_out (line_of self.now.cache line).state ≡ false) }
         ensures between { (line : ℕ) → from ≤ line → IsBefore line result →
             is_out (line_of self.now.cache line).state ≡ true }
     {
@@ -406,6 +408,7 @@ impl Node {
         ensures order { IfSome result (λ line. from ≤ line) }
         ensures here { IfSome result (λ line. line < lines_of self.now) }
         ensures small { IfSome result (λ line. line < MAX_LINES) }
+        ensures found { IfSome result (λ line. IsSome (pending_on self.now line)) }
         ensures between { (line : ℕ) → from ≤ line → IsBefore line result →
             pending_on self.now line ≡ None }
     {

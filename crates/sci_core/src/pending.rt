@@ -35,7 +35,7 @@ impl Model for PendingOps {
 }
 
 impl PendingOps {
-    ghost use Rattle.std.specs.Prelude.{◌≡◌, ◌<◌, ◌≤◌, ℕ, None, IfOk, IfSome, length, replicate, slice_index_or, slice_set};
+    ghost use Rattle.std.specs.Prelude.{◌≡◌, ◌<◌, ◌≤◌, ℕ, None, IfOk, IfSome, IsSome, length, replicate, slice_index_or, slice_set};
     ghost use Rattle.sci_words.specs.declared.limits.TheConstants.{MAX_LINES};
     ghost use Rattle.sci_cache.specs.LineSet.{IsBefore};
 
@@ -90,6 +90,7 @@ impl PendingOps {
         ensures order { IfSome result (λ line. from ≤ line) }
         ensures here { IfSome result (λ line. line < length self.now) }
         ensures small { IfSome result (λ line. line < MAX_LINES) }
+        ensures found { IfSome result (λ line. IsSome (slice_index_or self.now line None)) }
         ensures between { (line : ℕ) → from ≤ line → IsBefore line result →
             slice_index_or self.now line None ≡ None }
     {

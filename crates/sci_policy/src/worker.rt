@@ -10,7 +10,7 @@ use std::alloc::AllocError;
 /// from 0. No call waits for another thread.
 pub trait Worker {
     ghost use Rattle.std.specs.Prelude.{◌≡◌, true, Some, None, IfOk, IfErr, IfSome, IsErr};
-    ghost use Rattle.sci_core.specs.Node.{NodeOf};
+    ghost use Rattle.sci_core.specs.Node.{NodeOf, node_performing};
     ghost use Rattle.sci_core.specs.Work.{IsIssued, IsLogged};
     ghost use Rattle.sci_policy.specs.Rest.{MayIdle};
     ghost use Rattle.sci_policy.specs.Turn.{is_idle, submit_fault};
@@ -30,11 +30,12 @@ pub trait Worker {
         ensures same { IsErr result → node self.new ≡ node self.old }
         ensures stays { stays self.old self.new };
 
-    /// Performs the operation that is pending on a line, and gives its entry, which now ends the log. None, with the
-    /// same work, if none is pending there or it can't be performed yet.
+    /// Performs the operation that is pending on a line, and gives its entry, which now ends the log. None only if none
+    /// is pending there or it can't be performed yet, and then the work is the same.
     fn perform(&mut self, line: u8) -> Option<Entry>
         ensures performed { IfSome result
             (λ entry. IsLogged (node self.old) (node self.new) line entry) }
+        ensures none { result ≡ None → node_performing (node self.old) line ≡ None }
         ensures same { result ≡ None → node self.new ≡ node self.old }
         ensures stays { stays self.old self.new };
 
