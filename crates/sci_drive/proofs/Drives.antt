@@ -15,15 +15,16 @@ use Rattle.sci_core.specs.Work.{IsIssued, IsLogged}
 use Rattle.sci_core.specs.declared.pending.Pending.{Pending}
 use Rattle.sci_policy.specs.Worker.{HasSameWork}
 use Rattle.sci_drive.specs.Script.{IsLogOf, IsNamedBy, IsWholeLogOf, times_answered}
+use Rattle.sci_drive.specs.declared.driver.Issuing.{Issuing}
 use Rattle.sci_drive.specs.Driving.{DriverOf, HasSubmittedNothing, IsAnsweredOrPending, IsAwaited, IsDriven, opening_driver}
 
 -- ---- options and counts
 
-never_both : {A : Type 0} (o : Option A) (x : A) → o ≡ None → o ≡ Some x → ⊥
+pub never_both : {A : Type 0} (o : Option A) (x : A) → o ≡ None → o ≡ Some x → ⊥
 never_both None x e f = cc
 never_both (Some y) x e f = cc
 
-same_some : {A : Type 0} (o : Option A) (x y : A) → o ≡ Some x → o ≡ Some y → x ≡ y
+pub same_some : {A : Type 0} (o : Option A) (x y : A) → o ≡ Some x → o ≡ Some y → x ≡ y
 same_some None x y e f = cc
 same_some (Some z) x y e f = cc
 
@@ -40,8 +41,8 @@ times_other serial log e other =
 
 -- ---- the first moment
 
-pub opens : (script : List Op) (node : NodeOf) → HasSubmittedNothing node → IsDriven (opening_driver script) node
-opens script node none = record {
+pub opens : (script : List Op) (issuing : Issuing) (node : NodeOf) → HasSubmittedNothing node → IsDriven (opening_driver script issuing) node
+opens script issuing node none = record {
   issued = none.issued;
   within = omega arith;
   named = rw none.log (All-nil (IsNamedBy script));

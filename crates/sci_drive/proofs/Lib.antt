@@ -1,1 +1,2 @@
 mod Drives
+pub mod InOrder

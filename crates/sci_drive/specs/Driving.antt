@@ -4,16 +4,20 @@ use Rattle.std.specs.List.{Contains}
 use Rattle.sci_words.specs.declared.operation.Op.{Op}
 use Rattle.sci_core.specs.Node.{NodeOf, pending_on}
 use Rattle.sci_core.specs.declared.pending.Pending.{Pending}
+use Rattle.sci_history.specs.Sequential.{IsInProgramOrder}
+use Rattle.sci_drive.specs.declared.driver.Issuing.{Issuing}
+use Rattle.sci_drive.specs.declared.driver.Issuing.TheVariants.{InOrder}
 use Rattle.sci_drive.specs.Script.{IsNamedBy, times_answered}
 
--- a script, how many of its operations were submitted, and the lines on which one of them is pending, by serial
+-- a script, when its operations are submitted, how many of them were, and the lines on which one is pending, by serial
 pub record DriverOf : Type 0 where
   pub script : List Op
+  pub issuing : Issuing
   pub next : ℕ
   pub pending : List ℕ
 
-abbrev pub opening_driver : List Op → DriverOf
-opening_driver script = record { script = script; next = 0; pending = [] }
+abbrev pub opening_driver : List Op → Issuing → DriverOf
+opening_driver script issuing = record { script = script; issuing = issuing; next = 0; pending = [] }
 
 -- nothing was submitted, and nothing is logged
 pub record HasSubmittedNothing (node : NodeOf) : Type 0 where
@@ -42,3 +46,12 @@ pub record IsDriven (driver : DriverOf) (node : NodeOf) : Type 0 where
   pub submitted : (serial : ℕ) → serial < driver.next → IsAnsweredOrPending node serial
   pub later : (serial : ℕ) → driver.next ≤ serial → times_answered serial node.log ≡ 0
   pub pending : (line : ℕ) (p : Pending) → pending_on node line ≡ Some p → IsAwaited driver node line p
+
+-- A driver that issues in order: at most one operation is pending, and it comes behind all that are logged; and the log
+-- stands in the order of the script.
+pub record IsInOrder (driver : DriverOf) (node : NodeOf) : Type 0 where
+  pub issues : driver.issuing ≡ InOrder
+  pub one : length driver.pending ≤ 1
+  pub ordered : IsInProgramOrder node.log
+  pub before : All (λ e. e.serial < driver.next) node.log
+  pub behind : (line : ℕ) (p : Pending) → pending_on node line ≡ Some p → All (λ e. e.serial < p.serial) node.log

@@ -10,11 +10,21 @@ use std::marker::Model;
 /// How many operations of a script are pending at most.
 const WINDOW: usize = 4;
 
-/// A script that is being driven. Contracts see the script, how many of its operations were submitted, and the lines
-/// on which one is pending.
+/// When the operations of a script are submitted.
+#[derive(Clone, Copy, Debug, PartialEq, Eq)]
+pub enum Issuing {
+    /// Up to four at once, each on another line. They may be performed in another order than the script's.
+    Ahead,
+    /// Each when all before it are performed. So the log stands in the order of the script.
+    InOrder,
+}
+
+/// A script that is being driven. Contracts see the script, when its operations are submitted, how many of them were,
+/// and the lines on which one is pending.
 #[derive(Drop)]
 pub struct Driver<'a> {
     script: &'a [Op],
+    issuing: Issuing,
     next: usize,
     // the lines on which an operation is pending, by serial
     pending: ArrayVec<u8, WINDOW>,
@@ -30,6 +40,7 @@ impl<'a> Model for Driver<'a> {
 
     ghost view = { λ driver. record {
       script = driver.script.now;
+      issuing = driver.issuing;
       next = driver.next;
       pending = driver.pending.items;
     } };
@@ -53,15 +64,16 @@ impl<'a> Driver<'a> {
     ghost use Rattle.sci_policy.specs.Turn.{is_idle};
     ghost use Rattle.sci_policy.specs.Worker.{IsNodeTurn};
     ghost use Rattle.sci_words.specs.declared.limits.TheConstants.{MAX_OPERATIONS};
-    ghost use Rattle.sci_drive.specs.Driving.{IsDriven, opening_driver};
+    ghost use Rattle.sci_drive.specs.Driving.{IsDriven, IsInOrder, opening_driver};
 
     /// A driver that has submitted nothing yet. The caller sees to it that the script has at most 65,536 operations.
-    pub fn new(script: &'a [Op]) -> Driver<'a>
+    pub fn new(script: &'a [Op], issuing: Issuing) -> Driver<'a>
         requires few { length script.now ≤ MAX_OPERATIONS }
-        ensures { result ≡ opening_driver script.now }
+        ensures { result ≡ opening_driver script.now issuing }
     {
         Driver {
             script,
+            issuing,
             next: 0,
             pending: ArrayVec::new(),
             was_done: false,
@@ -78,7 +90,8 @@ impl<'a> Driver<'a> {
 
     /// Does one round:
     ///
-    /// - submits the next operation if fewer than four are pending, none on its line, and the gate allows it;
+    /// - submits the next operation if the gate allows it and none is pending, or, if it issues ahead, fewer than four
+    ///   are, none of them on its line;
     /// - performs what can be performed, by serial, and tells the gate of each entry;
     /// - takes one turn;
     /// - the first time that the whole script is answered, tells the gate that it is done.
@@ -92,6 +105,8 @@ impl<'a> Driver<'a> {
     ) -> Result<Round, AllocError>
         requires driven { IsDriven self.old (W.node worker.old) }
         ensures driven { IsDriven self.new (W.node worker.new) }
+        ensures order { IsInOrder self.old (W.node worker.old) →
+            IsInOrder self.new (W.node worker.new) }
         ensures answered { IfOk result (λ round. round.answered ≡ true →
             length (W.node worker.old).log < length (W.node worker.new).log) }
         ensures none { IfOk result (λ round. round.answered ≡ false →
@@ -117,11 +132,17 @@ impl<'a> Driver<'a> {
     fn submit<W: Worker, G: Gate>(&mut self, worker: &mut W, gate: &mut G)
         requires driven { IsDriven self.old (W.node worker.old) }
         ensures driven { IsDriven self.new (W.node worker.new) }
+        ensures order { IsInOrder self.old (W.node worker.old) →
+            IsInOrder self.new (W.node worker.new) }
         ensures log { (W.node worker.new).log ≡ (W.node worker.old).log }
         ensures script { self.new.script ≡ self.old.script }
         ensures stays { W.stays worker.old worker.new }
     {
-        if self.pending.is_full() {
+        let is_free = match self.issuing {
+            Issuing::Ahead => !self.pending.is_full(),
+            Issuing::InOrder => self.pending.is_empty(),
+        };
+        if !is_free {
             return;
         }
         let Some(op) = self.script.get(self.next) else {
@@ -140,6 +161,8 @@ impl<'a> Driver<'a> {
     fn perform<W: Worker, G: Gate>(&mut self, worker: &mut W, gate: &mut G) -> bool
         requires driven { IsDriven self.old (W.node worker.old) }
         ensures driven { IsDriven self.new (W.node worker.new) }
+        ensures order { IsInOrder self.old (W.node worker.old) →
+            IsInOrder self.new (W.node worker.new) }
         ensures answered { result ≡ true →
             length (W.node worker.old).log < length (W.node worker.new).log }
         ensures none { result ≡ false → (W.node worker.new).log ≡ (W.node worker.old).log }

@@ -5,6 +5,6 @@ mod driver;
 mod gate;
 mod running;
 
-pub use driver::{Driver, Round};
+pub use driver::{Driver, Issuing, Round};
 pub use gate::Gate;
-pub use running::{Ran, drive};
+pub use running::{Ran, drive, drive_issuing};

@@ -2,10 +2,12 @@
 
 ghost use Rattle.std.specs.Prelude.{◌≡◌, ◌≤◌, true, false, length, IfOk};
 ghost use Rattle.sci_words.specs.declared.limits.TheConstants.{MAX_OPERATIONS};
+ghost use Rattle.sci_history.specs.Sequential.{IsInProgramOrder};
+ghost use Rattle.sci_drive.specs.declared.driver.Issuing.TheVariants.{InOrder};
 ghost use Rattle.sci_drive.specs.Driving.{HasSubmittedNothing};
 ghost use Rattle.sci_drive.specs.Script.{IsLogOf, IsWholeLogOf};
 
-use crate::driver::Driver;
+use crate::driver::{Driver, Issuing};
 use crate::gate::Gate;
 use sci_policy::Worker;
 use sci_words::Op;
@@ -25,7 +27,8 @@ pub struct Ran {
 
 /// Drives a worker through a script, a round at a time, for at most so many turns. It ends finished as soon as the
 /// whole script is answered and the gate says that all are done. The gate's rest is called after each turn in which
-/// nothing moved, and after 16 turns in a row without an entry or a rest.
+/// nothing moved, and after 16 turns in a row without an entry or a rest. Up to four operations are pending at once,
+/// each on another line, and they may be performed in another order than the script's.
 ///
 /// The caller sees to it that the worker has submitted nothing, and that the script has at most 65,536 operations. An
 /// operation that the worker refuses is tried again in each round. Refused if a turn of the worker is.
@@ -47,7 +50,29 @@ pub fn drive<W: Worker, G: Gate>(
     ensures all { IfOk result (λ ran. ran.finished ≡ false → ran.turns ≡ turns) }
     ensures stays { W.stays worker.old worker.new }
 {
-    let mut driver = Driver::new(script);
+    drive_issuing(worker, script, Issuing::Ahead, gate, turns)
+}
+
+/// Drives a worker as `drive` does, but with operations submitted ahead or in order. All that `drive` promises holds of
+/// it too. Issued in order, the log stands in the order of the script, however it ends.
+pub fn drive_issuing<W: Worker, G: Gate>(
+    worker: &mut W,
+    script: &[Op],
+    issuing: Issuing,
+    gate: &mut G,
+    turns: u32,
+) -> Result<Ran, AllocError>
+    requires fresh { HasSubmittedNothing (W.node worker.old) }
+    requires few { length script.now ≤ MAX_OPERATIONS }
+    ensures ordered { issuing ≡ InOrder → IsInProgramOrder (W.node worker.new).log }
+    ensures named { IsLogOf script.now (W.node worker.new).log }
+    ensures whole { IfOk result (λ ran.
+        ran.finished ≡ true → IsWholeLogOf script.now (W.node worker.new).log) }
+    ensures turns { IfOk result (λ ran. ran.turns ≤ turns) }
+    ensures all { IfOk result (λ ran. ran.finished ≡ false → ran.turns ≡ turns) }
+    ensures stays { W.stays worker.old worker.new }
+{
+    let mut driver = Driver::new(script, issuing);
     let mut restless = 0;
     for turn in 0..turns {
         let round = driver.round(worker, gate)?;

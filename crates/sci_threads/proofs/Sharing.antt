@@ -8,7 +8,7 @@ use Rattle.std.proofs.lemmas.List.FromFn.{get_or-map-range_with_len, length-map-
 use Rattle.std.proofs.lemmas.List.Sums.{length-filter}
 use Rattle.std.proofs.lemmas.Option.{get_or_from_slice_get, slice_get-get_or, slice_get-map, slice_get_within}
 use Rattle.atomic_table.specs.Seated.{TableId}
-use Rattle.sci_words.specs.declared.limits.TheConstants.{MAX_OPERATIONS}
+use Rattle.sci_words.specs.declared.limits.TheConstants.{MAX_NODES, MAX_OPERATIONS}
 use Rattle.sci_words.specs.declared.operation.Op.{Op}
 use Rattle.sci_history.specs.declared.entry.Entry.{Entry}
 use Rattle.sci_history.specs.Placed.{log_of}
@@ -19,6 +19,14 @@ use Rattle.sci_lanes.specs.Shown.{me_of, opening_part}
 use Rattle.sci_lanes.specs.Ends.{EndOf, LanesOf, opening_ends}
 use Rattle.sci_lanes.specs.Gathering.{AreAll, AreOf, HaveLogs, IsOf}
 use Rattle.sci_drive.specs.Driving.{HasSubmittedNothing}
+use Rattle.sci_history.specs.Sequential.{AreInProgramOrder, IsInProgramOrder}
+use Rattle.sci_core.specs.Core.{Core}
+use Rattle.sci_core.specs.Outcome.{logs_of}
+use Rattle.sci_core.specs.Reached.{IsReached}
+use Rattle.sci_core.proofs.WellFormedSteps.{reached_well}
+use Rattle.sci_core.proofs.ReachedLaws.{log_at, log_beyond, beyond_log}
+use Rattle.sci_drive.specs.declared.driver.Issuing.{Issuing}
+use Rattle.sci_drive.specs.declared.driver.Issuing.TheVariants.{InOrder}
 use Rattle.sci_drive.specs.Script.{IsLogOf, IsWholeLogOf}
 use Rattle.sci_station.specs.Ends.{IsSameEnd}
 use Rattle.sci_station.specs.Station.{StationOf, end_in, node_in, opening_station}
@@ -142,19 +150,40 @@ logs_have Good operations ends logs count all have good node lt =
     let log = have it.place it.end it.there in
     subst (λ (n : ℕ). Good (operations n) (log_of logs n)) it.numbered (subst (λ (l : List Entry). Good (operations (me_of it.end.part)) l) (sym log) said)
 
+empty_in_order : IsInProgramOrder []
+empty_in_order i j d lt inside = absurd (omega arith)
+
+-- if the log of each node stands in order, all logs do: no other has an entry
+pub in_order : (logs : List (List Entry)) (count : ℕ) (core : Core) → IsReached core → logs ≡ logs_of core → core.size.nodes ≡ count → ((node : ℕ) → node < count → IsInProgramOrder (log_of logs node)) → AreInProgramOrder logs
+in_order logs count core reached is nodes each node = elim (cases_lt node count) [
+  | inl lt ↦ each node lt
+  | inr past ↦ subst (λ (all : List (List Entry)). IsInProgramOrder (log_of all node)) (sym is) (elim (cases_lt node MAX_NODES) [
+    | inl low ↦ subst IsInProgramOrder (sym (log_at core node low ∙ beyond_log core node (reached_well core reached) (omega arith))) empty_in_order
+    | inr high ↦ subst IsInProgramOrder (sym (log_beyond core node high)) empty_in_order
+  ])
+]
+
+-- What holds of each end's log, and of the operations that stand under its number, holds of each node's log and the node's
+-- operations.
+pub each_log : {Z : Type 0} (Good : List Op → List Entry → Type 0) (s : ScriptValue) (operations : List (Vec Op Z)) (ends : List EndOf) (logs : List (List Entry)) → length operations ≡ s.nodes
+    → ((n : ℕ) (d : Vec Op Z) → n < s.nodes → (slice_index_or operations n d).items ≡ operations_of n s.operations) → AreAll s.nodes ends → HaveLogs ends logs → All (λ end. Good (own_of operations (me_of end.part)) end.part.node.log) ends
+    → (node : ℕ) → node < s.nodes → Good (operations_of node s.operations) (log_of logs node)
+each_log Good s operations ends logs many own all have good node lt =
+    subst (λ (ops : List Op). Good ops (log_of logs node)) (own_is s operations node many own lt) (logs_have Good (own_of operations) ends logs s.nodes all have good node lt)
+
 -- a slice that is written back over a vector of its length is all of it
 pub written_back : {A : Type 0} (len : ℕ) (new old : List A) → len ≡ length old → length new ≡ length old → take len (new ++ drop (length new) old) ≡ new
 written_back len new old is long =
     ap (λ rest. take len (new ++ rest)) (drop_all (length new) old (omega (arith, long))) ∙ (ap (take len) (append-nil new) ∙ take_all len new (omega (arith, is, long)))
 
-module _ {A : Type 0} (station : A → StationOf) (operations : ℕ → List Op) where
+module _ {A : Type 0} (station : A → StationOf) (issuing : Issuing) (operations : ℕ → List Op) where
   -- of what holds of each share, each end's log is of its operations
-  pub named_ends : {E : Type 0} (finished : A → Result Bool E) (shares : List A) → All (λ s. HasRun operations (station s).end (finished s)) shares → All (λ end. IsLogOf (operations (me_of end.part)) end.part.node.log) (map end_in (map station shares))
+  pub named_ends : {E : Type 0} (finished : A → Result Bool E) (shares : List A) → All (λ s. HasRun issuing operations (station s).end (finished s)) shares → All (λ end. IsLogOf (operations (me_of end.part)) end.part.node.log) (map end_in (map station shares))
   named_ends finished shares run =
       let Good : EndOf → Type 0 = λ end. IsLogOf (operations (me_of end.part)) end.part.node.log in
       All-map Good end_in (map station shares) (All-map (λ (s : StationOf). Good s.end) station shares (λ k d lt. (run k d lt).named))
 
-  pub whole_ends : {E : Type 0} (finished : A → Result Bool E) (shares : List A) → All (λ s. HasRun operations (station s).end (finished s)) shares → All (λ s. finished s ≡ Ok true) shares
+  pub whole_ends : {E : Type 0} (finished : A → Result Bool E) (shares : List A) → All (λ s. HasRun issuing operations (station s).end (finished s)) shares → All (λ s. finished s ≡ Ok true) shares
       → All (λ end. IsWholeLogOf (operations (me_of end.part)) end.part.node.log) (map end_in (map station shares))
   whole_ends finished shares run all =
       let Good : EndOf → Type 0 = λ end. IsWholeLogOf (operations (me_of end.part)) end.part.node.log in
@@ -164,6 +193,12 @@ module _ {A : Type 0} (station : A → StationOf) (operations : ℕ → List Op)
       whole_if script log (Ok b) h is = h cc
       whole_if script log (Err e) h is = absurd cc
 
+  pub ordered_ends : {E : Type 0} (finished : A → Result Bool E) (shares : List A) → issuing ≡ InOrder → All (λ s. HasRun issuing operations (station s).end (finished s)) shares → All (λ end. IsInProgramOrder end.part.node.log) (map end_in (map station shares))
+  ordered_ends finished shares is run =
+      let Good : EndOf → Type 0 = λ end. IsInProgramOrder end.part.node.log in
+      All-map Good end_in (map station shares) (All-map (λ (s : StationOf). Good s.end) station shares (λ k d lt. (run k d lt).ordered is))
+
+module _ {A : Type 0} (station : A → StationOf) where
   -- what a run does to each share, it does to each station
   pub same_stations : (old new : List A) → length new ≡ length old → ((k : ℕ) (d : A) → k < length old → IsSameEnd (station (slice_index_or old k d)).end (station (slice_index_or new k d)).end) → AreSame (map station old) (map station new)
   same_stations [] new long each = record { long = length-map new station ∙ (long ∙ sym (length-map [] station)); each = λ k d lt. absurd (omega arith) }

@@ -13,6 +13,9 @@ use Rattle.sci_core.specs.Reached.{IsReached}
 use Rattle.sci_core.specs.Sharing.{last_of}
 use Rattle.sci_lanes.specs.Shown.{me_of}
 use Rattle.sci_lanes.specs.Ends.{EndOf}
+use Rattle.sci_history.specs.Sequential.{IsInProgramOrder}
+use Rattle.sci_drive.specs.declared.driver.Issuing.{Issuing}
+use Rattle.sci_drive.specs.declared.driver.Issuing.TheVariants.{InOrder}
 use Rattle.sci_drive.specs.Script.{IsLogOf, IsWholeLogOf}
 
 -- the operations of a node, in their order
@@ -45,7 +48,9 @@ pub record AreLedTo (size : Size) (logs : List (List Entry)) (last : List Stampe
 abbrev pub own_of : {Z : Type 0} → List (Vec Op Z) → ℕ → List Op
 own_of all node = slice_index_or (map (λ own. own.items) all) node []
 
--- the log of the end's node is of the operations that stand under its number, and whole if it has finished
-pub record HasRun {E : Type 0} (operations : ℕ → List Op) (end : EndOf) (finished : Result Bool E) : Type 0 where
+-- The log of the end's node is of the operations that stand under its number, and whole if it has finished. It stands in
+-- their order if they were issued so.
+pub record HasRun {E : Type 0} (issuing : Issuing) (operations : ℕ → List Op) (end : EndOf) (finished : Result Bool E) : Type 0 where
   pub named : IsLogOf (operations (me_of end.part)) end.part.node.log
   pub whole : IfOk finished (λ all. all ≡ true → IsWholeLogOf (operations (me_of end.part)) end.part.node.log)
+  pub ordered : issuing ≡ InOrder → IsInProgramOrder end.part.node.log

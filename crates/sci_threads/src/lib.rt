@@ -4,6 +4,8 @@
 mod gate;
 mod running;
 mod shares;
+#[cfg(test)]
+mod tests;
 
 pub use gate::YieldingGate;
-pub use running::run_nodes;
+pub use running::{run_in_order, run_nodes};

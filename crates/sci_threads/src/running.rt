@@ -3,11 +3,12 @@
 ghost use Rattle.std.specs.Prelude.{◌≡◌, IfOk, true, length};
 ghost use Rattle.sci_words.specs.declared.limits.TheConstants.{MAX_OPERATIONS};
 ghost use Rattle.sci_history.specs.Lawful.{Lawful};
-ghost use Rattle.sci_history.specs.Sequential.{IsSequentiallyConsistent};
+ghost use Rattle.sci_history.specs.Sequential.{AreInProgramOrder, IsSequentiallyConsistent};
+ghost use Rattle.sci_drive.specs.declared.driver.Issuing.TheVariants.{InOrder};
 ghost use Rattle.sci_threads.specs.Shares.{AreLedTo, HaveLogsOf, HaveWholeLogsOf, size_for};
 
 use crate::shares::{gathered, operations_by_node, run_all, shares};
-use sci_drive::Gate;
+use sci_drive::{Gate, Issuing};
 use sci_history::{Last, Logs};
 use sci_lanes::FinishFault;
 use sci_station::{Fabric, Finished};
@@ -24,6 +25,9 @@ use std::thread::Threads;
 /// - The logs and the last contents are those of a state where a schedule leads the machine, whatever the threads did.
 /// - In each node's log each entry has the operation of the node that its serial names, and no serial stands twice.
 /// - If all have finished, each operation of the script has just one entry.
+///
+/// A node has up to four operations pending at once, each on another line, and may perform them in another order than
+/// the script's.
 pub fn run_nodes<R: Threads + Sync, G: Gate + Send + Drop>(
     rt: &R,
     alloc: Global,
@@ -38,10 +42,52 @@ pub fn run_nodes<R: Threads + Sync, G: Gate + Send + Drop>(
     ensures lawful { IfOk result (λ ran. Lawful ran.0 ran.1) }
     ensures consistent { IfOk result (λ ran. IsSequentiallyConsistent ran.0 ran.1) }
 {
+    run(rt, alloc, script, gates, Issuing::Ahead, turns)
+}
+
+/// Runs a script as `run_nodes` does, but each node issues an operation only when all before it are performed. So the
+/// run is sequentially consistent in Lamport's sense ("How to Make a Multiprocessor Computer That Correctly Executes
+/// Multiprocess Programs", 1979): its result is that of all operations in one order, in which those of each node stand
+/// in the order of the script.
+pub fn run_in_order<R: Threads + Sync, G: Gate + Send + Drop>(
+    rt: &R,
+    alloc: Global,
+    script: &Script,
+    gates: Vec<G>,
+    turns: u32,
+) -> Result<(Logs, Last, bool), AllocError>
+    requires gates { length gates.items ≡ script.now.nodes }
+    ensures ordered { IfOk result (λ ran. AreInProgramOrder ran.0) }
+    ensures consistent { IfOk result (λ ran. IsSequentiallyConsistent ran.0 ran.1) }
+    ensures named { IfOk result (λ ran. HaveLogsOf script.now ran.0) }
+    ensures whole { IfOk result (λ ran. ran.2 ≡ true → HaveWholeLogsOf script.now ran.0) }
+    ensures led { IfOk result (λ ran. AreLedTo (size_for script.now) ran.0 ran.1) }
+    ensures lawful { IfOk result (λ ran. Lawful ran.0 ran.1) }
+{
+    run(rt, alloc, script, gates, Issuing::InOrder, turns)
+}
+
+/// Runs a script, each node in a thread of its own.
+fn run<R: Threads + Sync, G: Gate + Send + Drop>(
+    rt: &R,
+    alloc: Global,
+    script: &Script,
+    gates: Vec<G>,
+    issuing: Issuing,
+    turns: u32,
+) -> Result<(Logs, Last, bool), AllocError>
+    requires gates { length gates.items ≡ script.now.nodes }
+    ensures ordered { IfOk result (λ ran. issuing ≡ InOrder → AreInProgramOrder ran.0) }
+    ensures named { IfOk result (λ ran. HaveLogsOf script.now ran.0) }
+    ensures whole { IfOk result (λ ran. ran.2 ≡ true → HaveWholeLogsOf script.now ran.0) }
+    ensures led { IfOk result (λ ran. AreLedTo (size_for script.now) ran.0 ran.1) }
+    ensures lawful { IfOk result (λ ran. Lawful ran.0 ran.1) }
+    ensures consistent { IfOk result (λ ran. IsSequentiallyConsistent ran.0 ran.1) }
+{
     let operations = operations_by_node(alloc, script)?;
     let (fabric, stations) = Fabric::new(alloc, script.extent(), MAX_OPERATIONS)?;
     let mut shares = shares(alloc, stations, gates)?;
-    run_all(rt, &mut shares, &operations, turns);
+    run_all(rt, &mut shares, &operations, issuing, turns);
     let (stations, finished) = gathered(alloc, shares)?;
     match fabric.finish(alloc, stations) {
         Ok(Finished { logs, last }) => Ok((logs, last, finished)),

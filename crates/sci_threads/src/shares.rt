@@ -8,7 +8,7 @@ ghost use Rattle.sci_station.specs.Station.{node_in};
 ghost use Rattle.sci_lanes.specs.Shown.{me_of};
 ghost use Rattle.sci_threads.specs.Shares.{HasRun, operations_of, own_of};
 
-use sci_drive::{Gate, drive};
+use sci_drive::{Gate, Issuing, drive_issuing};
 use sci_station::Station;
 use sci_text::Script;
 use sci_words::{MAX_NODES, Op};
@@ -26,15 +26,22 @@ pub(crate) struct Share<G> {
 
 impl<G: Gate> Share<G> {
     /// Drives the station through those of the operations that are its node's, for at most so many turns.
-    pub(crate) fn run(&mut self, operations: &[Vec<Op>], turns: u32)
+    pub(crate) fn run(&mut self, operations: &[Vec<Op>], issuing: Issuing, turns: u32)
         requires known { me_of self.old.station.end.part < length operations.now }
         requires few { All (λ own. length own.items ≤ MAX_OPERATIONS) operations.now }
         requires fresh { HasSubmittedNothing (node_in self.old.station) }
         ensures same { IsSameEnd self.old.station.end self.new.station.end }
-        ensures run { HasRun (own_of operations.now) self.new.station.end self.new.finished }
+        ensures run { HasRun issuing (own_of operations.now)
+            self.new.station.end self.new.finished }
     {
         let own = &operations[self.station.me() as usize];
-        self.finished = match drive(&mut self.station, own, &mut self.gate, turns) {
+        self.finished = match drive_issuing(
+            &mut self.station,
+            own,
+            issuing,
+            &mut self.gate,
+            turns,
+        ) {
             Ok(ran) => Ok(ran.finished),
             Err(refused) => Err(refused),
         };
@@ -47,6 +54,7 @@ pub(crate) fn run_all<R: Threads + Sync, G: Gate + Send>(
     rt: &R,
     shares: &mut [Share<G>],
     operations: &[Vec<Op>],
+    issuing: Issuing,
     turns: u32,
 )
     requires known { All
@@ -55,17 +63,17 @@ pub(crate) fn run_all<R: Threads + Sync, G: Gate + Send>(
     requires fresh { All (λ share. HasSubmittedNothing (node_in share.station)) shares.old }
     ensures same { (k : ℕ) (d : _) → k < length shares.old → IsSameEnd
         (slice_index_or shares.old k d).station.end (slice_index_or shares.new k d).station.end }
-    ensures run { All
-        (λ share. HasRun (own_of operations.now) share.station.end share.finished) shares.new }
+    ensures run { All (λ share.
+        HasRun issuing (own_of operations.now) share.station.end share.finished) shares.new }
 {
     let run = |_place: usize, share: &mut Share<G>|
         requires { (me_of share.now.station.end.part < length operations.now)
             × All (λ own. length own.items ≤ MAX_OPERATIONS) operations.now
             × HasSubmittedNothing (node_in share.now.station) }
         ensures { IsSameEnd share.entry.now.station.end share.exit.now.station.end
-            × HasRun (own_of operations.entry.now)
+            × HasRun issuing (own_of operations.entry.now)
             share.exit.now.station.end share.exit.now.finished }
-    { share.run(operations, turns) };
+    { share.run(operations, issuing, turns) };
     thread::for_each_mut(rt, shares, MAX_NODES as usize, &run);
 }
 

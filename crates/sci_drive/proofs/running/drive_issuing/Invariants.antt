@@ -1,6 +1,7 @@
 use Rattle.std.proofs.Common.{◌≡◌, ◌≤◌}
-use Rattle.sci_drive.specs.Driving.{IsDriven}
-use Rattle.sci_drive.proofs.running.drive.Given as goal
+use Rattle.sci_drive.specs.declared.driver.Issuing.TheVariants.{InOrder}
+use Rattle.sci_drive.specs.Driving.{IsDriven, IsInOrder}
+use Rattle.sci_drive.proofs.running.drive_issuing.Given as goal
 
 abbrev pub invariant-loop-turn : goal.invariant-loop-turn
 invariant-loop-turn g l =
@@ -8,3 +9,4 @@ invariant-loop-turn g l =
     × (l.driver.script ≡ l.fn.script)
     × g.W.Worker.stays l.initial.worker l.worker
     × (l.restless ≤ 15)
+    × (l.fn.issuing ≡ InOrder → IsInOrder l.driver (g.W.Worker.node l.worker))

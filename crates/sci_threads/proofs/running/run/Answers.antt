@@ -1,7 +1,7 @@
-use Rattle.std.proofs.Common.{◌≡◌, ◌<◌, ℕ, List, [], All, Ok, true, Vec, length, map, get_or, sym, ap, subst, ◌∙◌}
+use Rattle.std.proofs.Common.{◌≡◌, ◌<◌, ℕ, List, All, Ok, true, Vec, length, map, get_or, sym, ap, subst, ◌∙◌}
 use Rattle.std.specs.Prelude.{slice_index_or}
 use Rattle.sci_words.specs.declared.operation.Op.{Op}
-use Rattle.sci_history.specs.Placed.{log_of}
+use Rattle.sci_history.specs.Sequential.{IsInProgramOrder}
 use Rattle.sci_lanes.specs.Ends.{EndOf}
 use Rattle.sci_words.specs.declared.limits.TheConstants.{MAX_OPERATIONS}
 use Rattle.sci_core.specs.Size.{Size, size_of}
@@ -11,10 +11,10 @@ use Rattle.sci_drive.specs.Driving.{HasSubmittedNothing}
 use Rattle.sci_drive.specs.Script.{IsLogOf, IsWholeLogOf}
 use Rattle.sci_station.specs.Ends.{IsSameEnd}
 use Rattle.sci_station.specs.Station.{StationOf, end_in, node_in}
-use Rattle.sci_threads.proofs.Sharing.{came_back, all_unmapped, opened_long, opened_known, opened_all_fresh, logs_have, named_ends, own_is, whole_ends, written_back}
+use Rattle.sci_threads.proofs.Sharing.{came_back, all_unmapped, each_log, in_order, opened_long, opened_known, opened_all_fresh, named_ends, ordered_ends, whole_ends, written_back}
 use Rattle.sci_threads.specs.declared.shares.Share.{Share}
 use Rattle.sci_threads.specs.Shares.{operations_of, own_of}
-use Rattle.sci_threads.proofs.running.run_nodes.Goals as goal
+use Rattle.sci_threads.proofs.running.run.Goals as goal
 
 pub shares-requires : goal.shares-requires
 shares-requires g c =
@@ -53,7 +53,7 @@ finish-requires g c =
     let long : length after ≡ length before.items = c.run_all.auto.shares ∙ ap length c.deref_mut.ensures.value in
     let each = subst (λ (xs : List (Share g.row.G.Denot)). (k : ℕ) (d : Share g.row.G.Denot) → k < length xs → IsSameEnd (get_or xs k d).station.end (get_or after k d).station.end) c.deref_mut.ensures.value c.run_all.ensures.same in
     let made = c.in_ok-shares.ensures ∙ c.in_ok-fabric.ensures.stations in
-    record { own = (came_back (λ (share : Share g.row.G.Denot). share.station) (λ _. []) f size c.extent.result.nodes before.len before.items after c.in_ok-stations.stations.items c.in_ok-fabric.ensures.size made before.ok.0 long each c.in_ok-stations.ensures.stations).0 }
+    record { own = (came_back (λ (share : Share g.row.G.Denot). share.station) f size c.extent.result.nodes before.len before.items after c.in_ok-stations.stations.items c.in_ok-fabric.ensures.size made before.ok.0 long each c.in_ok-stations.ensures.stations).0 }
 
 pub unreachable-requires : goal.unreachable-requires
 unreachable-requires g c =
@@ -65,12 +65,11 @@ unreachable-requires g c =
     let each = subst (λ (xs : List (Share g.row.G.Denot)). (k : ℕ) (d : Share g.row.G.Denot) → k < length xs → IsSameEnd (get_or xs k d).station.end (get_or after k d).station.end) c.deref_mut.ensures.value c.run_all.ensures.same in
     let made = c.in_ok-shares.ensures ∙ c.in_ok-fabric.ensures.stations in
     let ends : List EndOf = map end_in c.in_ok-stations.stations.items in
-    let all : AreAll c.extent.result.nodes ends = (came_back (λ (share : Share g.row.G.Denot). share.station) (λ _. []) f size c.extent.result.nodes before.len before.items after c.in_ok-stations.stations.items c.in_ok-fabric.ensures.size made before.ok.0 long each c.in_ok-stations.ensures.stations).1 in
+    let all : AreAll c.extent.result.nodes ends = (came_back (λ (share : Share g.row.G.Denot). share.station) f size c.extent.result.nodes before.len before.items after c.in_ok-stations.stations.items c.in_ok-fabric.ensures.size made before.ok.0 long each c.in_ok-stations.ensures.stations).1 in
     c.in-Err-Missing-default-default.ensures.missing c.in-Err-Missing-default-default.field-0-0-is (subst (λ (n : ℕ). AreAll n ends) (sym (ap (λ (z : Size). z.nodes) c.in_ok-fabric.ensures.size)) all)
 
 pub returns-in-Ok-clause-named : goal.returns-in-Ok-clause-named
-returns-in-Ok-clause-named g c = λ node lt.
-    let f = c.in_ok-fabric.fabric in
+returns-in-Ok-clause-named g c =
     let before = c.in_ok-shares.shares in
     let after = c.run_all.new.shares in
     let long : length after ≡ length before.items = c.run_all.auto.shares ∙ ap length c.deref_mut.ensures.value in
@@ -79,16 +78,15 @@ returns-in-Ok-clause-named g c = λ node lt.
     let script = c.args.script.now in
     let many : length operations ≡ script.nodes = ap length c.deref.ensures.value ∙ c.in_ok-operations.ensures.nodes in
     let own : (n : ℕ) (d : Vec Op _) → n < script.nodes → (slice_index_or operations n d).items ≡ operations_of n script.operations = subst (λ (all : List (Vec Op _)). (n : ℕ) (d : Vec Op _) → n < script.nodes → (slice_index_or all n d).items ≡ operations_of n script.operations) (sym c.deref.ensures.value) c.in_ok-operations.ensures.each in
-    let nodes : f.size.nodes ≡ script.nodes = ap (λ (z : Size). z.nodes) c.in_ok-fabric.ensures.size ∙ c.extent.ensures.nodes in
-    let ends = named_ends (λ share. share.station) (own_of operations) (λ share. share.finished) after c.run_all.ensures.run in
+    let nodes : c.in_ok-fabric.fabric.size.nodes ≡ script.nodes = ap (λ (z : Size). z.nodes) c.in_ok-fabric.ensures.size ∙ c.extent.ensures.nodes in
+    let ends = map end_in c.in_ok-stations.stations.items in
+    let all = subst (λ (n : ℕ). AreAll n ends) nodes c.in-Ok.ensures.all in
     let Good : EndOf → Type 0 = λ end. IsLogOf (own_of operations (me_of end.part)) end.part.node.log in
-    let good = subst (λ (xs : List StationOf). All Good (map end_in xs)) (sym stations) ends in
-    let log = logs_have IsLogOf (own_of operations) (map end_in c.in_ok-stations.stations.items) c.in-Ok.field-0.logs f.size.nodes c.in-Ok.ensures.all c.in-Ok.ensures.logs good node (subst (λ (n : ℕ). node < n) (sym nodes) lt) in
-    subst (λ (ops : List Op). IsLogOf ops (log_of c.in-Ok.field-0.logs node)) (own_is script operations node many own lt) log
+    let good = subst (λ (xs : List StationOf). All Good (map end_in xs)) (sym stations) (named_ends (λ share. share.station) c.args.issuing (own_of operations) (λ share. share.finished) after c.run_all.ensures.run) in
+    each_log IsLogOf script operations ends c.in-Ok.field-0.logs many own all c.in-Ok.ensures.logs good
 
 pub returns-in-Ok-clause-whole : goal.returns-in-Ok-clause-whole
-returns-in-Ok-clause-whole g c = λ finished node lt.
-    let f = c.in_ok-fabric.fabric in
+returns-in-Ok-clause-whole g c = λ finished.
     let before = c.in_ok-shares.shares in
     let after = c.run_all.new.shares in
     let long : length after ≡ length before.items = c.run_all.auto.shares ∙ ap length c.deref_mut.ensures.value in
@@ -97,10 +95,28 @@ returns-in-Ok-clause-whole g c = λ finished node lt.
     let script = c.args.script.now in
     let many : length operations ≡ script.nodes = ap length c.deref.ensures.value ∙ c.in_ok-operations.ensures.nodes in
     let own : (n : ℕ) (d : Vec Op _) → n < script.nodes → (slice_index_or operations n d).items ≡ operations_of n script.operations = subst (λ (all : List (Vec Op _)). (n : ℕ) (d : Vec Op _) → n < script.nodes → (slice_index_or all n d).items ≡ operations_of n script.operations) (sym c.deref.ensures.value) c.in_ok-operations.ensures.each in
-    let nodes : f.size.nodes ≡ script.nodes = ap (λ (z : Size). z.nodes) c.in_ok-fabric.ensures.size ∙ c.extent.ensures.nodes in
+    let nodes : c.in_ok-fabric.fabric.size.nodes ≡ script.nodes = ap (λ (z : Size). z.nodes) c.in_ok-fabric.ensures.size ∙ c.extent.ensures.nodes in
+    let ends = map end_in c.in_ok-stations.stations.items in
+    let all = subst (λ (n : ℕ). AreAll n ends) nodes c.in-Ok.ensures.all in
     let done = subst (All (λ share. share.finished ≡ Ok true)) (written_back before.len after before.items before.ok.0 long) (c.in_ok-stations.ensures.finished finished) in
-    let ends = whole_ends (λ share. share.station) (own_of operations) (λ share. share.finished) after c.run_all.ensures.run done in
     let Good : EndOf → Type 0 = λ end. IsWholeLogOf (own_of operations (me_of end.part)) end.part.node.log in
-    let good = subst (λ (xs : List StationOf). All Good (map end_in xs)) (sym stations) ends in
-    let log = logs_have IsWholeLogOf (own_of operations) (map end_in c.in_ok-stations.stations.items) c.in-Ok.field-0.logs f.size.nodes c.in-Ok.ensures.all c.in-Ok.ensures.logs good node (subst (λ (n : ℕ). node < n) (sym nodes) lt) in
-    subst (λ (ops : List Op). IsWholeLogOf ops (log_of c.in-Ok.field-0.logs node)) (own_is script operations node many own lt) log
+    let good = subst (λ (xs : List StationOf). All Good (map end_in xs)) (sym stations) (whole_ends (λ share. share.station) c.args.issuing (own_of operations) (λ share. share.finished) after c.run_all.ensures.run done) in
+    each_log IsWholeLogOf script operations ends c.in-Ok.field-0.logs many own all c.in-Ok.ensures.logs good
+
+pub returns-in-Ok-clause-ordered : goal.returns-in-Ok-clause-ordered
+returns-in-Ok-clause-ordered g c = λ is.
+    let before = c.in_ok-shares.shares in
+    let after = c.run_all.new.shares in
+    let long : length after ≡ length before.items = c.run_all.auto.shares ∙ ap length c.deref_mut.ensures.value in
+    let stations : c.in_ok-stations.stations.items ≡ map (λ share. share.station) after = c.in_ok-stations.ensures.stations ∙ ap (map (λ share. share.station)) (written_back before.len after before.items before.ok.0 long) in
+    let operations = c.deref.result.now in
+    let script = c.args.script.now in
+    let many : length operations ≡ script.nodes = ap length c.deref.ensures.value ∙ c.in_ok-operations.ensures.nodes in
+    let own : (n : ℕ) (d : Vec Op _) → n < script.nodes → (slice_index_or operations n d).items ≡ operations_of n script.operations = subst (λ (all : List (Vec Op _)). (n : ℕ) (d : Vec Op _) → n < script.nodes → (slice_index_or all n d).items ≡ operations_of n script.operations) (sym c.deref.ensures.value) c.in_ok-operations.ensures.each in
+    let nodes : c.in_ok-fabric.fabric.size.nodes ≡ script.nodes = ap (λ (z : Size). z.nodes) c.in_ok-fabric.ensures.size ∙ c.extent.ensures.nodes in
+    let ends = map end_in c.in_ok-stations.stations.items in
+    let all = subst (λ (n : ℕ). AreAll n ends) nodes c.in-Ok.ensures.all in
+    let Good : EndOf → Type 0 = λ end. IsInProgramOrder end.part.node.log in
+    let good = subst (λ (xs : List StationOf). All Good (map end_in xs)) (sym stations) (ordered_ends (λ share. share.station) c.args.issuing (own_of operations) (λ share. share.finished) after is c.run_all.ensures.run) in
+    let each = each_log (λ _. IsInProgramOrder) script operations ends c.in-Ok.field-0.logs many own all c.in-Ok.ensures.logs good in
+    in_order c.in-Ok.field-0.logs script.nodes c.in-Ok.ensures.gathered.core c.in-Ok.ensures.gathered.reached c.in-Ok.ensures.gathered.logs_are (ap (λ (z : Size). z.nodes) c.in-Ok.ensures.gathered.sized ∙ nodes) each

@@ -10,7 +10,7 @@ use Rattle.sci_drive.proofs.driver.Driver.submit.Goals as goal
 -- src/driver.rt:104:5
 pub returns-in-Ok-clause-driven : goal.returns-in-Ok-clause-driven
 returns-in-Ok-clause-driven g c =
-    let driver : DriverOf = record { script = c.self.inside.script.now; next = c.self.inside.next; pending = c.self.inside.pending.items } in
+    let driver : DriverOf = record { script = c.self.inside.script.now; issuing = c.self.inside.issuing; next = c.self.inside.next; pending = c.self.inside.pending.items } in
     let old = g.W.Worker.node c.args.worker.now in
     let new = g.W.Worker.node c.submit.new.self in
     let d : IsDriven driver old = rw c.self.view_is c.requires.driven in

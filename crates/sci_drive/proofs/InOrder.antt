@@ -1,0 +1,100 @@
+-- What the calls of a worker make of a driver that issues in order, and its node.
+use Rattle.std.proofs.Common.{◌≡◌, ◌≤◌, ◌<◌, ◌+◌, ℕ, arith, List, [], ◌∷◌, ◌++◌, length, All, Option, Some, None, refl, sym, ap, subst, ◌∙◌, inl, inr}
+use Rattle.std.specs.Prelude.{slice_index_or}
+use Rattle.std.specs.List.{Contains, remove}
+use Rattle.std.proofs.lemmas.Bool.{cases_eq}
+use Rattle.std.proofs.lemmas.List.{get_or_default}
+use Rattle.std.proofs.lemmas.List.Edits.{length-remove}
+use Rattle.std.proofs.lemmas.List.Elements.{All-nil, All-push}
+use Rattle.std.proofs.lemmas.List.Quantifiers.{all_pairs_push}
+use Rattle.sci_words.specs.declared.operation.Op.{Op}
+use Rattle.sci_history.specs.declared.entry.Entry.{Entry}
+use Rattle.sci_history.specs.Sequential.{IsInProgramOrder}
+use Rattle.sci_core.specs.Node.{NodeOf, pending_on}
+use Rattle.sci_core.specs.Work.{IsIssued, IsLogged}
+use Rattle.sci_core.specs.declared.pending.Pending.{Pending}
+use Rattle.sci_policy.specs.Worker.{HasSameWork}
+use Rattle.sci_drive.specs.declared.driver.Issuing.TheVariants.{InOrder}
+use Rattle.sci_drive.specs.Driving.{DriverOf, HasSubmittedNothing, IsDriven, IsInOrder, opening_driver}
+use Rattle.sci_drive.proofs.Drives.{never_both, same_some}
+
+-- ---- the first moment
+
+pub opens_in_order : (script : List Op) (node : NodeOf) → HasSubmittedNothing node → IsInOrder (opening_driver script InOrder) node
+opens_in_order script node none = record {
+  issues = refl;
+  one = omega arith;
+  ordered = rw none.log (λ i j d lt within. absurd (omega arith));
+  before = rw none.log (All-nil (λ (e : Entry). e.serial < 0));
+  behind = λ line p is. absurd (never_both (pending_on node line) p (none.pending line) is);
+}
+
+-- ---- an operation is submitted
+
+module _ (driver : DriverOf) (old new : NodeOf) (op : Op) (d : IsDriven driver old) (i : IsIssued old new op) (none : driver.pending ≡ []) (o : IsInOrder driver old) where
+  -- nothing was pending
+  was_free : (line : ℕ) (p : Pending) → pending_on old line ≡ Some p → ⊥
+  was_free line p is =
+      let known : Contains driver.pending line = (d.pending line p is).known in
+      let empty : Contains [] line = subst (λ (l : List ℕ). Contains l line) none known in
+      let lt = empty.1 in absurd (omega arith)
+
+  behind_now : (line : ℕ) (p : Pending) → pending_on new line ≡ Some p → All (λ e. e.serial < p.serial) old.log
+  behind_now line p is = elim (cases_eq line op.line) [
+    | inl here ↦
+        let same : record { serial = old.issued; op = op } ≡ p = same_some (pending_on new line) (record { serial = old.issued; op = op }) p (ap (pending_on new) here ∙ i.pending) is in
+        let serial : driver.next ≡ p.serial = sym d.issued ∙ ap (λ (q : Pending). q.serial) same in
+        subst (λ (n : ℕ). All (λ e. e.serial < n) old.log) serial o.before
+    | inr other ↦ absurd (was_free line p (sym (i.others line other) ∙ is))
+  ]
+
+  pub submits_in_order : IsInOrder (record driver { next = driver.next + 1; pending = driver.pending ++ op.line ∷ [] }) new
+  submits_in_order = record {
+    issues = o.issues;
+    one = subst (λ (l : List ℕ). length (l ++ op.line ∷ []) ≤ 1) (sym none) (omega arith);
+    ordered = subst IsInProgramOrder (sym i.log) o.ordered;
+    before = subst (All (λ e. e.serial < driver.next + 1)) (sym i.log) (λ k e lt. let low = o.before k e lt in omega arith);
+    behind = λ line p is. subst (All (λ e. e.serial < p.serial)) (sym i.log) (behind_now line p is);
+  }
+
+-- ---- an operation is performed
+
+-- in a list of one, what stands at a place is all that it contains
+only_one : (items : List ℕ) (place line other : ℕ) → length items ≤ 1 → place < length items → slice_index_or items place line ≡ line → Contains items other → other ≡ line
+only_one items place line other one within here there =
+    let lt = there.1 in
+    let same : there.0 ≡ place = omega arith in
+    sym there.2 ∙ (ap (λ (k : ℕ). slice_index_or items k other) same ∙ (get_or_default items place other line within ∙ here))
+
+module _ (driver : DriverOf) (old new : NodeOf) (place line : ℕ) (entry : Entry) (d : IsDriven driver old) (i : IsLogged old new line entry) (within : place < length driver.pending) (here : slice_index_or driver.pending place line ≡ line) (o : IsInOrder driver old) where
+  -- nothing is pending now
+  is_free : (other : ℕ) (p : Pending) → pending_on new other ≡ Some p → ⊥
+  is_free other p is = elim (cases_eq other line) [
+    | inl same ↦ never_both (pending_on new line) p i.done (ap (pending_on new) (sym same) ∙ is)
+    | inr apart ↦ apart (only_one driver.pending place line other o.one within here (d.pending other p (sym (i.others other apart) ∙ is)).known)
+  ]
+
+  pub performs_in_order : IsInOrder (record driver { pending = remove driver.pending place }) new
+  performs_in_order =
+      let p : Pending = record { serial = entry.serial; op = entry.op } in
+      let was = d.pending line p i.pending in
+      let short = length-remove driver.pending place within in
+      let few = o.one in record {
+        issues = o.issues;
+        one = omega arith;
+        ordered = subst IsInProgramOrder (sym i.log) (all_pairs_push (λ x y. x.serial < y.serial) old.log entry o.ordered (o.behind line p i.pending));
+        before = subst (All (λ e. e.serial < driver.next)) (sym i.log) (All-push (λ (e : Entry). e.serial < driver.next) old.log entry o.before was.submitted);
+        behind = λ other q is. absurd (is_free other q is);
+      }
+
+-- ---- a turn
+
+pub turns_in_order : (driver : DriverOf) (old new : NodeOf) → HasSameWork old new → IsInOrder driver old → IsInOrder driver new
+turns_in_order driver old new work o =
+    let on : (line : ℕ) → pending_on new line ≡ pending_on old line = λ line. ap (λ (l : List (Option Pending)). slice_index_or l line None) work.pending in record {
+      issues = o.issues;
+      one = o.one;
+      ordered = subst IsInProgramOrder (sym work.log) o.ordered;
+      before = subst (All (λ e. e.serial < driver.next)) (sym work.log) o.before;
+      behind = λ line p is. subst (All (λ e. e.serial < p.serial)) (sym work.log) (o.behind line p (sym (on line) ∙ is));
+    }
