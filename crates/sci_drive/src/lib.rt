@@ -3,8 +3,10 @@
 
 mod driver;
 mod gate;
+mod laws;
 mod running;
 
 pub use driver::{Driver, Issuing, Round};
 pub use gate::Gate;
+pub use laws::new_drivers_may_drive;
 pub use running::{Ran, drive, drive_issuing};

@@ -1,1 +1,1 @@
-mod Sharing
+pub mod Sharing

@@ -2,10 +2,13 @@
 #![tactic(auto)]
 
 mod gate;
+mod laws;
 mod running;
 mod shares;
 #[cfg(test)]
 mod tests;
 
 pub use gate::YieldingGate;
+pub use laws::new_stations_are_fresh;
 pub use running::{run_in_order, run_nodes};
+pub use shares::operations_by_node;

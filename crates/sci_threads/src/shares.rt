@@ -104,7 +104,7 @@ pub(crate) fn gathered<G: Drop>(
 }
 
 /// The operations of each node, in their order. Refused if memory is.
-pub(crate) fn operations_by_node(alloc: Global, script: &Script) -> Result<Vec<Vec<Op>>, AllocError>
+pub fn operations_by_node(alloc: Global, script: &Script) -> Result<Vec<Vec<Op>>, AllocError>
     ensures nodes { IfOk result (λ all. length all.items ≡ script.now.nodes) }
     ensures each { IfOk result (λ all. (node : ℕ) (d : _) → node < script.now.nodes →
         (slice_index_or all.items node d).items ≡ operations_of node script.now.operations) }

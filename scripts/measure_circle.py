@@ -1,0 +1,73 @@
+#!/usr/bin/env python3
+"""Measures stations in one thread, a round each in a circle:
+
+    scripts/measure_circle.py [NODES ..]        1, 4 and 16 nodes, if it isn't said
+
+It prints the processor time of an operation in nanoseconds, best and median, for each of six workloads: 64 lines, 8 slots
+and 20,000 operations a node (hammer 2,000). `sci_circle` runs a script once and then six times; the difference is five
+runs, without the reading of the script. Build it before: cd crates/sci_circle && rt run -- 1 < stdin"""
+
+import os
+import random
+import statistics
+import subprocess
+import sys
+import tempfile
+
+TOP = os.path.dirname(os.path.dirname(os.path.abspath(__file__)))
+PROGRAM = f"{TOP}/crates/sci_circle/out/sci_circle"
+LINES, SLOTS, TRIALS = 64, 8, 7
+KINDS = ("private", "spread", "mixed", "reads", "migratory", "hammer")
+
+
+def operations(chance, kind, node, count):
+    """So many operations of a node: private on its own line; spread the same but for 5 in 100; mixed and reads on any line,
+    90 and 99 in 100 of them loads; migratory a load and a fetch-add of one word of four lines; hammer on one word."""
+    while count > 0:
+        count -= 1
+        word = chance.randrange(8)
+        if kind == "hammer":
+            yield "fetch-add 0 0 1"
+        elif kind in ("private", "spread"):
+            strays = kind == "spread" and chance.randrange(100) >= 95
+            line = chance.randrange(LINES) if strays else node
+            yield f"load {line} {word}" if chance.randrange(2) else f"fetch-add {line} {word} 1"
+        elif kind in ("mixed", "reads"):
+            line, loads = chance.randrange(LINES), 90 if kind == "mixed" else 99
+            yield f"load {line} {word}" if chance.randrange(100) < loads else f"store {line} {word} 1"
+        else:
+            line = chance.randrange(4)
+            count -= 1
+            yield f"load {line} {word}"
+            yield f"fetch-add {line} {word} 1"
+
+
+def script(kind, nodes):
+    count = 2_000 if kind == "hammer" else 20_000
+    each = [operations(random.Random(f"{kind} {node}"), kind, node, count) for node in range(nodes)]
+    lines = [f"p {node} {operation}" for row in zip(*each) for node, operation in enumerate(row)]
+    return f"machine {nodes} {LINES} {SLOTS}\n" + "\n".join(lines) + "\n", len(lines)
+
+
+def processor_time(path, times):
+    with open(path) as source:
+        run = subprocess.Popen([PROGRAM, str(times)], stdin=source, stdout=subprocess.DEVNULL)
+        _, status, usage = os.wait4(run.pid, 0)
+    if status != 0:
+        sys.exit(f"{PROGRAM} failed on {path}")
+    return usage.ru_utime + usage.ru_stime
+
+
+def main():
+    for nodes in [int(word) for word in sys.argv[1:]] or [1, 4, 16]:
+        for kind in KINDS:
+            text, count = script(kind, nodes)
+            with tempfile.NamedTemporaryFile("w") as source:
+                source.write(text)
+                source.flush()
+                five = [processor_time(source.name, 6) - processor_time(source.name, 1) for _ in range(TRIALS)]
+            each = [seconds / 5 / count * 1e9 for seconds in five]
+            print(f"{kind} N = {nodes}: {min(each):.0f} / {statistics.median(each):.0f} ns", flush=True)
+
+
+main()
