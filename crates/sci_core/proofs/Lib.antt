@@ -43,6 +43,7 @@ pub mod ShapeClauses
 pub mod ReachedLaws
 pub mod Sides
 pub mod Enabled
+pub mod Obstacles
 pub mod Ranges
 pub mod Pendings
 pub mod Rest

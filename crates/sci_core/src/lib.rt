@@ -10,6 +10,7 @@ mod last;
 mod laws;
 mod machine;
 mod node;
+mod obstacle;
 mod outcome;
 mod pending;
 mod progress;
@@ -31,6 +32,7 @@ pub use laws::{
 };
 pub use machine::Machine;
 pub use node::Node;
+pub use obstacle::Obstacle;
 pub use outcome::push_log;
 pub use pending::Pending;
 pub use progress::{packets_move_on, packets_run_out, weightless_is_drained, weights_are_bounded};

@@ -125,3 +125,72 @@ fn a_machine_comes_to_rest(rt: HostRuntime) -> Result<(), Fail> {
     }
     Ok(())
 }
+
+#[test]
+fn an_event_that_is_not_enabled_has_an_obstacle(rt: HostRuntime) -> Result<(), Fail> {
+    let extent = Extent::new(2, 2, 1).ok_or("an extent")?;
+    let mut machine = Machine::new(rt.alloc(), extent, 1).ok().ok_or("no memory")?;
+    let kind = AskKind::Mread;
+    let far = Op {
+        line: 0,
+        word: 8,
+        act: Act::Load,
+    };
+    let before = [
+        (Event::Perform { node: 2, line: 0 }, Obstacle::NoSuchNode),
+        (Event::Serve { from: 2, node: 0 }, Obstacle::NoSuchSender),
+        (
+            Event::Ask {
+                node: 0,
+                line: 2,
+                kind,
+            },
+            Obstacle::NoSuchLine,
+        ),
+        (Event::Issue { node: 0, op: far }, Obstacle::NoSuchWord),
+        (
+            Event::Perform { node: 0, line: 0 },
+            Obstacle::NothingPending,
+        ),
+        (
+            Event::Accept { from: 0, node: 0 },
+            Obstacle::NothingUnderWay,
+        ),
+        (Event::Reply { node: 0 }, Obstacle::NoAnswerWaits),
+    ];
+    for (event, obstacle) in &before {
+        assert_eq!(rt; machine.obstacle_to(event), Some(*obstacle), "{event:?}");
+    }
+    let asked = Event::Ask {
+        node: 1,
+        line: 0,
+        kind,
+    };
+    assert_eq!(rt; machine.run(&schedule()[..3]), Ok(()));
+    assert_eq!(rt; machine.obstacle_to(&asked), None);
+    assert_eq!(rt; machine.apply(&asked), Ok(()));
+    let other = Op {
+        line: 1,
+        ..store(7)
+    };
+    let after = [
+        (schedule()[0], Obstacle::AlreadyPending),
+        (Event::Issue { node: 0, op: other }, Obstacle::NoIssueLeft),
+        (Event::Perform { node: 0, line: 0 }, Obstacle::NotAllowed),
+        (asked, Obstacle::NotAsked),
+        (
+            Event::Ask {
+                node: 1,
+                line: 1,
+                kind,
+            },
+            Obstacle::NoSlot,
+        ),
+        (Event::Serve { from: 1, node: 0 }, Obstacle::AnswerWaits),
+    ];
+    for (event, obstacle) in &after {
+        assert_eq!(rt; machine.obstacle_to(event), Some(*obstacle), "{event:?}");
+    }
+    assert_eq!(rt; machine.obstacle_to(&Event::Reply { node: 0 }), None);
+    Ok(())
+}
