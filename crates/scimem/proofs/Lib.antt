@@ -1,9 +1,7 @@
 pub mod Answered
 pub mod OneDecoding
 pub mod Runs
-pub mod Written
 pub mod Counts
-pub mod Refusals
 pub mod ReplayLogs
 pub mod DoneLogs
 pub mod OracleLogs

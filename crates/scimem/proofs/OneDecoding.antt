@@ -8,7 +8,7 @@ use Rattle.sci_packets.specs.declared.packet.Packet.{Packet}
 use Rattle.sci_packets.specs.declared.fault.PacketFault.{PacketFault}
 use Rattle.sci_packets.specs.Fault.{fault_of}
 use Rattle.sci_packets.specs.Spelling.{IsPacket, Spells, NoneSpells, spelling}
-use Rattle.scimem.specs.declared.outcome.Outcome.{Outcome}
+use Rattle.sci_command.specs.declared.outcome.Outcome.{Outcome}
 use Rattle.scimem.specs.Decoding.{PacketsThen, ArePackets, ArePacketsThenFault, IsDecoded, spellings, packet_lines, refusal, fault_word}
 use Rattle.scimem.proofs.Runs.{shorter}
 

@@ -14,8 +14,8 @@ use Rattle.sci_text.specs.Log.{log_text}
 use Rattle.sci_text.specs.LogValue.{AreLogs, IsLogs}
 use Rattle.sci_text.proofs.LogLaws.{written_again}
 use Rattle.sci_threads.specs.Shares.{AreLedTo, HaveLogsOf, HaveWholeLogsOf, size_for}
-use Rattle.scimem.specs.declared.outcome.Outcome.{Outcome}
-use Rattle.scimem.specs.declared.outcome.Outcome.TheVariants.{Done}
+use Rattle.sci_command.specs.declared.outcome.Outcome.{Outcome}
+use Rattle.sci_command.specs.declared.outcome.Outcome.TheVariants.{Done}
 use Rattle.scimem.specs.ThreadsAnswer.{IsThreadsOf}
 use Rattle.scimem.proofs.ReachedLogs.{reached_logs}
 

@@ -2,7 +2,7 @@
 use Rattle.std.specs.Prelude.{ℕ, Bool, List, Option}
 use Rattle.scimem.specs.declared.choice.Command.{Command}
 use Rattle.scimem.specs.declared.choice.Command.TheVariants as commands
-use Rattle.scimem.specs.declared.outcome.Outcome.{Outcome}
+use Rattle.sci_command.specs.declared.outcome.Outcome.{Outcome}
 use Rattle.scimem.specs.Decoding.{IsAnswer}
 use Rattle.scimem.specs.LogAnswer.{IsAuditAnswer, IsUpgradeAnswer}
 use Rattle.scimem.specs.OracleAnswer.{IsOracleAnswer}

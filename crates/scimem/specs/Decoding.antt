@@ -10,10 +10,10 @@ use Rattle.sci_packets.specs.declared.fault.PacketFault.TheVariants.{Short, Unkn
 use Rattle.sci_packets.specs.declared.packet.Packet.{Packet}
 use Rattle.sci_packets.specs.Fault.{fault_of}
 use Rattle.sci_packets.specs.Spelling.{IsPacket, NoneSpells, spelling}
-use Rattle.scimem.specs.declared.outcome.Outcome.{Outcome}
-use Rattle.scimem.specs.declared.outcome.Outcome.TheVariants.{Done, Refused}
+use Rattle.sci_command.specs.declared.outcome.Outcome.{Outcome}
+use Rattle.sci_command.specs.declared.outcome.Outcome.TheVariants.{Done, Refused}
 use Rattle.scimem.specs.PacketLine.{packet_line}
-use Rattle.scimem.specs.Refusal.{kind_word}
+use Rattle.sci_command.specs.Refusal.{kind_word}
 
 -- the word for what is wrong with a packet
 unfoldable pub fault_word : PacketFault → List ℕ

@@ -1,12 +1,8 @@
 pub mod Choice
 pub mod CommandAnswer
 pub mod Decoding
-pub mod Input
 pub mod PacketLine
-pub mod Status
-pub mod Writing
 pub mod OracleAnswer
-pub mod Refusal
 pub mod ReplayAnswer
 pub mod LogAnswer
 pub mod ThreadsAnswer

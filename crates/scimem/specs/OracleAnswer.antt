@@ -7,10 +7,10 @@ use Rattle.sci_text.specs.FirstFault.{IsTold}
 use Rattle.sci_text.specs.ScriptFault.{IsScriptFault}
 use Rattle.sci_text.specs.Log.{log_text}
 use Rattle.sci_text.specs.LogValue.{IsLogs}
-use Rattle.scimem.specs.Input.{IsReadAs}
-use Rattle.scimem.specs.Refusal.{IsRefusalBy}
-use Rattle.scimem.specs.declared.outcome.Outcome.{Outcome}
-use Rattle.scimem.specs.declared.outcome.Outcome.TheVariants.{Done, Unlawful, Refused}
+use Rattle.sci_command.specs.Input.{IsReadAs}
+use Rattle.sci_command.specs.Refusal.{IsRefusalBy}
+use Rattle.sci_command.specs.declared.outcome.Outcome.{Outcome}
+use Rattle.sci_command.specs.declared.outcome.Outcome.TheVariants.{Done, Unlawful, Refused}
 
 -- the text of the oracle's logs and last contents
 abbrev pub oracle_text : ScriptValue → List ℕ

@@ -12,10 +12,10 @@ use Rattle.sci_text.specs.FirstFault.{IsTold}
 use Rattle.sci_text.specs.ScheduleFault.{IsScheduleFault}
 use Rattle.sci_text.specs.Log.{log_text}
 use Rattle.sci_text.specs.LogValue.{IsLogs}
-use Rattle.scimem.specs.Input.{IsReadAs}
-use Rattle.scimem.specs.Refusal.{IsRefusalBy}
-use Rattle.scimem.specs.declared.outcome.Outcome.{Outcome}
-use Rattle.scimem.specs.declared.outcome.Outcome.TheVariants.{Done, Unlawful, Refused}
+use Rattle.sci_command.specs.Input.{IsReadAs}
+use Rattle.sci_command.specs.Refusal.{IsRefusalBy}
+use Rattle.sci_command.specs.declared.outcome.Outcome.{Outcome}
+use Rattle.sci_command.specs.declared.outcome.Outcome.TheVariants.{Done, Unlawful, Refused}
 
 -- a machine of the schedule's size, whose nodes may each issue 65,536 operations
 abbrev pub replay_size : ScheduleValue → Size

@@ -10,10 +10,10 @@ use Rattle.sci_text.specs.ScriptFault.{IsScriptFault}
 use Rattle.sci_text.specs.Log.{log_text}
 use Rattle.sci_text.specs.LogValue.{IsLogs}
 use Rattle.sci_threads.specs.Shares.{HaveLogsOf, HaveWholeLogsOf}
-use Rattle.scimem.specs.Input.{IsReadAs}
-use Rattle.scimem.specs.Refusal.{IsRefusalBy}
-use Rattle.scimem.specs.declared.outcome.Outcome.{Outcome}
-use Rattle.scimem.specs.declared.outcome.Outcome.TheVariants.{Done, Unlawful, Refused}
+use Rattle.sci_command.specs.Input.{IsReadAs}
+use Rattle.sci_command.specs.Refusal.{IsRefusalBy}
+use Rattle.sci_command.specs.declared.outcome.Outcome.{Outcome}
+use Rattle.sci_command.specs.declared.outcome.Outcome.TheVariants.{Done, Unlawful, Refused}
 
 -- The input is the text of a script, and the text of logs is written that are lawful and sequentially consistent, and of
 -- the script: in each node's log each entry has the operation that its serial names, and no serial stands twice. If it

@@ -1,71 +1,20 @@
 //! The command `audit`: whether a log is lawful, or the first rule that it breaks.
 
-ghost use Rattle.std.specs.Prelude.{◌≡◌, ◌++◌, ℕ, List, false, true, IfOk, IfErr, OnOk};
+ghost use Rattle.std.specs.Prelude.{◌≡◌, ℕ, List, false, true, IfOk, IfErr};
 ghost use Rattle.std.specs.Io.KnownBytes.{Appends};
 ghost use Rattle.sci_text.specs.FirstFault.{IsTold};
 ghost use Rattle.sci_text.specs.LogFault.{IsLogFault};
 ghost use Rattle.sci_text.specs.Tap.{has_failed, is_called_again, tapped};
-ghost use Rattle.scimem.specs.declared.outcome.Outcome.{Outcome};
-ghost use Rattle.scimem.specs.LogAnswer.{IsAuditAnswer, IsAuditOf, kind_text, named_text, outcome_of, verdict_text};
-ghost use Rattle.scimem.specs.Input.{IsReadAs};
-ghost use Rattle.scimem.specs.Writing.{WritesFront};
+ghost use Rattle.sci_command.specs.declared.outcome.Outcome.{Outcome};
+ghost use Rattle.scimem.specs.LogAnswer.{IsAuditAnswer, IsAuditOf, outcome_of};
+ghost use Rattle.sci_command.specs.Input.{IsReadAs};
+ghost use Rattle.sci_command.specs.Writing.{WritesFront};
 
-use crate::outcome::Outcome;
-use crate::refusal::refuse;
-use crate::writing::write_answer;
-use sci_history::{FaultKind, Verdict, audit};
-use sci_text::{Tap, TextFault, push_field, push_text, read_logs};
-use std::alloc::{AllocError, Global};
+use sci_command::{Outcome, refuse, verdict_line, write_answer};
+use sci_history::{Verdict, audit};
+use sci_text::{Tap, TextFault, read_logs};
+use std::alloc::Global;
 use std::io::{Read, Write};
-
-/// The number of a kind of fault, and its name.
-#[tactic(auto, unfolding(crate::specs::LogAnswer::kind_text))]
-fn kind_words(kind: FaultKind) -> &'static str
-    ensures { result.now ≡ kind_text kind }
-{
-    match kind {
-        FaultKind::VersionTwice => "fault 1 version-twice",
-        FaultKind::VersionMissing => "fault 2 version-missing",
-        FaultKind::WrongReply => "fault 3 wrong-reply",
-        FaultKind::OutOfOrder => "fault 4 out-of-order",
-        FaultKind::LastDiffers => "fault 5 last-differs",
-    }
-}
-
-/// Appends node and serial of an entry that is named.
-#[tactic(auto, unfolding(crate::specs::LogAnswer::named_text))]
-fn push_named(out: &mut Vec<u8>, at: Option<(u8, u32)>) -> Result<(), AllocError>
-    ensures { OnOk result (out.new.items ≡ out.old.items ++ named_text at) }
-{
-    match at {
-        None => Ok(()),
-        Some((node, serial)) => {
-            push_text(out, " node")?;
-            push_field(out, u64::from(node))?;
-            push_text(out, " serial")?;
-            push_field(out, u64::from(serial))
-        }
-    }
-}
-
-/// The line of a verdict.
-#[tactic(auto, unfolding(crate::specs::LogAnswer::verdict_text))]
-fn verdict_line(alloc: Global, verdict: Verdict) -> Result<Vec<u8>, AllocError>
-    ensures { IfOk result (λ text. text.items ≡ verdict_text verdict) }
-{
-    let mut text = Vec::new(alloc);
-    match verdict {
-        Verdict::Lawful => push_text(&mut text, "lawful")?,
-        Verdict::Fault { line, kind, at } => {
-            push_text(&mut text, kind_words(kind))?;
-            push_text(&mut text, " line")?;
-            push_field(&mut text, u64::from(line))?;
-            push_named(&mut text, at)?;
-        }
-    }
-    push_text(&mut text, "\n")?;
-    Ok(text)
-}
 
 /// How an audit ends.
 fn end_of(verdict: Verdict) -> Outcome

@@ -5,6 +5,7 @@ ghost use Rattle.sci_text.specs.Number.{number};
 ghost use Rattle.scimem.specs.declared.choice.Command.{Command};
 ghost use Rattle.scimem.specs.Choice.{Chooses};
 
+use sci_command::texts_of;
 use sci_text::whole_number;
 use std::alloc::{AllocError, Global};
 use std::rt::Env;
@@ -72,10 +73,7 @@ pub fn choice_of(alloc: Global, words: &[String]) -> Result<Option<Command>, All
         → (choice ≡ Some command) ↔
         Chooses (map (λ word. word.bytes.items) words.now) command) }
 {
-    let mut texts = Vec::with_capacity(alloc, words.len())?;
-    for word in words {
-        texts.push(word.as_str())?;
-    }
+    let texts = texts_of(alloc, words)?;
     Ok(chosen(&texts))
 }
 

@@ -3,16 +3,15 @@
 ghost use Rattle.std.specs.Prelude.{◌≡◌, ◌++◌, ℕ, List, false, true, OnOk, IfOk, IfErr};
 ghost use Rattle.std.specs.Io.KnownBytes.{Appends};
 ghost use Rattle.sci_text.specs.Tap.{has_failed, is_called_again, tapped};
-ghost use Rattle.scimem.specs.declared.outcome.Outcome.{Outcome};
-ghost use Rattle.scimem.specs.Writing.{WritesFront};
+ghost use Rattle.sci_command.specs.declared.outcome.Outcome.{Outcome};
+ghost use Rattle.sci_command.specs.Writing.{WritesFront};
 ghost use Rattle.sci_text.specs.FirstFault.{IsInputFault};
 ghost use Rattle.scimem.specs.Decoding.{IsDecoded, IsInputDecoded, IsAnswer, refusal, fault_word};
-ghost use Rattle.scimem.specs.Refusal.{kind_word};
+ghost use Rattle.sci_command.specs.Refusal.{kind_word};
 
-use crate::outcome::Outcome;
 use crate::packet_line::push_packet;
 use crate::printing::push_labelled;
-use crate::writing::write_answer;
+use sci_command::{Outcome, write_answer};
 use sci_packets::{PacketFault, decode};
 use sci_text::{Tap, TextFault, TextFaultKind, read_input};
 use std::alloc::{AllocError, Global};
@@ -44,7 +43,7 @@ fn push_refusal(out: &mut Vec<u8>, place: u64, fault: PacketFault) -> Result<(),
 }
 
 /// The refusal of an input that couldn't be read.
-#[tactic(auto, unfolding(crate::specs::Decoding::refusal, crate::specs::Refusal::kind_word, sci_text::specs::Number::number, sci_text::specs::Number::field))]
+#[tactic(auto, unfolding(crate::specs::Decoding::refusal, sci_command::specs::Refusal::kind_word, sci_text::specs::Number::number, sci_text::specs::Number::field))]
 fn input_refusal(kind: TextFaultKind) -> &'static [u8]
     ensures { result.now ≡ refusal 0 (kind_word kind) }
 {

@@ -1,9 +1,10 @@
 //! Laws of the commands, each the contract of a function that does nothing.
 
 ghost use Rattle.std.specs.Prelude.{◌≡◌, ℕ, List};
-ghost use Rattle.scimem.specs.declared.outcome.Outcome.{Outcome};
+ghost use Rattle.sci_command.specs.declared.outcome.Outcome.{Outcome};
 ghost use Rattle.scimem.specs.Decoding.{IsDecoded};
-ghost use Rattle.scimem.specs.LogAnswer.{IsAuditOf, verdict_text};
+ghost use Rattle.sci_command.specs.VerdictLine.{verdict_text};
+ghost use Rattle.scimem.specs.LogAnswer.{IsAuditOf};
 ghost use Rattle.scimem.specs.OracleAnswer.{IsOracleOf};
 ghost use Rattle.scimem.specs.ReplayAnswer.{IsReplayOf};
 ghost use Rattle.scimem.specs.ThreadsAnswer.{IsThreadsOf};

@@ -3,8 +3,8 @@
 use crate::audit::audit_text;
 use crate::choice::{Command, chosen};
 use crate::devices::{Dripping, Failing, Many};
-use crate::outcome::Outcome;
 use crate::upgrade::upgrade;
+use sci_command::Outcome;
 use sci_text::Tap;
 use std::io::ErrorKind;
 use std::process::Abort;

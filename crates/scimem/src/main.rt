@@ -7,14 +7,11 @@ mod choice;
 mod decode;
 mod laws;
 mod oracle;
-mod outcome;
 mod packet_line;
 mod printing;
-mod refusal;
 mod replay;
 mod threads;
 mod upgrade;
-mod writing;
 
 use carrying_out::carried_out;
 use choice::{USAGE, asked};

@@ -4,10 +4,10 @@
 use crate::audit::audit_text;
 use crate::decode::decode_bytes;
 use crate::oracle::oracle;
-use crate::outcome::Outcome;
 use crate::replay::replay;
 use crate::threads::threads;
 use crate::upgrade::upgrade;
+use sci_command::Outcome;
 use sci_text::Tap;
 use std::process::Abort;
 use std::test::*;

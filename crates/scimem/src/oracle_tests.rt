@@ -2,7 +2,7 @@
 
 use crate::devices::{Dripping, Failing, Many};
 use crate::oracle::oracle;
-use crate::outcome::Outcome;
+use sci_command::Outcome;
 use sci_text::Tap;
 use std::io::ErrorKind;
 use std::process::Abort;

@@ -2,8 +2,8 @@
 //! fail.
 
 use crate::devices::{Dripping, Failing, Many};
-use crate::outcome::Outcome;
 use crate::replay::replay;
+use sci_command::Outcome;
 use sci_text::Tap;
 use std::alloc::{AllocError, Global};
 use std::io::ErrorKind;

@@ -3,7 +3,7 @@
 use crate::choice::{Command, chosen};
 use crate::decode::decode_bytes;
 use crate::devices::{Dripping, Failing, Many};
-use crate::outcome::Outcome;
+use sci_command::Outcome;
 use sci_text::Tap;
 use std::alloc::{AllocError, Global};
 use std::io::ErrorKind;

@@ -2,8 +2,8 @@
 
 use crate::audit::audit_text;
 use crate::choice::{Command, chosen};
-use crate::outcome::Outcome;
 use crate::threads::threads;
+use sci_command::Outcome;
 use sci_drive::Gate;
 use sci_history::Entry;
 use sci_text::{Script, Tap, logs_text, push_field, push_text, read_logs};

@@ -5,14 +5,12 @@ ghost use Rattle.std.specs.Io.KnownBytes.{Appends};
 ghost use Rattle.sci_text.specs.FirstFault.{IsTold};
 ghost use Rattle.sci_text.specs.LogFault.{IsLogFault};
 ghost use Rattle.sci_text.specs.Tap.{has_failed, is_called_again, tapped};
-ghost use Rattle.scimem.specs.declared.outcome.Outcome.{Outcome};
+ghost use Rattle.sci_command.specs.declared.outcome.Outcome.{Outcome};
 ghost use Rattle.scimem.specs.LogAnswer.{IsUpgradeAnswer, IsUpgradeOf};
-ghost use Rattle.scimem.specs.Input.{IsReadAs};
-ghost use Rattle.scimem.specs.Writing.{WritesFront};
+ghost use Rattle.sci_command.specs.Input.{IsReadAs};
+ghost use Rattle.sci_command.specs.Writing.{WritesFront};
 
-use crate::outcome::Outcome;
-use crate::refusal::refuse;
-use crate::writing::write_answer;
+use sci_command::{Outcome, refuse, write_answer};
 use sci_text::{Tap, TextFault, logs_text, read_logs};
 use std::alloc::Global;
 use std::io::{Read, Write};

@@ -1,7 +1,7 @@
 use Rattle.sci_text.specs.Tap.{tapped, has_failed}
-use Rattle.scimem.specs.declared.outcome.Outcome.TheVariants.{Refused}
+use Rattle.sci_command.specs.declared.outcome.Outcome.TheVariants.{Refused}
 use Rattle.scimem.specs.Decoding.{IsAnswer, refusal}
-use Rattle.scimem.specs.Refusal.{kind_word}
+use Rattle.sci_command.specs.Refusal.{kind_word}
 use Rattle.scimem.proofs.Answered.{refused}
 use Rattle.scimem.proofs.decode.decode_bytes.Goals as goal
 

@@ -1,6 +1,5 @@
 use Rattle.std.proofs.Common.{◌<◌, ◌≤◌, length, List, ℕ, drop, ◌++◌, sym, subst, arith, length-drop}
-use Rattle.scimem.proofs.Written.{whole_rest}
-use Rattle.scimem.proofs.Runs.{Reads, reads_more, shorter}
+use Rattle.scimem.proofs.Runs.{Reads, reads_more, shorter, whole_rest}
 use Rattle.scimem.specs.PacketLine.{packet_line}
 use Rattle.scimem.proofs.decode.text_of.Goals as goal
 

@@ -3,7 +3,7 @@ use Rattle.std.proofs.Common.{◌≡◌, ℕ, true, sym, ap, ◌∙◌}
 use Rattle.sci_text.specs.Tap.{tapped}
 use Rattle.scimem.proofs.ThreadLogs.{IsRunOf, threads_if}
 use Rattle.sci_text.specs.Log.{log_text}
-use Rattle.scimem.specs.declared.outcome.Outcome.TheVariants.{Done, Unlawful}
+use Rattle.sci_command.specs.declared.outcome.Outcome.TheVariants.{Done, Unlawful}
 use Rattle.scimem.proofs.threads.answer.Goals.{then-finished, else-finished}
 use Rattle.scimem.proofs.threads.answer.Goals as goal
 

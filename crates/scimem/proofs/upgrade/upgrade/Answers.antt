@@ -1,7 +1,7 @@
 -- What is written is the answer, or the refusal of the fault that is told.
 use Rattle.sci_text.specs.LogFault.{IsLogFault}
 use Rattle.sci_text.specs.Tap.{tapped, has_failed}
-use Rattle.scimem.proofs.Refusals.{refused_told}
+use Rattle.sci_command.proofs.Refusals.{refused_told}
 use Rattle.scimem.proofs.upgrade.upgrade.Goals as goal
 
 pub returns-in-Err-clause-written : goal.returns-in-Err-clause-written

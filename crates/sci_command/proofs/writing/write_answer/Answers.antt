@@ -1,8 +1,8 @@
 use Rattle.std.proofs.Common.{◌≡◌, true}
 use Rattle.std.specs.Prelude.{is_err}
 use Rattle.sci_text.specs.Tap.{tapped, has_failed}
-use Rattle.scimem.proofs.Written.{written_before_fault}
-use Rattle.scimem.proofs.writing.write_answer.Goals as goal
+use Rattle.sci_command.proofs.Written.{written_before_fault}
+use Rattle.sci_command.proofs.writing.write_answer.Goals as goal
 
 pub returns-then-is_err-clause-front : goal.returns-then-is_err-clause-front
 returns-then-is_err-clause-front g c =

@@ -1,5 +1,5 @@
 use Rattle.std.proofs.Common.{◌≡◌, map, take}
-use Rattle.scimem.proofs.choice.choice_of.Given as goal
+use Rattle.sci_command.proofs.words.texts_of.Given as goal
 
 -- the texts of the words so far
 abbrev pub invariant-loop-word : goal.invariant-loop-word

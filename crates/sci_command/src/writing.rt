@@ -2,7 +2,7 @@
 
 ghost use Rattle.std.specs.Prelude.{◌≡◌, false, true};
 ghost use Rattle.std.specs.Io.KnownBytes.{Appends};
-ghost use Rattle.scimem.specs.Writing.{WritesFront};
+ghost use Rattle.sci_command.specs.Writing.{WritesFront};
 ghost use Rattle.sci_text.specs.Tap.{has_failed, is_called_again, tapped};
 
 use crate::outcome::Outcome;

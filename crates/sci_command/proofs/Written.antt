@@ -1,16 +1,11 @@
 -- A text is written from its front.
-use Rattle.std.proofs.Common.{◌≡◌, ℕ, List, take, drop, Bool, true, Option, Result, Ok, Err, sym, ap, ◌∙◌, length, ◌-◌, length-drop}
-use Rattle.std.proofs.Math.Seq.{take-length}
+use Rattle.std.proofs.Common.{◌≡◌, ℕ, List, take, drop, Bool, true, Option, Result, Ok, Err, sym}
 use Rattle.std.specs.Prelude.{IfErr, is_err}
 use Rattle.std.proofs.lemmas.List.{take-append-drop}
 use Rattle.sci_text.specs.declared.fault.TextFault.{TextFault}
 use Rattle.sci_text.specs.declared.fault.TextFaultKind.TheVariants.{Write}
 use Rattle.sci_text.specs.Writing.{IsWriteFault}
-use Rattle.scimem.specs.Writing.{WritesFront}
-
--- what is left from a place is all that follows it
-pub whole_rest : {A : Type 0} (n : ℕ) (l : List A) → take (length l - n) (drop n l) ≡ drop n l
-whole_rest n l = ap (λ (k : ℕ). take k (drop n l)) (sym (length-drop n l)) ∙ take-length (drop n l)
+use Rattle.sci_command.specs.Writing.{WritesFront}
 
 front_written : (old new : Option (List ℕ)) (failed : Bool) (text : List ℕ) → IsWriteFault Write old new failed text → WritesFront old new text
 front_written old new failed text fault = record {

@@ -13,7 +13,7 @@ pub enum Outcome {
 
 impl Outcome {
     ghost use Rattle.std.specs.Prelude.{◌≡◌};
-    ghost use Rattle.scimem.specs.Status.{status_of};
+    ghost use Rattle.sci_command.specs.Status.{status_of};
 
     /// The exit status that tells it: 0, 1 and 2.
     pub fn status(self) -> u8

@@ -1,0 +1,5 @@
+pub mod Input
+pub mod Refusal
+pub mod Status
+pub mod Writing
+pub mod VerdictLine
