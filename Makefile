@@ -9,19 +9,20 @@ run:
 	@$(NEED_RT)
 	@if [ -f crates/scimem/src/main.rt ]; then cd crates/scimem && rt run -- $$(cat args) < stdin; else echo "scimem isn't built yet: there is nothing to run"; fi
 
-# The gate: every proof from nothing, the edits that must fail, and the tests; then the program that it built, on the
-# stored cases; then program and tests with memory, reads and writes refused. The last line is 'N passed, M failed'.
+# The gate: every proof from nothing, the edits that must fail, and the tests; then the programs that it built, on the
+# stored cases; then programs and tests with memory, reads and writes refused. The last line is 'N passed, M failed'.
 test:
 	@$(NEED_RT)
 	@scripts/test.sh
 
-# Builds the program over what earlier checks kept, and runs it on the stored cases alone.
+# Builds the programs over what earlier checks kept, and runs them on the stored cases alone.
 cases:
 	@$(NEED_RT)
 	@cd crates/scimem && rt run -- $$(cat args) < stdin > /dev/null
+	@cd crates/sciview && rt run -- $$(cat args) < stdin > /dev/null; [ $$? -eq 1 ]
 	@scripts/run_cases.sh
 
-# Builds tests and the program over what earlier checks kept, and has memory, reads and writes refused. With CRATE=NAME
+# Builds tests and the programs over what earlier checks kept, and has memory, reads and writes refused. With CRATE=NAME
 # it tries that crate alone.
 faults:
 	@$(NEED_RT)

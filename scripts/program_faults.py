@@ -1,4 +1,4 @@
-"""Trials of the built program: refused allocations, little address space, and devices that fail. scripts/try_faults.py says
+"""Trials of a built program: refused allocations, little address space, and devices that fail. scripts/try_faults.py says
 more."""
 
 import os
@@ -11,17 +11,22 @@ from errno import EAGAIN, EINTR, EIO, ENOSPC, EPIPE
 
 from fault_runs import Ran, Trial
 
-# Words that choose no command.
-ODD_WORDS = ([b"\xff"], [b""], [b"oracle", b"\xff"], [b"oracle\n"], [b"\xef\xbb\xbforacle"], [b"oracle"] * 100_000, [b"o" * 130_000])
+# A run of a program: a name, the words of its command line, its input, what it has to write, and its usage line.
+Case = namedtuple("Case", "name words given status output errors usage")
 
-# A run of the program: a name, the words of its command line, its input, and what it has to write.
-Case = namedtuple("Case", "name words given status output errors")
+# Of each program a word that chooses a command, and the stored case with no word.
+PROGRAMS = {"scimem": (b"oracle", "no-word"), "sciview": (b"order", "sciview-no-word")}
 
-TOP = os.path.dirname(os.path.dirname(os.path.abspath(__file__)))
 
-# What the program writes on standard error if the words of its command line choose no command.
-with open(f"{TOP}/cases/no-word/errors", "rb") as file:
-    USAGE = file.read()
+def odd_words(word):
+    """Words that choose no command, of a word that does."""
+    return ([b"\xff"], [b""], [word, b"\xff"], [word + b"\n"], [b"\xef\xbb\xbf" + word], [word] * 100_000, [b"o" * 130_000])
+
+
+def usage_of(top, name):
+    """What a program writes on standard error if the words of its command line choose no command."""
+    with open(f"{top}/cases/{PROGRAMS[name][1]}/errors", "rb") as file:
+        return file.read()
 
 
 def refusal(case, kind):
@@ -29,33 +34,39 @@ def refusal(case, kind):
     return b"refused at %s 0: %s\n" % (b"byte" if case.words == ["decode"] else b"line", kind)
 
 
-def stored_cases(top):
-    """The cases of cases/ whose input is a file."""
+def stored_cases(top, program):
+    """The cases of cases/ that run a program and whose input is a file."""
+    usage = usage_of(top, program)
     for name in sorted(os.listdir(f"{top}/cases")):
         part = lambda it: open(f"{top}/cases/{name}/{it}", "rb").read() if has(it) else b""
         has = lambda it: os.path.isfile(f"{top}/cases/{name}/{it}")
-        if has("input") and not any(map(has, ("reads_from", "writes_to", "kilobytes"))):
+        runs = part("program").decode().strip() or "scimem"
+        if runs == program and has("input") and not any(map(has, ("reads_from", "writes_to", "kilobytes"))):
             words = part("words").decode().split()
-            yield Case(name, words, part("input"), int(part("status")), part("output"), part("errors"))
+            yield Case(name, words, part("input"), int(part("status")), part("output"), part("errors"), usage)
 
 
-def larger_cases(faults, program, count):
+def larger_cases(faults, name, program, count):
     """A case of each command whose input has `count` operations, events, entries and packets of each node or kind."""
     made = lambda *words: subprocess.run([sys.executable, *words], stdout=subprocess.PIPE, check=True).stdout
     folder = f"{faults.top}/scripts"
     script = made(f"{folder}/make_script.py", str(count), "4")
     schedule = made(f"{folder}/make_schedule.py").split(b"\n")[: count * 16 + 1]
-    log = faults.run([program, "oracle"], script).output
+    log = faults.run([f"{faults.top}/crates/scimem/out/scimem", "oracle"], script).output
     inputs = {
-        "oracle": script,
-        "replay": b"\n".join(schedule) + b"\n",
-        "audit": log,
-        "upgrade": log,
-        "decode": made(f"{folder}/make_packets.py", str(count)),
+        "scimem": {
+            "oracle": script,
+            "replay": b"\n".join(schedule) + b"\n",
+            "audit": log,
+            "upgrade": log,
+            "decode": made(f"{folder}/make_packets.py", str(count)),
+        },
+        "sciview": {"order": log},
     }
-    for command, given in inputs.items():
+    usage = usage_of(faults.top, name)
+    for command, given in inputs[name].items():
         whole = faults.run([program, command], given)
-        yield Case(f"{command}, {len(given):,} bytes", [command], given, whole.status, whole.output, whole.errors)
+        yield Case(f"{command}, {len(given):,} bytes", [command], given, whole.status, whole.output, whole.errors, usage)
 
 
 def is_whole(ran, case):
@@ -64,7 +75,7 @@ def is_whole(ran, case):
 
 def is_memory(ran, case):
     """Whether memory is told and nothing else; or, if the command line couldn't be read, the usage line."""
-    if ran.told != b"a" and ran[:3] == (2, b"", USAGE):
+    if ran.told != b"a" and ran[:3] == (2, b"", case.usage):
         return True
     return ran[:3] == (2, refusal(case, b"memory"), b"")
 
@@ -121,9 +132,9 @@ def try_one_byte(faults, program, case):
     return trial if is_whole(ran, case) else trial.fail("one byte at a time", ran)
 
 
-def least_space(faults, program):
+def least_space(faults, program, usage):
     """The least address space, in steps of 4 KB, with which the program starts: it then writes its usage line."""
-    starts = lambda kilobytes: faults.run([program], kilobytes=kilobytes)[:3] == (2, b"", USAGE)
+    starts = lambda kilobytes: faults.run([program], kilobytes=kilobytes)[:3] == (2, b"", usage)
     low, high = 0, 1 << 14
     while high - low > 4:
         middle = (low + high) // 8 * 4
@@ -243,37 +254,38 @@ def try_devices(faults, program, case):
     return trial if is_whole(ran, case) else trial.fail("a stopped run", ran)
 
 
-def try_words(faults, program, words):
+def try_words(faults, program, usage, words):
     """A command line that chooses no command: the usage line, status 2, and nothing is read."""
     trial = Trial(f"{len(words)} words {words[0][:20]!r}")
     ran = faults.run([program, *words])
-    return trial if ran[:3] == (2, b"", USAGE) else trial.fail("odd words", ran)
+    return trial if ran[:3] == (2, b"", usage) else trial.fail("odd words", ran)
 
 
-def tell(what, trials):
+def tell(name, what, trials):
     """Prints how many calls were refused in trials, or how many runs were made."""
-    print(f"scimem: {len(trials)} inputs, {sum(it.refused for it in trials)} {what}", flush=True)
+    print(f"{name}: {len(trials)} inputs, {sum(it.refused for it in trials)} {what}", flush=True)
     return trials
 
 
-def try_program(faults):
-    """All trials of the program."""
-    program = f"{faults.top}/crates/scimem/out/scimem"
+def try_program(faults, name):
+    """All trials of a program."""
+    program = f"{faults.top}/crates/{name}/out/{name}"
     if not os.path.isfile(program):
-        return [Trial("scimem").fail("the program is not built: run make faults", None)]
-    stored, larger = list(stored_cases(faults.top)), list(larger_cases(faults, program, 300))
+        return [Trial(name).fail("the program is not built: run make faults", None)]
+    usage = usage_of(faults.top, name)
+    stored, larger = list(stored_cases(faults.top, name)), list(larger_cases(faults, name, program, 300))
     each = lambda call, cases: list(faults.pool.map(lambda it: call(faults, program, it), cases))
-    trials = tell("allocations refused", each(try_allocations, stored + larger))
-    trials += tell("reads failed", each(try_reads, stored))
-    trials += tell("writes failed", each(try_writes, stored))
-    trials += tell("runs with one byte a read and a write", each(try_one_byte, stored + larger))
-    least = least_space(faults, program)
+    trials = tell(name, "allocations refused", each(try_allocations, stored + larger))
+    trials += tell(name, "reads failed", each(try_reads, stored))
+    trials += tell(name, "writes failed", each(try_writes, stored))
+    trials += tell(name, "runs with one byte a read and a write", each(try_one_byte, stored + larger))
+    least = least_space(faults, program, usage)
     space = [try_space(faults, program, it, least, 32) for it in stored]
     space += [try_space(faults, program, it, least, 256) for it in larger]
-    largest = list(larger_cases(faults, program, 16_384))
+    largest = list(larger_cases(faults, name, program, 16_384))
     space += [try_space(faults, program, it, least, 64) for it in largest]
-    trials += tell(f"runs refused for want of address space, from {least} KB on", space)
-    trials += tell("devices that fail", each(try_devices, largest))
-    odd = [try_words(faults, program, it) for it in ODD_WORDS]
-    print(f"scimem: {len(odd)} command lines that choose no command", flush=True)
+    trials += tell(name, f"runs refused for want of address space, from {least} KB on", space)
+    trials += tell(name, "devices that fail", each(try_devices, largest))
+    odd = [try_words(faults, program, usage, it) for it in odd_words(PROGRAMS[name][0])]
+    print(f"{name}: {len(odd)} command lines that choose no command", flush=True)
     return trials + odd

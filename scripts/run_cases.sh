@@ -1,7 +1,8 @@
 #!/bin/sh
-# Runs the built program on each case of the folder cases/, and prints how many passed and failed.
+# Runs the built programs on the cases of the folder cases/, and prints how many passed and failed.
 #
 # A case is a folder with these files:
+#   program    the program that it runs (no file: scimem)
 #   words      the words of the command line, one a line
 #   input      what the program reads, or input.sh, which prints it
 #   output     what the program must write
@@ -11,7 +12,6 @@
 #   writes_to  the file that it writes to in place of the output, as one where a write fails
 #   kilobytes  the most memory that it may take
 cd "$(dirname "$0")/.." || exit 2
-program=$PWD/crates/scimem/out/scimem
 room=$(mktemp -d) || exit 2
 trap 'rm -rf "$room"' EXIT
 
@@ -20,6 +20,9 @@ run_case() {
     set -- "$1" $(cat "$1/words")
     folder=$1
     shift
+    name=scimem
+    [ ! -f "$folder/program" ] || name=$(cat "$folder/program")
+    program=crates/$name/out/$name
     from=$room/input
     to=$room/output
     : > "$room/output"

@@ -3,9 +3,9 @@
 
     scripts/try_faults.py [--build] [CRATE]
 
-It tries each test named a_refused_.. or memory_for_.. of each crate, and then the built program on the stored cases and on
-larger inputs. With a crate's name it tries that crate alone; the program goes with `scimem`. With --build it builds (and
-proves) the tests and the program first, over what earlier checks kept; else they stand in out/, as the gate left them.
+It tries each test named a_refused_.. or memory_for_.. of each crate, and then the built programs on the stored cases and on
+larger inputs. With a crate's name it tries that crate alone; a program goes with its crate. With --build it builds (and
+proves) the tests and the programs first, over what earlier checks kept; else they stand in out/, as the gate left them.
 
 A line for each trial tells how much was refused. The last line is 'N passed, M failed', of trials.
 """
@@ -38,10 +38,11 @@ def crates_with_tests(wanted):
 
 def built(crate, what):
     """Proves and builds a crate's tests (`test`) or its program (`run`), and tells whether that went well."""
-    words = ["rt", what] + ["--jobs", "2"] * (what == "test") + ["--", "oracle"] * (what == "run")
+    word = program_faults.PROGRAMS[crate][0].decode() if what == "run" else ""
+    words = ["rt", what] + ["--jobs", "2"] * (what == "test") + ["--", word] * (what == "run")
     how = {"stdin": subprocess.DEVNULL, "stdout": subprocess.PIPE, "stderr": subprocess.STDOUT}
     ran = subprocess.run(words, cwd=f"{TOP}/crates/{crate}", **how)
-    # The program refuses an empty script, with status 2.
+    # A program refuses an empty text, with status 2.
     if ran.returncode == (2 if what == "run" else 0):
         return True
     print(ran.stdout.decode(errors="replace")[-2000:])
@@ -91,11 +92,13 @@ def main(words):
                 trials.append(Trial(crate).fail("its tests are not proved", None))
                 continue
             trials += try_crate(faults, crate, count)
-        if wanted in (None, "scimem"):
-            if build and not built("scimem", "run"):
-                trials.append(Trial("scimem").fail("the program is not proved", None))
+        for name in program_faults.PROGRAMS:
+            if wanted not in (None, name):
+                continue
+            if build and not built(name, "run"):
+                trials.append(Trial(name).fail("the program is not proved", None))
             else:
-                trials += program_faults.try_program(faults)
+                trials += program_faults.try_program(faults, name)
     failed = [it for it in trials if it.failures]
     for trial in failed:
         trial.tell()

@@ -30,7 +30,7 @@ mod writing;
 pub use fault::{TextFault, TextFaultKind};
 pub use log_laws::{no_log_fault, one_log, one_log_fault, written_again};
 pub use log_reading::read_logs;
-pub use log_writing::{logs_text, write_logs};
+pub use log_writing::{logs_text, push_entry, write_logs};
 pub use number::whole_number;
 pub use printing::{push_field, push_number, push_text};
 pub use reading::read_input;

@@ -65,6 +65,25 @@ fn put_outcome(line: &mut LineEnd, entry: &Entry)
     line.put_text(" = ");
 }
 
+fn put_entry(line: &mut LineEnd, entry: &Entry)
+    requires { 183 + length line.old ≤ MAX_TEXT_LINE_BYTES }
+    ensures text { line.new ≡ issue_text entry.now ++ (outcome_text entry.now ++ line.old) }
+    ensures short { length line.new ≤ 183 + length line.old }
+{
+    put_outcome(line, entry);
+    put_issue(line, entry);
+}
+
+/// Appends what the line of an entry says, `n serial OP = REPLY @V`, without its line feed. Refused if memory is.
+pub fn push_entry(out: &mut Vec<u8>, entry: &Entry) -> Result<(), AllocError>
+    ensures { OnOk result (out.new.items
+        ≡ out.old.items ++ (issue_text entry.now ++ outcome_text entry.now)) }
+{
+    let mut line = LineEnd::new();
+    put_entry(&mut line, entry);
+    out.extend_from_slice(line.as_slice())
+}
+
 /// Appends the line of an entry.
 #[tactic(auto, unfolding(crate::specs::Log::entry_line))]
 fn push_entry_line(out: &mut Vec<u8>, entry: &Entry) -> Result<(), AllocError>
@@ -72,8 +91,7 @@ fn push_entry_line(out: &mut Vec<u8>, entry: &Entry) -> Result<(), AllocError>
 {
     let mut line = LineEnd::new();
     line.put_text("\n");
-    put_outcome(&mut line, entry);
-    put_issue(&mut line, entry);
+    put_entry(&mut line, entry);
     out.extend_from_slice(line.as_slice())
 }
 

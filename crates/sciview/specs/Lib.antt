@@ -1,0 +1,3 @@
+pub mod Choice
+pub mod CommandAnswer
+pub mod OrderAnswer
