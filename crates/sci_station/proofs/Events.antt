@@ -1,5 +1,5 @@
 -- What a station may do with what it has received, and what it has to send.
-use Rattle.std.proofs.Common.{◌≡◌, ◌<◌, ℕ, List, ◌∷◌, get_or, length, Option, Some, None, refl, sym, ap, subst, ◌∙◌}
+use Rattle.std.proofs.Common.{◌≡◌, ◌<◌, ℕ, false, List, ◌∷◌, get_or, length, Option, Some, None, refl, sym, ap, subst, ◌∙◌}
 use Rattle.std.specs.Prelude.{IsSome, slice_get}
 use Rattle.sci_words.specs.declared.event.AskKind.{AskKind}
 use Rattle.sci_words.specs.declared.event.Event.{Event}
@@ -10,7 +10,7 @@ use Rattle.sci_cache.specs.Cache.{Letter, letter_of}
 use Rattle.sci_core.specs.declared.lane.LaneKind.{LaneKind}
 use Rattle.sci_core.specs.declared.lane.LaneKind.TheVariants.{Answers, Requests}
 use Rattle.sci_core.specs.Core.{Sends, Takes, lane_at, lane_of, lane_place, node_at, sends, side}
-use Rattle.sci_core.specs.Node.{NodeOf, node_accepting, node_asking, node_refusing, node_replying, node_serving, replied_by}
+use Rattle.sci_core.specs.Node.{NodeOf, is_setback, node_accepting, node_asking, node_refusing, node_replying, node_serving, replied_by}
 use Rattle.sci_core.specs.Reached.{IsReachedNode}
 use Rattle.sci_core.specs.WellFormed.{IsInLane}
 use Rattle.sci_core.proofs.Applied.{front_holds}
@@ -97,7 +97,8 @@ may_accept part cell packet from n read k f is =
       spelled = read.spelled;
     }
 
-may_serve : (part : Part) (cell : CellId) (packet : Packet) (from n : ℕ) → HasRead part cell packet → cell.kind ≡ Requests → cell.sender ≡ from → n ≡ me_of part → part.node.waiting ≡ None → MayFree part cell (event.Serve from n)
+-- a request that was read is served, if no answer waits
+pub may_serve : (part : Part) (cell : CellId) (packet : Packet) (from n : ℕ) → HasRead part cell packet → cell.kind ≡ Requests → cell.sender ≡ from → n ≡ me_of part → part.node.waiting ≡ None → MayFree part cell (event.Serve from n)
 may_serve part cell packet from n read k f is free =
     let s = read.shown in
     let me = me_of part in
@@ -116,14 +117,15 @@ may_serve part cell packet from n read k f is free =
       spelled = read.spelled;
     }
 
-may_refuse : (part : Part) (cell : CellId) (packet : Packet) (from n : ℕ) (policy : PolicyOf) → HasRead part cell packet → cell.kind ≡ Requests → cell.sender ≡ from → n ≡ me_of part → part.node.waiting ≡ None → decided policy part.node (letter_of packet) ≡ decision.Refuse
+-- a request that was read is refused, unless it is a Setback
+pub may_refuse : (part : Part) (cell : CellId) (packet : Packet) (from n : ℕ) → HasRead part cell packet → cell.kind ≡ Requests → cell.sender ≡ from → n ≡ me_of part → part.node.waiting ≡ None → is_setback (letter_of packet).body ≡ false
     → MayFree part cell (event.Refuse from n)
-may_refuse part cell packet from n policy read k f is free refuses =
+may_refuse part cell packet from n read k f is free no_setback =
     let s = read.shown in
     let me = me_of part in
     let front = front_read part cell packet read Requests from k f in
     let free_there : (node_at s.core me).waiting ≡ None = ap (λ (m : NodeOf). m.waiting) s.here ∙ free in
-    let some = (request_enabled s.core from me s.reached (sender_below part cell packet read from f) s.some_node).refused (letter_of packet) front.0 front.1 free_there (refuses_no_setback policy part.node (letter_of packet) refuses) in
+    let some = (request_enabled s.core from me s.reached (sender_below part cell packet read from f) s.some_node).refused (letter_of packet) front.0 front.1 free_there no_setback in
     let next = some_of (node_refusing part.node (letter_of packet)) (subst (λ (m : NodeOf). IsSome (node_refusing m (letter_of packet))) s.here some) in
     record {
       next = read.next;
@@ -140,7 +142,7 @@ may_refuse part cell packet from n policy read k f is free refuses =
 pub may_take : (part : Part) (cell : CellId) (packet : Packet) (from n : ℕ) (policy : PolicyOf) (d : Decision) (e : Event) → HasRead part cell packet → cell.kind ≡ Requests → cell.sender ≡ from → n ≡ me_of part → part.node.waiting ≡ None
     → decided policy part.node (letter_of packet) ≡ d → Some e ≡ decided_event d from n → MayFree part cell e
 may_take part cell packet from n policy decision.Keep e read k f is free decides takes = cc
-may_take part cell packet from n policy decision.Refuse e read k f is free decides takes = subst (MayFree part cell) (some_same takes) (may_refuse part cell packet from n policy read k f is free decides)
+may_take part cell packet from n policy decision.Refuse e read k f is free decides takes = subst (MayFree part cell) (some_same takes) (may_refuse part cell packet from n read k f is free (refuses_no_setback policy part.node (letter_of packet) decides))
   where
     some_same : Some e ≡ Some (event.Refuse from n) → event.Refuse from n ≡ e
     some_same h = cc

@@ -2,6 +2,10 @@
 #![tactic(auto)]
 
 mod budget;
+#[cfg(test)]
+mod by_hand;
+#[cfg(test)]
+mod by_hand_tests;
 mod fabric;
 #[cfg(test)]
 mod finish_tests;
