@@ -21,6 +21,8 @@ mod station;
 #[cfg(test)]
 mod tests;
 mod turn;
+#[cfg(test)]
+mod turn_tests;
 mod worker;
 
 pub use fabric::{Fabric, Finished};

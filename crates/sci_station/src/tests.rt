@@ -9,12 +9,12 @@ use std::test::*;
 use std::thread;
 
 /// An operation on word 0 of a line.
-fn op(line: u8, act: Act) -> Op {
+pub(crate) fn op(line: u8, act: Act) -> Op {
     Op { line, word: 0, act }
 }
 
 /// An error unless this holds.
-fn holds(fact: bool, what: &'static str) -> Result<(), Fail> {
+pub(crate) fn holds(fact: bool, what: &'static str) -> Result<(), Fail> {
     if fact { Ok(()) } else { Err(Fail::from(what)) }
 }
 
@@ -71,8 +71,8 @@ fn two(rt: &HostRuntime, extent: Extent, limit: u32) -> Result<(Station, Station
     Ok((first, second))
 }
 
-/// Stations by hand: a store at the home, and a load at the other node that joins the home's list. The loader's turns are
-/// cut after any number of steps, and the rest is done in the turns after.
+/// Stations by hand: a store at the home, and a load at the other node that joins the home's list. The loader's turns
+/// are cut after any number of steps, and the rest is done in the turns after.
 #[test]
 fn stations_by_hand(rt: HostRuntime) -> Result<(), Fail> {
     let extent = Extent::new(2, 1, 1).ok_or("an extent")?;
@@ -118,15 +118,16 @@ fn two_transactions(rt: HostRuntime) -> Result<(), Fail> {
     )
 }
 
-/// The home's last turn by hand, cut after each number of steps, leaves what later turns can finish; and it makes as many
-/// steps as it may, up to those of the whole turn.
+/// The home's last turn by hand, cut after each number of steps, leaves what later turns can finish. It makes as many
+/// steps as it may, up to the nineteen of the whole turn. Three take the request of node 1, and twelve send its answer.
+/// Four look at lanes where nothing is.
 #[test]
 fn a_turn_is_cut_anywhere(rt: HostRuntime) -> Result<(), Fail> {
     let extent = Extent::new(2, 1, 1).ok_or("an extent")?;
     let (mut first, mut second) = two(&rt, extent, 1)?;
     up_to_the_grant(&mut first, &mut second)?;
     let (_whole, most) = first.turn_within(1000);
-    holds(most > 11, "a packet of eleven words is sent")?;
+    holds(most == 19, "the steps of the whole turn")?;
     for steps in 0..=most {
         let (mut first, mut second) = two(&rt, extent, 1)?;
         up_to_the_grant(&mut first, &mut second)?;
