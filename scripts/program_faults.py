@@ -61,7 +61,7 @@ def larger_cases(faults, name, program, count):
             "upgrade": log,
             "decode": made(f"{folder}/make_packets.py", str(count)),
         },
-        "sciview": {"order": log},
+        "sciview": {"order": log, "packets": b"\n".join(schedule) + b"\n"},
     }
     usage = usage_of(faults.top, name)
     for command, given in inputs[name].items():

@@ -1,1 +1,2 @@
 pub mod Answered
+mod Sent

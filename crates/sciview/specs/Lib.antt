@@ -1,3 +1,4 @@
 pub mod Choice
 pub mod CommandAnswer
 pub mod OrderAnswer
+pub mod PacketsAnswer

@@ -12,6 +12,7 @@ ghost use Rattle.sciview.specs.CommandAnswer.{IsAnswerTo};
 use crate::choice::Command;
 use crate::help::HELP;
 use crate::order::order;
+use crate::packets::packets;
 use sci_command::{Outcome, write_answer};
 use sci_text::Tap;
 use std::alloc::Global;
@@ -40,6 +41,7 @@ fn outcome_of<R: Read, W: Write>(
 {
     match command {
         Command::Order => order(alloc, reader, writer),
+        Command::Packets => packets(alloc, reader, writer),
         Command::Help => write_answer(writer, HELP.as_bytes(), Outcome::Done),
     }
 }

@@ -14,6 +14,8 @@ use std::{env, io};
 pub enum Command {
     /// Write whether a log is sequentially consistent.
     Order,
+    /// Write the bytes of the packets that a schedule sends.
+    Packets,
     /// Write what the program knows.
     Help,
 }
@@ -25,6 +27,7 @@ pub fn chosen(words: &[&str]) -> Option<Command>
 {
     match words {
         ["order"] => Some(Command::Order),
+        ["packets"] => Some(Command::Packets),
         ["--help"] => Some(Command::Help),
         _ => None,
     }

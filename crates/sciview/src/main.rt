@@ -5,6 +5,7 @@ mod carrying_out;
 mod choice;
 mod help;
 mod order;
+mod packets;
 
 use carrying_out::carried_out;
 use choice::asked;

@@ -1,8 +1,10 @@
-//! That `order` tells what was found, and which words choose which command.
+//! What `order` and `packets` write, and which words choose which command.
 
 use crate::choice::{Command, chosen};
 use crate::order::order;
+use crate::packets::packets;
 use sci_command::Outcome;
+use sci_packets::{Body, decode};
 use sci_text::Tap;
 use std::process::Abort;
 use std::test::*;
@@ -72,7 +74,59 @@ fn a_text_with_a_fault_is_refused(rt: HostRuntime) {
 #[test]
 fn words_choose_commands(rt: HostRuntime) {
     assert_eq!(rt; chosen(&["order"]), Some(Command::Order));
+    assert_eq!(rt; chosen(&["packets"]), Some(Command::Packets));
     assert_eq!(rt; chosen(&["--help"]), Some(Command::Help));
     assert_eq!(rt; chosen(&["order", "order"]), None);
     assert_eq!(rt; chosen(&[]), None);
+}
+
+/// Whether bytes are an Mread from node 1 to node 0 and an answer, and nothing else.
+fn are_an_exchange(bytes: &[u8]) -> bool {
+    let Ok((request, used)) = decode(bytes) else {
+        return false;
+    };
+    let rest = &bytes[used..];
+    let Ok((answer, used)) = decode(rest) else {
+        return false;
+    };
+    request.body == Body::Mread
+        && request.source.get() == 1
+        && request.target.get() == 0
+        && !answer.is_request()
+        && answer.source.get() == 0
+        && answer.target.get() == 1
+        && used == rest.len()
+}
+
+/// Node 1 asks node 0 for a line, and node 0 answers. The first reply comes too early, and the last one sends nothing.
+#[test]
+fn memory_for_packets(rt: HostRuntime) {
+    let schedule = "machine 2 1 1\nreply 0\nask 1 0 mread\nserve 1 0\nreply 0\nreply 0\n";
+    let mut written = Vec::new(rt.alloc());
+    let outcome = packets(
+        rt.alloc(),
+        &mut Tap::new(schedule.as_bytes()),
+        &mut Tap::new(&mut written),
+    );
+    if outcome == Outcome::Refused {
+        let memory = b"refused at line 0: memory\n".as_slice();
+        assert!(rt; written.is_empty() || written.as_slice() == memory);
+    } else {
+        assert!(rt; are_an_exchange(&written));
+    }
+}
+
+#[test]
+fn a_schedule_with_a_fault_is_refused(rt: HostRuntime) {
+    let mut written = Vec::new(rt.alloc());
+    let outcome = packets(
+        rt.alloc(),
+        &mut Tap::new(b"machine 2 1 1\nask 1 1 mread\n".as_slice()),
+        &mut Tap::new(&mut written),
+    );
+    assert_eq!(rt; outcome, Outcome::Refused);
+    assert_eq!(rt;
+        written.as_slice(),
+        b"refused at line 2: range\n".as_slice()
+    );
 }

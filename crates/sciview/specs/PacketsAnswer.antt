@@ -1,0 +1,56 @@
+-- What `packets` writes for its input.
+use Rattle.std.specs.Prelude.{◌≡◌, ℕ, nat_lt, Bool, List, [], ◌∷◌, ◌++◌, map, Option, Some, None, if◌then◌else◌}
+use Rattle.std.specs.List.{flat_map}
+use Rattle.std.specs.Option.{option_to_list}
+use Rattle.sci_words.specs.declared.limits.TheConstants.{MAX_OPERATIONS}
+use Rattle.sci_words.specs.declared.event.Event.{Event}
+use Rattle.sci_packets.specs.declared.packet.Packet.{Packet}
+use Rattle.sci_packets.specs.Spelling.{spelling}
+use Rattle.sci_cache.specs.Cache.{Letter, letter_of}
+use Rattle.sci_core.specs.Core.{Core, Side, Idle, Changes, Sends, Takes, side, node_at, node_of, opening, step}
+use Rattle.sci_text.specs.Schedule.{ScheduleValue, IsSchedule, schedule_text}
+use Rattle.sci_text.specs.FirstFault.{IsTold}
+use Rattle.sci_text.specs.ScheduleFault.{IsScheduleFault}
+use Rattle.sci_command.specs.declared.outcome.Outcome.{Outcome}
+use Rattle.sci_command.specs.declared.outcome.Outcome.TheVariants.{Done, Unlawful, Refused}
+use Rattle.sci_command.specs.Input.{IsReadAs}
+use Rattle.sci_command.specs.Refusal.{IsRefusalBy}
+
+-- the packet that a node's side of an event sends, if it sends one
+abbrev pub sent_in : Side → Option Letter
+sent_in (Sends kind next letter) = Some letter
+sent_in Idle = None
+sent_in (Changes next) = None
+sent_in (Takes kind from taking) = None
+
+-- the packet that an event sends, if it is enabled and sends one
+abbrev pub letter_sent : Core → Event → Option Letter
+letter_sent core e = if nat_lt (node_of e) core.size.nodes then sent_in (side (node_at core (node_of e)) e) else None
+
+-- the packets that events send from a state on, one event after another
+abbrev pub letters_sent : Core → List Event → List Letter
+letters_sent core [] = []
+letters_sent core (e ∷ events) = option_to_list (letter_sent core e) ++ letters_sent (step core e) events
+
+-- a machine of the schedule's size, whose nodes may each issue 65,536 operations, before the schedule
+abbrev pub before : ScheduleValue → Core
+before s = opening (record { nodes = s.nodes; lines = s.lines; slots = s.slots; limit = MAX_OPERATIONS })
+
+-- bytes are those of packets, one after another, which are these letters
+pub record AreSpelled (letters : List Letter) (bytes : List ℕ) : Type 0 where
+  pub packets : List Packet
+  pub same : map letter_of packets ≡ letters
+  pub spelled : bytes ≡ flat_map spelling packets
+
+-- the input is the text of a schedule, and the bytes of all packets that it sends are written
+pub record IsPacketsOf (input bytes : List ℕ) : Type 0 where
+  pub schedule : ScheduleValue
+  pub good : IsSchedule schedule
+  pub read : input ≡ schedule_text schedule
+  pub written : AreSpelled (letters_sent (before schedule) schedule.events) bytes
+
+-- what `packets` writes, and how it ends, for the bytes of a reader, which has failed or not
+abbrev pub IsPacketsAnswer : Option (List ℕ) → Bool → List ℕ → Outcome → Type 0
+IsPacketsAnswer input failed text Done = IsReadAs input failed (λ bytes. IsPacketsOf bytes text)
+IsPacketsAnswer input failed text Refused = IsRefusalBy (λ kind line. IsTold IsScheduleFault kind input failed line) text
+IsPacketsAnswer input failed text Unlawful = ⊥
