@@ -82,11 +82,8 @@ fn stations_by_hand(rt: HostRuntime) -> Result<(), Fail> {
     loads_in_the_end(&mut first, &mut second)
 }
 
-/// Two transactions of one node at a time, on two lines.
-#[test]
-fn two_transactions(rt: HostRuntime) -> Result<(), Fail> {
-    let extent = Extent::new(2, 3, 2).ok_or("an extent")?;
-    let (mut first, mut second) = two(&rt, extent, 2)?;
+/// The second station submits two loads, and both lines come to it.
+fn two_lines_come(first: &mut Station, second: &mut Station) -> Result<(), Fail> {
     holds(second.submit(op(0, Act::Load)) == Ok(0), "the first serial")?;
     holds(
         second.submit(op(2, Act::Load)) == Ok(1),
@@ -96,26 +93,56 @@ fn two_transactions(rt: HostRuntime) -> Result<(), Fail> {
     holds(first.turn().served == 2, "two served")?;
     let progress = second.turn();
     holds(progress.accepted == 2, "two accepted")?;
-    holds(progress.ready == Some(0), "line 0 is ready")?;
-    let entry = |line, serial| Entry {
+    holds(progress.ready == Some(0), "line 0 is ready")
+}
+
+/// The entry of a load by node 1 that finds a line as it was at first.
+fn loaded(line: u8, serial: u32) -> Entry {
+    Entry {
         node: 1,
         serial,
         op: op(line, Act::Load),
         reply: Reply::Got(0),
         version: 0,
-    };
+    }
+}
+
+/// It performs the later load first.
+fn two_loads_are_performed(second: &mut Station) -> Result<(), Fail> {
+    let later = loaded(2, 1);
+    let earlier = loaded(0, 0);
+    holds(second.perform(2) == Some(later), "the entry of line 2")?;
+    holds(second.perform(0) == Some(earlier), "the entry of line 0")?;
     holds(
-        second.perform(2) == Some(entry(2, 1)),
-        "the entry of line 2",
-    )?;
-    holds(
-        second.perform(0) == Some(entry(0, 0)),
-        "the entry of line 0",
-    )?;
-    holds(
-        second.log() == [entry(2, 1), entry(0, 0)].as_slice(),
+        second.log() == [later, earlier].as_slice(),
         "the log of node 1",
     )
+}
+
+/// Two transactions of one node at a time, on two lines.
+#[test]
+fn two_transactions(rt: HostRuntime) -> Result<(), Fail> {
+    let extent = Extent::new(2, 3, 2).ok_or("an extent")?;
+    let (mut first, mut second) = two(&rt, extent, 2)?;
+    two_lines_come(&mut first, &mut second)?;
+    two_loads_are_performed(&mut second)
+}
+
+/// A turn of the home that is cut after so many steps makes just these, and later turns finish the rest.
+fn goes_on_after(first: &mut Station, second: &mut Station, steps: u32) -> Result<(), Fail> {
+    up_to_the_grant(first, second)?;
+    let (_progress, made) = first.turn_within(steps);
+    holds(made == steps, "the steps made")?;
+    first.turn();
+    second.turn();
+    loads_in_the_end(first, second)
+}
+
+/// How many steps the home's last turn makes if nothing cuts it.
+fn steps_of_the_whole(first: &mut Station, second: &mut Station) -> Result<u32, Fail> {
+    up_to_the_grant(first, second)?;
+    let (_whole, most) = first.turn_within(1000);
+    Ok(most)
 }
 
 /// The home's last turn by hand, cut after each number of steps, leaves what later turns can finish. It makes as many
@@ -125,17 +152,11 @@ fn two_transactions(rt: HostRuntime) -> Result<(), Fail> {
 fn a_turn_is_cut_anywhere(rt: HostRuntime) -> Result<(), Fail> {
     let extent = Extent::new(2, 1, 1).ok_or("an extent")?;
     let (mut first, mut second) = two(&rt, extent, 1)?;
-    up_to_the_grant(&mut first, &mut second)?;
-    let (_whole, most) = first.turn_within(1000);
+    let most = steps_of_the_whole(&mut first, &mut second)?;
     holds(most == 19, "the steps of the whole turn")?;
     for steps in 0..=most {
         let (mut first, mut second) = two(&rt, extent, 1)?;
-        up_to_the_grant(&mut first, &mut second)?;
-        let (_progress, made) = first.turn_within(steps);
-        holds(made == steps, "the steps made")?;
-        first.turn();
-        second.turn();
-        loads_in_the_end(&mut first, &mut second)?;
+        goes_on_after(&mut first, &mut second, steps)?;
     }
     Ok(())
 }
