@@ -14,13 +14,13 @@ use Rattle.sci_cache.specs.Cache.{Letter, line_of, slots_taken}
 use Rattle.sci_core.specs.Core.{Core, lane_at, node_at}
 use Rattle.sci_core.specs.Draining.{IsLight, answer_weight, lane_weight, letter_weight, one_if, weight}
 use Rattle.sci_core.specs.Node.{NodeOf, no_node}
-use Rattle.sci_core.specs.Reached.{IsReached}
+use Rattle.sci_core.specs.Reached.{IsReachable}
 use Rattle.sci_core.specs.Sharing.{asker_of, is_about, packets_of, under_way}
 use Rattle.sci_core.specs.Tidy.{HasItsPackets}
 use Rattle.sci_core.specs.WellFormed.{IsAnswerLetter, IsInLane, IsLetter, IsWellFormed}
-use Rattle.sci_core.proofs.TidyRuns.{reached_tidy}
+use Rattle.sci_core.proofs.TidyRuns.{any_tidy}
 use Rattle.sci_core.proofs.TidySteps.{about_from}
-use Rattle.sci_core.proofs.WellFormedSteps.{reached_well}
+use Rattle.sci_core.proofs.WellFormedSteps.{any_well}
 
 -- ---- sums
 
@@ -223,17 +223,17 @@ of_node core n = sum_to (λ line. length (packets_of core n line)) core.size.lin
 abbrev waiting_of : Core → ℕ → ℕ
 waiting_of core n = sum_to (λ line. one_if (waits (line_of (node_at core n).cache line).state)) core.size.lines
 
-node_packets : (core : Core) (n : ℕ) → IsReached core → n < core.size.nodes → of_node core n ≤ waiting_of core n
+node_packets : (core : Core) (n : ℕ) → IsReachable core → n < core.size.nodes → of_node core n ≤ waiting_of core n
 node_packets core n reached lt =
     sum_to_under (λ line. length (packets_of core n line)) (λ line. one_if (waits (line_of (node_at core n).cache line).state)) core.size.lines
-    (λ line inside. one_packet (line % core.size.nodes) (line_of (node_at core n).cache line) (packets_of core n line) (reached_tidy core reached n line lt inside))
+    (λ line inside. one_packet (line % core.size.nodes) (line_of (node_at core n).cache line) (packets_of core n line) (any_tidy core reached n line lt inside))
 
 node_lines : (core : Core) (n : ℕ) → waiting_of core n ≤ core.size.lines * 1
 node_lines core n = sum_to_less (λ line. one_if (waits (line_of (node_at core n).cache line).state)) 1 core.size.lines (λ line inside. few_if (waits (line_of (node_at core n).cache line).state))
 
-node_slots : (core : Core) (n : ℕ) → IsReached core → n < core.size.nodes → waiting_of core n ≤ core.size.slots
+node_slots : (core : Core) (n : ℕ) → IsReachable core → n < core.size.nodes → waiting_of core n ≤ core.size.slots
 node_slots core n reached lt =
-    let part = (reached_well core reached).each_part n lt in
+    let part = (any_well core reached).each_part n lt in
     let lines = (node_at core n).cache.lines in
     let long : length lines ≡ core.size.lines = part.each in
     let entries = waiting_lines lines core.size.lines (omega arith) in
@@ -243,10 +243,10 @@ node_slots core n reached lt =
     omega arith
 
 -- at most one packet for each line of a node that has an entry
-pub light : (core : Core) → IsReached core → IsLight core
+pub light : (core : Core) → IsReachable core → IsLight core
 light core reached =
     let heavy_ = weight_under_way core in
-    let each = all_counted core.size.nodes core.size.lines (under_way core) (all_one core (reached_well core reached)) in
+    let each = all_counted core.size.nodes core.size.lines (under_way core) (all_one core (any_well core reached)) in
     let by_lines = sum_to_less (of_node core) core.size.lines core.size.nodes (λ n lt. (let packets = node_packets core n reached lt in let all = node_lines core n in omega arith)) in
     let by_slots = sum_to_less (of_node core) core.size.slots core.size.nodes (λ n lt. (let packets = node_packets core n reached lt in let all = node_slots core n reached lt in omega arith)) in
     record { lines = omega arith; slots = omega arith }

@@ -16,11 +16,11 @@ use Rattle.sci_core.specs.declared.lane.LaneKind.TheVariants.{Requests, Answers}
 use Rattle.sci_core.specs.Core.{Core, IsEnabled, Takes, lane_at, lane_of, lane_place, node_at, node_of, run_from, sent_by, side, step, stepping, with_lane, with_node}
 use Rattle.sci_core.specs.Draining.{AskNothing, CanDrain, Drained, Drains, IsDrained, answer_weight, is_asking, lane_weight, letter_weight, moves_made, moves_on, one_if, weight}
 use Rattle.sci_core.specs.Node.{NodeOf, no_node, node_accepting, node_asking, node_issuing, node_performing, node_refusing, node_replying, node_serving}
-use Rattle.sci_core.specs.Reached.{IsReached}
+use Rattle.sci_core.specs.Reached.{IsReachable}
 use Rattle.sci_core.specs.Sides.{TakesFront, taken_to}
 use Rattle.sci_core.specs.WellFormed.{IsAnswerLetter, IsWellFormed}
 use Rattle.sci_core.proofs.Applied.{front_comes, waits_replying}
-use Rattle.sci_core.proofs.Enabled.{accept_enabled, serve_enabled}
+use Rattle.sci_core.proofs.Enabled.{any_accept_enabled, serve_enabled}
 use Rattle.sci_core.proofs.Options.{of_some}
 use Rattle.sci_core.proofs.Parts.{SendsWell, part_asking}
 use Rattle.sci_core.proofs.Sides.{steps_by_sides}
@@ -28,7 +28,7 @@ use Rattle.sci_core.proofs.Stepping.{stepping_from_nobody, stepping_nobody}
 use Rattle.sci_core.proofs.Steps.{lane_below}
 use Rattle.sci_core.proofs.TidyRuns.{node_below}
 use Rattle.sci_core.proofs.WaitingNodes.{Accepts, Answers as AnswersTo, AsksOnce, Replies, Stays, ask_once, accept_accepts, issue_stays, perform_stays, refuse_answers, reply_replies, serve_answers}
-use Rattle.sci_core.proofs.WellFormedSteps.{reached_stepping, reached_well}
+use Rattle.sci_core.proofs.WellFormedSteps.{any_well, reachable_stepping}
 
 -- ---- weights after a change
 
@@ -196,26 +196,26 @@ not_made : (b : Bool) → one_if (b && false) ≡ 0
 not_made true = refl
 not_made false = refl
 
-step_weighs : (core : Core) (e : Event) (next : Option Core) → IsReached core → is_asking e ≡ false → stepping core e ≡ next → weight core ≡ weight (unwrap_or next core) + one_if (moves_on e && is_some next)
+step_weighs : (core : Core) (e : Event) (next : Option Core) → IsReachable core → is_asking e ≡ false → stepping core e ≡ next → weight core ≡ weight (unwrap_or next core) + one_if (moves_on e && is_some next)
 step_weighs core e None reached asks is = let none = not_made (moves_on e) in omega arith
 step_weighs core e (Some new) reached asks is =
-    let falls = weighs core new e (reached_well core reached) is asks in
+    let falls = weighs core new e (any_well core reached) is asks in
     let one = if_made (moves_on e) in
     omega arith
 
-reached_next : (core : Core) (e : Event) (next : Option Core) → IsReached core → stepping core e ≡ next → IsReached (unwrap_or next core)
-reached_next core e None reached is = reached
-reached_next core e (Some new) reached is = reached_stepping core new e reached is
+next_reachable : (core : Core) (e : Event) (next : Option Core) → IsReachable core → stepping core e ≡ next → IsReachable (unwrap_or next core)
+next_reachable core e None reached is = reached
+next_reachable core e (Some new) reached is = reachable_stepping core new e reached is
 
-reached_step : (core : Core) (e : Event) → IsReached core → IsReached (step core e)
-reached_step core e reached = reached_next core e (stepping core e) reached refl
+step_reachable : (core : Core) (e : Event) → IsReachable core → IsReachable (step core e)
+step_reachable core e reached = next_reachable core e (stepping core e) reached refl
 
 -- what is made of a list of events lowers the weight, each by one
-pub run_weighs : (core : Core) (events : List Event) → IsReached core → AskNothing events → weight core ≡ weight (run_from core events) + moves_made core events
+pub run_weighs : (core : Core) (events : List Event) → IsReachable core → AskNothing events → weight core ≡ weight (run_from core events) + moves_made core events
 run_weighs core [] reached asks = omega arith
 run_weighs core (e ∷ events) reached asks =
     let first = step_weighs core e (stepping core e) reached asks.0 refl in
-    let rest = run_weighs (step core e) events (reached_step core e reached) asks.1 in
+    let rest = run_weighs (step core e) events (step_reachable core e reached) asks.1 in
     omega arith
 
 -- ---- what is left under way
@@ -318,16 +318,16 @@ taken_on : (core : Core) (n from : ℕ) (kind : LaneKind) (taking : NodeOf → L
 taken_on core n from kind taking e letter rest takes is some = subst IsSome (sym (takes.front letter rest is)) (there (taken_to core n kind from rest) (taking (node_at core n) letter) some)
 
 -- a request is served if no answer waits, and an answer is accepted
-pub serve_on : (core : Core) (from n : ℕ) (letter : Letter) (rest : List Letter) → IsReached core → from < core.size.nodes → n < core.size.nodes → (node_at core n).waiting ≡ None → lane_of core Requests from n ≡ letter ∷ rest → IsEnabled core (event.Serve from n)
+pub serve_on : (core : Core) (from n : ℕ) (letter : Letter) (rest : List Letter) → IsReachable core → from < core.size.nodes → n < core.size.nodes → (node_at core n).waiting ≡ None → lane_of core Requests from n ≡ letter ∷ rest → IsEnabled core (event.Serve from n)
 serve_on core from n letter rest reached f lt free is =
-    let comes = front_comes core from n Requests letter (reached_well core reached) f lt (ap (λ (lane : List Letter). slice_get lane 0) is) in
+    let comes = front_comes core from n Requests letter (any_well core reached) f lt (ap (λ (lane : List Letter). slice_get lane 0) is) in
     taken_on core n from Requests node_serving (event.Serve from n) letter rest ((steps_by_sides core n lt).serve from f) is (serve_enabled (node_at core n) letter comes.0.asks free)
 
-pub accept_on : (core : Core) (from n : ℕ) (letter : Letter) (rest : List Letter) → IsReached core → from < core.size.nodes → n < core.size.nodes → lane_of core Answers from n ≡ letter ∷ rest → IsEnabled core (event.Accept from n)
+pub accept_on : (core : Core) (from n : ℕ) (letter : Letter) (rest : List Letter) → IsReachable core → from < core.size.nodes → n < core.size.nodes → lane_of core Answers from n ≡ letter ∷ rest → IsEnabled core (event.Accept from n)
 accept_on core from n letter rest reached f lt is =
-    taken_on core n from Answers node_accepting (event.Accept from n) letter rest ((steps_by_sides core n lt).accept from f) is (accept_enabled core from n reached f lt letter rest is)
+    taken_on core n from Answers node_accepting (event.Accept from n) letter rest ((steps_by_sides core n lt).accept from f) is (any_accept_enabled core from n reached f lt letter rest is)
 
-lane_drains : (core : Core) (place : ℕ) → IsReached core → ((n : ℕ) → (node_at core n).waiting ≡ None) → 0 < lane_weight (lane_at core place) → IsPlace core.size.nodes place Requests ⊎ IsPlace core.size.nodes place Answers → CanDrain core
+lane_drains : (core : Core) (place : ℕ) → IsReachable core → ((n : ℕ) → (node_at core n).waiting ≡ None) → 0 < lane_weight (lane_at core place) → IsPlace core.size.nodes place Requests ⊎ IsPlace core.size.nodes place Answers → CanDrain core
 lane_drains core place reached free some (inl at) =
     let front = some_lane (lane_at core place) some in
     let is : lane_of core Requests at.from at.to ≡ front.0 ∷ front.1 = ap (lane_at core) at.here ∙ front.2 in
@@ -338,9 +338,9 @@ lane_drains core place reached free some (inr at) =
     Drains (event.Accept at.from at.to) refl (accept_on core at.from at.to front.0 front.1 reached at.sender at.receiver is)
 
 -- some answer goes out, or some packet is taken, or nothing is under way
-pub can_drain : (core : Core) → IsReached core → CanDrain core
+pub can_drain : (core : Core) → IsReachable core → CanDrain core
 can_drain core reached =
-    let well = reached_well core reached in
+    let well = any_well core reached in
     let waiting = sum_by (λ (part : NodeOf). answer_weight part.waiting) core.parts in
     elim (cases_lt 0 waiting) [
       | inl some ↦

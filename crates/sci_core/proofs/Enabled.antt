@@ -17,19 +17,19 @@ use Rattle.sci_core.specs.declared.lane.LaneKind.TheVariants.{Requests, Answers}
 use Rattle.sci_core.specs.Node.{NodeOf, home_of, served_at_home, served_in_cache, serving_at_home, serving_in_cache, serving_request, answered_by, node_serving, node_refusing, with_answer, is_setback, accepted_by}
 use Rattle.sci_core.specs.Core.{Core, node_at, lane_place, lane_of}
 use Rattle.sci_core.specs.Enabled.{IsAcceptedAt, AreServedAt}
-use Rattle.sci_core.specs.Reached.{IsReached}
+use Rattle.sci_core.specs.Reached.{IsReachable, IsReached}
 use Rattle.sci_core.specs.Sharing.{asker_of, packets_of, answer_in, answer_to}
 use Rattle.sci_core.specs.Tidy.{IsAccepted}
 use Rattle.sci_core.specs.WellFormed.{IsInLane}
 use Rattle.sci_core.proofs.Applied.{front_holds, front_comes}
 use Rattle.sci_core.proofs.Packets.{lane_has, packets_accepted}
 use Rattle.sci_core.proofs.Places.{place_from}
-use Rattle.sci_core.proofs.ReachedLaws.{reached_accepted}
+use Rattle.sci_core.proofs.ReachedLaws.{any_accepted}
 use Rattle.sci_core.proofs.Steps.{lane_below}
-use Rattle.sci_core.proofs.TidyRuns.{reached_tidy, node_below}
+use Rattle.sci_core.proofs.TidyRuns.{any_tidy, node_below}
 use Rattle.sci_core.proofs.TidySteps.{about_from, request_asker, answer_asker}
 use Rattle.sci_core.proofs.Waits.{some_has_one}
-use Rattle.sci_core.proofs.WellFormedSteps.{reached_well}
+use Rattle.sci_core.proofs.WellFormedSteps.{any_well, reachable}
 
 -- ---- requests
 
@@ -94,15 +94,15 @@ pub record IsOnly (core : Core) (n : ℕ) (letter : Letter) : Type 0 where
   pub waiting : waits (line_of (node_at core n).cache letter.line).state ≡ true
   pub numbered : letter.control ≡ last_control (line_of (node_at core n).cache letter.line)
 
-only_packet : (core : Core) (kind : LaneKind) (from to n : ℕ) (letter : Letter) (rest : List Letter) → IsReached core → from < core.size.nodes → to < core.size.nodes → n < core.size.nodes → letter.line < core.size.lines
+only_packet : (core : Core) (kind : LaneKind) (from to n : ℕ) (letter : Letter) (rest : List Letter) → IsReachable core → from < core.size.nodes → to < core.size.nodes → n < core.size.nodes → letter.line < core.size.lines
     → lane_of core kind from to ≡ letter ∷ rest → asker_of letter ≡ n → IsOnly core n letter
 only_packet core kind from to n letter rest reached f t lt about front asker =
-    let well = reached_well core reached in
+    let well = any_well core reached in
     let line = letter.line in
     let place = lane_place core.size.nodes kind from to in
     let within = lane_below core kind from to well f t in
     let about_it = about_from n line letter refl asker in
-    let has = some_has_one (line % core.size.nodes) (line_of (node_at core n).cache line) (packets_of core n line) (lane_has core place letter rest n line within front about_it) (reached_tidy core reached n line lt about) in
+    let has = some_has_one (line % core.size.nodes) (line_of (node_at core n).cache line) (packets_of core n line) (lane_has core place letter rest n line within front about_it) (any_tidy core reached n line lt about) in
     let same = (packets_accepted core n (node_at core n) place letter has.letter rest n line (node_below core n well lt) within front refl about_it has.one).same in
     record {
       below = lt;
@@ -121,20 +121,20 @@ accepts_it node line control answer numbered some true e None is = let not = sub
 accepts_it node line control answer numbered some false e next is = let equal = eq-eqb control (last_control (line_of node.cache line)) numbered in cc
 
 -- an answer at the front of a lane is accepted by its taker
-pub accept_enabled : (core : Core) (from n : ℕ) → IsReached core → from < core.size.nodes → n < core.size.nodes → IsAcceptedAt core from n
-accept_enabled core from n reached f lt letter rest front =
-    let well = reached_well core reached in
+pub any_accept_enabled : (core : Core) (from n : ℕ) → IsReachable core → from < core.size.nodes → n < core.size.nodes → IsAcceptedAt core from n
+any_accept_enabled core from n reached f lt letter rest front =
+    let well = any_well core reached in
     let comes = front_comes core from n Answers letter well f lt (ap (λ (lane : List Letter). slice_get lane 0) front) in
     let only = only_packet core Answers from n n letter rest reached f lt lt comes.0.letter_ok.about front (answer_asker letter comes.0.answers ∙ comes.1) in
     let node = node_at core n in
     let told : answer_to core n letter.line ≡ Some letter.body = ap answer_in only.one ∙ ap (λ (b : Bool). if b then None else Some letter.body) comes.0.answers in
-    let accepted = subst (IsAccepted (line_of node.cache letter.line).state) told (reached_accepted core reached n letter.line only.about) in
+    let accepted = subst (IsAccepted (line_of node.cache letter.line).state) told (any_accepted core reached n letter.line only.about) in
     accepts_it node letter.line letter.control letter.body only.numbered accepted (letter.control == last_control (line_of node.cache letter.line)) refl (accepting (line_of node.cache letter.line).state letter.body) refl
 
 -- a request at the front of a lane is served, or refused, and its sender waits
-pub request_enabled : (core : Core) (from n : ℕ) → IsReached core → from < core.size.nodes → n < core.size.nodes → AreServedAt core from n
-request_enabled core from n reached f lt =
-    let well = reached_well core reached in
+pub any_request_enabled : (core : Core) (from n : ℕ) → IsReachable core → from < core.size.nodes → n < core.size.nodes → AreServedAt core from n
+any_request_enabled core from n reached f lt =
+    let well = any_well core reached in
     let front_of = λ (letter : Letter) (rest : List Letter) (front : lane_of core Requests from n ≡ letter ∷ rest). ap (λ (lane : List Letter). slice_get lane 0) front in
     record {
       served = λ letter rest front free. serve_enabled (node_at core n) letter (front_comes core from n Requests letter well f lt (front_of letter rest front)).0.asks free;
@@ -147,3 +147,11 @@ request_enabled core from n reached f lt =
           let only = only_packet core Requests from n from letter rest reached f lt f comes.0.letter_ok.about front (request_asker letter comes.0.asks ∙ source) in
           (only.about, only.waiting));
     }
+
+-- ---- within the limits
+
+pub accept_enabled : (core : Core) (from n : ℕ) → IsReached core → from < core.size.nodes → n < core.size.nodes → IsAcceptedAt core from n
+accept_enabled core from n reached f lt = any_accept_enabled core from n (reachable core reached) f lt
+
+pub request_enabled : (core : Core) (from n : ℕ) → IsReached core → from < core.size.nodes → n < core.size.nodes → AreServedAt core from n
+request_enabled core from n reached f lt = any_request_enabled core from n (reachable core reached) f lt

@@ -19,7 +19,7 @@ use Rattle.sci_core.specs.WellFormed.{IsWellFormed}
 use Rattle.sci_core.proofs.Burdens.{light}
 use Rattle.sci_core.proofs.Drains.{accept_on, place_of, reply_on, serve_on, weighs}
 use Rattle.sci_core.proofs.Leading.{leads_more}
-use Rattle.sci_core.proofs.WellFormedSteps.{reached_well}
+use Rattle.sci_core.proofs.WellFormedSteps.{reachable, reached_well}
 
 -- ---- nothing is found
 
@@ -64,10 +64,10 @@ pub reply_found : (core : Core) (n : ℕ) → n < core.size.nodes → IsSome (no
 reply_found core n lt some = let answer = found (node_at core n).waiting some in reply_on core n answer.0 lt answer.1
 
 pub accept_found : (core : Core) (from n : ℕ) → IsReached core → from < core.size.nodes → n < core.size.nodes → 0 < length (lane_of core Answers from n) → IsEnabled core (event.Accept from n)
-accept_found core from n reached f lt not = let front = some_letter (lane_of core Answers from n) not in accept_on core from n front.0 front.1 reached f lt front.2
+accept_found core from n reached f lt not = let front = some_letter (lane_of core Answers from n) not in accept_on core from n front.0 front.1 (reachable core reached) f lt front.2
 
 pub serve_found : (core : Core) (from n : ℕ) → IsReached core → from < core.size.nodes → n < core.size.nodes → ((m : ℕ) → m < core.size.nodes → (node_at core m).waiting ≡ None) → 0 < length (lane_of core Requests from n) → IsEnabled core (event.Serve from n)
-serve_found core from n reached f lt free not = let front = some_letter (lane_of core Requests from n) not in serve_on core from n front.0 front.1 reached f lt (free n lt) front.2
+serve_found core from n reached f lt free not = let front = some_letter (lane_of core Requests from n) not in serve_on core from n front.0 front.1 (reachable core reached) f lt (free n lt) front.2
 
 -- ---- each move lowers the weight by one
 
@@ -107,7 +107,7 @@ drained_weighs core drained =
 -- the weight of what is under way is a small number
 pub few_moves : (core : Core) → IsReached core → weight core ≤ 3072
 few_moves core reached =
-    let light_ = (light core reached).lines in
+    let light_ = (light core (reachable core reached)).lines in
     let nodes = reached.size.extent.few_nodes in
     let lines = reached.size.extent.few_lines in
     let less = mul-le-mul_left core.size.nodes lines in

@@ -1,5 +1,5 @@
 -- Nothing stands in the way of an event exactly if it is enabled.
-use Rattle.std.proofs.Common.{◌≡◌, ℕ, ◌<◌, Bool, true, false, not, nat_lt, ◌&&◌, if◌then◌else◌, List, [], ◌∷◌, Option, Some, None, refl, sym, ap, subst, ◌∙◌, inl, inr, arith}
+use Rattle.std.proofs.Common.{◌≡◌, ℕ, ◌<◌, Bool, true, false, not, nat_lt, ◌&&◌, if◌then◌else◌, List, [], ◌∷◌, Option, Some, None, refl, sym, ap, ◌∙◌, inl, inr, arith}
 use Rattle.std.specs.Prelude.{option_map, IfSome, IsSome, is_some, is_none, is_ok, Result, Ok, Err, slice_get}
 use Rattle.std.proofs.lemmas.Bool.{cases_Bool, lt-ltb, ltb-true, ltb-false}
 use Rattle.sci_words.specs.declared.limits.TheConstants.{WORDS_PER_LINE}
@@ -15,7 +15,6 @@ use Rattle.sci_cache.specs.Asking.{Asked, asking}
 use Rattle.sci_cache.specs.Cache.{CacheOf, Letter, letter_of, line_of, has_slot, cache_asked, cache_asking}
 use Rattle.sci_cache.specs.Line.{ask_or_fault, line_asking}
 use Rattle.sci_cache.specs.State.{CacheState, Out, is_out}
-use Rattle.sci_core.specs.declared.lane.LaneKind.TheVariants.{Requests, Answers}
 use Rattle.sci_core.specs.declared.obstacle.Obstacle.{Obstacle}
 use Rattle.sci_core.specs.declared.obstacle.Obstacle.TheVariants.{NoSuchSender, NoSuchLine, NoSuchWord, AlreadyPending, NoIssueLeft, NothingPending, NotAllowed, NotAsked, NoSlot, NoAnswerWaits}
 use Rattle.sci_core.specs.declared.pending.Pending.{Pending}

@@ -46,7 +46,7 @@ use Rattle.sci_core.proofs.ShapeRuns.{operates_so}
 use Rattle.sci_core.proofs.Shifts.{AcceptedAs, Shifts, accepted_as}
 use Rattle.sci_core.proofs.Sides.{steps_by_sides}
 use Rattle.sci_core.proofs.Standings.{Leaves, Makes, Performs, Reads, performing_does}
-use Rattle.sci_core.proofs.WellFormedSteps.{reached_stepping, reached_well, step_well}
+use Rattle.sci_core.proofs.WellFormedSteps.{reachable, reached_stepping, reached_well, step_well}
 
 -- ---- moves leave what is pending
 
@@ -258,7 +258,7 @@ pub record Worked (old new : Core) (count : ℕ) : Type 0 where
 pub worked_first : (old mid new : Core) (a b : ℕ) → IsReached old → IsReached mid → Leads brings_on old mid a → a ≡ weight old → Leads settles mid new b → b ≤ 4 * rank mid → pending_count new ≡ pending_count mid → IsDrained new → AreOut new → Worked old new (a + b)
 worked_first old mid new a b reached next drains weighs_ empties few pending none out =
     let kept = drained_kept old mid a reached drains in
-    let first = light old reached in
+    let first = light old (reachable old reached) in
     let then_ = few_rounds mid next in
     let same = pending_same old mid kept.pending kept.size in
     let nodes : mid.size.nodes ≡ old.size.nodes = ap (λ (s : Size). s.nodes) kept.size in

@@ -29,14 +29,14 @@ use Rattle.sci_core.specs.Core.{Core, node_at}
 use Rattle.sci_core.specs.Done.{done}
 use Rattle.sci_core.specs.InRange.{IsLine, IsStamped, IsReply, IsEntryOf}
 use Rattle.sci_core.specs.Outcome.{logs_of}
-use Rattle.sci_core.specs.Reached.{IsReached}
+use Rattle.sci_core.specs.Reached.{IsReachable, IsReached}
 use Rattle.sci_core.specs.Sharing.{last_at}
 use Rattle.sci_core.specs.WellFormed.{IsWellFormed}
 use Rattle.sci_core.proofs.Histories.{IsKnown}
 use Rattle.sci_core.proofs.Lists.{if_either}
 use Rattle.sci_core.proofs.Logs.{short_log}
-use Rattle.sci_core.proofs.ReachedLaws.{reached_lawful, reached_logged, last_within, reached_log, reached_history}
-use Rattle.sci_core.proofs.WellFormedSteps.{reached_well}
+use Rattle.sci_core.proofs.ReachedLaws.{any_lawful, reached_logged, last_within, reached_log, reached_history}
+use Rattle.sci_core.proofs.WellFormedSteps.{reachable, reached_well}
 
 -- ---- what an operation gives
 
@@ -126,8 +126,8 @@ makers_few core line well most =
 -- ---- the last contents, and each entry
 
 -- the version of each line is the number of its makers
-pub last_counts : (core : Core) (line : ℕ) → IsReached core → line < core.size.lines → (last_at core line).version ≡ maker_count (on_line line (logs_of core))
-last_counts core line reached inside = ap (λ (s : Stamped). s.version) (sym (last_within core line inside)) ∙ (reached_lawful core reached line).contents.version
+pub last_counts : (core : Core) (line : ℕ) → IsReachable core → core.size.nodes ≤ MAX_NODES → line < core.size.lines → (last_at core line).version ≡ maker_count (on_line line (logs_of core))
+last_counts core line reached few inside = ap (λ (s : Stamped). s.version) (sym (last_within core line inside)) ∙ (any_lawful core reached few line).contents.version
 
 record LineIsRight (core : Core) (entries : List Entry) (line : ℕ) : Type 0 where
   pub last : IsStamped (last_at core line)
@@ -142,7 +142,7 @@ line_right core reached line inside =
     let history = reached_history core reached line inside in
     let words = all_weaker (IsKnown core.size.lines) HasWords (λ entry h. (h.0.1, h.1)) entries (reached_logged core reached).known in
     let right = history_fits on zero_stamped last history zero_is_line (all-filter HasWords (is_on_line line) entries words) in
-    let counted = last_counts core line reached inside in
+    let counted = last_counts core line (reachable core reached) reached.size.extent.few_nodes inside in
     let few = makers_few core line (reached_well core reached) reached.size.few_operations in
     let most : last.version ≤ MAX_NODES * MAX_OPERATIONS = omega arith in
     record {

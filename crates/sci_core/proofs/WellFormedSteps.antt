@@ -19,7 +19,7 @@ use Rattle.sci_core.specs.declared.lane.LaneKind.{LaneKind}
 use Rattle.sci_core.specs.declared.lane.LaneKind.TheVariants.{Requests, Answers}
 use Rattle.sci_core.specs.Node.{NodeOf, opening_node, node_issuing, node_performing, node_asking, node_replying, no_node}
 use Rattle.sci_core.specs.Core.{Core, with_node, lane_place, lane_of, with_lane, Side, Idle, Changes, Sends, Takes, changes, performs, sends, side, node_of, sent_by, taken_as, taken_from, step_by, stepping, step, opening, run_from, run}
-use Rattle.sci_core.specs.Reached.{IsReachable, IsReachedNode, IsReached}
+use Rattle.sci_core.specs.Reached.{IsReachable, IsReachableNode, IsReached, IsReachedNode}
 use Rattle.sci_core.specs.WellFormed.{NamesNodes, HomeNamesNodes, IsRequestLetter, IsAnswerLetter, IsInLane, IsPart, IsWellFormed}
 use Rattle.sci_words.specs.declared.limits.TheConstants.{CONTROLS}
 use Rattle.sci_core.proofs.Nodes.{opening_is_node}
@@ -265,5 +265,8 @@ size_either (Ok x) old new e reached done same = (subst (λ (o : Option Core). I
 size_either (Err f) old new e reached done same = ap (λ (core : Core). core.size) (same refl)
 
 -- a node of a reached state fits its machine
-pub reached_part : (n : ℕ) (node : NodeOf) (is : IsReachedNode n node) → IsPart is.core.size n node
-reached_part n node is = subst (IsPart is.core.size n) is.here ((reached_well is.core is.reached).each_part n is.some)
+pub any_part : (n : ℕ) (node : NodeOf) (is : IsReachableNode n node) → IsPart is.core.size n node
+any_part n node is = subst (IsPart is.core.size n) is.here ((any_well is.core is.reached).each_part n is.some)
+
+abbrev pub reachable_node : (n : ℕ) (node : NodeOf) → IsReachedNode n node → IsReachableNode n node
+reachable_node n node is = record { core = is.core; reached = reachable is.core is.reached; some = is.some; here = is.here }

@@ -17,7 +17,14 @@ pub record IsReached (core : Core) : Type 0 where
   pub schedule : List Event
   pub leads : run core.size schedule ≡ core
 
--- a node of a state where a schedule leads
+-- a node of a state where a schedule leads a machine of any size
+pub record IsReachableNode (n : ℕ) (node : NodeOf) : Type 0 where
+  pub core : Core
+  pub reached : IsReachable core
+  pub some : n < core.size.nodes
+  pub here : node_at core n ≡ node
+
+-- the same of a machine within the limits
 pub record IsReachedNode (n : ℕ) (node : NodeOf) : Type 0 where
   pub core : Core
   pub reached : IsReached core

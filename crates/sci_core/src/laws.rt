@@ -34,7 +34,7 @@ ghost use Rattle.sci_core.specs.InTurn.{IssuesInTurn};
 ghost use Rattle.sci_core.specs.Done.{LastChanges, done, made_by};
 ghost use Rattle.sci_core.specs.Outcome.{logs_of};
 ghost use Rattle.sci_core.specs.Size.{Size, IsMachineSize, IsSize};
-ghost use Rattle.sci_core.specs.Reached.{IsReachable, IsReached, IsReachedNode};
+ghost use Rattle.sci_core.specs.Reached.{IsReachable, IsReachableNode, IsReached};
 ghost use Rattle.sci_core.specs.WellFormed.{IsPart, IsWellFormed};
 ghost use Rattle.sci_core.specs.Shape.{HasShapes};
 ghost use Rattle.sci_core.specs.Sharing.{last_at, last_of};
@@ -77,14 +77,14 @@ pub fn sides_make_steps()
 
 /// In every reached state an answer at the front of a lane is accepted by its taker.
 pub fn front_answers_are_accepted()
-    ensures { (core : Core) (from n : ℕ) → IsReached core → from < core.size.nodes →
+    ensures { (core : Core) (from n : ℕ) → IsReachable core → from < core.size.nodes →
         n < core.size.nodes → IsAcceptedAt core from n }
 {}
 
 /// In every reached state a request at the front of a lane is served by its taker unless an answer waits there, and
 /// refused too unless it is a Setback; and its sender waits for the answer.
 pub fn front_requests_are_served()
-    ensures { (core : Core) (from n : ℕ) → IsReached core → from < core.size.nodes →
+    ensures { (core : Core) (from n : ℕ) → IsReachable core → from < core.size.nodes →
         n < core.size.nodes → AreServedAt core from n }
 {}
 
@@ -143,10 +143,10 @@ pub fn contents_are_in_range()
         IsStamped (last_at core line) }
 {}
 
-/// In every reached state the version of a line is the number of its makers in the logs.
+/// In every reached state of at most 16 nodes the version of a line is the number of its makers in the logs.
 pub fn versions_count_makers()
-    ensures { (core : Core) (line : ℕ) → IsReached core → line < core.size.lines →
-        (last_at core line).version ≡ maker_count (on_line line (logs_of core)) }
+    ensures { (core : Core) (line : ℕ) → IsReachable core → core.size.nodes ≤ MAX_NODES →
+        line < core.size.lines → (last_at core line).version ≡ maker_count (on_line line (logs_of core)) }
 {}
 
 /// In every reached state each entry of a log is of a node, a serial, a line and a word of the machine, its operands
@@ -190,13 +190,13 @@ pub fn sole_copies_perform()
 /// pending operations and its log fit together, each identifier in it names a node, and no more lines have an entry than
 /// there are version slots.
 pub fn reached_nodes_are_parts()
-    ensures { (n : ℕ) (node : NodeOf) (is : IsReachedNode n node) → IsPart is.core.size n node }
+    ensures { (n : ℕ) (node : NodeOf) (is : IsReachableNode n node) → IsPart is.core.size n node }
 {}
 
 /// A node of a reached state has a version slot, and no more lines with an entry than slots. Each line with an entry awaits
 /// an answer, or has a request to send: it joins or tells, or is a head or an entry below one.
 pub fn reached_nodes_can_go_on()
-    ensures { (n : ℕ) (node : NodeOf) → IsReachedNode n node → CanGoOn node }
+    ensures { (n : ℕ) (node : NodeOf) → IsReachableNode n node → CanGoOn node }
 {}
 
 /// The entries that a schedule makes, of all lines together and in its order, are a run of one memory of one thread from

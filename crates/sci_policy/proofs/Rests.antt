@@ -12,9 +12,9 @@ use Rattle.sci_cache.specs.Cache.{has_slot, slots_taken}
 use Rattle.sci_core.specs.Node.{NodeOf, lines_of, node_performing, pending_on}
 use Rattle.sci_core.specs.Reached.{IsReachedNode}
 use Rattle.sci_core.proofs.Pendings.{sole_performs}
-use Rattle.sci_core.proofs.GoingOn.{can_go_on}
+use Rattle.sci_core.proofs.GoingOn.{any_can_go_on}
 use Rattle.sci_core.proofs.Rest.{counted_none}
-use Rattle.sci_core.proofs.WellFormedSteps.{reached_part}
+use Rattle.sci_core.proofs.WellFormedSteps.{any_part, reachable_node}
 use Rattle.sci_policy.specs.declared.want.Want.{Want}
 use Rattle.sci_policy.specs.declared.want.Want.TheVariants.{Perform, Ask}
 use Rattle.sci_policy.specs.Lines.{could_give_way, gives_way, has_maker, has_pending, joins, least, must_send, oldest, own_ask, some_line, state_on}
@@ -264,10 +264,10 @@ held_none (Some want) false e none = none
 
 quiet_node : (n : ℕ) (node : NodeOf) → IsReachedNode n node → some_line node (λ line. waits (state_on node line)) ≡ false → some_line node (λ line. must_send (state_on node line)) ≡ false → IsQuietNode node
 quiet_node n node is idle sent =
-    let part = reached_part n node is in
+    let part = any_part n node (reachable_node n node is) in
     record {
       lines = λ line below. record { idle = least_none node (λ l. waits (state_on node l)) idle line below; sent = least_none node (λ l. must_send (state_on node l)) sent line below };
-      some_slot = (can_go_on n node is).some_slot;
+      some_slot = (any_can_go_on n node (reachable_node n node is)).some_slot;
       sole = λ line c below pending state.
           let there = some_there (pending_on node line) pending in
           let inside : line < is.core.size.lines = let all = part.each in omega arith in
@@ -282,7 +282,7 @@ nothing_pending n node is none line =
         | inl pending ↦ (let clash : true ≡ false = sym (oldest_some node (λ l. true) line below pending refl) ∙ none in cc)
         | inr absent ↦ none_absent (pending_on node line) absent
       ]
-      | inr past ↦ get_or_past node.pending line None (let long = (reached_part n node is).fits.pending in omega arith)
+      | inr past ↦ get_or_past node.pending line None (let long = (any_part n node (reachable_node n node is)).fits.pending in omega arith)
     ]
 
 waiting : (node : NodeOf) (o : Option ℕ) → is_some o ≡ true → IfSome o (λ line. (line < lines_of node) × (waits (state_on node line) ≡ true)) → MayRest node

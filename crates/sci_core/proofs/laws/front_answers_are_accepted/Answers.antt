@@ -1,5 +1,5 @@
-use Rattle.sci_core.proofs.Enabled.{accept_enabled}
+use Rattle.sci_core.proofs.Enabled.{any_accept_enabled}
 use Rattle.sci_core.proofs.laws.front_answers_are_accepted.Goals as goal
 
 pub returns : goal.returns
-returns c = accept_enabled
+returns c = any_accept_enabled

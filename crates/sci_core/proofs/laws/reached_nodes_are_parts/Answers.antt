@@ -1,5 +1,5 @@
-use Rattle.sci_core.proofs.WellFormedSteps.{reached_part}
+use Rattle.sci_core.proofs.WellFormedSteps.{any_part}
 use Rattle.sci_core.proofs.laws.reached_nodes_are_parts.Goals as goal
 
 pub returns : goal.returns
-returns c = reached_part
+returns c = any_part

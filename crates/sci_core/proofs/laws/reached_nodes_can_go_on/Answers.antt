@@ -1,5 +1,5 @@
-use Rattle.sci_core.proofs.GoingOn.{can_go_on}
+use Rattle.sci_core.proofs.GoingOn.{any_can_go_on}
 use Rattle.sci_core.proofs.laws.reached_nodes_can_go_on.Goals as goal
 
 pub returns : goal.returns
-returns c = can_go_on
+returns c = any_can_go_on
