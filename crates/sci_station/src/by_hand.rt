@@ -45,7 +45,7 @@ impl ByHand {
         if place >= self.ends.len() {
             return Err(Fail::from("no such node"));
         }
-        make(&mut self.ends[place], event)
+        make(&mut self.ends[place], event).map_err(Fail::from)
     }
 
     /// Two ends change places. An error if one isn't there.
@@ -90,7 +90,7 @@ fn node_of(event: &Event) -> u8 {
 }
 
 /// Makes an event of this node. An error if it can't be made, or there is no room for what it sends.
-fn make(end: &mut LaneEnd, event: &Event) -> Result<(), Fail>
+pub(crate) fn make(end: &mut LaneEnd, event: &Event) -> Result<(), &'static str>
     ensures { IsSameEnd end.old end.new }
 {
     match event {
@@ -104,22 +104,22 @@ fn make(end: &mut LaneEnd, event: &Event) -> Result<(), Fail>
     }
 }
 
-fn issue(end: &mut LaneEnd, op: Op) -> Result<(), Fail>
+fn issue(end: &mut LaneEnd, op: Op) -> Result<(), &'static str>
     ensures { IsSameEnd end.old end.new }
 {
     if !end.node().may_issue(&op) {
-        return Err(Fail::from("not to be issued"));
+        return Err("not to be issued");
     }
     let event = Event::Issue { node: end.me(), op };
     end.beat(&event);
     Ok(())
 }
 
-fn perform(end: &mut LaneEnd, line: u8) -> Result<(), Fail>
+fn perform(end: &mut LaneEnd, line: u8) -> Result<(), &'static str>
     ensures { IsSameEnd end.old end.new }
 {
     if !end.node().may_perform(line) {
-        return Err(Fail::from("not to be performed"));
+        return Err("not to be performed");
     }
     let event = Event::Perform {
         node: end.me(),
@@ -129,12 +129,12 @@ fn perform(end: &mut LaneEnd, line: u8) -> Result<(), Fail>
     Ok(())
 }
 
-fn ask(end: &mut LaneEnd, line: u8, kind: AskKind) -> Result<(), Fail>
+fn ask(end: &mut LaneEnd, line: u8, kind: AskKind) -> Result<(), &'static str>
     ensures { IsSameEnd end.old end.new }
 {
     let request = match end.node().asked(line, kind) {
         Some(request) => request,
-        None => return Err(Fail::from("not to be asked")),
+        None => return Err("not to be asked"),
     };
     let event = Event::Ask {
         node: end.me(),
@@ -144,36 +144,36 @@ fn ask(end: &mut LaneEnd, line: u8, kind: AskKind) -> Result<(), Fail>
     let mut budget = Budget { left: None };
     match send(end, &mut budget, LaneKind::Requests, &request, &event) {
         Ok(true) => Ok(()),
-        _ => Err(Fail::from("no room for a request")),
+        _ => Err("no room for a request"),
     }
 }
 
-fn reply(end: &mut LaneEnd) -> Result<(), Fail>
+fn reply(end: &mut LaneEnd) -> Result<(), &'static str>
     ensures { IsSameEnd end.old end.new }
 {
     let answer = match end.node().waiting() {
         Some(answer) => *answer,
-        None => return Err(Fail::from("no answer waits")),
+        None => return Err("no answer waits"),
     };
     let event = Event::Reply { node: end.me() };
     let mut budget = Budget { left: None };
     match send(end, &mut budget, LaneKind::Answers, &answer, &event) {
         Ok(true) => Ok(()),
-        _ => Err(Fail::from("no room for an answer")),
+        _ => Err("no room for an answer"),
     }
 }
 
-fn serve(end: &mut LaneEnd, from: u8) -> Result<(), Fail>
+fn serve(end: &mut LaneEnd, from: u8) -> Result<(), &'static str>
     ensures { IsSameEnd end.old end.new }
 {
     if from >= end.nodes() || end.node().waiting().is_some() {
-        return Err(Fail::from("not to be served"));
+        return Err("not to be served");
     }
     let cell = end.next_to_take(LaneKind::Requests, from);
     let mut budget = Budget { left: None };
     match receive(end, &mut budget, cell) {
         Received::Packet(_request) => {}
-        Received::Nothing | Received::Cut => return Err(Fail::from("no request")),
+        Received::Nothing | Received::Cut => return Err("no request"),
     }
     let event = Event::Serve {
         from,
@@ -190,20 +190,20 @@ fn sets_back(request: &Packet) -> bool
     matches!(request.body, Body::Setback { .. })
 }
 
-fn refuse(end: &mut LaneEnd, from: u8) -> Result<(), Fail>
+fn refuse(end: &mut LaneEnd, from: u8) -> Result<(), &'static str>
     ensures { IsSameEnd end.old end.new }
 {
     if from >= end.nodes() || end.node().waiting().is_some() {
-        return Err(Fail::from("not to be refused"));
+        return Err("not to be refused");
     }
     let cell = end.next_to_take(LaneKind::Requests, from);
     let mut budget = Budget { left: None };
     let request = match receive(end, &mut budget, cell) {
         Received::Packet(request) => request,
-        Received::Nothing | Received::Cut => return Err(Fail::from("no request")),
+        Received::Nothing | Received::Cut => return Err("no request"),
     };
     if sets_back(&request) {
-        return Err(Fail::from("a setback, which is never refused"));
+        return Err("a setback, which is never refused");
     }
     let event = Event::Refuse {
         from,
@@ -213,17 +213,17 @@ fn refuse(end: &mut LaneEnd, from: u8) -> Result<(), Fail>
     Ok(())
 }
 
-fn accept(end: &mut LaneEnd, from: u8) -> Result<(), Fail>
+fn accept(end: &mut LaneEnd, from: u8) -> Result<(), &'static str>
     ensures { IsSameEnd end.old end.new }
 {
     if from >= end.nodes() {
-        return Err(Fail::from("no such node"));
+        return Err("no such node");
     }
     let cell = end.next_to_take(LaneKind::Answers, from);
     let mut budget = Budget { left: None };
     match receive(end, &mut budget, cell) {
         Received::Packet(_answer) => {}
-        Received::Nothing | Received::Cut => return Err(Fail::from("no answer")),
+        Received::Nothing | Received::Cut => return Err("no answer"),
     }
     let event = Event::Accept {
         from,

@@ -6,6 +6,8 @@ mod budget;
 mod by_hand;
 #[cfg(test)]
 mod by_hand_tests;
+#[cfg(test)]
+mod exchange_tests;
 mod fabric;
 #[cfg(test)]
 mod finish_tests;
