@@ -3,6 +3,7 @@
        FAULT=alloc:N    the Nth allocation, counted over malloc and realloc
        FAULT=read:N     the Nth read of standard input, with the error number FAULT_ERROR
        FAULT=write:N    the Nth write of standard output, likewise; with the number 0 it takes no byte
+       FAULT=thread:N   the Nth start of a thread
        FAULT_BYTES=K    each such read and write moves at most K bytes
 
    When it has made a call fail, it writes one byte to the descriptor FAULT_TOLD: `b` before the first read of standard
@@ -17,10 +18,14 @@ extern int *__errno_location(void);
 extern long syscall(long number, ...);
 extern void *__libc_malloc(size_t size);
 extern void *__libc_realloc(void *block, size_t size);
+extern void *dlsym(void *library, const char *name);
 
-enum { SYSTEM_READ = 0, SYSTEM_WRITE = 1, NO_MEMORY = 12 };
+enum { SYSTEM_READ = 0, SYSTEM_WRITE = 1, TRY_AGAIN = 11, NO_MEMORY = 12 };
 
-static long allocations, reads, writes;
+/* The libraries that come after this one. */
+#define NEXT_LIBRARIES ((void *)-1l)
+
+static long allocations, reads, writes, threads;
 
 /* The number that the environment has under this name, or -1. */
 static long number(const char *name) {
@@ -79,4 +84,11 @@ ssize_t write(int file, const void *bytes, size_t count) {
 
 ssize_t __write(int file, const void *bytes, size_t count) {
     return write(file, bytes, count);
+}
+
+int pthread_create(void *thread, const void *attributes, void *(*run)(void *), void *argument) {
+    if (fails('t', &threads))
+        return TRY_AGAIN;
+    int (*create)(void *, const void *, void *(*)(void *), void *) = dlsym(NEXT_LIBRARIES, "pthread_create");
+    return create(thread, attributes, run, argument);
 }

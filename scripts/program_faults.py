@@ -10,6 +10,7 @@ from collections import namedtuple
 from errno import EAGAIN, EINTR, EIO, ENOSPC, EPIPE
 
 from fault_runs import Ran, Trial
+from thread_faults import try_threads
 
 # A run of a program: a name, the words of its command line, its input, what it has to write, and its usage line.
 Case = namedtuple("Case", "name words given status output errors usage")
@@ -286,6 +287,8 @@ def try_program(faults, name):
     space += [try_space(faults, program, it, least, 64) for it in largest]
     trials += tell(name, f"runs refused for want of address space, from {least} KB on", space)
     trials += tell(name, "devices that fail", each(try_devices, largest))
+    if name == "scimem":
+        trials += try_threads(faults, program, usage, least, tell)
     odd = [try_words(faults, program, usage, it) for it in odd_words(PROGRAMS[name][0])]
     print(f"{name}: {len(odd)} command lines that choose no command", flush=True)
     return trials + odd

@@ -14,9 +14,8 @@ import subprocess
 import sys
 import tempfile
 import time
-from collections import Counter
 
-from plain_answers import Lines, answer, read_log, read_script
+from thread_logs import wrong_log
 
 TOP = os.path.dirname(os.path.dirname(os.path.abspath(__file__)))
 PROGRAM = f"{TOP}/crates/scimem/out/scimem"
@@ -75,21 +74,13 @@ def ran(words, given):
 
 
 def fault(given):
-    """How many operations the script has, and what was wrong with the run, if something was."""
-    _nodes, _lines, issued = read_script(Lines(given))
+    """What was wrong with a run of the script, if something was."""
     status, log = ran(["threads"], given)
     if status != 0:
-        return len(issued), f"status {status}"
-    if ran(["audit"], log) != (0, b"lawful\n") or answer("audit", log) != (0, b"lawful\n"):
-        return len(issued), "a log that isn't lawful"
-    asked, serials = Counter(), Counter()
-    for node, op in issued:
-        asked[node, serials[node], op] += 1
-        serials[node] += 1
-    _nodes, _last, entries = read_log(Lines(log), True)
-    if Counter((it.node, it.serial, it.operation) for it in entries) != asked:
-        return len(issued), "entries that aren't the script's"
-    return len(issued), None
+        return f"status {status}"
+    if ran(["audit"], log) != (0, b"lawful\n"):
+        return "a log that `audit` refuses"
+    return wrong_log(given, log, whole=True)
 
 
 def main(words):
@@ -99,8 +90,8 @@ def main(words):
     while time.monotonic() - begun < seconds:
         chance = random.Random(f"{seed} {runs}")
         given = script(chance)
-        count, why = fault(given)
-        runs, operations = runs + 1, operations + count
+        why = fault(given)
+        runs, operations = runs + 1, operations + given.count(b"\np ")
         if why:
             failed += 1
             with tempfile.NamedTemporaryFile(suffix=".script", delete=False) as file:

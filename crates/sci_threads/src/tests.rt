@@ -1,6 +1,6 @@
 //! Nodes that issue their operations in order.
 
-use crate::{YieldingGate, run_in_order};
+use crate::{YieldingGate, run_in_order, run_nodes};
 use sci_history::Logs;
 use sci_text::Script;
 use sci_words::{Act, Extent, LockOp, Op, Reply};
@@ -92,5 +92,50 @@ fn entries_stand_in_the_order_of_the_script(rt: HostRuntime) -> Result<(), Fail>
     for node in 0..4 {
         assert_eq!(rt; logs.of(node).len(), 100);
     }
+    Ok(())
+}
+
+/// How many operations each of two nodes has in the run for which memory is refused.
+const ADDITIONS: u64 = 10;
+
+/// Two nodes that each add to one word. An operation is pushed again if memory is refused.
+fn additions(alloc: Global) -> Result<Script, Fail> {
+    let extent = Extent::new(2, 1, 1).ok_or("an extent")?;
+    let mut script = Script::new(alloc, extent);
+    for _time in 0..ADDITIONS {
+        for node in 0..2 {
+            let op = on(0, Act::Lock(LockOp::FetchAdd { datum: 1 }));
+            if script.push(node, op).is_err() && script.push(node, op).is_err() {
+                return Err(Fail::from("refused twice"));
+            }
+        }
+    }
+    Ok(script)
+}
+
+/// The logs of a run by threads, the word that it ends with, and whether it has ended; or None if memory is refused.
+fn added<T: Threads + Sync>(rt: &T, alloc: Global, script: &Script) -> Option<(Logs, u64, bool)> {
+    let done = AtomicU64::new(0);
+    let gates = YieldingGate::for_nodes(alloc, script.extent().nodes, &done).ok()?;
+    let (logs, last, finished) = run_nodes(rt, alloc, script, gates, 20_000).ok()?;
+    if last.lines() == 0 {
+        return None;
+    }
+    Some((logs, last.get(0).line.word(0), finished))
+}
+
+/// A run that is refused memory says so, and the same run then gives its logs: as many additions as the word counts, and
+/// all of them if the run has ended.
+#[test]
+fn memory_for_a_run(rt: HostRuntime) -> Result<(), Fail> {
+    let alloc = rt.alloc();
+    let script = additions(alloc)?;
+    let (logs, word, finished) = match added(&rt, alloc, &script) {
+        Some(run) => run,
+        None => added(&rt, alloc, &script).ok_or("refused twice")?,
+    };
+    let logged = logs.of(0).len() as u64 + logs.of(1).len() as u64;
+    assert_eq!(rt; word, logged);
+    assert!(rt; !finished || logged == 2 * ADDITIONS);
     Ok(())
 }
