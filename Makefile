@@ -2,7 +2,9 @@
 
 NEED_RT = command -v rt > /dev/null || { echo "rt is missing: put the bin folder of a Rattle kit (rattle-kit-13b or later) on your PATH"; exit 1; }
 
-.PHONY: run test cases faults soak check fmt clean
+.PHONY: run test build cases examples install faults soak check fmt clean
+
+PREFIX = /usr/local
 
 # Builds the program and runs its stored example.
 run:
@@ -15,12 +17,25 @@ test:
 	@$(NEED_RT)
 	@scripts/test.sh
 
-# Builds the programs over what earlier checks kept, and runs them on the stored cases alone.
-cases:
+# Builds both programs over what earlier checks kept.
+build:
 	@$(NEED_RT)
 	@cd crates/scimem && rt run -- $$(cat args) < stdin > /dev/null
 	@cd crates/sciview && rt run -- $$(cat args) < stdin > /dev/null; [ $$? -eq 1 ]
+
+# Runs the programs on the stored cases alone.
+cases: build
 	@scripts/run_cases.sh
+
+# Runs the examples of the README, of docs/ and of examples/.
+examples: build
+	@scripts/run_examples.py
+
+# Puts the programs and their manual pages into PREFIX/bin and PREFIX/share/man/man1.
+install: build
+	@install -d "$(PREFIX)/bin" "$(PREFIX)/share/man/man1"
+	@install -m 755 crates/scimem/out/scimem crates/sciview/out/sciview "$(PREFIX)/bin"
+	@install -m 644 docs/scimem.1 docs/sciview.1 "$(PREFIX)/share/man/man1"
 
 # Builds tests and the programs over what earlier checks kept, and has memory, reads and writes refused. With CRATE=NAME
 # it tries that crate alone.

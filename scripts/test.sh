@@ -1,6 +1,6 @@
 #!/bin/sh
-# The gate (rt ci). Then the program that it built runs on the stored cases, and program and tests run with memory, reads and
-# writes refused. The last line says how much passed of all three.
+# The gate (rt ci). Then the programs that it built run on the stored cases and on the examples, and programs and tests run
+# with memory, reads and writes refused. The last line says how much passed of all.
 cd "$(dirname "$0")/.." || exit 2
 room=$(mktemp -d) || exit 2
 trap 'rm -rf "$room"' EXIT
@@ -13,7 +13,11 @@ count() {
 
 # Ends with the count of all, and fails unless all passed.
 finish() {
-    echo "$(($(count "$room/gate" 1) + $(count "$room/cases" 1) + $(count "$room/faults" 1))) passed, $1 failed"
+    passed=0
+    for stage in gate cases examples faults; do
+        passed=$((passed + $(count "$room/$stage" 1)))
+    done
+    echo "$passed passed, $1 failed"
     [ "$1" -eq 0 ]
     exit
 }
@@ -29,10 +33,13 @@ run() {
 }
 
 : > "$room/cases"
+: > "$room/examples"
 : > "$room/faults"
 run gate rt ci
 [ "$failed" -eq 0 ] || finish "$failed"
 run cases scripts/run_cases.sh
-cases_failed=$failed
+all=$failed
+run examples scripts/run_examples.py
+all=$((all + failed))
 run faults scripts/try_faults.py
-finish $((cases_failed + failed))
+finish $((all + failed))
