@@ -1,0 +1,99 @@
+#!/usr/bin/env python3
+"""Reads charts of `sciview chart` by a parser of XML, and looks whether they show what the schedule does.
+
+The packets of a schedule are those that `sciview packets` writes and `scimem decode` prints. A chart has to have an arrow
+for each, in their order: from the column of its sender to that of its receiver, downwards, dotted only for a busy answer,
+and dashed only for a request that is answered busy. Each event has its row, and no two texts overlap. The schedules are
+those of examples/ and the first events of scripts/make_schedule.py. The last line is 'N passed, M failed', of charts.
+"""
+
+import os
+import subprocess
+import sys
+import xml.etree.ElementTree as xml
+
+TOP = os.path.dirname(os.path.dirname(os.path.abspath(__file__)))
+SCIMEM, SCIVIEW = (f"{TOP}/crates/{name}/out/{name}" for name in ("scimem", "sciview"))
+SPACE = "{http://www.w3.org/2000/svg}"
+ARROWS = ("request", "refused", "answer", "busy")
+# The legend shows each kind of arrow once.
+SAMPLES = len(ARROWS)
+# How wide a character is at most, and how high a text is, in pixels.
+WIDTH, HEIGHT = 7, 12
+
+
+def ran(program, *words, given):
+    return subprocess.run([program, *words], input=given, stdout=subprocess.PIPE, check=True).stdout
+
+
+def schedules():
+    """What each schedule is called, and its text."""
+    for name in sorted(os.listdir(f"{TOP}/examples")):
+        if name.endswith(".schedule"):
+            with open(f"{TOP}/examples/{name}", "rb") as file:
+                yield name, file.read()
+    made = subprocess.run([sys.executable, f"{TOP}/scripts/make_schedule.py"], stdout=subprocess.PIPE, check=True).stdout
+    yield "make_schedule.py", b"\n".join(made.split(b"\n")[:2001]) + b"\n"
+
+
+def packets(given):
+    """The packets that a schedule sends: command, receiver and sender."""
+    for line in ran(SCIMEM, "decode", given=ran(SCIVIEW, "packets", given=given)).decode().splitlines():
+        words = line.split()
+        yield words[0], int(words[2]), int(words[4])
+
+
+def points(arrow):
+    """The first point of an arrow, and the last."""
+    if arrow.tag == f"{SPACE}line":
+        return tuple((int(arrow.get(f"x{end}")), int(arrow.get(f"y{end}"))) for end in "12")
+    found = [tuple(map(int, it.split(","))) for it in arrow.get("points").split()]
+    return found[0], found[-1]
+
+
+def overlap(first, second):
+    """Whether two texts overlap."""
+    boxes = [(int(it.get("x")), int(it.get("y")), len(it.text)) for it in (first, second)]
+    (x, y, length), (other_x, other_y, other_length) = boxes
+    return abs(y - other_y) < HEIGHT and x < other_x + WIDTH * other_length and other_x < x + WIDTH * length
+
+
+def faults(given):
+    """What is wrong with the chart of a schedule."""
+    chart = xml.fromstring(ran(SCIVIEW, "chart", given=given))
+    columns = [int(it.get("x1")) for it in chart.iter(f"{SPACE}line") if it.get("class") == "column"]
+    arrows = [it for it in chart.iter() if it.get("class") in ARROWS][SAMPLES:]
+    sent = list(packets(given))
+    if len(arrows) != len(sent):
+        yield f"{len(arrows)} arrows of {len(sent)} packets"
+    for arrow, (command, receiver, sender) in zip(arrows, sent):
+        (x, y), (to_x, to_y) = points(arrow)
+        if (x, to_x) != (columns[sender], columns[receiver]) or y >= to_y:
+            yield f"the arrow of {command} from {sender} to {receiver}"
+        if (arrow.get("class") == "busy") != (command == "busy"):
+            yield f"the arrow of {command} is drawn as {arrow.get('class')}"
+    refused = sum(it.get("class") == "refused" for it in arrows)
+    if refused > sum(command == "busy" for command, _receiver, _sender in sent):
+        yield "more refusals than busy answers"
+    texts = [it for it in chart.iter(f"{SPACE}text")]
+    rows = [it for it in texts if it.get("class") in ("event", "dead") and it.get("x") == "24"]
+    if len(rows) != given.count(b"\n") - 1:
+        yield f"{len(rows)} rows"
+    texts.sort(key=lambda it: int(it.get("y")))
+    for place, text in enumerate(texts):
+        for other in texts[place + 1 : place + 24]:
+            if overlap(text, other):
+                yield f"{text.text!r} overlaps {other.text!r}"
+
+
+def main():
+    counts = {True: 0, False: 0}
+    for name, given in schedules():
+        found = list(faults(given))
+        counts[not found] += 1
+        print(f"{name}: {'; '.join(found[:3]) or 'right'}", flush=True)
+    print(f"{counts[True]} passed, {counts[False]} failed")
+    return 1 if counts[False] or not counts[True] else 0
+
+
+sys.exit(main())
