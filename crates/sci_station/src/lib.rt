@@ -25,6 +25,7 @@ mod tests;
 mod turn;
 #[cfg(test)]
 mod turn_tests;
+mod unanswered;
 mod worker;
 
 pub use fabric::{Fabric, Finished};

@@ -2,6 +2,7 @@
 
 use crate::budget::Budget;
 use crate::turn::take_turn;
+use crate::unanswered::Unanswered;
 use sci_history::Entry;
 use sci_lanes::{HasEnd, LaneEnd};
 use sci_policy::{Policy, Progress, SubmitFault, check_submit};
@@ -14,6 +15,7 @@ use std::marker::Model;
 pub struct Station {
     end: LaneEnd,
     policy: Policy,
+    unanswered: Unanswered,
 }
 
 impl Model for Station {
@@ -56,6 +58,7 @@ impl Station {
         Station {
             end,
             policy: Policy::new(),
+            unanswered: Unanswered::new(),
         }
     }
 
@@ -130,7 +133,13 @@ impl Station {
     {
         let mut progress = Progress::new();
         let mut budget = Budget { left: None };
-        match take_turn(&mut self.end, &mut self.policy, &mut progress, &mut budget) {
+        match take_turn(
+            &mut self.end,
+            &mut self.policy,
+            &mut self.unanswered,
+            &mut progress,
+            &mut budget,
+        ) {
             Ok(()) => {}
             Err(_) => unreachable!(),
         }
@@ -152,7 +161,13 @@ impl Station {
     {
         let mut progress = Progress::new();
         let mut budget = Budget { left: Some(steps) };
-        let _ended = take_turn(&mut self.end, &mut self.policy, &mut progress, &mut budget);
+        let _ended = take_turn(
+            &mut self.end,
+            &mut self.policy,
+            &mut self.unanswered,
+            &mut progress,
+            &mut budget,
+        );
         match budget.left {
             Some(left) => (progress, steps - left),
             None => unreachable!(),

@@ -16,6 +16,7 @@ ghost use Rattle.sci_station.specs.Moves.{EndsTurn, GoesOn, IsAsked, IsStep, IsT
 use crate::budget::{Budget, Spent};
 use crate::receiving::{Received, receive};
 use crate::sending::send;
+use crate::unanswered::Unanswered;
 use sci_core::LaneKind;
 use sci_lanes::LaneEnd;
 use sci_policy::{Policy, Progress, Want};
@@ -27,6 +28,7 @@ use sci_words::{AskKind, Event, LANE_CELLS};
 pub(crate) fn take_turn(
     end: &mut LaneEnd,
     policy: &mut Policy,
+    unanswered: &mut Unanswered,
     progress: &mut Progress,
     budget: &mut Budget,
 ) -> Result<(), Spent>
@@ -43,9 +45,9 @@ pub(crate) fn take_turn(
     let me = end.node().me();
     policy.begin_turn();
     reply(end, progress, budget, me)?;
-    accept_all(end, progress, budget, me)?;
+    accept_all(end, unanswered, progress, budget, me)?;
     take_all(end, policy, progress, budget, me)?;
-    ask_some(end, policy, progress, budget, me)
+    ask_some(end, policy, unanswered, progress, budget, me)
 }
 
 /// The answer that waits goes out, if one does and its cell is empty.
@@ -80,6 +82,7 @@ fn reply(
 /// Up to four answers from each node are accepted.
 fn accept_all(
     end: &mut LaneEnd,
+    unanswered: &mut Unanswered,
     progress: &mut Progress,
     budget: &mut Budget,
     me: u8,
@@ -97,14 +100,15 @@ fn accept_all(
 {
     let nodes = end.nodes();
     for from in 0..nodes {
-        accept_from(end, progress, budget, me, from)?;
+        accept_from(end, unanswered, progress, budget, me, from)?;
     }
     Ok(())
 }
 
-/// Up to four answers from a node are accepted.
+/// Up to four answers from a node are accepted. The lane of another node that owes no answer is passed over.
 fn accept_from(
     end: &mut LaneEnd,
+    unanswered: &mut Unanswered,
     progress: &mut Progress,
     budget: &mut Budget,
     me: u8,
@@ -122,8 +126,11 @@ fn accept_from(
     ensures budget { HasNoMore budget.old.left budget.new.left }
     ensures spent { IsErr result → budget.old.left ≢ None }
 {
+    if from != me && !unanswered.by(from) {
+        return Ok(());
+    }
     for _cell in 0..LANE_CELLS {
-        if !accept(end, progress, budget, me, from)? {
+        if !accept(end, unanswered, progress, budget, me, from)? {
             break;
         }
     }
@@ -133,6 +140,7 @@ fn accept_from(
 /// The oldest answer from a node is accepted. False if none has come.
 fn accept(
     end: &mut LaneEnd,
+    unanswered: &mut Unanswered,
     progress: &mut Progress,
     budget: &mut Budget,
     me: u8,
@@ -160,6 +168,7 @@ fn accept(
     budget.spend()?;
     let event = Event::Accept { from, node: me };
     end.free(cell, &event);
+    unanswered.accepted(from);
     progress.count(&event);
     Ok(true)
 }
@@ -267,6 +276,7 @@ fn take(
 fn ask_some(
     end: &mut LaneEnd,
     policy: &mut Policy,
+    unanswered: &mut Unanswered,
     progress: &mut Progress,
     budget: &mut Budget,
     me: u8,
@@ -288,7 +298,7 @@ fn ask_some(
     for _cell in 0..LANE_CELLS {
         match policy.next(end.node()) {
             Some(Want::Ask(line, kind)) => {
-                if !ask(end, progress, budget, me, line, kind)? {
+                if !ask(end, unanswered, progress, budget, me, line, kind)? {
                     break;
                 }
             }
@@ -306,6 +316,7 @@ fn ask_some(
 /// can ask it.
 fn ask(
     end: &mut LaneEnd,
+    unanswered: &mut Unanswered,
     progress: &mut Progress,
     budget: &mut Budget,
     me: u8,
@@ -336,6 +347,7 @@ fn ask(
     };
     let sent = send(end, budget, LaneKind::Requests, &request, &event)?;
     if sent {
+        unanswered.asked(request.target.get());
         progress.count(&event);
     }
     Ok(sent)

@@ -142,12 +142,12 @@ fn ask_in_a_chain(
     holds(third.turn().asked, "node 2 asks node 1")
 }
 
-/// Turns that keep a request: six looks, and one word more.
+/// Turns that keep a request: five looks, and one word more. The lane of answers of node 2, which owes none, is passed over.
 fn keeps(station: &mut Station) -> Result<(), Fail> {
     for _turn in 0..3 {
         let (progress, steps) = station.turn_within(1000);
         holds(progress.is_idle(), "the request is kept")?;
-        holds(steps == 7, "six looks and a word")?;
+        holds(steps == 6, "five looks and a word")?;
     }
     Ok(())
 }
