@@ -1,8 +1,9 @@
 """Trials of `scimem threads` with several nodes: refused allocations, threads that can't be made, little address space.
 
 A run by threads has no answer that is known before: it is one of many. So each log is looked at (thread_logs.py). It has to
-be whole if the command ends as Done, and may be cut if it ends as Unlawful, as where a node was driven without a thread and
-used up its turns. Else memory is refused, and nothing else is written."""
+be whole if the command ends as Done, and may be cut if it ends as Unlawful: a node may use up its turns where it waits for a
+node that has no thread, or whose thread the system lets wait. Else memory is refused, and nothing else is written. A run in
+which nothing fails has to be whole if no node's turns are limited."""
 
 import random
 from collections import namedtuple
@@ -10,9 +11,10 @@ from collections import namedtuple
 from fault_runs import Trial
 from thread_logs import wrong_log
 
-# How many turns a node takes at most. A node without a thread uses them up if it waits for another.
+# How many turns a node takes at most if a call fails. A node without a thread uses them up if it waits for another.
 TURNS = "20000"
 WORDS = ["threads", "--turns", TURNS]
+UNLIMITED = ["threads"]
 MEMORY = (2, b"refused at line 0: memory\n", b"")
 
 # A script of several nodes: its name, its text, and the most address space that it is given above the least, in KB.
@@ -38,15 +40,19 @@ def is_right(ran, it, usage):
 
 
 def try_calls(faults, program, usage, it, kind):
-    """Has each call of a kind fail in turn, until a run has none that fails: that run is whole."""
+    """Has each call of a kind fail in turn, until a run has none that fails. Without a limit such a run is whole."""
     trial = Trial(f"{kind}s of {it.name}")
     for number in range(1, 1_000_000):
         ran = faults.run([program, *WORDS], it.given, fault=f"{kind}:{number}")
         trial.count(ran.told)
-        if not is_right(ran, it, usage) or not ran.told and ran.status != 0:
+        if not is_right(ran, it, usage):
             trial.fail(f"{kind} {number}", ran)
         if not ran.told:
-            return trial
+            break
+    ran = faults.run([program, *UNLIMITED], it.given)
+    if ran.status != 0 or not is_right(ran, it, usage):
+        trial.fail("nothing", ran)
+    return trial
 
 
 def try_space(faults, program, usage, it, least):

@@ -9,7 +9,8 @@ use std::sync::atomic::AtomicU64;
 use std::test::*;
 use std::thread::Threads;
 
-const TURNS: u32 = 1_000_000;
+/// As many turns as a run may take: a node goes on turning while the system lets another's thread wait.
+const TURNS: u32 = 1_000_000_000;
 
 /// The logs of a script that is run in order. An error if it doesn't end, or an entry doesn't stand at its serial.
 fn ran<T: Threads + Sync>(rt: &T, alloc: Global, script: &Script) -> Result<Logs, Fail> {
