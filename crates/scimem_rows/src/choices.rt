@@ -1,11 +1,11 @@
 //! Which event comes next in a walk.
 
-use crate::random::Random;
 use crate::walked::{LIMIT, Walked};
 use sci_cache::Held;
+use sci_chance::{Random, any_kind, any_line, any_operation};
 use sci_core::LaneKind;
 use sci_packets::Body;
-use sci_words::{Act, AskKind, Event, LockOp, Op};
+use sci_words::{AskKind, Event, Op};
 
 /// A node, and those after it in a circle: the one at this place of the circle.
 fn round(first: u8, place: u8, nodes: u8) -> u8 {
@@ -13,38 +13,6 @@ fn round(first: u8, place: u8, nodes: u8) -> u8 {
         return 0;
     }
     ((u16::from(first) + u16::from(place)) % u16::from(nodes)) as u8
-}
-
-/// A line, mostly one of the first two, so that many nodes share it.
-fn any_line(random: &mut Random, lines: u8) -> u8 {
-    if random.once_in(3) {
-        return random.below(lines);
-    }
-    random.below(lines.min(2))
-}
-
-/// A small word, so that swaps and bounds often meet the word that they name.
-fn any_word(random: &mut Random) -> u64 {
-    match random.below(12) {
-        0 => u64::MAX,
-        small => u64::from(small % 4),
-    }
-}
-
-/// An operation on a line.
-fn any_op(random: &mut Random, line: u8) -> Op {
-    let word = random.below(9).min(7);
-    let (arg, datum) = (any_word(random), any_word(random));
-    let act = match random.below(10) {
-        0 => Act::Lock(LockOp::MaskSwap { arg, datum }),
-        1 => Act::Lock(LockOp::CompareSwap { arg, datum }),
-        2 => Act::Lock(LockOp::FetchAdd { datum }),
-        3 => Act::Lock(LockOp::BoundedAdd { arg, datum }),
-        4 => Act::Lock(LockOp::WrapAdd { arg, datum }),
-        5 | 6 => Act::Store(datum),
-        _ => Act::Load,
-    };
-    Op { line, word, act }
 }
 
 /// What a state asks, if it asks now: a join that has begun goes on at once. A join begins and a stay in a list ends
@@ -93,7 +61,7 @@ fn any_issue(random: &mut Random, walked: &Walked, n: u8, line: u8) -> Option<Ev
     let free = walked.machine.pending(n, line).is_none() && walked.issued(n) < LIMIT;
     free.then(|| Event::Issue {
         node: n,
-        op: any_op(random, line),
+        op: any_operation(random, line),
     })
 }
 
@@ -194,7 +162,7 @@ pub fn any_event(random: &mut Random, walked: &Walked) -> Event {
     match random.below(7) {
         0 => Event::Issue {
             node,
-            op: any_op(random, line),
+            op: any_operation(random, line),
         },
         1 => Event::Perform { node, line },
         2 => Event::Ask {
@@ -206,19 +174,5 @@ pub fn any_event(random: &mut Random, walked: &Walked) -> Event {
         4 => Event::Refuse { from, node },
         5 => Event::Reply { node },
         _ => Event::Accept { from, node },
-    }
-}
-
-fn any_kind(random: &mut Random) -> AskKind {
-    match random.below(9) {
-        0 => AskKind::Mread,
-        1 => AskKind::Fread,
-        2 => AskKind::Cread,
-        3 => AskKind::Claim,
-        4 => AskKind::Clear,
-        5 => AskKind::Purge,
-        6 => AskKind::Roll,
-        7 => AskKind::Wback,
-        _ => AskKind::Setback,
     }
 }

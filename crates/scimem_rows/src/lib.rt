@@ -20,8 +20,6 @@ mod pairs;
 #[cfg(test)]
 mod plain_lists;
 #[cfg(test)]
-mod random;
-#[cfg(test)]
 mod requests;
 #[cfg(test)]
 mod row;

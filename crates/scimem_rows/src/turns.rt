@@ -1,7 +1,7 @@
 //! Turns of all nodes, in fixed orders and in orders by chance, until every operation is performed.
 
-use crate::random::Random;
 use crate::turned::Turned;
+use sci_chance::Random;
 use sci_words::{Act, Extent, LockOp, Op};
 use std::alloc::Global;
 use std::test::*;

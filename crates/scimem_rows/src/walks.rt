@@ -4,9 +4,9 @@
 
 use crate::choices::{any_event, enabled_event};
 use crate::plain_lists::holds;
-use crate::random::Random;
 use crate::walked::{Counts, Walked};
 use sci_cache::Held;
+use sci_chance::Random;
 use sci_core::LaneKind;
 use sci_history::{OrderVerdict, sequential_order};
 use sci_home::HomeState;

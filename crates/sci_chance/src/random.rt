@@ -1,6 +1,6 @@
 //! Numbers that look random, and are the same in every run.
 
-ghost use Rattle.std.specs.Prelude.{◌<◌};
+ghost use Rattle.std.specs.Prelude.{◌≡◌, ◌<◌, ◌≤◌, false, true};
 
 /// A generator of numbers: 64 bits that are shifted by 13, 7 and 17 and added without carry.
 #[derive(Drop)]
@@ -27,7 +27,8 @@ impl Random {
 
     /// A number below `bound`, or 0 if that is 0.
     pub fn below(&mut self, bound: u8) -> u8
-        ensures { 0 < bound → result < bound }
+        ensures below { 0 < bound → result < bound }
+        ensures none { bound ≡ 0 → result ≡ 0 }
     {
         if bound == 0 {
             return 0;
@@ -35,8 +36,18 @@ impl Random {
         (self.step() % u64::from(bound)) as u8
     }
 
-    /// True once in `times`, on average.
-    pub fn once_in(&mut self, times: u8) -> bool {
+    /// True once in `times`, on average; always if that is 0 or 1.
+    pub fn once_in(&mut self, times: u8) -> bool
+        ensures { times ≤ 1 → result ≡ true }
+    {
         self.below(times) == 0
+    }
+
+    /// True `share` times in a hundred, on average: never if that is 0, and always if it is 100 or more.
+    pub fn in_hundred(&mut self, share: u8) -> bool
+        ensures never { share ≡ 0 → result ≡ false }
+        ensures always { 100 ≤ share → result ≡ true }
+    {
+        self.below(100) < share
     }
 }

@@ -1,0 +1,69 @@
+//! Lines, operations and kinds of asks that are drawn.
+
+ghost use Rattle.std.specs.Prelude.{◌≡◌, ◌<◌, true};
+ghost use Rattle.sci_words.specs.Operation.{has_words};
+ghost use Rattle.sci_words.specs.declared.limits.TheConstants.{WORDS_PER_LINE};
+
+use crate::random::Random;
+use sci_words::{Act, AskKind, LockOp, Op};
+
+/// A line, of so many: mostly one of the first two, so that many nodes share it. 0 if there is none.
+pub fn any_line(random: &mut Random, lines: u8) -> u8
+    ensures within { 0 < lines → result < lines }
+    ensures none { lines ≡ 0 → result ≡ 0 }
+{
+    if random.once_in(3) {
+        return random.below(lines);
+    }
+    random.below(lines.min(2))
+}
+
+/// A small word, so that swaps and bounds often meet the word that they name.
+fn any_word(random: &mut Random) -> u64 {
+    match random.below(12) {
+        0 => u64::MAX,
+        small => u64::from(small % 4),
+    }
+}
+
+/// What an operation does: three times in ten a load, and twice a store.
+fn any_act(random: &mut Random) -> Act
+    ensures { has_words result ≡ true }
+{
+    let (arg, datum) = (any_word(random), any_word(random));
+    match random.below(10) {
+        0 => Act::Lock(LockOp::MaskSwap { arg, datum }),
+        1 => Act::Lock(LockOp::CompareSwap { arg, datum }),
+        2 => Act::Lock(LockOp::FetchAdd { datum }),
+        3 => Act::Lock(LockOp::BoundedAdd { arg, datum }),
+        4 => Act::Lock(LockOp::WrapAdd { arg, datum }),
+        5 | 6 => Act::Store(datum),
+        _ => Act::Load,
+    }
+}
+
+/// An operation on a line, on any of its eight words.
+pub fn any_operation(random: &mut Random, line: u8) -> Op
+    ensures line { result.line ≡ line }
+    ensures word { result.word < WORDS_PER_LINE }
+    ensures words { has_words result.act ≡ true }
+{
+    let word = random.below(9).min(7);
+    let act = any_act(random);
+    Op { line, word, act }
+}
+
+/// A kind of ask, each as often as the others.
+pub fn any_kind(random: &mut Random) -> AskKind {
+    match random.below(9) {
+        0 => AskKind::Mread,
+        1 => AskKind::Fread,
+        2 => AskKind::Cread,
+        3 => AskKind::Claim,
+        4 => AskKind::Clear,
+        5 => AskKind::Purge,
+        6 => AskKind::Roll,
+        7 => AskKind::Wback,
+        _ => AskKind::Setback,
+    }
+}
