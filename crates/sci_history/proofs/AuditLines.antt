@@ -1,9 +1,9 @@
 -- What the audit of a line needs of its entries, and what lines that are found lawful say of all.
-use Rattle.std.proofs.Common.{◌≡◌, ◌↔◌, ℕ, suc, ◌+◌, ◌<◌, ◌≤◌, false, List, [], ◌∷◌, length, Option, None, refl, sym, subst, arith, inl, inr, below_more}
+use Rattle.std.proofs.Common.{◌≡◌, ◌↔◌, ℕ, suc, ◌+◌, ◌<◌, ◌≤◌, false, List, [], ◌∷◌, ◌++◌, length, get_or, Option, None, refl, sym, ap, ◌∙◌, subst, arith, inl, inr, below_more}
 use Rattle.std.specs.Prelude.{All}
 use Rattle.std.specs.List.{flat_map, AllByRecursion}
 use Rattle.std.proofs.lemmas.Bool.{cases_lt, ne_eqb}
-use Rattle.std.proofs.lemmas.List.{get_or_past}
+use Rattle.std.proofs.lemmas.List.{get_or_past, get_or_append_left, get_or_push, length-append}
 use Rattle.std.proofs.lemmas.List.Elements.{All-from_recursion, recursion_from_All}
 use Rattle.sci_words.specs.declared.limits.TheConstants.{MAX_NODES, WORDS_PER_LINE}
 use Rattle.sci_words.specs.declared.stamped.Stamped.{Stamped}
@@ -16,7 +16,7 @@ use Rattle.sci_history.specs.declared.faults.LineFault.{LineFault}
 use Rattle.sci_history.specs.Memory.{stamped_at}
 use Rattle.sci_history.specs.Placed.{log_of, AreOwn, is_on_line, on_line, maker_count, by_version, placed_entries}
 use Rattle.sci_history.specs.Lawful.{IsLawfulLine, Lawful}
-use Rattle.sci_history.specs.Audit.{IsWithin, AreWithin, is_version_missing, first_missing, HasNoFault, IsLineFault, IsFault, IsFound, IsVerdict}
+use Rattle.sci_history.specs.Audit.{IsWithin, AreWithin, is_version_missing, first_missing, HasNoFault, IsLineFault, IsFault, IsFound, AreFound, IsVerdict}
 use Rattle.sci_history.proofs.Order.{all_weaker, all-append, all-filter, filter_none}
 use Rattle.sci_history.proofs.Placement.{by_node_and_serial-none}
 use Rattle.sci_history.proofs.AuditVersions.{none_fail, versions_within}
@@ -80,6 +80,15 @@ lawful_all logs last own sixteen within below line =
 
 pub lawful_more : (logs : List (List Entry)) (last : List Stamped) (line : ℕ) → ((other : ℕ) → other < line → IsLawfulLine logs other (stamped_at last other)) → IsLawfulLine logs line (stamped_at last line) → (other : ℕ) → other < line + 1 → IsLawfulLine logs other (stamped_at last other)
 lawful_more logs last line below here = below_more (λ (other : ℕ). IsLawfulLine logs other (stamped_at last other)) line below here
+
+-- one line's fault more
+pub faults_more : (logs : List (List Entry)) (last : List Stamped) (faults : List (Option LineFault)) (line : ℕ) (fault : Option LineFault) → AreFound logs last line faults → IsFound (on_line line logs) (stamped_at last line) fault → AreFound logs last (line + 1) (faults ++ fault ∷ [])
+faults_more logs last faults line fault below here = record {
+  many = length-append faults (fault ∷ []) ∙ ap (λ n. n + 1) below.many;
+  each = below_more (λ (other : ℕ). IsFound (on_line other logs) (stamped_at last other) (get_or (faults ++ fault ∷ []) other None)) line
+      (λ other lt. subst (IsFound (on_line other logs) (stamped_at last other)) (sym (get_or_append_left faults (fault ∷ []) None other (rw below.many lt))) (below.each other lt))
+      (subst (IsFound (on_line line logs) (stamped_at last line)) (sym (get_or_push faults fault None line below.many)) here);
+}
 
 -- ---- the verdict
 

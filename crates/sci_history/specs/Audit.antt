@@ -1,5 +1,5 @@
 -- What an audit reports: the first rule that logs and last contents break, and where.
-use Rattle.std.specs.Prelude.{◌≡◌, ℕ, ◌<◌, ◌==◌, ◌&&◌, ◌||◌, not, nat_lt, nat_le, Bool, true, false, List, [], ◌∷◌, ◌++◌, length, filter, map, Option, Some, None, if◌then◌else◌}
+use Rattle.std.specs.Prelude.{◌≡◌, ℕ, ◌<◌, ◌==◌, ◌&&◌, ◌||◌, not, nat_lt, nat_le, Bool, true, false, List, [], ◌∷◌, ◌++◌, length, filter, map, Option, Some, None, if◌then◌else◌, slice_index_or}
 use Rattle.std.specs.List.{All, list_any}
 use denote.Ref.{Bor}
 use Rattle.std.specs.Global.{Vec}
@@ -134,6 +134,11 @@ lists_of lists = map (λ list. entries_of list.items) lists
 abbrev pub IsFound : List Entry → Stamped → Option LineFault → Type 0
 IsFound entries last None = HasNoFault entries last
 IsFound entries last (Some fault) = IsLineFault entries last fault.kind fault.at
+
+-- what is found on each of the first lines, so many of them
+pub record AreFound (logs : List (List Entry)) (last : List Stamped) (lines : ℕ) (faults : List (Option LineFault)) : Type 0 where
+  pub many : length faults ≡ lines
+  pub each : (line : ℕ) → line < lines → IsFound (on_line line logs) (stamped_at last line) (slice_index_or faults line None)
 
 -- a fault of this line, if each line below is lawful
 pub record IsFault (logs : List (List Entry)) (last : List Stamped) (line : ℕ) (kind : FaultKind) (named : Option (ℕ × ℕ)) : Type 0 where

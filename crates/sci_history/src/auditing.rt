@@ -1,11 +1,11 @@
 //! The audit of logs: whether they are lawful, or the first rule that they break.
 
 ghost use Rattle.std.specs.Prelude.{◌≡◌, ◌↔◌, IfOk, length};
-ghost use Rattle.sci_history.specs.Audit.{AreWithin, IsVerdict};
+ghost use Rattle.sci_history.specs.Audit.{AreFound, AreWithin, IsVerdict};
 ghost use Rattle.sci_history.specs.Lawful.{Lawful};
 
 use crate::by_line::by_line;
-use crate::faults::line_fault;
+use crate::faults::{LineFault, line_fault};
 use crate::last::Last;
 use crate::logs::Logs;
 use crate::verdict::Verdict;
@@ -33,4 +33,25 @@ pub fn audit(alloc: Global, logs: &Logs, last: &Last) -> Result<Verdict, AllocEr
         }
     }
     Ok(Verdict::Lawful)
+}
+
+/// The fault of each line, or None where a line has none: on each line the first kind that fails. Refused only if a growth
+/// was. It takes the time of an audit. The caller sees to it that each entry's line is one of `last`, and its word below 8.
+pub fn line_faults(
+    alloc: Global,
+    logs: &Logs,
+    last: &Last,
+) -> Result<Vec<Option<LineFault>>, AllocError>
+    requires { AreWithin (length last.now) logs.now }
+    ensures { IfOk result (λ faults.
+        AreFound logs.now last.now (length last.now) faults.items) }
+{
+    let lines = last.lines();
+    let lists = by_line(alloc, logs, lines)?;
+    let mut faults = Vec::with_capacity(alloc, lines as usize)?;
+    for line in 0..lines {
+        let fault = line_fault(alloc, &lists[line as usize], last.get(line))?;
+        faults.push(fault)?;
+    }
+    Ok(faults)
 }

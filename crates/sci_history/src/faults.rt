@@ -18,8 +18,9 @@ const NODES: usize = MAX_NODES as usize;
 const MAX_COPIED: usize = MAX_OPERATIONS as usize;
 
 /// A fault of one line.
-#[derive(Clone, Copy)]
+#[derive(Clone, Copy, Debug, PartialEq, Eq)]
 pub struct LineFault {
+    /// The first kind that fails on the line.
     pub kind: FaultKind,
     /// Node and serial of the entry where the rule fails; none if the last contents differ.
     pub at: Option<(u8, u32)>,

@@ -16,8 +16,9 @@ mod placing;
 mod verdict;
 mod waiting;
 
-pub use auditing::audit;
+pub use auditing::{audit, line_faults};
 pub use entry::Entry;
+pub use faults::LineFault;
 pub use last::Last;
 pub use laws::{
     cycles_rule_out_orders, history_is_lawful, lawful_is_faultless, no_stale_read, one_lawful_end,
