@@ -180,8 +180,9 @@ fn last_of(contents: &[Stamped]) -> Last
     last
 }
 
-/// The logs and the last contents whose text the bytes are, in either format, with the number of nodes.
-pub fn logs(alloc: Global, input: &[u8]) -> Result<(u8, Logs, Last), TextFault>
+/// The logs and the last contents whose text the bytes are, in either format, with the number of nodes. A refusal names the
+/// first line with a fault, or has line 0 if memory was refused; an input that is too long isn't refused here.
+pub fn logs_of(alloc: Global, input: &[u8]) -> Result<(u8, Logs, Last), TextFault>
     ensures ok { IfOk result (λ x. IsLogs input.now x.0 x.1 x.2) }
     ensures good { IfOk result (λ x. AreLogs x.0 x.1 x.2) }
     ensures fault { IfErr result (IsRefusal IsLogFault input.now) }

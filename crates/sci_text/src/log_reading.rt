@@ -12,7 +12,7 @@ ghost use Rattle.sci_text.specs.FirstFault.{IsTold, IsReadAs};
 
 use crate::fault::TextFault;
 use crate::log_laws::{no_log_fault, one_log};
-use crate::log_lines::logs;
+use crate::log_lines::logs_of;
 use crate::reading::read_input;
 use crate::tap::Tap;
 use sci_history::{Last, Logs};
@@ -45,5 +45,5 @@ pub fn read_logs<R: Read>(alloc: Global, reader: &mut Tap<R>) -> Result<(u8, Log
     one_log();
     no_log_fault();
     let bytes = read_input(alloc, reader)?;
-    logs(alloc, &bytes)
+    logs_of(alloc, &bytes)
 }

@@ -19,7 +19,8 @@ use sci_words::{AskKind, Event, Extent};
 use std::alloc::{AllocError, Global};
 use std::io::Write;
 
-fn kind_word(kind: AskKind) -> &'static str
+/// The word for what is asked, as it stands in a schedule.
+pub fn kind_word(kind: AskKind) -> &'static str
     ensures word { result.now ≡ word_of_kind kind }
     ensures short { length result.now ≤ 7 }
 {
@@ -92,8 +93,9 @@ fn put_details(line: &mut LineEnd, event: Event)
     }
 }
 
+/// Appends the line of an event, as it stands in a schedule. Refused if memory is.
 #[tactic(auto, unfolding(crate::specs::Schedule::event_line))]
-fn push_event_line(out: &mut Vec<u8>, event: Event) -> Result<(), AllocError>
+pub fn push_event_line(out: &mut Vec<u8>, event: Event) -> Result<(), AllocError>
     ensures { OnOk result (out.new.items ≡ out.old.items ++ event_line event) }
 {
     let mut line = LineEnd::new();
@@ -125,8 +127,8 @@ fn push_events(out: &mut Vec<u8>, events: &[Event]) -> Result<(), AllocError>
     Ok(())
 }
 
-/// The text of a schedule.
-fn schedule_text(alloc: Global, schedule: &Schedule) -> Result<Vec<u8>, AllocError>
+/// The text of a schedule, which `read_schedule` reads as this schedule. Refused if memory is.
+pub fn schedule_text(alloc: Global, schedule: &Schedule) -> Result<Vec<u8>, AllocError>
     ensures text { IfOk result (λ text. text.items ≡ text_of schedule.now) }
     ensures good { IsSchedule schedule.now }
 {
