@@ -63,3 +63,4 @@ pub mod Ranks
 pub mod Emptying
 pub mod EmptyRuns
 pub mod PendingRuns
+pub mod Walking

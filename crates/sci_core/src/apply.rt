@@ -10,7 +10,7 @@ use crate::taking::Taking;
 use sci_words::{AskKind, Event, Op};
 
 /// The node whose event it is.
-pub(crate) fn node_of(event: &Event) -> u8
+pub fn node_of(event: &Event) -> u8
     ensures { result ≡ node_of_event event.now }
 {
     match *event {

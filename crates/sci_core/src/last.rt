@@ -128,8 +128,9 @@ impl Lane {
 }
 
 impl State {
-    ghost use Rattle.std.specs.Prelude.{◌≡◌, ◌<◌};
+    ghost use Rattle.std.specs.Prelude.{◌≡◌, ◌<◌, ℕ, None, IfSome};
     ghost use Rattle.sci_core.specs.WellFormed.{IsWellFormed};
+    ghost use Rattle.sci_core.specs.Shape.{IsAuthority};
     ghost use Rattle.sci_core.specs.Sharing.{authority_contents, sharer_of, home_at, last_at as last_at_of};
     ghost use Rattle.sci_home.specs.Serving.{current_of};
 
@@ -141,8 +142,31 @@ impl State {
         requires line { line < self.now.size.lines }
         ensures { result ≡ authority_contents (sharer_of self.now line n) }
     {
-        let answer = self.answer_to(n, line);
-        authority(self.node(n).held(line), &answer)
+        match self.node(n).held(line) {
+            // These have no contents of their own, whatever is under way: no packet is looked at.
+            Held::Out(_) | Held::Below(_) => None,
+            held => {
+                let answer = self.answer_to(n, line);
+                authority(held, &answer)
+            }
+        }
+    }
+
+    /// The first node that may change a line or is about to. The caller sees to it that there is such a line.
+    pub(crate) fn first_authority(&self, line: u8) -> Option<u8>
+        requires well { IsWellFormed self.now }
+        requires line { line < self.now.size.lines }
+        ensures here { IfSome result (λ n. n < self.now.size.nodes) }
+        ensures found { IfSome result (IsAuthority self.now line) }
+        ensures none { result ≡ None → (n : ℕ) → n < self.now.size.nodes
+            → IsAuthority self.now line n → ⊥ }
+    {
+        for n in 0..self.nodes() {
+            if self.authority(line, n).is_some() {
+                return Some(n);
+            }
+        }
+        None
     }
 
     /// The contents of a line at its home, if nobody may have written since. The caller sees to it that there

@@ -16,9 +16,11 @@ mod pending;
 mod progress;
 mod queue;
 mod settle;
+mod sharing_list;
 mod state;
 mod taking;
 
+pub use apply::node_of;
 pub use fault::ApplyFault;
 pub use lane::{Lane, LaneKind};
 pub use laws::{

@@ -7,7 +7,7 @@ use crate::outcome::push_log;
 use crate::state::State;
 use sci_history::{Last, Logs};
 use sci_packets::Packet;
-use sci_words::{Event, Extent};
+use sci_words::{Event, Extent, Stamped};
 use std::alloc::{AllocError, Global};
 use std::marker::Model;
 
@@ -30,7 +30,7 @@ impl Model for Machine {
 }
 
 impl Machine {
-    ghost use Rattle.std.specs.Prelude.{◌≡◌, ◌<◌, ◌≤◌, Some, IfOk, IfErr, IsErr, OnOk, OnErr, option_map, option_copied, slice_get, length};
+    ghost use Rattle.std.specs.Prelude.{◌≡◌, ◌<◌, ◌≤◌, ℕ, Some, None, IfSome, IfOk, IfErr, IsErr, OnOk, OnErr, option_map, option_copied, slice_get, length};
     ghost use Rattle.sci_words.specs.declared.limits.TheConstants.{MAX_OPERATIONS};
     ghost use Rattle.sci_cache.specs.Cache.{letter_of};
     ghost use Rattle.sci_core.specs.Core.{core_of, lane_of, node_at, opening, stepping, run_from};
@@ -44,7 +44,9 @@ impl Machine {
     ghost use Rattle.sci_history.specs.Lawful.{Lawful};
     ghost use Rattle.sci_history.specs.Sequential.{IsSequentiallyConsistent};
     ghost use Rattle.sci_core.specs.Outcome.{logs_of};
-    ghost use Rattle.sci_core.specs.Sharing.{last_of};
+    ghost use Rattle.sci_core.specs.Sharing.{last_at, last_of};
+    ghost use Rattle.sci_core.specs.Shape.{IsAuthority};
+    ghost use Rattle.sci_core.specs.SharingList.{IsSharingList};
 
     /// A machine of this size in which no line was touched: all lines are HOME with zero words at version 0, and
     /// all else is empty. Each node may issue `limit` operations; the caller sees to it that this is 1 to
@@ -185,6 +187,35 @@ impl Machine {
             push_log(&mut logs, n, self.state.node(n).log())?;
         }
         Ok(logs)
+    }
+
+    /// The sharing list of a line: the numbers of its members, each once, from the home's head along their links. The
+    /// caller sees to it that there is such a line. Refused if memory is.
+    pub fn sharing_list(&self, alloc: Global, line: u8) -> Result<Vec<u8>, AllocError>
+        requires { line < self.now.size.lines }
+        ensures { IfOk result (λ nodes. IsSharingList self.now line nodes.items) }
+    {
+        self.state.sharing_list(alloc, line)
+    }
+
+    /// The one node that may change a line or is about to, or None if the home has the line alone. The caller sees to it
+    /// that there is such a line.
+    pub fn authority(&self, line: u8) -> Option<u8>
+        requires { line < self.now.size.lines }
+        ensures here { IfSome result (λ n. n < self.now.size.nodes) }
+        ensures found { IfSome result (IsAuthority self.now line) }
+        ensures none { result ≡ None → (n : ℕ) → n < self.now.size.nodes
+            → IsAuthority self.now line n → ⊥ }
+    {
+        self.state.first_authority(line)
+    }
+
+    /// The last contents of a line, as in `last`. The caller sees to it that there is such a line.
+    pub fn last_contents(&self, line: u8) -> Stamped
+        requires { line < self.now.size.lines }
+        ensures { result ≡ last_at self.now line }
+    {
+        self.state.last_at(line)
     }
 
     /// The last contents of each line: its home's if nobody may have written since, and else those of the one

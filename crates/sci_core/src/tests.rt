@@ -92,6 +92,23 @@ fn a_run_skips_what_is_not_enabled(rt: HostRuntime) -> Result<(), Fail> {
     Ok(())
 }
 
+/// Node 0 has line 0 to write, and nobody has line 1.
+#[test]
+fn a_line_has_its_list(rt: HostRuntime) -> Result<(), Fail> {
+    let extent = Extent::new(2, 2, 1).ok_or("an extent")?;
+    let mut machine = Machine::new(rt.alloc(), extent, 1).ok().ok_or("no memory")?;
+    assert_eq!(rt; machine.run(&schedule()), Ok(()));
+    let list = machine.sharing_list(rt.alloc(), 0).ok().ok_or("no memory")?;
+    assert_eq!(rt; list.as_slice(), [0].as_slice());
+    assert_eq!(rt; machine.authority(0), Some(0));
+    assert_eq!(rt; machine.last_contents(0), stored(7));
+    let list = machine.sharing_list(rt.alloc(), 1).ok().ok_or("no memory")?;
+    assert!(rt; list.is_empty());
+    assert_eq!(rt; machine.authority(1), None);
+    assert_eq!(rt; machine.last_contents(1).version, 0);
+    Ok(())
+}
+
 #[test]
 fn a_copy_goes_its_own_way(rt: HostRuntime) -> Result<(), Fail> {
     let extent = Extent::new(1, 1, 1).ok_or("an extent")?;

@@ -1,0 +1,6 @@
+-- A reached state is well formed.
+use Rattle.sci_core.proofs.WellFormedSteps.{reached_well}
+use Rattle.sci_core.proofs.machine.Machine.last_contents.Goals as goal
+
+pub last_at-requires-clause-well : goal.last_at-requires-clause-well
+last_at-requires-clause-well c = reached_well c.self.inside.state c.self.invariant

@@ -1,0 +1,13 @@
+use Rattle.std.proofs.Common.{◌≡◌, length}
+use Rattle.sci_home.specs.Serving.{head_of}
+use Rattle.sci_core.specs.Sharing.{home_at}
+use Rattle.sci_core.specs.SharingList.{link_at}
+use Rattle.sci_core.proofs.Walking.{IsWalked}
+use Rattle.sci_core.proofs.state.State.sharing_list.Given as goal
+
+-- the walk so far
+abbrev pub invariant-loop-place : goal.invariant-loop-place
+invariant-loop-place l = record {
+  walked : IsWalked (link_at l.self l.line) (head_of (home_at l.self l.line)) l.list.items l.next;
+  counted : length l.list.items ≡ l._place;
+}
