@@ -3,3 +3,4 @@ pub mod Refusal
 pub mod Status
 pub mod Writing
 pub mod VerdictLine
+pub mod PacketLine

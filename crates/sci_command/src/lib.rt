@@ -1,13 +1,18 @@
-//! What the commands of the programs have in common: how they end, how they write an answer, and how they refuse a text.
+//! What the commands of the programs have in common: how they end, how they write an answer, how they refuse a text, and
+//! how they print a packet.
 #![tactic(auto)]
 
 mod outcome;
+mod packet_line;
+mod printing;
 mod refusal;
 mod verdict;
 mod words;
 mod writing;
 
 pub use outcome::Outcome;
+pub use packet_line::{command_name, push_contents, push_identifier, push_packet};
+pub use printing::push_labelled;
 pub use refusal::refuse;
 pub use verdict::verdict_line;
 pub use words::texts_of;

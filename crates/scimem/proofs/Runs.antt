@@ -8,7 +8,7 @@ use Rattle.std.proofs.lemmas.List.Elements.{All-append, All-cons, All-nil}
 use Rattle.sci_packets.specs.declared.packet.Packet.{Packet}
 use Rattle.sci_packets.specs.Fields.{field, spelled}
 use Rattle.sci_packets.specs.Spelling.{IsPacket, Spells, spelling}
-use Rattle.scimem.specs.PacketLine.{packet_line}
+use Rattle.sci_command.specs.PacketLine.{packet_line}
 use Rattle.scimem.specs.Decoding.{PacketsThen, spellings, packet_lines}
 
 -- the text has the lines of the packets that the input begins with, and the rest follows them

@@ -12,7 +12,7 @@ use Rattle.sci_packets.specs.Fault.{fault_of}
 use Rattle.sci_packets.specs.Spelling.{IsPacket, NoneSpells, spelling}
 use Rattle.sci_command.specs.declared.outcome.Outcome.{Outcome}
 use Rattle.sci_command.specs.declared.outcome.Outcome.TheVariants.{Done, Refused}
-use Rattle.scimem.specs.PacketLine.{packet_line}
+use Rattle.sci_command.specs.PacketLine.{packet_line}
 use Rattle.sci_command.specs.Refusal.{kind_word}
 
 -- the word for what is wrong with a packet

@@ -1,7 +1,6 @@
 pub mod Choice
 pub mod CommandAnswer
 pub mod Decoding
-pub mod PacketLine
 pub mod OracleAnswer
 pub mod ReplayAnswer
 pub mod LogAnswer

@@ -9,9 +9,7 @@ ghost use Rattle.sci_text.specs.FirstFault.{IsInputFault};
 ghost use Rattle.scimem.specs.Decoding.{IsDecoded, IsInputDecoded, IsAnswer, refusal, fault_word};
 ghost use Rattle.sci_command.specs.Refusal.{kind_word};
 
-use crate::packet_line::push_packet;
-use crate::printing::push_labelled;
-use sci_command::{Outcome, write_answer};
+use sci_command::{Outcome, push_labelled, push_packet, write_answer};
 use sci_packets::{PacketFault, decode};
 use sci_text::{Tap, TextFault, TextFaultKind, read_input};
 use std::alloc::{AllocError, Global};

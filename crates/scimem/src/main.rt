@@ -7,8 +7,6 @@ mod choice;
 mod decode;
 mod laws;
 mod oracle;
-mod packet_line;
-mod printing;
 mod replay;
 mod threads;
 mod upgrade;

@@ -1,6 +1,6 @@
 use Rattle.std.proofs.Common.{◌<◌, ◌≤◌, length, List, ℕ, drop, ◌++◌, sym, subst, arith, length-drop}
 use Rattle.scimem.proofs.Runs.{Reads, reads_more, shorter, whole_rest}
-use Rattle.scimem.specs.PacketLine.{packet_line}
+use Rattle.sci_command.specs.PacketLine.{packet_line}
 use Rattle.scimem.proofs.decode.text_of.Goals as goal
 
 pub loop-rest-smaller : goal.loop-rest-smaller

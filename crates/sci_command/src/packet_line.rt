@@ -1,7 +1,7 @@
 //! The lines that packets are printed as.
 
 ghost use Rattle.std.specs.Prelude.{◌≡◌, ◌++◌, OnOk};
-ghost use Rattle.scimem.specs.PacketLine.{name_of, identifier_text, contents_text, said_text, packet_line};
+ghost use Rattle.sci_command.specs.PacketLine.{name_of, identifier_text, contents_text, said_text, packet_line};
 
 use crate::printing::push_labelled;
 use sci_packets::{Body, NodeId, Packet};
@@ -9,9 +9,9 @@ use sci_text::{push_field, push_number};
 use sci_words::Stamped;
 use std::alloc::AllocError;
 
-/// The name of a command.
+/// The name of a command, as `mread`.
 #[tactic(auto, unfolding(crate::specs::PacketLine::name_of))]
-fn name(body: &Body) -> &'static [u8]
+pub fn command_name(body: &Body) -> &'static [u8]
     ensures { result.now ≡ name_of body.now }
 {
     match body {
@@ -37,9 +37,9 @@ fn name(body: &Body) -> &'static [u8]
     }
 }
 
-/// Writes an identifier, or that there is none.
+/// Appends an identifier, as ` id 3`, or that there is none, as ` id none`. Refused if memory is.
 #[tactic(auto, unfolding(crate::specs::PacketLine::identifier_text))]
-fn push_identifier(out: &mut Vec<u8>, identifier: Option<NodeId>) -> Result<(), AllocError>
+pub fn push_identifier(out: &mut Vec<u8>, identifier: Option<NodeId>) -> Result<(), AllocError>
     ensures { OnOk result (out.new.items ≡ out.old.items ++ identifier_text identifier) }
 {
     match identifier {
@@ -48,9 +48,9 @@ fn push_identifier(out: &mut Vec<u8>, identifier: Option<NodeId>) -> Result<(), 
     }
 }
 
-/// Writes the version and the words of contents.
+/// Appends contents: ` @V`, their version, and the eight words, with a space before each. Refused if memory is.
 #[tactic(auto, unfolding(crate::specs::PacketLine::contents_text))]
-fn push_contents(out: &mut Vec<u8>, contents: &Stamped) -> Result<(), AllocError>
+pub fn push_contents(out: &mut Vec<u8>, contents: &Stamped) -> Result<(), AllocError>
     ensures { OnOk result (out.new.items ≡ out.old.items ++ contents_text contents.now) }
 {
     out.extend_from_slice(b" @")?;
@@ -61,7 +61,7 @@ fn push_contents(out: &mut Vec<u8>, contents: &Stamped) -> Result<(), AllocError
     Ok(())
 }
 
-/// Writes what a command says behind its header.
+/// Appends what a command says behind its header.
 #[tactic(auto, unfolding(crate::specs::PacketLine::said_text))]
 fn push_said(out: &mut Vec<u8>, body: &Body) -> Result<(), AllocError>
     ensures { OnOk result (out.new.items ≡ out.old.items ++ said_text body.now) }
@@ -81,12 +81,14 @@ fn push_said(out: &mut Vec<u8>, body: &Body) -> Result<(), AllocError>
     }
 }
 
-/// Writes the line of a packet behind what was written.
-#[tactic(auto, unfolding(crate::specs::PacketLine::packet_line))]
+/// Appends the line of a packet: `NAME to T from S control K line L`, then ` id I` or ` id none` if the command uses its
+/// identifier, ` @V w0 w1 w2 w3 w4 w5 w6 w7` if it carries contents, and the line feed, all in decimal. Refused if memory
+/// is.
+#[tactic(auto, unfolding(crate::specs::PacketLine::packet_line, crate::specs::PacketLine::line_of_packet))]
 pub fn push_packet(out: &mut Vec<u8>, packet: &Packet) -> Result<(), AllocError>
     ensures { OnOk result (out.new.items ≡ out.old.items ++ packet_line packet.now) }
 {
-    out.extend_from_slice(name(&packet.body))?;
+    out.extend_from_slice(command_name(&packet.body))?;
     push_labelled(out, b" to", u64::from(packet.target.get()))?;
     push_labelled(out, b" from", u64::from(packet.source.get()))?;
     push_labelled(out, b" control", u64::from(packet.control))?;

@@ -61,6 +61,9 @@ said_text Busy = []
 said_text (Fdata old_head contents) = identifier_text old_head ++ contents_text contents
 
 -- `NAME to T from S control K line L`, what the command says, and the line feed
+unfoldable pub line_of_packet : ℕ → ℕ → ℕ → ℕ → Body → List ℕ
+line_of_packet target source control line body =
+    name_of body ++ (codes " to" ++ (field target ++ (codes " from" ++ (field source ++ (codes " control" ++ (field control ++ (codes " line" ++ (field line ++ (said_text body ++ 10 ∷ [])))))))))
+
 unfoldable pub packet_line : Packet → List ℕ
-packet_line p =
-    name_of p.body ++ (codes " to" ++ (field p.target ++ (codes " from" ++ (field p.source ++ (codes " control" ++ (field p.control ++ (codes " line" ++ (field p.line ++ (said_text p.body ++ 10 ∷ [])))))))))
+packet_line p = line_of_packet p.target p.source p.control p.line p.body
