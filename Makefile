@@ -2,7 +2,7 @@
 
 NEED_RT = command -v rt > /dev/null || { echo "rt is missing: put the bin folder of a Rattle kit (rattle-kit-13b or later) on your PATH"; exit 1; }
 
-.PHONY: run test build cases examples install faults soak check fmt clean
+.PHONY: run test build cases examples charts install faults soak check fmt clean
 
 PREFIX = /usr/local
 
@@ -12,7 +12,8 @@ run:
 	@if [ -f crates/scimem/src/main.rt ]; then cd crates/scimem && rt run -- $$(cat args) < stdin; else echo "scimem isn't built yet: there is nothing to run"; fi
 
 # The gate: every proof from nothing, the edits that must fail, and the tests; then the programs that it built, on the
-# stored cases; then programs and tests with memory, reads and writes refused. The last line is 'N passed, M failed'.
+# stored cases, the examples and charts; then programs and tests with memory, reads and writes refused. The last line is
+# 'N passed, M failed'.
 test:
 	@$(NEED_RT)
 	@scripts/test.sh
@@ -30,6 +31,10 @@ cases: build
 # Runs the examples of the README, of docs/ and of examples/.
 examples: build
 	@scripts/run_examples.py
+
+# Draws charts of the schedules of examples/ and of a made one, and looks whether they show what the schedules do.
+charts: build
+	@scripts/check_charts.py
 
 # Puts the programs and their manual pages into PREFIX/bin and PREFIX/share/man/man1.
 install: build

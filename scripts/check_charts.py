@@ -3,8 +3,9 @@
 
 The packets of a schedule are those that `sciview packets` writes and `scimem decode` prints. A chart has to have an arrow
 for each, in their order: from the column of its sender to that of its receiver, downwards, dotted only for a busy answer,
-and dashed only for a request that is answered busy. Each event has its row, and no two texts overlap. The schedules are
-those of examples/ and the first events of scripts/make_schedule.py. The last line is 'N passed, M failed', of charts.
+and in short dashes only for a request that is answered busy. Each event has its row, and no two texts overlap. The
+schedules are those of examples/ and the first events of scripts/make_schedule.py. A chart in docs/ has to be what the
+program draws of the schedule of that name. The last line is 'N passed, M failed', of charts.
 """
 
 import os
@@ -86,10 +87,19 @@ def faults(given):
                 yield f"{text.text!r} overlaps {other.text!r}"
 
 
+def stored(name, given):
+    """What is wrong with the chart in docs/ of a schedule, if there is one."""
+    path = f"{TOP}/docs/{name.removesuffix('.schedule')}.svg"
+    if os.path.exists(path):
+        with open(path, "rb") as file:
+            if file.read() != ran(SCIVIEW, "chart", given=given):
+                yield f"{os.path.relpath(path, TOP)} is another chart"
+
+
 def main():
     counts = {True: 0, False: 0}
     for name, given in schedules():
-        found = list(faults(given))
+        found = [*faults(given), *stored(name, given)]
         counts[not found] += 1
         print(f"{name}: {'; '.join(found[:3]) or 'right'}", flush=True)
     print(f"{counts[True]} passed, {counts[False]} failed")

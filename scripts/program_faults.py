@@ -18,6 +18,10 @@ Case = namedtuple("Case", "name words given status output errors usage")
 # Of each program a word that chooses a command, and the stored case with no word.
 PROGRAMS = {"scimem": (b"oracle", "no-word"), "sciview": (b"order", "sciview-no-word")}
 
+# How many operations and entries of each of 16 nodes the larger inputs have. A list takes memory for each event, so those of
+# `sciview` have fewer.
+LARGER = {"scimem": 300, "sciview": 60}
+
 
 def odd_words(word):
     """Words that choose no command, of a word that does."""
@@ -52,17 +56,24 @@ def larger_cases(faults, name, program, count):
     made = lambda *words: subprocess.run([sys.executable, *words], stdout=subprocess.PIPE, check=True).stdout
     folder = f"{faults.top}/scripts"
     script = made(f"{folder}/make_script.py", str(count), "4")
-    schedule = made(f"{folder}/make_schedule.py").split(b"\n")[: count * 16 + 1]
+    schedule = b"\n".join(made(f"{folder}/make_schedule.py").split(b"\n")[: count * 16 + 1]) + b"\n"
     log = faults.run([f"{faults.top}/crates/scimem/out/scimem", "oracle"], script).output
     inputs = {
         "scimem": {
             "oracle": script,
-            "replay": b"\n".join(schedule) + b"\n",
+            "replay": schedule,
             "audit": log,
             "upgrade": log,
             "decode": made(f"{folder}/make_packets.py", str(count)),
         },
-        "sciview": {"order": log, "packets": b"\n".join(schedule) + b"\n"},
+        "sciview": {
+            "order": log,
+            "explain": log,
+            "packets": schedule,
+            "trace": schedule,
+            "lists": schedule,
+            "chart": schedule,
+        },
     }
     usage = usage_of(faults.top, name)
     for command, given in inputs[name].items():
@@ -274,7 +285,7 @@ def try_program(faults, name):
     if not os.path.isfile(program):
         return [Trial(name).fail("the program is not built: run make faults", None)]
     usage = usage_of(faults.top, name)
-    stored, larger = list(stored_cases(faults.top, name)), list(larger_cases(faults, name, program, 300))
+    stored, larger = list(stored_cases(faults.top, name)), list(larger_cases(faults, name, program, LARGER[name]))
     each = lambda call, cases: list(faults.pool.map(lambda it: call(faults, program, it), cases))
     trials = tell(name, "allocations refused", each(try_allocations, stored + larger))
     trials += tell(name, "reads failed", each(try_reads, stored))

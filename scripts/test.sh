@@ -1,6 +1,6 @@
 #!/bin/sh
-# The gate (rt ci). Then the programs that it built run on the stored cases and on the examples, and programs and tests run
-# with memory, reads and writes refused. The last line says how much passed of all.
+# The gate (rt ci). Then the programs that it built run on the stored cases, on the examples and for charts, and programs
+# and tests run with memory, reads and writes refused. The last line says how much passed of all.
 cd "$(dirname "$0")/.." || exit 2
 room=$(mktemp -d) || exit 2
 trap 'rm -rf "$room"' EXIT
@@ -14,7 +14,7 @@ count() {
 # Ends with the count of all, and fails unless all passed.
 finish() {
     passed=0
-    for stage in gate cases examples faults; do
+    for stage in gate cases examples charts faults; do
         passed=$((passed + $(count "$room/$stage" 1)))
     done
     echo "$passed passed, $1 failed"
@@ -34,12 +34,15 @@ run() {
 
 : > "$room/cases"
 : > "$room/examples"
+: > "$room/charts"
 : > "$room/faults"
 run gate rt ci
 [ "$failed" -eq 0 ] || finish "$failed"
 run cases scripts/run_cases.sh
 all=$failed
 run examples scripts/run_examples.py
+all=$((all + failed))
+run charts scripts/check_charts.py
 all=$((all + failed))
 run faults scripts/try_faults.py
 finish $((all + failed))

@@ -1,2 +1,9 @@
 pub mod Answered
+mod Notes
 mod Sent
+mod Traced
+pub mod Joined
+pub mod Outcomes
+pub mod Listed
+pub mod Walks
+pub mod Words

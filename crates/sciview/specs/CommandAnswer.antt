@@ -4,12 +4,23 @@ use Rattle.sci_command.specs.declared.outcome.Outcome.{Outcome}
 use Rattle.sci_command.specs.declared.outcome.Outcome.TheVariants.{Done}
 use Rattle.sciview.specs.declared.choice.Command.{Command}
 use Rattle.sciview.specs.declared.choice.Command.TheVariants as commands
-use Rattle.sciview.specs.declared.help.TheConstants.{HELP}
+use Rattle.sciview.specs.declared.help.TheConstants.{HELP, VERSION}
+use Rattle.sciview.specs.ChartAnswer.{IsChartAnswer}
+use Rattle.sciview.specs.ExplainAnswer.{IsExplainAnswer}
+use Rattle.sciview.specs.ListsAnswer.{IsListsAnswer}
 use Rattle.sciview.specs.OrderAnswer.{IsOrderAnswer}
 use Rattle.sciview.specs.PacketsAnswer.{IsPacketsAnswer}
+use Rattle.sciview.specs.RandomAnswer.{IsRandomAnswer}
+use Rattle.sciview.specs.TraceAnswer.{IsTraceAnswer}
 
 -- the text that a command writes, and how it ends, for the bytes of a reader, which has failed or not
 abbrev pub IsAnswerTo : Command → Option (List ℕ) → Bool → List ℕ → Outcome → Type 0
 IsAnswerTo commands.Order input failed text outcome = IsOrderAnswer input failed text outcome
+IsAnswerTo commands.Explain input failed text outcome = IsExplainAnswer input failed text outcome
 IsAnswerTo commands.Packets input failed text outcome = IsPacketsAnswer input failed text outcome
+IsAnswerTo (commands.Trace strict) input failed text outcome = IsTraceAnswer strict input failed text outcome
+IsAnswerTo commands.Lists input failed text outcome = IsListsAnswer input failed text outcome
+IsAnswerTo (commands.Chart line) input failed text outcome = IsChartAnswer input failed text outcome
+IsAnswerTo (commands.Random walk dead) input failed text outcome = IsRandomAnswer walk dead text outcome
 IsAnswerTo commands.Help input failed text outcome = (text ≡ HELP.now) × (outcome ≡ Done)
+IsAnswerTo commands.Version input failed text outcome = (text ≡ VERSION.now) × (outcome ≡ Done)

@@ -1,4 +1,11 @@
+pub mod ChartAnswer
 pub mod Choice
 pub mod CommandAnswer
+pub mod ExplainAnswer
 pub mod OrderAnswer
 pub mod PacketsAnswer
+pub mod StateWords
+pub mod ObstacleWords
+pub mod TraceAnswer
+pub mod ListsAnswer
+pub mod RandomAnswer

@@ -9,17 +9,22 @@ ghost use Rattle.sci_command.specs.Status.{status_of};
 ghost use Rattle.sci_command.specs.Writing.{WritesFront};
 ghost use Rattle.sciview.specs.CommandAnswer.{IsAnswerTo};
 
+use crate::chart::chart;
 use crate::choice::Command;
-use crate::help::HELP;
+use crate::explain::explain;
+use crate::help::{HELP, VERSION};
+use crate::lists::lists;
 use crate::order::order;
 use crate::packets::packets;
+use crate::random::random_schedule;
+use crate::trace::trace;
 use sci_command::{Outcome, write_answer};
 use sci_text::Tap;
 use std::alloc::Global;
 use std::io::{Read, Write};
 use std::process::ExitCode;
 
-/// Carries out a command: reads its input to the end, and writes its answer.
+/// Carries out a command: reads its input to the end, if it has one, and writes its answer.
 fn outcome_of<R: Read, W: Write>(
     alloc: Global,
     command: Command,
@@ -41,8 +46,14 @@ fn outcome_of<R: Read, W: Write>(
 {
     match command {
         Command::Order => order(alloc, reader, writer),
+        Command::Explain => explain(alloc, reader, writer),
         Command::Packets => packets(alloc, reader, writer),
+        Command::Trace { strict } => trace(alloc, reader, writer, strict),
+        Command::Lists => lists(alloc, reader, writer),
+        Command::Chart { line } => chart(alloc, line, reader, writer),
+        Command::Random { walk, dead } => random_schedule(alloc, walk, dead, writer),
         Command::Help => write_answer(writer, HELP.as_bytes(), Outcome::Done),
+        Command::Version => write_answer(writer, VERSION.as_bytes(), Outcome::Done),
     }
 }
 

@@ -1,10 +1,16 @@
 //! The words of the command line.
 
-ghost use Rattle.std.specs.Prelude.{◌≡◌, ◌↔◌, IfOk, Some, map};
+ghost use Rattle.std.specs.Prelude.{◌≡◌, ◌↔◌, ◌<◌, ℕ, Option, IfOk, Some, map};
+ghost use Rattle.sci_words.specs.declared.limits.TheConstants.{MAX_LINES};
+ghost use Rattle.sci_text.specs.Number.{number};
 ghost use Rattle.sciview.specs.declared.choice.Command.{Command};
-ghost use Rattle.sciview.specs.Choice.{Chooses};
+ghost use Rattle.sciview.specs.declared.random.Walk.{Walk};
+ghost use Rattle.sciview.specs.Choice.{Chooses, ChoosesWalk, FitsDead, FitsWalk, dead_words, walk_words};
 
+use crate::random::Walk;
 use sci_command::texts_of;
+use sci_text::whole_number;
+use sci_words::MAX_LINES;
 use std::alloc::{AllocError, Global};
 use std::rt::Env;
 use std::{env, io};
@@ -14,10 +20,81 @@ use std::{env, io};
 pub enum Command {
     /// Write whether a log is sequentially consistent.
     Order,
+    /// Write what is wrong with a log.
+    Explain,
     /// Write the bytes of the packets that a schedule sends.
     Packets,
+    /// Write what each event of a schedule does; if strict, up to the first that isn't enabled.
+    Trace { strict: bool },
+    /// Write the sharing list of a line behind each event of a schedule that may have changed it.
+    Lists,
+    /// Write a chart of a schedule: of one line, 0 to 63, or of all.
+    Chart { line: Option<u8> },
+    /// Write a schedule that is drawn by chance; `dead` in a hundred of its events may be any events.
+    Random { walk: Walk, dead: Option<u64> },
     /// Write what the program knows.
     Help,
+    /// Write which version of the program it is.
+    Version,
+}
+
+/// The line that a word says, from 0 to 63. None if it says none.
+fn line_of(word: &str) -> Option<u8>
+    ensures { (line : ℕ) → (result ≡ Some line) ↔
+        ((word.now ≡ number line) × (line < MAX_LINES)) }
+{
+    let line = whole_number(word.as_bytes())?;
+    if line >= u64::from(MAX_LINES) {
+        return None;
+    }
+    Some(line as u8)
+}
+
+/// The walk that five words say, each a number below 2^64. None if they say none.
+#[tactic(auto, unfolding(crate::specs::Choice::walk_words))]
+fn walk_of(words: &[&str]) -> Option<Walk>
+    ensures { (walk : Walk) → (result ≡ Some walk) ↔
+        ((map (λ word. word.now) words.now ≡ walk_words walk) × FitsWalk walk) }
+{
+    let [nodes, lines, slots, events, seed] = words else {
+        return None;
+    };
+    Some(Walk {
+        nodes: whole_number(nodes.as_bytes())?,
+        lines: whole_number(lines.as_bytes())?,
+        slots: whole_number(slots.as_bytes())?,
+        events: whole_number(events.as_bytes())?,
+        seed: whole_number(seed.as_bytes())?,
+    })
+}
+
+/// How many of a hundred events may be dead, as words say: `--dead` with a number below 2^64, or no word. None if they
+/// say neither.
+#[tactic(auto, unfolding(crate::specs::Choice::dead_words))]
+fn dead_of(words: &[&str]) -> Option<Option<u64>>
+    ensures { (dead : Option ℕ) → (result ≡ Some dead) ↔
+        ((map (λ word. word.now) words.now ≡ dead_words dead) × FitsDead dead) }
+{
+    match words {
+        [] => Some(None),
+        ["--dead", share] => {
+            let share = whole_number(share.as_bytes())?;
+            Some(Some(share))
+        }
+        _ => None,
+    }
+}
+
+/// The walk and the share that the words behind `random` say. None if they say none.
+#[tactic(auto, unfolding(crate::specs::Choice::walk_words, crate::specs::Choice::dead_words))]
+fn random_of(words: &[&str]) -> Option<(Walk, Option<u64>)>
+    ensures { (walk : Walk) (dead : Option ℕ) → (result ≡ Some (walk, dead)) ↔
+        ChoosesWalk (map (λ word. word.now) words.now) walk dead }
+{
+    let (numbers, rest) = words.split_at_checked(5)?;
+    let walk = walk_of(numbers)?;
+    let dead = dead_of(rest)?;
+    Some((walk, dead))
 }
 
 /// The command that the words of the command line choose, the program's own name left out.
@@ -27,8 +104,22 @@ pub fn chosen(words: &[&str]) -> Option<Command>
 {
     match words {
         ["order"] => Some(Command::Order),
+        ["explain"] => Some(Command::Explain),
         ["packets"] => Some(Command::Packets),
+        ["trace"] => Some(Command::Trace { strict: false }),
+        ["trace", "--strict"] => Some(Command::Trace { strict: true }),
+        ["lists"] => Some(Command::Lists),
+        ["chart"] => Some(Command::Chart { line: None }),
+        ["chart", "--line", line] => {
+            let line = line_of(line)?;
+            Some(Command::Chart { line: Some(line) })
+        }
+        ["random", numbers @ ..] => {
+            let (walk, dead) = random_of(numbers)?;
+            Some(Command::Random { walk, dead })
+        }
         ["--help"] => Some(Command::Help),
+        ["--version"] => Some(Command::Version),
         _ => None,
     }
 }

@@ -1,19 +1,49 @@
 //! What the program tells of itself.
 
 /// The words that the program knows.
-pub const USAGE: &str = "usage: sciview order | packets | --help";
+pub const USAGE: &str =
+    "usage: sciview order | explain | packets | trace [--strict] | lists | chart [--line L] | random N M C EVENTS SEED [--dead K] | --help | --version";
+
+/// What `--version` writes.
+pub const VERSION: &str = "sciview 0.1.0\n";
 
 /// What `--help` writes.
 pub const HELP: &str = "\
-usage: sciview order | packets | --help
+usage: sciview order | explain | packets | trace [--strict] | lists | chart [--line L] | random N M C EVENTS SEED [--dead K] | --help | --version
 
-order   reads a log from standard input, and writes `sequentially consistent`,
-        the line of an audit if the log isn't lawful, or a cycle of entries
-        which shows that no order makes the log sequentially consistent
-packets reads a schedule, and writes the bytes of all packets that it sends,
-        one after another: what `scimem decode` reads
---help  writes this text
+Each command of a log or a schedule reads it from standard input, to its end.
+Each command writes standard output.
 
-The exit status is 0, or 1 if the log isn't sequentially consistent, or 2 if
-the input was refused or the output couldn't be written.
+of a log:
+  order             `sequentially consistent`, or a cycle of entries which shows
+                    that no order makes the log sequentially consistent
+  explain           of each line of memory that has a fault: the entry at fault,
+                    what one memory of one thread gives there, and the entries
+                    around it
+
+of a schedule:
+  packets           the bytes of all packets that it sends, one after another:
+                    what `scimem decode` reads
+  trace [--strict]  what each event does, or why it isn't enabled; if strict, up
+                    to the first that isn't
+  lists             the sharing list of a line behind each event that may have
+                    changed it, the node that may change the line, and the
+                    line's last contents
+  chart [--line L]  a message sequence chart of its events in SVG: of all lines,
+                    or of the line L, 0 to 63, alone
+
+of five numbers:
+  random N M C EVENTS SEED [--dead K]
+                    a schedule of so many events, at most 500,000, of a machine
+                    of N nodes, M lines and C slots a node. The events are drawn
+                    from the seed, each enabled when it comes, but for about K
+                    in a hundred, 0 to 100. Standard input isn't read.
+
+of the program:
+  --help            this text
+  --version         the program's name and version
+
+The exit status is 0; or 1 if the log isn't lawful, or isn't sequentially
+consistent, or if a strict trace met an event that isn't enabled; or 2 if the
+input or a number was refused or the output couldn't be written.
 ";

@@ -1,11 +1,31 @@
 //! The program `sciview`: it reads standard input, and writes standard output.
 #![tactic(auto)]
 
+mod arrows;
 mod carrying_out;
+mod chart;
 mod choice;
+mod deed;
+mod drawing;
+mod elements;
+mod event_words;
+mod explain;
+mod faulty;
 mod help;
+mod labels;
+mod layout;
+mod legend;
+mod lists;
+mod note;
+mod numbered;
+mod obstacle_words;
 mod order;
 mod packets;
+mod random;
+mod rows;
+mod state_words;
+mod trace;
+mod walking;
 
 use carrying_out::carried_out;
 use choice::asked;
@@ -14,7 +34,15 @@ use sci_text::Tap;
 use std::process::ExitCode;
 
 #[cfg(test)]
+mod explain_tests;
+#[cfg(test)]
+mod lists_tests;
+#[cfg(test)]
+mod random_tests;
+#[cfg(test)]
 mod tests;
+#[cfg(test)]
+mod trace_tests;
 
 fn main(rt: HostRuntime) -> ExitCode {
     let Ok(Some(command)) = asked(&rt) else {

@@ -23,7 +23,7 @@ use std::alloc::{AllocError, Global};
 use std::io::{Read, Write};
 
 /// The packet that an event sends now, or None if it sends none.
-fn sent(machine: &Machine, event: &Event) -> Option<Packet>
+pub fn sent(machine: &Machine, event: &Event) -> Option<Packet>
     ensures { option_map letter_of result ≡ letter_sent machine.now event.now }
 {
     let nodes = machine.extent().nodes;

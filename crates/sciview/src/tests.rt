@@ -1,5 +1,6 @@
-//! What `order` and `packets` write, and which words choose which command.
+//! What `order`, `packets` and `chart` write, and which words choose which command.
 
+use crate::chart::chart;
 use crate::choice::{Command, chosen};
 use crate::order::order;
 use crate::packets::packets;
@@ -75,6 +76,20 @@ fn a_text_with_a_fault_is_refused(rt: HostRuntime) {
 fn words_choose_commands(rt: HostRuntime) {
     assert_eq!(rt; chosen(&["order"]), Some(Command::Order));
     assert_eq!(rt; chosen(&["packets"]), Some(Command::Packets));
+    assert_eq!(rt; chosen(&["trace"]), Some(Command::Trace { strict: false }));
+    assert_eq!(rt;
+        chosen(&["trace", "--strict"]),
+        Some(Command::Trace { strict: true })
+    );
+    assert_eq!(rt; chosen(&["trace", "strict"]), None);
+    assert_eq!(rt; chosen(&["lists"]), Some(Command::Lists));
+    assert_eq!(rt; chosen(&["chart"]), Some(Command::Chart { line: None }));
+    assert_eq!(rt;
+        chosen(&["chart", "--line", "63"]),
+        Some(Command::Chart { line: Some(63) })
+    );
+    assert_eq!(rt; chosen(&["chart", "--line", "64"]), None);
+    assert_eq!(rt; chosen(&["chart", "--line"]), None);
     assert_eq!(rt; chosen(&["--help"]), Some(Command::Help));
     assert_eq!(rt; chosen(&["order", "order"]), None);
     assert_eq!(rt; chosen(&[]), None);
@@ -113,6 +128,28 @@ fn memory_for_packets(rt: HostRuntime) {
         assert!(rt; written.is_empty() || written.as_slice() == memory);
     } else {
         assert!(rt; are_an_exchange(&written));
+    }
+}
+
+/// A packet of each kind: node 0 asks itself, node 1 refuses the next request, and the last one isn't taken. The first
+/// reply comes too early.
+#[test]
+fn memory_for_a_chart(rt: HostRuntime) {
+    let schedule =
+        "machine 2 2 1\nreply 0\nissue 0 load 0 0\nask 0 0 mread\nserve 0 0\nreply 0\naccept 0 0\nperform 0 0\nask 0 1 mread\nask 1 0 mread\nrefuse 1 0\nreply 0\naccept 0 1\nask 1 0 mread\n";
+    let mut written = Vec::new(rt.alloc());
+    let outcome = chart(
+        rt.alloc(),
+        None,
+        &mut Tap::new(schedule.as_bytes()),
+        &mut Tap::new(&mut written),
+    );
+    if outcome == Outcome::Refused {
+        let memory = b"refused at line 0: memory\n".as_slice();
+        assert!(rt; written.is_empty() || written.as_slice() == memory);
+    } else {
+        assert!(rt; written.starts_with(b"<svg "));
+        assert!(rt; written.ends_with(b"</svg>\n"));
     }
 }
 

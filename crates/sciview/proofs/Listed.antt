@@ -1,0 +1,71 @@
+-- Lists behind events, one after another.
+use Rattle.std.proofs.Common.{◌≡◌, ◌<◌, ◌≤◌, ℕ, ◌+◌, ◌%◌, List, [], ◌++◌, codes, length, drop, get_or, Option, Some, None, append_assoc, sym, ap, ◌∙◌, subst, refl}
+use Rattle.std.specs.Prelude.{IfSome}
+use Rattle.std.specs.List.{flat_map}
+use Rattle.std.proofs.lemmas.List.{append-nil, drop_all, drop_more}
+use Rattle.sci_words.specs.declared.event.Event.{Event}
+use Rattle.sci_words.specs.declared.stamped.Stamped.{Stamped}
+use Rattle.sci_core.specs.Core.{Core, step, stepping}
+use Rattle.sci_core.specs.Shape.{IsAuthority}
+use Rattle.sci_core.specs.Sharing.{last_at}
+use Rattle.sci_core.specs.SharingList.{IsSharingList}
+use Rattle.sci_text.specs.Number.{number as number_text}
+use Rattle.sciview.specs.TraceAnswer.{line_changed}
+use Rattle.sciview.specs.ListsAnswer.{AreListed, IsAuthorityOf, IsListLine, IsListed, authority_text, home_name_text, last_text, line_within, list_text, member_text}
+use Rattle.sciview.proofs.Joined.{joined, joined4}
+
+-- ---- the list of a line
+
+pub authority_judged : (core : Core) (line : ℕ) (authority : Option ℕ) → IfSome authority (IsAuthority core line) → (authority ≡ None → (n : ℕ) → n < core.size.nodes → IsAuthority core line n → ⊥) → IsAuthorityOf core line authority
+authority_judged core line None found none = none refl
+authority_judged core line (Some n) found none = found
+
+-- what was appended of a line
+pub list_appended : (core : Core) (line home_node : ℕ) (old n1 n2 n3 n4 home nodes : List ℕ) (authority : Option ℕ) (last : Stamped) → home_node ≡ line % core.size.nodes → home ≡ home_name_text core home_node line → last ≡ last_at core line
+    → IsSharingList core line nodes → IsAuthorityOf core line authority → n1 ≡ old ++ home → n2 ≡ n1 ++ flat_map (member_text core line) nodes → n3 ≡ n2 ++ authority_text authority → n4 ≡ n3 ++ last_text last
+    → (text : List ℕ) × (n4 ≡ old ++ text) × IsListLine core line text
+unfolding list_text
+list_appended core line home_node old n1 n2 n3 n4 home nodes authority last is_node is_home is_last list judged e1 e2 e3 e4 =
+    let whole = joined4 old home (flat_map (member_text core line) nodes) (authority_text authority) (last_text last) n1 n2 n3 n4 e1 e2 e3 e4 in
+    let told : n4 ≡ old ++ list_text core line nodes authority = rw (is_home, is_last, is_node) at whole in
+    (list_text core line nodes authority, told, record { nodes = nodes; list = list; authority = authority; judged = judged; written = refl })
+
+-- ---- an event
+
+nothing_listed : (k : ℕ) (line : Option ℕ) → IsListed k line None []
+nothing_listed k None = refl
+nothing_listed k (Some line) = refl
+
+-- of one that isn't enabled, nothing
+pub none_listed : (k : ℕ) (old : List ℕ) (line : Option ℕ) (next : Option Core) → next ≡ None → (text : List ℕ) × (old ≡ old ++ text) × IsListed k line next text
+none_listed k old line next idle = ([], sym (append-nil old), rw idle (nothing_listed k line))
+
+-- of one that leads to another state, the list of its line
+pub event_listed : (k line : ℕ) (within : Option ℕ) (stepped : Option Core) (next : Core) (old n1 n2 n3 : List ℕ) → Some line ≡ within → stepped ≡ Some next → n1 ≡ old ++ number_text k → n2 ≡ n1 ++ codes ": "
+    → (text : List ℕ) × (n3 ≡ n2 ++ text) × IsListLine next line text → (text : List ℕ) × (n3 ≡ old ++ text) × IsListed k within stepped text
+event_listed k line within stepped next old n1 n2 n3 is done e1 e2 list =
+    let front = joined old (number_text k) (codes ": ") n1 n2 e1 e2 in
+    let whole = joined old (number_text k ++ codes ": ") list.0 n2 n3 front list.1 in
+    let told = whole ∙ ap (λ (l : List ℕ). old ++ l) (append_assoc (number_text k) (codes ": ") list.0) in
+    let listed : IsListed k (Some line) (Some next) (number_text k ++ (codes ": " ++ list.0)) = (list.0, list.2, refl) in
+    (number_text k ++ (codes ": " ++ list.0), told, rw (← is, done) listed)
+
+-- ---- events one after another
+
+-- whatever is listed of what is left ends the text
+pub record IsListedTo (start : Core) (events : List Event) (text : List ℕ) (core : Core) (number : ℕ) (left : List Event) : Type 0 where
+  pub ends : (rest : List ℕ) → AreListed core number left rest → AreListed start 2 events (text ++ rest)
+
+-- one event more
+pub lists_more : (start : Core) (all : List Event) (text : List ℕ) (core : Core) (number : ℕ) (events : List Event) (k : ℕ) (d : Event) (first : List ℕ) → k < length events
+    → IsListed number (line_within core (line_changed core (get_or events k d))) (stepping core (get_or events k d)) first
+    → IsListedTo start all text core number (drop k events) → IsListedTo start all (text ++ first) (step core (get_or events k d)) (number + 1) (drop (k + 1) events)
+lists_more start all text core number events k d first lt is was = record {
+  ends = λ (rest : List ℕ) listed.
+      subst (AreListed start 2 all) (sym (append_assoc text first rest)) (was.ends (first ++ rest) (subst (λ (left : List Event). AreListed core number left (first ++ rest)) (sym (drop_more events k d lt)) (first, (rest, (is, (listed, refl))))));
+}
+
+-- no event more
+pub lists_all : (start : Core) (all : List Event) (text : List ℕ) (core : Core) (number : ℕ) (events : List Event) (k : ℕ) → length events ≤ k → IsListedTo start all text core number (drop k events) → AreListed start 2 all text
+lists_all start all text core number events k past was =
+    subst (AreListed start 2 all) (append-nil text) (was.ends [] (subst (λ (left : List Event). AreListed core number left []) (sym (drop_all k events past)) refl))

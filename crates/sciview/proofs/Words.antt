@@ -1,0 +1,87 @@
+-- The words of a walk, from the words of its numbers and those of its share.
+use Rattle.std.proofs.Common.{◌≡◌, ◌↔◌, ◌<◌, ◌^◌, ℕ, arith, length, get_or, IfSome, List, [], ◌∷◌, ◌++◌, map, take, drop, Option, Some, None, sym, ap, ◌∙◌, refl, subst}
+use Rattle.std.proofs.lemmas.List.{take-map, drop-map, take-append-drop, map-append}
+use Rattle.sci_text.specs.Number.{number}
+use Rattle.sciview.specs.declared.random.Walk.{Walk}
+use Rattle.sciview.specs.Choice.{FitsDead, FitsWalk, dead_words, walk_words}
+
+-- the words are those of the first five and those of the rest
+parts : {X : Type 0} (f : X → List ℕ) (words : List X) → map f words ≡ map f (take 5 words) ++ map f (drop 5 words)
+parts f words = ap (map f) (sym (take-append-drop 5 words)) ∙ map-append f (take 5 words) (drop 5 words)
+
+-- if the words are those of a walk and of a share, the first five are those of the walk, and the rest those of the share
+first_five : {X : Type 0} (f : X → List ℕ) (words : List X) (walk : Walk) (dead : Option ℕ) → map f words ≡ walk_words walk ++ dead_words dead → map f (take 5 words) ≡ walk_words walk
+unfolding walk_words
+first_five f words walk dead is = sym (take-map f 5 words) ∙ ap (take 5) is
+
+behind_five : {X : Type 0} (f : X → List ℕ) (words : List X) (walk : Walk) (dead : Option ℕ) → map f words ≡ walk_words walk ++ dead_words dead → map f (drop 5 words) ≡ dead_words dead
+unfolding walk_words dead_words
+behind_five f words walk dead is = sym (drop-map f 5 words) ∙ ap (drop 5) is
+
+abbrev walk_in : Option (Walk × Option ℕ) → Option Walk
+walk_in None = None
+walk_in (Some p) = Some p.0
+
+abbrev dead_in : Option (Walk × Option ℕ) → Option (Option ℕ)
+dead_in None = None
+dead_in (Some p) = Some p.1
+
+-- what the first five say and what the rest says is what all words say
+pub both : {X : Type 0} (f : X → List ℕ) (words : List X) (walk_said : Option Walk) (dead_said : Option (Option ℕ)) (walk_there : Walk) (dead_there : Option ℕ)
+    → walk_said ≡ Some walk_there → dead_said ≡ Some dead_there
+    → ((walk : Walk) → (walk_said ≡ Some walk) ↔ ((map f (take 5 words) ≡ walk_words walk) × FitsWalk walk))
+    → ((dead : Option ℕ) → (dead_said ≡ Some dead) ↔ ((map f (drop 5 words) ≡ dead_words dead) × FitsDead dead))
+    → (walk : Walk) (dead : Option ℕ) → (let one : Option (Walk × Option ℕ) = Some (walk_there, dead_there) in one ≡ Some (walk, dead)) ↔ ((map f words ≡ walk_words walk ++ dead_words dead) × FitsWalk walk × FitsDead dead)
+both f words walk_said dead_said walk_there dead_there walk_is dead_is walks deads walk dead = (
+  λ same.
+      let from_walk = (walks walk).0 (walk_is ∙ ap walk_in same) in
+      let from_dead = (deads dead).0 (dead_is ∙ ap dead_in same) in
+      (parts f words ∙ ap (λ (l : List (List ℕ)). l ++ map f (drop 5 words)) from_walk.0 ∙ ap (λ (l : List (List ℕ)). walk_words walk ++ l) from_dead.0, from_walk.1, from_dead.1),
+  λ said.
+      let walk_same : walk_said ≡ Some walk = (walks walk).1 (first_five f words walk dead said.0, said.1) in
+      let dead_same : dead_said ≡ Some dead = (deads dead).1 (behind_five f words walk dead said.0, said.2) in
+      cc,
+)
+
+-- ---- five words
+
+five : {X : Type 0} (f : X → List ℕ) (words : List X) (d : X) → length words ≡ 5 → map f words ≡ f (get_or words 0 d) ∷ f (get_or words 1 d) ∷ f (get_or words 2 d) ∷ f (get_or words 3 d) ∷ f (get_or words 4 d) ∷ []
+five f [] d long = absurd (omega arith)
+five f (a ∷ []) d long = absurd (omega arith)
+five f (a ∷ b ∷ []) d long = absurd (omega arith)
+five f (a ∷ b ∷ c ∷ []) d long = absurd (omega arith)
+five f (a ∷ b ∷ c ∷ e ∷ []) d long = absurd (omega arith)
+five f (a ∷ b ∷ c ∷ e ∷ g ∷ []) d long = refl
+five f (a ∷ b ∷ c ∷ e ∷ g ∷ h ∷ rest) d long = absurd (omega arith)
+
+-- what a word is that says a number
+abbrev Says : Option ℕ → List ℕ → Type 0
+Says said word = (n : ℕ) → (said ≡ Some n) ↔ ((word ≡ number n) × (n < 2 ^ 64))
+
+-- a word that says a number of a walk has it
+agree : (said : Option ℕ) (word : List ℕ) (there n : ℕ) → said ≡ Some there → Says said word → word ≡ number n → n < 2 ^ 64 → there ≡ n
+agree said word there n is says spelled fits = let same : said ≡ Some n = (says n).1 (spelled, fits) in cc
+
+-- the words of five numbers are those of a walk exactly if the numbers are its own
+pub five_said : {X : Type 0} (f : X → List ℕ) (words : List X) (d : X) (n0 n1 n2 n3 n4 : ℕ) (s0 s1 s2 s3 s4 : Option ℕ)
+    → length words ≡ 5
+    → s0 ≡ Some n0 → s1 ≡ Some n1 → s2 ≡ Some n2 → s3 ≡ Some n3 → s4 ≡ Some n4
+    → Says s0 (f (get_or words 0 d)) → Says s1 (f (get_or words 1 d)) → Says s2 (f (get_or words 2 d)) → Says s3 (f (get_or words 3 d)) → Says s4 (f (get_or words 4 d))
+    → (walk : Walk) → (let one : Option Walk = Some record { nodes = n0; lines = n1; slots = n2; events = n3; seed = n4 } in one ≡ Some walk) ↔ ((map f words ≡ walk_words walk) × FitsWalk walk)
+unfolding walk_words
+five_said f words d n0 n1 n2 n3 n4 s0 s1 s2 s3 s4 long i0 i1 i2 i3 i4 e0 e1 e2 e3 e4 walk =
+    let are = five f words d long in
+    let h0 = (e0 n0).0 i0 in let h1 = (e1 n1).0 i1 in let h2 = (e2 n2).0 i2 in let h3 = (e3 n3).0 i3 in let h4 = (e4 n4).0 i4 in
+    let there : Walk = record { nodes = n0; lines = n1; slots = n2; events = n3; seed = n4 } in
+    let spelled : map f words ≡ walk_words there = rw are (rw (h0.0, h1.0, h2.0, h3.0, h4.0) refl) in
+    let fit : FitsWalk there = record { nodes_fit = h0.1; lines_fit = h1.1; slots_fit = h2.1; events_fit = h3.1; seed_fits = h4.1 } in (
+      λ same. subst (λ (w : Option Walk). IfSome w (λ x. (map f words ≡ walk_words x) × FitsWalk x)) same (spelled, fit),
+      λ said.
+          let whole = sym are ∙ said.0 in
+          let a0 = agree s0 (f (get_or words 0 d)) n0 walk.nodes i0 e0 (ap (λ (l : List (List ℕ)). get_or l 0 []) whole) said.1.nodes_fit in
+          let a1 = agree s1 (f (get_or words 1 d)) n1 walk.lines i1 e1 (ap (λ (l : List (List ℕ)). get_or l 1 []) whole) said.1.lines_fit in
+          let a2 = agree s2 (f (get_or words 2 d)) n2 walk.slots i2 e2 (ap (λ (l : List (List ℕ)). get_or l 2 []) whole) said.1.slots_fit in
+          let a3 = agree s3 (f (get_or words 3 d)) n3 walk.events i3 e3 (ap (λ (l : List (List ℕ)). get_or l 3 []) whole) said.1.events_fit in
+          let a4 = agree s4 (f (get_or words 4 d)) n4 walk.seed i4 e4 (ap (λ (l : List (List ℕ)). get_or l 4 []) whole) said.1.seed_fits in
+          rw (a0, a1, a2, a3, a4) refl,
+    )

@@ -1,0 +1,94 @@
+-- What `lists` writes for its input.
+use Rattle.std.specs.Prelude.{◌≡◌, ℕ, ◌+◌, ◌%◌, ◌<◌, ◌==◌, nat_lt, Bool, ◌&&◌, List, [], ◌∷◌, ◌++◌, codes, Option, Some, None, if◌then◌else◌}
+use Rattle.std.specs.List.{flat_map}
+use Rattle.sci_words.specs.declared.stamped.Stamped.{Stamped}
+use Rattle.sci_words.specs.declared.event.Event.{Event}
+use Rattle.sci_cache.specs.Cache.{line_of}
+use Rattle.sci_core.specs.Node.{lines_of, home_of}
+use Rattle.sci_core.specs.Core.{Core, node_at, step, stepping}
+use Rattle.sci_core.specs.Shape.{IsAuthority}
+use Rattle.sci_core.specs.Sharing.{last_at}
+use Rattle.sci_core.specs.SharingList.{IsSharingList}
+use Rattle.sci_text.specs.Number.{number, field}
+use Rattle.sci_text.specs.Schedule.{ScheduleValue, IsSchedule, schedule_text}
+use Rattle.sci_text.specs.FirstFault.{IsTold}
+use Rattle.sci_text.specs.ScheduleFault.{IsScheduleFault}
+use Rattle.sci_command.specs.declared.outcome.Outcome.{Outcome}
+use Rattle.sci_command.specs.declared.outcome.Outcome.TheVariants.{Done, Unlawful, Refused}
+use Rattle.sci_command.specs.Input.{IsReadAs}
+use Rattle.sci_command.specs.PacketLine.{contents_text}
+use Rattle.sci_command.specs.Refusal.{IsRefusalBy}
+use Rattle.sciview.specs.PacketsAnswer.{before}
+use Rattle.sciview.specs.StateWords.{state_name, home_name}
+use Rattle.sciview.specs.TraceAnswer.{line_changed}
+
+-- the line that an event may change, if the machine has it
+abbrev pub line_within : Core → Option ℕ → Option ℕ
+line_within core None = None
+line_within core (Some line) = if nat_lt line core.size.lines then Some line else None
+
+-- the name of a line's state in a node's cache; none if there is no such node or line
+unfoldable pub name_text : Core → ℕ → ℕ → List ℕ
+name_text core n line =
+    if nat_lt n core.size.nodes && nat_lt line (lines_of (node_at core n)) then state_name (line_of (node_at core n).cache line).state else []
+
+-- the name of the state of a line's home; none if it isn't at this node
+unfoldable pub home_name_text : Core → ℕ → ℕ → List ℕ
+home_name_text core n line =
+    if (nat_lt n core.size.nodes && nat_lt line (lines_of (node_at core n))) && (line % (node_at core n).cache.nodes == (node_at core n).cache.me)
+    then home_name (home_of (node_at core n) line)
+    else []
+
+-- a member of a list: ` -> N STATE`
+unfoldable pub member_text : Core → ℕ → ℕ → List ℕ
+member_text core line n = codes " -> " ++ (number n ++ (codes " " ++ name_text core n line))
+
+-- the node that may change the line or is about to, if there is one
+unfoldable pub authority_text : Option ℕ → List ℕ
+authority_text None = []
+authority_text (Some n) = codes "; authority" ++ field n
+
+-- the last contents, and the line feed
+unfoldable pub last_text : Stamped → List ℕ
+last_text contents = codes "; last" ++ (contents_text contents ++ 10 ∷ [])
+
+abbrev pub IsAuthorityOf : Core → ℕ → Option ℕ → Type 0
+IsAuthorityOf core line None = (n : ℕ) → n < core.size.nodes → IsAuthority core line n → ⊥
+IsAuthorityOf core line (Some n) = IsAuthority core line n
+
+-- the home of a line, its list, its authority and its last contents
+unfoldable pub list_text : Core → ℕ → List ℕ → Option ℕ → List ℕ
+list_text core line nodes authority =
+    home_name_text core (line % core.size.nodes) line ++ (flat_map (member_text core line) nodes ++ (authority_text authority ++ last_text (last_at core line)))
+
+pub record IsListLine (core : Core) (line : ℕ) (text : List ℕ) : Type 0 where
+  pub nodes : List ℕ
+  pub list : IsSharingList core line nodes
+  pub authority : Option ℕ
+  pub judged : IsAuthorityOf core line authority
+  pub written : text ≡ list_text core line nodes authority
+
+-- what is written of an event that is about this line, or none, and leads to this state, or isn't enabled
+abbrev pub IsListed : ℕ → Option ℕ → Option Core → List ℕ → Type 0
+IsListed k None next text = text ≡ []
+IsListed k (Some line) None text = text ≡ []
+IsListed k (Some line) (Some next) text = (list : List ℕ) × IsListLine next line list × (text ≡ number k ++ (codes ": " ++ list))
+
+-- the lists behind each event, in the state to which it leads
+abbrev pub AreListed : Core → ℕ → List Event → List ℕ → Type 0
+AreListed core k [] text = text ≡ []
+AreListed core k (e ∷ events) text =
+    (first : List ℕ) × ((rest : List ℕ) × (IsListed k (line_within core (line_changed core e)) (stepping core e) first × (AreListed (step core e) (k + 1) events rest × (text ≡ first ++ rest))))
+
+-- the input is the text of a schedule, and the lists behind its events are written; the first event stands in line 2
+pub record IsListsOf (input text : List ℕ) : Type 0 where
+  pub schedule : ScheduleValue
+  pub good : IsSchedule schedule
+  pub read : input ≡ schedule_text schedule
+  pub written : AreListed (before schedule) 2 schedule.events text
+
+-- what `lists` writes, and how it ends, for the bytes of a reader, which has failed or not
+abbrev pub IsListsAnswer : Option (List ℕ) → Bool → List ℕ → Outcome → Type 0
+IsListsAnswer input failed text Done = IsReadAs input failed (λ bytes. IsListsOf bytes text)
+IsListsAnswer input failed text Refused = IsRefusalBy (λ kind line. IsTold IsScheduleFault kind input failed line) text
+IsListsAnswer input failed text Unlawful = ⊥

@@ -1,0 +1,190 @@
+-- What `trace` writes for its input.
+use Rattle.std.specs.Prelude.{◌≡◌, ℕ, ◌+◌, ◌-◌, ◌%◌, ◌==◌, nat_lt, Bool, ◌&&◌, List, [], ◌∷◌, ◌++◌, length, codes, bytes_eq, slice_get, Option, Some, None, is_none, if◌then◌else◌}
+use Rattle.sci_words.specs.declared.event.Event.{Event}
+use Rattle.sci_words.specs.declared.event.Event.TheVariants as event
+use Rattle.sci_history.specs.declared.entry.Entry.{Entry}
+use Rattle.sci_cache.specs.Cache.{Letter, line_of}
+use Rattle.sci_core.specs.declared.lane.LaneKind.{LaneKind}
+use Rattle.sci_core.specs.declared.lane.LaneKind.TheVariants.{Requests, Answers}
+use Rattle.sci_core.specs.declared.obstacle.Obstacle.{Obstacle}
+use Rattle.sci_core.specs.Node.{lines_of, home_of}
+use Rattle.sci_core.specs.Core.{Core, node_at, node_of, lane_of, step, stepping}
+use Rattle.sci_core.specs.Obstacles.{obstacle_to}
+use Rattle.sci_text.specs.Number.{number, field}
+use Rattle.sci_text.specs.Log.{issue_text, outcome_text}
+use Rattle.sci_text.specs.Schedule.{ScheduleValue, IsSchedule, event_line, schedule_text}
+use Rattle.sci_text.specs.FirstFault.{IsTold}
+use Rattle.sci_text.specs.ScheduleFault.{IsScheduleFault}
+use Rattle.sci_command.specs.declared.outcome.Outcome.{Outcome}
+use Rattle.sci_command.specs.declared.outcome.Outcome.TheVariants.{Done, Unlawful, Refused}
+use Rattle.sci_command.specs.Input.{IsReadAs}
+use Rattle.sci_command.specs.PacketLine.{line_of_packet}
+use Rattle.sci_command.specs.Refusal.{IsRefusalBy}
+use Rattle.sciview.specs.PacketsAnswer.{before, letter_sent}
+use Rattle.sciview.specs.StateWords.{state_text, home_text}
+use Rattle.sciview.specs.ObstacleWords.{line_named, obstacle_words}
+
+-- ---- packets
+
+-- the oldest packet of a lane, if there are such nodes
+abbrev pub front_of : Core → LaneKind → ℕ → ℕ → Option Letter
+front_of core kind from n = if nat_lt from core.size.nodes && nat_lt n core.size.nodes then slice_get (lane_of core kind from n) 0 else None
+
+-- the packet that an event takes, if it is enabled and takes one
+abbrev pub letter_taken : Core → Event → Option Letter
+letter_taken core (event.Serve from n) = front_of core Requests from n
+letter_taken core (event.Refuse from n) = front_of core Requests from n
+letter_taken core (event.Accept from n) = front_of core Answers from n
+letter_taken core (event.Issue n op) = None
+letter_taken core (event.Perform n line) = None
+letter_taken core (event.Ask n line kind) = None
+letter_taken core (event.Reply n) = None
+
+-- the line of a packet, as `decode` prints it
+unfoldable pub letter_line : Letter → List ℕ
+letter_line letter = line_of_packet letter.target letter.source letter.control letter.line letter.body
+
+-- what was done with a packet, if there is one, and its line
+unfoldable pub moved_text : List ℕ → Option Letter → List ℕ
+moved_text done None = []
+moved_text done (Some letter) = done ++ letter_line letter
+
+-- ---- the line that an event is about
+
+abbrev pub line_in : Core → Option Letter → Option ℕ
+line_in core None = None
+line_in core (Some letter) = if nat_lt letter.line core.size.lines then Some letter.line else None
+
+-- the line that a Perform or an Ask names, and that of a packet that is taken; an Issue and a Reply change none
+abbrev pub line_changed : Core → Event → Option ℕ
+line_changed core (event.Perform n line) = Some line
+line_changed core (event.Ask n line kind) = Some line
+line_changed core (event.Serve from n) = line_in core (front_of core Requests from n)
+line_changed core (event.Refuse from n) = line_in core (front_of core Requests from n)
+line_changed core (event.Accept from n) = line_in core (front_of core Answers from n)
+line_changed core (event.Issue n op) = None
+line_changed core (event.Reply n) = None
+
+-- the words for the state of a line in a node's cache; none if there is no such node or line
+unfoldable pub cache_text : Core → ℕ → ℕ → List ℕ
+cache_text core n line =
+    if nat_lt n core.size.nodes && nat_lt line (lines_of (node_at core n)) then state_text (line_of (node_at core n).cache line).state else []
+
+-- the words for the state of a line's home; none if it isn't at this node
+unfoldable pub home_words : Core → ℕ → ℕ → List ℕ
+home_words core n line =
+    if (nat_lt n core.size.nodes && nat_lt line (lines_of (node_at core n))) && (line % (node_at core n).cache.nodes == (node_at core n).cache.me)
+    then home_text (home_of (node_at core n) line)
+    else []
+
+-- the same of a line, if there is one
+abbrev pub cache_on : Core → ℕ → Option ℕ → List ℕ
+cache_on core n None = []
+cache_on core n (Some line) = cache_text core n line
+
+abbrev pub home_on : Core → ℕ → Option ℕ → List ℕ
+home_on core n None = []
+home_on core n (Some line) = home_words core n line
+
+unfoldable pub arrow_text : List ℕ → List ℕ → List ℕ
+arrow_text old new = old ++ (codes " -> " ++ (new ++ 10 ∷ []))
+
+-- the words before and after, if they differ
+unfoldable pub change_text : List ℕ → List ℕ → List ℕ → List ℕ
+change_text label old new = if bytes_eq old new then [] else label ++ arrow_text old new
+
+unfoldable pub cache_label : ℕ → ℕ → List ℕ
+cache_label n line = codes "  cache of" ++ (field n ++ (codes ", line" ++ (field line ++ codes ": ")))
+
+unfoldable pub home_label : ℕ → List ℕ
+home_label line = codes "  home of line" ++ (field line ++ codes ": ")
+
+-- what changed of a line at a node: its state in the cache, and at the home, from these words before
+unfoldable pub changes_text : List ℕ → List ℕ → Core → ℕ → Option ℕ → List ℕ
+changes_text cache home next n None = []
+changes_text cache home next n (Some line) = change_text (cache_label n line) cache (cache_text next n line) ++ change_text (home_label line) home (home_words next n line)
+
+-- ---- the entry of an operation that was performed
+
+unfoldable pub entry_text : Option Entry → List ℕ
+entry_text None = []
+entry_text (Some entry) = codes "  logged " ++ ((issue_text entry ++ outcome_text entry) ++ 10 ∷ [])
+
+-- the last entry of a node's log
+abbrev pub last_entry : Core → ℕ → Option Entry
+last_entry core n = if nat_lt n core.size.nodes then slice_get (node_at core n).log (length (node_at core n).log - 1) else None
+
+-- the entry that a Perform has put at the end of its node's log
+abbrev pub entry_logged : Core → Event → Option Entry
+entry_logged next (event.Perform n line) = last_entry next n
+entry_logged next (event.Issue n op) = None
+entry_logged next (event.Ask n line kind) = None
+entry_logged next (event.Serve from n) = None
+entry_logged next (event.Refuse from n) = None
+entry_logged next (event.Reply n) = None
+entry_logged next (event.Accept from n) = None
+
+-- ---- an event
+
+-- what changed of the line that an event is about, at the event's node
+abbrev pub changes_of : Core → Core → Event → List ℕ
+changes_of core next e = changes_text (cache_on core (node_of e) (line_changed core e)) (home_on core (node_of e) (line_changed core e)) next (node_of e) (line_changed core e)
+
+-- what an event did that led from one state to the next
+unfoldable pub effect_text : Core → Core → Event → List ℕ
+effect_text core next e =
+    moved_text (codes "  sent ") (letter_sent core e) ++ (moved_text (codes "  took ") (letter_taken core e) ++ (changes_of core next e ++ entry_text (entry_logged next e)))
+
+-- the line that tells what stands in the way of an event, where the line that it names is in this state
+unfoldable pub reason_line : Obstacle → Event → List ℕ → List ℕ
+reason_line obstacle e state = codes "  not enabled: " ++ (obstacle_words obstacle e state ++ 10 ∷ [])
+
+-- what stands in the way of an event
+unfoldable pub reason_text : Core → Event → Option Obstacle → List ℕ
+reason_text core e None = []
+reason_text core e (Some obstacle) = reason_line obstacle e (cache_text core (node_of e) (line_named e))
+
+-- what comes of an event that leads to this state, or isn't enabled
+unfoldable pub outcome_of : Core → Event → Option Core → List ℕ
+outcome_of core e None = reason_text core e (obstacle_to core e)
+outcome_of core e (Some next) = effect_text core next e
+
+-- the number of the event's line, the event, and what comes of it
+unfoldable pub event_text : Core → ℕ → Event → List ℕ
+event_text core k e = number k ++ (codes ": " ++ (event_line e ++ outcome_of core e (stepping core e)))
+
+-- ---- events one after another
+
+-- whether nothing of a trace comes behind this event
+abbrev pub is_end : Bool → Core → Event → Bool
+is_end strict core e = strict && is_none (stepping core e)
+
+-- each event in the state to which those before it lead; a strict trace ends with the first that isn't enabled
+abbrev pub trace_text : Bool → Core → ℕ → List Event → List ℕ
+trace_text strict core k [] = []
+trace_text strict core k (e ∷ events) = event_text core k e ++ (if is_end strict core e then [] else trace_text strict (step core e) (k + 1) events)
+
+-- a strict trace is Unlawful if an event isn't enabled
+abbrev pub trace_outcome : Bool → Core → List Event → Outcome
+trace_outcome strict core [] = Done
+trace_outcome strict core (e ∷ events) = if is_end strict core e then Unlawful else trace_outcome strict (step core e) events
+
+-- ---- the answer
+
+-- the trace of a schedule, whose first event stands in line 2 of its text
+pub record IsTrace (strict : Bool) (schedule : ScheduleValue) (text : List ℕ) (outcome : Outcome) : Type 0 where
+  pub written : text ≡ trace_text strict (before schedule) 2 schedule.events
+  pub ends : outcome ≡ trace_outcome strict (before schedule) schedule.events
+
+-- the input is the text of a schedule, and its trace is written
+pub record IsTraceOf (strict : Bool) (input text : List ℕ) (outcome : Outcome) : Type 0 where
+  pub schedule : ScheduleValue
+  pub good : IsSchedule schedule
+  pub read : input ≡ schedule_text schedule
+  pub trace : IsTrace strict schedule text outcome
+
+-- what `trace` writes, and how it ends, for the bytes of a reader, which has failed or not
+abbrev pub IsTraceAnswer : Bool → Option (List ℕ) → Bool → List ℕ → Outcome → Type 0
+IsTraceAnswer strict input failed text Done = IsReadAs input failed (λ bytes. IsTraceOf strict bytes text Done)
+IsTraceAnswer strict input failed text Unlawful = IsReadAs input failed (λ bytes. IsTraceOf strict bytes text Unlawful)
+IsTraceAnswer strict input failed text Refused = IsRefusalBy (λ kind line. IsTold IsScheduleFault kind input failed line) text

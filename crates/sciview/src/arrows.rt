@@ -1,0 +1,129 @@
+//! The packets of a chart: when each was sent, and when it was taken.
+
+use sci_packets::{Body, Packet};
+use sci_words::MAX_NODES;
+use std::alloc::{AllocError, Global};
+use std::collections::VecDeque;
+
+/// What kind of packet an arrow shows.
+#[derive(Clone, Copy, Debug, PartialEq, Eq)]
+pub enum ArrowKind {
+    /// A request that was served, or was not taken.
+    Request,
+    /// A request that was answered busy.
+    Refused,
+    /// An answer that isn't busy.
+    Answer,
+    /// The answer busy.
+    Busy,
+}
+
+impl ArrowKind {
+    /// The kind of a packet that is sent.
+    fn of(packet: &Packet) -> ArrowKind {
+        match packet.body {
+            Body::Busy => ArrowKind::Busy,
+            _ if packet.is_request() => ArrowKind::Request,
+            _ => ArrowKind::Answer,
+        }
+    }
+
+    /// The word for it, by which a chart's style knows it.
+    pub fn class(self) -> &'static str {
+        match self {
+            ArrowKind::Request => "request",
+            ArrowKind::Refused => "refused",
+            ArrowKind::Answer => "answer",
+            ArrowKind::Busy => "busy",
+        }
+    }
+}
+
+/// A packet's way.
+#[derive(Clone, Copy, Debug)]
+pub struct Arrow {
+    pub kind: ArrowKind,
+    /// The node that sent it.
+    pub source: u16,
+    /// The node that it is for.
+    pub target: u16,
+    /// The row where it was sent.
+    pub sent: u32,
+    /// The row where it was taken, if it was.
+    pub taken: Option<u32>,
+}
+
+/// The packets that were sent so far, with those that are under way.
+#[derive(Drop)]
+pub struct Arrows {
+    /// All of them, in the order in which they were sent.
+    sent: Vec<Arrow>,
+    /// For each lane the places of the packets that are under way in it, oldest first.
+    lanes: Vec<VecDeque<usize>>,
+}
+
+/// The place of a packet's lane: requests and answers in turn, for each sender the lanes to each receiver.
+fn lane_of(packet: &Packet) -> usize {
+    let source = usize::from(packet.source.get());
+    let target = usize::from(packet.target.get());
+    let pair = source * usize::from(MAX_NODES) + target;
+    2 * pair + usize::from(!packet.is_request())
+}
+
+impl Arrows {
+    /// No packet. Refused if memory is.
+    pub fn new(alloc: Global) -> Result<Arrows, AllocError> {
+        let mut lanes = Vec::new(alloc);
+        for _sender in 0..MAX_NODES {
+            for _lane in 0..2 * MAX_NODES {
+                lanes.push(VecDeque::new(alloc))?;
+            }
+        }
+        Ok(Arrows {
+            sent: Vec::new(alloc),
+            lanes,
+        })
+    }
+
+    /// All packets, in the order in which they were sent.
+    pub fn all(&self) -> &[Arrow] {
+        &self.sent
+    }
+
+    /// A packet is sent in a row. Refused if memory is.
+    pub fn send(&mut self, packet: &Packet, row: u32) -> Result<(), AllocError> {
+        let place = self.sent.len();
+        self.sent.push(Arrow {
+            kind: ArrowKind::of(packet),
+            source: packet.source.get(),
+            target: packet.target.get(),
+            sent: row,
+            taken: None,
+        })?;
+        if let Some(lane) = self.lanes.get_mut(lane_of(packet)) {
+            lane.push_back(place)?;
+        }
+        Ok(())
+    }
+
+    /// The oldest packet of this packet's lane is taken in a row.
+    fn take_oldest(&mut self, packet: &Packet, row: u32) -> Option<&mut Arrow> {
+        let lane = self.lanes.get_mut(lane_of(packet))?;
+        let place = lane.pop_front()?;
+        let arrow = self.sent.get_mut(place)?;
+        arrow.taken = Some(row);
+        Some(arrow)
+    }
+
+    /// A packet is taken in a row: it is the oldest of its lane.
+    pub fn take(&mut self, packet: &Packet, row: u32) {
+        let _ = self.take_oldest(packet, row);
+    }
+
+    /// A request is taken in a row, to be answered busy: it is the oldest of its lane.
+    pub fn refuse(&mut self, packet: &Packet, row: u32) {
+        if let Some(arrow) = self.take_oldest(packet, row) {
+            arrow.kind = ArrowKind::Refused;
+        }
+    }
+}

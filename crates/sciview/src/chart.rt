@@ -1,0 +1,96 @@
+//! The command `chart`: a message sequence chart of a schedule.
+
+ghost use Rattle.std.specs.Prelude.{◌≡◌, ℕ, List, false, true, IfOk, IfErr};
+ghost use Rattle.std.specs.Io.KnownBytes.{Appends};
+ghost use Rattle.sci_text.specs.FirstFault.{IsTold};
+ghost use Rattle.sci_text.specs.ScheduleFault.{IsScheduleFault};
+ghost use Rattle.sci_text.specs.Tap.{has_failed, is_called_again, tapped};
+ghost use Rattle.sci_command.specs.declared.outcome.Outcome.{Outcome};
+ghost use Rattle.sci_command.specs.Input.{IsReadAs};
+ghost use Rattle.sci_command.specs.Writing.{WritesFront};
+ghost use Rattle.sciview.specs.ChartAnswer.{IsChartAnswer, IsScheduleText};
+
+use crate::deed::{applied, deed_of, line_of, packet_of};
+use crate::drawing::Drawing;
+use sci_command::{Outcome, refuse, write_answer};
+use sci_core::Machine;
+use sci_packets::Packet;
+use sci_text::{Schedule, Tap, TextFault, read_schedule};
+use sci_words::{Event, MAX_OPERATIONS};
+use std::alloc::{AllocError, Global};
+use std::io::{Read, Write};
+
+/// Whether a chart of one line shows an event, which would send or take this packet. A chart of all lines shows each.
+fn is_shown(line: Option<u8>, event: &Event, packet: Option<&Packet>) -> bool {
+    match line {
+        Some(line) => line_of(event, packet) == Some(u64::from(line)),
+        None => true,
+    }
+}
+
+/// The chart of a schedule, of one line or of all.
+fn chart_of(alloc: Global, schedule: &Schedule, line: Option<u8>) -> Result<Vec<u8>, AllocError> {
+    let mut machine = Machine::new(alloc, schedule.extent(), MAX_OPERATIONS)?;
+    let mut drawing = Drawing::new(alloc, schedule, line)?;
+    for event in schedule.events() {
+        let packet = packet_of(&machine, event);
+        if is_shown(line, event, packet.as_ref()) {
+            let deed = deed_of(alloc, &mut machine, event, packet.as_ref())?;
+            drawing.add(event, &deed)?;
+        } else {
+            let _ = applied(&mut machine, event)?;
+        }
+    }
+    drawing.text()
+}
+
+/// The chart of the schedule that the reader gives, or its fault.
+fn answer<R: Read>(
+    alloc: Global,
+    line: Option<u8>,
+    reader: &mut Tap<R>,
+) -> Result<Vec<u8>, TextFault>
+    requires { has_failed reader.old ≡ false }
+    ensures bytes { IfOk result (λ bytes.
+        IsReadAs (R.remaining (tapped reader.old)) (has_failed reader.new) IsScheduleText) }
+    ensures fault { IfErr result (λ fault. IsTold IsScheduleFault fault.kind
+        (R.remaining (tapped reader.old)) (has_failed reader.new) fault.line) }
+    ensures again { is_called_again reader.new ≡ is_called_again reader.old }
+{
+    let schedule = read_schedule(alloc, reader)?;
+    Ok(chart_of(alloc, &schedule, line)?)
+}
+
+/// Reads a schedule to its end, applies its events in text order to a new machine whose nodes may each issue 65,536
+/// operations (events that are not enabled change nothing), and writes a message sequence chart of them in SVG: Done.
+/// With a line it shows the events and the packets about that line alone, and else all. A schedule with a fault is
+/// Refused, with the line `refused at line K: KIND` alone, as are a reader that fails, too long an input and running out
+/// of memory, at line 0. The whole chart is made before its first byte is written. After a failed read or write nothing
+/// more is read or written; after a failed write it is Refused.
+pub fn chart<R: Read, W: Write>(
+    alloc: Global,
+    line: Option<u8>,
+    reader: &mut Tap<R>,
+    writer: &mut Tap<W>,
+) -> Outcome
+    requires reader { has_failed reader.old ≡ false }
+    requires writer { has_failed writer.old ≡ false }
+
+    // The answer to the input is written, and nothing else.
+    ensures written { has_failed writer.new ≡ false → (text : List ℕ)
+        × Appends (W.contents (tapped writer.old)) (W.contents (tapped writer.new)) text
+        × IsChartAnswer (R.remaining (tapped reader.old)) (has_failed reader.new) text result }
+
+    // If a write fails, a prefix of it is.
+    ensures front { (text : List ℕ) × (outcome : Outcome)
+        × WritesFront (W.contents (tapped writer.old)) (W.contents (tapped writer.new)) text
+        × IsChartAnswer (R.remaining (tapped reader.old)) (has_failed reader.new) text outcome }
+    ensures failed { has_failed writer.new ≡ true → result ≡ Outcome.Refused }
+    ensures read_no_more { is_called_again reader.new ≡ is_called_again reader.old }
+    ensures wrote_no_more { is_called_again writer.new ≡ is_called_again writer.old }
+{
+    match answer(alloc, line, reader) {
+        Ok(text) => write_answer(writer, &text, Outcome::Done),
+        Err(fault) => refuse(alloc, writer, fault),
+    }
+}

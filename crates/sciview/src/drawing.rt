@@ -1,0 +1,174 @@
+//! The drawing of a chart: its rows, its columns and its arrows.
+
+use crate::arrows::{Arrow, Arrows};
+use crate::deed::{Deed, Mark};
+use crate::elements::{Point, push_ground, push_line, push_polyline, push_svg, push_words};
+use crate::layout::{Layout, MARGIN, ROWS, names_at, row_at};
+use crate::legend::{RIGHT, push_legend, push_style};
+use crate::rows::Rows;
+use sci_text::{Schedule, push_field, push_text};
+use sci_words::{Event, Extent};
+use std::alloc::{AllocError, Global};
+
+/// A chart that is being drawn.
+#[derive(Drop)]
+pub struct Drawing {
+    alloc: Global,
+    extent: Extent,
+    line: Option<u8>,
+    layout: Layout,
+    rows: Rows,
+    arrows: Arrows,
+}
+
+impl Drawing {
+    /// A chart without an event, of one line of a schedule or of all. Refused if memory is.
+    pub fn new(
+        alloc: Global,
+        schedule: &Schedule,
+        line: Option<u8>,
+    ) -> Result<Drawing, AllocError> {
+        let extent = schedule.extent();
+        let layout = Layout::of(alloc, schedule)?;
+        let names_lines = line.is_none() && extent.lines > 1;
+        Ok(Drawing {
+            alloc,
+            extent,
+            line,
+            layout,
+            rows: Rows::new(alloc, layout, names_lines),
+            arrows: Arrows::new(alloc)?,
+        })
+    }
+
+    /// Adds an event in a row of its own, and what it did. Refused if memory is.
+    pub fn add(&mut self, event: &Event, deed: &Deed) -> Result<(), AllocError> {
+        let row = self.rows.count();
+        match &deed.mark {
+            Mark::Sent(packet) => self.arrows.send(packet, row)?,
+            Mark::Taken(packet) => self.arrows.take(packet, row),
+            Mark::Refused(packet) => self.arrows.refuse(packet, row),
+            Mark::Dead | Mark::Issued | Mark::Performed => {}
+        }
+        self.rows.add(event, deed)
+    }
+
+    /// Where the columns end.
+    fn bottom(&self) -> u64 {
+        row_at(self.rows.count())
+    }
+
+    /// How wide and how high the chart is.
+    fn size(&self) -> Point {
+        let last = Point {
+            x: self.layout.column(u16::from(self.extent.nodes)),
+            y: self.bottom(),
+        };
+        Point {
+            x: last.x.max(self.rows.right()).max(RIGHT),
+            y: last.y,
+        }
+        .moved(MARGIN as i16, 2 * MARGIN as i16)
+    }
+
+    /// Appends the title.
+    fn push_title(&self, out: &mut Vec<u8>) -> Result<(), AllocError> {
+        let mut text = Vec::new(self.alloc);
+        push_text(&mut text, "Message sequence chart")?;
+        if let Some(line) = self.line {
+            push_text(&mut text, " of line")?;
+            push_field(&mut text, u64::from(line))?;
+        }
+        push_text(&mut text, ": nodes")?;
+        push_field(&mut text, u64::from(self.extent.nodes))?;
+        push_text(&mut text, ", lines")?;
+        push_field(&mut text, u64::from(self.extent.lines))?;
+        push_text(&mut text, ", slots")?;
+        push_field(&mut text, u64::from(self.extent.slots))?;
+        push_text(&mut text, ", events")?;
+        push_field(&mut text, u64::from(self.rows.count()))?;
+        push_words(out, "title", Point { x: MARGIN, y: 24 }, &text)
+    }
+
+    /// Appends the columns of all nodes.
+    fn push_columns(&self, out: &mut Vec<u8>) -> Result<(), AllocError> {
+        for node in 0..self.extent.nodes {
+            let x = self.layout.column(u16::from(node));
+            let top = Point { x, y: names_at(0) };
+            let end = Point {
+                x,
+                y: self.bottom(),
+            };
+            push_line(out, "column", top.moved(0, 6), end)?;
+        }
+        Ok(())
+    }
+
+    /// Appends the names of all nodes at their columns.
+    fn push_names(&self, out: &mut Vec<u8>, y: u64) -> Result<(), AllocError> {
+        let mut text = Vec::new(self.alloc);
+        for node in 0..self.extent.nodes {
+            text.clear();
+            push_text(&mut text, "node")?;
+            push_field(&mut text, u64::from(node))?;
+            let x = self.layout.column(u16::from(node));
+            push_words(out, "name", Point { x, y }.moved(-21, 0), &text)?;
+        }
+        Ok(())
+    }
+
+    /// Appends the names of all nodes above each block of rows, and at the end.
+    fn push_all_names(&self, out: &mut Vec<u8>) -> Result<(), AllocError> {
+        for block in 0..self.rows.count().div_ceil(ROWS).max(1) {
+            self.push_names(out, names_at(block))?;
+        }
+        let end = Point {
+            x: 0,
+            y: self.bottom(),
+        };
+        self.push_names(out, end.moved(0, 16).y)
+    }
+
+    /// Appends the arrow of a packet: from its sender's column to its receiver's, in the rows where it was sent and
+    /// taken. A packet that is never taken goes down to where the columns end.
+    fn push_arrow(&self, out: &mut Vec<u8>, arrow: &Arrow) -> Result<(), AllocError> {
+        let from = Point {
+            x: self.layout.column(arrow.source),
+            y: row_at(arrow.sent),
+        };
+        let to = Point {
+            x: self.layout.column(arrow.target),
+            y: match arrow.taken {
+                Some(row) => row_at(row),
+                None => self.bottom(),
+            },
+        };
+        let class = arrow.kind.class();
+        if arrow.source == arrow.target {
+            let way = [from, from.moved(-28, 0), to.moved(-28, 0), to];
+            push_polyline(out, class, &way)
+        } else {
+            push_line(out, class, from, to)
+        }
+    }
+
+    /// The text of the chart. Refused if memory is.
+    pub fn text(&self) -> Result<Vec<u8>, AllocError> {
+        let mut out = Vec::new(self.alloc);
+        let size = self.size();
+        push_svg(&mut out, size)?;
+        push_style(&mut out)?;
+        push_ground(&mut out, size)?;
+        self.push_title(&mut out)?;
+        push_legend(&mut out)?;
+        out.extend_from_slice(self.rows.below())?;
+        self.push_columns(&mut out)?;
+        for arrow in self.arrows.all() {
+            self.push_arrow(&mut out, arrow)?;
+        }
+        self.push_all_names(&mut out)?;
+        out.extend_from_slice(self.rows.above())?;
+        push_text(&mut out, "</svg>\n")?;
+        Ok(out)
+    }
+}

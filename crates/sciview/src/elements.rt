@@ -1,0 +1,114 @@
+//! Elements of SVG, appended to a text.
+
+use sci_text::{push_number, push_text};
+use std::alloc::AllocError;
+
+/// A place in a chart, in pixels from its left and upper edges.
+#[derive(Clone, Copy, Debug)]
+pub struct Point {
+    pub x: u64,
+    pub y: u64,
+}
+
+impl Point {
+    /// The point so far to the right and below, or on the edge of the chart if that is outside.
+    pub fn moved(self, right: i16, down: i16) -> Point {
+        Point {
+            x: self.x.saturating_add_signed(i64::from(right)),
+            y: self.y.saturating_add_signed(i64::from(down)),
+        }
+    }
+}
+
+/// Appends an attribute whose value is a number.
+fn push_attribute(out: &mut Vec<u8>, name: &str, value: u64) -> Result<(), AllocError> {
+    push_text(out, " ")?;
+    push_text(out, name)?;
+    push_text(out, "=\"")?;
+    push_number(out, value)?;
+    push_text(out, "\"")
+}
+
+/// Appends the beginning of an element, as `<line class="column"`.
+fn push_opening(out: &mut Vec<u8>, name: &str, class: &str) -> Result<(), AllocError> {
+    push_text(out, "<")?;
+    push_text(out, name)?;
+    push_text(out, " class=\"")?;
+    push_text(out, class)?;
+    push_text(out, "\"")
+}
+
+/// Appends the line from a point to another.
+pub fn push_line(out: &mut Vec<u8>, class: &str, from: Point, to: Point) -> Result<(), AllocError> {
+    push_opening(out, "line", class)?;
+    push_attribute(out, "x1", from.x)?;
+    push_attribute(out, "y1", from.y)?;
+    push_attribute(out, "x2", to.x)?;
+    push_attribute(out, "y2", to.y)?;
+    push_text(out, "/>\n")
+}
+
+/// Appends the lines from each point to the next.
+pub fn push_polyline(out: &mut Vec<u8>, class: &str, points: &[Point]) -> Result<(), AllocError> {
+    push_opening(out, "polyline", class)?;
+    push_text(out, " points=\"")?;
+    for (place, point) in points.iter().enumerate() {
+        if place > 0 {
+            push_text(out, " ")?;
+        }
+        push_number(out, point.x)?;
+        push_text(out, ",")?;
+        push_number(out, point.y)?;
+    }
+    push_text(out, "\"/>\n")
+}
+
+/// Appends a circle.
+pub fn push_circle(
+    out: &mut Vec<u8>,
+    class: &str,
+    centre: Point,
+    radius: u64,
+) -> Result<(), AllocError> {
+    push_opening(out, "circle", class)?;
+    push_attribute(out, "cx", centre.x)?;
+    push_attribute(out, "cy", centre.y)?;
+    push_attribute(out, "r", radius)?;
+    push_text(out, "/>\n")
+}
+
+/// Appends a white rectangle of this size, which everything else is drawn on.
+pub fn push_ground(out: &mut Vec<u8>, size: Point) -> Result<(), AllocError> {
+    push_opening(out, "rect", "ground")?;
+    push_attribute(out, "width", size.x)?;
+    push_attribute(out, "height", size.y)?;
+    push_text(out, "/>\n")
+}
+
+/// Appends the opening tag of a chart of this size.
+pub fn push_svg(out: &mut Vec<u8>, size: Point) -> Result<(), AllocError> {
+    push_text(out, "<svg xmlns=\"http://www.w3.org/2000/svg\"")?;
+    push_attribute(out, "width", size.x)?;
+    push_attribute(out, "height", size.y)?;
+    push_text(out, ">\n")
+}
+
+/// Appends a text that begins at a point of its base line. It has none of the characters that XML gives a meaning, but `>`.
+pub fn push_words(
+    out: &mut Vec<u8>,
+    class: &str,
+    at: Point,
+    words: &[u8],
+) -> Result<(), AllocError> {
+    push_opening(out, "text", class)?;
+    push_attribute(out, "x", at.x)?;
+    push_attribute(out, "y", at.y)?;
+    push_text(out, ">")?;
+    for byte in words {
+        match byte {
+            b'>' => push_text(out, "&gt;")?,
+            _ => out.push(*byte)?,
+        }
+    }
+    push_text(out, "</text>\n")
+}

@@ -1,0 +1,159 @@
+//! The command `explain`: what is wrong with a log, line by line, and what would be right.
+
+ghost use Rattle.std.specs.Prelude.{◌≡◌, ℕ, List, Option, false, true, length, IfOk, IfErr};
+ghost use Rattle.std.specs.Io.KnownBytes.{Appends};
+ghost use Rattle.sci_history.specs.declared.faults.LineFault.{LineFault};
+ghost use Rattle.sci_history.specs.Audit.{AreFound, AreWithin};
+ghost use Rattle.sci_text.specs.FirstFault.{IsTold};
+ghost use Rattle.sci_text.specs.LogFault.{IsLogFault};
+ghost use Rattle.sci_text.specs.Tap.{has_failed, is_called_again, tapped};
+ghost use Rattle.sci_command.specs.declared.outcome.Outcome.{Outcome};
+ghost use Rattle.sci_command.specs.Input.{IsReadAs};
+ghost use Rattle.sci_command.specs.Writing.{WritesFront};
+ghost use Rattle.sciview.specs.ExplainAnswer.{AreNotes, IsExplainAnswer, IsExplained, IsExplanationOf, IsNote};
+
+use crate::note::note_of;
+use crate::numbered::{Numbered, numbered_by_line};
+use sci_command::{Outcome, refuse, verdict_line, write_answer};
+use sci_history::{Last, LineFault, Logs, Verdict, audit, line_faults};
+use sci_text::{Tap, TextFault, logs_of, read_input};
+use sci_words::Stamped;
+use std::alloc::{AllocError, Global};
+use std::io::{Read, Write};
+
+/// How many lines a text has.
+fn text_lines(text: &[u8]) -> usize {
+    text.iter().filter(|byte| **byte == b'\n').count()
+}
+
+/// What is written of a line of memory.
+fn piece(
+    alloc: Global,
+    line: u8,
+    fault: Option<LineFault>,
+    entries: &[Numbered],
+    last: Stamped,
+    last_line: usize,
+) -> Result<Vec<u8>, AllocError>
+    ensures { IfOk result (λ text. IsNote line fault text.items) }
+{
+    let Some(fault) = fault else {
+        return Ok(Vec::new(alloc));
+    };
+    let verdict = Verdict::Fault {
+        line,
+        kind: fault.kind,
+        at: fault.at,
+    };
+    let mut text = verdict_line(alloc, verdict)?;
+    let note = note_of(alloc, fault, entries, last, last_line)?;
+    text.extend_from_slice(&note)?;
+    Ok(text)
+}
+
+/// The number of the text's line on which the first entry stands, in a text of so many lines.
+fn first_entry_line(lines_of_text: usize, logs: &Logs) -> usize {
+    let mut first = lines_of_text.saturating_add(1);
+    for node in 0..logs.nodes() {
+        first = first.saturating_sub(logs.of(node).len());
+    }
+    first
+}
+
+/// What is written of all lines of memory, of a log with so many lines of text.
+fn notes(
+    alloc: Global,
+    lines_of_text: usize,
+    logs: &Logs,
+    last: &Last,
+) -> Result<Vec<u8>, AllocError>
+    requires { AreWithin (length last.now) logs.now }
+    ensures { IfOk result (λ text. (faults : List (Option LineFault))
+        × AreFound logs.now last.now (length last.now) faults × AreNotes 0 faults text.items) }
+{
+    let lines = last.lines();
+    let faults = line_faults(alloc, logs, last)?;
+    let first = first_entry_line(lines_of_text, logs);
+    let first_last = first.saturating_sub(lines as usize);
+    let lists = numbered_by_line(alloc, logs, lines, first)?;
+    let mut text = Vec::new(alloc);
+    for line in 0..lines {
+        let last_line = first_last.saturating_add(line as usize);
+        let entries = &lists[line as usize];
+        let fault = faults[line as usize];
+        let piece = piece(alloc, line, fault, entries, last.get(line), last_line)?;
+        text.extend_from_slice(&piece)?;
+    }
+    Ok(text)
+}
+
+/// What is written of logs, and how the command ends.
+fn explained(
+    alloc: Global,
+    lines_of_text: usize,
+    logs: &Logs,
+    last: &Last,
+) -> Result<(Vec<u8>, Outcome), AllocError>
+    requires { AreWithin (length last.now) logs.now }
+    ensures { IfOk result (λ x. IsExplained logs.now last.now x.0.items x.1) }
+{
+    let verdict = audit(alloc, logs, last)?;
+    match verdict {
+        Verdict::Lawful => Ok((verdict_line(alloc, verdict)?, Outcome::Done)),
+        Verdict::Fault { .. } => {
+            Ok((notes(alloc, lines_of_text, logs, last)?, Outcome::Unlawful))
+        }
+    }
+}
+
+/// The text for the log that the reader gives and how the command ends, or its fault.
+fn answer<R: Read>(alloc: Global, reader: &mut Tap<R>) -> Result<(Vec<u8>, Outcome), TextFault>
+    requires { has_failed reader.old ≡ false }
+    ensures text { IfOk result (λ x.
+        IsReadAs (R.remaining (tapped reader.old)) (has_failed reader.new)
+        (λ input. IsExplanationOf input x.0.items x.1)) }
+    ensures judged { IfOk result (λ x. x.1 ≡ Outcome.Refused → ⊥) }
+    ensures fault { IfErr result (λ fault. IsTold IsLogFault fault.kind
+        (R.remaining (tapped reader.old)) (has_failed reader.new) fault.line) }
+    ensures again { is_called_again reader.new ≡ is_called_again reader.old }
+{
+    let bytes = read_input(alloc, reader)?;
+    let (_, logs, last) = logs_of(alloc, &bytes)?;
+    Ok(explained(alloc, text_lines(&bytes), &logs, &last)?)
+}
+
+/// Reads a log to its end and audits it: `lawful` is Done. Of a log that isn't lawful it tells the first fault of each line of
+/// memory that has one, lowest lines first, and is Unlawful:
+/// - the line of an audit that tells the fault;
+/// - the line of the text that has the entry at fault, what was found there, and what one memory of one thread gives;
+/// - the entry at fault and those around it in the order of versions.
+///
+/// A text with a fault is Refused, with the line `refused at line K: KIND` alone, as are a reader that fails, too long an
+/// input and running out of memory, at line 0. The whole text is made before its first byte is written. After a failed
+/// read or write nothing more is read or written; after a failed write it is Refused.
+pub fn explain<R: Read, W: Write>(
+    alloc: Global,
+    reader: &mut Tap<R>,
+    writer: &mut Tap<W>,
+) -> Outcome
+    requires reader { has_failed reader.old ≡ false }
+    requires writer { has_failed writer.old ≡ false }
+
+    // The answer to the input is written, and nothing else.
+    ensures written { has_failed writer.new ≡ false → (text : List ℕ)
+        × Appends (W.contents (tapped writer.old)) (W.contents (tapped writer.new)) text
+        × IsExplainAnswer (R.remaining (tapped reader.old)) (has_failed reader.new) text result }
+
+    // If a write fails, a prefix of it is.
+    ensures front { (text : List ℕ) × (outcome : Outcome)
+        × WritesFront (W.contents (tapped writer.old)) (W.contents (tapped writer.new)) text
+        × IsExplainAnswer (R.remaining (tapped reader.old)) (has_failed reader.new) text outcome }
+    ensures failed { has_failed writer.new ≡ true → result ≡ Outcome.Refused }
+    ensures read_no_more { is_called_again reader.new ≡ is_called_again reader.old }
+    ensures wrote_no_more { is_called_again writer.new ≡ is_called_again writer.old }
+{
+    match answer(alloc, reader) {
+        Ok((text, outcome)) => write_answer(writer, &text, outcome),
+        Err(fault) => refuse(alloc, writer, fault),
+    }
+}

@@ -1,0 +1,163 @@
+//! Which entry is at fault, and why.
+
+use crate::numbered::Numbered;
+use sci_history::{Entry, FaultKind};
+use sci_words::{Line, MAX_NODES, Stamped, WORDS_PER_LINE, Word, effect};
+use std::alloc::{AllocError, Global};
+use std::collections::BTreeMap;
+
+const NODES: usize = MAX_NODES as usize;
+
+/// Why an entry is at fault.
+#[derive(Clone, Copy)]
+pub enum Cause<'a> {
+    /// This entry before it made its version already.
+    MadeBefore(Numbered<'a>),
+    /// The line has only so many makers.
+    FewMakers(u64),
+    /// The word was another one when its turn came: this one, which that entry made, if it isn't the zero that was there
+    /// at first.
+    OtherWord(Word, Option<Numbered<'a>>),
+    /// This entry stands before it in its node's log, and has its serial or a higher one.
+    SerialAfter(Numbered<'a>),
+    /// This entry stands before it in its node's log, and after it in the order of versions.
+    PlacedAfter(Numbered<'a>),
+}
+
+/// An entry that is at fault, and why.
+#[derive(Clone, Copy)]
+pub struct FaultyEntry<'a> {
+    /// The entry.
+    pub at: Numbered<'a>,
+    /// Why.
+    pub cause: Cause<'a>,
+}
+
+/// The first maker whose version an earlier one has.
+fn made_twice<'a>(
+    alloc: Global,
+    entries: &[Numbered<'a>],
+) -> Result<Option<FaultyEntry<'a>>, AllocError> {
+    let mut made: BTreeMap<u64, Numbered<'a>> = BTreeMap::new(alloc);
+    for at in entries {
+        if !at.entry.op.is_maker() {
+            continue;
+        }
+        if let Some(earlier) = made.get(&at.entry.version) {
+            return Ok(Some(FaultyEntry {
+                at: *at,
+                cause: Cause::MadeBefore(*earlier),
+            }));
+        }
+        made.insert(at.entry.version, *at)?;
+    }
+    Ok(None)
+}
+
+/// How many of the entries are makers'.
+fn makers(entries: &[Numbered]) -> u64 {
+    entries.iter().filter(|it| it.entry.op.is_maker()).count() as u64
+}
+
+/// The first entry whose version is missing.
+fn missing<'a>(entries: &[Numbered<'a>]) -> Option<FaultyEntry<'a>> {
+    let makers = makers(entries);
+    let at = entries.iter().find(|it| {
+        it.entry.version > makers || (it.entry.op.is_maker() && it.entry.version == 0)
+    })?;
+    Some(FaultyEntry {
+        at: *at,
+        cause: Cause::FewMakers(makers),
+    })
+}
+
+/// The first entry, in the order of versions, whose reply isn't its effect's.
+fn wrong<'a>(placed: &[Numbered<'a>]) -> Option<FaultyEntry<'a>> {
+    let mut line = Line::zero();
+    let mut makers: [Option<Numbered<'a>>; WORDS_PER_LINE] = [None; WORDS_PER_LINE];
+    for at in placed {
+        let op = at.entry.op;
+        let word = usize::from(op.word);
+        if word >= WORDS_PER_LINE {
+            continue;
+        }
+        let old = line.word(op.word);
+        let (new, reply) = effect(op, old);
+        if at.entry.reply != reply {
+            return Some(FaultyEntry {
+                at: *at,
+                cause: Cause::OtherWord(old, makers[word]),
+            });
+        }
+        line = line.with(op.word, new);
+        if op.is_maker() {
+            makers[word] = Some(*at);
+        }
+    }
+    None
+}
+
+/// Why an entry of a node can't follow another in its log, if it can't.
+fn disorder<'a>(earlier: Numbered<'a>, entry: &Entry) -> Option<Cause<'a>> {
+    let before = earlier.entry;
+    if before.serial >= entry.serial {
+        Some(Cause::SerialAfter(earlier))
+    } else if before.version > entry.version
+        || (before.version == entry.version && entry.op.is_maker() && !before.op.is_maker())
+    {
+        Some(Cause::PlacedAfter(earlier))
+    } else {
+        None
+    }
+}
+
+/// The first entry that can't follow the one before it of its node.
+fn disordered<'a>(entries: &[Numbered<'a>]) -> Option<FaultyEntry<'a>> {
+    let mut latest: [Option<Numbered<'a>>; NODES] = [None; NODES];
+    for at in entries {
+        let node = usize::from(at.entry.node);
+        if node >= NODES {
+            continue;
+        }
+        if let Some(earlier) = latest[node] {
+            if let Some(cause) = disorder(earlier, at.entry) {
+                return Some(FaultyEntry { at: *at, cause });
+            }
+        }
+        latest[node] = Some(*at);
+    }
+    None
+}
+
+/// The entry on a line that is at fault by a kind, and why, of the entries in the order of the text and by version. None if
+/// the last contents differ.
+pub fn faulty_entry<'a>(
+    alloc: Global,
+    kind: FaultKind,
+    entries: &[Numbered<'a>],
+    placed: &[Numbered<'a>],
+) -> Result<Option<FaultyEntry<'a>>, AllocError> {
+    match kind {
+        FaultKind::VersionTwice => made_twice(alloc, entries),
+        FaultKind::VersionMissing => Ok(missing(entries)),
+        FaultKind::WrongReply => Ok(wrong(placed)),
+        FaultKind::OutOfOrder => Ok(disordered(entries)),
+        FaultKind::LastDiffers => Ok(None),
+    }
+}
+
+/// The contents that entries in the order of their versions leave: the words, and the number of makers.
+pub fn contents_after(placed: &[Numbered]) -> Stamped {
+    let mut line = Line::zero();
+    for at in placed {
+        let op = at.entry.op;
+        if usize::from(op.word) < WORDS_PER_LINE {
+            let (new, _) = effect(op, line.word(op.word));
+            line = line.with(op.word, new);
+        }
+    }
+    Stamped {
+        line,
+        version: makers(placed),
+    }
+}

@@ -1,0 +1,105 @@
+//! What a chart says at the column of a node.
+
+use crate::state_words::{head, home_name, state_name};
+use sci_core::Machine;
+use sci_home::HomeState;
+use sci_text::{push_entry, push_field, push_text};
+use std::alloc::AllocError;
+
+/// What is seen of one line at one node.
+#[derive(Clone, Copy)]
+pub struct Sight {
+    /// The name of the cache's state for the line, or nothing if there is no such line.
+    cache: &'static str,
+    /// What the home of the line knows, if it is at the node.
+    home: Option<HomeState>,
+}
+
+/// What is seen of a line at a node before an event, and after it.
+#[derive(Clone, Copy)]
+pub struct Change {
+    pub before: Sight,
+    pub after: Sight,
+}
+
+impl Sight {
+    /// What is seen of a line at a node. Nothing is seen if there is no such node, or no line.
+    pub fn of(machine: &Machine, node: u8, line: Option<u64>) -> Sight {
+        let nothing = Sight {
+            cache: "",
+            home: None,
+        };
+        if node >= machine.extent().nodes {
+            return nothing;
+        }
+        let node = machine.node(node);
+        match line.and_then(|line| u8::try_from(line).ok()) {
+            Some(line) if line < node.extent().lines => Sight {
+                cache: state_name(node.held(line)),
+                home: node.home(line).map(|home| home.state()),
+            },
+            _ => nothing,
+        }
+    }
+}
+
+/// Appends what a home knows, as `GONE 2`.
+fn push_home(out: &mut Vec<u8>, state: &HomeState) -> Result<(), AllocError> {
+    push_text(out, home_name(*state))?;
+    match head(*state) {
+        Some(head) => push_field(out, u64::from(head.get())),
+        None => Ok(()),
+    }
+}
+
+/// Appends how the cache's state changed, as `Out -> Asking`, if it did.
+fn push_cache_change(out: &mut Vec<u8>, change: &Change) -> Result<(), AllocError> {
+    let (before, after) = (change.before.cache, change.after.cache);
+    if before == after {
+        return Ok(());
+    }
+    push_between(out)?;
+    push_text(out, before)?;
+    push_text(out, " -> ")?;
+    push_text(out, after)
+}
+
+/// Appends how the home's state changed, as `home HOME -> GONE 2`, if it did.
+fn push_home_change(out: &mut Vec<u8>, change: &Change) -> Result<(), AllocError> {
+    let (Some(before), Some(after)) = (&change.before.home, &change.after.home) else {
+        return Ok(());
+    };
+    if before == after {
+        return Ok(());
+    }
+    push_between(out)?;
+    push_text(out, "home ")?;
+    push_home(out, before)?;
+    push_text(out, " -> ")?;
+    push_home(out, after)
+}
+
+/// Appends what stands between what is said already, if something is, and what comes next.
+fn push_between(out: &mut Vec<u8>) -> Result<(), AllocError> {
+    if out.is_empty() {
+        return Ok(());
+    }
+    push_text(out, ", ")
+}
+
+/// Appends how the states of a line changed at a node. Refused if memory is.
+pub fn push_change(out: &mut Vec<u8>, change: &Change) -> Result<(), AllocError> {
+    push_cache_change(out, change)?;
+    push_home_change(out, change)
+}
+
+/// Appends the newest entry of a node's log, as it stands in a log. Refused if memory is.
+pub fn push_performed(out: &mut Vec<u8>, machine: &Machine, node: u8) -> Result<(), AllocError> {
+    if node >= machine.extent().nodes {
+        return Ok(());
+    }
+    match machine.node(node).log().last() {
+        Some(entry) => push_entry(out, entry),
+        None => Ok(()),
+    }
+}

@@ -1,0 +1,77 @@
+//! Where the columns and the rows of a chart are.
+
+ghost use Rattle.std.specs.Prelude.{◌<◌, ◌^◌};
+
+use sci_text::{Schedule, push_event_line};
+use std::alloc::{AllocError, Global};
+
+/// How wide a character is at most, in pixels.
+const CHARACTER: u64 = 7;
+
+/// Where the texts of events begin.
+pub const MARGIN: u64 = 24;
+
+/// From one column to the next.
+const COLUMN: u64 = 116;
+
+/// Where the names of the nodes stand first; title and legend are above.
+const NAMES: u64 = 112;
+
+/// From the names of the nodes to the first row below them, and from the last row above them.
+const BAND: u64 = 30;
+
+/// From one row to the next.
+const ROW: u64 = 30;
+
+/// After so many rows the names of the nodes stand once more.
+pub const ROWS: u32 = 40;
+
+/// Where the columns of a chart are.
+#[derive(Clone, Copy, Debug)]
+pub struct Layout {
+    /// How many characters the longest text of an event has.
+    longest: u16,
+}
+
+/// How many characters a text has, if it isn't longer than any that a chart has.
+fn count_of(text: &[u8]) -> u16 {
+    u16::try_from(text.len()).unwrap_or(u16::MAX)
+}
+
+/// How wide a text is at most.
+pub fn width_of(text: &[u8]) -> u64
+    ensures { result < 2 ^ 20 }
+{
+    CHARACTER * u64::from(count_of(text))
+}
+
+impl Layout {
+    /// The layout of the chart of a schedule. Refused if memory is.
+    pub fn of(alloc: Global, schedule: &Schedule) -> Result<Layout, AllocError> {
+        let mut longest = 0;
+        let mut text = Vec::new(alloc);
+        for event in schedule.events() {
+            text.clear();
+            push_event_line(&mut text, *event)?;
+            longest = longest.max(count_of(&text));
+        }
+        Ok(Layout { longest })
+    }
+
+    /// The column of a node.
+    pub fn column(self, node: u16) -> u64 {
+        3 * MARGIN + CHARACTER * u64::from(self.longest) + COLUMN * u64::from(node)
+    }
+}
+
+/// Where a row is. Rows count from 0.
+pub fn row_at(row: u32) -> u64 {
+    names_at(row / ROWS) + BAND + ROW * u64::from(row % ROWS)
+}
+
+/// Where the names of the nodes stand above a block of rows. Blocks count from 0.
+pub fn names_at(block: u32) -> u64
+    ensures { result < 2 ^ 48 }
+{
+    NAMES + u64::from(block) * (2 * BAND + ROW * u64::from(ROWS - 1))
+}

@@ -1,0 +1,86 @@
+//! The style of a chart, and its legend.
+
+use crate::elements::{Point, push_circle, push_line, push_words};
+use crate::layout::MARGIN;
+use crate::rows::push_cross;
+use sci_text::push_text;
+use std::alloc::AllocError;
+
+/// How everything looks. A request is whole, a refused one dashed, an answer has long dashes, and a busy one is dotted.
+const STYLE: &str = "\
+<style>
+text { font: 11px 'DejaVu Sans Mono', ui-monospace, monospace; fill: #222; }
+.title, .name { font-weight: bold; }
+.label, .name { paint-order: stroke; stroke: #fff; stroke-width: 4px; stroke-linejoin: round; }
+.dead { fill: #777; font-style: italic; }
+.ground { fill: #fff; }
+.guide { stroke: #eee; }
+.column { stroke: #999; }
+.cross { stroke: #777; stroke-width: 1.5; }
+.issued { fill: #fff; stroke: #222; stroke-width: 1.5; }
+.performed { fill: #222; stroke: #222; stroke-width: 1.5; }
+.request, .refused, .answer, .busy { fill: none; stroke-width: 1.5; }
+.request { stroke: #1f5fa8; marker-end: url(#request); }
+.refused { stroke: #b3261e; stroke-dasharray: 6 5; marker-end: url(#refused); }
+.answer { stroke: #22733c; stroke-dasharray: 18 3; marker-end: url(#answer); }
+.busy { stroke: #b05a00; stroke-dasharray: 2 4; marker-end: url(#busy); }
+</style>
+";
+
+/// The heads of the arrows: closed for requests, and open for answers.
+const HEADS: &str = "\
+<defs>
+<marker id=\"request\" viewBox=\"0 0 10 10\" refX=\"10\" refY=\"5\" markerWidth=\"7\" markerHeight=\"7\" orient=\"auto\"><path d=\"M0 1 L10 5 L0 9 z\" fill=\"#1f5fa8\"/></marker>
+<marker id=\"refused\" viewBox=\"0 0 10 10\" refX=\"10\" refY=\"5\" markerWidth=\"7\" markerHeight=\"7\" orient=\"auto\"><path d=\"M0 1 L10 5 L0 9 z\" fill=\"#b3261e\"/></marker>
+<marker id=\"answer\" viewBox=\"0 0 10 10\" refX=\"10\" refY=\"5\" markerWidth=\"7\" markerHeight=\"7\" orient=\"auto\"><path d=\"M0 1 L10 5 L0 9\" fill=\"none\" stroke=\"#22733c\" stroke-width=\"1.5\"/></marker>
+<marker id=\"busy\" viewBox=\"0 0 10 10\" refX=\"10\" refY=\"5\" markerWidth=\"7\" markerHeight=\"7\" orient=\"auto\"><path d=\"M0 1 L10 5 L0 9\" fill=\"none\" stroke=\"#b05a00\" stroke-width=\"1.5\"/></marker>
+</defs>
+";
+
+/// How far to the right the legend goes.
+pub const RIGHT: u64 = 744;
+
+/// From one entry of the legend to the next.
+const ENTRY: i16 = 180;
+
+/// How long the arrows of the legend are.
+const SAMPLE: i16 = 44;
+
+/// Appends an arrow of a class, and what it shows.
+fn push_sample(out: &mut Vec<u8>, class: &str, at: Point, words: &[u8]) -> Result<(), AllocError> {
+    push_line(out, class, at, at.moved(SAMPLE, 0))?;
+    push_words(out, "event", at.moved(SAMPLE + 8, 4), words)
+}
+
+/// Appends the entries for arrows.
+fn push_arrows(out: &mut Vec<u8>, at: Point) -> Result<(), AllocError> {
+    push_sample(out, "request", at, b"request")?;
+    push_sample(out, "refused", at.moved(ENTRY, 0), b"request refused")?;
+    push_sample(out, "answer", at.moved(2 * ENTRY, 0), b"answer")?;
+    push_sample(out, "busy", at.moved(3 * ENTRY, 0), b"answer busy")
+}
+
+/// Appends the entries for what stands at a column.
+fn push_marks(out: &mut Vec<u8>, at: Point) -> Result<(), AllocError> {
+    push_circle(out, "issued", at, 4)?;
+    push_words(out, "event", at.moved(12, 4), b"issue")?;
+    let at = at.moved(ENTRY, 0);
+    push_circle(out, "performed", at, 4)?;
+    push_words(out, "event", at.moved(12, 4), b"perform, its entry")?;
+    let at = at.moved(ENTRY, 0);
+    push_cross(out, at)?;
+    push_words(out, "dead", at.moved(12, 4), b"not enabled")
+}
+
+/// Appends the style of a chart, and its legend below the title. Refused if memory is.
+pub fn push_legend(out: &mut Vec<u8>) -> Result<(), AllocError> {
+    push_arrows(out, Point { x: MARGIN, y: 48 })?;
+    let x = MARGIN + 8;
+    push_marks(out, Point { x, y: 70 })
+}
+
+/// Appends how a chart looks. Refused if memory is.
+pub fn push_style(out: &mut Vec<u8>) -> Result<(), AllocError> {
+    push_text(out, STYLE)?;
+    push_text(out, HEADS)
+}

@@ -1,0 +1,225 @@
+//! The command `lists`: the sharing list of a line behind each event that may have changed it.
+
+ghost use Rattle.std.specs.Prelude.{◌≡◌, ◌++◌, ◌<◌, ℕ, List, false, true, IfOk, IfErr, OnOk};
+ghost use Rattle.std.specs.List.{flat_map};
+ghost use Rattle.std.specs.Io.KnownBytes.{Appends};
+ghost use Rattle.sci_core.specs.Core.{step, stepping};
+ghost use Rattle.sci_text.specs.FirstFault.{IsTold};
+ghost use Rattle.sci_text.specs.ScheduleFault.{IsScheduleFault};
+ghost use Rattle.sci_text.specs.Tap.{has_failed, is_called_again, tapped};
+ghost use Rattle.sci_command.specs.declared.outcome.Outcome.{Outcome};
+ghost use Rattle.sci_command.specs.Input.{IsReadAs};
+ghost use Rattle.sci_command.specs.Writing.{WritesFront};
+ghost use Rattle.sciview.specs.PacketsAnswer.{before};
+ghost use Rattle.sciview.specs.TraceAnswer.{line_changed as line_changed_of};
+ghost use Rattle.sciview.specs.ListsAnswer.{AreListed, IsListLine, IsListed, IsListsAnswer, IsListsOf, authority_text, home_name_text, last_text, line_within, member_text, name_text};
+
+use crate::event_words::line_changed;
+use crate::state_words::{home_name, state_name};
+use sci_command::{Outcome, push_contents, push_labelled, refuse, write_answer};
+use sci_core::{ApplyFault, Machine};
+use sci_text::{Schedule, Tap, TextFault, push_number, push_text, read_schedule};
+use sci_words::{Event, MAX_OPERATIONS, Stamped};
+use std::alloc::{AllocError, Global};
+use std::io::{Read, Write};
+
+/// The line in which the first event of a schedule stands.
+const FIRST_EVENT_LINE: u64 = 2;
+
+/// The line that an event may change, if the machine has it.
+fn line_concerned(machine: &Machine, event: &Event) -> Option<u8>
+    ensures { result ≡ line_within machine.now (line_changed_of machine.now event.now) }
+{
+    match line_changed(machine, event) {
+        Some(line) if line < machine.extent().lines => Some(line),
+        _ => None,
+    }
+}
+
+/// The name of a line's state in a node's cache: none if there is no such node or line.
+#[tactic(auto, unfolding(crate::specs::ListsAnswer::name_text))]
+fn name_at(machine: &Machine, n: u8, line: u8) -> &'static str
+    ensures { result.now ≡ name_text machine.now n line }
+{
+    if n < machine.extent().nodes {
+        let node = machine.node(n);
+        if line < node.extent().lines {
+            return state_name(node.held(line));
+        }
+    }
+    ""
+}
+
+/// The name of the state of a line's home: none if it isn't at this node.
+#[tactic(auto, unfolding(crate::specs::ListsAnswer::home_name_text))]
+fn home_name_at(machine: &Machine, n: u8, line: u8) -> &'static str
+    ensures { result.now ≡ home_name_text machine.now n line }
+{
+    if n < machine.extent().nodes {
+        let node = machine.node(n);
+        if line < node.extent().lines {
+            if let Some(home) = node.home(line) {
+                return home_name(home.state());
+            }
+        }
+    }
+    ""
+}
+
+/// Appends a member of a list.
+#[tactic(auto, unfolding(crate::specs::ListsAnswer::member_text))]
+fn push_member(out: &mut Vec<u8>, machine: &Machine, line: u8, n: u8) -> Result<(), AllocError>
+    ensures { OnOk result (out.new.items ≡ out.old.items ++ member_text machine.now line n) }
+{
+    push_text(out, " -> ")?;
+    push_number(out, u64::from(n))?;
+    push_text(out, " ")?;
+    push_text(out, name_at(machine, n, line))
+}
+
+/// Appends the members of a list.
+fn push_members(
+    out: &mut Vec<u8>,
+    machine: &Machine,
+    line: u8,
+    nodes: &[u8],
+) -> Result<(), AllocError>
+    ensures { OnOk result
+        (out.new.items ≡ out.old.items ++ flat_map (member_text machine.now line) nodes.now) }
+{
+    for n in nodes {
+        push_member(out, machine, line, *n)?;
+    }
+    Ok(())
+}
+
+/// Appends the node that may change a line, if there is one.
+#[tactic(auto, unfolding(crate::specs::ListsAnswer::authority_text))]
+fn push_authority(out: &mut Vec<u8>, authority: Option<u8>) -> Result<(), AllocError>
+    ensures { OnOk result (out.new.items ≡ out.old.items ++ authority_text authority) }
+{
+    match authority {
+        None => Ok(()),
+        Some(n) => push_labelled(out, b"; authority", u64::from(n)),
+    }
+}
+
+/// Appends the last contents of a line, and the line feed.
+#[tactic(auto, unfolding(crate::specs::ListsAnswer::last_text))]
+fn push_last(out: &mut Vec<u8>, contents: &Stamped) -> Result<(), AllocError>
+    ensures { OnOk result (out.new.items ≡ out.old.items ++ last_text contents.now) }
+{
+    push_text(out, "; last")?;
+    push_contents(out, contents)?;
+    push_text(out, "\n")
+}
+
+/// Appends the home of a line, its list, its authority and its last contents.
+fn push_list(
+    alloc: Global,
+    out: &mut Vec<u8>,
+    machine: &Machine,
+    line: u8,
+) -> Result<(), AllocError>
+    requires { line < machine.now.size.lines }
+    ensures { OnOk result ((text : List ℕ)
+        × (out.new.items ≡ out.old.items ++ text) × IsListLine machine.now line text) }
+{
+    let nodes = machine.sharing_list(alloc, line)?;
+    let home = line % machine.extent().nodes;
+    let authority = machine.authority(line);
+    let last = machine.last_contents(line);
+    push_text(out, home_name_at(machine, home, line))?;
+    push_members(out, machine, line, &nodes)?;
+    push_authority(out, authority)?;
+    push_last(out, &last)
+}
+
+/// Takes a step, and appends the list of the line that it may have changed.
+fn push_listed(
+    alloc: Global,
+    out: &mut Vec<u8>,
+    machine: &mut Machine,
+    number: u64,
+    event: &Event,
+) -> Result<(), AllocError>
+    ensures text { OnOk result ((text : List ℕ) × (out.new.items ≡ out.old.items ++ text)
+        × IsListed number (line_within machine.old (line_changed_of machine.old event.now))
+        (stepping machine.old event.now) text) }
+    ensures step { OnOk result (machine.new ≡ step machine.old event.now) }
+{
+    let line = line_concerned(machine, event);
+    match machine.apply(event) {
+        Ok(()) => {}
+        Err(ApplyFault::NotEnabled) => return Ok(()),
+        Err(ApplyFault::Memory(refused)) => return Err(refused),
+    }
+    let Some(line) = line else {
+        return Ok(());
+    };
+    push_number(out, number)?;
+    push_text(out, ": ")?;
+    push_list(alloc, out, machine, line)
+}
+
+/// The lists behind the events of a schedule.
+fn lists_of(alloc: Global, schedule: &Schedule) -> Result<Vec<u8>, AllocError>
+    ensures { IfOk result (λ text.
+        AreListed (before schedule.now) 2 schedule.now.events text.items) }
+{
+    let mut machine = Machine::new(alloc, schedule.extent(), MAX_OPERATIONS)?;
+    let mut text = Vec::new(alloc);
+    let mut number = FIRST_EVENT_LINE;
+    for event in schedule.events() {
+        match push_listed(alloc, &mut text, &mut machine, number, event) {
+            Ok(()) => {}
+            Err(refused) => return Err(refused),
+        }
+        number += 1;
+    }
+    Ok(text)
+}
+
+/// The lists behind the events of the schedule that the reader gives, or its fault.
+fn answer<R: Read>(alloc: Global, reader: &mut Tap<R>) -> Result<Vec<u8>, TextFault>
+    requires { has_failed reader.old ≡ false }
+    ensures text { IfOk result (λ text.
+        IsReadAs (R.remaining (tapped reader.old)) (has_failed reader.new)
+        (λ input. IsListsOf input text.items)) }
+    ensures fault { IfErr result (λ fault. IsTold IsScheduleFault fault.kind
+        (R.remaining (tapped reader.old)) (has_failed reader.new) fault.line) }
+    ensures again { is_called_again reader.new ≡ is_called_again reader.old }
+{
+    let schedule = read_schedule(alloc, reader)?;
+    Ok(lists_of(alloc, &schedule)?)
+}
+
+/// Reads a schedule to its end, applies its events in text order to a new machine whose nodes may each issue 65,536
+/// operations, and writes a line behind each event that is enabled and may change a line of the machine: the number of
+/// the event's line in the schedule, the name of the home's state, the members of the line's list from the head on, the node
+/// that may change the line or is about to, and the line's last contents. It is Done. A schedule with a fault is
+/// Refused, with the line `refused at line K: KIND` alone, as are a reader that fails, too long an input and running out
+/// of memory, at line 0. The whole text is made before its first byte is written. After a failed read or write nothing
+/// more is read or written; after a failed write it is Refused.
+pub fn lists<R: Read, W: Write>(alloc: Global, reader: &mut Tap<R>, writer: &mut Tap<W>) -> Outcome
+    requires reader { has_failed reader.old ≡ false }
+    requires writer { has_failed writer.old ≡ false }
+
+    // The answer to the input is written, and nothing else.
+    ensures written { has_failed writer.new ≡ false → (text : List ℕ)
+        × Appends (W.contents (tapped writer.old)) (W.contents (tapped writer.new)) text
+        × IsListsAnswer (R.remaining (tapped reader.old)) (has_failed reader.new) text result }
+
+    // If a write fails, a prefix of it is.
+    ensures front { (text : List ℕ) × (outcome : Outcome)
+        × WritesFront (W.contents (tapped writer.old)) (W.contents (tapped writer.new)) text
+        × IsListsAnswer (R.remaining (tapped reader.old)) (has_failed reader.new) text outcome }
+    ensures failed { has_failed writer.new ≡ true → result ≡ Outcome.Refused }
+    ensures read_no_more { is_called_again reader.new ≡ is_called_again reader.old }
+    ensures wrote_no_more { is_called_again writer.new ≡ is_called_again writer.old }
+{
+    match answer(alloc, reader) {
+        Ok(text) => write_answer(writer, &text, Outcome::Done),
+        Err(fault) => refuse(alloc, writer, fault),
+    }
+}

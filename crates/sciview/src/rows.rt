@@ -1,0 +1,161 @@
+//! The rows of a chart: an event each.
+
+use crate::deed::{Deed, Mark};
+use crate::elements::{Point, push_circle, push_line, push_words};
+use crate::layout::{Layout, MARGIN, row_at, width_of};
+use sci_core::node_of;
+use sci_packets::Packet;
+use sci_text::{push_event_line, push_field, push_text};
+use sci_words::Event;
+use std::alloc::{AllocError, Global};
+
+/// How far a mark goes from its middle.
+const REACH: i16 = 4;
+
+/// The rows so far.
+#[derive(Drop)]
+pub struct Rows {
+    layout: Layout,
+    names_lines: bool,
+    /// How many there are.
+    count: u32,
+    /// What lies below the arrows.
+    below: Vec<u8>,
+    /// What lies above them.
+    above: Vec<u8>,
+    /// How far to the right they go.
+    right: u64,
+    /// A text that is being made.
+    text: Vec<u8>,
+}
+
+/// Appends a cross in the middle of a point.
+pub fn push_cross(out: &mut Vec<u8>, at: Point) -> Result<(), AllocError> {
+    let (upper, lower) = (at.moved(-REACH, -REACH), at.moved(REACH, REACH));
+    push_line(out, "cross", upper, lower)?;
+    let (upper, lower) = (at.moved(REACH, -REACH), at.moved(-REACH, REACH));
+    push_line(out, "cross", upper, lower)
+}
+
+/// Appends what stands at the column of an event's node.
+fn push_mark(out: &mut Vec<u8>, mark: &Mark, at: Point) -> Result<(), AllocError> {
+    match mark {
+        Mark::Dead => push_cross(out, at),
+        Mark::Issued => push_circle(out, "issued", at, 4),
+        Mark::Performed => push_circle(out, "performed", at, 4),
+        Mark::Sent(_) | Mark::Taken(_) | Mark::Refused(_) => Ok(()),
+    }
+}
+
+/// The packet that an event sent or took.
+fn packet_of(mark: &Mark) -> Option<&Packet> {
+    match mark {
+        Mark::Sent(packet) | Mark::Taken(packet) | Mark::Refused(packet) => Some(packet),
+        Mark::Dead | Mark::Issued | Mark::Performed => None,
+    }
+}
+
+/// Whether an event took a packet that came from the right.
+fn comes_from_right(mark: &Mark) -> bool {
+    match mark {
+        Mark::Taken(packet) | Mark::Refused(packet) => packet.source.get() > packet.target.get(),
+        _ => false,
+    }
+}
+
+/// Appends the line that a packet is about, if there is a packet.
+fn push_line_of(out: &mut Vec<u8>, mark: &Mark) -> Result<(), AllocError> {
+    let Some(packet) = packet_of(mark) else {
+        return Ok(());
+    };
+    push_text(out, "line")?;
+    push_field(out, packet.line)?;
+    push_text(out, ": ")
+}
+
+impl Rows {
+    /// No row. If `names_lines`, a label says which line it is about.
+    pub fn new(alloc: Global, layout: Layout, names_lines: bool) -> Rows {
+        Rows {
+            layout,
+            names_lines,
+            count: 0,
+            below: Vec::new(alloc),
+            above: Vec::new(alloc),
+            right: 0,
+            text: Vec::new(alloc),
+        }
+    }
+
+    /// How many rows there are.
+    pub fn count(&self) -> u32 {
+        self.count
+    }
+
+    /// How far to the right they go.
+    pub fn right(&self) -> u64 {
+        self.right
+    }
+
+    /// What lies below the arrows.
+    pub fn below(&self) -> &[u8] {
+        &self.below
+    }
+
+    /// What lies above the arrows.
+    pub fn above(&self) -> &[u8] {
+        &self.above
+    }
+
+    /// Appends the text of an event at the left, and a line from there to its node's column.
+    fn push_event(&mut self, event: &Event, mark: &Mark, at: Point) -> Result<(), AllocError> {
+        self.text.clear();
+        push_event_line(&mut self.text, *event)?;
+        // Without the line feed.
+        self.text.pop();
+        let class = match mark {
+            Mark::Dead => "dead",
+            _ => "event",
+        };
+        let start = Point { x: MARGIN, y: at.y };
+        push_words(&mut self.above, class, start.moved(0, REACH), &self.text)?;
+        let end = Point {
+            x: MARGIN + width_of(&self.text),
+            y: at.y,
+        };
+        push_line(&mut self.below, "guide", end.moved(REACH, 0), at)
+    }
+
+    /// Appends what is said of an event beside its node's column.
+    fn push_label(&mut self, deed: &Deed, at: Point) -> Result<(), AllocError> {
+        self.text.clear();
+        if self.names_lines {
+            push_line_of(&mut self.text, &deed.mark)?;
+        }
+        self.text.extend_from_slice(&deed.label)?;
+        if self.text.is_empty() {
+            return Ok(());
+        }
+        let down = if comes_from_right(&deed.mark) {
+            3 * REACH
+        } else {
+            -REACH
+        };
+        let start = at.moved(2 * REACH, down);
+        self.right = self.right.max(start.x.saturating_add(width_of(&self.text)));
+        push_words(&mut self.above, "label", start, &self.text)
+    }
+
+    /// Adds a row at the end: an event, and what it did. Refused if memory is.
+    pub fn add(&mut self, event: &Event, deed: &Deed) -> Result<(), AllocError> {
+        let at = Point {
+            x: self.layout.column(u16::from(node_of(event))),
+            y: row_at(self.count),
+        };
+        self.push_event(event, &deed.mark, at)?;
+        push_mark(&mut self.above, &deed.mark, at)?;
+        self.push_label(deed, at)?;
+        self.count = self.count.saturating_add(1);
+        Ok(())
+    }
+}
