@@ -1,6 +1,6 @@
 //! Entries that can't be placed, and what they wait for.
 
-ghost use Rattle.std.specs.Prelude.{◌≡◌, ◌≤◌, ◌<◌, ◌*◌, ◌++◌, ℕ, IfSome, IfOk, Some, None, List, length, slice_get, slice_index_or};
+ghost use Rattle.std.specs.Prelude.{◌≡◌, ◌≤◌, ◌<◌, ◌*◌, ◌++◌, ℕ, true, IfSome, IfOk, Some, None, List, length, slice_get, slice_index_or};
 ghost use Rattle.std.specs.List.{AllByRecursion};
 ghost use Rattle.sci_words.specs.declared.limits.TheConstants.{MAX_NODES};
 ghost use Rattle.sci_history.specs.declared.entry.Entry.{Entry};
@@ -55,24 +55,130 @@ struct Blocker {
     reason: Reason,
 }
 
-/// The first entry that is left, by node and place, and comes before this one on its line.
-fn first_blocker(logs: &Logs, next: &[usize; NODES], entry: &Entry) -> Option<Blocker>
+/// Of the entries that are left and come before this one on its line, the first of the node that is nearest.
+fn nearest_blocker(
+    logs: &Logs,
+    next: &[usize; NODES],
+    distances: &Distances,
+    entry: &Entry,
+) -> Option<Blocker>
     ensures found { IfSome result (λ found.
         IsBlocker logs.now next.now entry.now found.node found.place found.reason) }
     ensures none { result ≡ None → (node : ℕ) →
         AllByRecursion (λ other. line_reason entry.now other ≡ None)
         (log_of (rests_of logs.now next.now) node) }
 {
+    let mut nearest = None;
     for node in 0..MAX_NODES {
-        if let Some((place, reason)) = blocker_in(logs.of(node), next[node as usize], entry) {
-            return Some(Blocker {
+        let Some((place, reason)) = blocker_in(logs.of(node), next[node as usize], entry) else {
+            continue;
+        };
+        if is_nearer(distances, node, nearest) {
+            nearest = Some(Blocker {
                 node,
                 place,
                 reason,
             });
         }
     }
-    None
+    nearest
+}
+
+/// Whether a node is nearer than that of an entry, if there is one.
+fn is_nearer(distances: &Distances, node: u8, other: Option<Blocker>) -> bool
+    requires { node < MAX_NODES }
+    ensures { other ≡ None → result ≡ true }
+{
+    let Some(other) = other else {
+        return true;
+    };
+    match (distances[node as usize], distances.get(other.node as usize)) {
+        (Some(here), Some(Some(there))) => here < *there,
+        (Some(_), _) => true,
+        _ => false,
+    }
+}
+
+/// For each node, of which nodes there is an entry left that its own first one left waits for.
+type Waits = [[bool; NODES]; NODES];
+
+/// Of which nodes there is an entry left that this one waits for.
+fn waits_of(logs: &Logs, next: &[usize; NODES], entry: &Entry) -> [bool; NODES] {
+    let mut waits = [false; NODES];
+    for node in 0..MAX_NODES {
+        waits[node as usize] = blocker_in(logs.of(node), next[node as usize], entry).is_some();
+    }
+    waits
+}
+
+/// What the first entry left of each node waits for.
+fn all_waits(logs: &Logs, next: &[usize; NODES]) -> Waits {
+    let mut waits = [[false; NODES]; NODES];
+    for node in 0..MAX_NODES {
+        if let Some(entry) = logs.of(node).get(next[node as usize]) {
+            waits[node as usize] = waits_of(logs, next, entry);
+        }
+    }
+    waits
+}
+
+/// For each node, how many waits lead from its first entry left to that of a goal, at the least; None if none do.
+type Distances = [Option<u8>; NODES];
+
+/// Whether one of the nodes that an entry waits for is at this distance.
+fn waits_for_one_at(waits: &[bool; NODES], distances: &Distances, distance: u8) -> bool {
+    for node in 0..NODES {
+        if waits[node] && distances[node] == Some(distance) {
+            return true;
+        }
+    }
+    false
+}
+
+/// How far each node is from a goal, found breadth first.
+fn distances_to(waits: &Waits, goal: u8) -> Distances
+    requires { goal < MAX_NODES }
+{
+    let mut distances = [None; NODES];
+    distances[goal as usize] = Some(0);
+    for distance in 0..MAX_NODES {
+        for node in 0..NODES {
+            if distances[node].is_none() && waits_for_one_at(&waits[node], &distances, distance) {
+                distances[node] = Some(distance + 1);
+            }
+        }
+    }
+    distances
+}
+
+/// Whether one of the nodes that an entry waits for leads to the goal.
+fn leads_back(waits: &[bool; NODES], distances: &Distances) -> bool {
+    for node in 0..NODES {
+        if waits[node] && distances[node].is_some() {
+            return true;
+        }
+    }
+    false
+}
+
+/// The first node from one on whose first entry left waits for itself, and how far each node is from it.
+fn first_that_waits_for_itself(logs: &Logs, next: &[usize; NODES], first: u8) -> (u8, Distances)
+    requires node { first < MAX_NODES }
+    requires left { slice_index_or next.now first 0 < length (log_of logs.now first) }
+    ensures known { result.0 < MAX_NODES }
+    ensures left { slice_index_or next.now result.0 0 < length (log_of logs.now result.0) }
+{
+    let waits = all_waits(logs, next);
+    for node in first..MAX_NODES {
+        if next[node as usize] < logs.of(node).len() {
+            let distances = distances_to(&waits, node);
+            if leads_back(&waits[node as usize], &distances) {
+                return (node, distances);
+            }
+        }
+    }
+    // Some entry waits for itself, since there are only so many nodes.
+    (first, [None; NODES])
 }
 
 /// Ends the steps with the entry of a node that is left first, and then with the one that it waits for, unless that is
@@ -80,6 +186,7 @@ fn first_blocker(logs: &Logs, next: &[usize; NODES], entry: &Entry) -> Option<Bl
 fn push_wait(
     logs: &Logs,
     next: &[usize; NODES],
+    distances: &Distances,
     node: u8,
     steps: &mut Vec<Step>,
 ) -> Result<u8, AllocError>
@@ -93,7 +200,7 @@ fn push_wait(
 {
     let place = next[node as usize];
     let entry = logs.of(node)[place];
-    let Some(found) = first_blocker(logs, next, &entry) else {
+    let Some(found) = nearest_blocker(logs, next, distances, &entry) else {
         unreachable!()
     };
     steps.push(Step {
@@ -111,8 +218,8 @@ fn push_wait(
     Ok(found.node)
 }
 
-/// A cycle among the entries that are left: from the first one of a node on, each waits for another. It has at most two
-/// entries for each node.
+/// A shortest cycle through the first entry, by node from one on, that is left first in its log and waits for itself. It
+/// has at most two entries for each node.
 pub fn cycle(
     alloc: Global,
     logs: &Logs,
@@ -125,15 +232,16 @@ pub fn cycle(
     ensures cycle { IfOk result (λ steps. IsCycle logs.now steps.items) }
     ensures few { IfOk result (λ steps. length steps.items ≤ 2 * MAX_NODES) }
 {
+    let (goal, distances) = first_that_waits_for_itself(logs, next, first);
     let mut starts: [Option<usize>; NODES] = [None; NODES];
     let mut steps = Vec::new(alloc);
-    let mut node = first;
+    let mut node = goal;
     for _ in 0..=MAX_NODES {
         if let Some(start) = starts[node as usize] {
             return Vec::from_slice(alloc, &steps[start..]);
         }
         starts[node as usize] = Some(steps.len());
-        node = push_wait(logs, next, node, &mut steps)?;
+        node = push_wait(logs, next, &distances, node, &mut steps)?;
     }
     // Each turn marks another node.
     unreachable!()

@@ -8,6 +8,8 @@ mod bounded;
 #[cfg(test)]
 mod choices;
 #[cfg(test)]
+mod cycles;
+#[cfg(test)]
 mod fresh_lists;
 #[cfg(test)]
 mod lists;

@@ -163,6 +163,23 @@ fn a_cycle_further_on(rt: HostRuntime) -> Result<(), Fail> {
     )
 }
 
+/// The first store waits for two loads. The way back from that of node 1 leads over node 3, and the one from that of
+/// node 2 is shorter, so that is the cycle that is found.
+#[test]
+fn the_shorter_of_two_cycles(rt: HostRuntime) -> Result<(), Fail> {
+    expect_cycle(
+        rt.alloc(),
+        "last 0 @1 1 0 0 0 0 0 0 0\nlast 1 @2 2 0 0 0 0 0 0 0\n",
+        "0 0 store 0 0 1 = - @1\n0 1 store 1 0 1 = - @1\n1 0 load 1 0 = 2 @2\n1 1 load 0 0 = 0 @0\n2 0 load 1 0 = 1 @1\n2 1 load 0 0 = 0 @0\n3 0 store 1 0 2 = - @2\n",
+        &[
+            (0, 0, Reason::FromRead),
+            (2, 1, Reason::Logged),
+            (2, 0, Reason::ReadsFrom),
+            (0, 1, Reason::Logged),
+        ],
+    )
+}
+
 /// Logs that an audit finds unlawful get its fault.
 #[test]
 fn an_unlawful_log(rt: HostRuntime) -> Result<(), Fail> {
