@@ -1,5 +1,6 @@
--- The least number that passes a test.
-use Rattle.std.proofs.Common.{◌≡◌, ℕ, zero, suc, ◌+◌, ◌-◌, ◌<◌, ◌≤◌, Bool, true, false, cond, List, [], ◌∷◌, ◌++◌, Option, Some, None, refl, ap, subst, ◌∙◌, arith}
+-- The least number that passes a test, among more and more of them.
+use Rattle.std.proofs.Common.{◌≡◌, ℕ, zero, suc, ◌+◌, ◌-◌, ◌<◌, ◌≤◌, Bool, true, false, cond, List, [], ◌∷◌, ◌++◌, Option, Some, None, refl, sym, ap, ◌∙◌, arith}
+use Rattle.std.specs.Bool.{then_some}
 use Rattle.std.specs.Option.{option_or}
 use Rattle.std.specs.List.{find, range_with_len}
 use Rattle.std.proofs.lemmas.List.Folds.{find-append}
@@ -15,34 +16,29 @@ range_parts a (suc n) m =
 pub range_more : (n : ℕ) → range_with_len 0 (n + 1) ≡ range_with_len 0 n ++ n ∷ []
 range_more n = let same : 0 + n ≡ n = omega arith in range_parts 0 n 1 ∙ ap (λ (k : ℕ). range_with_len 0 n ++ k ∷ []) same
 
-one_found : (p : ℕ → Bool) (k : ℕ) (b : Bool) → p k ≡ b → find p (k ∷ []) ≡ cond b (Some k) None
-one_found p k b e = ap (λ (c : Bool). cond {A = Option ℕ} c (Some k) None) e
+one_found : (b : Bool) (k : ℕ) → cond {A = Option ℕ} b (Some k) None ≡ then_some b k
+one_found true k = refl
+one_found false k = refl
 
-after : {X : Type 0} (first second : Option X) → first ≡ None → option_or first second ≡ second
-after None second e = refl
-after (Some x) second e = cc
+-- what was found stays; else the next number is found, if it passes
+pub find_more : (p : ℕ → Bool) (k : ℕ) → find p (range_with_len 0 (k + 1)) ≡ option_or (find p (range_with_len 0 k)) (then_some (p k) k)
+find_more p k = ap (find p) (range_more k) ∙ (find-append p (range_with_len 0 k) (k ∷ []) ∙ ap (option_or (find p (range_with_len 0 k))) (one_found (p k) k))
 
--- no number below the next passes
-pub none_more : (p : ℕ → Bool) (k : ℕ) → find p (range_with_len 0 k) ≡ None → p k ≡ false → find p (range_with_len 0 (k + 1)) ≡ None
-none_more p k none fails = ap (find p) (range_more k) ∙ (find-append p (range_with_len 0 k) (k ∷ []) ∙ (after (find p (range_with_len 0 k)) (find p (k ∷ [])) none ∙ one_found p k false fails))
+or_none : (o : Option ℕ) → option_or o None ≡ o
+or_none None = refl
+or_none (Some x) = refl
 
--- the first that passes is found
-pub here_first : (p : ℕ → Bool) (k n : ℕ) → find p (range_with_len 0 k) ≡ None → p k ≡ true → k < n → find p (range_with_len 0 n) ≡ Some k
-here_first p k n none passes below =
-    let rest = n - (k + 1) in
-    let whole : n ≡ k + suc rest = omega arith in
-    let same : 0 + k ≡ k = omega arith in
-    let split : range_with_len 0 n ≡ range_with_len 0 k ++ range_with_len k (suc rest) = ap (range_with_len 0) whole ∙ (range_parts 0 k (suc rest) ∙ ap (λ (j : ℕ). range_with_len 0 k ++ range_with_len j (suc rest)) same) in
-    ap (find p) split ∙ (find-append p (range_with_len 0 k) (range_with_len k (suc rest)) ∙ (after (find p (range_with_len 0 k)) (find p (range_with_len k (suc rest))) none ∙ ap (λ (c : Bool). cond {A = Option ℕ} c (Some k) (find p (range_with_len (k + 1) rest))) passes))
+-- numbers that don't pass change nothing
+find_between : (p : ℕ → Bool) (k d : ℕ) → ((j : ℕ) → k ≤ j → j < k + d → p j ≡ false) → find p (range_with_len 0 (k + d)) ≡ find p (range_with_len 0 k)
+find_between p k zero fails = let same : k + 0 ≡ k = omega arith in ap (λ (n : ℕ). find p (range_with_len 0 n)) same
+find_between p k (suc d) fails =
+    let same : k + suc d ≡ (k + d) + 1 = omega arith in
+    ap (λ (n : ℕ). find p (range_with_len 0 n)) same
+    ∙ (find_more p (k + d)
+    ∙ (ap (λ (b : Bool). option_or (find p (range_with_len 0 (k + d))) (then_some b (k + d))) (fails (k + d) (omega arith) (omega arith))
+    ∙ (or_none (find p (range_with_len 0 (k + d))) ∙ find_between p k d (λ j from below. (let lt : j < k + suc d = omega arith in fails j from lt)))))
 
--- no number from a place to another passes
-pub none_between : (p : ℕ → Bool) (k d : ℕ) → find p (range_with_len 0 k) ≡ None → ((j : ℕ) → k ≤ j → j < k + d → p j ≡ false) → find p (range_with_len 0 (k + d)) ≡ None
-none_between p k zero none fails = let same : k ≡ k + 0 = omega arith in subst (λ (n : ℕ). find p (range_with_len 0 n) ≡ None) same none
-none_between p k (suc d) none fails =
-    let same : (k + d) + 1 ≡ k + suc d = omega arith in
-    subst (λ (n : ℕ). find p (range_with_len 0 n) ≡ None) same (none_more p (k + d) (none_between p k d none (λ j from below. (let lt : j < k + suc d = omega arith in fails j from lt))) (fails (k + d) (omega arith) (omega arith)))
-
-pub none_up_to : (p : ℕ → Bool) (k n : ℕ) → k ≤ n → find p (range_with_len 0 k) ≡ None → ((j : ℕ) → k ≤ j → j < n → p j ≡ false) → find p (range_with_len 0 n) ≡ None
-none_up_to p k n le none fails =
+pub find_up_to : (p : ℕ → Bool) (k n : ℕ) → k ≤ n → ((j : ℕ) → k ≤ j → j < n → p j ≡ false) → find p (range_with_len 0 k) ≡ find p (range_with_len 0 n)
+find_up_to p k n le fails =
     let whole : k + (n - k) ≡ n = omega arith in
-    subst (λ (m : ℕ). find p (range_with_len 0 m) ≡ None) whole (none_between p k (n - k) none (λ j from below. fails j from (omega arith)))
+    sym (find_between p k (n - k) (λ j from below. fails j from (omega arith))) ∙ ap (λ (m : ℕ). find p (range_with_len 0 m)) whole

@@ -3,11 +3,14 @@
 #![tactic(auto)]
 
 mod decision;
+mod line_marks;
 mod lines;
 mod policy;
 mod progress;
 mod rules;
+mod states;
 mod submit;
+mod survey;
 mod want;
 mod worker;
 

@@ -5,9 +5,10 @@ ghost use Rattle.sci_cache.specs.Held.{state_of};
 ghost use Rattle.sci_cache.specs.State.{Out, is_out as is_out_in};
 ghost use Rattle.sci_policy.specs.Policy.{awaits_home as awaits_home_in, is_busy_now as is_busy_now_in};
 ghost use Rattle.sci_core.specs.Node.{lines_of};
-ghost use Rattle.sci_policy.specs.Lines.{can_drain as can_drain_in, could_give_way as could_give_way_in, gives_way as gives_way_in, has_fresh_sharers as has_fresh_sharers_in, has_maker as has_maker_on, has_pending as has_pending_on, has_sharers as has_sharers_in, is_head as is_head_in, joins as joins_in, least as least_of, must_send as must_send_in, oldest as oldest_with, own_ask as own_ask_in, state_on};
-ghost use Rattle.sci_policy.specs.Scan.{IsOfEntries, IsTest, is_older_than};
+ghost use Rattle.sci_policy.specs.Lines.{can_drain as can_drain_in, has_fresh_sharers as has_fresh_sharers_in, has_maker as has_maker_on, has_pending as has_pending_on, has_sharers as has_sharers_in, is_head as is_head_in, oldest as oldest_with, own_ask as own_ask_in, state_on};
+ghost use Rattle.sci_policy.specs.Scan.{IsTest, is_older_than};
 
+use crate::states;
 use sci_cache::Held;
 use sci_core::Node;
 use sci_words::AskKind;
@@ -28,14 +29,20 @@ pub(crate) fn held_on(node: &Node, line: u8) -> Option<&Held>
 pub(crate) fn has_sharers(node: &Node, line: u8) -> bool
     ensures { result ≡ has_sharers_in (state_on node.now line) }
 {
-    matches!(held_on(node, line), Some(Held::Head(head)) if head.forward.is_some())
+    match held_on(node, line) {
+        Some(held) => states::has_sharers(held),
+        None => false,
+    }
 }
 
 /// Whether a line is the head of a fresh list with a next entry.
 pub(crate) fn has_fresh_sharers(node: &Node, line: u8) -> bool
     ensures { result ≡ has_fresh_sharers_in (state_on node.now line) }
 {
-    matches!(held_on(node, line), Some(Held::FreshHead(head)) if head.forward.is_some())
+    match held_on(node, line) {
+        Some(held) => states::has_fresh_sharers(held),
+        None => false,
+    }
 }
 
 /// Whether a line purges its list, or can.
@@ -54,56 +61,6 @@ pub(crate) fn is_head(node: &Node, line: u8) -> bool
     ensures { result ≡ is_head_in (state_on node.now line) }
 {
     matches!(held_on(node, line), Some(Held::Head(_)))
-}
-
-/// Whether a line is on the way into a list.
-pub(crate) fn joins(node: &Node, line: u8) -> bool
-    ensures { result ≡ joins_in (state_on node.now line) }
-{
-    matches!(
-        held_on(node, line),
-        Some(Held::Joining(_) | Held::FreshJoining(_))
-    )
-}
-
-/// Whether a line must send a request before anything else can come of it.
-pub(crate) fn must_send(node: &Node, line: u8) -> bool
-    ensures { result ≡ must_send_in (state_on node.now line) }
-{
-    match held_on(node, line) {
-        Some(Held::Joining(state)) => !state.sent,
-        Some(Held::FreshJoining(state)) => !state.sent,
-        Some(Held::Telling(state)) => !state.sent,
-        _ => false,
-    }
-}
-
-/// Whether a line is on the way out of a list, or its list out of the way of a writer.
-pub(crate) fn gives_way(node: &Node, line: u8) -> bool
-    ensures { result ≡ gives_way_in (state_on node.now line) }
-{
-    matches!(
-        held_on(node, line),
-        Some(
-            Held::Purging(_)
-                | Held::Claiming(_)
-                | Held::Clearing(_)
-                | Held::Returning(_)
-                | Held::Rolling(_)
-                | Held::Telling(_)
-                | Held::Fading(_)
-        )
-    )
-}
-
-/// Whether a line could begin to give way.
-pub(crate) fn could_give_way(node: &Node, line: u8) -> bool
-    ensures { result ≡ could_give_way_in (state_on node.now line) }
-{
-    matches!(
-        held_on(node, line),
-        Some(Held::Head(_) | Held::FreshHead(_) | Held::Below(_))
-    )
 }
 
 /// Whether a line awaits its home's word on its list.
@@ -167,22 +124,6 @@ pub(crate) fn own_ask(node: &Node, line: u8) -> Option<AskKind>
         Held::Telling(state) if !state.sent => Some(AskKind::Setback),
         _ => None,
     }
-}
-
-/// The least line of which something is true, that is never true of a line with no entry. It looks at no other line.
-pub(crate) fn least<F: Fn(u8) -> bool>(node: &Node, test: F) -> Option<u8>
-    requires { (line : ℕ) → line < lines_of node.now → F.pre test line }
-    ensures { (tested : ℕ → Bool) → IsTest (lines_of node.now) (F.post test) tested →
-        IsOfEntries node.now tested → result ≡ least_of node.now tested }
-{
-    let mut from = 0;
-    'entries: while let Some(line) = node.next_entry(from) {
-        if test(line) {
-            return Some(line);
-        }
-        from = line + 1;
-    }
-    None
 }
 
 /// Of the lines with an operation pending, and of which something is true, the one whose operation is the oldest. It looks

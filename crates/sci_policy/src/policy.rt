@@ -1,43 +1,38 @@
 //! The policy: what a controller decides by itself.
 
-ghost use Rattle.std.specs.Prelude.{◌≡◌, ◌<◌, ℕ, Bool};
-ghost use Rattle.sci_words.specs.declared.limits.TheConstants.{MAX_LINES};
+ghost use Rattle.std.specs.Prelude.{◌≡◌, ◌<◌, ◌||◌, ℕ, Bool};
 ghost use Rattle.sci_policy.specs.declared.policy.TheConstants.{PATIENCE};
-ghost use Rattle.std.specs.Prelude.{None, IfSome, true, slice_set};
+ghost use Rattle.std.specs.Prelude.{None, IfSome, true};
 ghost use Rattle.sci_cache.specs.Cache.{letter_of};
 ghost use Rattle.sci_cache.specs.State.{Out};
 ghost use Rattle.sci_core.specs.Node.{lines_of};
 ghost use Rattle.sci_policy.specs.Lines.{state_on};
-ghost use Rattle.sci_policy.specs.Policy.{has as has_line, is_cread, set_of};
-ghost use Rattle.sci_policy.specs.Scan.{IsTest};
+ghost use Rattle.sci_policy.specs.Policy.{is_cread, set_of};
+ghost use Rattle.sci_policy.specs.Scan.{IsOfEntries, IsTest};
 
 use crate::decision::Decision;
+use crate::line_marks::LineMarks;
 use crate::lines::{
-    awaits_home, can_drain, has_fresh_sharers, has_maker, has_pending, has_sharers, is_busy_now,
-    is_head, joins, least,
+    awaits_home, can_drain, has_fresh_sharers, has_maker, has_sharers, is_busy_now, is_head,
 };
-use crate::rules::{operation_wanted, perform_wanted, send_wanted};
+use crate::rules::{perform_wanted, ruled};
+use crate::survey::Survey;
 use crate::want::Want;
 use sci_core::Node;
 use sci_packets::{Body, Packet};
-use sci_words::{AskKind, MAX_LINES};
+use sci_words::AskKind;
 use std::marker::Model;
 
 /// A policy's patience: how often it is asked what comes next, with nothing that could be performed, until it has its
 /// node give up lists that others may wait for. In one turn of so many, requests that wait are let go.
 pub const PATIENCE: u8 = 64;
 
-/// For each line whether it is in a set.
-type LineSet = [bool; LINES];
-
-const LINES: usize = MAX_LINES as usize;
-
 /// What a node's controller decides by itself: which event comes next, and which requests of others it keeps or refuses.
 /// It has a fixed size. Contracts see it as a record of what it remembers.
 #[derive(Drop)]
 pub struct Policy {
-    draining: LineSet,
-    due: LineSet,
+    draining: LineMarks,
+    due: LineMarks,
     patience: u8,
     turns: u8,
     served: Option<u8>,
@@ -53,14 +48,20 @@ impl Model for Policy {
     ghost view = { λ policy. record { draining = policy.draining; due = policy.due; patience = policy.patience; turns = policy.turns; served = policy.served } };
 }
 
-/// The set of the lines of which something is true.
-fn lines_that<F: Fn(u8) -> bool>(test: F) -> LineSet
-    requires { (line : ℕ) → line < MAX_LINES → F.pre test line }
-    ensures { (tested : ℕ → Bool) → IsTest MAX_LINES (F.post test) tested → result ≡ set_of tested }
+/// A set of lines, with the lines besides of which something is true that is never true of a line with no entry. It looks
+/// at no such line.
+fn with_entries_that<F: Fn(u8) -> bool>(mut lines: LineMarks, node: &Node, test: F) -> LineMarks
+    requires { (line : ℕ) → line < lines_of node.now → F.pre test line }
+    ensures { (before tested : ℕ → Bool) → lines ≡ set_of before →
+        IsTest (lines_of node.now) (F.post test) tested → IsOfEntries node.now tested →
+        result ≡ set_of (λ line. before line || tested line) }
 {
-    let mut lines = [false; LINES];
-    for line in 0..MAX_LINES {
-        lines[usize::from(line)] = test(line);
+    let mut from = 0;
+    'entries: while let Some(line) = node.next_entry(from) {
+        if test(line) {
+            lines.put(line, true);
+        }
+        from = line + 1;
     }
     lines
 }
@@ -69,7 +70,7 @@ impl Policy {
     ghost use Rattle.std.specs.Prelude.{◌≡◌, ◌<◌, ◌≤◌, ℕ, Some, None, IfSome};
     ghost use Rattle.sci_cache.specs.Cache.{letter_of};
     ghost use Rattle.sci_core.specs.Reached.{IsReachedNode};
-    ghost use Rattle.sci_policy.specs.Policy.{IsEnabledWant, PolicyOf, decided, due_wanted, first_sender, kept_by, next_policy, next_wanted, noted, opening_policy, purge_wanted, refused_by, ruled, still_draining, draining_at_last, due_at_last, set_of, ticked, turned, wanted};
+    ghost use Rattle.sci_policy.specs.Policy.{IsEnabledWant, PolicyOf, decided, first_sender, has as has_line, kept_by, next_policy, next_wanted, noted, opening_policy, perform_wanted as perform_wanted_by, refused_by, still_draining, draining_at_last, due_at_last, set_of, ticked, turned, wanted};
     ghost use Rattle.sci_policy.specs.Rest.{MayRest};
 
     /// The policy of a node that has done nothing: no line is draining or due, no turn was counted, and no request was
@@ -78,8 +79,8 @@ impl Policy {
         ensures { result ≡ opening_policy }
     {
         Policy {
-            draining: [false; LINES],
-            due: [false; LINES],
+            draining: LineMarks::new(),
+            due: LineMarks::new(),
             patience: 0,
             turns: 0,
             served: None,
@@ -114,33 +115,33 @@ impl Policy {
         }
     }
 
-    /// The lines that go on draining.
-    fn still_draining(&self, node: &Node) -> LineSet
+    /// The lines that go on draining. It looks at no line that isn't draining.
+    fn still_draining(&self, node: &Node) -> LineMarks
         ensures { result ≡ set_of (still_draining self.now node.now) }
     {
-        let mut lines = [false; LINES];
+        let mut lines = LineMarks::new();
         let mut from = 0;
-        'entries: while let Some(line) = node.next_entry(from) {
-            lines[usize::from(line)] = has(&self.draining, line) && can_drain(node, line);
+        'draining: while let Some(line) = self.draining.next_from(from) {
+            lines.put(line, can_drain(node, line));
             from = line + 1;
         }
         lines
     }
 
     /// The lines that are draining when patience has ended.
-    fn draining_at_last(&self, node: &Node) -> LineSet
+    fn draining_at_last(&self, node: &Node) -> LineMarks
         ensures { result ≡ set_of (draining_at_last self.now node.now) }
     {
-        lines_that(|line| {
-            (has(&self.draining, line) && can_drain(node, line)) || has_sharers(node, line)
-        })
+        let lines = self.still_draining(node);
+        with_entries_that(lines, node, |line| has_sharers(node, line))
     }
 
     /// The lines that are due when patience has ended.
-    fn due_at_last(&self, node: &Node) -> LineSet
+    fn due_at_last(&self, node: &Node) -> LineMarks
         ensures { result ≡ set_of (due_at_last self.now node.now) }
     {
-        lines_that(|line| has(&self.due, line) || has_fresh_sharers(node, line))
+        let lines = self.due.copy();
+        with_entries_that(lines, node, |line| has_fresh_sharers(node, line))
     }
 
     /// What the rules want.
@@ -150,42 +151,19 @@ impl Policy {
         if node.is_at_rest() {
             return None;
         }
-        let want = self.ruled(node)?;
-        if want.asks_home_to_change() && least(node, |line| joins(node, line)).is_some() {
+        perform_wanted(node).or_else(|| self.ask_wanted(node))
+    }
+
+    /// What the rules want where no operation can be performed.
+    fn ask_wanted(&self, node: &Node) -> Option<Want>
+        ensures { perform_wanted_by node.now ≡ None → result ≡ wanted self.now node.now }
+    {
+        let survey = Survey::of(self, node);
+        let want = ruled(node, &survey)?;
+        if want.asks_home_to_change() && survey.joins {
             return None;
         }
         Some(want)
-    }
-
-    /// What the first rule that fits wants.
-    fn ruled(&self, node: &Node) -> Option<Want>
-        ensures { result ≡ ruled self.now node.now }
-    {
-        perform_wanted(node)
-            .or_else(|| self.purge_wanted(node))
-            .or_else(|| send_wanted(node))
-            .or_else(|| self.due_wanted(node))
-            .or_else(|| operation_wanted(node))
-    }
-
-    /// Purges the least list that is draining, or whose head has an operation pending.
-    fn purge_wanted(&self, node: &Node) -> Option<Want>
-        ensures { result ≡ purge_wanted self.now node.now }
-    {
-        let line = least(node, |line| {
-            has_sharers(node, line) && (has(&self.draining, line) || has_pending(node, line))
-        })?;
-        Some(Want::Ask(line, AskKind::Purge))
-    }
-
-    /// Claims the least list that is due.
-    fn due_wanted(&self, node: &Node) -> Option<Want>
-        ensures { result ≡ due_wanted self.now node.now }
-    {
-        let line = least(node, |line| {
-            has(&self.due, line) && has_fresh_sharers(node, line)
-        })?;
-        Some(Want::Ask(line, AskKind::Claim))
     }
 
     /// Remembers what it wants.
@@ -194,12 +172,26 @@ impl Policy {
     {
         match want {
             Some(Want::Perform(_)) => self.patience = 0,
-            Some(Want::Ask(line, AskKind::Purge)) => put(&mut self.draining, line, true),
+            Some(Want::Ask(line, AskKind::Purge)) => self.draining.put(line, true),
             Some(Want::Ask(line, AskKind::Claim)) if has_fresh_sharers(node, line) => {
-                put(&mut self.due, line, false);
+                self.due.put(line, false);
             }
             _ => {}
         }
+    }
+
+    /// Whether a line is draining.
+    pub(crate) fn is_draining(&self, line: u8) -> bool
+        ensures { result ≡ has_line self.now.draining line }
+    {
+        self.draining.has(line)
+    }
+
+    /// Whether a line is due.
+    pub(crate) fn is_due(&self, line: u8) -> bool
+        ensures { result ≡ has_line self.now.due line }
+    {
+        self.due.has(line)
     }
 
     /// Whether a request is refused: a Cread for a line that is draining, or that is Head while a maker of this node is
@@ -210,7 +202,7 @@ impl Policy {
         let Some(line) = cread_line(node, request) else {
             return false;
         };
-        (has(&self.draining, line) && can_drain(node, line))
+        (self.draining.has(line) && can_drain(node, line))
             || (is_head(node, line) && has_maker(node, line))
     }
 
@@ -275,25 +267,6 @@ impl Policy {
         ensures { result ≡ self.now.served }
     {
         self.served
-    }
-}
-
-/// Whether a line is in a set.
-fn has(set: &LineSet, line: u8) -> bool
-    ensures { result ≡ has_line set.now line }
-{
-    match set.get(usize::from(line)) {
-        Some(is_in) => *is_in,
-        None => false,
-    }
-}
-
-/// Puts a line into a set or takes it out. Nothing changes if it is no line of any machine.
-fn put(set: &mut LineSet, line: u8, is_in: bool)
-    ensures { set.new ≡ slice_set set.old line is_in }
-{
-    if line < MAX_LINES {
-        set[usize::from(line)] = is_in;
     }
 }
 

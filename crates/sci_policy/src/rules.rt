@@ -1,11 +1,15 @@
-//! The rules that look at a node alone: what it wants to do for its own lines and operations.
+//! The rules: what a node wants to do for its own lines and operations.
 
-ghost use Rattle.std.specs.Prelude.{◌≡◌};
-ghost use Rattle.sci_policy.specs.Policy.{ask_of as ask_of_line, operation_asks as asked_by_operation, operation_wanted as operation_wanted_by, perform_wanted as perform_wanted_by, send_wanted as send_wanted_by, slot_for as slot_for_line, slot_wanted as slot_wanted_by, contents_wanted as contents_wanted_by, lacks_slot as lacks_slot_for};
+ghost use Rattle.std.specs.Prelude.{◌≡◌, None, option_map};
+ghost use Rattle.std.specs.Option.{option_and_then};
+ghost use Rattle.sci_words.specs.declared.event.AskKind.TheVariants.{Purge, Claim};
+ghost use Rattle.sci_core.specs.Node.{lines_of};
+ghost use Rattle.sci_policy.specs.declared.want.Want.TheVariants.{Ask};
+ghost use Rattle.sci_policy.specs.Policy.{PolicyOf, ask_of as ask_of_line, operation_asks as asked_by_operation, operation_wanted as operation_wanted_by, perform_wanted as perform_wanted_by, ruled as ruled_by, slot_wanted as slot_wanted_by, contents_wanted as contents_wanted_by};
+ghost use Rattle.sci_policy.specs.Survey.{IsSurvey};
 
-use crate::lines::{
-    could_give_way, gives_way, has_maker, held_on, is_out, least, must_send, oldest, own_ask,
-};
+use crate::lines::{has_maker, held_on, is_out, oldest, own_ask};
+use crate::survey::Survey;
 use crate::want::Want;
 use sci_cache::Held;
 use sci_core::Node;
@@ -19,12 +23,39 @@ pub(crate) fn perform_wanted(node: &Node) -> Option<Want>
     Some(Want::Perform(line))
 }
 
-/// Sends the request of a line that must send one.
-pub(crate) fn send_wanted(node: &Node) -> Option<Want>
-    ensures { result ≡ send_wanted_by node.now }
+/// What the first rule that fits wants, where no operation can be performed.
+pub(crate) fn ruled(node: &Node, survey: &Survey) -> Option<Want>
+    ensures { (policy : PolicyOf) → IsSurvey policy node.now (lines_of node.now) survey.now →
+        perform_wanted_by node.now ≡ None → result ≡ ruled_by policy node.now }
 {
-    let line = least(node, |line| must_send(node, line))?;
+    purge_wanted(survey)
+        .or_else(|| send_wanted(node, survey))
+        .or_else(|| due_wanted(survey))
+        .or_else(|| operation_wanted(node, survey))
+}
+
+/// Purges the least list that is to be purged.
+fn purge_wanted(survey: &Survey) -> Option<Want>
+    ensures { result ≡ option_map (λ line. Ask line Purge) survey.now.to_purge }
+{
+    let line = survey.to_purge?;
+    Some(Want::Ask(line, AskKind::Purge))
+}
+
+/// Sends the request of a line that must send one.
+fn send_wanted(node: &Node, survey: &Survey) -> Option<Want>
+    ensures { result ≡ option_and_then (ask_of_line node.now) survey.now.to_send }
+{
+    let line = survey.to_send?;
     ask_of(node, line)
+}
+
+/// Claims the least list that is due.
+fn due_wanted(survey: &Survey) -> Option<Want>
+    ensures { result ≡ option_map (λ line. Ask line Claim) survey.now.to_claim }
+{
+    let line = survey.to_claim?;
+    Some(Want::Ask(line, AskKind::Claim))
 }
 
 /// The line's own ask.
@@ -36,18 +67,28 @@ fn ask_of(node: &Node, line: u8) -> Option<Want>
 }
 
 /// What pending operations want.
-pub(crate) fn operation_wanted(node: &Node) -> Option<Want>
-    ensures { result ≡ operation_wanted_by node.now }
+fn operation_wanted(node: &Node, survey: &Survey) -> Option<Want>
+    ensures { (policy : PolicyOf) → IsSurvey policy node.now (lines_of node.now) survey.now →
+        result ≡ operation_wanted_by node.now }
 {
-    slot_wanted(node).or_else(|| contents_wanted(node))
+    slot_wanted(node, survey).or_else(|| contents_wanted(node))
 }
 
-/// A slot for the oldest operation, if it lacks one.
-fn slot_wanted(node: &Node) -> Option<Want>
-    ensures { result ≡ slot_wanted_by node.now }
+/// A slot for the oldest operation, if its line has no entry, no slot is free, and none is about to be. The least line
+/// that can gives way.
+fn slot_wanted(node: &Node, survey: &Survey) -> Option<Want>
+    ensures { (policy : PolicyOf) → IsSurvey policy node.now (lines_of node.now) survey.now →
+        result ≡ slot_wanted_by node.now }
 {
+    if node.has_slot() || survey.gives_way {
+        return None;
+    }
     let line = oldest(node, |_line| true)?;
-    slot_for(node, line)
+    if !is_out(node, line) {
+        return None;
+    }
+    let other = survey.can_give_way?;
+    ask_of(node, other)
 }
 
 /// What the oldest operation that asks for something asks for.
@@ -74,22 +115,4 @@ fn operation_asks(node: &Node, line: u8) -> Option<Want>
         }
         _ => None,
     }
-}
-
-/// What gives a line a slot that it lacks.
-fn slot_for(node: &Node, line: u8) -> Option<Want>
-    ensures { result ≡ slot_for_line node.now line }
-{
-    if !lacks_slot(node, line) {
-        return None;
-    }
-    let other = least(node, |other| could_give_way(node, other))?;
-    ask_of(node, other)
-}
-
-/// Whether a line has no entry, no slot is free, and none is about to be.
-fn lacks_slot(node: &Node, line: u8) -> bool
-    ensures { result ≡ lacks_slot_for node.now line }
-{
-    is_out(node, line) && !node.has_slot() && least(node, |other| gives_way(node, other)).is_none()
 }

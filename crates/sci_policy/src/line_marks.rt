@@ -1,0 +1,78 @@
+//! The sets of lines that a policy remembers.
+
+ghost use Rattle.std.specs.Prelude.{◌≡◌, ◌<◌, ◌≤◌, ℕ, true, false, IfSome, replicate, slice_set};
+ghost use Rattle.sci_words.specs.declared.limits.TheConstants.{MAX_LINES};
+ghost use Rattle.sci_cache.specs.LineSet.{IsBefore};
+ghost use Rattle.sci_policy.specs.Policy.{has as has_line, set_of};
+
+use sci_cache::LineSet;
+use sci_words::MAX_LINES;
+use std::marker::Model;
+
+/// A set of lines. Contracts see it as a list that says for each line of the largest machine whether it is in the set.
+#[derive(Drop)]
+pub(crate) struct LineMarks {
+    set: LineSet,
+}
+
+impl Model for LineMarks {
+    ghost use Rattle.std.specs.Prelude.{List, Bool};
+    ghost use Rattle.sci_cache.specs.LineSet.{is_in};
+    ghost use Rattle.sci_policy.specs.Policy.{set_of};
+
+    ghost Value = { List Bool };
+
+    ghost view = { λ marks. set_of (is_in marks.set) };
+}
+
+impl LineMarks {
+    /// The set of no line.
+    pub(crate) fn new() -> LineMarks
+        ensures { result ≡ replicate MAX_LINES false }
+    {
+        LineMarks {
+            set: LineSet::new(),
+        }
+    }
+
+    /// The same set.
+    pub(crate) fn copy(&self) -> LineMarks
+        ensures same { result ≡ self.now }
+        ensures whole { self.now ≡ set_of (has_line self.now) }
+    {
+        LineMarks {
+            set: self.set.copy(),
+        }
+    }
+
+    /// Whether a line is in the set.
+    pub(crate) fn has(&self, line: u8) -> bool
+        ensures { result ≡ has_line self.now line }
+    {
+        match self.next_from(line) {
+            Some(found) => found == line,
+            None => false,
+        }
+    }
+
+    /// Puts a line into the set or takes it out. Nothing changes if it is no line of any machine.
+    pub(crate) fn put(&mut self, line: u8, is_in: bool)
+        ensures { self.new ≡ slice_set self.old line is_in }
+    {
+        if line < MAX_LINES {
+            self.set.put(line, is_in);
+        }
+    }
+
+    /// The least line of the set from a line on, or None if there is none.
+    pub(crate) fn next_from(&self, from: u8) -> Option<u8>
+        ensures order { IfSome result (λ line. from ≤ line) }
+        ensures small { IfSome result (λ line. line < MAX_LINES) }
+        ensures found { IfSome result (λ line. has_line self.now line ≡ true) }
+        ensures between { (line : ℕ) → from ≤ line → IsBefore line result →
+            has_line self.now line ≡ false }
+    {
+        let line = self.set.next_from(from)?;
+        if line < MAX_LINES { Some(line) } else { None }
+    }
+}
