@@ -39,8 +39,3 @@ pub use outcome::push_log;
 pub use pending::Pending;
 pub use progress::{packets_move_on, packets_run_out, weightless_is_drained, weights_are_bounded};
 pub use queue::{first_come_first_served, members_wait_in_line, the_first_is_served};
-
-#[cfg(test)]
-mod memory_tests;
-#[cfg(test)]
-mod tests;

@@ -31,6 +31,3 @@ pub use oracle::run_oracle;
 pub use order_verdict::{OrderVerdict, Reason, Step};
 pub use ordering::sequential_order;
 pub use verdict::{FaultKind, Verdict};
-
-#[cfg(test)]
-mod tests;

@@ -9,8 +9,6 @@ mod lanes;
 mod laws;
 mod rule;
 mod seat;
-#[cfg(test)]
-mod tests;
 mod view;
 
 pub use cell::CellId;

@@ -44,12 +44,3 @@ pub use script_laws::{no_fault, one_fault, one_script};
 pub use script_reading::read_script;
 pub use tap::Tap;
 pub use writing::write_text;
-
-#[cfg(test)]
-mod memory_tests;
-#[cfg(test)]
-mod schedule_tests;
-#[cfg(test)]
-mod tap_tests;
-#[cfg(test)]
-mod tests;

@@ -1,0 +1,303 @@
+//! Schedules that are read, and schedules that are refused.
+
+use sci_text::*;
+use sci_words::{Act, AskKind, Event, Extent, Op};
+use std::alloc::{AllocError, Global};
+use std::io;
+use std::io::{ErrorKind, Read};
+use std::test::Fail;
+
+const ONE_STORE: &[u8] =
+    b"machine 2 1 1\nissue 0 store 0 0 7\nask 0 0 mread\nserve 0 0\nreply 0\naccept 0 0\nperform 0 0\n";
+
+fn read(alloc: Global, text: &[u8]) -> Result<Schedule, TextFault> {
+    read_schedule(alloc, &mut Tap::new(text))
+}
+
+fn fault_of(alloc: Global, text: &[u8]) -> Option<TextFault> {
+    read(alloc, text).err()
+}
+
+fn at(line: usize, kind: TextFaultKind) -> Option<TextFault> {
+    Some(TextFault { line, kind })
+}
+
+fn ask(node: u8, line: u8, kind: AskKind) -> Event {
+    Event::Ask { node, line, kind }
+}
+
+/// A text of `front` and `count` times `line`.
+fn repeated(alloc: Global, front: &[u8], line: &[u8], count: usize) -> Result<Vec<u8>, AllocError> {
+    let mut text = Vec::from_slice(alloc, front)?;
+    for _ in 0..count {
+        text.extend_from_slice(line)?;
+    }
+    Ok(text)
+}
+
+#[test]
+fn every_event(rt: HostRuntime) -> Result<(), Fail> {
+    let text = b"machine 16 64 8\n\
+        issue 15 store 63 7 18446744073709551615\n\
+        perform 14 62\n\
+        serve 13 12\n\
+        refuse 11 10\n\
+        reply 9\n\
+        accept 8 7\n";
+    let schedule = read(rt.alloc(), text)?;
+    assert_eq!(rt; Some(schedule.extent()), Extent::new(16, 64, 8));
+    let op = Op {
+        line: 63,
+        word: 7,
+        act: Act::Store(18_446_744_073_709_551_615),
+    };
+    assert_eq!(rt;
+        schedule.events(),
+        [
+            Event::Issue { node: 15, op },
+            Event::Perform { node: 14, line: 62 },
+            Event::Serve { from: 13, node: 12 },
+            Event::Refuse { from: 11, node: 10 },
+            Event::Reply { node: 9 },
+            Event::Accept { from: 8, node: 7 },
+        ]
+        .as_slice()
+    );
+    Ok(())
+}
+
+#[test]
+fn every_kind_of_ask(rt: HostRuntime) -> Result<(), Fail> {
+    let text = b"machine 3 4 2\n\
+        ask 0 1 mread\n\
+        ask 1 2 fread\n\
+        ask 2 3 cread\n\
+        ask 0 2 claim\n\
+        ask 1 3 clear\n\
+        ask 2 1 purge\n\
+        ask 0 3 roll\n\
+        ask 1 0 wback\n\
+        ask 2 0 setback\n";
+    assert_eq!(rt;
+        read(rt.alloc(), text)?.events(),
+        [
+            ask(0, 1, AskKind::Mread),
+            ask(1, 2, AskKind::Fread),
+            ask(2, 3, AskKind::Cread),
+            ask(0, 2, AskKind::Claim),
+            ask(1, 3, AskKind::Clear),
+            ask(2, 1, AskKind::Purge),
+            ask(0, 3, AskKind::Roll),
+            ask(1, 0, AskKind::Wback),
+            ask(2, 0, AskKind::Setback),
+        ]
+        .as_slice()
+    );
+    Ok(())
+}
+
+#[test]
+fn a_machine_with_no_event(rt: HostRuntime) -> Result<(), Fail> {
+    assert_eq!(rt; read(rt.alloc(), b"machine 2 1 1\n")?.events().len(), 0);
+    assert_eq!(rt; fault_of(rt.alloc(), b""), at(1, TextFaultKind::Syntax));
+    assert_eq!(rt;
+        fault_of(rt.alloc(), b"machine 17 1 1\n"),
+        at(1, TextFaultKind::Range)
+    );
+    assert_eq!(rt;
+        fault_of(rt.alloc(), b"reply 0\n"),
+        at(1, TextFaultKind::Syntax)
+    );
+    Ok(())
+}
+
+#[test]
+fn refused_schedules(rt: HostRuntime) -> Result<(), Fail> {
+    let faults: [(&[u8], TextFaultKind); 39] = [
+        (b"serve 2 0\n", TextFaultKind::Range),
+        (b"serve 0 2\n", TextFaultKind::Range),
+        (b"serve 256 0\n", TextFaultKind::Range),
+        (b"refuse 2 0\n", TextFaultKind::Range),
+        (b"refuse 0 2\n", TextFaultKind::Range),
+        (b"accept 2 0\n", TextFaultKind::Range),
+        (b"accept 0 2\n", TextFaultKind::Range),
+        (b"reply 2\n", TextFaultKind::Range),
+        (b"reply 99999999999999999999999999\n", TextFaultKind::Range),
+        (b"perform 2 0\n", TextFaultKind::Range),
+        (b"perform 0 1\n", TextFaultKind::Range),
+        (b"ask 2 0 mread\n", TextFaultKind::Range),
+        (b"ask 0 1 mread\n", TextFaultKind::Range),
+        (b"issue 2 load 0 0\n", TextFaultKind::Range),
+        (b"issue 0 load 1 0\n", TextFaultKind::Range),
+        (b"issue 0 load 0 8\n", TextFaultKind::Range),
+        (
+            b"issue 0 store 0 0 18446744073709551616\n",
+            TextFaultKind::Range,
+        ),
+        (b"ask 0 0 cwrite\n", TextFaultKind::Syntax),
+        (b"ask 2 1 cwrite\n", TextFaultKind::Syntax),
+        (b"ask 0 0 mreads\n", TextFaultKind::Syntax),
+        (b"ask 0 0 0\n", TextFaultKind::Syntax),
+        (b"ask 0 0\n", TextFaultKind::Syntax),
+        (b"ask 0 mread\n", TextFaultKind::Syntax),
+        (b"ask 0 0  mread\n", TextFaultKind::Syntax),
+        (b"ask 0 0 Mread\n", TextFaultKind::Syntax),
+        (b"serve 0\n", TextFaultKind::Syntax),
+        (b"serve 0 0 0\n", TextFaultKind::Syntax),
+        (b"serve 0 00\n", TextFaultKind::Syntax),
+        (b"serve  0 0\n", TextFaultKind::Syntax),
+        (b"serve 0 0 \n", TextFaultKind::Syntax),
+        (b"serve 0 0\r\n", TextFaultKind::Syntax),
+        (b"serve 0 0", TextFaultKind::Syntax),
+        (b"reply\n", TextFaultKind::Syntax),
+        (b"reply 0 0\n", TextFaultKind::Syntax),
+        (b"answer 0\n", TextFaultKind::Syntax),
+        (b"p 0 load 0 0\n", TextFaultKind::Syntax),
+        (b"issue 0  load 0 0\n", TextFaultKind::Syntax),
+        (b"\n", TextFaultKind::Syntax),
+        (b"machine 2 1 1\n", TextFaultKind::Syntax),
+    ];
+    for (line, kind) in faults {
+        let text = repeated(rt.alloc(), b"machine 2 1 1\n", line, 1)?;
+        assert_eq!(rt; fault_of(rt.alloc(), &text), at(2, kind), "{line:?}");
+    }
+    Ok(())
+}
+
+#[test]
+fn the_first_faulty_event_is_told(rt: HostRuntime) {
+    let text = b"machine 1 1 1\nreply 0\nreply 1\nreply\n";
+    assert_eq!(rt; fault_of(rt.alloc(), text), at(3, TextFaultKind::Range));
+}
+
+#[test]
+fn events_of_256_bytes(rt: HostRuntime) -> Result<(), Fail> {
+    let front: &[u8] = b"machine 1 1 1\nreply ";
+    for (digits, kind) in [(250, TextFaultKind::Range), (251, TextFaultKind::Syntax)] {
+        let mut text = repeated(rt.alloc(), front, b"9", digits)?;
+        text.push(b'\n')?;
+        assert_eq!(rt; fault_of(rt.alloc(), &text), at(2, kind), "{digits} digits");
+    }
+    Ok(())
+}
+
+#[test]
+fn too_many_events(rt: HostRuntime) -> Result<(), Fail> {
+    let mut text = repeated(rt.alloc(), b"machine 2 1 1\n", b"reply 0\n", 500_000)?;
+    assert_eq!(rt; read(rt.alloc(), &text)?.events().len(), 500_000);
+    text.extend_from_slice(b"reply 2\n")?;
+    assert_eq!(rt;
+        fault_of(rt.alloc(), &text),
+        at(500_002, TextFaultKind::Range)
+    );
+    let text = repeated(rt.alloc(), b"machine 2 1 1\n", b"reply 0\n", 500_001)?;
+    assert_eq!(rt;
+        fault_of(rt.alloc(), &text),
+        at(500_002, TextFaultKind::TooMany)
+    );
+    Ok(())
+}
+
+/// Gives so many bytes.
+#[derive(Drop)]
+struct Many(usize);
+
+impl Read for Many {
+    fn read(&mut self, buf: &mut [u8]) -> io::Result<usize> {
+        let count = buf.len().min(self.0);
+        for byte in buf.iter_mut() {
+            *byte = b'm';
+        }
+        self.0 -= count;
+        Ok(count)
+    }
+}
+
+#[test]
+fn too_long_a_schedule(rt: HostRuntime) {
+    let more = read_schedule(rt.alloc(), &mut Tap::new(Many(134_217_729)));
+    assert_eq!(rt; more.err(), at(0, TextFaultKind::TooMany));
+}
+
+/// Gives one byte at a time, and fails at the read of this number alone.
+#[derive(Drop)]
+struct Dripping<'a> {
+    rest: &'a [u8],
+    reads: usize,
+    fails_at: usize,
+}
+
+impl Read for Dripping<'_> {
+    fn read(&mut self, buf: &mut [u8]) -> io::Result<usize> {
+        let fails = self.reads == self.fails_at;
+        self.reads = self.reads.saturating_add(1);
+        if fails {
+            return Err(io::Error::from(ErrorKind::Other));
+        }
+        let Some((first, rest)) = self.rest.split_first() else {
+            return Ok(0);
+        };
+        if buf.is_empty() {
+            return Ok(0);
+        }
+        buf[0] = *first;
+        self.rest = rest;
+        Ok(1)
+    }
+}
+
+#[test]
+fn each_read_of_a_schedule_fails_in_turn(rt: HostRuntime) -> Result<(), Fail> {
+    let whole = read(rt.alloc(), ONE_STORE)?;
+    for fails_at in 0..=ONE_STORE.len() + 1 {
+        let mut tap = Tap::new(Dripping {
+            rest: ONE_STORE,
+            reads: 0,
+            fails_at,
+        });
+        let result = read_schedule(rt.alloc(), &mut tap);
+        let fails = fails_at <= ONE_STORE.len();
+        assert_eq!(rt; tap.failed(), fails, "{fails_at}");
+        if fails {
+            assert_eq!(rt; result.err(), at(0, TextFaultKind::Read), "{fails_at}");
+        } else {
+            assert_eq!(rt; result?.events(), whole.events());
+        }
+    }
+    Ok(())
+}
+
+#[test]
+fn pushed_events(rt: HostRuntime) -> Result<(), Fail> {
+    let extent = Extent::new(2, 3, 1).ok_or("an extent")?;
+    let mut schedule = Schedule::new(rt.alloc(), extent);
+    let event = ask(1, 2, AskKind::Roll);
+    assert_eq!(rt; schedule.push(event), Ok(()));
+    for outside in [
+        ask(2, 2, AskKind::Roll),
+        ask(1, 3, AskKind::Roll),
+        Event::Serve { from: 2, node: 0 },
+        Event::Accept { from: 0, node: 2 },
+    ] {
+        assert_eq!(rt; schedule.push(outside), Err(PushFault::Range));
+    }
+    assert_eq!(rt; schedule.events(), [event].as_slice());
+    Ok(())
+}
+
+#[test]
+fn a_schedule_is_written_as_it_was_read(rt: HostRuntime) -> Result<(), Fail> {
+    let text = b"machine 16 64 8\n\
+        issue 15 store 63 7 18446744073709551615\n\
+        perform 0 1\n\
+        ask 1 2 setback\n\
+        serve 3 4\n\
+        refuse 5 6\n\
+        reply 7\n\
+        accept 8 9\n";
+    let schedule = read(rt.alloc(), text)?;
+    let mut written = Vec::new(rt.alloc());
+    write_schedule(rt.alloc(), &mut Tap::new(&mut written), &schedule)?;
+    assert_eq!(rt; written.as_slice(), text.as_slice());
+    Ok(())
+}
