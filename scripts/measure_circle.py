@@ -34,7 +34,7 @@ def operations(chance, kind, node, count):
             yield f"load {line} {word}" if chance.randrange(2) else f"fetch-add {line} {word} 1"
         elif kind in ("mixed", "reads"):
             line, loads = chance.randrange(LINES), 90 if kind == "mixed" else 99
-            yield f"load {line} {word}" if chance.randrange(100) < loads else f"store {line} {word} 1"
+            yield f"load {line} {word}" if chance.randrange(100) < loads else f"fetch-add {line} {word} 1"
         else:
             line = chance.randrange(4)
             count -= 1
