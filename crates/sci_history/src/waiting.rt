@@ -55,68 +55,86 @@ struct Blocker {
     reason: Reason,
 }
 
-/// Of the entries that are left and come before this one on its line, the first of the node that is nearest.
-fn nearest_blocker(
+/// Of the entries of a node that are left and come before this one on its line, the first.
+fn blocker_of(logs: &Logs, next: &[usize; NODES], node: u8, entry: &Entry) -> Option<Blocker>
+    requires { node < MAX_NODES }
+    ensures found { IfSome result (λ found.
+        IsBlocker logs.now next.now entry.now found.node found.place found.reason) }
+    ensures none { result ≡ None → AllByRecursion (λ other. line_reason entry.now other ≡ None)
+        (log_of (rests_of logs.now next.now) node) }
+{
+    let (place, reason) = blocker_in(logs.of(node), next[node as usize], entry)?;
+    Some(Blocker {
+        node,
+        place,
+        reason,
+    })
+}
+
+/// Of the entries that are left and come before this one on its line, the first of this node, if it has one, and else of
+/// the first node that has.
+fn find_blocker(
     logs: &Logs,
     next: &[usize; NODES],
-    distances: &Distances,
+    nearest: Option<u8>,
     entry: &Entry,
 ) -> Option<Blocker>
+    requires { IfSome nearest (λ node. node < MAX_NODES) }
     ensures found { IfSome result (λ found.
         IsBlocker logs.now next.now entry.now found.node found.place found.reason) }
     ensures none { result ≡ None → (node : ℕ) →
         AllByRecursion (λ other. line_reason entry.now other ≡ None)
         (log_of (rests_of logs.now next.now) node) }
 {
-    let mut nearest = None;
-    for node in 0..MAX_NODES {
-        let Some((place, reason)) = blocker_in(logs.of(node), next[node as usize], entry) else {
-            continue;
-        };
-        if is_nearer(distances, node, nearest) {
-            nearest = Some(Blocker {
-                node,
-                place,
-                reason,
-            });
+    if let Some(node) = nearest {
+        if let Some(found) = blocker_of(logs, next, node, entry) {
+            return Some(found);
         }
     }
-    nearest
+    for node in 0..MAX_NODES {
+        if let Some(found) = blocker_of(logs, next, node, entry) {
+            return Some(found);
+        }
+    }
+    None
 }
 
-/// Whether a node is nearer than that of an entry, if there is one.
-fn is_nearer(distances: &Distances, node: u8, other: Option<Blocker>) -> bool
-    requires { node < MAX_NODES }
-    ensures { other ≡ None → result ≡ true }
-{
-    let Some(other) = other else {
-        return true;
-    };
-    match (distances[node as usize], distances.get(other.node as usize)) {
-        (Some(here), Some(Some(there))) => here < *there,
-        (Some(_), _) => true,
-        _ => false,
+/// The entry of each node that is left first in its log, or None if none is left.
+type Firsts = [Option<Entry>; NODES];
+
+/// The entry of each node that is left first.
+fn firsts_left(logs: &Logs, next: &[usize; NODES]) -> Firsts {
+    let mut firsts = [None; NODES];
+    for node in 0..MAX_NODES {
+        firsts[node as usize] = logs.of(node).get(next[node as usize]).copied();
     }
+    firsts
 }
 
 /// For each node, of which nodes there is an entry left that its own first one left waits for.
 type Waits = [[bool; NODES]; NODES];
 
-/// Of which nodes there is an entry left that this one waits for.
-fn waits_of(logs: &Logs, next: &[usize; NODES], entry: &Entry) -> [bool; NODES] {
-    let mut waits = [false; NODES];
-    for node in 0..MAX_NODES {
-        waits[node as usize] = blocker_in(logs.of(node), next[node as usize], entry).is_some();
+/// Notes which of the first entries wait for this entry of a node.
+fn note_waits(firsts: &Firsts, node: u8, entry: &Entry, waits: &mut Waits)
+    requires { node < MAX_NODES }
+{
+    for first in 0..NODES {
+        if let Some(waiting) = &firsts[first] {
+            if reason_after(waiting, entry).is_some() {
+                waits[first][node as usize] = true;
+            }
+        }
     }
-    waits
 }
 
-/// What the first entry left of each node waits for.
+/// What the first entry left of each node waits for. It looks at each entry that is left once.
 fn all_waits(logs: &Logs, next: &[usize; NODES]) -> Waits {
+    let firsts = firsts_left(logs, next);
     let mut waits = [[false; NODES]; NODES];
     for node in 0..MAX_NODES {
-        if let Some(entry) = logs.of(node).get(next[node as usize]) {
-            waits[node as usize] = waits_of(logs, next, entry);
+        let log = logs.of(node);
+        for place in next[node as usize]..log.len() {
+            note_waits(&firsts, node, &log[place], &mut waits);
         }
     }
     waits
@@ -151,34 +169,57 @@ fn distances_to(waits: &Waits, goal: u8) -> Distances
     distances
 }
 
-/// Whether one of the nodes that an entry waits for leads to the goal.
-fn leads_back(waits: &[bool; NODES], distances: &Distances) -> bool {
-    for node in 0..NODES {
-        if waits[node] && distances[node].is_some() {
-            return true;
-        }
-    }
-    false
+/// What the first entries left wait for, and how far each is from a goal.
+#[derive(Drop)]
+struct Ways {
+    waits: Waits,
+    distances: Distances,
 }
 
-/// The first node from one on whose first entry left waits for itself, and how far each node is from it.
-fn first_that_waits_for_itself(logs: &Logs, next: &[usize; NODES], first: u8) -> (u8, Distances)
+/// Of the nodes that an entry waits for and that lead to the goal, the first of the nearest, or None if none leads there.
+fn nearest(waits: &[bool; NODES], distances: &Distances) -> Option<u8>
+    ensures { IfSome result (λ node. node < MAX_NODES) }
+{
+    let mut nearest: Option<(u8, u8)> = None;
+    for node in 0..MAX_NODES {
+        if let (true, Some(distance)) = (waits[node as usize], distances[node as usize]) {
+            if nearest.is_none_or(|(least, _node)| distance < least) {
+                nearest = Some((distance, node));
+            }
+        }
+    }
+    nearest.map(|(_distance, node)| node)
+}
+
+impl Ways {
+    /// The nearest to the goal of the nodes that the first entry left of this one waits for, or None if none leads there.
+    fn onward(&self, node: u8) -> Option<u8>
+        requires { node < MAX_NODES }
+        ensures { IfSome result (λ onward. onward < MAX_NODES) }
+    {
+        nearest(&self.waits[node as usize], &self.distances)
+    }
+}
+
+/// The first node from one on whose first entry left waits for itself, and the ways to it.
+fn first_that_waits_for_itself(logs: &Logs, next: &[usize; NODES], first: u8) -> (u8, Ways)
     requires node { first < MAX_NODES }
     requires left { slice_index_or next.now first 0 < length (log_of logs.now first) }
     ensures known { result.0 < MAX_NODES }
     ensures left { slice_index_or next.now result.0 0 < length (log_of logs.now result.0) }
 {
     let waits = all_waits(logs, next);
-    for node in first..MAX_NODES {
-        if next[node as usize] < logs.of(node).len() {
-            let distances = distances_to(&waits, node);
-            if leads_back(&waits[node as usize], &distances) {
-                return (node, distances);
+    for goal in first..MAX_NODES {
+        if next[goal as usize] < logs.of(goal).len() {
+            let distances = distances_to(&waits, goal);
+            if nearest(&waits[goal as usize], &distances).is_some() {
+                return (goal, Ways { waits, distances });
             }
         }
     }
     // Some entry waits for itself, since there are only so many nodes.
-    (first, [None; NODES])
+    let distances = [None; NODES];
+    (first, Ways { waits, distances })
 }
 
 /// Ends the steps with the entry of a node that is left first, and then with the one that it waits for, unless that is
@@ -186,7 +227,7 @@ fn first_that_waits_for_itself(logs: &Logs, next: &[usize; NODES], first: u8) ->
 fn push_wait(
     logs: &Logs,
     next: &[usize; NODES],
-    distances: &Distances,
+    ways: &Ways,
     node: u8,
     steps: &mut Vec<Step>,
 ) -> Result<u8, AllocError>
@@ -200,7 +241,7 @@ fn push_wait(
 {
     let place = next[node as usize];
     let entry = logs.of(node)[place];
-    let Some(found) = nearest_blocker(logs, next, distances, &entry) else {
+    let Some(found) = find_blocker(logs, next, ways.onward(node), &entry) else {
         unreachable!()
     };
     steps.push(Step {
@@ -232,7 +273,7 @@ pub fn cycle(
     ensures cycle { IfOk result (λ steps. IsCycle logs.now steps.items) }
     ensures few { IfOk result (λ steps. length steps.items ≤ 2 * MAX_NODES) }
 {
-    let (goal, distances) = first_that_waits_for_itself(logs, next, first);
+    let (goal, ways) = first_that_waits_for_itself(logs, next, first);
     let mut starts: [Option<usize>; NODES] = [None; NODES];
     let mut steps = Vec::new(alloc);
     let mut node = goal;
@@ -241,7 +282,7 @@ pub fn cycle(
             return Vec::from_slice(alloc, &steps[start..]);
         }
         starts[node as usize] = Some(steps.len());
-        node = push_wait(logs, next, &distances, node, &mut steps)?;
+        node = push_wait(logs, next, &ways, node, &mut steps)?;
     }
     // Each turn marks another node.
     unreachable!()

@@ -77,7 +77,7 @@ fn push_log(
     node: u8,
 ) -> Result<(), AllocError> {
     let mut places = [0; LINES as usize];
-    for serial in 0..ENTRIES * 3 {
+    for serial in 0..ENTRIES * u32::from(LINES) {
         let Some(entry) = next_entry(random, lines, &mut places, node) else {
             break;
         };
@@ -168,13 +168,13 @@ fn has_cycle(alloc: Global, random: &mut Random, nodes: u8) -> Result<bool, Fail
     }
 }
 
-/// Of 600 logs of 2 to 7 nodes, many have a cycle and many an order, and no cycle has a shortcut.
+/// Of 600 logs of 2 to 16 nodes, many have a cycle and many an order, and no cycle has a shortcut.
 #[test]
 fn cycles_have_no_shortcut(rt: HostRuntime) -> Result<(), Fail> {
     let mut random = Random::new(21);
     let mut cycles = 0u32;
     for turn in 0u32..600 {
-        if has_cycle(rt.alloc(), &mut random, 2 + (turn % 6) as u8)? {
+        if has_cycle(rt.alloc(), &mut random, 2 + (turn % 15) as u8)? {
             cycles = cycles.wrapping_add(1);
         }
     }

@@ -24,6 +24,8 @@ mod plain_lists;
 #[cfg(test)]
 mod requests;
 #[cfg(test)]
+mod rings;
+#[cfg(test)]
 mod row;
 #[cfg(test)]
 mod schedules;

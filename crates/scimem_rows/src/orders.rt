@@ -10,14 +10,14 @@ use std::alloc::Global;
 use std::process::Abort;
 use std::test::*;
 
-/// A word of 1 on each of two lines, stored once.
-const ONCE: &str = "last 0 @1 1 0 0 0 0 0 0 0\nlast 1 @1 1 0 0 0 0 0 0 0\n";
+/// Logs of four nodes on two lines, with a word of 1 on each, stored once.
+const ONCE: &str = "log 2 4 2\nlast 0 @1 1 0 0 0 0 0 0 0\nlast 1 @1 1 0 0 0 0 0 0 0\n";
 
-/// The logs of these last contents and entries.
-fn read(alloc: Global, last: &str, entries: &str) -> Result<(Logs, Last), Fail>
+/// The logs of this head with last contents, and of these entries.
+fn read(alloc: Global, head: &str, entries: &str) -> Result<(Logs, Last), Fail>
     ensures { IfOk result (λ read. AreWithin (length read.1) read.0) }
 {
-    let log = format!(in alloc; "log 2 4 2\n{last}{entries}")?;
+    let log = format!(in alloc; "{head}{entries}")?;
     let (_nodes, logs, last) = read_logs(alloc, &mut Tap::new(log.as_bytes()))?;
     Ok((logs, last))
 }
@@ -43,11 +43,11 @@ fn expect_order(alloc: Global, entries: &str, order: &[(u8, u32)]) -> Result<(),
 /// That this cycle is found, each entry told by its node and its place in the log.
 fn expect_cycle(
     alloc: Global,
-    last: &str,
+    head: &str,
     entries: &str,
     cycle: &[(u8, usize, Reason)],
 ) -> Result<(), Fail> {
-    let (logs, last) = read(alloc, last, entries)?;
+    let (logs, last) = read(alloc, head, entries)?;
     match sequential_order(alloc, &logs, &last)? {
         OrderVerdict::Cycle(steps) => {
             let mut told = Vec::new(alloc);
@@ -136,7 +136,7 @@ fn independent_reads(rt: HostRuntime) -> Result<(), Fail> {
 fn stores_turned(rt: HostRuntime) -> Result<(), Fail> {
     expect_cycle(
         rt.alloc(),
-        "last 0 @2 1 0 0 0 0 0 0 0\nlast 1 @2 1 0 0 0 0 0 0 0\n",
+        "log 2 4 2\nlast 0 @2 1 0 0 0 0 0 0 0\nlast 1 @2 1 0 0 0 0 0 0 0\n",
         "0 0 store 0 0 1 = - @2\n0 1 store 1 0 1 = - @1\n1 0 store 1 0 1 = - @2\n1 1 store 0 0 1 = - @1\n",
         &[
             (0, 0, Reason::Coherence),
@@ -169,12 +169,29 @@ fn a_cycle_further_on(rt: HostRuntime) -> Result<(), Fail> {
 fn the_shorter_of_two_cycles(rt: HostRuntime) -> Result<(), Fail> {
     expect_cycle(
         rt.alloc(),
-        "last 0 @1 1 0 0 0 0 0 0 0\nlast 1 @2 2 0 0 0 0 0 0 0\n",
+        "log 2 4 2\nlast 0 @1 1 0 0 0 0 0 0 0\nlast 1 @2 2 0 0 0 0 0 0 0\n",
         "0 0 store 0 0 1 = - @1\n0 1 store 1 0 1 = - @1\n1 0 load 1 0 = 2 @2\n1 1 load 0 0 = 0 @0\n2 0 load 1 0 = 1 @1\n2 1 load 0 0 = 0 @0\n3 0 store 1 0 2 = - @2\n",
         &[
             (0, 0, Reason::FromRead),
             (2, 1, Reason::Logged),
             (2, 0, Reason::ReadsFrom),
+            (0, 1, Reason::Logged),
+        ],
+    )
+}
+
+/// The first store waits for two loads. That of node 1 leads into a cycle of nodes 1 and 2, from which no way leads back, so
+/// the cycle that is found goes over node 3.
+#[test]
+fn a_cycle_beside_another(rt: HostRuntime) -> Result<(), Fail> {
+    expect_cycle(
+        rt.alloc(),
+        "log 2 4 4\nlast 0 @1 1 0 0 0 0 0 0 0\nlast 1 @1 1 0 0 0 0 0 0 0\nlast 2 @1 1 0 0 0 0 0 0 0\nlast 3 @1 1 0 0 0 0 0 0 0\n",
+        "0 0 store 0 0 1 = - @1\n0 1 load 3 0 = 0 @0\n1 0 store 1 0 1 = - @1\n1 1 load 2 0 = 0 @0\n1 2 load 0 0 = 0 @0\n2 0 store 2 0 1 = - @1\n2 1 load 1 0 = 0 @0\n3 0 store 3 0 1 = - @1\n3 1 load 0 0 = 0 @0\n",
+        &[
+            (0, 0, Reason::FromRead),
+            (3, 1, Reason::Logged),
+            (3, 0, Reason::FromRead),
             (0, 1, Reason::Logged),
         ],
     )

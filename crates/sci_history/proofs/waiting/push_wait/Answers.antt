@@ -9,7 +9,7 @@ pub unreachable-requires : goal.unreachable-requires
 unreachable-requires c =
     let left = c.requires.left in
     let log = ap length c.of.ensures.log in
-    never_free c.args.logs.now c.args.next.now c.args.node c.of.result.now c.requires.blocked c.requires.node c.of.ensures.log (omega arith) (c.nearest_blocker.ensures.none c.in_default.is)
+    never_free c.args.logs.now c.args.next.now c.args.node c.of.result.now c.requires.blocked c.requires.node c.of.ensures.log (omega arith) (c.find_blocker.ensures.none c.in_default.is)
 
 pub offset_bounds-of-found : goal.offset_bounds-of-found
 offset_bounds-of-found c =
