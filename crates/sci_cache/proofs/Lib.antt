@@ -1,2 +1,2 @@
 pub mod LineSets
-pub mod Entries
+pub mod Index

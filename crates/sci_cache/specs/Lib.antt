@@ -7,5 +7,7 @@ pub mod Held
 pub mod Line
 pub mod LineSet
 pub mod Cache
-pub mod Entries
+pub mod Kinds
+pub mod LineKinds
+pub mod Index
 pub mod Member

@@ -5,7 +5,8 @@ ghost use Rattle.std.specs.Prelude.{◌≡◌, ◌+◌, ◌<◌, true, false, co
 use crate::fault::{AskFault, NotAwaited};
 use crate::held::Held;
 use crate::line::CachedLine;
-use crate::line_set::LineSet;
+use crate::line_kind::LineKind;
+use crate::line_kinds::LineKinds;
 use sci_packets::{NodeId, Packet};
 use sci_words::{AskKind, Extent, Op, Reply};
 use std::alloc::{AllocError, Global};
@@ -20,20 +21,20 @@ pub struct Cache {
     lines: Vec<CachedLine>,
     /// How many lines have an entry: each takes a version slot.
     taken: usize,
-    /// The lines that have an entry.
-    entries: LineSet,
+    /// The lines by kinds of state.
+    kinds: LineKinds,
 }
 
 impl Model for Cache {
     ghost use Rattle.std.specs.Prelude.{◌≡◌};
     ghost use Rattle.sci_cache.specs.Cache.{CacheOf};
-    ghost use Rattle.sci_cache.specs.Entries.{HasEntries};
+    ghost use Rattle.sci_cache.specs.Index.{IsIndex};
 
     ghost Value = { CacheOf };
 
     ghost view = { λ cache. record { me = cache.me; nodes = cache.extent.nodes; slots = cache.extent.slots; lines = cache.lines.items } };
 
-    ghost invariant = { λ cache. HasEntries cache.taken cache.entries cache.lines.items };
+    ghost invariant = { λ cache. IsIndex cache.taken cache.kinds cache.lines.items };
 }
 
 /// The identifier of a node by its number.
@@ -62,7 +63,7 @@ impl Cache {
     ghost use Rattle.sci_cache.specs.Serving.{IsForCache};
     ghost use Rattle.sci_cache.specs.Line.{untouched};
     ghost use Rattle.sci_cache.specs.Held.{state_of};
-    ghost use Rattle.sci_cache.specs.State.{is_out};
+    ghost use Rattle.sci_cache.specs.Kinds.{is_of};
     ghost use Rattle.sci_cache.specs.LineSet.{IsBefore};
     ghost use Rattle.sci_cache.specs.Cache.{CacheOf, line_of, has_slot, letter_of, slots_taken, cache_asking, cache_serving, cache_accepting, cache_performing};
 
@@ -87,7 +88,7 @@ impl Cache {
             extent,
             lines,
             taken: 0,
-            entries: LineSet::new(),
+            kinds: LineKinds::new(),
         })
     }
 
@@ -104,7 +105,7 @@ impl Cache {
             extent: self.extent,
             lines,
             taken: self.taken,
-            entries: self.entries.copy(),
+            kinds: self.kinds.copy(),
         })
     }
 
@@ -139,17 +140,17 @@ impl Cache {
         self.taken
     }
 
-    /// The least line from a line on that has an entry, or None if there is none.
-    pub fn next_entry(&self, from: u8) -> Option<u8>
+    /// The least line of a kind from a line on, or None if there is none. It looks at no other line.
+    pub fn next_of(&self, kind: LineKind, from: u8) -> Option<u8>
         ensures order { IfSome result (λ line. from ≤ line) }
         ensures here { IfSome result (λ line. line < length self.now.lines) }
         ensures small { IfSome result (λ line. line < MAX_LINES) }
         ensures found { IfSome result
-            (λ line. is_out (line_of self.now line).state ≡ false) }
+            (λ line. is_of kind (line_of self.now line).state ≡ true) }
         ensures between { (line : ℕ) → from ≤ line → IsBefore line result →
-            is_out (line_of self.now line).state ≡ true }
+            is_of kind (line_of self.now line).state ≡ false }
     {
-        let line = self.entries.next_from(from)?;
+        let line = self.kinds.next_of(kind, from)?;
         if usize::from(line) < self.lines.len() {
             Some(line)
         } else {
@@ -229,7 +230,7 @@ impl Cache {
         let was_out = part.is_out();
         part.ask(kind);
         self.taken = taken_after(self.taken, was_out, part.is_out());
-        self.entries.put(line, !part.is_out());
+        self.kinds.note(line, part.held());
     }
 
     /// Serves a Cread, Purge, Roll or Setback about a line, and gives the answer, which goes back to the
@@ -249,7 +250,7 @@ impl Cache {
         let was_out = part.is_out();
         let answer = part.serve(request.source, &request.body);
         self.taken = taken_after(self.taken, was_out, part.is_out());
-        self.entries.put(request.line as u8, !part.is_out());
+        self.kinds.note(request.line as u8, part.held());
         request.answer(answer)
     }
 
@@ -269,7 +270,7 @@ impl Cache {
         let was_out = part.is_out();
         part.accept(answer.control, &answer.body)?;
         self.taken = taken_after(self.taken, was_out, part.is_out());
-        self.entries.put(answer.line as u8, !part.is_out());
+        self.kinds.note(answer.line as u8, part.held());
         Ok(())
     }
 

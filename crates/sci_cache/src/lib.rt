@@ -9,6 +9,8 @@ mod fault;
 mod held;
 pub mod laws;
 mod line;
+mod line_kind;
+mod line_kinds;
 mod line_set;
 mod may_perform;
 mod perform;
@@ -18,6 +20,7 @@ mod states;
 pub use cache::Cache;
 pub use fault::{AskFault, NotAwaited};
 pub use held::Held;
+pub use line_kind::LineKind;
 pub use line_set::LineSet;
 pub use states::{
     Asking, Below, Claiming, Clearing, Fading, FreshHead, FreshJoining, HeadState, Joining,

@@ -5,7 +5,7 @@ ghost use Rattle.sci_words.specs.Operation.{has_words};
 
 use crate::pending::{Pending, PendingOps};
 use crate::taking::Taking;
-use sci_cache::{Cache, Held};
+use sci_cache::{Cache, Held, LineKind};
 use sci_history::Entry;
 use sci_home::{Home, is_for_home};
 use sci_packets::{Body, Packet};
@@ -78,7 +78,7 @@ impl Node {
     ghost use Rattle.sci_home.specs.Serving.{is_for_home, IsForHome};
     ghost use Rattle.sci_cache.specs.Held.{state_of};
     ghost use Rattle.sci_cache.specs.LineSet.{IsBefore};
-    ghost use Rattle.sci_cache.specs.State.{is_out};
+    ghost use Rattle.sci_cache.specs.Kinds.{is_of};
     ghost use Rattle.sci_cache.specs.Cache.{has_slot, letter_of, line_of};
     ghost use Rattle.sci_core.specs.Node.{IsAtRest, NodeOf, opening_node, lines_of, home_of, pending_on, IsForNode, IsServable, node_issuing, node_performing, node_asking, node_serving, node_refusing, node_replying, node_accepting, may_issue as may_issue_of, serving_at_home, serving_in_cache, answering};
 
@@ -390,17 +390,17 @@ impl Node {
         self.pending.get(line)
     }
 
-    /// The least line from a line on that has an entry, or None if there is none. It looks at no other line.
-    pub fn next_entry(&self, from: u8) -> Option<u8>
+    /// The least line from a line on whose state is of a kind, or None if there is none. It looks at no other line.
+    pub fn next_of(&self, kind: LineKind, from: u8) -> Option<u8>
         ensures order { IfSome result (λ line. from ≤ line) }
         ensures here { IfSome result (λ line. line < lines_of self.now) }
         ensures small { IfSome result (λ line. line < MAX_LINES) }
         ensures found { IfSome result
-            (λ line. is_out (line_of self.now.cache line).state ≡ false) }
+            (λ line. is_of kind (line_of self.now.cache line).state ≡ true) }
         ensures between { (line : ℕ) → from ≤ line → IsBefore line result →
-            is_out (line_of self.now.cache line).state ≡ true }
+            is_of kind (line_of self.now.cache line).state ≡ false }
     {
-        self.cache.next_entry(from)
+        self.cache.next_of(kind, from)
     }
 
     /// The least line from a line on with an operation pending, or None if there is none. It looks at no other line.

@@ -5,7 +5,6 @@ pub mod Found
 pub mod Wants
 pub mod Rests
 pub mod Idle
-pub mod Surveys
 pub mod Targets
 pub mod Deciding
 pub mod Telling

@@ -102,9 +102,6 @@ join before tested line marks here passes was = record {
   above = λ k higher small. (let ne : k ≢ line = (λ same. omega arith) in get_or-set_other marks line k true false ne ∙ was.above k (omega arith) small);
 }
 
-pub left_out : (before tested : ℕ → Bool) (line : ℕ) (marks : List Bool) → tested line ≡ false → AreJoined before tested line marks → AreJoined before tested (line + 1) marks
-left_out before tested line marks fails was = joined_up_to before tested line (line + 1) marks (omega arith) (λ k from lt. (let same : k ≡ line = omega arith in ap tested same ∙ fails)) was
-
 pub joined : (before tested : ℕ → Bool) (from : ℕ) (marks : List Bool) → ((k : ℕ) → from ≤ k → tested k ≡ false) → AreJoined before tested from marks → marks ≡ set_of (λ k. before k || tested k)
 joined before tested from marks none was = is_set_of (λ k. before k || tested k) marks was.long (λ k small. at k small (cases_lt k from))
   where

@@ -1,9 +1,11 @@
 -- The least number that passes a test, among more and more of them.
 use Rattle.std.proofs.Common.{◌≡◌, ℕ, zero, suc, ◌+◌, ◌-◌, ◌<◌, ◌≤◌, Bool, true, false, cond, List, [], ◌∷◌, ◌++◌, Option, Some, None, refl, sym, ap, ◌∙◌, arith}
+use Rattle.std.specs.Prelude.{IfSome}
 use Rattle.std.specs.Bool.{then_some}
 use Rattle.std.specs.Option.{option_or}
 use Rattle.std.specs.List.{find, range_with_len}
 use Rattle.std.proofs.lemmas.List.Folds.{find-append}
+use Rattle.sci_cache.specs.LineSet.{IsBefore}
 
 -- numbers up to a place, and those from it on
 pub range_parts : (a n m : ℕ) → range_with_len a (n + m) ≡ range_with_len a n ++ range_with_len (a + n) m
@@ -42,3 +44,20 @@ pub find_up_to : (p : ℕ → Bool) (k n : ℕ) → k ≤ n → ((j : ℕ) → k
 find_up_to p k n le fails =
     let whole : k + (n - k) ≡ n = omega arith in
     sym (find_between p k (n - k) (λ j from below. fails j from (omega arith))) ∙ ap (λ (m : ℕ). find p (range_with_len 0 m)) whole
+
+-- what was found among the first numbers is found among more of them
+longer : (p : ℕ → Bool) (k n x : ℕ) → k ≤ n → find p (range_with_len 0 k) ≡ Some x → find p (range_with_len 0 n) ≡ Some x
+longer p k n x le is =
+    let whole : k + (n - k) ≡ n = omega arith in
+    ap (λ (m : ℕ). find p (range_with_len 0 m)) (sym whole)
+    ∙ (ap (find p) (range_parts 0 k (n - k))
+    ∙ (find-append p (range_with_len 0 k) (range_with_len (0 + k) (n - k)) ∙ ap (λ (o : Option ℕ). option_or o (find p (range_with_len (0 + k) (n - k)))) is))
+
+-- a number that passes, and before which none does, is the least that passes; and there is none if none passes
+pub found_at : (p : ℕ → Bool) (n : ℕ) (found : Option ℕ) → IfSome found (λ k. k < n) → IfSome found (λ k. p k ≡ true) → ((j : ℕ) → j < n → IsBefore j found → p j ≡ false) → found ≡ find p (range_with_len 0 n)
+found_at p n None here passes none = find_up_to p 0 n (omega arith) (λ j from below. none j below tt)
+found_at p n (Some k) here passes none =
+    let before : None ≡ find p (range_with_len 0 k) = find_up_to p 0 k (omega arith) (λ j from below. (let lt : j < n = omega arith in none j lt below)) in
+    let least : find p (range_with_len 0 (k + 1)) ≡ Some k =
+    find_more p k ∙ (ap (λ (o : Option ℕ). option_or o (then_some (p k) k)) (sym before) ∙ ap (λ (b : Bool). option_or None (then_some b k)) passes) in
+    sym (longer p (k + 1) n k (omega arith) least)

@@ -17,7 +17,8 @@ use Rattle.sci_core.proofs.Rest.{counted_none}
 use Rattle.sci_core.proofs.WellFormedSteps.{any_part, reachable_node}
 use Rattle.sci_policy.specs.declared.want.Want.{Want}
 use Rattle.sci_policy.specs.declared.want.Want.TheVariants.{Perform, Ask}
-use Rattle.sci_policy.specs.Lines.{could_give_way, gives_way, has_maker, has_pending, joins, least, must_send, oldest, own_ask, some_line, state_on}
+use Rattle.sci_cache.specs.Kinds.{could_give_way, gives_way, joins, must_send}
+use Rattle.sci_policy.specs.Lines.{has_maker, has_pending, least, oldest, own_ask, some_line, state_on}
 use Rattle.sci_policy.specs.Policy.{PolicyOf, ask_of, asked_in, asks_home_to_change, contents_wanted, due_wanted, has, held_back, is_purged, lacks_slot, operation_asks, operation_wanted, perform_wanted, purge_wanted, read_kind, ruled, send_wanted, slot_for, slot_wanted, wanted}
 use Rattle.sci_policy.specs.Rest.{MayRest, NothingPending, Awaits}
 use Rattle.sci_policy.proofs.Found.{least_fits, least_none, least_some, none_passes, oldest_fits, oldest_some}

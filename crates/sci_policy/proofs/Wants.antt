@@ -12,7 +12,8 @@ use Rattle.sci_cache.specs.Cache.{cache_asked, cache_asking, has_slot}
 use Rattle.sci_core.specs.Node.{NodeOf, asked_by, lines_of, node_asking, node_performing}
 use Rattle.sci_policy.specs.declared.want.Want.{Want}
 use Rattle.sci_policy.specs.declared.want.Want.TheVariants.{Perform, Ask}
-use Rattle.sci_policy.specs.Lines.{could_give_way, has_fresh_sharers, has_maker, has_pending, has_sharers, least, must_send, oldest, own_ask, some_line, joins, state_on}
+use Rattle.sci_cache.specs.Kinds.{could_give_way, has_fresh_sharers, has_sharers, must_send, joins}
+use Rattle.sci_policy.specs.Lines.{has_maker, has_pending, least, oldest, own_ask, some_line, state_on}
 use Rattle.sci_policy.specs.Policy.{IsEnabledWant, PolicyOf, ask_of, asked_in, contents_wanted, due_wanted, has, held_back, is_claimed, is_purged, lacks_slot, operation_asks, perform_wanted, purge_wanted, read_kind, ruled, send_wanted, slot_for, slot_wanted, wanted}
 use Rattle.sci_policy.proofs.Found.{least_fits, oldest_fits}
 
@@ -118,7 +119,7 @@ send_enabled node =
 due_enabled : (policy : PolicyOf) (node : NodeOf) → IfSome (due_wanted policy node) (IsEnabledWant node)
 due_enabled policy node =
     mapped (λ line. Ask line kind.Claim) (least node (is_claimed policy node)) _ (IsEnabledWant node) (least_fits node (is_claimed policy node))
-    (λ line fits. made_ask node line kind.Claim fits.0 (claims (state_on node line) (and_parts (has policy.due line) (has_fresh_sharers (state_on node line)) fits.1).1))
+    (λ line fits. made_ask node line kind.Claim fits.0 (claims (state_on node line) (and_parts (has_fresh_sharers (state_on node line)) (has policy.due line) fits.1).0))
 
 slot_by : (node : NodeOf) (lacks : Bool) → IfSome (if lacks then option_and_then (ask_of node) (least node (λ other. could_give_way (state_on node other))) else None) (IsEnabledWant node)
 slot_by node true =

@@ -1,7 +1,6 @@
 pub mod Lines
 pub mod Scan
 pub mod Policy
-pub mod Survey
 pub mod Rest
 pub mod Turn
 pub mod Worker

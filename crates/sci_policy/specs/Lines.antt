@@ -1,25 +1,15 @@
 -- What a policy sees of a node's lines. All of it is this project's profile.
-use Rattle.std.specs.Prelude.{ℕ, nat_le, Bool, true, false, not, ◌&&◌, if◌then◌else◌, List, [], ◌∷◌, filter, Option, Some, None, is_some}
+use Rattle.std.specs.Prelude.{ℕ, nat_le, Bool, true, false, ◌&&◌, if◌then◌else◌, List, [], ◌∷◌, filter, Option, Some, None, is_some}
 use Rattle.std.specs.List.{find, range_with_len}
 use Rattle.sci_words.specs.declared.event.AskKind.{AskKind}
 use Rattle.sci_words.specs.declared.event.AskKind.TheVariants as kind
 use Rattle.sci_words.specs.Operation.{is_maker}
-use Rattle.sci_cache.specs.State.{CacheState, Joining, FreshJoining, Head, FreshHead, Below, Purging, Claiming, Clearing, Returning, Rolling, Telling, Fading}
+use Rattle.sci_cache.specs.State.{CacheState, Joining, FreshJoining, Head, FreshHead, Below, Purging, Telling}
 use Rattle.sci_cache.specs.Cache.{line_of}
 use Rattle.sci_core.specs.declared.pending.Pending.{Pending}
 use Rattle.sci_core.specs.Node.{NodeOf, lines_of, pending_on}
 
 -- ---- states
-
--- the head of a list that has a next entry: it purges before it writes or leaves
-abbrev pub has_sharers : CacheState → Bool
-has_sharers (Head (Some f) c) = true
-has_sharers _ = false
-
--- the same of a list under a fresh home
-abbrev pub has_fresh_sharers : CacheState → Bool
-has_fresh_sharers (FreshHead (Some f) c) = true
-has_fresh_sharers _ = false
 
 -- a line that can be draining: it purges, or can purge
 abbrev pub can_drain : CacheState → Bool
@@ -30,37 +20,6 @@ can_drain _ = false
 abbrev pub is_head : CacheState → Bool
 is_head (Head f c) = true
 is_head _ = false
-
--- on the way into a list, with the Cread sent or not
-abbrev pub joins : CacheState → Bool
-joins (Joining p sent) = true
-joins (FreshJoining p sent c) = true
-joins _ = false
-
--- a line with a request to send before anything else can come of it
-abbrev pub must_send : CacheState → Bool
-must_send (Joining p sent) = not sent
-must_send (FreshJoining p sent c) = not sent
-must_send (Telling r w sent) = not sent
-must_send _ = false
-
--- on the way out of a list, or out of the way of a writer
-abbrev pub gives_way : CacheState → Bool
-gives_way (Purging q c) = true
-gives_way (Claiming f c) = true
-gives_way (Clearing c) = true
-gives_way (Returning c) = true
-gives_way (Rolling f b c) = true
-gives_way (Telling r w sent) = true
-gives_way Fading = true
-gives_way _ = false
-
--- an entry that could begin to give way
-abbrev pub could_give_way : CacheState → Bool
-could_give_way (Head f c) = true
-could_give_way (FreshHead f c) = true
-could_give_way (Below f b c) = true
-could_give_way _ = false
 
 -- what a line with an entry asks, by its state and whether a maker is pending on it
 abbrev pub own_ask : Bool → CacheState → Option AskKind

@@ -16,7 +16,8 @@ use Rattle.sci_policy.specs.declared.decision.Decision.{Decision}
 use Rattle.sci_policy.specs.declared.decision.Decision.TheVariants.{Keep, Refuse, Serve}
 use Rattle.sci_policy.specs.declared.want.Want.{Want}
 use Rattle.sci_policy.specs.declared.want.Want.TheVariants.{Perform, Ask}
-use Rattle.sci_policy.specs.Lines.{has_sharers, has_fresh_sharers, can_drain, is_head, joins, must_send, gives_way, could_give_way, own_ask, state_on, has_pending, has_maker, least, some_line, oldest}
+use Rattle.sci_cache.specs.Kinds.{has_sharers, has_fresh_sharers, joins, must_send, gives_way, could_give_way}
+use Rattle.sci_policy.specs.Lines.{can_drain, is_head, own_ask, state_on, has_pending, has_maker, least, some_line, oldest}
 
 -- ---- what is remembered
 
@@ -85,7 +86,7 @@ send_wanted node = option_and_then (ask_of node) (least node (λ line. must_send
 
 -- a fresh list is claimed if it is due
 abbrev pub is_claimed : PolicyOf → NodeOf → ℕ → Bool
-is_claimed policy node line = has policy.due line && has_fresh_sharers (state_on node line)
+is_claimed policy node line = has_fresh_sharers (state_on node line) && has policy.due line
 
 abbrev pub due_wanted : PolicyOf → NodeOf → Option Want
 due_wanted policy node = option_map (λ line. Ask line kind.Claim) (least node (is_claimed policy node))

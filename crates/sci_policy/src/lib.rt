@@ -8,9 +8,7 @@ mod lines;
 mod policy;
 mod progress;
 mod rules;
-mod states;
 mod submit;
-mod survey;
 mod want;
 mod worker;
 

@@ -1,15 +1,15 @@
 //! What a policy sees of a node's lines.
 
-ghost use Rattle.std.specs.Prelude.{◌≡◌, ◌<◌, ℕ, Bool, None, Some, IfSome, option_map};
+ghost use Rattle.std.specs.Prelude.{◌≡◌, ◌<◌, ◌&&◌, ℕ, Bool, None, Some, IfSome, option_map};
 ghost use Rattle.sci_cache.specs.Held.{state_of};
 ghost use Rattle.sci_cache.specs.State.{Out, is_out as is_out_in};
 ghost use Rattle.sci_policy.specs.Policy.{awaits_home as awaits_home_in, is_busy_now as is_busy_now_in};
 ghost use Rattle.sci_core.specs.Node.{lines_of};
-ghost use Rattle.sci_policy.specs.Lines.{can_drain as can_drain_in, has_fresh_sharers as has_fresh_sharers_in, has_maker as has_maker_on, has_pending as has_pending_on, has_sharers as has_sharers_in, is_head as is_head_in, oldest as oldest_with, own_ask as own_ask_in, state_on};
+ghost use Rattle.sci_cache.specs.Kinds.{has_fresh_sharers as has_fresh_sharers_in, is_of};
+ghost use Rattle.sci_policy.specs.Lines.{can_drain as can_drain_in, has_maker as has_maker_on, has_pending as has_pending_on, is_head as is_head_in, least, oldest as oldest_with, own_ask as own_ask_in, state_on};
 ghost use Rattle.sci_policy.specs.Scan.{IsTest, is_older_than};
 
-use crate::states;
-use sci_cache::Held;
+use sci_cache::{Held, LineKind};
 use sci_core::Node;
 use sci_words::AskKind;
 
@@ -25,23 +25,13 @@ pub(crate) fn held_on(node: &Node, line: u8) -> Option<&Held>
     }
 }
 
-/// Whether a line is the head of a list with a next entry.
-pub(crate) fn has_sharers(node: &Node, line: u8) -> bool
-    ensures { result ≡ has_sharers_in (state_on node.now line) }
-{
-    match held_on(node, line) {
-        Some(held) => states::has_sharers(held),
-        None => false,
-    }
-}
-
 /// Whether a line is the head of a fresh list with a next entry.
 pub(crate) fn has_fresh_sharers(node: &Node, line: u8) -> bool
     ensures { result ≡ has_fresh_sharers_in (state_on node.now line) }
 {
     match held_on(node, line) {
-        Some(held) => states::has_fresh_sharers(held),
-        None => false,
+        Some(Held::FreshHead(head)) => head.forward.is_some(),
+        _ => false,
     }
 }
 
@@ -124,6 +114,29 @@ pub(crate) fn own_ask(node: &Node, line: u8) -> Option<AskKind>
         Held::Telling(state) if !state.sent => Some(AskKind::Setback),
         _ => None,
     }
+}
+
+/// The least line of a kind, or None if there is none. It looks at no other line.
+pub(crate) fn least_of(node: &Node, kind: LineKind) -> Option<u8>
+    ensures { result ≡ least node.now (λ line. is_of kind (state_on node.now line)) }
+{
+    node.next_of(kind, 0)
+}
+
+/// Of the lines of a kind the least of which something is true, or None if there is none. It looks at no other line.
+pub(crate) fn least_with<F: Fn(u8) -> bool>(node: &Node, kind: LineKind, test: F) -> Option<u8>
+    requires { (line : ℕ) → line < lines_of node.now → F.pre test line }
+    ensures { (tested : ℕ → Bool) → IsTest (lines_of node.now) (F.post test) tested →
+        result ≡ least node.now (λ line. is_of kind (state_on node.now line) && tested line) }
+{
+    let mut from = 0;
+    'lines: while let Some(line) = node.next_of(kind, from) {
+        if test(line) {
+            return Some(line);
+        }
+        from = line + 1;
+    }
+    None
 }
 
 /// Of the lines with an operation pending, and of which something is true, the one whose operation is the oldest. It looks

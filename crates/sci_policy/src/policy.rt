@@ -4,20 +4,19 @@ ghost use Rattle.std.specs.Prelude.{◌≡◌, ◌<◌, ◌||◌, ℕ, Bool};
 ghost use Rattle.sci_policy.specs.declared.policy.TheConstants.{PATIENCE};
 ghost use Rattle.std.specs.Prelude.{None, IfSome, true};
 ghost use Rattle.sci_cache.specs.Cache.{letter_of};
+ghost use Rattle.sci_cache.specs.Kinds.{is_of};
 ghost use Rattle.sci_cache.specs.State.{Out};
-ghost use Rattle.sci_core.specs.Node.{lines_of};
 ghost use Rattle.sci_policy.specs.Lines.{state_on};
 ghost use Rattle.sci_policy.specs.Policy.{is_cread, set_of};
-ghost use Rattle.sci_policy.specs.Scan.{IsOfEntries, IsTest};
 
 use crate::decision::Decision;
 use crate::line_marks::LineMarks;
 use crate::lines::{
-    awaits_home, can_drain, has_fresh_sharers, has_maker, has_sharers, is_busy_now, is_head,
+    awaits_home, can_drain, has_fresh_sharers, has_maker, is_busy_now, is_head, least_of,
 };
 use crate::rules::{perform_wanted, ruled};
-use crate::survey::Survey;
 use crate::want::Want;
+use sci_cache::LineKind;
 use sci_core::Node;
 use sci_packets::{Body, Packet};
 use sci_words::AskKind;
@@ -48,19 +47,14 @@ impl Model for Policy {
     ghost view = { λ policy. record { draining = policy.draining; due = policy.due; patience = policy.patience; turns = policy.turns; served = policy.served } };
 }
 
-/// A set of lines, with the lines besides of which something is true that is never true of a line with no entry. It looks
-/// at no such line.
-fn with_entries_that<F: Fn(u8) -> bool>(mut lines: LineMarks, node: &Node, test: F) -> LineMarks
-    requires { (line : ℕ) → line < lines_of node.now → F.pre test line }
-    ensures { (before tested : ℕ → Bool) → lines ≡ set_of before →
-        IsTest (lines_of node.now) (F.post test) tested → IsOfEntries node.now tested →
-        result ≡ set_of (λ line. before line || tested line) }
+/// A set of lines, with the lines of a kind besides. It looks at no other line.
+fn with_kind(mut lines: LineMarks, node: &Node, kind: LineKind) -> LineMarks
+    ensures { (before : ℕ → Bool) → lines ≡ set_of before →
+        result ≡ set_of (λ line. before line || is_of kind (state_on node.now line)) }
 {
     let mut from = 0;
-    'entries: while let Some(line) = node.next_entry(from) {
-        if test(line) {
-            lines.put(line, true);
-        }
+    'lines: while let Some(line) = node.next_of(kind, from) {
+        lines.put(line, true);
         from = line + 1;
     }
     lines
@@ -133,7 +127,7 @@ impl Policy {
         ensures { result ≡ set_of (draining_at_last self.now node.now) }
     {
         let lines = self.still_draining(node);
-        with_entries_that(lines, node, |line| has_sharers(node, line))
+        with_kind(lines, node, LineKind::HasSharers)
     }
 
     /// The lines that are due when patience has ended.
@@ -141,7 +135,7 @@ impl Policy {
         ensures { result ≡ set_of (due_at_last self.now node.now) }
     {
         let lines = self.due.copy();
-        with_entries_that(lines, node, |line| has_fresh_sharers(node, line))
+        with_kind(lines, node, LineKind::HasFreshSharers)
     }
 
     /// What the rules want.
@@ -158,9 +152,8 @@ impl Policy {
     fn ask_wanted(&self, node: &Node) -> Option<Want>
         ensures { perform_wanted_by node.now ≡ None → result ≡ wanted self.now node.now }
     {
-        let survey = Survey::of(self, node);
-        let want = ruled(node, &survey)?;
-        if want.asks_home_to_change() && survey.joins {
+        let want = ruled(self, node)?;
+        if want.asks_home_to_change() && least_of(node, LineKind::Joins).is_some() {
             return None;
         }
         Some(want)

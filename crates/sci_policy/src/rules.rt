@@ -1,17 +1,14 @@
 //! The rules: what a node wants to do for its own lines and operations.
 
-ghost use Rattle.std.specs.Prelude.{◌≡◌, None, option_map};
-ghost use Rattle.std.specs.Option.{option_and_then};
-ghost use Rattle.sci_words.specs.declared.event.AskKind.TheVariants.{Purge, Claim};
-ghost use Rattle.sci_core.specs.Node.{lines_of};
-ghost use Rattle.sci_policy.specs.declared.want.Want.TheVariants.{Ask};
-ghost use Rattle.sci_policy.specs.Policy.{PolicyOf, ask_of as ask_of_line, operation_asks as asked_by_operation, operation_wanted as operation_wanted_by, perform_wanted as perform_wanted_by, ruled as ruled_by, slot_wanted as slot_wanted_by, contents_wanted as contents_wanted_by};
-ghost use Rattle.sci_policy.specs.Survey.{IsSurvey};
+ghost use Rattle.std.specs.Prelude.{◌≡◌, None};
+ghost use Rattle.sci_policy.specs.Policy.{ask_of as ask_of_line, operation_asks as asked_by_operation, operation_wanted as operation_wanted_by, due_wanted as due_wanted_by, perform_wanted as perform_wanted_by, purge_wanted as purge_wanted_by, send_wanted as send_wanted_by, ruled as ruled_by, slot_wanted as slot_wanted_by, contents_wanted as contents_wanted_by};
 
-use crate::lines::{has_maker, held_on, is_out, oldest, own_ask};
-use crate::survey::Survey;
+use crate::lines::{
+    has_maker, has_pending, held_on, is_out, least_of, least_with, oldest, own_ask,
+};
+use crate::policy::Policy;
 use crate::want::Want;
-use sci_cache::Held;
+use sci_cache::{Held, LineKind};
 use sci_core::Node;
 use sci_words::AskKind;
 
@@ -24,37 +21,38 @@ pub(crate) fn perform_wanted(node: &Node) -> Option<Want>
 }
 
 /// What the first rule that fits wants, where no operation can be performed.
-pub(crate) fn ruled(node: &Node, survey: &Survey) -> Option<Want>
-    ensures { (policy : PolicyOf) → IsSurvey policy node.now (lines_of node.now) survey.now →
-        perform_wanted_by node.now ≡ None → result ≡ ruled_by policy node.now }
+pub(crate) fn ruled(policy: &Policy, node: &Node) -> Option<Want>
+    ensures { perform_wanted_by node.now ≡ None → result ≡ ruled_by policy.now node.now }
 {
-    purge_wanted(survey)
-        .or_else(|| send_wanted(node, survey))
-        .or_else(|| due_wanted(survey))
-        .or_else(|| operation_wanted(node, survey))
+    purge_wanted(policy, node)
+        .or_else(|| send_wanted(node))
+        .or_else(|| due_wanted(policy, node))
+        .or_else(|| operation_wanted(node))
 }
 
-/// Purges the least list that is to be purged.
-fn purge_wanted(survey: &Survey) -> Option<Want>
-    ensures { result ≡ option_map (λ line. Ask line Purge) survey.now.to_purge }
+/// Purges the least list whose head is draining or has an operation pending.
+fn purge_wanted(policy: &Policy, node: &Node) -> Option<Want>
+    ensures { result ≡ purge_wanted_by policy.now node.now }
 {
-    let line = survey.to_purge?;
+    let line = least_with(node, LineKind::HasSharers, |line| {
+        policy.is_draining(line) || has_pending(node, line)
+    })?;
     Some(Want::Ask(line, AskKind::Purge))
 }
 
-/// Sends the request of a line that must send one.
-fn send_wanted(node: &Node, survey: &Survey) -> Option<Want>
-    ensures { result ≡ option_and_then (ask_of_line node.now) survey.now.to_send }
+/// Sends the request of the least line that must send one.
+fn send_wanted(node: &Node) -> Option<Want>
+    ensures { result ≡ send_wanted_by node.now }
 {
-    let line = survey.to_send?;
+    let line = least_of(node, LineKind::MustSend)?;
     ask_of(node, line)
 }
 
 /// Claims the least list that is due.
-fn due_wanted(survey: &Survey) -> Option<Want>
-    ensures { result ≡ option_map (λ line. Ask line Claim) survey.now.to_claim }
+fn due_wanted(policy: &Policy, node: &Node) -> Option<Want>
+    ensures { result ≡ due_wanted_by policy.now node.now }
 {
-    let line = survey.to_claim?;
+    let line = least_with(node, LineKind::HasFreshSharers, |line| policy.is_due(line))?;
     Some(Want::Ask(line, AskKind::Claim))
 }
 
@@ -67,27 +65,25 @@ fn ask_of(node: &Node, line: u8) -> Option<Want>
 }
 
 /// What pending operations want.
-fn operation_wanted(node: &Node, survey: &Survey) -> Option<Want>
-    ensures { (policy : PolicyOf) → IsSurvey policy node.now (lines_of node.now) survey.now →
-        result ≡ operation_wanted_by node.now }
+fn operation_wanted(node: &Node) -> Option<Want>
+    ensures { result ≡ operation_wanted_by node.now }
 {
-    slot_wanted(node, survey).or_else(|| contents_wanted(node))
+    slot_wanted(node).or_else(|| contents_wanted(node))
 }
 
 /// A slot for the oldest operation, if its line has no entry, no slot is free, and none is about to be. The least line
 /// that can gives way.
-fn slot_wanted(node: &Node, survey: &Survey) -> Option<Want>
-    ensures { (policy : PolicyOf) → IsSurvey policy node.now (lines_of node.now) survey.now →
-        result ≡ slot_wanted_by node.now }
+fn slot_wanted(node: &Node) -> Option<Want>
+    ensures { result ≡ slot_wanted_by node.now }
 {
-    if node.has_slot() || survey.gives_way {
+    if node.has_slot() || least_of(node, LineKind::GivesWay).is_some() {
         return None;
     }
     let line = oldest(node, |_line| true)?;
     if !is_out(node, line) {
         return None;
     }
-    let other = survey.can_give_way?;
+    let other = least_of(node, LineKind::CouldGiveWay)?;
     ask_of(node, other)
 }
 

@@ -5,7 +5,7 @@ use Rattle.sci_packets.specs.declared.body.Body.{Body}
 use Rattle.sci_cache.specs.Line.{LineState}
 use Rattle.sci_cache.specs.Cache.{CacheOf, line_of, with_line, cache_serving}
 use Rattle.sci_cache.specs.Serving.{serving}
-use Rattle.sci_cache.proofs.Entries.{with_changed}
+use Rattle.sci_cache.proofs.Index.{with_changed}
 use Rattle.sci_cache.proofs.cache.Cache.serve.Goals as goal
 
 served_case : (C : CacheOf) (line n : ℕ) (request answer : Body) (part : LineState) → serving (line_of C line).state n request ≡ Some (part.state, answer) → part.asks ≡ (line_of C line).asks → cache_serving C line n request ≡ Some (with_line C line part, answer)
@@ -25,5 +25,5 @@ returns-clause-case c =
 
 pub invariant_of-self : goal.invariant_of-self
 invariant_of-self c =
-    with_changed c.self.inside.taken c.taken_after-self-inside.result c.self.inside.entries c.put.new.self c.self.inside.lines.items c.args.request.now.line c.index_mut-part.result.now c.serve-answer.new.self
+    with_changed c.self.inside.taken c.taken_after-self-inside.result c.self.inside.kinds c.note.new.self c.self.inside.lines.items c.args.request.now.line c.index_mut-part.result.now c.serve-answer.new.self
     (grind (arith, common_steps)) (grind (arith, common_steps)) c.self.invariant (grind (arith, common_steps)) (grind (arith, common_steps)) (grind (arith, common_steps))

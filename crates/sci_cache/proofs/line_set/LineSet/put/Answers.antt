@@ -1,4 +1,4 @@
-use Rattle.std.proofs.Common.{◌≡◌, sym, subst, ap, ◌∙◌, arith}
+use Rattle.std.proofs.Common.{sym, ap, ◌∙◌, arith}
 use Rattle.sci_cache.specs.LineSet.{is_in}
 use Rattle.sci_cache.proofs.LineSets.{clear_here, clear_other, set_here, set_other}
 use Rattle.sci_cache.proofs.line_set.LineSet.put.Goals as goal

@@ -1,0 +1,105 @@
+//! The lines of a node by kinds of state.
+
+use crate::held::Held;
+use crate::line_kind::LineKind;
+use crate::line_set::LineSet;
+use std::marker::Model;
+
+/// For each kind of state the set of the lines whose state is of that kind. Contracts see it as a record of sets.
+#[derive(Drop)]
+pub(crate) struct LineKinds {
+    has_sharers: LineSet,
+    has_fresh_sharers: LineSet,
+    joins: LineSet,
+    must_send: LineSet,
+    gives_way: LineSet,
+    could_give_way: LineSet,
+}
+
+impl Model for LineKinds {
+    ghost use Rattle.sci_cache.specs.LineKinds.{KindSets};
+
+    ghost Value = { KindSets };
+
+    ghost view = { λ kinds. record {
+      has_sharers = kinds.has_sharers;
+      has_fresh_sharers = kinds.has_fresh_sharers;
+      joins = kinds.joins;
+      must_send = kinds.must_send;
+      gives_way = kinds.gives_way;
+      could_give_way = kinds.could_give_way;
+    } };
+}
+
+impl LineKinds {
+    ghost use Rattle.std.specs.Prelude.{◌≡◌, ◌≢◌, ◌<◌, ◌≤◌, ℕ, true, false, IfSome};
+    ghost use Rattle.sci_words.specs.declared.limits.TheConstants.{MAX_LINES};
+    ghost use Rattle.sci_cache.specs.Held.{state_of};
+    ghost use Rattle.sci_cache.specs.Kinds.{is_of};
+    ghost use Rattle.sci_cache.specs.LineKinds.{set_of};
+    ghost use Rattle.sci_cache.specs.LineSet.{IsBefore, is_in};
+    ghost use Rattle.sci_cache.specs.declared.line_kind.LineKind.{LineKind};
+
+    /// The kinds of no line.
+    pub(crate) fn new() -> LineKinds
+        ensures { (kind : LineKind) (line : ℕ) → is_in (set_of kind result) line ≡ false }
+    {
+        LineKinds {
+            has_sharers: LineSet::new(),
+            has_fresh_sharers: LineSet::new(),
+            joins: LineSet::new(),
+            must_send: LineSet::new(),
+            gives_way: LineSet::new(),
+            could_give_way: LineSet::new(),
+        }
+    }
+
+    /// The same kinds.
+    pub(crate) fn copy(&self) -> LineKinds
+        ensures { result ≡ self.now }
+    {
+        LineKinds {
+            has_sharers: self.has_sharers.copy(),
+            has_fresh_sharers: self.has_fresh_sharers.copy(),
+            joins: self.joins.copy(),
+            must_send: self.must_send.copy(),
+            gives_way: self.gives_way.copy(),
+            could_give_way: self.could_give_way.copy(),
+        }
+    }
+
+    /// Notes the state that a line has now. The caller sees to it that a machine can have such a line.
+    pub(crate) fn note(&mut self, line: u8, held: &Held)
+        requires { line < MAX_LINES }
+        ensures here { (kind : LineKind) →
+            is_in (set_of kind self.new) line ≡ is_of kind (state_of held.now) }
+        ensures others { (kind : LineKind) (other : ℕ) → other ≢ line →
+            is_in (set_of kind self.new) other ≡ is_in (set_of kind self.old) other }
+    {
+        self.has_sharers.put(line, held.is_of(LineKind::HasSharers));
+        self.has_fresh_sharers
+            .put(line, held.is_of(LineKind::HasFreshSharers));
+        self.joins.put(line, held.is_of(LineKind::Joins));
+        self.must_send.put(line, held.is_of(LineKind::MustSend));
+        self.gives_way.put(line, held.is_of(LineKind::GivesWay));
+        self.could_give_way
+            .put(line, held.is_of(LineKind::CouldGiveWay));
+    }
+
+    /// The least line of a kind from a line on, or None if there is none.
+    pub(crate) fn next_of(&self, kind: LineKind, from: u8) -> Option<u8>
+        ensures order { IfSome result (λ line. from ≤ line) }
+        ensures found { IfSome result (λ line. is_in (set_of kind self.now) line ≡ true) }
+        ensures between { (line : ℕ) → from ≤ line → IsBefore line result →
+            is_in (set_of kind self.now) line ≡ false }
+    {
+        match kind {
+            LineKind::HasSharers => self.has_sharers.next_from(from),
+            LineKind::HasFreshSharers => self.has_fresh_sharers.next_from(from),
+            LineKind::Joins => self.joins.next_from(from),
+            LineKind::MustSend => self.must_send.next_from(from),
+            LineKind::GivesWay => self.gives_way.next_from(from),
+            LineKind::CouldGiveWay => self.could_give_way.next_from(from),
+        }
+    }
+}
