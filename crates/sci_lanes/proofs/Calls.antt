@@ -1,14 +1,12 @@
 -- What the calls of an end need and tell.
-use Rattle.std.proofs.Common.{◌≡◌, ℕ, ◌*◌, ◌/◌, ◌%◌, ◌<◌, ◌≤◌, List, [], ◌∷◌, length, get_or, take, Option, Some, None, refl, sym, ap, subst, ◌∙◌, true, arith}
+use Rattle.std.proofs.Common.{◌≡◌, ℕ, ◌/◌, ◌%◌, ◌<◌, List, [], ◌∷◌, length, get_or, Option, Some, None, refl, sym, ap, subst, ◌∙◌, true, arith}
 use Rattle.std.specs.Prelude.{is_some, slice_get, Result, Ok, Err}
-use Rattle.sci_packets.specs.declared.fault.PacketFault.{PacketFault}
-use Rattle.std.proofs.lemmas.List.{get_or_read, length-take-le, ext_get_or, get_or-take}
+use Rattle.std.proofs.lemmas.List.{get_or_read}
 use Rattle.sci_words.specs.declared.event.Event.{Event}
 use Rattle.sci_words.specs.declared.event.Event.TheVariants as event
 use Rattle.sci_packets.specs.declared.packet.Packet.{Packet}
 use Rattle.sci_packets.specs.Spelling.{SpellsInWords, words_of}
 use Rattle.sci_packets.proofs.Whole.{one_by_words}
-use Rattle.sci_packets.proofs.WordLaws.{few_words}
 use Rattle.sci_cache.specs.Cache.{Letter, letter_of, line_of}
 use Rattle.sci_cache.specs.State.{waits}
 use Rattle.sci_core.specs.declared.lane.LaneKind.{LaneKind}
@@ -21,21 +19,20 @@ use Rattle.sci_core.proofs.Applied.{servable, acceptable}
 use Rattle.sci_core.proofs.Enabled.{request_enabled}
 use Rattle.sci_core.proofs.WellFormedSteps.{reached_well}
 use Rattle.sci_lanes.specs.declared.cell.CellId.{CellId}
-use Rattle.sci_lanes.specs.declared.end.Inbox.{Inbox}
 use Rattle.sci_lanes.specs.declared.view.Part.{Part}
-use Rattle.sci_lanes.specs.Cells.{lane_count, receiver_of, lane_number}
+use Rattle.sci_lanes.specs.Cells.{lane_count, receiver_of}
 use Rattle.sci_lanes.specs.Shown.{me_of, outbound_at, inbound_at}
 use Rattle.sci_lanes.specs.Telling.{IsFront, IsFull, IsShown, IsSending, IsTaking, IsBeating, SomeLineWaits}
-use Rattle.sci_lanes.specs.Ends.{nodes_in, lane_at_cell, IsNextToSend, IsNextToTake, MayPublish, MayFree, MayBeat, node_after, taken_by, MayBeGiven, no_inbox, HasFound, FitsInside}
+use Rattle.sci_lanes.specs.Ends.{nodes_in, lane_at_cell, IsNextToSend, IsNextToTake, MayPublish, MayFree, MayBeat, node_after, taken_by, MayBeGiven, FitsInside}
 use Rattle.sci_lanes.proofs.Seats.{IsInLane, takes_in, shown_nodes}
 use Rattle.sci_lanes.proofs.Events.{sent_place, words_some as words_some_of}
-use Rattle.sci_lanes.proofs.Inside.{box_within}
+use Rattle.sci_lanes.proofs.Inside.{inbox_within}
 
 -- ---- the next cells
 
-pub next_send : (part : Part) (node : NodeOf) (me nodes : ℕ) (turns : List ℕ) (inboxes : List Inbox) → FitsInside part node me nodes turns inboxes → (kind : LaneKind) (to number : ℕ) → to < nodes_in part
+pub next_send : (part : Part) (node : NodeOf) (me nodes : ℕ) (turns inbox_turns : List ℕ) → FitsInside part node me nodes turns inbox_turns → (kind : LaneKind) (to number : ℕ) → to < nodes_in part
     → number ≡ get_or turns (lane_place nodes kind me to) number → IsNextToSend part (record { kind = kind; sender = me; receiver = to; number = number })
-next_send part node me nodes turns inboxes f kind to number lt read =
+next_send part node me nodes turns inbox_turns f kind to number lt read =
     let some_node = f.some_node in
     let nodes_are = f.nodes_is in
     let at = sent_place nodes kind me to some_node (omega arith) in
@@ -46,19 +43,19 @@ next_send part node me nodes turns inboxes f kind to number lt read =
       next = found ∙ (f.turns_are (lane_place nodes kind me to) at.0 ∙ ap (λ (n : ℕ). (outbound_at part (lane_place n kind me to)).sent % 4) nodes_are);
     }
 
-pub next_take : (part : Part) (node : NodeOf) (me nodes : ℕ) (turns : List ℕ) (inboxes : List Inbox) → FitsInside part node me nodes turns inboxes → (kind : LaneKind) (from : ℕ) (box : Inbox) → from < nodes_in part
-    → box ≡ get_or inboxes (lane_place nodes kind from me / nodes) box → IsNextToTake part (record { kind = kind; sender = from; receiver = me; number = box.turn })
-next_take part node me nodes turns inboxes f kind from box lt read =
+pub next_take : (part : Part) (node : NodeOf) (me nodes : ℕ) (turns inbox_turns : List ℕ) → FitsInside part node me nodes turns inbox_turns → (kind : LaneKind) (from number : ℕ) → from < nodes_in part
+    → number ≡ get_or inbox_turns (lane_place nodes kind from me / nodes) number → IsNextToTake part (record { kind = kind; sender = from; receiver = me; number = number })
+next_take part node me nodes turns inbox_turns f kind from number lt read =
     let some_node = f.some_node in
     let nodes_are = f.nodes_is in
     let at = sent_place nodes kind from me (omega arith) some_node in
     let place = lane_place nodes kind from me / nodes in
-    let within : place < length inboxes = subst (λ (n : ℕ). place < n) (sym f.inboxes_long) (box_within nodes (lane_place nodes kind from me) (omega arith) at.0) in
-    let found : box ≡ get_or inboxes place no_inbox = get_or_read inboxes place box within read no_inbox in
+    let within : place < length inbox_turns = subst (λ (n : ℕ). place < n) (sym f.inbox_turns_long) (inbox_within nodes (lane_place nodes kind from me) (omega arith) at.0) in
+    let found : number ≡ get_or inbox_turns place 0 = get_or_read inbox_turns place number within read 0 in
     record {
       mine = f.me_is;
       other = lt;
-      next = ap (λ (b : Inbox). b.turn) found ∙ (f.taken_are (lane_place nodes kind from me) at.0 at.2 ∙ ap (λ (n : ℕ). (inbound_at part (lane_place n kind from me)).taken % 4) nodes_are);
+      next = found ∙ (f.taken_are (lane_place nodes kind from me) at.0 at.2 ∙ ap (λ (n : ℕ). (inbound_at part (lane_place n kind from me)).taken % 4) nodes_are);
     }
 
 -- ---- a full lane of requests
@@ -118,34 +115,6 @@ freeing part cell e packet next may is takes = record {
   lane_is = (λ i. lane_place (nodes_in part) cell.kind cell.sender (may.next.mine i));
   spelled = subst (λ (p : Packet). SpellsInWords p (inbound_at part (lane_at_cell part cell)).found) (sym is) may.spelled;
 }
-
--- what is kept of a cell begins with the packet whose words were found
-pub kept_packet : (part : Part) (node : NodeOf) (me nodes : ℕ) (turns : List ℕ) (inboxes : List Inbox) → FitsInside part node me nodes turns inboxes → (cell : CellId) (packet : Packet) (box : Inbox) → IsNextToTake part cell
-    → SpellsInWords packet (inbound_at part (lane_at_cell part cell)).found → box ≡ get_or inboxes (lane_number nodes cell / nodes) box
-    → (length (words_of packet) ≤ length box.words) × SpellsInWords packet (take (length (words_of packet)) box.words)
-kept_packet part node me nodes turns inboxes f cell packet box next spelled read =
-    let at = takes_in part cell f.shown next in
-    let some_node = f.some_node in
-    let lane = lane_at_cell part cell in
-    let lane_is : lane_number nodes cell ≡ lane = ap (λ (n : ℕ). lane_number n cell) f.nodes_is in
-    let lane_ok : lane < lane_count nodes = subst (λ (n : ℕ). lane < lane_count n) (sym f.nodes_is) at.lane in
-    let receives : receiver_of nodes lane ≡ me = subst (λ (n : ℕ). receiver_of n lane ≡ me) (sym f.nodes_is) (at.receiver ∙ (next.mine ∙ sym f.me_is)) in
-    let within : lane_number nodes cell / nodes < length inboxes = subst (λ (n : ℕ). lane_number nodes cell / nodes < n) (sym f.inboxes_long) (subst (λ (l : ℕ). l / nodes < 2 * nodes) (sym lane_is) (box_within nodes lane (omega arith) lane_ok)) in
-    let box_is : box ≡ get_or inboxes (lane / nodes) no_inbox = get_or_read inboxes (lane_number nodes cell / nodes) box within read no_inbox ∙ ap (λ (l : ℕ). get_or inboxes (l / nodes) no_inbox) lane_is in
-    let found : HasFound box.words (inbound_at part lane).found = subst (λ (b : Inbox). HasFound b.words (inbound_at part lane).found) (sym box_is) (f.found_are lane lane_ok receives) in
-    let words = words_of packet in
-    let few = few_words packet spelled.packet in
-    let eleven = found.eleven in
-    let le : length words ≤ length box.words = omega arith in
-    let count : length (take (length words) box.words) ≡ length words = length-take-le (length words) box.words le in (
-      le,
-      record {
-        packet = spelled.packet;
-        spelled_so = ext_get_or 0 (take (length words) box.words) words count (λ k lt.
-            let less : k < length words = omega arith in
-            get_or-take (length words) box.words k 0 less ∙ (found.begins k (subst (λ (ws : List ℕ). k < length ws) (sym spelled.spelled_so) less) ∙ ap (λ (ws : List ℕ). get_or ws k 0) spelled.spelled_so));
-      },
-    )
 
 -- the packet that was found is the oldest of its lane, and may be given to the node
 pub given : (part : Part) (cell : CellId) (e : Event) → IsShown part → (may : MayFree part cell e) → MayBeGiven e part.node (letter_of may.packet)
@@ -215,20 +184,6 @@ given part cell e s may = by_event e may.side_is
 -- two packets with the same words are one
 pub one_spelled : (p q : Packet) (words : List ℕ) → SpellsInWords p words → SpellsInWords q words → p ≡ q
 one_spelled p q words h k = one_by_words p q h.packet k.packet (λ i a b. ap (λ (ws : List ℕ). get_or ws i 0) (sym h.spelled_so ∙ k.spelled_so))
-
--- decoding what is kept gives that packet
-pub decoded : (part : Part) (node : NodeOf) (me nodes : ℕ) (turns : List ℕ) (inboxes : List Inbox) → FitsInside part node me nodes turns inboxes → (cell : CellId) (e : Event) (may : MayFree part cell e) (box : Inbox) → box ≡ get_or inboxes (lane_number nodes cell / nodes) box
-    → (result : Result (Packet × ℕ) PacketFault) → ((p : Packet) (k : ℕ) → k ≤ length box.words → SpellsInWords p (take k box.words) → result ≡ Ok (p, k)) → result ≡ Ok (may.packet, length (words_of may.packet))
-decoded part node me nodes turns inboxes f cell e may box read result only =
-    let kept = kept_packet part node me nodes turns inboxes f cell may.packet box may.next may.spelled read in
-    only may.packet (length (words_of may.packet)) kept.0 kept.1
-
--- the same by the calls that find the box: the lane's number, and how many nodes there are
-pub found_packet : (part : Part) (node : NodeOf) (me nodes : ℕ) (turns : List ℕ) (inboxes : List Inbox) → FitsInside part node me nodes turns inboxes → (cell : CellId) (e : Event) (may : MayFree part cell e) (box : Inbox) (lane from : ℕ)
-    → box ≡ get_or inboxes (lane / from) box → lane ≡ lane_number nodes cell → from ≡ nodes
-    → (result : Result (Packet × ℕ) PacketFault) → ((p : Packet) (k : ℕ) → k ≤ length box.words → SpellsInWords p (take k box.words) → result ≡ Ok (p, k)) → result ≡ Ok (may.packet, length (words_of may.packet))
-found_packet part node me nodes turns inboxes f cell e may box lane from read lane_is from_is result only =
-    decoded part node me nodes turns inboxes f cell e may box (read ∙ (λ i. get_or inboxes (lane_is i / from_is i) box)) result only
 
 pub ok_first : {A B E : Type 0} (a c : A) (b d : B) (result : Result (A × B) E) → result ≡ Ok (a, b) → result ≡ Ok (c, d) → a ≡ c
 ok_first {A = A} {B = B} {E = E} a c b d result h k = ap (λ (x : A × B). x.0) (same (a, b) (c, d) (sym h ∙ k))

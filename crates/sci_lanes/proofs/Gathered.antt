@@ -19,29 +19,28 @@ use Rattle.sci_core.specs.Outcome.{logs_of}
 use Rattle.sci_core.proofs.WellFormedSteps.{reached_well}
 use Rattle.sci_core.proofs.Logs.{all_logs}
 use Rattle.sci_core.proofs.ReachedLaws.{log_at, log_beyond}
-use Rattle.sci_lanes.specs.declared.end.Inbox.{Inbox}
 use Rattle.sci_lanes.specs.declared.view.Part.{Part}
 use Rattle.sci_lanes.specs.Cells.{lane_count, receiver_of, word_count}
 use Rattle.sci_lanes.specs.Shown.{Fits, nodes_of, me_of, IsKnown}
 use Rattle.sci_lanes.specs.Telling.{no_part, size_in}
 use Rattle.sci_lanes.specs.Ends.{EndOf, LanesOf}
-use Rattle.sci_lanes.specs.Gathering.{IsOf, AreAll, AreGathered, AreJoined, AreKept, AreLanes, AreLogged, HasNodes, HaveBoxes, HaveLogs, IsReadOff, TakesFrom}
+use Rattle.sci_lanes.specs.Gathering.{IsOf, AreAll, AreGathered, AreJoined, AreKept, AreLanes, AreLogged, HasNodes, HaveInboxTurns, HaveLogs, IsReadOff, TakesFrom}
 use Rattle.sci_lanes.proofs.Keeping.{all_at}
 use Rattle.sci_lanes.proofs.Events.{count_is}
 use Rattle.sci_lanes.proofs.Allowed.{size_known}
 
 module _ {Z : Type 0} where
   -- every node is among the parts that were joined
-  pub every_node : (n : ℕ) (parts : List Part) (nodes : List NodeOf) (inboxes : List (Vec Inbox Z)) → AreJoined n n parts nodes inboxes → HasNodes n parts
-  every_node n parts nodes inboxes j k lt = (k, get_or parts k no_part, slice_get-get_or parts k no_part (let long = j.parts_long in omega arith), (j.each k lt).numbered)
+  pub every_node : (n : ℕ) (parts : List Part) (nodes : List NodeOf) (inbox_turns : List (Vec ℕ Z)) → AreJoined n n parts nodes inbox_turns → HasNodes n parts
+  every_node n parts nodes inbox_turns j k lt = (k, get_or parts k no_part, slice_get-get_or parts k no_part (let long = j.parts_long in omega arith), (j.each k lt).numbered)
 
-  -- and each has an inbox for every lane to it
-  pub every_box : (n : ℕ) (parts : List Part) (nodes : List NodeOf) (inboxes : List (Vec Inbox Z)) → AreJoined n n parts nodes inboxes → HaveBoxes n inboxes
-  every_box n parts nodes inboxes j k v lt is = ((j.each k lt).boxes v is).long
+  -- and each has such a number for every lane to it
+  pub every_turn : (n : ℕ) (parts : List Part) (nodes : List NodeOf) (inbox_turns : List (Vec ℕ Z)) → AreJoined n n parts nodes inbox_turns → HaveInboxTurns n inbox_turns
+  every_turn n parts nodes inbox_turns j k v lt is = ((j.each k lt).turns v is).long
 
-  module _ (table : LanesOf) (extent : Extent) (limit : ℕ) (ends : List EndOf) (parts : List Part) (nodes : List NodeOf) (inboxes : List (Vec Inbox Z)) (words : List ℕ) (lanes : List (List Letter))
-      (some : 0 < extent.nodes) (size_is : table.size ≡ size_of extent limit) (own : (place : ℕ) (end : EndOf) → slice_get ends place ≡ Some end → IsOf table end) (all : AreAll extent.nodes ends) (j : AreJoined extent.nodes extent.nodes parts nodes inboxes)
-      (kept : AreKept ends [] nodes) (r : IsReadOff (record { parts = parts; words = words })) (long : length words ≡ word_count extent.nodes) (read : AreLanes extent.nodes words inboxes (lane_count extent.nodes) lanes) where
+  module _ (table : LanesOf) (extent : Extent) (limit : ℕ) (ends : List EndOf) (parts : List Part) (nodes : List NodeOf) (inbox_turns : List (Vec ℕ Z)) (words : List ℕ) (lanes : List (List Letter))
+      (some : 0 < extent.nodes) (size_is : table.size ≡ size_of extent limit) (own : (place : ℕ) (end : EndOf) → slice_get ends place ≡ Some end → IsOf table end) (all : AreAll extent.nodes ends) (j : AreJoined extent.nodes extent.nodes parts nodes inbox_turns)
+      (kept : AreKept ends [] nodes) (r : IsReadOff (record { parts = parts; words = words })) (long : length words ≡ word_count extent.nodes) (read : AreLanes extent.nodes words inbox_turns (lane_count extent.nodes) lanes) where
     n : ℕ
     n = extent.nodes
 
@@ -84,7 +83,7 @@ module _ {Z : Type 0} where
         let i = part_at (l % extent.nodes) to in
         let at = j.each (l % extent.nodes) to in
         let inbound = i.inbound l (subst (λ (m : ℕ). l < lane_count m) (sym count) lt) (ap (λ (m : ℕ). receiver_of m l) count ∙ sym at.numbered) in
-        let takes : TakesFrom extent.nodes inboxes l ((r.whole.inbound l).taken % 4) = (λ v is. (at.boxes v is).turns l lt (sym at.numbered) ∙ ap (λ b. b.taken % 4) inbound) in
+        let takes : TakesFrom extent.nodes inbox_turns l ((r.whole.inbound l).taken % 4) = (λ v is. (at.turns v is).turns l lt (sym at.numbered) ∙ ap (λ b. b.taken % 4) inbound) in
         sym s.letters ∙ sym (read.each l s.packets (r.whole.outbound l) (r.whole.inbound l) lt (subst (λ (ws : List ℕ). Fits ws l s.packets (r.whole.outbound l) (r.whole.inbound l)) words_are s.fits) takes)
 
     core_is : r.whole.core ≡ core_of extent limit nodes lanes

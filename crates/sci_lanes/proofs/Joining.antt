@@ -6,7 +6,6 @@ use Rattle.std.proofs.lemmas.Bool.{cases_lt}
 use Rattle.std.proofs.lemmas.List.{length_push, get_or_append_left, get_or_push}
 use Rattle.atomic_table.specs.Seated.{TableId}
 use Rattle.sci_core.specs.Node.{NodeOf, no_node}
-use Rattle.sci_lanes.specs.declared.end.Inbox.{Inbox}
 use Rattle.sci_lanes.specs.declared.view.Part.{Part}
 use Rattle.sci_lanes.specs.Shown.{me_of}
 use Rattle.sci_lanes.specs.Telling.{no_part}
@@ -60,26 +59,26 @@ mapped_less f (x ∷ xs) (suc p) = ap (λ ys. f x ∷ ys) (mapped_less f xs p)
 
 module _ {Z : Type 0} where
   -- the first nodes are joined, and the ends of the others are left
-  pub record AreJoining (table : TableId) (all count : ℕ) (ends left : List EndOf) (parts : List Part) (nodes : List NodeOf) (inboxes : List (Vec Inbox Z)) : Type 0 where
-    pub joined : AreJoined all count parts nodes inboxes
+  pub record AreJoining (table : TableId) (all count : ℕ) (ends left : List EndOf) (parts : List Part) (nodes : List NodeOf) (inbox_turns : List (Vec ℕ Z)) : Type 0 where
+    pub joined : AreJoined all count parts nodes inbox_turns
     pub kept : AreKept ends left nodes
     pub rest : length left + count ≡ all
     pub every : (n : ℕ) → count ≤ n → n < all → HasEndOf left n
     pub own : (place : ℕ) (end : EndOf) → slice_get left place ≡ Some end → (end.table ≡ table) × (nodes_in end.part ≡ all)
 
-  pub none_joined : (table : TableId) (all : ℕ) (ends : List EndOf) (parts : List Part) (nodes : List NodeOf) (inboxes : List (Vec Inbox Z)) → parts ≡ [] → nodes ≡ [] → inboxes ≡ [] → AreAll all ends
-      → ((place : ℕ) (end : EndOf) → slice_get ends place ≡ Some end → (end.table ≡ table) × (nodes_in end.part ≡ all)) → AreJoining table all 0 ends ends parts nodes inboxes
-  none_joined table all ends parts nodes inboxes no_parts no_nodes no_boxes a own = record {
-    joined = record { parts_long = ap length no_parts; nodes_long = ap length no_nodes; inboxes_long = ap length no_boxes; each = λ n lt. absurd (omega arith) };
+  pub none_joined : (table : TableId) (all : ℕ) (ends : List EndOf) (parts : List Part) (nodes : List NodeOf) (inbox_turns : List (Vec ℕ Z)) → parts ≡ [] → nodes ≡ [] → inbox_turns ≡ [] → AreAll all ends
+      → ((place : ℕ) (end : EndOf) → slice_get ends place ≡ Some end → (end.table ≡ table) × (nodes_in end.part ≡ all)) → AreJoining table all 0 ends ends parts nodes inbox_turns
+  none_joined table all ends parts nodes inbox_turns no_parts no_nodes no_turns a own = record {
+    joined = record { parts_long = ap length no_parts; nodes_long = ap length no_nodes; inbox_turns_long = ap length no_turns; each = λ n lt. absurd (omega arith) };
     kept = λ place end is. inl (place, is);
     rest = (let count = a.count in omega arith);
     every = λ n le lt. a.every n lt;
     own = own;
   }
 
-  module _ (table : TableId) (all count : ℕ) (ends left : List EndOf) (parts : List Part) (nodes : List NodeOf) (inboxes : List (Vec Inbox Z)) (place : ℕ) (end : EndOf) (node : NodeOf) (box : Vec Inbox Z)
-      (j : AreJoining table all count ends left parts nodes inboxes) (there : slice_get left place ≡ Some end) (numbered : me_of end.part ≡ count) (node_is : node ≡ end.part.node) (turns : HasTurns (nodes_in end.part) end.part box.items) where
-    at_new : (n : ℕ) → n < count + 1 → IsJoinedAt all (parts ++ end.part ∷ []) (nodes ++ node ∷ []) (inboxes ++ box ∷ []) n
+  module _ (table : TableId) (all count : ℕ) (ends left : List EndOf) (parts : List Part) (nodes : List NodeOf) (inbox_turns : List (Vec ℕ Z)) (place : ℕ) (end : EndOf) (node : NodeOf) (turns : Vec ℕ Z)
+      (j : AreJoining table all count ends left parts nodes inbox_turns) (there : slice_get left place ≡ Some end) (numbered : me_of end.part ≡ count) (node_is : node ≡ end.part.node) (takes : HasTurns (nodes_in end.part) end.part turns.items) where
+    at_new : (n : ℕ) → n < count + 1 → IsJoinedAt all (parts ++ end.part ∷ []) (nodes ++ node ∷ []) (inbox_turns ++ turns ∷ []) n
     at_new n lt = elim (cases_lt n count) [
       | inl less ↦ (
           let was = j.joined.each n less in
@@ -88,7 +87,7 @@ module _ {Z : Type 0} where
           record {
             numbered = ap me_of p ∙ was.numbered;
             node = q ∙ (was.node ∙ ap (λ (x : Part). x.node) (sym p));
-            boxes = λ v is. subst (λ (x : Part). HasTurns all x v.items) (sym p) (was.boxes v (is ∙ get_or_append_left inboxes (box ∷ []) v n (let long = j.joined.inboxes_long in omega arith)));
+            turns = λ v is. subst (λ (x : Part). HasTurns all x v.items) (sym p) (was.turns v (is ∙ get_or_append_left inbox_turns (turns ∷ []) v n (let long = j.joined.inbox_turns_long in omega arith)));
           })
       | inr le ↦ (
           let same : n ≡ count = omega arith in
@@ -97,9 +96,9 @@ module _ {Z : Type 0} where
           record {
             numbered = ap me_of p ∙ (numbered ∙ sym same);
             node = q ∙ (node_is ∙ ap (λ (x : Part). x.node) (sym p));
-            boxes = λ v is. subst (λ (x : Part). HasTurns all x v.items) (sym p)
-                (subst (λ (w : Vec Inbox Z). HasTurns all end.part w.items) (sym (is ∙ get_or_push inboxes box v n (j.joined.inboxes_long ∙ sym same)))
-                (subst (λ (m : ℕ). HasTurns m end.part box.items) (j.own place end there).1 turns));
+            turns = λ v is. subst (λ (x : Part). HasTurns all x v.items) (sym p)
+                (subst (λ (w : Vec ℕ Z). HasTurns all end.part w.items) (sym (is ∙ get_or_push inbox_turns turns v n (j.joined.inbox_turns_long ∙ sym same)))
+                (subst (λ (m : ℕ). HasTurns m end.part turns.items) (j.own place end there).1 takes));
           })
     ]
 
@@ -117,12 +116,12 @@ module _ {Z : Type 0} where
           | inr joined ↦ inr (omega (arith, joined.0, pushed), get_or_append_left nodes (node ∷ []) no_node (me_of e.part) joined.0 ∙ joined.1)
         ]
 
-    pub one_joined : AreJoining table all (count + 1) ends (remove left place) (parts ++ end.part ∷ []) (nodes ++ node ∷ []) (inboxes ++ box ∷ [])
+    pub one_joined : AreJoining table all (count + 1) ends (remove left place) (parts ++ end.part ∷ []) (nodes ++ node ∷ []) (inbox_turns ++ turns ∷ [])
     one_joined = record {
       joined = record {
         parts_long = length_push parts end.part ∙ ap (λ (n : ℕ). n + 1) j.joined.parts_long;
         nodes_long = length_push nodes node ∙ ap (λ (n : ℕ). n + 1) j.joined.nodes_long;
-        inboxes_long = length_push inboxes box ∙ ap (λ (n : ℕ). n + 1) j.joined.inboxes_long;
+        inbox_turns_long = length_push inbox_turns turns ∙ ap (λ (n : ℕ). n + 1) j.joined.inbox_turns_long;
         each = at_new;
       };
       kept = kept_new;

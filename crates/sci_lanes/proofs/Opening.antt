@@ -18,15 +18,13 @@ use Rattle.sci_core.specs.Size.{Size, size_of, IsMachineSize}
 use Rattle.sci_core.specs.Node.{NodeOf, opening_node, no_node}
 use Rattle.sci_core.specs.Core.{node_at, lane_at, opening}
 use Rattle.sci_core.specs.Reached.{IsReached}
-use Rattle.sci_lanes.specs.declared.end.Inbox.{Inbox}
 use Rattle.sci_lanes.specs.declared.view.Part.{Part}
 use Rattle.sci_lanes.specs.declared.view.View.{View}
 use Rattle.sci_lanes.specs.Cells.{cell_place, lane_count, word_count}
-use Rattle.sci_lanes.specs.Shown.{Fits, Whole, me_of, no_outbound, no_inbound, inbound_at, single, opening_part, first_view, IsKnown, HasRead, IsKept}
+use Rattle.sci_lanes.specs.Shown.{Fits, Whole, me_of, no_outbound, no_inbound, single, opening_part, first_view, IsKnown, HasRead, IsKept}
 use Rattle.sci_lanes.specs.Telling.{IsShown, part_of, size_in}
-use Rattle.sci_lanes.specs.Ends.{FitsInside, HasFound, no_inbox, empty_inbox, rest_view, no_view, first_off, first_only, EndOf, IsSeated, opening_ends}
+use Rattle.sci_lanes.specs.Ends.{FitsInside, rest_view, no_view, first_off, first_only, EndOf, IsSeated, opening_ends}
 use Rattle.sci_lanes.proofs.Keeping.{read_none}
-use Rattle.sci_lanes.proofs.Inside.{box_within}
 use Rattle.sci_lanes.proofs.Sharing.{splits}
 
 reached_opening : (size : Size) → IsMachineSize size → IsReached (opening size)
@@ -148,8 +146,8 @@ shown_opened size n ok lt = record {
     not_vacant e = cc
 
 pub inside_opened : (size : Size) (n : ℕ) (node : NodeOf) → IsMachineSize size → n < size.nodes → node ≡ opening_node n size
-    → FitsInside (opening_part size n) node node.cache.me size.nodes (replicate (lane_count size.nodes) 0) (replicate (2 * size.nodes) empty_inbox)
-inside_opened size n node ok lt is = subst (λ (m : NodeOf). FitsInside (opening_part size n) m m.cache.me size.nodes (replicate (lane_count size.nodes) 0) (replicate (2 * size.nodes) empty_inbox)) (sym is)
+    → FitsInside (opening_part size n) node node.cache.me size.nodes (replicate (lane_count size.nodes) 0) (replicate (2 * size.nodes) 0)
+inside_opened size n node ok lt is = subst (λ (m : NodeOf). FitsInside (opening_part size n) m m.cache.me size.nodes (replicate (lane_count size.nodes) 0) (replicate (2 * size.nodes) 0)) (sym is)
     (record {
       shown = shown_opened size n ok lt;
       node_is = refl;
@@ -159,15 +157,10 @@ inside_opened size n node ok lt is = subst (λ (m : NodeOf). FitsInside (opening
       outbound_long = length-replicate (lane_count size.nodes) no_outbound;
       inbound_long = length-replicate (lane_count size.nodes) no_inbound;
       turns_long = length-replicate (lane_count size.nodes) 0;
-      inboxes_long = length-replicate (2 * size.nodes) empty_inbox;
+      inbox_turns_long = length-replicate (2 * size.nodes) 0;
       turns_are = λ lane less. zeros_are (lane_count size.nodes) lane ∙ ap (λ u. u.sent % 4) (sym (replicated (lane_count size.nodes) lane no_outbound));
-      taken_are = λ lane less here. ap (λ (b : Inbox). b.turn) (box lane less) ∙ ap (λ u. u.taken % 4) (sym (replicated (lane_count size.nodes) lane no_inbound));
-      found_are = λ lane less here. subst (λ (b : Inbox). HasFound b.words (inbound_at (opening_part size n) lane).found) (sym (box lane less))
-          (subst (λ u. HasFound empty_inbox.words u.found) (sym (replicated (lane_count size.nodes) lane no_inbound)) (record { eleven = refl; begins = λ k few. absurd (omega arith) }));
+      taken_are = λ lane less here. zeros_are (2 * size.nodes) (lane / size.nodes) ∙ ap (λ u. u.taken % 4) (sym (replicated (lane_count size.nodes) lane no_inbound));
     })
-  where
-    box : (lane : ℕ) → lane < lane_count size.nodes → get_or (replicate (2 * size.nodes) empty_inbox) (lane / size.nodes) no_inbox ≡ empty_inbox
-    box lane less = get_or-replicate (2 * size.nodes) (lane / size.nodes) empty_inbox no_inbox (box_within size.nodes lane (omega arith) less)
 
 -- ---- the size
 

@@ -9,15 +9,13 @@ use Rattle.sci_packets.specs.declared.packet.Packet.{Packet}
 use Rattle.sci_packets.specs.Spelling.{SpellsInWords, words_of}
 use Rattle.sci_packets.proofs.WordLaws.{few_words, first_word-above}
 use Rattle.sci_cache.specs.Cache.{Letter, letter_of}
-use Rattle.sci_lanes.specs.declared.end.Inbox.{Inbox}
 use Rattle.sci_lanes.specs.declared.view.Outbound.{Outbound}
 use Rattle.sci_lanes.specs.declared.view.Inbound.{Inbound}
 use Rattle.sci_lanes.specs.Cells.{cell_place, lane_count, word_at}
 use Rattle.sci_lanes.specs.Shown.{Fits}
-use Rattle.sci_lanes.specs.Ends.{no_inbox}
-use Rattle.sci_lanes.specs.Gathering.{AreLanes, HaveBoxes, IsPacketAt, TakesFrom}
+use Rattle.sci_lanes.specs.Gathering.{AreLanes, HaveInboxTurns, IsPacketAt, TakesFrom}
 use Rattle.sci_lanes.proofs.Events.{words_some}
-use Rattle.sci_lanes.proofs.Inside.{box_within}
+use Rattle.sci_lanes.proofs.Inside.{inbox_within}
 
 -- the packet at a place is spelled by the words from there on
 spelled_there : (words : List ℕ) (place : ℕ) (packet : Packet) → IsPacketAt words place packet → (length (words_of packet) ≤ length (drop place words)) × SpellsInWords packet (take (length (words_of packet)) (drop place words))
@@ -97,18 +95,18 @@ module _ (words : List ℕ) (lane turn k place : ℕ) (shown : List Packet) (o :
 
 -- ---- the lanes so far
 
--- the inbox of a lane
-pub box_there : {Z : Type 0} (nodes lane : ℕ) (inboxes : List (Vec Inbox Z)) (v : Vec Inbox Z) → 0 < nodes → lane < lane_count nodes → HaveBoxes nodes inboxes → v ≡ get_or inboxes (lane % nodes) v → lane / nodes < length v.items
-box_there nodes lane inboxes v some lt boxes is =
-    let long : length v.items ≡ 2 * nodes = boxes (lane % nodes) v (mod-lt lane some) is in
-    let within = box_within nodes lane some lt in
+-- the number of the cell of a lane to take from
+pub turn_there : {Z : Type 0} (nodes lane : ℕ) (inbox_turns : List (Vec ℕ Z)) (v : Vec ℕ Z) → 0 < nodes → lane < lane_count nodes → HaveInboxTurns nodes inbox_turns → v ≡ get_or inbox_turns (lane % nodes) v → lane / nodes < length v.items
+turn_there nodes lane inbox_turns v some lt each is =
+    let long : length v.items ≡ 2 * nodes = each (lane % nodes) v (mod-lt lane some) is in
+    let within = inbox_within nodes lane some lt in
     omega arith
 
-pub lanes_more : {Z : Type 0} (nodes : ℕ) (words : List ℕ) (inboxes : List (Vec Inbox Z)) (lanes : List (List Letter)) (v : Vec Inbox Z) (box : Inbox) (letters : List Letter) → 0 < nodes → length lanes < lane_count nodes → HaveBoxes nodes inboxes
-    → v ≡ get_or inboxes (length lanes % nodes) v → box ≡ get_or v.items (length lanes / nodes) box
-    → ((shown : List Packet) (o : Outbound) (i : Inbound) → Fits words (length lanes) shown o i → box.turn ≡ i.taken % 4 → letters ≡ map letter_of shown)
-    → AreLanes nodes words inboxes (length lanes) lanes → AreLanes nodes words inboxes (length (lanes ++ letters ∷ [])) (lanes ++ letters ∷ [])
-lanes_more nodes words inboxes lanes v box letters some less boxes v_is box_is read a =
+pub lanes_more : {Z : Type 0} (nodes : ℕ) (words : List ℕ) (inbox_turns : List (Vec ℕ Z)) (lanes : List (List Letter)) (v : Vec ℕ Z) (turn : ℕ) (letters : List Letter) → 0 < nodes → length lanes < lane_count nodes → HaveInboxTurns nodes inbox_turns
+    → v ≡ get_or inbox_turns (length lanes % nodes) v → turn ≡ get_or v.items (length lanes / nodes) turn
+    → ((shown : List Packet) (o : Outbound) (i : Inbound) → Fits words (length lanes) shown o i → turn ≡ i.taken % 4 → letters ≡ map letter_of shown)
+    → AreLanes nodes words inbox_turns (length lanes) lanes → AreLanes nodes words inbox_turns (length (lanes ++ letters ∷ [])) (lanes ++ letters ∷ [])
+lanes_more nodes words inbox_turns lanes v turn letters some less every v_is turn_is read a =
     let longer : length (lanes ++ letters ∷ []) ≡ length lanes + 1 = length_push lanes letters in
     record {
       long = refl;
@@ -116,8 +114,8 @@ lanes_more nodes words inboxes lanes v box letters some less boxes v_is box_is r
         | inl before ↦ get_or_append_left lanes (letters ∷ []) [] lane before ∙ a.each lane packets o i before f takes
         | inr le ↦ (
             let same : lane ≡ length lanes = omega arith in
-            let box_there = get_or_read v.items (length lanes / nodes) box (box_there nodes (length lanes) inboxes v some less boxes v_is) box_is no_inbox in
+            let there = get_or_read v.items (length lanes / nodes) turn (turn_there nodes (length lanes) inbox_turns v some less every v_is) turn_is 0 in
             get_or_push lanes letters [] lane (sym same) ∙ read packets o i (subst (λ (l : ℕ). Fits words l packets o i) same f)
-            (ap (λ (b : Inbox). b.turn) box_there ∙ subst (λ (l : ℕ). TakesFrom nodes inboxes l (i.taken % 4)) same takes v v_is))
+            (there ∙ subst (λ (l : ℕ). TakesFrom nodes inbox_turns l (i.taken % 4)) same takes v v_is))
       ];
     }

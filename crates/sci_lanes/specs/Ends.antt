@@ -1,6 +1,6 @@
 -- An end of the lanes, as its owner sees it, and what each of its calls needs.
 use Rattle.std.specs.List.{range_with_len}
-use Rattle.std.specs.Prelude.{◌≡◌, ℕ, ◌+◌, ◌-◌, ◌*◌, ◌/◌, ◌%◌, ◌<◌, ◌≤◌, true, List, [], length, slice_index, slice_index_or, slice_set, map, take, drop, replicate, Option, None, Some, ◌∷◌}
+use Rattle.std.specs.Prelude.{◌≡◌, ℕ, ◌+◌, ◌-◌, ◌*◌, ◌/◌, ◌%◌, ◌<◌, ◌≤◌, true, List, [], length, slice_index, map, take, drop, Option, None, Some, ◌∷◌}
 use Rattle.atomic_table.specs.Table.{Me}
 use Rattle.atomic_table.specs.Seated.{TableId}
 use Rattle.sci_words.specs.declared.extent.Extent.{Extent}
@@ -14,7 +14,6 @@ use Rattle.sci_core.specs.Node.{NodeOf, IsForNode, IsServable}
 use Rattle.sci_core.specs.Core.{Side, Changes, Sends, Takes, side, node_of}
 use Rattle.sci_lanes.specs.declared.cell.CellId.{CellId}
 use Rattle.sci_lanes.specs.declared.cell.TheConstants.{CELL_WORDS}
-use Rattle.sci_lanes.specs.declared.end.Inbox.{Inbox}
 use Rattle.sci_lanes.specs.declared.view.Part.{Part}
 use Rattle.sci_lanes.specs.declared.view.View.{View}
 use Rattle.sci_lanes.specs.Cells.{lane_count, receiver_of, lane_number, word_count}
@@ -157,32 +156,9 @@ pub record IsSeated (key : Extent × ℕ) (table seat : TableId) (knows : Me (Un
   pub shown : IsShown (part_of knows.0)
   pub sized : size_in (part_of knows.0) ≡ size_of key.0 key.1
 
--- the words that are kept of a cell begin with those found
-pub record HasFound (words found : List ℕ) : Type 0 where
-  pub eleven : length words ≡ 11
-  pub begins : (k : ℕ) → k < length found → slice_index words k ≡ slice_index found k
-
-abbrev pub no_inbox : Inbox
-no_inbox = record { turn = 0; words = [] }
-
--- with a word kept
-abbrev pub with_word : ℕ → ℕ → Inbox → Inbox
-with_word index word box = record box { words = slice_set box.words index word }
-
-abbrev pub inbox_at : List Inbox → ℕ → Inbox
-inbox_at inboxes place = slice_index_or inboxes place no_inbox
-
--- the inbox at a place changed
-abbrev pub with_inbox : List Inbox → ℕ → (Inbox → Inbox) → List Inbox
-with_inbox inboxes place change = slice_set inboxes place (change (inbox_at inboxes place))
-
--- gone on to the next cell
-abbrev pub passed : Inbox → Inbox
-passed box = record box { turn = (box.turn % 4 + 1) % 4 }
-
 -- How the fields of an end fit together: what it knows, its node, its number, how many nodes there are, for each lane the
--- next cell to send into, and what it keeps of each lane to it.
-pub record FitsInside (part : Part) (node : NodeOf) (me nodes : ℕ) (turns : List ℕ) (inboxes : List Inbox) : Type 0 where
+-- next cell to send into, and for each lane to it the next cell to take from.
+pub record FitsInside (part : Part) (node : NodeOf) (me nodes : ℕ) (turns inbox_turns : List ℕ) : Type 0 where
   pub shown : IsShown part
   pub node_is : node ≡ part.node
   pub me_is : me ≡ me_of part
@@ -191,10 +167,9 @@ pub record FitsInside (part : Part) (node : NodeOf) (me nodes : ℕ) (turns : Li
   pub outbound_long : length part.outbound ≡ lane_count nodes
   pub inbound_long : length part.inbound ≡ lane_count nodes
   pub turns_long : length turns ≡ lane_count nodes
-  pub inboxes_long : length inboxes ≡ 2 * nodes
+  pub inbox_turns_long : length inbox_turns ≡ 2 * nodes
   pub turns_are : (lane : ℕ) → lane < lane_count nodes → slice_index turns lane ≡ (outbound_at part lane).sent % 4
-  pub taken_are : (lane : ℕ) → lane < lane_count nodes → receiver_of nodes lane ≡ me → (slice_index_or inboxes (lane / nodes) no_inbox).turn ≡ (inbound_at part lane).taken % 4
-  pub found_are : (lane : ℕ) → lane < lane_count nodes → receiver_of nodes lane ≡ me → HasFound (slice_index_or inboxes (lane / nodes) no_inbox).words (inbound_at part lane).found
+  pub taken_are : (lane : ℕ) → lane < lane_count nodes → receiver_of nodes lane ≡ me → slice_index inbox_turns (lane / nodes) ≡ (inbound_at part lane).taken % 4
 
 -- ---- the whole table
 
@@ -227,7 +202,3 @@ pub record IsRoot (key : Extent × ℕ) (table seat : TableId) (knows : Me (Unit
   pub same : seat ≡ table
   pub long : table.words ≡ word_count extent.nodes
   pub spent : knows ≡ (no_view, [])
-
--- nothing found, in the first cell
-abbrev pub empty_inbox : Inbox
-empty_inbox = record { turn = 0; words = replicate 11 0 }

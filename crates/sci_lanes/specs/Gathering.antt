@@ -15,7 +15,6 @@ use Rattle.sci_core.specs.Core.{Core, node_at, lane_at}
 use Rattle.sci_core.specs.Reached.{IsReached}
 use Rattle.sci_core.specs.Outcome.{logs_of}
 use Rattle.sci_core.specs.Sharing.{last_of}
-use Rattle.sci_lanes.specs.declared.end.Inbox.{Inbox}
 use Rattle.sci_lanes.specs.declared.gather.Room.{Room}
 use Rattle.sci_lanes.specs.declared.view.Inbound.{Inbound}
 use Rattle.sci_lanes.specs.declared.view.Outbound.{Outbound}
@@ -24,7 +23,7 @@ use Rattle.sci_lanes.specs.declared.view.View.{View}
 use Rattle.sci_lanes.specs.Cells.{lane_count, receiver_of, word_count}
 use Rattle.sci_lanes.specs.Shown.{Fits, ShowsLane, Whole, nodes_of, me_of, inbound_at, IsKnown, HasRead}
 use Rattle.sci_lanes.specs.Telling.{no_part, size_in}
-use Rattle.sci_lanes.specs.Ends.{EndOf, LanesOf, inbox_at}
+use Rattle.sci_lanes.specs.Ends.{EndOf, LanesOf}
 
 -- ---- the ends that are given
 
@@ -101,24 +100,24 @@ Gathers s before word after = GathersFrom before.0 word after
 abbrev pub HasNodes : ℕ → List Part → Type 0
 HasNodes nodes parts = (n : ℕ) → n < nodes → (place : ℕ) × (part : Part) × (slice_get parts place ≡ Some part) × (me_of part ≡ n)
 
--- for each lane to a node, what is kept of it has the number of the cell to take from
-pub record HasTurns (nodes : ℕ) (part : Part) (boxes : List Inbox) : Type 0 where
-  pub long : length boxes ≡ 2 * nodes
-  pub turns : (lane : ℕ) → lane < lane_count nodes → receiver_of nodes lane ≡ me_of part → (inbox_at boxes (lane / nodes)).turn ≡ (inbound_at part lane).taken % 4
+-- for each lane to a node, the number of the cell to take from
+pub record HasTurns (nodes : ℕ) (part : Part) (inbox_turns : List ℕ) : Type 0 where
+  pub long : length inbox_turns ≡ 2 * nodes
+  pub turns : (lane : ℕ) → lane < lane_count nodes → receiver_of nodes lane ≡ me_of part → slice_index inbox_turns (lane / nodes) ≡ (inbound_at part lane).taken % 4
 
 module _ {Z : Type 0} where
   -- the node with this number, among those that were joined
-  pub record IsJoinedAt (all : ℕ) (parts : List Part) (nodes : List NodeOf) (inboxes : List (Vec Inbox Z)) (n : ℕ) : Type 0 where
+  pub record IsJoinedAt (all : ℕ) (parts : List Part) (nodes : List NodeOf) (inbox_turns : List (Vec ℕ Z)) (n : ℕ) : Type 0 where
     pub numbered : me_of (slice_index_or parts n no_part) ≡ n
     pub node : slice_index_or nodes n no_node ≡ (slice_index_or parts n no_part).node
-    pub boxes : (v : Vec Inbox Z) → v ≡ slice_index_or inboxes n v → HasTurns all (slice_index_or parts n no_part) v.items
+    pub turns : (v : Vec ℕ Z) → v ≡ slice_index_or inbox_turns n v → HasTurns all (slice_index_or parts n no_part) v.items
 
   -- the nodes below a number were joined, in their order
-  pub record AreJoined (all count : ℕ) (parts : List Part) (nodes : List NodeOf) (inboxes : List (Vec Inbox Z)) : Type 0 where
+  pub record AreJoined (all count : ℕ) (parts : List Part) (nodes : List NodeOf) (inbox_turns : List (Vec ℕ Z)) : Type 0 where
     pub parts_long : length parts ≡ count
     pub nodes_long : length nodes ≡ count
-    pub inboxes_long : length inboxes ≡ count
-    pub each : (n : ℕ) → n < count → IsJoinedAt all parts nodes inboxes n
+    pub inbox_turns_long : length inbox_turns ≡ count
+    pub each : (n : ℕ) → n < count → IsJoinedAt all parts nodes inbox_turns n
 
 -- each end that was given is still there, or its node was joined
 abbrev pub AreKept : List EndOf → List EndOf → List NodeOf → Type 0
@@ -141,7 +140,7 @@ pub record IsPacketAt (words : List ℕ) (place : ℕ) (packet : Packet) : Type 
 -- memory for a gathering, in which nothing is yet
 pub record IsFresh (count : ℕ) (room : Room) : Type 0 where
   pub nodes : HasRoom count room.nodes
-  pub inboxes : HasRoom count room.inboxes
+  pub inbox_turns : HasRoom count room.inbox_turns
   pub words : HasRoom (word_count count) room.words
   pub lanes : HasRoom (lane_count count) room.lanes
   pub packets_long : length room.packets.items ≡ lane_count count
@@ -154,15 +153,15 @@ pub record AreLogged (nodes : ℕ) (ends : List EndOf) (logs : List (List Entry)
   pub none : (n : ℕ) → nodes ≤ n → log_of logs n ≡ []
 
 module _ {Z : Type 0} where
-  -- in the inbox of a lane the number of the cell to take from is this one
-  abbrev pub TakesFrom : ℕ → List (Vec Inbox Z) → ℕ → ℕ → Type 0
-  TakesFrom nodes inboxes lane number = (v : Vec Inbox Z) → v ≡ slice_index_or inboxes (lane % nodes) v → (inbox_at v.items (lane / nodes)).turn ≡ number
+  -- the number of the cell of a lane to take from is this one
+  abbrev pub TakesFrom : ℕ → List (Vec ℕ Z) → ℕ → ℕ → Type 0
+  TakesFrom nodes inbox_turns lane number = (v : Vec ℕ Z) → v ≡ slice_index_or inbox_turns (lane % nodes) v → slice_index v.items (lane / nodes) ≡ number
 
-  -- each node has an inbox for each lane to it
-  abbrev pub HaveBoxes : ℕ → List (Vec Inbox Z) → Type 0
-  HaveBoxes nodes inboxes = (n : ℕ) (v : Vec Inbox Z) → n < nodes → v ≡ slice_index_or inboxes n v → length v.items ≡ 2 * nodes
+  -- each node has such a number for each lane to it
+  abbrev pub HaveInboxTurns : ℕ → List (Vec ℕ Z) → Type 0
+  HaveInboxTurns nodes inbox_turns = (n : ℕ) (v : Vec ℕ Z) → n < nodes → v ≡ slice_index_or inbox_turns n v → length v.items ≡ 2 * nodes
 
   -- the packets of the first lanes, whatever the words show there
-  pub record AreLanes (nodes : ℕ) (words : List ℕ) (inboxes : List (Vec Inbox Z)) (count : ℕ) (lanes : List (List Letter)) : Type 0 where
+  pub record AreLanes (nodes : ℕ) (words : List ℕ) (inbox_turns : List (Vec ℕ Z)) (count : ℕ) (lanes : List (List Letter)) : Type 0 where
     pub long : length lanes ≡ count
-    pub each : (lane : ℕ) (packets : List Packet) (o : Outbound) (i : Inbound) → lane < count → Fits words lane packets o i → TakesFrom nodes inboxes lane (i.taken % 4) → slice_index_or lanes lane [] ≡ map letter_of packets
+    pub each : (lane : ℕ) (packets : List Packet) (o : Outbound) (i : Inbound) → lane < count → Fits words lane packets o i → TakesFrom nodes inbox_turns lane (i.taken % 4) → slice_index_or lanes lane [] ≡ map letter_of packets

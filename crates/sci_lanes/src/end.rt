@@ -1,22 +1,13 @@
 //! An end of the lanes: one node, with its seat at the table.
 
-use crate::cell::{CELL_WORDS, CellId};
+use crate::cell::CellId;
 use crate::event::{make_alone, make_taking};
 use crate::seat::NodeSeat;
 use sci_core::{LaneKind, Node};
-use sci_packets::from_words;
+use sci_packets::Packet;
 use sci_words::{Event, LANE_CELLS};
 use std::alloc::{AllocError, Global};
 use std::marker::{Brand, Model};
-
-/// What an end keeps of a lane to it.
-#[derive(Clone, Copy)]
-pub(crate) struct Inbox {
-    /// The number of the cell from which it takes next, 0 to 3.
-    pub(crate) turn: u8,
-    /// The words that it found there, from the first on.
-    pub(crate) words: [u64; CELL_WORDS],
-}
 
 /// Whoever has an end of the lanes, and maybe more.
 pub trait HasEnd {
@@ -54,8 +45,10 @@ pub struct LaneEnd {
     node: Node,
     me: u8,
     nodes: u8,
+    /// For each lane the number of the cell into which the node sends next, 0 to 3.
     turns: Vec<u8>,
-    inboxes: Vec<Inbox>,
+    /// For each lane to the node the number of the cell from which it takes next, 0 to 3.
+    inbox_turns: Vec<u8>,
 }
 
 impl Model for LaneEnd {
@@ -66,13 +59,12 @@ impl Model for LaneEnd {
     ghost view = { λ end. end.seat };
 
     ghost invariant = { λ end.
-        FitsInside end.seat.part end.node end.me end.nodes end.turns.items end.inboxes.items };
+        FitsInside end.seat.part end.node end.me end.nodes end.turns.items end.inbox_turns.items };
 }
 
 impl LaneEnd {
     ghost use Rattle.std.specs.Prelude.{◌≡◌, ◌≢◌, ◌<◌, ◌*◌, ◌⊎◌, IfOk, Some, replicate};
     ghost use Rattle.sci_lanes.specs.Cells.{lane_count};
-    ghost use Rattle.sci_packets.specs.declared.packet.Packet.{Packet};
     ghost use Rattle.sci_packets.specs.Spelling.{SpellsInWords};
     ghost use Rattle.sci_cache.specs.Cache.{letter_of};
     ghost use Rattle.sci_core.specs.declared.lane.LaneKind.TheVariants.{Requests};
@@ -81,7 +73,7 @@ impl LaneEnd {
     ghost use Rattle.sci_lanes.specs.Gathering.{HasTurns};
     ghost use Rattle.sci_lanes.specs.Telling.{IsSameNode, IsShown, SomeLineWaits};
     ghost use Rattle.sci_lanes.specs.Ends.{FitsInside, IsNextToSend, IsNextToTake, MayBeat, MayFill};
-    ghost use Rattle.sci_lanes.specs.Ends.{MayFree, MayPublish, MayRead, after_event, beaten, empty_inbox};
+    ghost use Rattle.sci_lanes.specs.Ends.{MayFree, MayPublish, MayRead, after_event, beaten};
     ghost use Rattle.sci_lanes.specs.Ends.{filled_at, freed_at, lane_at_cell, looked_at, nodes_in};
     ghost use Rattle.sci_lanes.specs.Ends.{published_at, read_at, taken_by};
 
@@ -93,16 +85,12 @@ impl LaneEnd {
         nodes: u8,
     ) -> Result<LaneEnd, AllocError>
         requires { FitsInside seat.part node node.cache.me nodes (replicate (lane_count nodes) 0)
-            (replicate (2 * nodes) empty_inbox) }
+            (replicate (2 * nodes) 0) }
         ensures { IfOk result (λ end. end ≡ seat) }
     {
         let pairs = usize::from(nodes) * usize::from(nodes);
         let turns = vec![in alloc; 0; 2 * pairs]?;
-        let empty = Inbox {
-            turn: 0,
-            words: [0; CELL_WORDS],
-        };
-        let inboxes = vec![in alloc; empty; 2 * usize::from(nodes)]?;
+        let inbox_turns = vec![in alloc; 0; 2 * usize::from(nodes)]?;
         let me = node.me();
         Ok(LaneEnd {
             seat,
@@ -110,12 +98,12 @@ impl LaneEnd {
             me,
             nodes,
             turns,
-            inboxes,
+            inbox_turns,
         })
     }
 
-    /// The end in parts: its seat, its node, and what it kept of each lane to it.
-    pub(crate) fn into_parts(self) -> (NodeSeat, Node, Vec<Inbox>)
+    /// The end in parts: its seat, its node, and for each lane to it the number of the cell from which it takes next.
+    pub(crate) fn into_parts(self) -> (NodeSeat, Node, Vec<u8>)
         ensures seat { result.0 ≡ self }
         ensures node { result.1 ≡ self.part.node }
         ensures turns { HasTurns (nodes_in self.part) self.part result.2.items }
@@ -123,10 +111,10 @@ impl LaneEnd {
         let LaneEnd {
             seat,
             node,
-            inboxes,
+            inbox_turns,
             ..
         } = self;
-        (seat, node, inboxes)
+        (seat, node, inbox_turns)
     }
 
     /// The node. It is one of a state where a schedule leads.
@@ -181,7 +169,7 @@ impl LaneEnd {
             receiver: self.me,
             number: 0,
         };
-        let number = self.inboxes[cell.inbox(self.nodes)].turn;
+        let number = self.inbox_turns[cell.inbox(self.nodes)];
         CellId { number, ..cell }
     }
 
@@ -195,12 +183,7 @@ impl LaneEnd {
         ensures waits { cell.kind ≡ Requests → IsNextToSend self.old.part cell → result ≢ 0 →
             SomeLineWaits self.new.part.node }
     {
-        let word = self.seat.look(&cell, self.nodes);
-        if cell.receiver == self.me {
-            let place = cell.inbox(self.nodes);
-            keep_first(&mut self.inboxes, place, cell.number, word);
-        }
-        word
+        self.seat.look(&cell, self.nodes)
     }
 
     /// Stores a word, with its number in the cell, into the next cell to send into. The caller sees to it that the cell is
@@ -221,10 +204,7 @@ impl LaneEnd {
         ensures part { self.new ≡ read_at cell index result self.old }
         ensures shown { IsShown self.new.part }
     {
-        let word = self.seat.read(&cell, self.nodes, index);
-        let place = cell.lane(self.nodes) / usize::from(self.nodes);
-        keep(&mut self.inboxes, place, index, word);
-        word
+        self.seat.read(&cell, self.nodes, index)
     }
 
     /// Stores the first word of a packet whose other words are filled, into the next cell to send into: from this moment
@@ -244,25 +224,22 @@ impl LaneEnd {
     }
 
     /// Stores 0 to the first word of the next cell to take from: from this moment the packet that was found there is
-    /// taken. The caller sees to it that all its words were found, and that this event of the node takes it. The node
-    /// makes its side of the event.
-    pub fn free(&mut self, cell: CellId, event: &Event)
-        requires { MayFree self.old.part cell event.now }
+    /// taken. The caller sees to it that all its words were found, and that this event of the node takes it, and gives the
+    /// packet that the words spell. The node makes its side of the event.
+    pub fn free(&mut self, cell: CellId, event: &Event, packet: &Packet)
+        requires may { MayFree self.old.part cell event.now }
+        requires spelled { SpellsInWords packet.now
+            (inbound_at self.old.part (lane_at_cell self.old.part cell)).found }
         ensures part { self.new ≡ freed_at cell self.new.part.node self.old }
-        ensures taken { (packet : Packet) →
-            SpellsInWords packet (inbound_at self.old.part (lane_at_cell self.old.part cell)).found →
-            taken_by (side self.old.part.node event.now) (letter_of packet) ≡ Some self.new.part.node }
+        ensures taken { taken_by (side self.old.part.node event.now) (letter_of packet.now)
+            ≡ Some self.new.part.node }
         ensures same { IsSameNode self.old.part self.new.part }
         ensures shown { IsShown self.new.part }
     {
-        let place = cell.lane(self.nodes) / usize::from(self.nodes);
-        let packet = match from_words(&self.inboxes[place].words) {
-            Ok((packet, _)) => packet,
-            Err(_) => unreachable!(),
-        };
-        make_taking(&mut self.node, event, &packet);
+        make_taking(&mut self.node, event, packet);
         self.seat.free::<Brand>(&cell, self.nodes, &self.node);
-        pass(&mut self.inboxes, place);
+        let place = cell.inbox(self.nodes);
+        self.inbox_turns[place] = (cell.number + 1) % LANE_CELLS;
     }
 
     /// Makes an event of the node that concerns no lane: an Issue or a Perform. The caller sees to it that it is enabled.
@@ -275,39 +252,4 @@ impl LaneEnd {
         make_alone(&mut self.node, event);
         self.seat.beat::<Brand>(self.me, self.nodes, &self.node);
     }
-}
-
-ghost use Rattle.std.specs.Prelude.{◌≡◌, ◌≢◌, ◌<◌, length};
-ghost use Rattle.sci_lanes.specs.declared.cell.TheConstants.{CELL_WORDS};
-ghost use Rattle.sci_lanes.specs.Ends.{inbox_at, passed, with_inbox, with_word};
-
-/// Keeps the first word of a cell, if the cell is the next of its lane.
-fn keep_first(inboxes: &mut Vec<Inbox>, place: usize, number: u8, word: u64)
-    requires place { place < length inboxes.old.items }
-    ensures next { (inbox_at inboxes.old.items place).turn ≡ number →
-        inboxes.new.items ≡ with_inbox inboxes.old.items place (with_word 0 word) }
-    ensures other { (inbox_at inboxes.old.items place).turn ≢ number →
-        inboxes.new.items ≡ inboxes.old.items }
-{
-    if inboxes[place].turn == number {
-        inboxes[place].words[0] = word;
-    }
-}
-
-/// Keeps a word that was found in a cell.
-fn keep(inboxes: &mut Vec<Inbox>, place: usize, index: usize, word: u64)
-    requires place { place < length inboxes.old.items }
-    requires index { index < CELL_WORDS }
-    ensures { inboxes.new.items ≡ with_inbox inboxes.old.items place (with_word index word) }
-{
-    inboxes[place].words[index] = word;
-}
-
-/// Goes on to the next cell of a lane.
-fn pass(inboxes: &mut Vec<Inbox>, place: usize)
-    requires place { place < length inboxes.old.items }
-    ensures { inboxes.new.items ≡ with_inbox inboxes.old.items place passed }
-{
-    let turn = inboxes[place].turn;
-    inboxes[place].turn = (turn % LANE_CELLS + 1) % LANE_CELLS;
 }

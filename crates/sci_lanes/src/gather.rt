@@ -1,7 +1,7 @@
 //! Gathering: all ends are joined, and the state that their lanes show is read.
 
 use crate::cell::{CELL_WORDS, own_word};
-use crate::end::{HasEnd, Inbox};
+use crate::end::HasEnd;
 use crate::lanes::Lanes;
 use crate::rule::{Gather, LaneTable};
 use crate::view::View;
@@ -83,14 +83,14 @@ impl Lanes {
         let Room {
             logs,
             mut nodes,
-            mut inboxes,
+            mut inbox_turns,
             mut words,
             packets,
             mut lanes,
         } = room;
-        join_all(&mut seat, ends, &mut nodes, &mut inboxes, extent.nodes);
+        join_all(&mut seat, ends, &mut nodes, &mut inbox_turns, extent.nodes);
         read_words(&table, &mut seat, &mut words, extent.nodes);
-        read_lanes(&mut lanes, packets, &words, &inboxes, extent.nodes);
+        read_lanes(&mut lanes, packets, &words, &inbox_turns, extent.nodes);
         let machine = Machine::of_parts(extent, limit, nodes, lanes);
         (logs, machine.last())
     }
@@ -108,15 +108,15 @@ ghost use Rattle.sci_lanes.specs.Cells.{lane_count, word_count};
 ghost use Rattle.sci_lanes.specs.Shown.{Fits, me_of};
 ghost use Rattle.sci_lanes.specs.Ends.{EndOf, no_view, nodes_in};
 ghost use Rattle.sci_lanes.specs.Gathering.{AreAll, AreJoined, AreKept, AreLanes, AreLogged, HasEndOf};
-ghost use Rattle.sci_lanes.specs.Gathering.{HasFour, HasNodes, HasRoom, HaveBoxes, IsFresh, IsPacketAt, IsReadOff};
+ghost use Rattle.sci_lanes.specs.Gathering.{HasFour, HasNodes, HasRoom, HaveInboxTurns, IsFresh, IsPacketAt, IsReadOff};
 
 /// Memory for a gathering, all of it made before the first end is joined.
 struct Room {
     /// The logs of all nodes.
     logs: Logs,
     nodes: Vec<Node>,
-    /// What each node keeps of the lanes to it.
-    inboxes: Vec<Vec<Inbox>>,
+    /// For each node the numbers of the cells from which it takes next, for each lane to it.
+    inbox_turns: Vec<Vec<u8>>,
     words: Vec<u64>,
     /// The packets of each lane.
     packets: Vec<VecDeque<Packet>>,
@@ -140,7 +140,7 @@ impl Room {
         Ok(Room {
             logs: logs_of(alloc, nodes, ends)?,
             nodes: Vec::with_capacity(alloc, count)?,
-            inboxes: Vec::with_capacity(alloc, count)?,
+            inbox_turns: Vec::with_capacity(alloc, count)?,
             words: Vec::with_capacity(alloc, own_word(nodes, nodes))?,
             packets,
             lanes: Vec::with_capacity(alloc, lane_count)?,
@@ -191,13 +191,13 @@ fn are_all<E: HasEnd>(ends: &[E], nodes: u8) -> bool
     ends.len() == usize::from(nodes)
 }
 
-/// Joins the ends to a seat that has no node, in the order of their nodes, and keeps their nodes and what they kept of
-/// the lanes to them.
+/// Joins the ends to a seat that has no node, in the order of their nodes, and keeps their nodes and the numbers of the
+/// cells from which they take next.
 fn join_all<E: HasEnd + Drop>(
     seat: &mut Seat<(), View>,
     mut ends: Vec<E>,
     nodes: &mut Vec<Node>,
-    inboxes: &mut Vec<Vec<Inbox>>,
+    inbox_turns: &mut Vec<Vec<u8>>,
     count: u8,
 )
     requires own { (place : ℕ) (end : EndOf) →
@@ -206,21 +206,21 @@ fn join_all<E: HasEnd + Drop>(
     requires all { AreAll count (map E.end_of ends.items) }
     requires spent { seat.old.me ≡ (no_view, []) }
     requires nodes { HasRoom count nodes.old }
-    requires inboxes { HasRoom count inboxes.old }
+    requires inbox_turns { HasRoom count inbox_turns.old }
     ensures same { seat.new.table_id ≡ seat.old.table_id }
     ensures knows { seat.new.me ≡ (record { parts = seat.new.me.0.parts; words = [] }, []) }
     ensures joined { AreJoined count count seat.new.me.0.parts nodes.new.items
-        inboxes.new.items }
+        inbox_turns.new.items }
     ensures kept { AreKept (map E.end_of ends.items) [] nodes.new.items }
 {
     for n in 0..count {
         let Some(place) = place_of(&ends, n) else {
             unreachable!()
         };
-        let (part, node, inbox) = ends.remove(place).into_end().into_parts();
+        let (part, node, turns) = ends.remove(place).into_end().into_parts();
         part.join(seat);
         nodes.push_reserved(node);
-        inboxes.push_reserved(inbox);
+        inbox_turns.push_reserved(turns);
     }
 }
 
@@ -246,23 +246,23 @@ fn read_lanes(
     lanes: &mut Vec<Lane>,
     packets: Vec<VecDeque<Packet>>,
     words: &[u64],
-    inboxes: &[Vec<Inbox>],
+    inbox_turns: &[Vec<u8>],
     nodes: u8,
 )
     requires some { 0 < nodes }
     requires words { length words.now ≡ word_count nodes }
-    requires inboxes { length inboxes.now ≡ nodes }
+    requires inbox_turns { length inbox_turns.now ≡ nodes }
     requires long { length packets.items ≡ lane_count nodes }
     requires packets { AllByRecursion (λ q. HasFour q.items (deque_len q) (deque_capacity q))
         packets.items }
     requires lanes { HasRoom (lane_count nodes) lanes.old }
-    requires boxes { HaveBoxes nodes inboxes.now }
-    ensures { AreLanes nodes words.now inboxes.now (lane_count nodes) lanes.new.items }
+    requires turns { HaveInboxTurns nodes inbox_turns.now }
+    ensures { AreLanes nodes words.now inbox_turns.now (lane_count nodes) lanes.new.items }
 {
     let nodes = usize::from(nodes);
     for room in packets {
         let lane = lanes.len();
-        let turn = inboxes[lane % nodes][lane / nodes].turn;
+        let turn = inbox_turns[lane % nodes][lane / nodes];
         lanes.push_reserved(read_lane(words, lane, turn, room));
     }
 }

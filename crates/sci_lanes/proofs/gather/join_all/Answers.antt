@@ -27,7 +27,7 @@ loop-n-preserved g c =
     let parts : c.join.new.root.me.0.parts ≡ c.loop-n.seat.me.0.parts ++ found.0.part ∷ [] = ap (λ k. k.0.parts) knows ∙ ap (λ p. c.loop-n.seat.me.0.parts ++ p ∷ []) part in
     let node = c.into_parts-part.ensures.node ∙ ap (λ (e : EndOf). e.part.node) end in
     let turns = subst (λ (e : EndOf). HasTurns (nodes_in e.part) e.part c.into_parts-part.result.2.items) end c.into_parts-part.ensures.turns in
-    let all = one_joined c.args.seat.now.table_id c.args.count c.loop-n.n (map f c.args.ends.items) (map f c.loop-n.ends.items) c.loop-n.seat.me.0.parts c.loop-n.nodes.items c.loop-n.inboxes.items c.in-Some.place found.0 c.into_parts-part.result.1 c.into_parts-part.result.2 i.4 there found.2 node turns in (
+    let all = one_joined c.args.seat.now.table_id c.args.count c.loop-n.n (map f c.args.ends.items) (map f c.loop-n.ends.items) c.loop-n.seat.me.0.parts c.loop-n.nodes.items c.loop-n.inbox_turns.items c.in-Some.place found.0 c.into_parts-part.result.1 c.into_parts-part.result.2 i.4 there found.2 node turns in (
       c.join.ensures.same ∙ i.0,
       knows ∙ (λ k. (record { parts = (sym (ap (λ s. s.0.parts) knows)) k; words = [] }, [])),
       omega (arith, i.2, c.push_reserved.ensures.capacity),

@@ -13,4 +13,4 @@ invariant-loop-room l =
     × (length l.lanes.items + length l.room-iterator.rest.items ≡ lane_count l.nodes-2)
     × AllByRecursion (λ q. HasFour q.items (deque_len q) (deque_capacity q)) l.room-iterator.rest.items
     × (lane_count l.nodes-2 ≤ vec_capacity l.lanes)
-    × AreLanes l.nodes-2 l.words l.inboxes (length l.lanes.items) l.lanes.items
+    × AreLanes l.nodes-2 l.words l.inbox_turns (length l.lanes.items) l.lanes.items

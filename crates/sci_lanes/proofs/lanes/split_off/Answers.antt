@@ -7,7 +7,7 @@ use Rattle.sci_lanes.specs.declared.view.Part.{Part}
 use Rattle.sci_lanes.specs.Cells.{lane_count}
 use Rattle.sci_lanes.specs.Shown.{IsKept, opening_part}
 use Rattle.sci_lanes.specs.Telling.{part_of}
-use Rattle.sci_lanes.specs.Ends.{EndOf, FitsInside, IsSeated, empty_inbox, first_off, first_only}
+use Rattle.sci_lanes.specs.Ends.{EndOf, FitsInside, IsSeated, first_off, first_only}
 use Rattle.sci_lanes.proofs.Opening.{machine_size, split_asks, knows_after, knows_new, inside_opened, seated_opened}
 use Rattle.sci_lanes.proofs.lanes.split_off.Goals as goal
 
@@ -47,7 +47,7 @@ new-requires-2 c =
     let s = c.args.seat.now in
     let knows = knows_new size c.args.node s.me c.split_seat-part.result.me c.requires.node c.requires.knows c.split_seat-part.ensures.4 in
     let part : c.new-seat.result.part ≡ opening_part size c.args.node = c.new-seat.ensures.part ∙ ap (λ k. part_of k.0) knows in
-    subst (λ (p : Part). FitsInside p c.in_ok-new.field-0 c.in_ok-new.field-0.cache.me c.args.extent.nodes (replicate (lane_count c.args.extent.nodes) 0) (replicate (2 * c.args.extent.nodes) empty_inbox)) (sym part)
+    subst (λ (p : Part). FitsInside p c.in_ok-new.field-0 c.in_ok-new.field-0.cache.me c.args.extent.nodes (replicate (lane_count c.args.extent.nodes) 0) (replicate (2 * c.args.extent.nodes) 0)) (sym part)
     (inside_opened size c.args.node c.in_ok-new.field-0 (machine_size c.args.extent c.args.limit c.requires.some c.requires.few) c.requires.node c.in_ok-new.ensures)
 
 pub returns-clause-end : goal.returns-clause-end

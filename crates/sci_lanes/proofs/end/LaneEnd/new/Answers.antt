@@ -4,7 +4,7 @@ pub invariant_of-result : goal.invariant_of-result
 invariant_of-result c =
     rw (
       c.in_ok-turns.ensures.items_if_clones_equal (λ y e. e),
-      c.in_ok-inboxes.ensures.items_if_clones_equal (λ y e. e),
+      c.in_ok-inbox_turns.ensures.items_if_clones_equal (λ y e. e),
       c.me-me.ensures,
       c.from.ensures,
       c.from-2.ensures,

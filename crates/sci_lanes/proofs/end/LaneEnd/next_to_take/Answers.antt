@@ -1,4 +1,4 @@
-use Rattle.std.proofs.Common.{ℕ, ◌≡◌, ◌<◌, ◌/◌, get_or, sym, subst, arith}
+use Rattle.std.proofs.Common.{ℕ, ◌≡◌, ◌<◌, get_or, sym, subst, arith}
 use Rattle.sci_lanes.specs.Ends.{EndOf, nodes_in, IsNextToTake}
 use Rattle.sci_lanes.proofs.Calls.{next_take}
 use Rattle.sci_lanes.proofs.end.LaneEnd.next_to_take.Goals as goal
@@ -6,16 +6,16 @@ use Rattle.sci_lanes.proofs.end.LaneEnd.next_to_take.Goals as goal
 pub returns-clause-next : goal.returns-clause-next
 returns-clause-next c =
     let s = c.self.inside in
-    let box = c.index.result.now in
-    subst (λ (e : EndOf). IsNextToTake e.part (record { kind = c.args.kind; sender = c.args.from; receiver = s.me; number = box.turn })) c.self.view_is
-    (next_take s.seat.part _ _ _ _ _ c.self.invariant c.args.kind c.args.from box (subst (λ (e : EndOf). c.args.from < nodes_in e.part) (sym c.self.view_is) c.requires)
-    (subst (λ (l : ℕ). box ≡ get_or s.inboxes.items l box) c.inbox.ensures.place c.index.ensures))
+    let number = c.index-number.result.now in
+    subst (λ (e : EndOf). IsNextToTake e.part (record { kind = c.args.kind; sender = c.args.from; receiver = s.me; number = number })) c.self.view_is
+    (next_take s.seat.part _ _ _ _ _ c.self.invariant c.args.kind c.args.from number (subst (λ (e : EndOf). c.args.from < nodes_in e.part) (sym c.self.view_is) c.requires)
+    (subst (λ (l : ℕ). number ≡ get_or s.inbox_turns.items l number) c.inbox.ensures.place c.index-number.ensures))
 
-pub index-requires : goal.index-requires
-index-requires c =
+pub index-number-requires : goal.index-number-requires
+index-number-requires c =
     let inside = c.self.invariant in
     let from : c.args.from < nodes_in c.self.inside.seat.part = subst (λ (e : EndOf). c.args.from < nodes_in e.part) (sym c.self.view_is) c.requires in
     let nodes = inside.nodes_is in
     let few = c.inbox.ensures.few (omega arith) in
-    let long = inside.inboxes_long in
+    let long = inside.inbox_turns_long in
     omega arith

@@ -9,5 +9,4 @@ invariant_of-self c =
     let s = c.self.inside in
     let f = c.self.invariant in
     let may = subst (λ (e : EndOf). MayRead e.part c.args.cell c.args.index) (sym c.self.view_is) c.requires in
-    let inside = read_inside s.seat.part _ _ _ _ _ f c.args.cell (takes_in s.seat.part c.args.cell f.shown may.next) c.read-word.new.self.part c.args.index c.read-word.result may.within may.order may.next.mine (ap (λ (e : EndOf). e.part) c.read-word.ensures.part) c.read-word.ensures.shown in
-    rw (c.keep.ensures, c.lane.ensures, c.from.ensures) inside
+    read_inside s.seat.part _ _ _ _ _ f c.args.cell (takes_in s.seat.part c.args.cell f.shown may.next) c.read.new.self.part c.args.index c.read.result (ap (λ (e : EndOf). e.part) c.read.ensures.part) c.read.ensures.shown

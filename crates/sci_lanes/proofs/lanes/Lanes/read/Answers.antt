@@ -3,8 +3,8 @@ use Rattle.sci_core.specs.Core.{core_of}
 use Rattle.sci_core.specs.Sharing.{last_of}
 use Rattle.sci_lanes.specs.Cells.{lane_count}
 use Rattle.sci_lanes.specs.Ends.{LanesOf}
-use Rattle.sci_lanes.specs.Gathering.{AreAll, AreLanes, AreLogged, HaveBoxes}
-use Rattle.sci_lanes.proofs.Gathered.{every_node, every_box, end_node, reached_core, logs_there}
+use Rattle.sci_lanes.specs.Gathering.{AreAll, AreLanes, AreLogged, HaveInboxTurns}
+use Rattle.sci_lanes.proofs.Gathered.{every_node, every_turn, end_node, reached_core, logs_there}
 use Rattle.sci_lanes.proofs.lanes.Lanes.read.Goals as goal
 
 pub join_all-requires-clause-own : goal.join_all-requires-clause-own
@@ -15,32 +15,32 @@ join_all-requires-clause-own g c = λ place end is.
 pub read_words-requires-clause-every : goal.read_words-requires-clause-every
 read_words-requires-clause-every g c = every_node _ _ _ _ c.join_all.ensures.joined
 
-pub read_lanes-requires-clause-boxes : goal.read_lanes-requires-clause-boxes
-read_lanes-requires-clause-boxes g c = subst (λ bs. HaveBoxes c.self.inside.extent.nodes bs) (sym c.deref-3.ensures.value) (every_box _ _ _ _ c.join_all.ensures.joined)
+pub read_lanes-requires-clause-turns : goal.read_lanes-requires-clause-turns
+read_lanes-requires-clause-turns g c = subst (λ bs. HaveInboxTurns c.self.inside.extent.nodes bs) (sym c.deref-3.ensures.value) (every_turn _ _ _ _ c.join_all.ensures.joined)
 
 pub of_parts-machine-requires : goal.of_parts-machine-requires
 of_parts-machine-requires g c =
     let extent = c.self.inside.extent in
     let read = subst (λ bs. AreLanes extent.nodes c.deref-2.result.now bs (lane_count extent.nodes) c.read_lanes.new.lanes.items) c.deref-3.ensures.value c.read_lanes.ensures in
-    let read = subst (λ ws. AreLanes extent.nodes ws c.join_all.new.inboxes.items (lane_count extent.nodes) c.read_lanes.new.lanes.items) c.deref-2.ensures.value read in
-    reached_core c.args.self extent c.self.inside.limit (map g.E.HasEnd.end_of c.args.ends.items) c.join_all.new.seat.me.0.parts c.join_all.new.nodes.items c.join_all.new.inboxes.items c.read_words.new.words.items c.read_lanes.new.lanes.items extent.has_node (sym (ap (λ (l : LanesOf). l.size) c.self.view_is))
+    let read = subst (λ ws. AreLanes extent.nodes ws c.join_all.new.inbox_turns.items (lane_count extent.nodes) c.read_lanes.new.lanes.items) c.deref-2.ensures.value read in
+    reached_core c.args.self extent c.self.inside.limit (map g.E.HasEnd.end_of c.args.ends.items) c.join_all.new.seat.me.0.parts c.join_all.new.nodes.items c.join_all.new.inbox_turns.items c.read_words.new.words.items c.read_lanes.new.lanes.items extent.has_node (sym (ap (λ (l : LanesOf). l.size) c.self.view_is))
     c.requires.own (subst (λ (n : ℕ). AreAll n (map g.E.HasEnd.end_of c.args.ends.items)) (sym (ap (λ (l : LanesOf). l.size.nodes) c.self.view_is)) c.requires.all) c.join_all.ensures.joined c.join_all.ensures.kept c.read_words.ensures.read c.read_words.ensures.long read
 
 pub returns : goal.returns
 returns g c =
     let extent = c.self.inside.extent in
     let read = subst (λ bs. AreLanes extent.nodes c.deref-2.result.now bs (lane_count extent.nodes) c.read_lanes.new.lanes.items) c.deref-3.ensures.value c.read_lanes.ensures in
-    let read = subst (λ ws. AreLanes extent.nodes ws c.join_all.new.inboxes.items (lane_count extent.nodes) c.read_lanes.new.lanes.items) c.deref-2.ensures.value read in
+    let read = subst (λ ws. AreLanes extent.nodes ws c.join_all.new.inbox_turns.items (lane_count extent.nodes) c.read_lanes.new.lanes.items) c.deref-2.ensures.value read in
     let size = ap (λ (l : LanesOf). l.size) c.self.view_is in
     let all = subst (λ (n : ℕ). AreAll n (map g.E.HasEnd.end_of c.args.ends.items)) (sym (ap (λ (l : LanesOf). l.size.nodes) c.self.view_is)) c.requires.all in
     record {
       core = core_of extent c.self.inside.limit c.join_all.new.nodes.items c.read_lanes.new.lanes.items;
-      reached = reached_core c.args.self extent c.self.inside.limit (map g.E.HasEnd.end_of c.args.ends.items) c.join_all.new.seat.me.0.parts c.join_all.new.nodes.items c.join_all.new.inboxes.items c.read_words.new.words.items c.read_lanes.new.lanes.items extent.has_node (sym size)
+      reached = reached_core c.args.self extent c.self.inside.limit (map g.E.HasEnd.end_of c.args.ends.items) c.join_all.new.seat.me.0.parts c.join_all.new.nodes.items c.join_all.new.inbox_turns.items c.read_words.new.words.items c.read_lanes.new.lanes.items extent.has_node (sym size)
           c.requires.own all c.join_all.ensures.joined c.join_all.ensures.kept c.read_words.ensures.read c.read_words.ensures.long read;
       sized = size;
-      nodes = end_node c.args.self extent c.self.inside.limit (map g.E.HasEnd.end_of c.args.ends.items) c.join_all.new.seat.me.0.parts c.join_all.new.nodes.items c.join_all.new.inboxes.items c.read_words.new.words.items c.read_lanes.new.lanes.items extent.has_node (sym size)
+      nodes = end_node c.args.self extent c.self.inside.limit (map g.E.HasEnd.end_of c.args.ends.items) c.join_all.new.seat.me.0.parts c.join_all.new.nodes.items c.join_all.new.inbox_turns.items c.read_words.new.words.items c.read_lanes.new.lanes.items extent.has_node (sym size)
           c.requires.own all c.join_all.ensures.joined c.join_all.ensures.kept c.read_words.ensures.read c.read_words.ensures.long read;
-      logs_are = logs_there c.args.self extent c.self.inside.limit (map g.E.HasEnd.end_of c.args.ends.items) c.join_all.new.seat.me.0.parts c.join_all.new.nodes.items c.join_all.new.inboxes.items c.read_words.new.words.items c.read_lanes.new.lanes.items extent.has_node (sym size)
+      logs_are = logs_there c.args.self extent c.self.inside.limit (map g.E.HasEnd.end_of c.args.ends.items) c.join_all.new.seat.me.0.parts c.join_all.new.nodes.items c.join_all.new.inbox_turns.items c.read_words.new.words.items c.read_lanes.new.lanes.items extent.has_node (sym size)
           c.requires.own all c.join_all.ensures.joined c.join_all.ensures.kept c.read_words.ensures.read c.read_words.ensures.long read c.args.room.logs (subst (λ (n : ℕ). AreLogged n (map g.E.HasEnd.end_of c.args.ends.items) c.args.room.logs) (sym (ap (λ (l : LanesOf). l.size.nodes) c.self.view_is)) c.requires.logs);
       last_are = c.last.ensures.last ∙ ap last_of c.of_parts-machine.ensures.parts;
     }
