@@ -171,15 +171,15 @@ fn serve(end: &mut LaneEnd, from: u8) -> Result<(), &'static str>
     }
     let cell = end.next_to_take(LaneKind::Requests, from);
     let mut budget = Budget { left: None };
-    match receive(end, &mut budget, cell) {
-        Received::Packet(_request) => {}
+    let request = match receive(end, &mut budget, cell) {
+        Received::Packet(request) => request,
         Received::Nothing | Received::Cut => return Err("no request"),
-    }
+    };
     let event = Event::Serve {
         from,
         node: end.me(),
     };
-    end.free(cell, &event);
+    end.free(cell, &event, &request);
     Ok(())
 }
 
@@ -209,7 +209,7 @@ fn refuse(end: &mut LaneEnd, from: u8) -> Result<(), &'static str>
         from,
         node: end.me(),
     };
-    end.free(cell, &event);
+    end.free(cell, &event, &request);
     Ok(())
 }
 
@@ -221,14 +221,14 @@ fn accept(end: &mut LaneEnd, from: u8) -> Result<(), &'static str>
     }
     let cell = end.next_to_take(LaneKind::Answers, from);
     let mut budget = Budget { left: None };
-    match receive(end, &mut budget, cell) {
-        Received::Packet(_answer) => {}
+    let answer = match receive(end, &mut budget, cell) {
+        Received::Packet(answer) => answer,
         Received::Nothing | Received::Cut => return Err("no answer"),
-    }
+    };
     let event = Event::Accept {
         from,
         node: end.me(),
     };
-    end.free(cell, &event);
+    end.free(cell, &event, &answer);
     Ok(())
 }

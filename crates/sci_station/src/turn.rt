@@ -1,6 +1,6 @@
 //! A station's turn, over its end and its policy.
 
-ghost use Rattle.std.specs.Prelude.{◌≡◌, ◌≢◌, ◌<◌, true, false, None, IfOk, IsErr, IsOk, IsSome, []};
+ghost use Rattle.std.specs.Prelude.{◌≡◌, ◌≢◌, ◌<◌, ◌*◌, ◌%◌, true, false, None, IfOk, IsErr, IsOk, IsSome, []};
 ghost use Rattle.sci_words.specs.declared.event.Event.TheVariants.{Ask};
 ghost use Rattle.sci_core.specs.declared.lane.LaneKind.TheVariants.{Answers, Requests};
 ghost use Rattle.sci_core.specs.Node.{node_asking};
@@ -160,14 +160,14 @@ fn accept(
     ensures spent { IsErr result → budget.old.left ≢ None }
 {
     let cell = end.next_to_take(LaneKind::Answers, from);
-    match receive(end, budget, cell) {
-        Received::Packet(_answer) => {}
+    let answer = match receive(end, budget, cell) {
+        Received::Packet(answer) => answer,
         Received::Nothing => return Ok(false),
         Received::Cut => return Err(Spent),
-    }
+    };
     budget.spend()?;
     let event = Event::Accept { from, node: me };
-    end.free(cell, &event);
+    end.free(cell, &event, &answer);
     unanswered.accepted(from);
     progress.count(&event);
     Ok(true)
@@ -195,10 +195,23 @@ fn take_all(
     let nodes = end.node().extent().nodes;
     let first = policy.first_sender(nodes);
     for place in 0..nodes {
-        let from = (first + place) % nodes;
+        let from = in_circle(first + place, nodes);
         take_from(end, policy, progress, budget, me, from)?;
     }
     Ok(())
+}
+
+/// The node of a number in a circle of so many nodes, which is gone round once: the remainder by their number, found without
+/// a division. The caller sees to it that the number is below twice that of the nodes.
+fn in_circle(number: u8, nodes: u8) -> u8
+    requires { number < 2 * nodes }
+    ensures { result ≡ number % nodes }
+{
+    if number < nodes {
+        number
+    } else {
+        number - nodes
+    }
 }
 
 /// Up to four requests from a node are served or refused, and each is answered if the cell for the answer is empty.
@@ -264,7 +277,7 @@ fn take(
         return Ok(false);
     };
     budget.spend()?;
-    end.free(cell, &event);
+    end.free(cell, &event, &request);
     progress.count(&event);
     policy.served(from);
     reply(end, progress, budget, me)?;

@@ -6,8 +6,8 @@ use Rattle.sci_policy.proofs.Deciding.{none_seen}
 use Rattle.sci_station.proofs.Events.{may_refuse}
 use Rattle.sci_station.proofs.by_hand.refuse.Goals as goal
 
-pub free-requires : goal.free-requires
-free-requires c =
+pub free-requires-clause-may : goal.free-requires-clause-may
+free-requires-clause-may c =
     let cell = c.next_to_take-cell in
     let part = c.receive.new.end.part in
     let none = none_seen (λ o. option_map letter_of (option_copied o)) refl c.waiting.result _ c.waiting.ensures (sym c.is_some.ensures ∙ c.if-is_some.false) in

@@ -6,10 +6,10 @@ use Rattle.sci_policy.proofs.Deciding.{none_seen}
 use Rattle.sci_station.proofs.Events.{may_serve}
 use Rattle.sci_station.proofs.by_hand.serve.Goals as goal
 
-pub free-requires : goal.free-requires
-free-requires c =
+pub free-requires-clause-may : goal.free-requires-clause-may
+free-requires-clause-may c =
     let cell = c.next_to_take-cell in
     let part = c.receive.new.end.part in
     let none = none_seen (λ o. option_map letter_of (option_copied o)) refl c.waiting.result _ c.waiting.ensures (sym c.is_some.ensures ∙ c.if-is_some.false) in
     let free : part.node.waiting ≡ None = ap (λ (m : NodeOf). m.waiting) (c.receive.ensures.still.node ∙ sym c.node.ensures.node) ∙ none in
-    may_serve part cell.result c.in-Packet._request c.args.from c.me.result c.in-Packet.ensures.found cell.ensures.cell.0 cell.ensures.cell.1 c.me.ensures free
+    may_serve part cell.result c.in-Packet.request c.args.from c.me.result c.in-Packet.ensures.found cell.ensures.cell.0 cell.ensures.cell.1 c.me.ensures free

@@ -9,8 +9,8 @@ use Rattle.sci_station.proofs.Events.{may_take, me_still, own_request, take_is_o
 use Rattle.sci_station.proofs.Turns.{goes_made, goes_still, goes_then}
 use Rattle.sci_station.proofs.turn.take.Goals as goal
 
-pub free-requires : goal.free-requires
-free-requires c =
+pub free-requires-clause-may : goal.free-requires-clause-may
+free-requires-clause-may c =
     let cell = c.next_to_take-cell in
     let part = c.receive.new.end.part in
     let none = none_seen (λ o. option_map letter_of (option_copied o)) refl c.waiting.result _ c.waiting.ensures (sym c.is_some.ensures ∙ c.if-is_some.false) in
@@ -26,12 +26,11 @@ returns-in_err-reply-clause-goes c =
     let request = c.in-Packet.request in
     let e = c.in-Some.event in
     let decides : decided c.args.policy.now part.node (letter_of request) ≡ c.decide.result = ap (λ (m : NodeOf). decided c.args.policy.now m (letter_of request)) (sym c.node-2.ensures.node) ∙ sym c.decide.ensures in
-    let taken = c.free.ensures.taken request c.in-Packet.ensures.found.spelled in
     goes_then n c.args.policy.now c.args.policy.now c.served.new.self c.args.end.now c.receive.new.end c.reply.new.end c.args.progress.now c.args.progress.now c.reply.new.progress
     (goes_still n c.args.policy.now c.args.end.now c.receive.new.end c.args.progress.now c.args.progress.now c.receive.ensures.still refl)
     (goes_then n c.args.policy.now c.served.new.self c.served.new.self c.receive.new.end c.free.new.self c.reply.new.end c.args.progress.now c.count.new.self c.reply.new.progress
     (goes_made n c.args.policy.now c.served.new.self c.receive.new.end c.free.new.self c.args.progress.now c.count.new.self e (take_is_own c.decide.result c.args.from n e c.in-Some.ensures)
-    (take_made c.args.policy.now c.served.new.self part.node c.free.new.self.part.node c.decide.result c.args.from n e (letter_of request) decides c.in-Some.ensures taken c.served.ensures)
+    (take_made c.args.policy.now c.served.new.self part.node c.free.new.self.part.node c.decide.result c.args.from n e (letter_of request) decides c.in-Some.ensures c.free.ensures.taken c.served.ensures)
     c.count.ensures.more c.count.ensures.counted)
     (c.reply.ensures.goes c.served.new.self))
 
@@ -42,12 +41,11 @@ returns-clause-goes c =
     let request = c.in-Packet.request in
     let e = c.in-Some.event in
     let decides : decided c.args.policy.now part.node (letter_of request) ≡ c.decide.result = ap (λ (m : NodeOf). decided c.args.policy.now m (letter_of request)) (sym c.node-2.ensures.node) ∙ sym c.decide.ensures in
-    let taken = c.free.ensures.taken request c.in-Packet.ensures.found.spelled in
     goes_then n c.args.policy.now c.args.policy.now c.served.new.self c.args.end.now c.receive.new.end c.reply.new.end c.args.progress.now c.args.progress.now c.reply.new.progress
     (goes_still n c.args.policy.now c.args.end.now c.receive.new.end c.args.progress.now c.args.progress.now c.receive.ensures.still refl)
     (goes_then n c.args.policy.now c.served.new.self c.served.new.self c.receive.new.end c.free.new.self c.reply.new.end c.args.progress.now c.count.new.self c.reply.new.progress
     (goes_made n c.args.policy.now c.served.new.self c.receive.new.end c.free.new.self c.args.progress.now c.count.new.self e (take_is_own c.decide.result c.args.from n e c.in-Some.ensures)
-    (take_made c.args.policy.now c.served.new.self part.node c.free.new.self.part.node c.decide.result c.args.from n e (letter_of request) decides c.in-Some.ensures taken c.served.ensures)
+    (take_made c.args.policy.now c.served.new.self part.node c.free.new.self.part.node c.decide.result c.args.from n e (letter_of request) decides c.in-Some.ensures c.free.ensures.taken c.served.ensures)
     c.count.ensures.more c.count.ensures.counted)
     (c.reply.ensures.goes c.served.new.self))
 

@@ -32,7 +32,7 @@ loop-place-preserved c =
             | inl before ↦ emptied_still c.loop-place.end c.take_from.new.end Requests later.end (invariant.none later.nothing waits_before other before at)
             | inr past ↦
                 let same : place ≡ other = omega arith in
-                let from : (c.first_sender-first.result + place) % c.extent-nodes.result.nodes ≡ n = (λ i. (starts i + same i) % all i) ∙ at in
+                let from : c.in_circle-from.result ≡ n = c.in_circle-from.ensures ∙ ((λ i. (starts i + same i) % all i) ∙ at) in
                 c.in_ok-take_from.ensures.idle refl nothing from waits
           ]);
       budget = no_more_then _ _ _ invariant.budget c.take_from.ensures.budget;
