@@ -57,7 +57,12 @@ fn go_round(steps: &[Step], after: &[u8]) -> bool {
 fn expect_ring(alloc: Global, after: &[u8], more: &str, count: usize) -> Result<(), Fail> {
     let (logs, last) = rings(alloc, after, more)?;
     match sequential_order(alloc, &logs, &last)? {
-        OrderVerdict::Cycle(steps) if steps.len() == count && go_round(&steps, after) => Ok(()),
+        OrderVerdict::Cycle(steps) => {
+            if steps.len() == count && go_round(&steps, after) {
+                return Ok(());
+            }
+            Err(Fail::new(format_args!("{steps:?}")))
+        }
         other => Err(Fail::new(format_args!("{other:?}"))),
     }
 }
