@@ -1,6 +1,7 @@
 pub mod Budgets
 pub mod Stills
 pub mod Cells
+pub mod Circle
 pub mod Spelled
 pub mod Turns
 pub mod Events

@@ -1,5 +1,5 @@
 -- A station's end, before and after steps on words.
-use Rattle.std.specs.Prelude.{◌≡◌, ℕ, None, IfSome}
+use Rattle.std.specs.Prelude.{◌≡◌, ℕ, [], ◌∷◌, None, IfSome}
 use Rattle.sci_cache.specs.Cache.{Letter}
 use Rattle.sci_words.specs.declared.event.Event.{Event}
 use Rattle.sci_core.specs.declared.lane.LaneKind.{LaneKind}
@@ -13,9 +13,8 @@ use Rattle.sci_lanes.specs.declared.cell.CellId.{CellId}
 use Rattle.sci_lanes.specs.declared.view.Part.{Part}
 use Rattle.sci_lanes.specs.Ends.{EndOf, IsNextToTake, lane_at_cell, nodes_in}
 use Rattle.sci_packets.specs.Spelling.{SpellsInWords}
-use Rattle.sci_packets.specs.declared.packet.Packet as packets
-use Rattle.sci_station.specs.declared.receiving.Received.{Received}
-use Rattle.sci_station.specs.declared.receiving.Received.TheVariants.{Cut, Nothing, Packet}
+use Rattle.sci_packets.specs.declared.packet.Packet.{Packet}
+use Rattle.sci_station.specs.declared.receiving.Seen.{Seen}
 
 -- an end of the same table, of the same node in a machine of the same size
 pub record IsSameEnd (old new : EndOf) : Type 0 where
@@ -38,8 +37,14 @@ pub record IsSentBy (node : NodeOf) (e : Event) (kind : LaneKind) (letter : Lett
 abbrev pub own_lane : Part → LaneKind → ℕ
 own_lane part kind = lane_place (nodes_in part) kind (me_of part) (me_of part)
 
+-- the first word of a packet, and no more of it, was found in the next cell of a lane
+pub record HasSeen (part : Part) (seen : Seen) : Type 0 where
+  pub shown : IsShown part
+  pub next : IsNextToTake part seen.cell
+  pub found : (inbound_at part (lane_at_cell part seen.cell)).found ≡ seen.first ∷ []
+
 -- all words of this packet were found in a cell, and no more
-pub record HasRead (part : Part) (cell : CellId) (packet : packets.Packet) : Type 0 where
+pub record HasRead (part : Part) (cell : CellId) (packet : Packet) : Type 0 where
   pub shown : IsShown part
   pub next : IsNextToTake part cell
   pub spelled : SpellsInWords packet (inbound_at part (lane_at_cell part cell)).found
@@ -47,12 +52,6 @@ pub record HasRead (part : Part) (cell : CellId) (packet : packets.Packet) : Typ
 -- the node has taken all that it has sent to itself in its lane of a kind
 abbrev pub IsEmptied : Part → LaneKind → Type 0
 IsEmptied part kind = (outbound_at part (own_lane part kind)).sent ≡ (inbound_at part (own_lane part kind)).taken
-
--- what was received from a cell; if none is there in a lane of the node to itself, all was taken
-abbrev pub IsFound : Part → CellId → Received → Type 0
-IsFound part cell (Packet packet) = HasRead part cell packet
-IsFound part cell Nothing = cell.sender ≡ me_of part → IsEmptied part cell.kind
-IsFound part cell Cut = Unit {0}
 
 -- ---- what a turn that reports nothing has found
 

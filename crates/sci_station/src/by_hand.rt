@@ -1,11 +1,15 @@
 //! Ends of lanes that are taken through events by hand, with no policy and no turns.
 
+ghost use Rattle.std.specs.Prelude.{IfSome};
+ghost use Rattle.sci_lanes.specs.Ends.{IsNextToTake};
+ghost use Rattle.sci_station.specs.Ends.{HasRead, IsStill};
+
 use crate::budget::Budget;
-use crate::receiving::{Received, receive};
+use crate::receiving::{read_packet, see};
 use crate::sending::send;
 use sci_core::LaneKind;
 use sci_history::{Last, Logs};
-use sci_lanes::{FinishFault, LaneEnd, Lanes};
+use sci_lanes::{CellId, FinishFault, LaneEnd, Lanes};
 use sci_packets::{Body, Packet};
 use sci_words::{AskKind, Event, Extent, Op};
 use std::alloc::{AllocError, Global};
@@ -163,6 +167,23 @@ fn reply(end: &mut LaneEnd) -> Result<(), &'static str>
     }
 }
 
+/// The packet in the next cell of a lane to this node. It stays there.
+fn receive(end: &mut LaneEnd, cell: CellId) -> Option<Packet>
+    requires { IsNextToTake end.old.part cell }
+    ensures read { IfSome result (HasRead end.new.part cell) }
+    ensures still { IsStill end.old end.new }
+{
+    let mut budget = Budget { left: None };
+    let seen = match see(end, &mut budget, cell) {
+        Ok(Some(seen)) => seen,
+        _ => return None,
+    };
+    match read_packet(end, &mut budget, seen) {
+        Ok(packet) => Some(packet),
+        Err(_) => None,
+    }
+}
+
 fn serve(end: &mut LaneEnd, from: u8) -> Result<(), &'static str>
     ensures { IsSameEnd end.old end.new }
 {
@@ -170,10 +191,9 @@ fn serve(end: &mut LaneEnd, from: u8) -> Result<(), &'static str>
         return Err("not to be served");
     }
     let cell = end.next_to_take(LaneKind::Requests, from);
-    let mut budget = Budget { left: None };
-    let request = match receive(end, &mut budget, cell) {
-        Received::Packet(request) => request,
-        Received::Nothing | Received::Cut => return Err("no request"),
+    let request = match receive(end, cell) {
+        Some(request) => request,
+        None => return Err("no request"),
     };
     let event = Event::Serve {
         from,
@@ -197,10 +217,9 @@ fn refuse(end: &mut LaneEnd, from: u8) -> Result<(), &'static str>
         return Err("not to be refused");
     }
     let cell = end.next_to_take(LaneKind::Requests, from);
-    let mut budget = Budget { left: None };
-    let request = match receive(end, &mut budget, cell) {
-        Received::Packet(request) => request,
-        Received::Nothing | Received::Cut => return Err("no request"),
+    let request = match receive(end, cell) {
+        Some(request) => request,
+        None => return Err("no request"),
     };
     if sets_back(&request) {
         return Err("a setback, which is never refused");
@@ -220,10 +239,9 @@ fn accept(end: &mut LaneEnd, from: u8) -> Result<(), &'static str>
         return Err("no such node");
     }
     let cell = end.next_to_take(LaneKind::Answers, from);
-    let mut budget = Budget { left: None };
-    let answer = match receive(end, &mut budget, cell) {
-        Received::Packet(answer) => answer,
-        Received::Nothing | Received::Cut => return Err("no answer"),
+    let answer = match receive(end, cell) {
+        Some(answer) => answer,
+        None => return Err("no answer"),
     };
     let event = Event::Accept {
         from,

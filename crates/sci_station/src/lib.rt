@@ -9,6 +9,7 @@ mod by_hand_tests;
 #[cfg(test)]
 mod exchange_tests;
 mod fabric;
+mod kept;
 mod receiving;
 mod sending;
 mod station;

@@ -1,13 +1,12 @@
 //! Receiving a whole packet.
 
-ghost use Rattle.std.specs.Prelude.{◌≡◌, ◌≢◌, ◌<◌, ◌≤◌, ℕ, [], ◌∷◌, length, take, None, IfOk, IsErr, IsOk};
+ghost use Rattle.std.specs.Prelude.{◌≡◌, ◌≢◌, ◌<◌, ◌≤◌, ℕ, [], ◌∷◌, length, take, None, IfOk, IfSome, IsErr, IsOk};
 ghost use Rattle.sci_packets.specs.Spelling.{SpellsInWords};
-ghost use Rattle.sci_lanes.specs.Shown.{inbound_at};
+ghost use Rattle.sci_lanes.specs.Shown.{inbound_at, me_of};
 ghost use Rattle.sci_lanes.specs.Telling.{IsShown};
 ghost use Rattle.sci_lanes.specs.Ends.{IsNextToTake, lane_at_cell};
-ghost use Rattle.sci_station.specs.declared.receiving.Received.TheVariants.{Cut};
 ghost use Rattle.sci_station.specs.Budgets.{HasNoMore};
-ghost use Rattle.sci_station.specs.Ends.{HasRead, IsFound, IsStill};
+ghost use Rattle.sci_station.specs.Ends.{HasRead, HasSeen, IsEmptied, IsStill};
 
 use crate::budget::{Budget, Spent};
 use crate::sending::PACKET_WORDS;
@@ -17,55 +16,53 @@ use sci_packets::{Packet, from_words};
 /// The words of a packet without contents.
 const SHORT_WORDS: usize = 2;
 
-/// What was received from a lane.
-pub(crate) enum Received {
-    /// Its oldest packet. It stays in its cell.
-    Packet(Packet),
-    /// No packet: the lane is empty.
-    Nothing,
-    /// No packet, since the turn has made as many steps as it may.
-    Cut,
+/// A packet that was seen in the next cell of a lane.
+#[derive(Clone, Copy)]
+pub(crate) struct Seen {
+    /// The cell.
+    pub(crate) cell: CellId,
+    /// The packet's first word.
+    pub(crate) first: u64,
 }
 
-/// Looks at the next cell of a lane to this node, and reads the packet that is there, all its words and no more. The caller
-/// sees to it that the cell is the next to take from.
+/// Looks at the next cell of a lane to this node. None if no packet is there. The caller sees to it that the cell is the next
+/// to take from.
 #[inline]
-pub(crate) fn receive(end: &mut LaneEnd, budget: &mut Budget, cell: CellId) -> Received
-    requires { IsNextToTake end.old.part cell }
-    ensures found { IsFound end.new.part cell result }
-    ensures still { IsStill end.old end.new }
-    ensures budget { HasNoMore budget.old.left budget.new.left }
-    ensures spent { result ≡ Cut → budget.old.left ≢ None }
-{
-    if budget.spend().is_err() {
-        return Received::Cut;
-    }
-    let first = end.look(cell);
-    if first == 0 {
-        return Received::Nothing;
-    }
-    match read_packet(end, budget, cell, first) {
-        Ok(packet) => Received::Packet(packet),
-        Err(_) => Received::Cut,
-    }
-}
-
-/// Reads the packet in the next cell to take from, of which this first word is found.
-#[inline(never)]
-fn read_packet(
+pub(crate) fn see(
     end: &mut LaneEnd,
     budget: &mut Budget,
     cell: CellId,
-    first: u64,
-) -> Result<Packet, Spent>
-    requires next { IsNextToTake end.old.part cell }
-    requires shown { IsShown end.old.part }
-    requires found { (inbound_at end.old.part (lane_at_cell end.old.part cell)).found ≡ first ∷ [] }
-    ensures read { IfOk result (HasRead end.new.part cell) }
+) -> Result<Option<Seen>, Spent>
+    requires { IsNextToTake end.old.part cell }
+    ensures seen { IfOk result (λ found. IfSome found (HasSeen end.new.part)) }
+    ensures cell { IfOk result (λ found. IfSome found (λ seen. seen.cell ≡ cell)) }
+    ensures none { IfOk result (λ found. found ≡ None → cell.sender ≡ me_of end.new.part →
+        IsEmptied end.new.part cell.kind) }
     ensures still { IsStill end.old end.new }
     ensures budget { HasNoMore budget.old.left budget.new.left }
     ensures spent { IsErr result → budget.old.left ≢ None }
 {
+    budget.spend()?;
+    let first = end.look(cell);
+    if first == 0 {
+        return Ok(None);
+    }
+    Ok(Some(Seen { cell, first }))
+}
+
+/// Reads the packet that was seen, all its words and no more. It stays in its cell.
+pub(crate) fn read_packet(
+    end: &mut LaneEnd,
+    budget: &mut Budget,
+    seen: Seen,
+) -> Result<Packet, Spent>
+    requires seen { HasSeen end.old.part seen }
+    ensures read { IfOk result (HasRead end.new.part seen.cell) }
+    ensures still { IsStill end.old end.new }
+    ensures budget { HasNoMore budget.old.left budget.new.left }
+    ensures spent { IsErr result → budget.old.left ≢ None }
+{
+    let Seen { cell, first } = seen;
     let mut words = [0; PACKET_WORDS];
     words[0] = first;
     read(end, budget, cell, &mut words, 1, SHORT_WORDS)?;

@@ -1,6 +1,7 @@
 //! A station: a node that runs by itself.
 
 use crate::budget::Budget;
+use crate::kept::Kept;
 use crate::turn::take_turn;
 use crate::unanswered::Unanswered;
 use sci_history::Entry;
@@ -16,6 +17,7 @@ pub struct Station {
     end: LaneEnd,
     policy: Policy,
     unanswered: Unanswered,
+    kept: Kept,
 }
 
 impl Model for Station {
@@ -59,6 +61,7 @@ impl Station {
             end,
             policy: Policy::new(),
             unanswered: Unanswered::new(),
+            kept: Kept::new(),
         }
     }
 
@@ -137,6 +140,7 @@ impl Station {
             &mut self.end,
             &mut self.policy,
             &mut self.unanswered,
+            &mut self.kept,
             &mut progress,
             &mut budget,
         ) {
@@ -165,6 +169,7 @@ impl Station {
             &mut self.end,
             &mut self.policy,
             &mut self.unanswered,
+            &mut self.kept,
             &mut progress,
             &mut budget,
         );

@@ -1,6 +1,6 @@
 //! A station's turn, over its end and its policy.
 
-ghost use Rattle.std.specs.Prelude.{◌≡◌, ◌≢◌, ◌<◌, ◌*◌, ◌%◌, true, false, None, IfOk, IsErr, IsOk, IsSome, []};
+ghost use Rattle.std.specs.Prelude.{◌≡◌, ◌≢◌, ◌<◌, ◌+◌, ◌⊎◌, true, false, None, IfOk, IsErr, IsOk, IsSome, []};
 ghost use Rattle.sci_words.specs.declared.event.Event.TheVariants.{Ask};
 ghost use Rattle.sci_core.specs.declared.lane.LaneKind.TheVariants.{Answers, Requests};
 ghost use Rattle.sci_core.specs.Node.{node_asking};
@@ -10,11 +10,12 @@ ghost use Rattle.sci_policy.specs.Turn.{Counts, MadeNothing, MayPerform, is_idle
 ghost use Rattle.sci_lanes.specs.Shown.{me_of};
 ghost use Rattle.sci_lanes.specs.Ends.{nodes_in};
 ghost use Rattle.sci_station.specs.Budgets.{HasNoMore};
-ghost use Rattle.sci_station.specs.Ends.{HasNothingToDo, IsEmptied, IsReplyHeldUp, IsSameEnd, IsStill};
+ghost use Rattle.sci_station.specs.Ends.{HasNothingToDo, HasSeen, IsEmptied, IsReplyHeldUp, IsSameEnd, IsStill};
 ghost use Rattle.sci_station.specs.Moves.{EndsTurn, GoesOn, IsAsked, IsStep, IsTurn, WasHeldUp, WasStill};
 
 use crate::budget::{Budget, Spent};
-use crate::receiving::{Received, receive};
+use crate::kept::Kept;
+use crate::receiving::{Seen, read_packet, see};
 use crate::sending::send;
 use crate::unanswered::Unanswered;
 use sci_core::LaneKind;
@@ -29,6 +30,7 @@ pub(crate) fn take_turn(
     end: &mut LaneEnd,
     policy: &mut Policy,
     unanswered: &mut Unanswered,
+    kept: &mut Kept,
     progress: &mut Progress,
     budget: &mut Budget,
 ) -> Result<(), Spent>
@@ -46,7 +48,7 @@ pub(crate) fn take_turn(
     policy.begin_turn();
     reply(end, progress, budget, me)?;
     accept_all(end, unanswered, progress, budget, me)?;
-    take_all(end, policy, progress, budget, me)?;
+    take_all(end, policy, kept, progress, budget, me)?;
     ask_some(end, policy, unanswered, progress, budget, me)
 }
 
@@ -98,6 +100,9 @@ fn accept_all(
     ensures budget { HasNoMore budget.old.left budget.new.left }
     ensures spent { IsErr result → budget.old.left ≢ None }
 {
+    if !unanswered.some() {
+        return accept_from(end, unanswered, progress, budget, me, me);
+    }
     let nodes = end.nodes();
     for from in 0..nodes {
         accept_from(end, unanswered, progress, budget, me, from)?;
@@ -160,23 +165,56 @@ fn accept(
     ensures spent { IsErr result → budget.old.left ≢ None }
 {
     let cell = end.next_to_take(LaneKind::Answers, from);
-    let answer = match receive(end, budget, cell) {
-        Received::Packet(answer) => answer,
-        Received::Nothing => return Ok(false),
-        Received::Cut => return Err(Spent),
+    match see(end, budget, cell)? {
+        Some(seen) => {
+            accept_seen(end, unanswered, progress, budget, me, seen)?;
+            Ok(true)
+        }
+        None => Ok(false),
+    }
+}
+
+/// The answer that was seen is accepted.
+#[inline(never)]
+fn accept_seen(
+    end: &mut LaneEnd,
+    unanswered: &mut Unanswered,
+    progress: &mut Progress,
+    budget: &mut Budget,
+    me: u8,
+    seen: Seen,
+) -> Result<(), Spent>
+    requires seen { HasSeen end.old.part seen }
+    requires kind { seen.cell.kind ≡ Answers }
+    requires me { me ≡ me_of end.old.part }
+    requires accepted { progress.old.accepted < u32.MAX }
+    requires served { progress.old.served < u32.MAX }
+    ensures step { IsStep 1 end.old end.new progress.old progress.new }
+    ensures goes { (policy : PolicyOf) →
+        GoesOn me policy end.old policy end.new progress.old progress.new }
+    ensures told { IsOk result → MadeNothing progress.new → ⊥ }
+    ensures budget { HasNoMore budget.old.left budget.new.left }
+    ensures spent { IsErr result → budget.old.left ≢ None }
+{
+    // By a `match`: the toolchain builds no proof for a packet behind `?`.
+    let answer = match read_packet(end, budget, seen) {
+        Ok(answer) => answer,
+        Err(_) => return Err(Spent),
     };
     budget.spend()?;
+    let from = seen.cell.sender;
     let event = Event::Accept { from, node: me };
-    end.free(cell, &event, &answer);
+    end.free(seen.cell, &event, &answer);
     unanswered.accepted(from);
     progress.count(&event);
-    Ok(true)
+    Ok(())
 }
 
 /// Up to four requests from each node are served or refused, beginning after the node served last.
 fn take_all(
     end: &mut LaneEnd,
     policy: &mut Policy,
+    kept: &mut Kept,
     progress: &mut Progress,
     budget: &mut Budget,
     me: u8,
@@ -192,32 +230,30 @@ fn take_all(
     ensures budget { HasNoMore budget.old.left budget.new.left }
     ensures spent { IsErr result → budget.old.left ≢ None }
 {
-    let nodes = end.node().extent().nodes;
+    let nodes = end.nodes();
     let first = policy.first_sender(nodes);
-    for place in 0..nodes {
-        let from = in_circle(first + place, nodes);
-        take_from(end, policy, progress, budget, me, from)?;
+    let mut from = first;
+    for _place in 0..nodes {
+        take_from(end, policy, kept, progress, budget, me, from)?;
+        from = after(from, nodes);
     }
     Ok(())
 }
 
-/// The node of a number in a circle of so many nodes, which is gone round once: the remainder by their number, found without
-/// a division. The caller sees to it that the number is below twice that of the nodes.
-fn in_circle(number: u8, nodes: u8) -> u8
-    requires { number < 2 * nodes }
-    ensures { result ≡ number % nodes }
+/// The node that comes after another in a circle of so many.
+fn after(node: u8, nodes: u8) -> u8
+    requires { node < nodes }
+    ensures below { result < nodes }
+    ensures next { (result ≡ node + 1) ⊎ (result + nodes ≡ node + 1) }
 {
-    if number < nodes {
-        number
-    } else {
-        number - nodes
-    }
+    if node == nodes - 1 { 0 } else { node + 1 }
 }
 
 /// Up to four requests from a node are served or refused, and each is answered if the cell for the answer is empty.
 fn take_from(
     end: &mut LaneEnd,
     policy: &mut Policy,
+    kept: &mut Kept,
     progress: &mut Progress,
     budget: &mut Budget,
     me: u8,
@@ -235,7 +271,7 @@ fn take_from(
     ensures spent { IsErr result → budget.old.left ≢ None }
 {
     for _cell in 0..LANE_CELLS {
-        if !take(end, policy, progress, budget, me, from)? {
+        if !take(end, policy, kept, progress, budget, me, from)? {
             break;
         }
     }
@@ -247,6 +283,7 @@ fn take_from(
 fn take(
     end: &mut LaneEnd,
     policy: &mut Policy,
+    kept: &mut Kept,
     progress: &mut Progress,
     budget: &mut Budget,
     me: u8,
@@ -268,16 +305,51 @@ fn take(
         return Ok(false);
     }
     let cell = end.next_to_take(LaneKind::Requests, from);
-    let request = match receive(end, budget, cell) {
-        Received::Packet(request) => request,
-        Received::Nothing => return Ok(false),
-        Received::Cut => return Err(Spent),
+    match see(end, budget, cell)? {
+        Some(seen) => take_seen(end, policy, kept, progress, budget, me, seen),
+        None => Ok(false),
+    }
+}
+
+/// The request that was seen is served or refused, and the answer sent if its cell is empty. False if the policy keeps it.
+#[inline(never)]
+fn take_seen(
+    end: &mut LaneEnd,
+    policy: &mut Policy,
+    kept: &mut Kept,
+    progress: &mut Progress,
+    budget: &mut Budget,
+    me: u8,
+    seen: Seen,
+) -> Result<bool, Spent>
+    requires seen { HasSeen end.old.part seen }
+    requires kind { seen.cell.kind ≡ Requests }
+    requires me { me ≡ me_of end.old.part }
+    requires free { end.old.part.node.waiting ≡ None }
+    requires accepted { progress.old.accepted < 200000 }
+    requires served { progress.old.served < 200000 }
+    ensures step { IsStep 2 end.old end.new progress.old progress.new }
+    ensures goes { GoesOn me policy.old end.old policy.new end.new progress.old progress.new }
+    ensures other { IfOk result (λ taken. taken ≡ false → seen.cell.sender ≢ me) }
+    ensures told { IfOk result (λ taken. taken ≡ true → MadeNothing progress.new → ⊥) }
+    ensures budget { HasNoMore budget.old.left budget.new.left }
+    ensures spent { IsErr result → budget.old.left ≢ None }
+{
+    let from = seen.cell.sender;
+    if from != me && kept.still(from, policy, end.node()) {
+        return Ok(false);
+    }
+    let request = match read_packet(end, budget, seen) {
+        Ok(request) => request,
+        Err(_) => return Err(Spent),
     };
     let Some(event) = policy.decide(end.node(), &request).event(from, me) else {
+        kept.keep(from, &request);
         return Ok(false);
     };
     budget.spend()?;
-    end.free(cell, &event, &request);
+    end.free(seen.cell, &event, &request);
+    kept.taken(from);
     progress.count(&event);
     policy.served(from);
     reply(end, progress, budget, me)?;

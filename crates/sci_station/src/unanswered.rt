@@ -6,6 +6,8 @@ use sci_words::MAX_NODES;
 #[derive(Clone, Copy, Drop)]
 pub(crate) struct Unanswered {
     counts: [u8; MAX_NODES as usize],
+    // the nodes whose count isn't 0, a bit each
+    owing: u16,
 }
 
 impl Unanswered {
@@ -13,6 +15,7 @@ impl Unanswered {
     pub(crate) fn new() -> Unanswered {
         Unanswered {
             counts: [0; MAX_NODES as usize],
+            owing: 0,
         }
     }
 
@@ -20,6 +23,7 @@ impl Unanswered {
     pub(crate) fn asked(&mut self, to: u16) {
         if let Some(count) = self.counts.get_mut(usize::from(to)) {
             *count = count.saturating_add(1);
+            self.owing |= 1u16 << to;
         }
     }
 
@@ -27,14 +31,19 @@ impl Unanswered {
     pub(crate) fn accepted(&mut self, from: u8) {
         if let Some(count) = self.counts.get_mut(usize::from(from)) {
             *count = count.saturating_sub(1);
+            if *count == 0 {
+                self.owing &= !(1u16 << from);
+            }
         }
+    }
+
+    /// Whether some node owes an answer.
+    pub(crate) fn some(&self) -> bool {
+        self.owing != 0
     }
 
     /// Whether a node owes an answer.
     pub(crate) fn by(&self, node: u8) -> bool {
-        match self.counts.get(usize::from(node)) {
-            Some(count) => *count > 0,
-            None => false,
-        }
+        node < MAX_NODES && self.owing >> node & 1 != 0
     }
 }
