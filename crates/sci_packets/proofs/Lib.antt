@@ -1,6 +1,6 @@
 pub mod Bodies
 pub mod Fields
-pub mod Front
+pub mod FromWords
 pub mod Headers
 pub mod Packets
 pub mod Whole

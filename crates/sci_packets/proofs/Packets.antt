@@ -1,9 +1,9 @@
 -- Packets and their spellings.
-use Rattle.std.proofs.Common.{◌≡◌, ℕ, ◌+◌, ◌*◌, ◌^◌, ◌<◌, ◌≤◌, Bool, true, false, cond, eqb, ltb, ◌&&◌, List, [], ◌∷◌, ◌++◌, length, take, drop, Option, Some, None, Result, Ok, Err, refl, sym, ap, subst, ◌∙◌, arith}
+use Rattle.std.proofs.Common.{◌≡◌, ℕ, ◌+◌, ◌^◌, ◌<◌, ◌≤◌, Bool, true, false, cond, eqb, ltb, ◌&&◌, List, [], ◌∷◌, ◌++◌, length, take, drop, Option, Some, None, Result, Ok, Err, refl, sym, ap, subst, ◌∙◌, arith}
 use Rattle.std.specs.Prelude.{IfSome, IfOk, IsErr, ◌↔◌}
 use Rattle.std.specs.Option.{is_some}
 use Rattle.std.specs.Result.{result_err}
-use Rattle.std.proofs.lemmas.Bool.{le-ltb, ltb-false}
+use Rattle.std.proofs.lemmas.Bool.{le-ltb, lt-ltb, ltb-false}
 use Rattle.std.proofs.lemmas.Bool.Decides.{nat_tests}
 use Rattle.std.proofs.lemmas.List.{append-nil, take_at, drop_all, take-append-drop, length-append, length-take-le}
 use mathlib.Core.HLevel.{Σ_prop_path}
@@ -21,7 +21,7 @@ use Rattle.sci_packets.specs.Spelling.{IsContents, IsPacket, header_of, spelling
 use Rattle.sci_packets.specs.Table.{parts_of, number_of, identifier_of, body_fault, takes_contents}
 use Rattle.sci_packets.proofs.Bodies.{is_known, same_body, same_identifier, number_of-lt, contents_cancel}
 use Rattle.sci_packets.proofs.Fields.{IsBytes, length-word_bytes, length-words_at, words_takes, words_at-lt, field_at-lt}
-use Rattle.sci_packets.proofs.Headers.{IsHeader, length-spelled, spelled-append, header_takes, header_cancel, header_in-fits, same_header}
+use Rattle.sci_packets.proofs.Headers.{IsHeader, length-spelled, spelled-append, header_takes, header_cancel, header_in-fits}
 
 pub header_fits : (p : Packet) → IsPacket p → IsHeader (header_of p)
 header_fits p h =
@@ -161,6 +161,11 @@ pub none_long : (bytes : List ℕ) → fault_of bytes ≡ None → cond (takes_c
 unfolding fault_of header_fault body_fault
 none_long bytes none = grind (arith, passed, not_short, ltb-false)
 
+-- fewer bytes than a header has
+pub too_short : (bytes : List ℕ) → length bytes < 16 → Some Short ≡ fault_of bytes
+unfolding fault_of
+too_short bytes lt = rw (lt-ltb (length bytes) 16 lt) refl
+
 -- ---- the clauses of a decoder
 
 pub is_packet : (p : Packet) (bytes : List ℕ) → IsBytes bytes → header_of p ≡ header_in bytes → (parts_of p.body).contents ≡ contents_for (header_in bytes).command bytes → (p.target < 0xFFFF) × (p.source < 0xFFFF) → IfSome (parts_of p.body).identifier (λ id. id < 0xFFFF) → IsPacket p
@@ -208,12 +213,8 @@ none_refused bytes r e e' p q fits fault =
 
 -- ---- the clauses of an encoder
 
-pub header_made : (p : Packet) (parts : Parts) (t s i : ℕ) → parts ≡ parts_of p.body → t ≡ p.target → s ≡ p.source → i ≡ number_of parts.identifier
-    → (let h : Header = record { target = t; command = parts.command; source = s; control = p.control; offset = p.line * 64; identifier = i } in h ≡ header_of p)
-header_made p parts t s i e f g k = grind (arith, same_header)
-
-pub packet_made : (p : Packet) (parts : Parts) → parts ≡ parts_of p.body → p.target < 0xFFFF → p.source < 0xFFFF → p.control < 2 ^ 16 → IfSome parts.identifier (λ id. id < 0xFFFF) → IfSome parts.contents IsContents → IsPacket p
-packet_made p parts e target source control identifier contents = grind arith
+pub packet_made : (p : Packet) (parts : Parts) (h : Header) → parts ≡ parts_of p.body → h ≡ header_of p → (p.target < 0xFFFF) × (p.source < 0xFFFF) → h.control < 2 ^ 16 → IfSome parts.identifier (λ id. id < 0xFFFF) → IfSome parts.contents IsContents → IsPacket p
+packet_made p parts h e made nodes control identifier contents = grind arith
 
 -- the header and nothing more
 pub short_written : (p : Packet) (h : Header) (old new : List ℕ) → h ≡ header_of p → (parts_of p.body).contents ≡ None → new ≡ spelled h (drop 16 old) → new ≡ spelling p ++ drop 16 old

@@ -1,23 +1,23 @@
 -- Packets and their words.
-use Rattle.std.proofs.Common.{◌≡◌, ℕ, zero, suc, ◌+◌, ◌*◌, ◌/◌, ◌^◌, ◌<◌, ◌≤◌, Bool, true, false, cond, List, [], ◌∷◌, ◌++◌, length, get_or, take, drop, min, Option, Some, None, refl, sym, ap, subst, ◌∙◌, append_assoc, arith, ◌⊎◌, inl, inr}
-use Rattle.std.specs.Prelude.{IfSome}
+use Rattle.std.proofs.Common.{◌≡◌, ℕ, zero, suc, ◌+◌, ◌*◌, ◌/◌, ◌%◌, ◌^◌, ◌<◌, ◌≤◌, Bool, true, false, cond, ltb, List, [], ◌∷◌, ◌++◌, length, get_or, take, drop, Option, Some, None, refl, sym, ap, ◌∙◌, append_assoc, arith, ◌⊎◌, inl, inr}
+use Rattle.std.specs.Prelude.{IfSome, slice_set}
 use Rattle.std.specs.Option.{is_some}
 use Rattle.std.specs.Int.{byte_at, bytes_high_first}
 use Rattle.std.proofs.Math.Nat.{mod-lt}
-use Rattle.std.proofs.lemmas.Bool.{cases_lt}
+use Rattle.std.proofs.lemmas.Bool.{cases_lt, le-ltb, lt-ltb}
 use Rattle.std.proofs.lemmas.Nat.{be_bytes_8}
-use Rattle.std.proofs.lemmas.List.{append-nil, length-take, length-take-le, take-take, take_at, take-append-drop, get_or-take, get_or_past}
+use Rattle.std.proofs.lemmas.List.{append-nil, drop_all, length-take, length-take-le, take_at, drop_at, take-append-drop, length-drop, get_or-drop, get_or-take, get_or_past}
 use Rattle.std.proofs.lemmas.List.Concat.{flat_map-append}
-use Rattle.byteorder.specs.Endian.{big_number}
+use borrow.Rule.Slice.PartMut.{put_mid}
 use Rattle.sci_words.specs.declared.stamped.Stamped.{Stamped}
 use Rattle.sci_packets.specs.declared.header.Header.{Header}
 use Rattle.sci_packets.specs.declared.packet.Packet.{Packet}
-use Rattle.sci_packets.specs.Fields.{field, field_at, spelled, word_bytes, words_at, contents_words}
+use Rattle.sci_packets.specs.Fields.{field, field_at, spelled, word_bytes, words_at, contents_words, contents_in, header_in}
 use Rattle.sci_packets.specs.Spelling.{IsContents, IsPacket, header_of, spelling, Spells, SpellsInWords, first_word, second_word, words_of}
 use Rattle.sci_packets.specs.Table.{parts_of}
 use Rattle.sci_packets.proofs.Bodies.{is_known}
-use Rattle.sci_packets.proofs.Fields.{IsBytes, length-word_bytes, words_takes, words_at-lt, length-words_at, words_at_is, words_cancel}
-use Rattle.sci_packets.proofs.Headers.{IsHeader}
+use Rattle.sci_packets.proofs.Fields.{IsBytes, length-word_bytes, words_takes, words_at-lt, length-words_at, words_cancel}
+use Rattle.sci_packets.proofs.Headers.{IsHeader, header_takes, header_cancel, header_in-fits}
 use Rattle.sci_packets.proofs.Packets.{header_fits}
 
 IsBytes-append : (xs ys : List ℕ) → IsBytes xs → IsBytes ys → IsBytes (xs ++ ys)
@@ -58,7 +58,7 @@ pub word_bytes-words_of : (p : Packet) → IsPacket p → word_bytes (words_of p
 unfolding spelling words_of
 word_bytes-words_of p h = header_words (header_of p) (word_bytes (contents_words (parts_of p.body).contents)) (header_fits p h)
 
-word_bytes-fits : (words : List ℕ) → IsBytes (word_bytes words)
+pub word_bytes-fits : (words : List ℕ) → IsBytes (word_bytes words)
 word_bytes-fits [] i = omega arith
 word_bytes-fits (w ∷ words) i = IsBytes-append (field 8 w) (word_bytes words) (field-fits 8 w) (word_bytes-fits words) i
 
@@ -111,83 +111,122 @@ few_words p h = omega (arith, length-words_of p h, at_most (is_some (parts_of p.
 pub length-spelling_words : (p : Packet) → IsPacket p → length (spelling p) ≡ 8 * length (words_of p)
 length-spelling_words p h = ap (λ (b : List ℕ). length b) (sym (word_bytes-words_of p h)) ∙ length-word_bytes (words_of p)
 
--- ---- words read from bytes
-
-pub words_of_bytes : (p : Packet) (src words : List ℕ) → IsPacket p → src ≡ spelling p → length words ≡ length (words_of p) → ((i : ℕ) → i < length words → get_or words i 0 ≡ big_number 8 (drop (8 * i) src)) → words ≡ words_of p
-unfolding field_at
-words_of_bytes p src words h e len each =
-    let n = length (words_of p) in
-    let text : src ≡ word_bytes (words_of p) = e ∙ sym (word_bytes-words_of p h) in
-    let fits : IsBytes src = subst (λ (b : List ℕ). IsBytes b) (sym text) (word_bytes-fits (words_of p)) in
-    let size : length src ≡ 8 * n = ap (λ (b : List ℕ). length b) text ∙ length-word_bytes (words_of p) in
-    let is : words ≡ words_at 0 n src = words_at_is 0 n src words len (λ i lt. each i (omega arith) ∙ (let z : 8 * i ≡ 0 + 8 * i = omega arith in ap (λ (k : ℕ). big_number 8 (drop k src)) z)) in
-    let split : src ≡ word_bytes (words_at 0 n src) ++ drop (8 * n) src = words_takes 0 n (8 * n) src fits (omega arith) (omega arith) in
-    let same = words_cancel (words_at 0 n src) (words_of p) (drop (8 * n) src) [] (length-words_at 0 n src) (words_at-lt 0 n src fits) (words_of-lt p h) (sym split ∙ text ∙ sym (append-nil (word_bytes (words_of p)))) in
-    is ∙ same.0
-
--- ---- bytes written from words
+-- ---- what is read from words
 
 word_bytes-split : (k : ℕ) (words : List ℕ) → word_bytes words ≡ word_bytes (take k words) ++ word_bytes (drop k words)
 word_bytes-split k words = ap (λ (w : List ℕ). word_bytes w) (sym (take-append-drop k words)) ∙ flat_map-append (field 8) (take k words) (drop k words)
+
+-- the header that two words spell
+pub header_read : (words : List ℕ) → ((i : ℕ) → get_or words i 0 < 2 ^ 64) → 2 ≤ length words
+    → (let h : Header = record { target = get_or words 0 0 / 281474976710656 % 65536; command = get_or words 0 0 / 4294967296 % 65536; source = get_or words 0 0 / 65536 % 65536; control = get_or words 0 0 % 65536; offset = get_or words 1 0 / 65536; identifier = get_or words 1 0 % 65536 } in h ≡ header_in (word_bytes words))
+header_read [] fits long = absurd (omega arith)
+header_read (v ∷ []) fits long = absurd (omega arith)
+header_read (v ∷ w ∷ more) fits long =
+    let h : Header = record { target = v / 281474976710656 % 65536; command = v / 4294967296 % 65536; source = v / 65536 % 65536; control = v % 65536; offset = w / 65536; identifier = w % 65536 } in
+    let below : IsHeader h = record { target = omega arith; command = omega arith; source = omega arith; control = omega arith; offset = omega (arith, fits 1); identifier = omega arith } in
+    let first : v ≡ first_word h = omega (arith, fits 0) in
+    let second : w ≡ second_word h = omega (arith, fits 1) in
+    let bytes = word_bytes (v ∷ w ∷ more) in
+    let rest = word_bytes more in
+    let text : bytes ≡ spelled h rest = ap (λ (x : ℕ). field 8 x ++ (field 8 w ++ rest)) first ∙ ap (λ (x : ℕ). field 8 (first_word h) ++ (field 8 x ++ rest)) second ∙ header_words h rest below in
+    let size : 16 ≤ length bytes = omega (arith, length-word_bytes (v ∷ w ∷ more)) in
+    let are : IsBytes bytes = word_bytes-fits (v ∷ w ∷ more) in
+    sym (header_cancel (header_in bytes) h (drop 16 bytes) rest (header_in-fits bytes are) below (sym (header_takes bytes are size) ∙ text)).0
+
+-- the nine words behind two
+nine_read : (words : List ℕ) → ((i : ℕ) → get_or words i 0 < 2 ^ 64) → 11 ≤ length words → take 9 (drop 2 words) ≡ words_at 16 9 (word_bytes words)
+nine_read words fits long =
+    let bytes = word_bytes words in
+    let nine = take 9 (drop 2 words) in
+    let len : length nine ≡ 9 = omega (arith, length-take 9 (drop 2 words), length-drop 2 words) in
+    let two : length (word_bytes (take 2 words)) ≡ 16 = omega (arith, length-word_bytes (take 2 words), length-take 2 words) in
+    let behind : drop 16 bytes ≡ word_bytes nine ++ word_bytes (drop 9 (drop 2 words)) =
+    ap (λ (b : List ℕ). drop 16 b) (word_bytes-split 2 words) ∙ drop_at (word_bytes (take 2 words)) (word_bytes (drop 2 words)) 16 two ∙ word_bytes-split 9 (drop 2 words) in
+    let are : IsBytes bytes = word_bytes-fits words in
+    let read = words_takes 16 9 88 bytes are refl (omega (arith, length-word_bytes words)) in
+    let below : (i : ℕ) → get_or nine i 0 < 2 ^ 64 = take_fits 9 (drop 2 words) (λ i. rw get_or-drop (fits (2 + i))) in
+    (words_cancel nine (words_at 16 9 bytes) _ _ (len ∙ sym (length-words_at 16 9 bytes)) below (words_at-lt 16 9 bytes are) (sym behind ∙ read)).0
+
+same_contents : (made : ℕ → List ℕ → Stamped) (v w : ℕ) (xs ys : List ℕ) → v ∷ xs ≡ w ∷ ys → made v xs ≡ made w ys
+same_contents made v w xs ys e = cc
+
+-- the contents that words spell behind a header
+pub contents_read : (words line : List ℕ) → ((i : ℕ) → get_or words i 0 < 2 ^ 64) → 11 ≤ length words → line ≡ take 8 (drop 3 words)
+    → (let stamped : Stamped = record { line = line; version = get_or words 2 0 } in stamped ≡ contents_in (word_bytes words))
+unfolding contents_in
+contents_read [] line fits long e = absurd (omega arith)
+contents_read (a ∷ []) line fits long e = absurd (omega arith)
+contents_read (a ∷ b ∷ []) line fits long e = absurd (omega arith)
+contents_read (a ∷ b ∷ v ∷ more) line fits long e =
+    let bytes = word_bytes (a ∷ b ∷ v ∷ more) in
+    same_contents (λ version line. record { line = line; version = version }) v (field_at 16 8 bytes) line (words_at 24 8 bytes) (ap (λ (l : List ℕ). v ∷ l) e ∙ nine_read (a ∷ b ∷ v ∷ more) fits long)
+
+-- whether there are eleven words
+pub short_words : (words : List ℕ) (n : ℕ) → length words < n → ltb (length (word_bytes words)) (8 * n) ≡ true
+short_words words n lt = lt-ltb (length (word_bytes words)) (8 * n) (omega (arith, length-word_bytes words))
+
+pub long_words : (words : List ℕ) (n : ℕ) → n ≤ length words → ltb (length (word_bytes words)) (8 * n) ≡ false
+long_words words n le = le-ltb (length (word_bytes words)) (8 * n) (omega (arith, length-word_bytes words))
+
+-- ---- the words that are written
+
+-- the header and nothing more
+pub two_written : (p : Packet) (h : Header) (old : List ℕ) (v w : ℕ) → h ≡ header_of p → (parts_of p.body).contents ≡ None → length old ≡ 11 → v ≡ first_word h → w ≡ second_word h → slice_set (slice_set old 0 v) 1 w ≡ words_of p ++ drop 2 old
+unfolding words_of
+two_written p h [] v w e none len first second = absurd (omega arith)
+two_written p h (a ∷ []) v w e none len first second = absurd (omega arith)
+two_written p h (a ∷ b ∷ more) v w e none len first second = rw none (rw (first, second) (rw e refl))
+
+-- contents behind two words
+pub contents_written : (old line : List ℕ) (version : ℕ) → length old ≡ 11 → length line ≡ 8 → put_mid 3 8 (slice_set old 2 version) line ≡ take 2 old ++ (version ∷ line)
+contents_written [] line version len width = absurd (omega arith)
+contents_written (a ∷ []) line version len width = absurd (omega arith)
+contents_written (a ∷ b ∷ []) line version len width = absurd (omega arith)
+contents_written (a ∷ b ∷ d ∷ more) line version len width =
+    let past : drop 8 more ≡ [] = drop_all 8 more (omega arith) in
+    rw past (rw (append-nil line) refl)
+
+-- the header and the contents
+pub eleven_written : (p : Packet) (h : Header) (stamped : Stamped) (old new : List ℕ) (v w : ℕ) → h ≡ header_of p → (parts_of p.body).contents ≡ Some stamped → length old ≡ 11 → v ≡ first_word h → w ≡ second_word h
+    → new ≡ take 2 (slice_set (slice_set old 0 v) 1 w) ++ (stamped.version ∷ stamped.line) → new ≡ words_of p ++ drop 11 old
+unfolding words_of
+eleven_written p h stamped [] new v w e some len first second after = absurd (omega arith)
+eleven_written p h stamped (a ∷ []) new v w e some len first second after = absurd (omega arith)
+eleven_written p h stamped (a ∷ b ∷ more) new v w e some len first second after =
+    let past : drop 11 (a ∷ b ∷ more) ≡ [] = drop_all 11 (a ∷ b ∷ more) (omega arith) in
+    let same : v ∷ w ∷ stamped.version ∷ stamped.line ≡ first_word (header_of p) ∷ second_word (header_of p) ∷ contents_words (parts_of p.body).contents = rw some (rw (first, second) (rw e refl)) in
+    rw past (after ∙ same ∙ sym (append-nil (words_of p)))
+
+-- ---- a packet that begins the words begins their bytes, and the other way round
 
 pub take-word_bytes : (k : ℕ) (words : List ℕ) → k ≤ length words → take (8 * k) (word_bytes words) ≡ word_bytes (take k words)
 take-word_bytes k words le =
     ap (λ (b : List ℕ). take (8 * k) b) (word_bytes-split k words)
     ∙ take_at (word_bytes (take k words)) (word_bytes (drop k words)) (8 * k) (length-word_bytes (take k words) ∙ ap (λ (n : ℕ). 8 * n) (length-take-le k words le))
 
-smaller : (n len : ℕ) → n ≡ min len 11 → (n ≡ 11) ⊎ (n ≡ len)
-smaller n len e = elim (cases_lt len 11) [ inl lt ↦ inr (omega arith) | inr le ↦ inl (omega arith) ]
-
--- the words that `from_words` looks at: all, or the first eleven
-pub record IsFront (n : ℕ) (words bytes : List ℕ) : Type 0 where
-  pub within : n ≤ length words
-  pub all : (n ≡ 11) ⊎ (n ≡ length words)
-  pub small : n ≤ 11
-  pub text : bytes ≡ word_bytes (take n words)
-
-length-front : (n : ℕ) (words bytes : List ℕ) → IsFront n words bytes → length bytes ≡ 8 * n
-length-front n words bytes f = ap (λ (b : List ℕ). length b) f.text ∙ length-word_bytes (take n words) ∙ ap (λ (k : ℕ). 8 * k) (length-take-le n words f.within)
-
-within_front : (k n len : ℕ) → k ≤ 11 → k ≤ len → (n ≡ 11) ⊎ (n ≡ len) → k ≤ n
-within_front k n len a b (inl e) = omega arith
-within_front k n len a b (inr e) = omega arith
-
 -- a packet that begins the words begins the bytes
 pub record Begins (p : Packet) (k : ℕ) (bytes : List ℕ) : Type 0 where
   pub spells : Spells p (take (8 * k) bytes)
   pub within : 8 * k ≤ length bytes
 
-pub begins_bytes : (p : Packet) (k n : ℕ) (words bytes : List ℕ) → IsFront n words bytes → k ≤ length words → SpellsInWords p (take k words) → Begins p k bytes
-begins_bytes p k n words bytes f le h =
-    let count : k ≡ length (words_of p) = sym (length-take-le k words le) ∙ ap (λ (w : List ℕ). length w) h.spelled_so in
-    let below : k ≤ n = within_front k n (length words) (omega (arith, few_words p h.packet)) le f.all in
-    let front : take k (take n words) ≡ words_of p = take-take k n words below ∙ h.spelled_so in
-    let text : take (8 * k) bytes ≡ spelling p =
-    ap (λ (b : List ℕ). take (8 * k) b) f.text
-    ∙ take-word_bytes k (take n words) (omega (arith, length-take-le n words f.within))
-    ∙ ap (λ (w : List ℕ). word_bytes w) front
-    ∙ word_bytes-words_of p h.packet in
-    record { spells = record { packet = h.packet; spelled_so = text }; within = omega (arith, length-front n words bytes f) }
+pub begins_bytes : (p : Packet) (k : ℕ) (words : List ℕ) → k ≤ length words → SpellsInWords p (take k words) → Begins p k (word_bytes words)
+begins_bytes p k words le h =
+    let text : take (8 * k) (word_bytes words) ≡ spelling p = take-word_bytes k words le ∙ ap (λ (w : List ℕ). word_bytes w) h.spelled_so ∙ word_bytes-words_of p h.packet in
+    record { spells = record { packet = h.packet; spelled_so = text }; within = omega (arith, length-word_bytes words) }
 
 -- a packet that begins the bytes begins the words
 pub record BeginsWords (p : Packet) (k : ℕ) (words : List ℕ) : Type 0 where
   pub spells : SpellsInWords p (take k words)
   pub within : k ≤ length words
 
-pub begins_words : (p : Packet) (len n : ℕ) (words bytes : List ℕ) → IsFront n words bytes → ((i : ℕ) → get_or words i 0 < 2 ^ 64) → len ≤ length bytes → Spells p (take len bytes) → BeginsWords p (len / 8) words
-begins_words p len n words bytes f fits le h =
+pub begins_words : (p : Packet) (len : ℕ) (words : List ℕ) → ((i : ℕ) → get_or words i 0 < 2 ^ 64) → len ≤ length (word_bytes words) → Spells p (take len (word_bytes words)) → BeginsWords p (len / 8) words
+begins_words p len words fits le h =
+    let bytes = word_bytes words in
     let m = length (words_of p) in
-    let front = take n words in
     let len-is : len ≡ 8 * m = sym (length-take-le len bytes le) ∙ ap (λ (b : List ℕ). length b) h.spelled_so ∙ length-spelling_words p h.packet in
     let k-is : len / 8 ≡ m = omega arith in
-    let below : m ≤ n = omega (arith, length-front n words bytes f) in
-    let few : m ≤ length front = omega (arith, length-take-le n words f.within) in
-    let shown : word_bytes (take m front) ++ word_bytes (drop m front) ≡ word_bytes (words_of p) ++ drop len bytes =
-    sym (word_bytes-split m front) ∙ sym f.text ∙ sym (take-append-drop len bytes) ∙ ap (λ (b : List ℕ). b ++ drop len bytes) (h.spelled_so ∙ sym (word_bytes-words_of p h.packet)) in
-    let same = words_cancel (take m front) (words_of p) _ _ (length-take-le m front few) (take_fits m front (take_fits n words fits)) (words_of-lt p h.packet) shown in
-    let text : take m words ≡ words_of p = sym (take-take m n words below) ∙ same.0 in
-    record { spells = record { packet = h.packet; spelled_so = ap (λ (k : ℕ). take k words) k-is ∙ text }; within = omega (arith, f.within) }
-
--- the bytes that `from_words` writes
-pub front_of : (n : ℕ) (words dst rest : List ℕ) → n ≡ min (length words) 11 → dst ≡ word_bytes (take n words) → IsFront n words (take (8 * n) (dst ++ rest))
-front_of n words dst rest e f = grind (arith, length-word_bytes, length-take-le, smaller, take_at)
+    let few : m ≤ length words = omega (arith, length-word_bytes words) in
+    let shown : word_bytes (take m words) ++ word_bytes (drop m words) ≡ word_bytes (words_of p) ++ drop len bytes =
+    sym (word_bytes-split m words) ∙ sym (take-append-drop len bytes) ∙ ap (λ (b : List ℕ). b ++ drop len bytes) (h.spelled_so ∙ sym (word_bytes-words_of p h.packet)) in
+    let same = words_cancel (take m words) (words_of p) _ _ (length-take-le m words few) (take_fits m words fits) (words_of-lt p h.packet) shown in
+    record { spells = record { packet = h.packet; spelled_so = ap (λ (k : ℕ). take k words) k-is ∙ same.0 }; within = omega arith }

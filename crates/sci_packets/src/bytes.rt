@@ -1,6 +1,6 @@
 //! Packets as bytes.
 
-ghost use Rattle.std.specs.Prelude.{◌≡◌, ◌≤◌, ◌<◌, ◌↔◌, ℕ, IfOk, IfErr, IsOk, IsErr, IfSome, Ok, length, take, drop, ◌++◌, ◌⊎◌, if◌then◌else◌};
+ghost use Rattle.std.specs.Prelude.{◌≡◌, ◌≤◌, ◌<◌, ◌^◌, ◌↔◌, ℕ, IfOk, IfErr, IsOk, IsErr, IfSome, Ok, length, take, drop, ◌++◌, ◌⊎◌, if◌then◌else◌};
 ghost use Rattle.std.specs.Result.{result_err};
 ghost use Rattle.std.specs.Option.{is_some};
 ghost use Rattle.sci_packets.specs.declared.packet.Packet.{Packet};
@@ -10,12 +10,12 @@ ghost use Rattle.sci_packets.specs.Spelling.{IsPacket, Spells, NoneSpells, heade
 ghost use Rattle.sci_packets.specs.Table.{number_of, parts_of};
 
 use crate::body::Body;
-use crate::contents::{LONG, write_contents};
+use crate::contents::{InBytes, LONG, Spelled, write_contents};
 use crate::fault::PacketFault;
 use crate::header::Header;
 use crate::node_id::{NO_NODE, NodeId};
 use crate::packet::Packet;
-use crate::table::{body_of, is_command, parts_in};
+use crate::table::{Parts, body_of, is_command, parts_in};
 use sci_words::LINE_BYTES;
 
 /// The bytes of a packet without contents.
@@ -30,14 +30,7 @@ pub fn encode(p: &Packet, to: &mut [u8; 88]) -> usize
     ensures packet { IsPacket p.now }
 {
     let parts = parts_in(&p.body);
-    let header = Header {
-        target: p.target.get(),
-        command: parts.command,
-        source: p.source.get(),
-        control: p.control,
-        offset: p.line * LINE_BYTES as u64,
-        identifier: number_in(parts.identifier),
-    };
+    let header = header_for(p, &parts);
     header.write(to);
     match parts.contents {
         None => SHORT,
@@ -48,9 +41,27 @@ pub fn encode(p: &Packet, to: &mut [u8; 88]) -> usize
     }
 }
 
+/// The header of a packet whose body puts these parts into it.
+pub fn header_for(p: &Packet, parts: &Parts) -> Header
+    requires parts { parts.now ≡ parts_of p.now.body }
+    ensures header { result ≡ header_of p.now }
+    ensures offset { result.offset < 2 ^ 48 }
+    ensures nodes { (p.now.target < 0xFFFF) × (p.now.source < 0xFFFF) }
+    ensures identifier { IfSome parts.now.identifier (λ id. id < 0xFFFF) }
+{
+    Header {
+        target: p.target.get(),
+        command: parts.command,
+        source: p.source.get(),
+        control: p.control,
+        offset: p.line * LINE_BYTES as u64,
+        identifier: number_in(parts.identifier),
+    }
+}
+
 /// The bytes of a packet with this body.
 #[tactic(auto, unfolding(crate::specs::Table::parts_of))]
-fn size_of(body: &Body) -> usize
+pub fn size_of(body: &Body) -> usize
     ensures { result ≡ (if is_some (parts_of body.now).contents then 88 else 16) }
 {
     match body {
@@ -79,21 +90,20 @@ fn node(number: u16) -> Result<NodeId, PacketFault>
     NodeId::new(number).ok_or(PacketFault::BadIdentifier)
 }
 
-/// The packet at the beginning of the bytes, wherever it ends.
+/// The packet with this header, of which the contents are read where it is spelled.
 #[tactic(auto, unfolding(crate::specs::Fault::fault_of, crate::specs::Fault::header_fault))]
-fn packet_at(bytes: &[u8]) -> Result<Packet, PacketFault>
-    ensures header { IfOk result (λ p. header_of p ≡ header_in bytes.now) }
-    ensures contents { IfOk result
-        (λ p. (parts_of p.body).contents ≡ contents_for (header_in bytes.now).command bytes.now) }
+pub fn packet_of<S: Spelled>(header: Header, spelled: &S) -> Result<Packet, PacketFault>
+    requires long { 16 ≤ length (S.bytes spelled.now) }
+    requires header { header ≡ header_in (S.bytes spelled.now) }
+    requires offset { header.offset < 2 ^ 48 }
+    ensures header { IfOk result (λ p. header_of p ≡ header_in (S.bytes spelled.now)) }
+    ensures contents { IfOk result (λ p. (parts_of p.body).contents
+        ≡ contents_for (header_in (S.bytes spelled.now)).command (S.bytes spelled.now)) }
     ensures nodes { IfOk result (λ p. (p.target < 0xFFFF) × (p.source < 0xFFFF)) }
     ensures identifier { IfOk result
         (λ p. IfSome (parts_of p.body).identifier (λ id. id < 0xFFFF)) }
-    ensures fault { result_err result ≡ fault_of bytes.now }
+    ensures fault { result_err result ≡ fault_of (S.bytes spelled.now) }
 {
-    if bytes.len() < SHORT {
-        return Err(PacketFault::Short);
-    }
-    let header = Header::read(bytes);
     if !is_command(header.command) {
         return Err(PacketFault::UnknownCommand);
     }
@@ -102,7 +112,7 @@ fn packet_at(bytes: &[u8]) -> Result<Packet, PacketFault>
     }
     let target = node(header.target)?;
     let source = node(header.source)?;
-    let body = body_of(header.command, NodeId::new(header.identifier), bytes)?;
+    let body = body_of(header.command, NodeId::new(header.identifier), spelled)?;
     Ok(Packet {
         target,
         source,
@@ -131,7 +141,10 @@ pub fn decode(bytes: &[u8]) -> Result<(Packet, usize), PacketFault>
     ensures none { IsErr result ↔ NoneSpells bytes.now }
     ensures fault { result_err result ≡ fault_of bytes.now }
 {
-    let packet = packet_at(bytes)?;
+    if bytes.len() < SHORT {
+        return Err(PacketFault::Short);
+    }
+    let packet = packet_of(Header::read(bytes), &InBytes { bytes })?;
     let len = size_of(&packet.body);
     Ok((packet, len))
 }

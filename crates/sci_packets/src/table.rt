@@ -7,7 +7,7 @@ ghost use Rattle.sci_packets.specs.Table.{parts as parts_with, parts_of, is_comm
 
 use crate::body::Body;
 use crate::command::*;
-use crate::contents::contents_at;
+use crate::contents::Spelled;
 use crate::fault::PacketFault;
 use crate::node_id::NodeId;
 use sci_words::Stamped;
@@ -77,13 +77,17 @@ pub fn is_command(number: u16) -> bool
     (MREAD..=CLEAR).contains(&number) || (MDATA..=FDATA).contains(&number)
 }
 
-/// The body of a packet with this command and identifier. The contents are in the packet's `bytes`.
+/// The body of a packet with this command and identifier, of which the contents are read where it is spelled.
 #[tactic(auto, unfolding(crate::specs::Table::parts_of, crate::specs::Table::is_misnamed, crate::specs::Table::body_fault))]
-pub fn body_of(command: u16, identifier: Option<NodeId>, bytes: &[u8]) -> Result<Body, PacketFault>
+pub fn body_of<S: Spelled>(
+    command: u16,
+    identifier: Option<NodeId>,
+    spelled: &S,
+) -> Result<Body, PacketFault>
     requires { IsTrue (is_command_of command) }
     ensures parts { IfOk result
-        (λ body. parts_of body ≡ parts_with command identifier (contents_for command bytes.now)) }
-    ensures fault { result_err result ≡ body_fault command identifier (length bytes.now) }
+        (λ body. parts_of body ≡ parts_with command identifier (contents_for command (S.bytes spelled.now))) }
+    ensures fault { result_err result ≡ body_fault command identifier (length (S.bytes spelled.now)) }
 {
     let body = match command {
         ROLL => Body::Roll {
@@ -94,7 +98,7 @@ pub fn body_of(command: u16, identifier: Option<NodeId>, bytes: &[u8]) -> Result
         },
         FDATA => Body::Fdata {
             old_head: identifier,
-            contents: contents_at(bytes)?,
+            contents: spelled.contents()?,
         },
         SETBACK => Body::Setback {
             backward: identifier.ok_or(PacketFault::BadIdentifier)?,
@@ -103,9 +107,9 @@ pub fn body_of(command: u16, identifier: Option<NodeId>, bytes: &[u8]) -> Result
             old_head: identifier.ok_or(PacketFault::BadIdentifier)?,
         },
         _ if identifier.is_some() => return Err(PacketFault::BadIdentifier),
-        WBACK => Body::Wback(contents_at(bytes)?),
-        MDATA => Body::Mdata(contents_at(bytes)?),
-        CDATA => Body::Cdata(contents_at(bytes)?),
+        WBACK => Body::Wback(spelled.contents()?),
+        MDATA => Body::Mdata(spelled.contents()?),
+        CDATA => Body::Cdata(spelled.contents()?),
         MREAD => Body::Mread,
         CREAD => Body::Cread,
         PURGE => Body::Purge,

@@ -6,13 +6,15 @@ ghost use Rattle.sci_packets.specs.declared.packet.Packet.{Packet};
 ghost use Rattle.sci_packets.specs.Fault.{fault_of_words};
 ghost use Rattle.sci_packets.specs.Spelling.{IsPacket, SpellsInWords, NoneSpellsInWords, words_of};
 
-use crate::bytes::{decode, encode};
+use crate::bytes::{header_for, packet_of, size_of};
+use crate::contents::{InWords, LONG_WORDS, write_contents_words};
 use crate::fault::PacketFault;
+use crate::header::Header;
 use crate::packet::Packet;
-use byteorder::{BigEndian, ByteOrder};
+use crate::table::parts_in;
 
-/// The words of a packet with contents.
-const LONG_WORDS: usize = 11;
+/// The words of a packet without contents.
+const SHORT_WORDS: usize = 2;
 
 /// Writes the packet over the first words, and answers how many: 2, or 11 with contents. The words after
 /// the packet stay.
@@ -22,10 +24,17 @@ pub fn to_words(p: &Packet, to: &mut [u64; 11]) -> usize
     ensures sizes { (result ≡ 2) ⊎ (result ≡ 11) }
     ensures packet { IsPacket p.now }
 {
-    let mut bytes = [0; 88];
-    let count = encode(p, &mut bytes) / 8;
-    BigEndian::read_u64_into(&bytes[..8 * count], &mut to[..count]);
-    count
+    let parts = parts_in(&p.body);
+    let header = header_for(p, &parts);
+    to[0] = header.first_word();
+    to[1] = header.second_word();
+    match parts.contents {
+        None => SHORT_WORDS,
+        Some(contents) => {
+            write_contents_words(contents.version, &contents.line, to);
+            LONG_WORDS
+        }
+    }
 }
 
 /// The packet at the beginning of the words, and how many they are: 2, or 11 with contents. Words after it
@@ -45,9 +54,9 @@ pub fn from_words(words: &[u64]) -> Result<(Packet, usize), PacketFault>
     ensures none { IsErr result ↔ NoneSpellsInWords words.now }
     ensures fault { result_err result ≡ fault_of_words words.now }
 {
-    let count = words.len().min(LONG_WORDS);
-    let mut bytes = [0; 88];
-    BigEndian::write_u64_into(&words[..count], &mut bytes[..8 * count]);
-    let (packet, len) = decode(&bytes[..8 * count])?;
-    Ok((packet, len / 8))
+    if words.len() < SHORT_WORDS {
+        return Err(PacketFault::Short);
+    }
+    let packet = packet_of(Header::of_words(words), &InWords { words })?;
+    Ok((packet, size_of(&packet.body) / 8))
 }

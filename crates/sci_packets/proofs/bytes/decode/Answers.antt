@@ -1,7 +1,8 @@
 use Rattle.std.proofs.Common.{arith, Err, Ok, sym}
 use Rattle.std.proofs.lemmas.Result.{err_from_is_err_and}
+use Rattle.sci_packets.specs.declared.fault.PacketFault.TheVariants.{Short}
 use Rattle.sci_packets.proofs.Fields.{IsBytes}
-use Rattle.sci_packets.proofs.Packets.{Found, only_found, none_found, none_refused, is_packet, is_found}
+use Rattle.sci_packets.proofs.Packets.{Found, only_found, none_found, none_refused, is_packet, is_found, too_short}
 use Rattle.sci_packets.proofs.bytes.decode.Goals as goal
 use Rattle.sci_packets.proofs.bytes.decode.Goals.{After-size_of-len}
 
@@ -12,6 +13,17 @@ found c =
     let known = c.in_ok-packet.ensures in
     let fits : IsBytes bytes = λ i. omega (arith, c.type_inv.bytes i) in
     is_found p c.size_of-len.result bytes fits known.header known.contents (is_packet p bytes fits known.header known.contents known.nodes known.identifier) (sym known.fault) c.size_of-len.ensures
+
+pub returns-then-bytes-lt-SHORT-clause-only : goal.returns-then-bytes-lt-SHORT-clause-only
+returns-then-bytes-lt-SHORT-clause-only c =
+    only_found c.args.bytes.now (Err Short) (λ i. omega (arith, c.type_inv.bytes i)) tt tt (too_short c.args.bytes.now (omega arith))
+
+pub returns-then-bytes-lt-SHORT-clause-none : goal.returns-then-bytes-lt-SHORT-clause-none
+returns-then-bytes-lt-SHORT-clause-none c =
+    none_found c.args.bytes.now (Err Short) (λ i. omega (arith, c.type_inv.bytes i)) tt tt (too_short c.args.bytes.now (omega arith))
+
+pub returns-then-bytes-lt-SHORT-clause-fault : goal.returns-then-bytes-lt-SHORT-clause-fault
+returns-then-bytes-lt-SHORT-clause-fault c = too_short c.args.bytes.now (omega arith)
 
 pub returns-in_err-packet-clause-only : goal.returns-in_err-packet-clause-only
 returns-in_err-packet-clause-only c =

@@ -1,10 +1,10 @@
-use Rattle.std.proofs.Common.{◌≡◌, ◌∙◌, sym, ap, arith, Option, Some, None, cond}
+use Rattle.std.proofs.Common.{◌≡◌, ◌∙◌, sym, ap, Option, Some, None, cond}
 use Rattle.std.specs.Option.{is_some}
 use Rattle.sci_words.specs.declared.stamped.Stamped.{Stamped}
 use Rattle.sci_packets.specs.declared.table.Parts.{Parts}
 use Rattle.sci_packets.specs.Spelling.{IsPacket}
 use Rattle.sci_packets.specs.Table.{parts_of}
-use Rattle.sci_packets.proofs.Packets.{header_made, packet_made, short_written, long_written, length-spelling}
+use Rattle.sci_packets.proofs.Packets.{packet_made, short_written, long_written, length-spelling}
 use Rattle.sci_packets.proofs.bytes.encode.Goals as goal
 use Rattle.sci_packets.proofs.bytes.encode.Goals.{In-None, After-write_contents}
 
@@ -16,16 +16,17 @@ some_there c = ap (λ (x : Parts). x.contents) (sym c.parts_in-parts.ensures) �
 
 short_packet : (c : In-None) → IsPacket c.args.p.now
 short_packet c =
-    packet_made c.args.p.now c.parts_in-parts.result c.parts_in-parts.ensures (omega (arith, c.get.ensures)) (omega (arith, c.get-2.ensures)) c.write.ensures.control c.number_in.ensures.below (rw c.in-None.is tt)
+    let made = c.header_for-header.ensures in
+    packet_made c.args.p.now c.parts_in-parts.result c.header_for-header.result c.parts_in-parts.ensures made.header made.nodes c.write.ensures.control made.identifier (rw c.in-None.is tt)
 
 long_packet : (c : After-write_contents) → IsPacket c.args.p.now
 long_packet c =
-    packet_made c.args.p.now c.parts_in-parts.result c.parts_in-parts.ensures (omega (arith, c.get.ensures)) (omega (arith, c.get-2.ensures)) c.write.ensures.control c.number_in.ensures.below (rw c.in-Some.is (rw c.in-Some.is at c.write_contents.ensures.contents))
+    let made = c.header_for-header.ensures in
+    packet_made c.args.p.now c.parts_in-parts.result c.header_for-header.result c.parts_in-parts.ensures made.header made.nodes c.write.ensures.control made.identifier (rw c.in-Some.is (rw c.in-Some.is at c.write_contents.ensures.contents))
 
 pub returns-in-None-clause-bytes : goal.returns-in-None-clause-bytes
 returns-in-None-clause-bytes c =
-    let header = header_made c.args.p.now c.parts_in-parts.result c.get.result c.get-2.result c.number_in.result c.parts_in-parts.ensures c.get.ensures.number c.get-2.ensures.number c.number_in.ensures.number in
-    short_written c.args.p.now _ c.args.to.now c.write.new.to header (none_there c) c.write.ensures.bytes
+    short_written c.args.p.now _ c.args.to.now c.write.new.to c.header_for-header.ensures.header (none_there c) c.write.ensures.bytes
 
 pub returns-in-None-clause-length : goal.returns-in-None-clause-length
 returns-in-None-clause-length c = sym (length-spelling c.args.p.now (short_packet c) ∙ ap (λ (a : Option Stamped). cond (is_some a) 88 16) (none_there c))
@@ -35,8 +36,7 @@ returns-in-None-clause-packet c = short_packet c
 
 pub returns-in-Some-clause-bytes : goal.returns-in-Some-clause-bytes
 returns-in-Some-clause-bytes c =
-    let header = header_made c.args.p.now c.parts_in-parts.result c.get.result c.get-2.result c.number_in.result c.parts_in-parts.ensures c.get.ensures.number c.get-2.ensures.number c.number_in.ensures.number in
-    long_written c.args.p.now _ c.in-Some.contents c.args.to.now c.write.new.to c.write_contents.new.to header (some_there c) c.told-to c.write.ensures.bytes (rw c.in-Some.is at c.write_contents.ensures.bytes)
+    long_written c.args.p.now _ c.in-Some.contents c.args.to.now c.write.new.to c.write_contents.new.to c.header_for-header.ensures.header (some_there c) c.told-to c.write.ensures.bytes (rw c.in-Some.is at c.write_contents.ensures.bytes)
 
 pub returns-in-Some-clause-length : goal.returns-in-Some-clause-length
 returns-in-Some-clause-length c = sym (length-spelling c.args.p.now (long_packet c) ∙ ap (λ (a : Option Stamped). cond (is_some a) 88 16) (some_there c))

@@ -1,43 +1,61 @@
-use Rattle.std.proofs.Common.{◌≡◌, ◌++◌, ◌*◌, ◌/◌, ℕ, List, length, drop, take, replicate, min, ◌∙◌, arith}
-use Rattle.std.specs.List.{flat_map}
+use Rattle.std.proofs.Common.{◌≡◌, ◌/◌, Some, Ok, Err, sym, refl, arith}
 use Rattle.std.proofs.lemmas.Result.{err_from_is_err_and}
-use Rattle.byteorder.specs.Endian.{big_bytes}
-use Rattle.sci_packets.specs.Fields.{field}
-use Rattle.sci_packets.proofs.Front.{front_fault, only_words, none_in_words}
-use Rattle.sci_packets.proofs.WordLaws.{IsFront, BeginsWords, front_of, begins_words}
+use Rattle.sci_packets.specs.declared.fault.PacketFault.TheVariants.{Short}
+use Rattle.sci_packets.specs.Fault.{fault_of, fault_of_words}
+use Rattle.sci_packets.specs.Fields.{word_bytes}
+use Rattle.sci_packets.proofs.Fields.{IsBytes, length-word_bytes}
+use Rattle.sci_packets.proofs.FromWords.{Only, only_words, none_in_words}
+use Rattle.sci_packets.proofs.Packets.{Found, only_found, is_packet, is_found, too_short}
+use Rattle.sci_packets.proofs.WordLaws.{BeginsWords, begins_words, word_bytes-fits}
 use Rattle.sci_packets.proofs.words.from_words.Goals as goal
-use Rattle.sci_packets.proofs.words.from_words.Goals.{In_ok-packet, After-from_residual}
+use Rattle.sci_packets.proofs.words.from_words.Goals.{Then-words-lt-SHORT_WORDS, After-from_residual, After-size_of}
 
--- the bytes that are decoded
-abbrev read : ℕ → List ℕ → List ℕ
-read n dst = take (8 * n) (dst ++ drop (8 * n) (replicate 88 0))
+none_if_short : (c : Then-words-lt-SHORT_WORDS) → Some Short ≡ fault_of (word_bytes c.args.words.now)
+none_if_short c = too_short (word_bytes c.args.words.now) (omega (arith, length-word_bytes c.args.words.now))
 
-front : (n : ℕ) (words dst : List ℕ) → n ≡ min (length words) 11 → dst ≡ flat_map (big_bytes 8) (take n words) → IsFront n words (read n dst)
-unfolding field
-front n words dst e f = front_of n words dst (drop (8 * n) (replicate 88 0)) e f
+only_if_short : (c : Then-words-lt-SHORT_WORDS) → Only (word_bytes c.args.words.now) (Err Short)
+only_if_short c = only_found (word_bytes c.args.words.now) (Err Short) (word_bytes-fits c.args.words.now) tt tt (none_if_short c)
 
-front_ok : (c : In_ok-packet) → IsFront c.min-count.result c.args.words.now (read c.min-count.result c.write_u64_into.new.dst)
-front_ok c = front c.min-count.result c.args.words.now c.write_u64_into.new.dst c.min-count.ensures c.write_u64_into.ensures
+pub returns-then-words-lt-SHORT_WORDS-clause-only : goal.returns-then-words-lt-SHORT_WORDS-clause-only
+returns-then-words-lt-SHORT_WORDS-clause-only c = λ p k le h. absurd (none_in_words c.args.words.now Short (only_if_short c) p k le h)
 
-front_err : (c : After-from_residual) → IsFront c.min-count.result c.args.words.now (read c.min-count.result c.write_u64_into.new.dst)
-front_err c = front c.min-count.result c.args.words.now c.write_u64_into.new.dst c.min-count.ensures c.write_u64_into.ensures
+pub returns-then-words-lt-SHORT_WORDS-clause-none : goal.returns-then-words-lt-SHORT_WORDS-clause-none
+returns-then-words-lt-SHORT_WORDS-clause-none c = (λ e. none_in_words c.args.words.now Short (only_if_short c), λ none. refl)
 
-begins : (c : In_ok-packet) → BeginsWords c.in_ok-packet.packet (c.in_ok-packet.len / 8) c.args.words.now
-begins c =
-    begins_words c.in_ok-packet.packet c.in_ok-packet.len c.min-count.result c.args.words.now (read c.min-count.result c.write_u64_into.new.dst) (front_ok c) (λ i. omega (arith, c.type_inv.words i)) c.in_ok-packet.ensures.length c.in_ok-packet.ensures.found
+pub returns-then-words-lt-SHORT_WORDS-clause-fault : goal.returns-then-words-lt-SHORT_WORDS-clause-fault
+unfolding fault_of_words
+returns-then-words-lt-SHORT_WORDS-clause-fault c = none_if_short c
+
+pub packet_of-requires-clause-long : goal.packet_of-requires-clause-long
+packet_of-requires-clause-long c = omega (arith, length-word_bytes c.args.words.now)
+
+only_if_refused : (c : After-from_residual) → Only (word_bytes c.args.words.now) (Err c.in_err-packet.field-0.0)
+only_if_refused c = only_found (word_bytes c.args.words.now) (Err c.in_err-packet.field-0.0) (word_bytes-fits c.args.words.now) tt tt c.in_err-packet.ensures.fault
 
 pub returns-in_err-packet-clause-only : goal.returns-in_err-packet-clause-only
-returns-in_err-packet-clause-only c = λ p k le h.
-    absurd (none_in_words c.min-count.result c.args.words.now (read c.min-count.result c.write_u64_into.new.dst) c.in_err-packet.field-0.0 (front_err c) c.in_err-packet.ensures.only p k le h)
+returns-in_err-packet-clause-only c = λ p k le h. absurd (none_in_words c.args.words.now c.in_err-packet.field-0.0 (only_if_refused c) p k le h)
 
 pub returns-in_err-packet-clause-none : goal.returns-in_err-packet-clause-none
 returns-in_err-packet-clause-none c =
-    (λ e. none_in_words c.min-count.result c.args.words.now (read c.min-count.result c.write_u64_into.new.dst) c.in_err-packet.field-0.0 (front_err c) c.in_err-packet.ensures.only, λ none. c.from_residual.ensures.0)
+    (λ e. none_in_words c.args.words.now c.in_err-packet.field-0.0 (only_if_refused c), λ none. c.from_residual.ensures.0)
 
 pub returns-in_err-packet-clause-fault : goal.returns-in_err-packet-clause-fault
+unfolding fault_of_words
 returns-in_err-packet-clause-fault c =
     let e = err_from_is_err_and c.from_residual.result c.from_residual.ensures.1 in
-    rw (e.1, e.2) (c.in_err-packet.ensures.fault ∙ front_fault c.min-count.result c.args.words.now (read c.min-count.result c.write_u64_into.new.dst) (front_err c))
+    rw (e.1, e.2) c.in_err-packet.ensures.fault
+
+found : (c : After-size_of) → Found c.in_ok-packet.packet c.size_of.result (word_bytes c.args.words.now)
+found c =
+    let bytes = word_bytes c.args.words.now in
+    let p = c.in_ok-packet.packet in
+    let known = c.in_ok-packet.ensures in
+    let fits : IsBytes bytes = word_bytes-fits c.args.words.now in
+    is_found p c.size_of.result bytes fits known.header known.contents (is_packet p bytes fits known.header known.contents known.nodes known.identifier) (sym known.fault) c.size_of.ensures
+
+begins : (c : After-size_of) → BeginsWords c.in_ok-packet.packet (c.size_of.result / 8) c.args.words.now
+begins c =
+    begins_words c.in_ok-packet.packet c.size_of.result c.args.words.now (λ i. omega (arith, c.type_inv.words i)) (found c).within (found c).spells
 
 pub returns-clause-found : goal.returns-clause-found
 returns-clause-found c = (begins c).spells
@@ -47,11 +65,11 @@ returns-clause-length c = (begins c).within
 
 pub returns-clause-only : goal.returns-clause-only
 returns-clause-only c =
-    only_words c.min-count.result c.args.words.now (read c.min-count.result c.write_u64_into.new.dst) c.in_ok-packet.packet c.in_ok-packet.len (front_ok c) c.in_ok-packet.ensures.only
+    only_words c.args.words.now c.in_ok-packet.packet c.size_of.result (only_found (word_bytes c.args.words.now) (Ok (c.in_ok-packet.packet, c.size_of.result)) (word_bytes-fits c.args.words.now) (found c).spells (found c).within c.in_ok-packet.ensures.fault)
 
 pub returns-clause-none : goal.returns-clause-none
-returns-clause-none c = (λ e. absurd cc, λ none. absurd (none c.in_ok-packet.packet (c.in_ok-packet.len / 8) (begins c).within (begins c).spells))
+returns-clause-none c = (λ e. absurd cc, λ none. absurd (none c.in_ok-packet.packet (c.size_of.result / 8) (begins c).within (begins c).spells))
 
 pub returns-clause-fault : goal.returns-clause-fault
-returns-clause-fault c =
-    c.in_ok-packet.ensures.fault ∙ front_fault c.min-count.result c.args.words.now (read c.min-count.result c.write_u64_into.new.dst) (front_ok c)
+unfolding fault_of_words
+returns-clause-fault c = c.in_ok-packet.ensures.fault
