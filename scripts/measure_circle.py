@@ -3,12 +3,13 @@
 
     scripts/measure_circle.py [NODES ..]        1, 4 and 16 nodes, if it isn't said
 
-It prints the processor time of an operation in nanoseconds, best and median, for each of six workloads: 64 lines, 8 slots
-and 20,000 operations a node (hammer 2,000). `sci_circle` runs a script once and then six times; the difference is five
-runs, without the reading of the script. Build it before: cd crates/sci_circle && rt run -- 1 < stdin"""
+It prints the processor time of an operation in nanoseconds, best and median of 21 runs, for each of six workloads: 64 lines,
+8 slots and 20,000 operations a node (hammer 2,000). `sci_circle` takes the time of each run, by the clock of its process and
+without the making of the stations. Build it before: cd crates/sci_circle && rt run -- 1 < stdin"""
 
 import os
 import random
+import re
 import statistics
 import subprocess
 import sys
@@ -16,7 +17,7 @@ import tempfile
 
 TOP = os.path.dirname(os.path.dirname(os.path.abspath(__file__)))
 PROGRAM = f"{TOP}/crates/sci_circle/out/sci_circle"
-LINES, SLOTS, TRIALS = 64, 8, 7
+LINES, SLOTS, RUNS = 64, 8, 21
 KINDS = ("private", "spread", "mixed", "reads", "migratory", "hammer")
 
 
@@ -49,13 +50,14 @@ def script(kind, nodes):
     return f"machine {nodes} {LINES} {SLOTS}\n" + "\n".join(lines) + "\n", len(lines)
 
 
-def processor_time(path, times):
+def times(path, count):
+    """The nanoseconds of an operation, for each run."""
     with open(path) as source:
-        run = subprocess.Popen([PROGRAM, str(times)], stdin=source, stdout=subprocess.DEVNULL)
-        _, status, usage = os.wait4(run.pid, 0)
-    if status != 0:
+        run = subprocess.run([PROGRAM, str(RUNS), "timed"], stdin=source, capture_output=True, text=True)
+    told = re.findall(rf"^{count} operations in \d+ rounds, (\d+) ns$", run.stdout, re.MULTILINE)
+    if run.returncode != 0 or len(told) != RUNS:
         sys.exit(f"{PROGRAM} failed on {path}")
-    return usage.ru_utime + usage.ru_stime
+    return [int(time) / count for time in told]
 
 
 def main():
@@ -65,8 +67,7 @@ def main():
             with tempfile.NamedTemporaryFile("w") as source:
                 source.write(text)
                 source.flush()
-                five = [processor_time(source.name, 6) - processor_time(source.name, 1) for _ in range(TRIALS)]
-            each = [seconds / 5 / count * 1e9 for seconds in five]
+                each = times(source.name, count)
             print(f"{kind} N = {nodes}: {min(each):.0f} / {statistics.median(each):.0f} ns", flush=True)
 
 

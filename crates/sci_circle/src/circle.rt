@@ -1,6 +1,7 @@
 //! Stations in one thread, each a round at a time in a circle.
 
-ghost use Rattle.std.specs.Prelude.{All};
+ghost use Rattle.std.specs.Prelude.{◌≤◌, All, IfOk, length};
+ghost use Rattle.sci_words.specs.declared.limits.TheConstants.{MAX_OPERATIONS};
 ghost use Rattle.sci_drive.specs.Driving.{IsDriven};
 ghost use Rattle.sci_station.specs.Station.{node_in};
 
@@ -8,24 +9,62 @@ use crate::runner::Runner;
 use sci_station::Fabric;
 use sci_text::Script;
 use sci_threads::{new_stations_are_fresh, operations_by_node};
-use sci_words::MAX_OPERATIONS;
+use sci_words::{Extent, MAX_OPERATIONS, Op};
 use std::alloc::{AllocError, Global};
+use std::io;
+use std::time::{CpuClock, Duration};
 
 /// After this many rounds a run is given up.
 const MOST_ROUNDS: u32 = 1_000_000_000;
 
-/// Runs a script on new stations until each operation is answered, and gives the number of rounds. None if it isn't
-/// after 1,000,000,000 rounds. Refused if memory is.
-pub fn rounds(alloc: Global, script: &Script) -> Result<Option<u32>, AllocError> {
+/// A run of a script.
+#[derive(Clone, Copy)]
+pub struct Run {
+    /// The rounds that it took.
+    pub rounds: u32,
+    /// The processor time of these rounds, without the making of the stations.
+    pub time: Duration,
+}
+
+/// Runs a script on new stations until each operation is answered. None if it isn't after 1,000,000,000 rounds. Refused if
+/// memory is, or the clock.
+pub fn timed_run<C: CpuClock>(clock: &C, alloc: Global, script: &Script) -> io::Result<Option<Run>> {
     let operations = operations_by_node(alloc, script)?;
-    let (_fabric, stations) = Fabric::new(alloc, script.extent(), MAX_OPERATIONS)?;
+    let mut runners = new_runners(alloc, script.extent(), &operations)?;
+    let start = clock.process_cpu_time()?;
+    let Some(rounds) = rounds(&mut runners)? else {
+        return Ok(None);
+    };
+    let time = clock.process_cpu_time()?.saturating_sub(start);
+    Ok(Some(Run { rounds, time }))
+}
+
+/// New stations, each with its operations.
+fn new_runners<'a>(
+    alloc: Global,
+    extent: Extent,
+    operations: &'a [Vec<Op>],
+) -> Result<Vec<Runner<'a>>, AllocError>
+    requires few { All (λ own. length own.items ≤ MAX_OPERATIONS) operations.now }
+    ensures driven { IfOk result (λ runners. All
+        (λ runner. IsDriven runner.driver (node_in runner.station)) runners.items) }
+{
+    let (_fabric, stations) = Fabric::new(alloc, extent, MAX_OPERATIONS)?;
     new_stations_are_fresh();
     let mut runners = Vec::with_capacity(alloc, stations.len())?;
-    for (station, own) in stations.into_iter().zip(&operations) {
+    for (station, own) in stations.into_iter().zip(operations) {
         runners.push(Runner::new(station, own))?;
     }
+    Ok(runners)
+}
+
+/// Does rounds until each operation is answered, and gives their number. None if some isn't after 1,000,000,000 rounds.
+fn rounds(runners: &mut [Runner]) -> Result<Option<u32>, AllocError>
+    requires driven { All
+        (λ runner. IsDriven runner.driver (node_in runner.station)) runners.old }
+{
     for round in 1..=MOST_ROUNDS {
-        if all_answered(&mut runners)? {
+        if all_answered(runners)? {
             return Ok(Some(round));
         }
     }

@@ -1,6 +1,6 @@
 //! A station's turn, over its end and its policy.
 
-ghost use Rattle.std.specs.Prelude.{◌≡◌, ◌≢◌, ◌<◌, ◌+◌, ◌⊎◌, true, false, None, IfOk, IsErr, IsOk, IsSome, []};
+ghost use Rattle.std.specs.Prelude.{◌≡◌, ◌≢◌, ◌<◌, ◌≤◌, ◌+◌, ◌⊎◌, true, false, None, IfOk, IsErr, IsOk, IsSome, []};
 ghost use Rattle.sci_words.specs.declared.event.Event.TheVariants.{Ask};
 ghost use Rattle.sci_core.specs.declared.lane.LaneKind.TheVariants.{Answers, Requests};
 ghost use Rattle.sci_core.specs.Node.{node_asking};
@@ -100,14 +100,25 @@ fn accept_all(
     ensures budget { HasNoMore budget.old.left budget.new.left }
     ensures spent { IsErr result → budget.old.left ≢ None }
 {
-    if !unanswered.some() {
-        return accept_from(end, unanswered, progress, budget, me, me);
-    }
-    let nodes = end.nodes();
-    for from in 0..nodes {
+    let (first, past) = answering(unanswered, me, end.nodes());
+    for from in first..past {
         accept_from(end, unanswered, progress, budget, me, from)?;
     }
     Ok(())
+}
+
+/// From which node to before which one answers may come: all if some node owes one, and else the node itself.
+fn answering(unanswered: &Unanswered, me: u8, nodes: u8) -> (u8, u8)
+    requires { me < nodes }
+    ensures first { result.0 ≤ me }
+    ensures past { me < result.1 }
+    ensures nodes { result.1 ≤ nodes }
+{
+    if unanswered.some() {
+        (0, nodes)
+    } else {
+        (me, me + 1)
+    }
 }
 
 /// Up to four answers from a node are accepted. The lane of another node that owes no answer is passed over.

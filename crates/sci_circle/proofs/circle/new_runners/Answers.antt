@@ -5,8 +5,7 @@ use Rattle.sci_words.specs.declared.limits.TheConstants.{MAX_OPERATIONS}
 use Rattle.sci_words.specs.declared.operation.Op.{Op}
 use Rattle.sci_drive.specs.Driving.{HasSubmittedNothing, IsDriven}
 use Rattle.sci_station.specs.Station.{StationOf, node_in}
-use Rattle.sci_threads.proofs.Sharing.{written_back}
-use Rattle.sci_circle.proofs.circle.rounds.Goals as goal
+use Rattle.sci_circle.proofs.circle.new_runners.Goals as goal
 
 pub loop-station-preserved : goal.loop-station-preserved
 loop-station-preserved c =
@@ -19,10 +18,3 @@ loop-station-preserved c =
   where
     all_rest : {X : Type 0} (P : X → Type 0) (x : X) (xs : List X) → All P (x ∷ xs) → All P xs
     all_rest P x xs all k d lt = all (suc k) d (omega arith)
-
-pub loop-round-preserved : goal.loop-round-preserved
-loop-round-preserved c =
-    let before = c.loop-round.runners in
-    let after = c.all_answered.new.runners in
-    let long : length after ≡ length before.items = c.all_answered.auto.runners ∙ ap length c.deref_mut.ensures.value in
-    subst (All (λ (r : Runner). IsDriven r.driver (node_in r.station))) (sym (written_back before.len after before.items before.ok.0 long)) c.all_answered.ensures.driven
