@@ -231,8 +231,9 @@ impl Node {
         }
     }
 
-    /// Makes the request that `asked` gave, which is sent already. The caller sees to it that `asked` gave one.
-    pub(crate) fn apply_ask(&mut self, line: u8, kind: AskKind)
+    /// Asks as `ask` does, without making the packet, for a caller that has it from `asked`. The caller sees to it that there
+    /// is one.
+    pub fn apply_ask(&mut self, line: u8, kind: AskKind)
         requires { IsSome (node_asking self.old line kind) }
         ensures { IfSome (node_asking self.old line kind) (λ asked. self.new ≡ asked.0) }
     {

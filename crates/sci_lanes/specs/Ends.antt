@@ -1,16 +1,16 @@
 -- An end of the lanes, as its owner sees it, and what each of its calls needs.
 use Rattle.std.specs.List.{range_with_len}
-use Rattle.std.specs.Prelude.{◌≡◌, ℕ, ◌+◌, ◌-◌, ◌*◌, ◌/◌, ◌%◌, ◌<◌, ◌≤◌, true, List, [], length, slice_index, map, take, drop, Option, None, Some, ◌∷◌}
+use Rattle.std.specs.Prelude.{◌≡◌, ℕ, ◌+◌, ◌-◌, ◌*◌, ◌/◌, ◌%◌, ◌<◌, ◌≤◌, true, List, [], length, slice_index, map, take, drop, Option, None, Some, IsSome, ◌∷◌}
 use Rattle.atomic_table.specs.Table.{Me}
 use Rattle.atomic_table.specs.Seated.{TableId}
 use Rattle.sci_words.specs.declared.extent.Extent.{Extent}
 use Rattle.sci_words.specs.declared.event.Event.{Event}
-use Rattle.sci_words.specs.declared.event.Event.TheVariants.{Serve, Refuse, Accept}
+use Rattle.sci_words.specs.declared.event.Event.TheVariants.{Ask, Serve, Refuse, Accept}
 use Rattle.sci_packets.specs.declared.packet.Packet.{Packet}
 use Rattle.sci_packets.specs.Spelling.{SpellsInWords}
 use Rattle.sci_cache.specs.Cache.{Letter, letter_of}
 use Rattle.sci_core.specs.Size.{Size, size_of}
-use Rattle.sci_core.specs.Node.{NodeOf, IsForNode, IsServable}
+use Rattle.sci_core.specs.Node.{NodeOf, IsForNode, IsServable, node_asking}
 use Rattle.sci_core.specs.Core.{Side, Changes, Sends, Takes, side, node_of}
 use Rattle.sci_lanes.specs.declared.cell.CellId.{CellId}
 use Rattle.sci_lanes.specs.declared.cell.TheConstants.{CELL_WORDS}
@@ -138,6 +138,11 @@ after_event end event = node_after end.part.node (side end.part.node event)
 abbrev pub taken_by : Side → Letter → Option NodeOf
 taken_by (Takes kind from taking) letter = taking letter
 taken_by _ letter = None
+
+-- what the event asks, if it asks something, can be asked at a node
+abbrev pub MayBeAsked : Event → NodeOf → Type 0
+MayBeAsked (Ask n line kind) node = IsSome (node_asking node line kind)
+MayBeAsked _ node = Unit {0}
 
 -- a packet that the event may take at a node
 abbrev pub MayBeGiven : Event → NodeOf → Letter → Type 0

@@ -3,15 +3,16 @@
 ghost use Rattle.std.specs.Prelude.{◌≡◌, Some, IsSome};
 ghost use Rattle.sci_cache.specs.Cache.{letter_of};
 ghost use Rattle.sci_core.specs.Core.{side};
-ghost use Rattle.sci_lanes.specs.Ends.{node_after, taken_by, MayBeGiven};
+ghost use Rattle.sci_lanes.specs.Ends.{node_after, taken_by, MayBeAsked, MayBeGiven};
 
 use sci_core::Node;
 use sci_packets::Packet;
 use sci_words::Event;
 
 /// Makes the node's side of an event that takes no packet. An event that takes one changes nothing here, nor does one
-/// that is not enabled.
+/// that is not enabled. The caller sees to it that what is asked can be.
 pub(crate) fn make_alone(node: &mut Node, event: &Event)
+    requires { MayBeAsked event.now node.old }
     ensures { node.new ≡ node_after node.old (side node.old event.now) }
 {
     match event {
@@ -22,7 +23,7 @@ pub(crate) fn make_alone(node: &mut Node, event: &Event)
             node.perform(*line);
         }
         Event::Ask { line, kind, .. } => {
-            node.ask(*line, *kind);
+            node.apply_ask(*line, *kind);
         }
         Event::Reply { .. } => {
             node.take_answer();

@@ -1,12 +1,19 @@
 use Rattle.std.proofs.Common.{refl, sym, ap, subst, ◌∙◌}
 use Rattle.sci_core.specs.Node.{NodeOf}
 use Rattle.sci_core.specs.Core.{side}
-use Rattle.sci_lanes.specs.Ends.{EndOf, MayPublish, node_after, lane_at_cell}
+use Rattle.sci_lanes.specs.Ends.{EndOf, MayBeAsked, MayPublish, node_after, lane_at_cell}
 use Rattle.sci_lanes.specs.Telling.{IsSending}
 use Rattle.sci_lanes.proofs.Seats.{sends_in}
 use Rattle.sci_lanes.proofs.Inside.{published_inside}
-use Rattle.sci_lanes.proofs.Calls.{publishing}
+use Rattle.sci_lanes.proofs.Calls.{publishing, publishing_asks}
 use Rattle.sci_lanes.proofs.end.LaneEnd.publish.Goals as goal
+
+pub make_alone-requires : goal.make_alone-requires
+make_alone-requires c =
+    let s = c.self.inside in
+    let e = c.args.event.now in
+    let may = subst (λ (end : EndOf). MayPublish end.part c.args.cell c.args.first e) (sym c.self.view_is) c.requires in
+    subst (MayBeAsked e) (sym c.self.invariant.node_is) (publishing_asks s.seat.part c.args.cell c.args.first e may)
 
 pub publish-requires-clause-sending : goal.publish-requires-clause-sending
 publish-requires-clause-sending c =
