@@ -5,7 +5,7 @@ use Rattle.std.proofs.Math.Seq.{take-append_seam, take-length}
 use Rattle.std.proofs.lemmas.List.{ext_get_or, get_or-take, length-take-le, take_more_set, take-take}
 use Rattle.sci_packets.specs.declared.fault.PacketFault.{PacketFault}
 use Rattle.sci_packets.specs.declared.packet.Packet.{Packet}
-use Rattle.sci_packets.specs.Spelling.{SpellsInWords, words_of}
+use Rattle.sci_packets.specs.Spelling.{NoneSpellsInWords, SpellsInWords, words_of}
 use Rattle.sci_packets.proofs.WordLaws.{count_of, few_words}
 use Rattle.sci_cache.specs.Cache.{Letter}
 use Rattle.sci_lanes.specs.Telling.{IsFront}
@@ -42,17 +42,13 @@ short_packet packet k ws found spelled le long is = elim (two_or_more packet k w
 ]
 
 -- two words that aren't those of a packet begin one of eleven
-pub long_packet : (packet : Packet) (k : ℕ) (ws front found : List ℕ) (e : PacketFault) (first : Result (Packet × ℕ) PacketFault) → ((p : Packet) (j : ℕ) → j ≤ length front → SpellsInWords p (take j front) → first ≡ Ok (p, j)) → first ≡ Err e
-    → length front ≡ 2 → take 2 ws ≡ front → SpellsInWords packet (take k ws) → k ≤ length ws → length ws ≡ 11 → found ≡ ws → SpellsInWords packet found
-long_packet packet k ws front found e first only fails two begins spelled le long is = elim (two_or_more packet k ws spelled le) [
+pub long_packet : (packet : Packet) (k : ℕ) (ws front found : List ℕ) → NoneSpellsInWords front → length front ≡ 2 → take 2 ws ≡ front → SpellsInWords packet (take k ws) → k ≤ length ws → length ws ≡ 11 → found ≡ ws → SpellsInWords packet found
+long_packet packet k ws front found none two begins spelled le long is = elim (two_or_more packet k ws spelled le) [
   | inr eleven ↦ whole_at packet k ws found spelled (eleven ∙ sym long) is
   | inl short ↦
       let here : SpellsInWords packet (take 2 front) = subst (SpellsInWords packet) (ap (λ (n : ℕ). take n ws) short ∙ (begins ∙ (sym (take-length front) ∙ ap (λ (n : ℕ). take n front) two))) spelled in
-      absurd (never packet 2 e first (only packet 2 (omega arith) here) fails)
+      absurd (none packet 2 (omega arith) here)
 ]
-  where
-    never : (p : Packet) (j : ℕ) (f : PacketFault) (r : Result (Packet × ℕ) PacketFault) → r ≡ Ok (p, j) → r ≡ Err f → ⊥
-    never p j f r h k' = cc
 
 -- eleven words that begin with those of the oldest packet are decoded
 pub front_decodes : (lane : List Letter) (found ws : List ℕ) (e : PacketFault) (result : Result (Packet × ℕ) PacketFault) → IsFront lane found → found ≡ ws → length ws ≡ 11

@@ -1,7 +1,7 @@
 //! Receiving a whole packet.
 
 ghost use Rattle.std.specs.Prelude.{◌≡◌, ◌≢◌, ◌<◌, ◌≤◌, ℕ, [], ◌∷◌, length, take, None, IfOk, IfSome, IsErr, IsOk};
-ghost use Rattle.sci_packets.specs.Spelling.{SpellsInWords};
+ghost use Rattle.sci_packets.specs.Spelling.{NoneSpellsInWords};
 ghost use Rattle.sci_lanes.specs.Shown.{inbound_at, me_of};
 ghost use Rattle.sci_lanes.specs.Telling.{IsShown};
 ghost use Rattle.sci_lanes.specs.Ends.{IsNextToTake, lane_at_cell};
@@ -56,19 +56,43 @@ pub(crate) fn read_packet(
     budget: &mut Budget,
     seen: Seen,
 ) -> Result<Packet, Spent>
-    requires seen { HasSeen end.old.part seen }
+    requires { HasSeen end.old.part seen }
     ensures read { IfOk result (HasRead end.new.part seen.cell) }
     ensures still { IsStill end.old end.new }
     ensures budget { HasNoMore budget.old.left budget.new.left }
     ensures spent { IsErr result → budget.old.left ≢ None }
 {
     let Seen { cell, first } = seen;
+    budget.spend()?;
+    let second = end.read_word(cell, 1);
+    match from_words(&[first, second]) {
+        Ok((packet, _)) => Ok(packet),
+        Err(_) => read_long(end, budget, cell, first, second),
+    }
+}
+
+/// Reads a packet with contents, of which these two words are found. The caller sees to it that they are no packet.
+#[inline(never)]
+fn read_long(
+    end: &mut LaneEnd,
+    budget: &mut Budget,
+    cell: CellId,
+    first: u64,
+    second: u64,
+) -> Result<Packet, Spent>
+    requires next { IsNextToTake end.old.part cell }
+    requires shown { IsShown end.old.part }
+    requires found { (inbound_at end.old.part (lane_at_cell end.old.part cell)).found
+        ≡ first ∷ second ∷ [] }
+    requires long { NoneSpellsInWords (first ∷ second ∷ []) }
+    ensures read { IfOk result (HasRead end.new.part cell) }
+    ensures still { IsStill end.old end.new }
+    ensures budget { HasNoMore budget.old.left budget.new.left }
+    ensures spent { IsErr result → budget.old.left ≢ None }
+{
     let mut words = [0; PACKET_WORDS];
     words[0] = first;
-    read(end, budget, cell, &mut words, 1, SHORT_WORDS)?;
-    if let Ok((packet, _)) = from_words(&words[..SHORT_WORDS]) {
-        return Ok(packet);
-    }
+    words[1] = second;
     read(end, budget, cell, &mut words, SHORT_WORDS, PACKET_WORDS)?;
     match from_words(&words) {
         Ok((packet, _)) => Ok(packet),

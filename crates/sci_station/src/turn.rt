@@ -186,7 +186,6 @@ fn accept(
 }
 
 /// The answer that was seen is accepted.
-#[inline(never)]
 fn accept_seen(
     end: &mut LaneEnd,
     unanswered: &mut Unanswered,
