@@ -28,7 +28,11 @@ pub struct Run {
 
 /// Runs a script on new stations until each operation is answered. None if it isn't after 1,000,000,000 rounds. Refused if
 /// memory is, or the clock.
-pub fn timed_run<C: CpuClock>(clock: &C, alloc: Global, script: &Script) -> io::Result<Option<Run>> {
+pub fn timed_run<C: CpuClock>(
+    clock: &C,
+    alloc: Global,
+    script: &Script,
+) -> io::Result<Option<Run>> {
     let operations = operations_by_node(alloc, script)?;
     let mut runners = new_runners(alloc, script.extent(), &operations)?;
     let start = clock.process_cpu_time()?;

@@ -13,6 +13,8 @@ pub(crate) struct Kept {
 }
 
 impl Kept {
+    ghost use Rattle.std.specs.Prelude.{◌≢◌, IsTrue};
+
     /// None is kept.
     pub(crate) fn new() -> Kept {
         Kept {
@@ -34,8 +36,14 @@ impl Kept {
         }
     }
 
-    /// Whether a request of a node was kept that the policy keeps still.
-    pub(crate) fn still(&self, from: u8, policy: &Policy, node: &Node) -> bool {
+    /// Whether a request of another node was kept that the policy keeps still.
+    #[inline(never)]
+    pub(crate) fn still(&self, from: u8, me: u8, policy: &Policy, node: &Node) -> bool
+        ensures { IsTrue result → from ≢ me }
+    {
+        if from == me {
+            return false;
+        }
         match self.requests.get(usize::from(from)) {
             Some(Some(request)) => policy.keeps(node, request),
             _ => false,

@@ -316,6 +316,7 @@ fn take(
     }
     let cell = end.next_to_take(LaneKind::Requests, from);
     match see(end, budget, cell)? {
+        Some(_seen) if kept.still(from, me, policy, end.node()) => Ok(false),
         Some(seen) => take_seen(end, policy, kept, progress, budget, me, seen),
         None => Ok(false),
     }
@@ -346,9 +347,6 @@ fn take_seen(
     ensures spent { IsErr result → budget.old.left ≢ None }
 {
     let from = seen.cell.sender;
-    if from != me && kept.still(from, policy, end.node()) {
-        return Ok(false);
-    }
     let request = match read_packet(end, budget, seen) {
         Ok(request) => request,
         Err(_) => return Err(Spent),

@@ -14,7 +14,7 @@ free-requires-clause-may c =
     let part = c.read_packet.new.end.part in
     let free : part.node.waiting ≡ None = ap (λ (m : NodeOf). m.waiting) c.read_packet.ensures.still.node ∙ c.requires.free in
     let request = c.in-Ok.request in
-    let decides : decided c.args.policy.now part.node (letter_of request) ≡ c.decide.result = ap (λ (m : NodeOf). decided c.args.policy.now m (letter_of request)) (sym c.node-2.ensures.node) ∙ sym c.decide.ensures in
+    let decides : decided c.args.policy.now part.node (letter_of request) ≡ c.decide.result = ap (λ (m : NodeOf). decided c.args.policy.now m (letter_of request)) (sym c.node.ensures.node) ∙ sym c.decide.ensures in
     may_take part seen.cell request seen.cell.sender c.args.me c.args.policy.now c.decide.result c.in-Some.event c.in-Ok.ensures.read c.requires.kind refl (me_still c.args.me c.args.end.now c.read_packet.new.end c.read_packet.ensures.still c.requires.me) free decides c.in-Some.ensures
 
 pub returns-in_err-reply-clause-goes : goal.returns-in_err-reply-clause-goes
@@ -24,7 +24,7 @@ returns-in_err-reply-clause-goes c =
     let part = c.read_packet.new.end.part in
     let request = c.in-Ok.request in
     let e = c.in-Some.event in
-    let decides : decided c.args.policy.now part.node (letter_of request) ≡ c.decide.result = ap (λ (m : NodeOf). decided c.args.policy.now m (letter_of request)) (sym c.node-2.ensures.node) ∙ sym c.decide.ensures in
+    let decides : decided c.args.policy.now part.node (letter_of request) ≡ c.decide.result = ap (λ (m : NodeOf). decided c.args.policy.now m (letter_of request)) (sym c.node.ensures.node) ∙ sym c.decide.ensures in
     goes_then n c.args.policy.now c.args.policy.now c.served.new.self c.args.end.now c.read_packet.new.end c.reply.new.end c.args.progress.now c.args.progress.now c.reply.new.progress
     (goes_still n c.args.policy.now c.args.end.now c.read_packet.new.end c.args.progress.now c.args.progress.now c.read_packet.ensures.still refl)
     (goes_then n c.args.policy.now c.served.new.self c.served.new.self c.read_packet.new.end c.free.new.self c.reply.new.end c.args.progress.now c.count.new.self c.reply.new.progress
@@ -40,7 +40,7 @@ returns-clause-goes c =
     let part = c.read_packet.new.end.part in
     let request = c.in-Ok.request in
     let e = c.in-Some.event in
-    let decides : decided c.args.policy.now part.node (letter_of request) ≡ c.decide.result = ap (λ (m : NodeOf). decided c.args.policy.now m (letter_of request)) (sym c.node-2.ensures.node) ∙ sym c.decide.ensures in
+    let decides : decided c.args.policy.now part.node (letter_of request) ≡ c.decide.result = ap (λ (m : NodeOf). decided c.args.policy.now m (letter_of request)) (sym c.node.ensures.node) ∙ sym c.decide.ensures in
     goes_then n c.args.policy.now c.args.policy.now c.served.new.self c.args.end.now c.read_packet.new.end c.reply.new.end c.args.progress.now c.args.progress.now c.reply.new.progress
     (goes_still n c.args.policy.now c.args.end.now c.read_packet.new.end c.args.progress.now c.args.progress.now c.read_packet.ensures.still refl)
     (goes_then n c.args.policy.now c.served.new.self c.served.new.self c.read_packet.new.end c.free.new.self c.reply.new.end c.args.progress.now c.count.new.self c.reply.new.progress
@@ -61,5 +61,5 @@ returns-in_default-clause-other c = λ _ own.
     let request = c.in-Ok.request in
     let me = me_still c.args.me c.args.end.now c.read_packet.new.end c.read_packet.ensures.still c.requires.me in
     let source = own_request part seen.cell request c.in-Ok.ensures.read c.requires.kind (own ∙ me) in
-    let decides : decided c.args.policy.now part.node (letter_of request) ≡ c.decide.result = ap (λ (m : NodeOf). decided c.args.policy.now m (letter_of request)) (sym c.node-2.ensures.node) ∙ sym c.decide.ensures in
+    let decides : decided c.args.policy.now part.node (letter_of request) ≡ c.decide.result = ap (λ (m : NodeOf). decided c.args.policy.now m (letter_of request)) (sym c.node.ensures.node) ∙ sym c.decide.ensures in
     absurd (keeps_no_own c.args.policy.now part.node (letter_of request) source (decides ∙ keep_of c.decide.result seen.cell.sender c.args.me (sym c.event.ensures ∙ c.in_default.is)))
