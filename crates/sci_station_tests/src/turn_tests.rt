@@ -165,3 +165,33 @@ fn a_kept_request_is_looked_at_again(rt: HostRuntime) -> Result<(), Fail> {
     takes(&mut second, 1, 1)?;
     holds(third.turn().ready == Some(0), "line 0 is ready at node 2")
 }
+
+/// Node 1 leaves line 0, on which it wants to store, and asks its home for it anew.
+fn asks_anew(second: &mut Station, third: &mut Station) -> Result<(), Fail> {
+    holds(second.perform(0).is_some(), "the load of node 1")?;
+    holds(
+        second.submit(op(0, Act::Store(7))).is_ok(),
+        "a store of node 1",
+    )?;
+    holds(second.turn().asked, "node 1 leaves the list")?;
+    takes(third, 0, 1)?;
+    holds(second.turn().asked, "node 1 asks the home of line 0")
+}
+
+/// A request that was kept once and is served is forgotten. So another one of its sender is served, though the first would be
+/// kept again.
+#[test]
+fn a_request_after_a_kept_one_is_served(rt: HostRuntime) -> Result<(), Fail> {
+    let extent = Extent::new(3, 2, 2).ok_or("an extent")?;
+    let (mut first, mut second, mut third) = three(&rt, extent)?;
+    ask_in_a_chain(&mut first, &mut second, &mut third)?;
+    holds(second.turn().is_idle(), "the request is kept")?;
+    takes(&mut first, 0, 1)?;
+    takes(&mut second, 1, 1)?;
+    holds(third.turn().ready == Some(0), "line 0 is ready at node 2")?;
+    holds(third.perform(0).is_some(), "the load of node 2")?;
+    asks_anew(&mut second, &mut third)?;
+    loads(&mut third, &[1])?;
+    holds(third.turn().asked, "node 2 asks node 1 for line 1")?;
+    takes(&mut second, 0, 1)
+}
