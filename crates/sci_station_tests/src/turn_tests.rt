@@ -166,8 +166,9 @@ fn a_kept_request_is_looked_at_again(rt: HostRuntime) -> Result<(), Fail> {
     holds(third.turn().ready == Some(0), "line 0 is ready at node 2")
 }
 
-/// Node 1 leaves line 0, on which it wants to store, and asks its home for it anew.
-fn asks_anew(second: &mut Station, third: &mut Station) -> Result<(), Fail> {
+/// Node 1, which stands between nodes 2 and 0 in the list of line 0, wants to store there. It leaves the list and asks the home
+/// anew.
+fn asks_anew(first: &mut Station, second: &mut Station, third: &mut Station) -> Result<(), Fail> {
     holds(second.perform(0).is_some(), "the load of node 1")?;
     holds(
         second.submit(op(0, Act::Store(7))).is_ok(),
@@ -175,6 +176,8 @@ fn asks_anew(second: &mut Station, third: &mut Station) -> Result<(), Fail> {
     )?;
     holds(second.turn().asked, "node 1 leaves the list")?;
     takes(third, 0, 1)?;
+    holds(second.turn().asked, "node 1 tells node 0 of it")?;
+    takes(first, 0, 1)?;
     holds(second.turn().asked, "node 1 asks the home of line 0")
 }
 
@@ -190,8 +193,30 @@ fn a_request_after_a_kept_one_is_served(rt: HostRuntime) -> Result<(), Fail> {
     takes(&mut second, 1, 1)?;
     holds(third.turn().ready == Some(0), "line 0 is ready at node 2")?;
     holds(third.perform(0).is_some(), "the load of node 2")?;
-    asks_anew(&mut second, &mut third)?;
+    asks_anew(&mut first, &mut second, &mut third)?;
     loads(&mut third, &[1])?;
     holds(third.turn().asked, "node 2 asks node 1 for line 1")?;
     takes(&mut second, 0, 1)
+}
+
+/// A turn that finds nothing takes so many steps.
+fn finds_nothing(station: &mut Station, wanted: u32) -> Result<(), Fail> {
+    let (progress, steps) = station.turn_within(1000);
+    holds(progress.is_idle(), "nothing is found")?;
+    holds(steps == wanted, "so many looks")
+}
+
+/// A turn looks at the three lanes of requests, and at two of answers while node 0 owes one: that of node 0, and the own one.
+/// When the answer is taken, it looks at the own one alone.
+#[test]
+fn answers_are_looked_for_while_one_is_owed(rt: HostRuntime) -> Result<(), Fail> {
+    let extent = Extent::new(3, 1, 1).ok_or("an extent")?;
+    let (mut first, mut second, _third) = three(&rt, extent)?;
+    loads(&mut second, &[0])?;
+    holds(second.turn().asked, "node 1 asks node 0")?;
+    finds_nothing(&mut second, 5)?;
+    takes(&mut first, 0, 1)?;
+    takes(&mut second, 1, 0)?;
+    holds(second.perform(0).is_some(), "the load of node 1")?;
+    finds_nothing(&mut second, 4)
 }
