@@ -11,6 +11,7 @@ pub mod Inside
 pub mod Calls
 pub mod Sharing
 pub mod Opening
+pub mod Places
 pub mod Uniqueness
 pub mod Gathering
 pub mod Reading

@@ -16,7 +16,8 @@ use Rattle.sci_lanes.specs.declared.cell.CellId.{CellId}
 use Rattle.sci_lanes.specs.declared.cell.TheConstants.{CELL_WORDS}
 use Rattle.sci_lanes.specs.declared.view.Part.{Part}
 use Rattle.sci_lanes.specs.declared.view.View.{View}
-use Rattle.sci_lanes.specs.Cells.{lane_count, receiver_of, lane_number, word_count}
+use Rattle.sci_core.specs.declared.lane.LaneKind.{LaneKind}
+use Rattle.sci_lanes.specs.Cells.{cell_place, lane_count, receiver_of, lane_number, word_count}
 use Rattle.sci_lanes.specs.Shown.{outbound_at, inbound_at, me_of, single, opening_part}
 use Rattle.sci_lanes.specs.Knowing.{looked, filled, read, published, freed, with_node_known}
 use Rattle.sci_lanes.specs.Telling.{part_of, size_in, IsShown}
@@ -76,6 +77,14 @@ pub record IsNextToTake (part : Part) (cell : CellId) : Type 0 where
   pub mine : cell.receiver ≡ me_of part
   pub other : cell.sender < nodes_in part
   pub next : cell.number ≡ (inbound_at part (lane_at_cell part cell)).taken % 4
+
+-- the next cell of a lane to the node was looked at, and this word found
+pub record LooksFor (kind : LaneKind) (from word : ℕ) (old new : EndOf) : Type 0 where
+  pub cell : CellId
+  pub kind_is : cell.kind ≡ kind
+  pub sender_is : cell.sender ≡ from
+  pub next : IsNextToTake old.part cell
+  pub looked : new ≡ looked_at cell word old
 
 -- ---- what is known where a step is made
 
@@ -175,6 +184,11 @@ pub record FitsInside (part : Part) (node : NodeOf) (me nodes : ℕ) (turns inbo
   pub inbox_turns_long : length inbox_turns ≡ 2 * nodes
   pub turns_are : (lane : ℕ) → lane < lane_count nodes → slice_index turns lane ≡ (outbound_at part lane).sent % 4
   pub taken_are : (lane : ℕ) → lane < lane_count nodes → receiver_of nodes lane ≡ me → slice_index inbox_turns (lane / nodes) ≡ (inbound_at part lane).taken % 4
+
+-- where the next cell to take from begins in the table, for each lane to the node
+pub record ArePlaces (nodes me : ℕ) (inbox_turns places : List ℕ) : Type 0 where
+  pub long : length places ≡ 2 * nodes
+  pub are : (inbox : ℕ) → inbox < 2 * nodes → slice_index places inbox ≡ cell_place (inbox * nodes + me) (slice_index inbox_turns inbox)
 
 -- ---- the whole table
 

@@ -1,11 +1,13 @@
 //! The cells of the table.
 
-ghost use Rattle.std.specs.Prelude.{◌≡◌, ◌+◌, ◌*◌, ◌/◌, ◌<◌, ◌≤◌};
+ghost use Rattle.std.specs.Prelude.{◌≡◌, ◌+◌, ◌*◌, ◌/◌, ◌<◌, ◌≤◌, IfOk, replicate};
 ghost use Rattle.sci_lanes.specs.Cells.{cell_place, lane_number, own_place};
 ghost use Rattle.sci_lanes.specs.declared.cell.TheConstants.{CELL_WORDS};
+ghost use Rattle.sci_lanes.specs.Ends.{ArePlaces};
 
 use sci_core::LaneKind;
 use sci_words::LANE_CELLS;
+use std::alloc::{AllocError, Global};
 
 /// The words of a cell: a packet has at most eleven.
 pub(crate) const CELL_WORDS: usize = 11;
@@ -60,6 +62,20 @@ impl CellId {
         let cells = usize::from(LANE_CELLS);
         (self.lane(nodes) * cells + usize::from(self.number) % cells) * CELL_WORDS + index
     }
+}
+
+/// Where the first cell of each lane to a node begins in the table of a machine of so many nodes, in the order of inboxes.
+/// Refused if memory is.
+pub(crate) fn first_places(alloc: Global, me: u8, nodes: u8) -> Result<Vec<usize>, AllocError>
+    ensures { IfOk result (λ places. ArePlaces nodes me (replicate (2 * nodes) 0) places.items) }
+{
+    let inboxes = 2 * usize::from(nodes);
+    let mut places = Vec::with_capacity(alloc, inboxes)?;
+    for inbox in 0..inboxes {
+        let lane = inbox * usize::from(nodes) + usize::from(me);
+        places.push(lane * usize::from(LANE_CELLS) * CELL_WORDS)?;
+    }
+    Ok(places)
 }
 
 /// Where the own word of a node stands in the table of a machine of so many nodes.

@@ -1,6 +1,6 @@
 //! An end of the lanes: one node, with its seat at the table.
 
-use crate::cell::CellId;
+use crate::cell::{CellId, first_places};
 use crate::event::{make_alone, make_taking};
 use crate::seat::NodeSeat;
 use sci_core::{LaneKind, Node};
@@ -49,17 +49,20 @@ pub struct LaneEnd {
     turns: Vec<u8>,
     /// For each lane to the node the number of the cell from which it takes next, 0 to 3.
     inbox_turns: Vec<u8>,
+    /// Where each of these cells begins in the table.
+    inbox_places: Vec<usize>,
 }
 
 impl Model for LaneEnd {
-    ghost use Rattle.sci_lanes.specs.Ends.{EndOf, FitsInside};
+    ghost use Rattle.sci_lanes.specs.Ends.{ArePlaces, EndOf, FitsInside};
 
     ghost Value = { EndOf };
 
     ghost view = { λ end. end.seat };
 
     ghost invariant = { λ end.
-        FitsInside end.seat.part end.node end.me end.nodes end.turns.items end.inbox_turns.items };
+        FitsInside end.seat.part end.node end.me end.nodes end.turns.items end.inbox_turns.items
+        × ArePlaces end.nodes end.me end.inbox_turns.items end.inbox_places.items };
 }
 
 impl LaneEnd {
@@ -72,7 +75,7 @@ impl LaneEnd {
     ghost use Rattle.sci_lanes.specs.Shown.{inbound_at, me_of};
     ghost use Rattle.sci_lanes.specs.Gathering.{HasTurns};
     ghost use Rattle.sci_lanes.specs.Telling.{IsSameNode, IsShown, SomeLineWaits};
-    ghost use Rattle.sci_lanes.specs.Ends.{FitsInside, IsNextToSend, IsNextToTake, MayBeat, MayFill};
+    ghost use Rattle.sci_lanes.specs.Ends.{FitsInside, IsNextToSend, IsNextToTake, LooksFor, MayBeat, MayFill};
     ghost use Rattle.sci_lanes.specs.Ends.{MayFree, MayPublish, MayRead, after_event, beaten};
     ghost use Rattle.sci_lanes.specs.Ends.{filled_at, freed_at, lane_at_cell, looked_at, nodes_in};
     ghost use Rattle.sci_lanes.specs.Ends.{published_at, read_at, taken_by};
@@ -92,6 +95,7 @@ impl LaneEnd {
         let turns = vec![in alloc; 0; 2 * pairs]?;
         let inbox_turns = vec![in alloc; 0; 2 * usize::from(nodes)]?;
         let me = node.me();
+        let inbox_places = first_places(alloc, me, nodes)?;
         Ok(LaneEnd {
             seat,
             node,
@@ -99,6 +103,7 @@ impl LaneEnd {
             nodes,
             turns,
             inbox_turns,
+            inbox_places,
         })
     }
 
@@ -173,6 +178,19 @@ impl LaneEnd {
         CellId { number, ..cell }
     }
 
+    /// Looks at the first word of the cell from which the node takes next in the lane of a kind from another, and gives it:
+    /// 0 if the cell is empty. The caller sees to it that there is such a node. It is quicker than `look`, since the end
+    /// remembers where these cells stand.
+    pub fn look_for(&mut self, kind: LaneKind, from: u8) -> u64
+        requires { from < nodes_in self.old.part }
+        ensures looked { LooksFor kind from result self.old self.new }
+        ensures shown { IsShown self.new.part }
+    {
+        let cell = self.next_to_take(kind, from);
+        let place = self.inbox_places[cell.inbox(self.nodes)];
+        self.seat.look(&cell, self.nodes, place)
+    }
+
     /// Looks at the first word of a cell, and gives it: 0 if the cell is empty. The caller sees to it that the cell is
     /// the next to send into, or the next to take from. A sender that finds a request cell full knows that some line of
     /// its node awaits an answer.
@@ -183,7 +201,7 @@ impl LaneEnd {
         ensures waits { cell.kind ≡ Requests → IsNextToSend self.old.part cell → result ≢ 0 →
             SomeLineWaits self.new.part.node }
     {
-        self.seat.look(&cell, self.nodes)
+        self.seat.look(&cell, self.nodes, cell.place(self.nodes, 0))
     }
 
     /// Stores a word, with its number in the cell, into the next cell to send into. The caller sees to it that the cell is
@@ -239,7 +257,9 @@ impl LaneEnd {
         make_taking(&mut self.node, event, packet);
         self.seat.free::<Brand>(&cell, self.nodes, &self.node);
         let place = cell.inbox(self.nodes);
-        self.inbox_turns[place] = (cell.number + 1) % LANE_CELLS;
+        let number = (cell.number + 1) % LANE_CELLS;
+        self.inbox_turns[place] = number;
+        self.inbox_places[place] = CellId { number, ..cell }.place(self.nodes, 0);
     }
 
     /// Makes an event of the node that concerns no lane: an Issue or a Perform. The caller sees to it that it is enabled.

@@ -29,8 +29,9 @@ impl Model for NodeSeat {
 }
 
 impl NodeSeat {
-    ghost use Rattle.std.specs.Prelude.{◌≡◌, ◌≢◌, ◌⊎◌, []};
+    ghost use Rattle.std.specs.Prelude.{◌≡◌, ◌≢◌, ◌+◌, ◌⊎◌, []};
     ghost use Rattle.std.specs.Arc.{arc_value};
+    ghost use Rattle.sci_lanes.specs.Cells.{cell_place, lane_number};
     ghost use Rattle.sci_lanes.specs.Gathering.{joined_with};
     ghost use Rattle.sci_lanes.specs.Shown.{me_of};
     ghost use Rattle.sci_lanes.specs.Telling.{IsBeating, IsFull, IsSameNode, IsSending, IsShown, IsTaking, part_of};
@@ -48,16 +49,16 @@ impl NodeSeat {
         NodeSeat { table, seat }
     }
 
-    /// Looks at the first word of a cell, the next to send into or to take from.
-    pub(crate) fn look(&mut self, cell: &CellId, nodes: u8) -> u64
+    /// Looks at the first word of a cell, the next to send into or to take from, which stands at this place.
+    pub(crate) fn look(&mut self, cell: &CellId, nodes: u8, place: usize) -> u64
         requires nodes { nodes ≡ nodes_in self.old.part }
         requires next { IsNextToSend self.old.part cell.now ⊎ IsNextToTake self.old.part cell.now }
+        requires place { place ≡ cell_place (lane_number nodes cell.now) cell.now.number + 0 }
         ensures part { self.new ≡ looked_at cell.now result self.old }
         ensures shown { IsShown self.new.part }
         ensures full { IsNextToSend self.old.part cell.now → result ≢ 0 →
             IsFull self.old.part (lane_at_cell self.old.part cell.now) }
     {
-        let place = cell.place(nodes, 0);
         let shared = &self.table.shared;
         shared.load::<Look>(&mut self.seat, place)
     }

@@ -8,4 +8,4 @@ make_alone-requires c =
     let s = c.self.inside in
     let e = c.args.event.now in
     let may = subst (λ (end : EndOf). MayBeat end.part e) (sym c.self.view_is) c.requires in
-    subst (MayBeAsked e) (sym c.self.invariant.node_is) (beating_asks s.seat.part e may)
+    subst (MayBeAsked e) (sym c.self.invariant.0.node_is) (beating_asks s.seat.part e may)

@@ -11,6 +11,7 @@ use Rattle.sci_lanes.specs.Ends.{EndOf, MayFree, MayBeGiven, taken_by, lane_at_c
 use Rattle.sci_lanes.specs.Shown.{inbound_at}
 use Rattle.sci_lanes.proofs.Seats.{takes_in}
 use Rattle.sci_lanes.proofs.Inside.{freed_inside}
+use Rattle.sci_lanes.proofs.Places.{places_freed}
 use Rattle.sci_lanes.proofs.Calls.{takes_some, given, freeing, one_spelled}
 use Rattle.sci_lanes.proofs.end.LaneEnd.free.Goals as goal
 
@@ -29,7 +30,7 @@ make_taking-requires-clause-takable c =
     let e = c.args.event.now in
     let may = may_inside s.seat c.args.self.now c.args.cell e c.self.view_is c.requires.may in
     let is = same_packet s.seat c.args.self.now c.args.cell e c.args.packet.now c.self.view_is may c.requires.spelled in
-    subst (λ (p : Packet). MayBeGiven e s.node (letter_of p)) (sym is) (subst (λ (node : NodeOf). MayBeGiven e node (letter_of may.packet)) (sym c.self.invariant.node_is) (given s.seat.part c.args.cell e c.self.invariant.shown may))
+    subst (λ (p : Packet). MayBeGiven e s.node (letter_of p)) (sym is) (subst (λ (node : NodeOf). MayBeGiven e node (letter_of may.packet)) (sym c.self.invariant.0.node_is) (given s.seat.part c.args.cell e c.self.invariant.0.shown may))
 
 pub make_taking-requires-clause-takes : goal.make_taking-requires-clause-takes
 make_taking-requires-clause-takes c =
@@ -37,7 +38,7 @@ make_taking-requires-clause-takes c =
     let e = c.args.event.now in
     let may = may_inside s.seat c.args.self.now c.args.cell e c.self.view_is c.requires.may in
     let is = same_packet s.seat c.args.self.now c.args.cell e c.args.packet.now c.self.view_is may c.requires.spelled in
-    let takes = ap (λ (node : NodeOf). taken_by (side node e) (letter_of c.args.packet.now)) c.self.invariant.node_is ∙ (ap (λ (p : Packet). taken_by (side s.seat.part.node e) (letter_of p)) is ∙ takes_some s.seat.part c.args.cell e may) in
+    let takes = ap (λ (node : NodeOf). taken_by (side node e) (letter_of c.args.packet.now)) c.self.invariant.0.node_is ∙ (ap (λ (p : Packet). taken_by (side s.seat.part.node e) (letter_of p)) is ∙ takes_some s.seat.part c.args.cell e may) in
     subst IsSome (sym takes) refl
 
 pub free-requires-clause-taking : goal.free-requires-clause-taking
@@ -47,19 +48,21 @@ free-requires-clause-taking c =
     let packet = c.args.packet.now in
     let may = may_inside s.seat c.args.self.now c.args.cell e c.self.view_is c.requires.may in
     let is = same_packet s.seat c.args.self.now c.args.cell e packet c.self.view_is may c.requires.spelled in
-    freeing s.seat.part c.args.cell e packet c.make_taking.new.node may is (subst (λ (node : NodeOf). taken_by (side node e) (letter_of packet) ≡ Some c.make_taking.new.node) c.self.invariant.node_is c.make_taking.ensures)
+    freeing s.seat.part c.args.cell e packet c.make_taking.new.node may is (subst (λ (node : NodeOf). taken_by (side node e) (letter_of packet) ≡ Some c.make_taking.new.node) c.self.invariant.0.node_is c.make_taking.ensures)
 
 pub invariant_of-self : goal.invariant_of-self
 invariant_of-self c =
     let s = c.self.inside in
-    let f = c.self.invariant in
+    let f = c.self.invariant.0 in
     let may = may_inside s.seat c.args.self.now c.args.cell c.args.event.now c.self.view_is c.requires.may in
-    rw c.inbox-place.ensures.place
-    (freed_inside s.seat.part _ _ _ _ _ f c.args.cell (takes_in s.seat.part c.args.cell f.shown may.next) c.free.new.self.part c.make_taking.new.node c.make_taking.new.node _ may.next.mine may.next.next refl (ap (λ (end : EndOf). end.part) c.free.ensures.part) c.free.ensures.shown refl c.free.ensures.same)
+    rw c.inbox-place.ensures.place (
+      freed_inside s.seat.part _ _ _ _ _ f c.args.cell (takes_in s.seat.part c.args.cell f.shown may.next) c.free.new.self.part c.make_taking.new.node c.make_taking.new.node _ may.next.mine may.next.next refl (ap (λ (end : EndOf). end.part) c.free.ensures.part) c.free.ensures.shown refl c.free.ensures.same,
+      places_freed s.seat.part _ _ _ _ _ _ f c.self.invariant.1 c.args.cell may.next _ _ c.place.ensures,
+    )
 
 pub returns-clause-taken : goal.returns-clause-taken
 returns-clause-taken c =
     let e = c.args.event.now in
     let packet = c.args.packet.now in
-    let node_is = c.self.invariant.node_is ∙ ap (λ (end : EndOf). end.part.node) c.self.view_is in
+    let node_is = c.self.invariant.0.node_is ∙ ap (λ (end : EndOf). end.part.node) c.self.view_is in
     ap (λ (node : NodeOf). taken_by (side node e) (letter_of packet)) (sym node_is) ∙ (c.make_taking.ensures ∙ ap (λ (end : EndOf). Some end.part.node) (sym c.free.ensures.part))

@@ -13,8 +13,8 @@ load-requires c =
     let s = c.self.inside.seat in
     let cell = c.args.cell.now in
     let part_is : part_of s.me.0 ≡ c.args.self.now.part = ap (λ (e : EndOf). e.part) c.self.view_is in
-    subst (λ t. Asks t.shared.key t.shared.table_id s.table_id s.id s.me c.place-place.result (λ n. n) (Looks (step t.shared.table_id.slots c.place-place.result 0 0 none) s.me)) (sym c.deref.ensures)
-    (look_asks _ _ _ s.id s.me cell c.args.nodes c.place-place.result c.self.invariant (c.requires.nodes ∙ ap nodes_in (sym part_is)) (subst (λ (p : Part). IsNextToSend p cell ⊎ IsNextToTake p cell) (sym part_is) c.requires.next) c.place-place.ensures)
+    subst (λ t. Asks t.shared.key t.shared.table_id s.table_id s.id s.me c.args.place (λ n. n) (Looks (step t.shared.table_id.slots c.args.place 0 0 none) s.me)) (sym c.deref.ensures)
+    (look_asks _ _ _ s.id s.me cell c.args.nodes c.args.place c.self.invariant (c.requires.nodes ∙ ap nodes_in (sym part_is)) (subst (λ (p : Part). IsNextToSend p cell ⊎ IsNextToTake p cell) (sym part_is) c.requires.next) c.requires.place)
 
 told : (c : goal.After-load) → LooksAt (lane_at_cell c.args.self.now.part c.args.cell.now) c.args.cell.now.number c.load.result c.args.self.now.part c.load.new.seat.me
 told c =
@@ -22,7 +22,7 @@ told c =
     let cell = c.args.cell.now in
     let part_is : part_of s.me.0 ≡ c.args.self.now.part = ap (λ (e : EndOf). e.part) c.self.view_is in
     subst (λ (p : Part). LooksAt (lane_at_cell p cell) cell.number c.load.result p c.load.new.seat.me) part_is
-    (look_told s.me c.load.new.seat.me cell c.args.nodes c.place-place.result c.load.result c.deref.result.now.shared.table_id.slots (subst (λ (p : Part). IsNextToSend p cell ⊎ IsNextToTake p cell) (sym part_is) c.requires.next) c.self.invariant.shown (c.requires.nodes ∙ ap nodes_in (sym part_is)) c.place-place.ensures c.load.ensures.2)
+    (look_told s.me c.load.new.seat.me cell c.args.nodes c.args.place c.load.result c.deref.result.now.shared.table_id.slots (subst (λ (p : Part). IsNextToSend p cell ⊎ IsNextToTake p cell) (sym part_is) c.requires.next) c.self.invariant.shown (c.requires.nodes ∙ ap nodes_in (sym part_is)) c.requires.place c.load.ensures.2)
 
 pub returns-clause-part : goal.returns-clause-part
 returns-clause-part c =

@@ -1,0 +1,5 @@
+use Rattle.sci_lanes.proofs.Places.{AreFirst}
+use Rattle.sci_lanes.proofs.cell.first_places.Given as goal
+
+abbrev pub invariant-loop-inbox : goal.invariant-loop-inbox
+invariant-loop-inbox l = AreFirst l.nodes l.me l.inbox l.places.items
