@@ -78,3 +78,12 @@ look_still end new cell word is =
     (if_same (λ (o : Outbound). o.sent) (is_sending end.part lane cell.number) _ _ _ refl refl)
     (if_same (λ (i : Inbound). i.taken) (is_receiving end.part lane cell.number) _ _ _ refl refl)
     is
+
+-- ---- one cell is the next
+
+pub next_same : (part : Part) (a b : CellId) → IsNextToTake part a → IsNextToTake part b → a.kind ≡ b.kind → a.sender ≡ b.sender → a ≡ b
+next_same part a b one two kind sender =
+    let receiver : a.receiver ≡ b.receiver = one.mine ∙ sym two.mine in
+    let lane : lane_at_cell part a ≡ lane_at_cell part b = (λ i. lane_at_cell part (record { kind = kind i; sender = sender i; receiver = receiver i; number = 0 })) in
+    let number : a.number ≡ b.number = one.next ∙ (ap (λ (l : ℕ). (inbound_at part l).taken % 4) lane ∙ sym two.next) in
+    λ i. record { kind = kind i; sender = sender i; receiver = receiver i; number = number i }

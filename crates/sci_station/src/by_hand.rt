@@ -174,7 +174,7 @@ fn receive(end: &mut LaneEnd, cell: CellId) -> Option<Packet>
     ensures still { IsStill end.old end.new }
 {
     let mut budget = Budget { left: None };
-    let seen = match see(end, &mut budget, cell) {
+    let seen = match see(end, &mut budget, cell.kind, cell.sender) {
         Ok(Some(seen)) => seen,
         _ => return None,
     };

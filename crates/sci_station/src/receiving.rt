@@ -4,12 +4,13 @@ ghost use Rattle.std.specs.Prelude.{◌≡◌, ◌≢◌, ◌<◌, ◌≤◌, �
 ghost use Rattle.sci_packets.specs.Spelling.{NoneSpellsInWords};
 ghost use Rattle.sci_lanes.specs.Shown.{inbound_at, me_of};
 ghost use Rattle.sci_lanes.specs.Telling.{IsShown};
-ghost use Rattle.sci_lanes.specs.Ends.{IsNextToTake, lane_at_cell};
+ghost use Rattle.sci_lanes.specs.Ends.{IsNextToTake, lane_at_cell, nodes_in};
 ghost use Rattle.sci_station.specs.Budgets.{HasNoMore};
 ghost use Rattle.sci_station.specs.Ends.{HasRead, HasSeen, IsEmptied, IsStill};
 
 use crate::budget::{Budget, Spent};
 use crate::sending::PACKET_WORDS;
+use sci_core::LaneKind;
 use sci_lanes::{CellId, LaneEnd};
 use sci_packets::{Packet, from_words};
 
@@ -25,28 +26,30 @@ pub(crate) struct Seen {
     pub(crate) first: u64,
 }
 
-/// Looks at the next cell of a lane to this node. None if no packet is there. The caller sees to it that the cell is the next
-/// to take from.
-#[inline]
+/// Looks at the next cell of the lane of a kind from a node to this one. None if no packet is there. The caller sees to it
+/// that there is such a node.
 pub(crate) fn see(
     end: &mut LaneEnd,
     budget: &mut Budget,
-    cell: CellId,
+    kind: LaneKind,
+    from: u8,
 ) -> Result<Option<Seen>, Spent>
-    requires { IsNextToTake end.old.part cell }
+    requires { from < nodes_in end.old.part }
     ensures seen { IfOk result (λ found. IfSome found (HasSeen end.new.part)) }
-    ensures cell { IfOk result (λ found. IfSome found (λ seen. seen.cell ≡ cell)) }
-    ensures none { IfOk result (λ found. found ≡ None → cell.sender ≡ me_of end.new.part →
-        IsEmptied end.new.part cell.kind) }
+    ensures kind { IfOk result (λ found. IfSome found (λ seen. seen.cell.kind ≡ kind)) }
+    ensures from { IfOk result (λ found. IfSome found (λ seen. seen.cell.sender ≡ from)) }
+    ensures none { IfOk result (λ found. found ≡ None → from ≡ me_of end.new.part →
+        IsEmptied end.new.part kind) }
     ensures still { IsStill end.old end.new }
     ensures budget { HasNoMore budget.old.left budget.new.left }
     ensures spent { IsErr result → budget.old.left ≢ None }
 {
     budget.spend()?;
-    let first = end.look(cell);
+    let first = end.look_for(kind, from);
     if first == 0 {
         return Ok(None);
     }
+    let cell = end.next_to_take(kind, from);
     Ok(Some(Seen { cell, first }))
 }
 

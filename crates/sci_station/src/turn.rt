@@ -81,7 +81,8 @@ fn reply(
     Ok(())
 }
 
-/// Up to four answers from each node are accepted.
+/// Up to four answers are accepted from each node that owes one, and from the node itself. The lanes of others are passed
+/// over.
 fn accept_all(
     end: &mut LaneEnd,
     unanswered: &mut Unanswered,
@@ -100,28 +101,16 @@ fn accept_all(
     ensures budget { HasNoMore budget.old.left budget.new.left }
     ensures spent { IsErr result → budget.old.left ≢ None }
 {
-    let (first, past) = answering(unanswered, me, end.nodes());
-    for from in first..past {
+    let nodes = end.nodes();
+    let mut next = 0;
+    'answers: while let Some(from) = unanswered.next_from(next, me, nodes) {
         accept_from(end, unanswered, progress, budget, me, from)?;
+        next = from + 1;
     }
     Ok(())
 }
 
-/// From which node to before which one answers may come: all if some node owes one, and else the node itself.
-fn answering(unanswered: &Unanswered, me: u8, nodes: u8) -> (u8, u8)
-    requires { me < nodes }
-    ensures first { result.0 ≤ me }
-    ensures past { me < result.1 }
-    ensures nodes { result.1 ≤ nodes }
-{
-    if unanswered.some() {
-        (0, nodes)
-    } else {
-        (me, me + 1)
-    }
-}
-
-/// Up to four answers from a node are accepted. The lane of another node that owes no answer is passed over.
+/// Up to four answers from a node are accepted.
 fn accept_from(
     end: &mut LaneEnd,
     unanswered: &mut Unanswered,
@@ -142,9 +131,6 @@ fn accept_from(
     ensures budget { HasNoMore budget.old.left budget.new.left }
     ensures spent { IsErr result → budget.old.left ≢ None }
 {
-    if from != me && !unanswered.by(from) {
-        return Ok(());
-    }
     for _cell in 0..LANE_CELLS {
         if !accept(end, unanswered, progress, budget, me, from)? {
             break;
@@ -175,8 +161,7 @@ fn accept(
     ensures budget { HasNoMore budget.old.left budget.new.left }
     ensures spent { IsErr result → budget.old.left ≢ None }
 {
-    let cell = end.next_to_take(LaneKind::Answers, from);
-    match see(end, budget, cell)? {
+    match see(end, budget, LaneKind::Answers, from)? {
         Some(seen) => {
             accept_seen(end, unanswered, progress, budget, me, seen)?;
             Ok(true)
@@ -314,8 +299,7 @@ fn take(
     if end.node().waiting().is_some() {
         return Ok(false);
     }
-    let cell = end.next_to_take(LaneKind::Requests, from);
-    match see(end, budget, cell)? {
+    match see(end, budget, LaneKind::Requests, from)? {
         Some(_seen) if kept.still(from, me, policy, end.node()) => Ok(false),
         Some(seen) => take_seen(end, policy, kept, progress, budget, me, seen),
         None => Ok(false),

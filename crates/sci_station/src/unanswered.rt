@@ -11,6 +11,8 @@ pub(crate) struct Unanswered {
 }
 
 impl Unanswered {
+    ghost use Rattle.std.specs.Prelude.{◌≡◌, ◌<◌, ◌≤◌, None, IfSome};
+
     /// None are.
     pub(crate) fn new() -> Unanswered {
         Unanswered {
@@ -37,13 +39,36 @@ impl Unanswered {
         }
     }
 
-    /// Whether some node owes an answer.
-    pub(crate) fn some(&self) -> bool {
-        self.owing != 0
+    /// The first node from one on that owes an answer, or that is `me`. None if there is none below `nodes`. The caller sees
+    /// to it that `me` is.
+    pub(crate) fn next_from(&self, from: u8, me: u8, nodes: u8) -> Option<u8>
+        requires { me < nodes }
+        ensures order { IfSome result (λ node. from ≤ node) }
+        ensures here { IfSome result (λ node. node < nodes) }
+        ensures before { IfSome result (λ node. from ≤ me → node ≤ me) }
+        ensures none { result ≡ None → me < from }
+    {
+        let owing = self.owing_from(from);
+        if from > me {
+            return owing.filter(|node| *node < nodes);
+        }
+        match owing {
+            Some(node) if node < me => Some(node),
+            _ => Some(me),
+        }
     }
 
-    /// Whether a node owes an answer.
-    pub(crate) fn by(&self, node: u8) -> bool {
-        node < MAX_NODES && self.owing >> node & 1 != 0
+    /// The first node from one on that owes an answer, or None if none does.
+    fn owing_from(&self, from: u8) -> Option<u8>
+        ensures { IfSome result (λ node. from ≤ node) }
+    {
+        if from >= MAX_NODES {
+            return None;
+        }
+        let left = self.owing >> from;
+        if left == 0 {
+            return None;
+        }
+        Some(from + left.trailing_zeros() as u8)
     }
 }

@@ -1,20 +1,40 @@
-use Rattle.std.proofs.Common.{refl}
+use Rattle.std.proofs.Common.{◌<◌, sym, subst, ◌∙◌}
+use Rattle.sci_core.specs.Node.{NodeOf}
+use Rattle.sci_lanes.specs.declared.cell.CellId.{CellId}
+use Rattle.sci_station.specs.Ends.{HasSeen}
 use Rattle.sci_station.proofs.Cells.{looked_found, looked_nothing}
-use Rattle.sci_station.proofs.Stills.{look_still, still_takes}
+use Rattle.sci_station.proofs.Stills.{look_still, next_same, still_takes}
 use Rattle.sci_station.proofs.receiving.see.Goals as goal
 
 pub returns-then-first-eq0-clause-none : goal.returns-then-first-eq0-clause-none
-returns-then-first-eq0-clause-none c = λ _. looked_nothing c.args.end.now c.look-first.new.self c.args.cell c.look-first.result c.look-first.ensures.shown c.requires c.look-first.ensures.part c.if-first-eq0.true
+returns-then-first-eq0-clause-none c = λ _ own.
+    let looked = c.look_for-first.ensures.looked in
+    rw (sym looked.kind_is) (looked_nothing c.args.end.now c.look_for-first.new.self looked.cell c.look_for-first.result c.look_for-first.ensures.shown looked.next looked.looked c.if-first-eq0.true (looked.sender_is ∙ own))
 
 pub returns-then-first-eq0-clause-still : goal.returns-then-first-eq0-clause-still
-returns-then-first-eq0-clause-still c = look_still c.args.end.now c.look-first.new.self c.args.cell c.look-first.result c.look-first.ensures.part
+returns-then-first-eq0-clause-still c = let looked = c.look_for-first.ensures.looked in look_still c.args.end.now c.look_for-first.new.self looked.cell c.look_for-first.result looked.looked
+
+pub next_to_take-cell-requires : goal.next_to_take-cell-requires
+next_to_take-cell-requires c =
+    let looked = c.look_for-first.ensures.looked in
+    let still = look_still c.args.end.now c.look_for-first.new.self looked.cell c.look_for-first.result looked.looked in
+    subst (λ (n : NodeOf). c.args.from < n.cache.nodes) (sym still.node) c.requires
 
 pub returns-clause-seen : goal.returns-clause-seen
-returns-clause-seen c = record {
-  shown = c.look-first.ensures.shown;
-  next = still_takes c.args.end.now c.look-first.new.self c.args.cell (look_still c.args.end.now c.look-first.new.self c.args.cell c.look-first.result c.look-first.ensures.part) c.requires;
-  found = looked_found c.args.end.now c.look-first.new.self c.args.cell c.look-first.result c.look-first.ensures.shown c.requires c.look-first.ensures.part c.if-first-eq0.false;
-}
+returns-clause-seen c =
+    let looked = c.look_for-first.ensures.looked in
+    let end = c.args.end.now in
+    let new = c.look_for-first.new.self in
+    let first = c.look_for-first.result in
+    let still = look_still end new looked.cell first looked.looked in
+    let there = still_takes end new looked.cell still looked.next in
+    let cell = c.next_to_take-cell in
+    let same = next_same new.part cell.result looked.cell cell.ensures.next there (cell.ensures.cell.0 ∙ sym looked.kind_is) (cell.ensures.cell.1 ∙ sym looked.sender_is) in
+    subst (λ (k : CellId). HasSeen new.part (record { cell = k; first = first })) (sym same) (record {
+      shown = c.look_for-first.ensures.shown;
+      next = there;
+      found = looked_found end new looked.cell first c.look_for-first.ensures.shown looked.next looked.looked c.if-first-eq0.false;
+    })
 
 pub returns-clause-still : goal.returns-clause-still
-returns-clause-still c = look_still c.args.end.now c.look-first.new.self c.args.cell c.look-first.result c.look-first.ensures.part
+returns-clause-still c = let looked = c.look_for-first.ensures.looked in look_still c.args.end.now c.look_for-first.new.self looked.cell c.look_for-first.result looked.looked

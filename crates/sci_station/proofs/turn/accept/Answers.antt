@@ -1,6 +1,4 @@
-use Rattle.std.proofs.Common.{refl, subst, ◌∙◌}
-use Rattle.sci_station.specs.Ends.{IsEmptied}
-use Rattle.sci_station.proofs.Events.{me_still}
+use Rattle.std.proofs.Common.{refl}
 use Rattle.sci_station.proofs.Turns.{goes_still, goes_then}
 use Rattle.sci_station.proofs.turn.accept.Goals as goal
 
