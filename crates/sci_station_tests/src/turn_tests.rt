@@ -220,3 +220,17 @@ fn answers_are_looked_for_while_one_is_owed(rt: HostRuntime) -> Result<(), Fail>
     holds(second.perform(0).is_some(), "the load of node 1")?;
     finds_nothing(&mut second, 4)
 }
+
+/// Node 14 of sixteen wants a line of the last one, and accepts its answer.
+#[test]
+fn an_answer_of_the_last_node_is_accepted(rt: HostRuntime) -> Result<(), Fail> {
+    let extent = Extent::new(16, 16, 1).ok_or("an extent")?;
+    let (_fabric, mut stations) = Fabric::new(rt.alloc(), extent, 1)?;
+    let mut last = stations.pop().ok_or("no last station")?;
+    let mut other = stations.pop().ok_or("no other station")?;
+    loads(&mut other, &[15])?;
+    holds(other.turn().asked, "node 14 asks node 15")?;
+    takes(&mut last, 0, 1)?;
+    takes(&mut other, 1, 0)?;
+    holds(other.perform(15).is_some(), "the load of node 14")
+}
