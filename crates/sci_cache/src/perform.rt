@@ -64,7 +64,6 @@ fn make(contents: &mut Stamped, op: Op) -> Option<(Reply, u64)>
     if contents.version == u64::MAX {
         return None;
     }
-    let (after, reply) = (*contents).after(op);
-    *contents = after;
+    let reply = contents.apply(op);
     Some((reply, contents.version))
 }

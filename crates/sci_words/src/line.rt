@@ -58,8 +58,17 @@ impl Line {
         ensures changed { result ≡ slice_set self i word }
         ensures width { length self ≡ WORDS_PER_LINE }
     {
-        let mut words = self.words;
-        words[i as usize] = word;
-        Line { words }
+        let mut line = self;
+        line.set(i, word);
+        line
+    }
+
+    /// Puts `word` at place `i`, counted from 0. The caller sees to it that `i` is below eight.
+    pub fn set(&mut self, i: u8, word: Word)
+        requires { i < WORDS_PER_LINE }
+        ensures changed { self.new ≡ slice_set self.old i word }
+        ensures width { length self.old ≡ WORDS_PER_LINE }
+    {
+        self.words[usize::from(i)] = word;
     }
 }

@@ -26,18 +26,23 @@ impl Stamped {
         ensures after { result.0 ≡ stamped_after self op }
         ensures reply { result.1 ≡ reply_of self.line op }
     {
+        let mut after = self;
+        let reply = after.apply(op);
+        (after, reply)
+    }
+
+    /// Does an operation here, and gives the reply: what `after` gives, in place. The conditions are those of `after`.
+    pub fn apply(&mut self, op: Op) -> Reply
+        requires word { op.word < WORDS_PER_LINE }
+        requires room { IsMaker op → self.old.version < u64.MAX }
+        ensures after { self.new ≡ stamped_after self.old op }
+        ensures reply { result ≡ reply_of self.old.line op }
+    {
         let (word, reply) = effect(op, self.line.word(op.word));
-        let version = if op.is_maker() {
-            self.version + 1
-        } else {
-            self.version
-        };
-        (
-            Stamped {
-                line: self.line.with(op.word, word),
-                version,
-            },
-            reply,
-        )
+        if op.is_maker() {
+            self.version += 1;
+        }
+        self.line.set(op.word, word);
+        reply
     }
 }
