@@ -1,10 +1,10 @@
 -- The bits of a set of lines.
-use Rattle.std.proofs.Common.{◌≡◌, ◌≢◌, ◌<◌, ◌≤◌, ℕ, ◌+◌, ◌-◌, ◌/◌, ◌%◌, ◌*◌, bit_and, bit_or, w64, true, false, sym, ap, ◌∙◌, arith, inl, inr}
-use Rattle.std.specs.Prelude.{◌==◌, ◌^◌}
-use Rattle.std.specs.Int.{trailing_zeros}
+use Rattle.std.proofs.Common.{◌≡◌, ◌≢◌, ◌<◌, ◌≤◌, ℕ, zero, suc, ◌+◌, ◌-◌, ◌/◌, ◌%◌, ◌*◌, bit_and, bit_or, w64, true, false, sym, ap, ◌∙◌, refl, arith, inl, inr}
+use Rattle.std.specs.Prelude.{◌==◌, ◌^◌, ◌&&◌, min}
+use Rattle.std.specs.Int.{bit_at, trailing_zeros}
 use Rattle.std.proofs.lemmas.Bool.{cases_lt}
 use Rattle.std.proofs.lemmas.Nat.{shr-shr}
-use Rattle.std.proofs.lemmas.Nat.Bits.{bit_at_above, bit_at_and, bit_at_clear_other, bit_at_clear_same, bit_at_set_other, bit_at_set_same, bit_at-trailing_zeros, bit_at-zero}
+use Rattle.std.proofs.lemmas.Nat.Bits.{bit_at_above, bit_at_and, bit_at-lt, bit_at_clear_other, bit_at_clear_same, bit_at_set_other, bit_at_set_same, bit_at-trailing_zeros, bit_at-zero}
 use Rattle.sci_cache.specs.LineSet.{is_in}
 
 is_one : (a b : ℕ) → a ≡ b → (a == 1) ≡ (b == 1)
@@ -32,6 +32,19 @@ clear_other set line other small lt ne = elim (cases_lt other 64) [
   | inl below ↦ is_one _ _ (bit_at_clear_other w64 set line lt other below ne)
   | inr above ↦ is_one _ _ (let both = bit_at_and set (18446744073709551615 - 1 * 2 ^ line % 18446744073709551616) other in let none = bit_at_above set 64 other small above in omega arith)
 ]
+
+-- ---- the lines that two sets have
+
+both_bits : (m n : ℕ) → m < 2 → n < 2 → (min m n == 1) ≡ ((m == 1) && (n == 1))
+both_bits zero zero m-is n-is = refl
+both_bits zero (suc zero) m-is n-is = refl
+both_bits (suc zero) zero m-is n-is = refl
+both_bits (suc zero) (suc zero) m-is n-is = refl
+both_bits (suc (suc m)) n m-is n-is = absurd (omega arith)
+both_bits m (suc (suc n)) m-is n-is = absurd (omega arith)
+
+pub in_both : (a b line : ℕ) → is_in (bit_and a b) line ≡ (is_in a line && is_in b line)
+in_both a b line = is_one _ _ (bit_at_and a b line) ∙ both_bits (bit_at a line) (bit_at b line) (bit_at-lt a line) (bit_at-lt b line)
 
 -- ---- the lines from one on
 

@@ -7,6 +7,7 @@ use crate::held::Held;
 use crate::line::CachedLine;
 use crate::line_kind::LineKind;
 use crate::line_kinds::LineKinds;
+use crate::line_set::LineSet;
 use sci_packets::{NodeId, Packet};
 use sci_words::{AskKind, Extent, Op, Reply};
 use std::alloc::{AllocError, Global};
@@ -58,13 +59,13 @@ fn taken_after(taken: usize, was_out: bool, is_out: bool) -> usize
 }
 
 impl Cache {
-    ghost use Rattle.std.specs.Prelude.{◌≡◌, ◌<◌, ◌≤◌, ◌%◌, ℕ, true, false, Some, None, Ok, Err, IfOk, IfErr, IfSome, IsErr, IsOk, length, replicate};
+    ghost use Rattle.std.specs.Prelude.{◌≡◌, ◌<◌, ◌≤◌, ◌%◌, ◌&&◌, ℕ, true, false, Some, None, Ok, Err, IfOk, IfErr, IfSome, IsErr, IsOk, length, replicate};
     ghost use Rattle.sci_words.specs.declared.limits.TheConstants.{MAX_LINES, WORDS_PER_LINE};
     ghost use Rattle.sci_cache.specs.Serving.{IsForCache};
     ghost use Rattle.sci_cache.specs.Line.{untouched};
     ghost use Rattle.sci_cache.specs.Held.{state_of};
     ghost use Rattle.sci_cache.specs.Kinds.{is_of};
-    ghost use Rattle.sci_cache.specs.LineSet.{IsBefore};
+    ghost use Rattle.sci_cache.specs.LineSet.{IsBefore, is_in};
     ghost use Rattle.sci_cache.specs.Cache.{CacheOf, line_of, has_slot, letter_of, slots_taken, cache_asking, cache_serving, cache_accepting, cache_performing};
 
     /// The cache of node `me` in a machine of this size, with no entry for any line. The caller sees to it that
@@ -150,7 +151,26 @@ impl Cache {
         ensures between { (line : ℕ) → from ≤ line → IsBefore line result →
             is_of kind (line_of self.now line).state ≡ false }
     {
-        let line = self.kinds.next_of(kind, from)?;
+        let line = self.kinds.of(kind).next_from(from)?;
+        if usize::from(line) < self.lines.len() {
+            Some(line)
+        } else {
+            None
+        }
+    }
+
+    /// The least line of a kind that is in a set, from a line on, or None if there is none. It looks at no other line.
+    pub fn next_of_in(&self, kind: LineKind, lines: &LineSet, from: u8) -> Option<u8>
+        ensures order { IfSome result (λ line. from ≤ line) }
+        ensures here { IfSome result (λ line. line < length self.now.lines) }
+        ensures small { IfSome result (λ line. line < MAX_LINES) }
+        ensures found { IfSome result
+            (λ line. is_of kind (line_of self.now line).state ≡ true) }
+        ensures inside { IfSome result (λ line. is_in lines.now line ≡ true) }
+        ensures between { (line : ℕ) → from ≤ line → IsBefore line result →
+            (is_of kind (line_of self.now line).state && is_in lines.now line) ≡ false }
+    {
+        let line = self.kinds.of(kind).intersection(lines).next_from(from)?;
         if usize::from(line) < self.lines.len() {
             Some(line)
         } else {

@@ -32,12 +32,12 @@ impl Model for LineKinds {
 }
 
 impl LineKinds {
-    ghost use Rattle.std.specs.Prelude.{◌≡◌, ◌≢◌, ◌<◌, ◌≤◌, ℕ, true, false, IfSome};
+    ghost use Rattle.std.specs.Prelude.{◌≡◌, ◌≢◌, ◌<◌, ℕ, false};
     ghost use Rattle.sci_words.specs.declared.limits.TheConstants.{MAX_LINES};
     ghost use Rattle.sci_cache.specs.Held.{state_of};
     ghost use Rattle.sci_cache.specs.Kinds.{is_of};
     ghost use Rattle.sci_cache.specs.LineKinds.{set_of};
-    ghost use Rattle.sci_cache.specs.LineSet.{IsBefore, is_in};
+    ghost use Rattle.sci_cache.specs.LineSet.{is_in};
     ghost use Rattle.sci_cache.specs.declared.line_kind.LineKind.{LineKind};
 
     /// The kinds of no line.
@@ -86,20 +86,17 @@ impl LineKinds {
             .put(line, held.is_of(LineKind::CouldGiveWay));
     }
 
-    /// The least line of a kind from a line on, or None if there is none.
-    pub(crate) fn next_of(&self, kind: LineKind, from: u8) -> Option<u8>
-        ensures order { IfSome result (λ line. from ≤ line) }
-        ensures found { IfSome result (λ line. is_in (set_of kind self.now) line ≡ true) }
-        ensures between { (line : ℕ) → from ≤ line → IsBefore line result →
-            is_in (set_of kind self.now) line ≡ false }
+    /// The set of the lines of a kind.
+    pub(crate) fn of(&self, kind: LineKind) -> &LineSet
+        ensures { result.now ≡ set_of kind self.now }
     {
         match kind {
-            LineKind::HasSharers => self.has_sharers.next_from(from),
-            LineKind::HasFreshSharers => self.has_fresh_sharers.next_from(from),
-            LineKind::Joins => self.joins.next_from(from),
-            LineKind::MustSend => self.must_send.next_from(from),
-            LineKind::GivesWay => self.gives_way.next_from(from),
-            LineKind::CouldGiveWay => self.could_give_way.next_from(from),
+            LineKind::HasSharers => &self.has_sharers,
+            LineKind::HasFreshSharers => &self.has_fresh_sharers,
+            LineKind::Joins => &self.joins,
+            LineKind::MustSend => &self.must_send,
+            LineKind::GivesWay => &self.gives_way,
+            LineKind::CouldGiveWay => &self.could_give_way,
         }
     }
 }

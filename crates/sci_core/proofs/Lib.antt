@@ -47,6 +47,7 @@ pub mod Obstacles
 pub mod Ranges
 pub mod Pendings
 pub mod Rest
+pub mod Performable
 pub mod GoingOn
 pub mod Drains
 pub mod Burdens

@@ -71,14 +71,14 @@ fn read_words(act: Act)
 }
 
 impl Node {
-    ghost use Rattle.std.specs.Prelude.{◌≡◌, ◌≢◌, ◌<◌, ◌≤◌, ◌%◌, ℕ, length, Some, None, Ok, Err, true, false, IfOk, IfSome, IsErr, IsSome, MatchOption, MatchBool, is_some, IsTrue, option_map, option_copied};
+    ghost use Rattle.std.specs.Prelude.{◌≡◌, ◌≢◌, ◌<◌, ◌≤◌, ◌%◌, ◌&&◌, ℕ, length, Some, None, Ok, Err, true, false, IfOk, IfSome, IsErr, IsSome, MatchOption, MatchBool, is_some, IsTrue, option_map, option_copied};
     ghost use Rattle.sci_words.specs.declared.limits.TheConstants.{MAX_LINES, MAX_OPERATIONS};
     ghost use Rattle.sci_core.specs.Size.{size_of};
     ghost use Rattle.sci_core.specs.Taking.{IsTakable, node_taking};
     ghost use Rattle.sci_home.specs.Serving.{is_for_home, IsForHome};
     ghost use Rattle.sci_cache.specs.Held.{state_of};
     ghost use Rattle.sci_cache.specs.LineSet.{IsBefore};
-    ghost use Rattle.sci_cache.specs.Kinds.{is_of};
+    ghost use Rattle.sci_cache.specs.Kinds.{could_give_way, is_of};
     ghost use Rattle.sci_cache.specs.Cache.{has_slot, letter_of, line_of};
     ghost use Rattle.sci_core.specs.Node.{IsAtRest, NodeOf, opening_node, lines_of, home_of, pending_on, IsForNode, IsServable, node_issuing, node_performing, node_asking, node_serving, node_refusing, node_replying, node_accepting, may_issue as may_issue_of, serving_at_home, serving_in_cache, answering};
 
@@ -181,6 +181,7 @@ impl Node {
 
     /// Performs the operation that is pending on a line, and gives its entry, which now ends the log. None,
     /// unchanged, if none is pending there or the line's state doesn't allow it.
+    #[inline(always)]
     pub fn perform(&mut self, line: u8) -> Option<Entry>
         ensures performed { IfSome result
             (λ entry. node_performing self.old line ≡ Some (self.new, entry)) }
@@ -211,6 +212,16 @@ impl Node {
             Some(pending) => self.cache.held(pending.op.line).may_perform(&pending.op),
             None => false,
         }
+    }
+
+    /// Law: an operation can be performed only if its line has contents, as each line has that could give way. So no other
+    /// line needs to be looked at for one.
+    pub fn performs_on_lines_with_contents(&self)
+        ensures { (line : ℕ) → IsSome (node_performing self.now line) →
+            could_give_way (line_of self.now.cache line).state ≡ true }
+    {
+        // Read, so that the prover knows how the parts of a node fit together.
+        let _me = self.me;
     }
 
     /// Makes a request of this kind about a line. None, unchanged, if there is no such line, its state
@@ -414,6 +425,22 @@ impl Node {
             pending_on self.now line ≡ None }
     {
         self.pending.next_from(from)
+    }
+
+    /// The least line from a line on with an operation pending whose state is of a kind, or None if there is none. It looks
+    /// at no other line.
+    pub fn next_pending_of(&self, kind: LineKind, from: u8) -> Option<u8>
+        ensures order { IfSome result (λ line. from ≤ line) }
+        ensures here { IfSome result (λ line. line < lines_of self.now) }
+        ensures small { IfSome result (λ line. line < MAX_LINES) }
+        ensures found { IfSome result
+            (λ line. is_of kind (line_of self.now.cache line).state ≡ true) }
+        ensures pending { IfSome result (λ line. IsSome (pending_on self.now line)) }
+        ensures between { (line : ℕ) → from ≤ line → IsBefore line result →
+            (is_some (pending_on self.now line) && is_of kind (line_of self.now.cache line).state)
+            ≡ false }
+    {
+        self.cache.next_of_in(kind, self.pending.lines(), from)
     }
 
     /// The answer that waits to be sent, if one does.

@@ -35,9 +35,9 @@ impl Model for PendingOps {
 }
 
 impl PendingOps {
-    ghost use Rattle.std.specs.Prelude.{◌≡◌, ◌<◌, ◌≤◌, ℕ, None, IfOk, IfSome, IsSome, length, replicate, slice_index_or, slice_set};
+    ghost use Rattle.std.specs.Prelude.{◌≡◌, ◌<◌, ◌≤◌, ℕ, None, IfOk, IfSome, IsSome, is_some, length, replicate, slice_index_or, slice_set};
     ghost use Rattle.sci_words.specs.declared.limits.TheConstants.{MAX_LINES};
-    ghost use Rattle.sci_cache.specs.LineSet.{IsBefore};
+    ghost use Rattle.sci_cache.specs.LineSet.{IsBefore, is_in};
 
     /// Of so many lines, none of which has an operation pending. Refused if memory is.
     pub(crate) fn new(alloc: Global, lines: u8) -> Result<PendingOps, AllocError>
@@ -83,6 +83,14 @@ impl PendingOps {
     {
         self.ops[usize::from(line)] = pending;
         self.lines.put(line, pending.is_some());
+    }
+
+    /// The lines on which an operation is pending.
+    pub(crate) fn lines(&self) -> &LineSet
+        ensures { (line : ℕ) → line < length self.now →
+            is_in result.now line ≡ is_some (slice_index_or self.now line None) }
+    {
+        &self.lines
     }
 
     /// The least line from a line on with an operation pending, or None if there is none.

@@ -4,10 +4,10 @@ use Rattle.std.specs.Prelude.{IfSome, is_some, option_map}
 use Rattle.std.specs.List.{range_with_len}
 use Rattle.std.proofs.lemmas.Bool.{cases_Bool}
 use Rattle.std.proofs.lemmas.List.{append-nil}
-use Rattle.std.proofs.lemmas.List.Elements.{filter-append}
+use Rattle.std.proofs.lemmas.List.Elements.{filter-append, filter_agree}
 use Rattle.sci_core.specs.Node.{NodeOf, pending_on}
 use Rattle.sci_core.specs.declared.pending.Pending.{Pending}
-use Rattle.sci_policy.specs.Lines.{has_pending, older, oldest_of, serial_in, serial_on}
+use Rattle.sci_policy.specs.Lines.{all_lines, has_pending, older, oldest, oldest_of, serial_in, serial_on}
 use Rattle.sci_policy.specs.Scan.{is_older_than}
 use Rattle.sci_policy.proofs.Ranges.{range_more}
 
@@ -90,9 +90,15 @@ pending_and : (pending : Option Pending) (p : Pending) (b c : Bool) → pending 
 pending_and None p b c e f = cc
 pending_and (Some q) p b c e f = f
 
+-- no test that is meant lets a line pass, or nothing is pending on it
+abbrev pub IsPassedOver : NodeOf → ((ℕ → Bool) → Type 0) → ℕ → Type 0
+IsPassedOver node IsMeant line = (tested : ℕ → Bool) → IsMeant tested → (has_pending node line && tested line) ≡ false
+
+passed_over : (node : NodeOf) (IsMeant : (ℕ → Bool) → Type 0) (line : ℕ) (found : Option (ℕ × ℕ)) → IsPassedOver node IsMeant line → IsFoundBelow node IsMeant line found → IsFoundBelow node IsMeant (line + 1) found
+passed_over node IsMeant line found over was = (was.0, λ tested is. found_left node tested line found was.0 (was.1 tested is) (λ older. over tested is))
+
 pub nothing_pending : (node : NodeOf) (IsMeant : (ℕ → Bool) → Type 0) (line : ℕ) (found : Option (ℕ × ℕ)) → pending_on node line ≡ None → IsFoundBelow node IsMeant line found → IsFoundBelow node IsMeant (line + 1) found
-nothing_pending node IsMeant line found none was =
-    (was.0, λ tested is. found_left node tested line found was.0 (was.1 tested is) (λ older. ap (λ (o : Option Pending). is_some o && tested line) none))
+nothing_pending node IsMeant line found none was = passed_over node IsMeant line found (λ tested is. ap (λ (o : Option Pending). is_some o && tested line) none) was
 
 pub older_found : (node : NodeOf) (IsMeant : (ℕ → Bool) → Type 0) (line : ℕ) (found : Option (ℕ × ℕ)) (p : Pending) → pending_on node line ≡ Some p → is_older_than p.serial found ≡ true → ((tested : ℕ → Bool) → IsMeant tested → tested line ≡ true)
     → IsFoundBelow node IsMeant line found → IsFoundBelow node IsMeant (line + 1) (Some (line, p.serial))
@@ -111,15 +117,47 @@ not_older node IsMeant line found p at younger was =
     let serial : serial_on node line ≡ p.serial = ap serial_in at in
     (was.0, λ tested is. found_left node tested line found was.0 (was.1 tested is) (λ older. (let clash : true ≡ false = sym older ∙ (ap (λ (s : ℕ). is_older_than s found) serial ∙ younger) in cc)))
 
--- ---- lines that are passed over, since no operation is pending on them
+-- ---- lines that are passed over
 
-pub none_between : (node : NodeOf) (IsMeant : (ℕ → Bool) → Type 0) (k d : ℕ) (found : Option (ℕ × ℕ)) → ((j : ℕ) → k ≤ j → j < k + d → pending_on node j ≡ None) → IsFoundBelow node IsMeant k found → IsFoundBelow node IsMeant (k + d) found
+none_between : (node : NodeOf) (IsMeant : (ℕ → Bool) → Type 0) (k d : ℕ) (found : Option (ℕ × ℕ)) → ((j : ℕ) → k ≤ j → j < k + d → IsPassedOver node IsMeant j) → IsFoundBelow node IsMeant k found → IsFoundBelow node IsMeant (k + d) found
 none_between node IsMeant k zero found none was = let same : k ≡ k + 0 = omega arith in subst (λ (n : ℕ). IsFoundBelow node IsMeant n found) same was
 none_between node IsMeant k (suc d) found none was =
     let same : (k + d) + 1 ≡ k + suc d = omega arith in
-    subst (λ (n : ℕ). IsFoundBelow node IsMeant n found) same (nothing_pending node IsMeant (k + d) found (none (k + d) (omega arith) (omega arith)) (none_between node IsMeant k d found (λ j from below. (let lt : j < k + suc d = omega arith in none j from lt)) was))
+    subst (λ (n : ℕ). IsFoundBelow node IsMeant n found) same (passed_over node IsMeant (k + d) found (none (k + d) (omega arith) (omega arith)) (none_between node IsMeant k d found (λ j from below. (let lt : j < k + suc d = omega arith in none j from lt)) was))
 
-pub none_up_to : (node : NodeOf) (IsMeant : (ℕ → Bool) → Type 0) (k n : ℕ) (found : Option (ℕ × ℕ)) → k ≤ n → ((j : ℕ) → k ≤ j → j < n → pending_on node j ≡ None) → IsFoundBelow node IsMeant k found → IsFoundBelow node IsMeant n found
+pub none_up_to : (node : NodeOf) (IsMeant : (ℕ → Bool) → Type 0) (k n : ℕ) (found : Option (ℕ × ℕ)) → k ≤ n → ((j : ℕ) → k ≤ j → j < n → IsPassedOver node IsMeant j) → IsFoundBelow node IsMeant k found → IsFoundBelow node IsMeant n found
 none_up_to node IsMeant k n found le none was =
     let whole : k + (n - k) ≡ n = omega arith in
     subst (λ (m : ℕ). IsFoundBelow node IsMeant m found) whole (none_between node IsMeant k (n - k) found (λ j from below. none j from (omega arith)) was)
+
+-- ---- lines of a kind
+
+-- a test of the lines of a kind by another test
+abbrev pub IsNarrowed : (ℕ → Bool) → ((ℕ → Bool) → Type 0) → (ℕ → Bool) → Type 0
+IsNarrowed kind IsMeant test = (tested : ℕ → Bool) × (IsMeant tested × ((line : ℕ) → test line ≡ (kind line && tested line)))
+
+not_both : (pending kind tested test : Bool) → (pending && kind) ≡ false → test ≡ (kind && tested) → (pending && test) ≡ false
+not_both false kind tested test none is = refl
+not_both true false tested test none is = is
+not_both true true tested test none is = cc
+
+-- a line that has no operation pending or isn't of the kind is passed over
+pub of_no_kind : (node : NodeOf) (kind : ℕ → Bool) (IsMeant : (ℕ → Bool) → Type 0) (line : ℕ) → (has_pending node line && kind line) ≡ false → IsPassedOver node (IsNarrowed kind IsMeant) line
+of_no_kind node kind IsMeant line none = λ test is. not_both (has_pending node line) (kind line) (is.0 line) (test line) none (is.1.1 line)
+
+-- what a test says of a line of the kind
+pub of_kind : (kind : ℕ → Bool) (IsMeant : (ℕ → Bool) → Type 0) (line : ℕ) (b : Bool) → kind line ≡ true → ((tested : ℕ → Bool) → IsMeant tested → tested line ≡ b) → (test : ℕ → Bool) → IsNarrowed kind IsMeant test → test line ≡ b
+of_kind kind IsMeant line b here says test is = is.1.1 line ∙ (ap (λ (k : Bool). k && is.0 line) here ∙ says is.0 is.1.0)
+
+-- tests that say the same of each line find the same one
+pub oldest_same : (node : NodeOf) (p q : ℕ → Bool) → ((line : ℕ) → p line ≡ q line) → oldest node p ≡ oldest node q
+oldest_same node p q same = ap (oldest_of node) (filter_agree _ _ (λ line. ap (λ (b : Bool). has_pending node line && b) (same line)) (all_lines node))
+
+implied : (kind test : Bool) → (test ≡ true → kind ≡ true) → (kind && test) ≡ test
+implied true test only = refl
+implied false true only = only refl
+implied false false only = refl
+
+-- a kind of lines that has all that pass needn't be asked for
+pub oldest_of_kind : (node : NodeOf) (kind test : ℕ → Bool) → ((line : ℕ) → test line ≡ true → kind line ≡ true) → oldest node (λ line. kind line && test line) ≡ oldest node test
+oldest_of_kind node kind test only = oldest_same node _ _ (λ line. implied (kind line) (test line) (only line))

@@ -1,5 +1,8 @@
 -- What the walks over a node's lines compute.
 use Rattle.std.specs.Prelude.{◌≡◌, ◌<◌, ℕ, nat_lt, Bool, true, Option, Some, None}
+use Rattle.sci_cache.specs.declared.line_kind.LineKind.{LineKind}
+use Rattle.sci_cache.specs.State.{CacheState}
+use Rattle.sci_cache.specs.Kinds.{is_of}
 
 -- each answer of a closure, at a line below a bound, is this test's
 abbrev pub IsTest : ℕ → (ℕ → Bool → Type 0) → (ℕ → Bool) → Type 0
@@ -9,3 +12,8 @@ IsTest bound answers tested = (line : ℕ) (answer : Bool) → line < bound → 
 abbrev pub is_older_than : ℕ → Option (ℕ × ℕ) → Bool
 is_older_than serial None = true
 is_older_than serial (Some found) = nat_lt serial found.1
+
+-- a state is of a kind, if one is named
+abbrev pub is_of_named : Option LineKind → CacheState → Bool
+is_of_named None state = true
+is_of_named (Some kind) state = is_of kind state

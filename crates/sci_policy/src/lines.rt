@@ -1,13 +1,15 @@
 //! What a policy sees of a node's lines.
 
-ghost use Rattle.std.specs.Prelude.{◌≡◌, ◌<◌, ◌&&◌, ℕ, Bool, None, Some, IfSome, option_map};
+ghost use Rattle.std.specs.Prelude.{◌≡◌, ◌<◌, ◌≤◌, ◌&&◌, ℕ, Bool, true, false, None, Some, IfSome, option_map};
+ghost use Rattle.sci_words.specs.declared.limits.TheConstants.{MAX_LINES};
+ghost use Rattle.sci_cache.specs.LineSet.{IsBefore};
 ghost use Rattle.sci_cache.specs.Held.{state_of};
 ghost use Rattle.sci_cache.specs.State.{Out, is_out as is_out_in};
 ghost use Rattle.sci_policy.specs.Policy.{awaits_home as awaits_home_in, is_busy_now as is_busy_now_in};
 ghost use Rattle.sci_core.specs.Node.{lines_of};
 ghost use Rattle.sci_cache.specs.Kinds.{has_fresh_sharers as has_fresh_sharers_in, is_of};
 ghost use Rattle.sci_policy.specs.Lines.{can_drain as can_drain_in, has_maker as has_maker_on, has_pending as has_pending_on, is_head as is_head_in, least, oldest as oldest_with, own_ask as own_ask_in, state_on};
-ghost use Rattle.sci_policy.specs.Scan.{IsTest, is_older_than};
+ghost use Rattle.sci_policy.specs.Scan.{IsTest, is_of_named, is_older_than};
 
 use sci_cache::{Held, LineKind};
 use sci_core::Node;
@@ -139,16 +141,17 @@ pub(crate) fn least_with<F: Fn(u8) -> bool>(node: &Node, kind: LineKind, test: F
     None
 }
 
-/// Of the lines with an operation pending, and of which something is true, the one whose operation is the oldest. It looks
-/// at no other line.
-pub(crate) fn oldest<F: Fn(u8) -> bool>(node: &Node, test: F) -> Option<u8>
+/// Of the lines with an operation pending, of a kind if one is named, and of which something is true, the one whose
+/// operation is the oldest. It looks at no other line.
+pub(crate) fn oldest<F: Fn(u8) -> bool>(node: &Node, kind: Option<LineKind>, test: F) -> Option<u8>
     requires { (line : ℕ) → line < lines_of node.now → F.pre test line }
     ensures { (tested : ℕ → Bool) → IsTest (lines_of node.now) (F.post test) tested →
-        result ≡ oldest_with node.now tested }
+        result ≡ oldest_with node.now
+        (λ line. is_of_named kind (state_on node.now line) && tested line) }
 {
     let mut found = None;
     let mut from = 0;
-    'pending: while let Some(line) = node.next_pending(from) {
+    'pending: while let Some(line) = next_pending(node, kind, from) {
         from = line + 1;
         let Some(pending) = node.pending(line) else {
             continue;
@@ -158,6 +161,22 @@ pub(crate) fn oldest<F: Fn(u8) -> bool>(node: &Node, test: F) -> Option<u8>
         }
     }
     found.map(|(line, _)| line)
+}
+
+/// The least line from a line on with an operation pending, of a kind if one is named, or None if there is none.
+fn next_pending(node: &Node, kind: Option<LineKind>, from: u8) -> Option<u8>
+    ensures order { IfSome result (λ line. from ≤ line) }
+    ensures here { IfSome result (λ line. line < lines_of node.now) }
+    ensures small { IfSome result (λ line. line < MAX_LINES) }
+    ensures found { IfSome result
+        (λ line. is_of_named kind (state_on node.now line) ≡ true) }
+    ensures between { (line : ℕ) → from ≤ line → IsBefore line result →
+        (has_pending_on node.now line && is_of_named kind (state_on node.now line)) ≡ false }
+{
+    match kind {
+        Some(kind) => node.next_pending_of(kind, from),
+        None => node.next_pending(from),
+    }
 }
 
 /// Whether a serial is below that of what was found, if anything was.

@@ -1,6 +1,8 @@
 //! The rules: what a node wants to do for its own lines and operations.
 
-ghost use Rattle.std.specs.Prelude.{◌≡◌, None};
+ghost use Rattle.std.specs.Prelude.{◌≡◌, ℕ, true, None, is_some};
+ghost use Rattle.sci_policy.specs.Lines.{state_on};
+ghost use Rattle.sci_policy.specs.Scan.{is_of_named};
 ghost use Rattle.sci_policy.specs.Policy.{ask_of as ask_of_line, operation_asks as asked_by_operation, operation_wanted as operation_wanted_by, due_wanted as due_wanted_by, perform_wanted as perform_wanted_by, purge_wanted as purge_wanted_by, send_wanted as send_wanted_by, ruled as ruled_by, slot_wanted as slot_wanted_by, contents_wanted as contents_wanted_by};
 
 use crate::lines::{
@@ -16,7 +18,10 @@ use sci_words::AskKind;
 pub(crate) fn perform_wanted(node: &Node) -> Option<Want>
     ensures { result ≡ perform_wanted_by node.now }
 {
-    let line = oldest(node, |line| node.may_perform(line))?;
+    node.performs_on_lines_with_contents();
+    let line = oldest(node, Some(LineKind::CouldGiveWay), |line| {
+        node.may_perform(line)
+    })?;
     Some(Want::Perform(line))
 }
 
@@ -79,7 +84,7 @@ fn slot_wanted(node: &Node) -> Option<Want>
     if node.has_slot() || least_of(node, LineKind::GivesWay).is_some() {
         return None;
     }
-    let line = oldest(node, |_line| true)?;
+    let line = oldest(node, None, |_line| true)?;
     if !is_out(node, line) {
         return None;
     }
@@ -91,8 +96,23 @@ fn slot_wanted(node: &Node) -> Option<Want>
 fn contents_wanted(node: &Node) -> Option<Want>
     ensures { result ≡ contents_wanted_by node.now }
 {
-    let line = oldest(node, |line| operation_asks(node, line).is_some())?;
+    let line = oldest(node, kind_that_asks(node), |line| {
+        operation_asks(node, line).is_some()
+    })?;
     operation_asks(node, line)
+}
+
+/// The kind of the lines whose operations can ask for something, or None if lines of no kind can, too. With no slot free a
+/// line without an entry asks for nothing.
+fn kind_that_asks(node: &Node) -> Option<LineKind>
+    ensures { (line : ℕ) → is_some (asked_by_operation node.now line) ≡ true →
+        is_of_named result (state_on node.now line) ≡ true }
+{
+    if node.has_slot() {
+        None
+    } else {
+        Some(LineKind::CouldGiveWay)
+    }
 }
 
 /// What the operation that is pending on a line asks for.

@@ -1,4 +1,4 @@
-use Rattle.std.proofs.Common.{◌≡◌, ◌<◌, List, ℕ, None, length, ap, subst, ◌∙◌, arith, length-append}
+use Rattle.std.proofs.Common.{◌≡◌, ◌<◌, List, ℕ, length, ap, subst, arith, length-append}
 use Rattle.sci_home.specs.Serving.{head_of}
 use Rattle.sci_core.specs.Sharing.{home_at}
 use Rattle.sci_core.specs.SharingList.{link_at}
