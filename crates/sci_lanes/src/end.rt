@@ -263,6 +263,7 @@ impl LaneEnd {
     }
 
     /// Makes an event of the node that concerns no lane: an Issue or a Perform. The caller sees to it that it is enabled.
+    #[inline(always)]
     pub fn beat(&mut self, event: &Event)
         requires { MayBeat self.old.part event.now }
         ensures part { self.new ≡ beaten (after_event self.old event.now) self.old }

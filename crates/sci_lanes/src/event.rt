@@ -11,6 +11,7 @@ use sci_words::Event;
 
 /// Makes the node's side of an event that takes no packet. An event that takes one changes nothing here, nor does one
 /// that is not enabled. The caller sees to it that what is asked can be.
+#[inline(always)]
 pub(crate) fn make_alone(node: &mut Node, event: &Event)
     requires { MayBeAsked event.now node.old }
     ensures { node.new ≡ node_after node.old (side node.old event.now) }
