@@ -2,7 +2,7 @@
 
 NEED_RT = command -v rt > /dev/null || { echo "rt is missing: put the bin folder of a Rattle kit (rattle-kit-13b or later) on your PATH"; exit 1; }
 
-.PHONY: run test build cases examples charts install faults soak check fmt clean
+.PHONY: run test build plants cases examples charts install faults soak check fmt clean
 
 PREFIX = /usr/local
 
@@ -16,7 +16,12 @@ run:
 # 'N passed, M failed'.
 test:
 	@$(NEED_RT)
-	@scripts/test.sh
+	@scripts/test.py
+
+# Tries the wrong bodies that the gate leaves out, over what earlier checks kept; with CRATE=NAME those of that crate alone.
+plants:
+	@$(NEED_RT)
+	@scripts/try_plants.sh $(CRATE)
 
 # Builds both programs over what earlier checks kept.
 build:
@@ -26,7 +31,7 @@ build:
 
 # Runs the programs on the stored cases alone.
 cases: build
-	@scripts/run_cases.sh
+	@scripts/run_cases.py
 
 # Runs the examples of the README, of docs/ and of examples/.
 examples: build
