@@ -10,6 +10,7 @@ from collections import namedtuple
 from errno import EAGAIN, EINTR, EIO, ENOSPC, EPIPE
 
 from fault_runs import Ran, Trial
+from stored_cases import stored_cases
 from thread_faults import try_threads
 
 # A run of a program: a name, the words of its command line, its input, what it has to write, and its usage line.
@@ -39,16 +40,13 @@ def refusal(case, kind):
     return b"refused at %s 0: %s\n" % (b"byte" if case.words == ["decode"] else b"line", kind)
 
 
-def stored_cases(top, program):
-    """The cases of cases/ that run a program and whose input is a file."""
+def plain_cases(top, program):
+    """The stored cases that are one run of a program whose input is stored. Those of `threads` have to be of one node, which
+    needs no second thread: with several, the answer differs if a thread is refused."""
     usage = usage_of(top, program)
-    for name in sorted(os.listdir(f"{top}/cases")):
-        part = lambda it: open(f"{top}/cases/{name}/{it}", "rb").read() if has(it) else b""
-        has = lambda it: os.path.isfile(f"{top}/cases/{name}/{it}")
-        runs = part("program").decode().strip() or "scimem"
-        if runs == program and has("input") and not any(map(has, ("reads_from", "writes_to", "kilobytes"))):
-            words = part("words").decode().split()
-            yield Case(name, words, part("input"), int(part("status")), part("output"), part("errors"), usage)
+    for it in stored_cases(top):
+        if it.program == program:
+            yield Case(it.name, it.words, it.given, it.status, it.output, it.errors, usage)
 
 
 def larger_cases(faults, name, program, count):
@@ -285,7 +283,7 @@ def try_program(faults, name):
     if not os.path.isfile(program):
         return [Trial(name).fail("the program is not built: run make faults", None)]
     usage = usage_of(faults.top, name)
-    stored, larger = list(stored_cases(faults.top, name)), list(larger_cases(faults, name, program, LARGER[name]))
+    stored, larger = list(plain_cases(faults.top, name)), list(larger_cases(faults, name, program, LARGER[name]))
     each = lambda call, cases: list(faults.pool.map(lambda it: call(faults, program, it), cases))
     trials = tell(name, "allocations refused", each(try_allocations, stored + larger))
     trials += tell(name, "reads failed", each(try_reads, stored))
