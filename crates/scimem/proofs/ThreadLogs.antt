@@ -1,5 +1,5 @@
 -- What a run by threads writes.
-use Rattle.std.proofs.Common.{◌≡◌, ℕ, ◌≤◌, Bool, true, List, length, ap, sym, subst, arith}
+use Rattle.std.proofs.Common.{◌≡◌, ℕ, ◌≤◌, Bool, true, List, length, refl, ap, sym, subst, arith}
 use Rattle.std.specs.Prelude.{Option, Some, None, IfSome}
 use Rattle.sci_words.specs.declared.limits.TheConstants.{MAX_INPUT_BYTES}
 use Rattle.sci_words.specs.declared.stamped.Stamped.{Stamped}
@@ -15,8 +15,9 @@ use Rattle.sci_text.specs.LogValue.{AreLogs, IsLogs}
 use Rattle.sci_text.proofs.LogLaws.{written_again}
 use Rattle.sci_threads.specs.Shares.{AreLedTo, HaveLogsOf, HaveWholeLogsOf, size_for}
 use Rattle.sci_command.specs.declared.outcome.Outcome.{Outcome}
-use Rattle.sci_command.specs.declared.outcome.Outcome.TheVariants.{Done}
-use Rattle.scimem.specs.ThreadsAnswer.{IsThreadsOf}
+use Rattle.sci_command.specs.declared.outcome.Outcome.TheVariants.{Done, Unlawful, Refused}
+use Rattle.sci_command.specs.Input.{IsReadAs}
+use Rattle.scimem.specs.ThreadsAnswer.{IsThreadsOf, IsThreadsAnswer}
 use Rattle.scimem.proofs.ReachedLogs.{reached_logs}
 
 -- what a run gives
@@ -53,3 +54,9 @@ pub threads_if : (known : Option (List ℕ)) (text : List ℕ) (s : ScriptValue)
     → (outcome ≡ Done → finished ≡ true) → IfSome known (λ input. (length input ≤ MAX_INPUT_BYTES) × IsThreadsOf input text outcome)
 threads_if None text s logs last finished outcome good few read written run ends = tt
 threads_if (Some input) text s logs last finished outcome good few read written run ends = (omega (arith, few, ap length read), threads_is input text s logs last finished outcome good read written run ends)
+
+-- the answer of a run, which is never Refused if the script was read
+pub threads_answer : (known : Option (List ℕ)) (failed : Bool) (text : List ℕ) (outcome : Outcome) → (outcome ≡ Refused → ⊥) → IsReadAs known failed (λ bytes. IsThreadsOf bytes text outcome) → IsThreadsAnswer known failed text outcome
+threads_answer known failed text Done other h = h
+threads_answer known failed text Unlawful other h = h
+threads_answer known failed text Refused other h = absurd (other refl)

@@ -1,6 +1,6 @@
 //! The words of the command line.
 
-ghost use Rattle.std.specs.Prelude.{◌≡◌, ◌↔◌, ◌≤◌, ℕ, IfOk, Some, map};
+ghost use Rattle.std.specs.Prelude.{◌≡◌, ◌↔◌, ◌≤◌, ◌∷◌, [], ℕ, IfOk, Some, map};
 ghost use Rattle.sci_text.specs.Number.{number};
 ghost use Rattle.scimem.specs.declared.choice.Command.{Command};
 ghost use Rattle.scimem.specs.Choice.{Chooses};
@@ -19,7 +19,7 @@ pub const USAGE: &str =
 pub const MAX_TURNS: u32 = 1_000_000_000;
 
 /// What the program is asked to do.
-#[derive(Clone, Copy, Debug, PartialEq, Eq)]
+#[derive(Clone, Copy)]
 pub enum Command {
     /// Write the log of one memory that does a script's operations.
     Oracle,
@@ -47,22 +47,33 @@ fn turns_of(word: &str) -> Option<u32>
     Some(turns as u32)
 }
 
+/// The command that one word chooses.
+fn chosen_by(word: &str) -> Option<Command>
+    ensures { (command : Command)
+        → (result ≡ Some command) ↔ Chooses (word.now ∷ []) command }
+{
+    match word {
+        "oracle" => Some(Command::Oracle),
+        "replay" => Some(Command::Replay),
+        "threads" => Some(Command::Threads { turns: MAX_TURNS }),
+        "decode" => Some(Command::Decode),
+        "audit" => Some(Command::Audit),
+        "upgrade" => Some(Command::Upgrade),
+        _ => None,
+    }
+}
+
 /// The command that the words of the command line choose, the program's own name left out.
 pub fn chosen(words: &[&str]) -> Option<Command>
     ensures { (command : Command)
         → (result ≡ Some command) ↔ Chooses (map (λ word. word.now) words.now) command }
 {
     match words {
-        ["oracle"] => Some(Command::Oracle),
-        ["replay"] => Some(Command::Replay),
-        ["threads"] => Some(Command::Threads { turns: MAX_TURNS }),
+        [word] => chosen_by(word),
         ["threads", "--turns", turns] => {
             let turns = turns_of(turns)?;
             Some(Command::Threads { turns })
         }
-        ["decode"] => Some(Command::Decode),
-        ["audit"] => Some(Command::Audit),
-        ["upgrade"] => Some(Command::Upgrade),
         _ => None,
     }
 }

@@ -16,21 +16,6 @@ use choice::{USAGE, asked};
 use sci_text::Tap;
 use std::process::ExitCode;
 
-#[cfg(test)]
-mod devices;
-#[cfg(test)]
-mod log_tests;
-#[cfg(test)]
-mod memory_tests;
-#[cfg(test)]
-mod oracle_tests;
-#[cfg(test)]
-mod replay_tests;
-#[cfg(test)]
-mod tests;
-#[cfg(test)]
-mod thread_tests;
-
 fn main(rt: HostRuntime) -> ExitCode {
     let Ok(Some(command)) = asked(&rt) else {
         let _ = eprintln!(rt; "{USAGE}");

@@ -6,7 +6,7 @@ use std::alloc::{AllocError, Global};
 use std::collections::VecDeque;
 
 /// What kind of packet an arrow shows.
-#[derive(Clone, Copy, Debug, PartialEq, Eq)]
+#[derive(Clone, Copy)]
 pub enum ArrowKind {
     /// A request that was served, or was not taken.
     Request,
@@ -40,7 +40,7 @@ impl ArrowKind {
 }
 
 /// A packet's way.
-#[derive(Clone, Copy, Debug)]
+#[derive(Clone, Copy)]
 pub struct Arrow {
     pub kind: ArrowKind,
     /// The node that sent it.

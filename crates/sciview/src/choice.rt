@@ -1,6 +1,6 @@
 //! The words of the command line.
 
-ghost use Rattle.std.specs.Prelude.{◌≡◌, ◌↔◌, ◌<◌, ℕ, Option, IfOk, Some, map};
+ghost use Rattle.std.specs.Prelude.{◌≡◌, ◌↔◌, ◌<◌, ◌∷◌, [], ℕ, Option, IfOk, Some, map};
 ghost use Rattle.sci_words.specs.declared.limits.TheConstants.{MAX_LINES};
 ghost use Rattle.sci_text.specs.Number.{number};
 ghost use Rattle.sciview.specs.declared.choice.Command.{Command};
@@ -16,7 +16,7 @@ use std::rt::Env;
 use std::{env, io};
 
 /// What the program is asked to do.
-#[derive(Clone, Copy, Debug, PartialEq, Eq)]
+#[derive(Clone, Copy)]
 pub enum Command {
     /// Write whether a log is sequentially consistent.
     Order,
@@ -97,19 +97,32 @@ fn random_of(words: &[&str]) -> Option<(Walk, Option<u64>)>
     Some((walk, dead))
 }
 
+/// The command that one word chooses.
+fn chosen_by(word: &str) -> Option<Command>
+    ensures { (command : Command)
+        → (result ≡ Some command) ↔ Chooses (word.now ∷ []) command }
+{
+    match word {
+        "order" => Some(Command::Order),
+        "explain" => Some(Command::Explain),
+        "packets" => Some(Command::Packets),
+        "trace" => Some(Command::Trace { strict: false }),
+        "lists" => Some(Command::Lists),
+        "chart" => Some(Command::Chart { line: None }),
+        "--help" => Some(Command::Help),
+        "--version" => Some(Command::Version),
+        _ => None,
+    }
+}
+
 /// The command that the words of the command line choose, the program's own name left out.
 pub fn chosen(words: &[&str]) -> Option<Command>
     ensures { (command : Command)
         → (result ≡ Some command) ↔ Chooses (map (λ word. word.now) words.now) command }
 {
     match words {
-        ["order"] => Some(Command::Order),
-        ["explain"] => Some(Command::Explain),
-        ["packets"] => Some(Command::Packets),
-        ["trace"] => Some(Command::Trace { strict: false }),
+        [word] => chosen_by(word),
         ["trace", "--strict"] => Some(Command::Trace { strict: true }),
-        ["lists"] => Some(Command::Lists),
-        ["chart"] => Some(Command::Chart { line: None }),
         ["chart", "--line", line] => {
             let line = line_of(line)?;
             Some(Command::Chart { line: Some(line) })
@@ -118,8 +131,6 @@ pub fn chosen(words: &[&str]) -> Option<Command>
             let (walk, dead) = random_of(numbers)?;
             Some(Command::Random { walk, dead })
         }
-        ["--help"] => Some(Command::Help),
-        ["--version"] => Some(Command::Version),
         _ => None,
     }
 }

@@ -13,7 +13,7 @@ use sci_words::Event;
 use std::alloc::{AllocError, Global};
 
 /// What an event did.
-#[derive(Clone, Copy, Debug)]
+#[derive(Clone, Copy)]
 pub enum Mark {
     /// It isn't enabled, and changed nothing.
     Dead,

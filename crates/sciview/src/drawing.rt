@@ -6,7 +6,8 @@ use crate::elements::{Point, push_ground, push_line, push_polyline, push_svg, pu
 use crate::layout::{Layout, MARGIN, ROWS, names_at, row_at};
 use crate::legend::{RIGHT, push_legend, push_style};
 use crate::rows::Rows;
-use sci_text::{Schedule, push_field, push_text};
+use sci_command::push_labelled;
+use sci_text::{Schedule, push_text};
 use sci_words::{Event, Extent};
 use std::alloc::{AllocError, Global};
 
@@ -76,17 +77,12 @@ impl Drawing {
         let mut text = Vec::new(self.alloc);
         push_text(&mut text, "Message sequence chart")?;
         if let Some(line) = self.line {
-            push_text(&mut text, " of line")?;
-            push_field(&mut text, u64::from(line))?;
+            push_labelled(&mut text, b" of line", u64::from(line))?;
         }
-        push_text(&mut text, ": nodes")?;
-        push_field(&mut text, u64::from(self.extent.nodes))?;
-        push_text(&mut text, ", lines")?;
-        push_field(&mut text, u64::from(self.extent.lines))?;
-        push_text(&mut text, ", slots")?;
-        push_field(&mut text, u64::from(self.extent.slots))?;
-        push_text(&mut text, ", events")?;
-        push_field(&mut text, u64::from(self.rows.count()))?;
+        push_labelled(&mut text, b": nodes", u64::from(self.extent.nodes))?;
+        push_labelled(&mut text, b", lines", u64::from(self.extent.lines))?;
+        push_labelled(&mut text, b", slots", u64::from(self.extent.slots))?;
+        push_labelled(&mut text, b", events", u64::from(self.rows.count()))?;
         push_words(out, "title", Point { x: MARGIN, y: 24 }, &text)
     }
 
@@ -109,8 +105,7 @@ impl Drawing {
         let mut text = Vec::new(self.alloc);
         for node in 0..self.extent.nodes {
             text.clear();
-            push_text(&mut text, "node")?;
-            push_field(&mut text, u64::from(node))?;
+            push_labelled(&mut text, b"node", u64::from(node))?;
             let x = self.layout.column(u16::from(node));
             push_words(out, "name", Point { x, y }.moved(-21, 0), &text)?;
         }

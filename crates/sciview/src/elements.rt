@@ -4,7 +4,7 @@ use sci_text::{push_number, push_text};
 use std::alloc::AllocError;
 
 /// A place in a chart, in pixels from its left and upper edges.
-#[derive(Clone, Copy, Debug)]
+#[derive(Clone, Copy)]
 pub struct Point {
     pub x: u64,
     pub y: u64,

@@ -27,7 +27,7 @@ const ROW: u64 = 30;
 pub const ROWS: u32 = 40;
 
 /// Where the columns of a chart are.
-#[derive(Clone, Copy, Debug)]
+#[derive(Clone, Copy)]
 pub struct Layout {
     /// How many characters the longest text of an event has.
     longest: u16,

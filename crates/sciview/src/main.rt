@@ -33,17 +33,6 @@ use help::USAGE;
 use sci_text::Tap;
 use std::process::ExitCode;
 
-#[cfg(test)]
-mod explain_tests;
-#[cfg(test)]
-mod lists_tests;
-#[cfg(test)]
-mod random_tests;
-#[cfg(test)]
-mod tests;
-#[cfg(test)]
-mod trace_tests;
-
 fn main(rt: HostRuntime) -> ExitCode {
     let Ok(Some(command)) = asked(&rt) else {
         let _ = eprintln!(rt; "{USAGE}");

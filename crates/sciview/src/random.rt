@@ -16,7 +16,7 @@ use std::alloc::Global;
 use std::io::Write;
 
 /// A walk that is asked for. Its numbers may be out of range.
-#[derive(Clone, Copy, Debug, PartialEq, Eq)]
+#[derive(Clone, Copy)]
 pub struct Walk {
     /// Nodes of the machine, 1 to 16.
     pub nodes: u64,

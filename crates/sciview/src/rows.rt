@@ -3,9 +3,10 @@
 use crate::deed::{Deed, Mark};
 use crate::elements::{Point, push_circle, push_line, push_words};
 use crate::layout::{Layout, MARGIN, row_at, width_of};
+use sci_command::push_labelled;
 use sci_core::node_of;
 use sci_packets::Packet;
-use sci_text::{push_event_line, push_field, push_text};
+use sci_text::{push_event_line, push_text};
 use sci_words::Event;
 use std::alloc::{AllocError, Global};
 
@@ -68,8 +69,7 @@ fn push_line_of(out: &mut Vec<u8>, mark: &Mark) -> Result<(), AllocError> {
     let Some(packet) = packet_of(mark) else {
         return Ok(());
     };
-    push_text(out, "line")?;
-    push_field(out, packet.line)?;
+    push_labelled(out, b"line", packet.line)?;
     push_text(out, ": ")
 }
 
