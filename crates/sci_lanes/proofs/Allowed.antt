@@ -9,19 +9,21 @@ use Rattle.atomic_table.specs.Table.{State, Me, step, keeps, Allows}
 use Rattle.atomic_table.proofs.Lists.{set_here}
 use Rattle.sci_packets.specs.declared.packet.Packet.{Packet}
 use Rattle.sci_core.specs.Size.{Size}
-use Rattle.sci_core.specs.Core.{lane_at}
+use Rattle.sci_words.specs.declared.event.Event.{Event}
+use Rattle.sci_core.specs.Core.{lane_at, run}
 use Rattle.sci_core.specs.Reached.{IsReached}
 use Rattle.sci_lanes.specs.declared.view.Outbound.{Outbound}
 use Rattle.sci_lanes.specs.declared.view.Inbound.{Inbound}
 use Rattle.sci_lanes.specs.declared.view.Part.{Part}
 use Rattle.sci_lanes.specs.declared.view.View.{View}
 use Rattle.sci_lanes.specs.Cells.{cell_place, lane_count, sender_of, receiver_of, word_at}
-use Rattle.sci_lanes.specs.Shown.{Fits, ShowsLane, Whole, nodes_of, me_of, single, outbound_at, inbound_at, IsKnown, Shows, IsKept}
+use Rattle.sci_lanes.specs.Shown.{AreEnabled, Fits, ShowsLane, Whole, nodes_of, me_of, single, informed, outbound_at, inbound_at, IsKnown, Shows, IsKept}
 use Rattle.sci_lanes.specs.Knowing.{has_sent_more, is_sending, is_receiving, looked_out, looked_in, looked}
 use Rattle.sci_lanes.specs.Telling.{IsShown, IsSameNode, size_in}
 use Rattle.sci_lanes.specs.Plays.{lane_in, number_in, index_in, Looks}
 use Rattle.sci_lanes.proofs.Words.{same_cell}
 use Rattle.sci_lanes.proofs.LaneSteps.{out_looked, in_looked, sender_finds_empty}
+use Rattle.sci_lanes.proofs.Keeping.{no_further}
 use Rattle.sci_lanes.proofs.Turning.{IsTurn, turned_whole, lane_step}
 use Rattle.sci_lanes.proofs.Facts.{lane_length, known_part, shown}
 
@@ -59,13 +61,18 @@ size_known x seat part size reached sized k = let p = known_part x seat part rea
     sizes : (a b : Size) → a.nodes ≡ b.nodes → a.lines ≡ b.lines → a.slots ≡ b.slots → a.limit ≡ b.limit → a ≡ b
     sizes a b n l s m = λ i. record { nodes = n i; lines = l i; slots = s i; limit = m i }
 
-pub goes : (size : Size) (s : State (Unit {0}) View) (kept : IsKept size s) (id place value : ℕ) (part next : Part) (y : Whole) → IsReached y.core → y.core.size ≡ size → get_elem? s.views id ≡ some (single part) → me_of next ≡ me_of part
+-- the schedule of the whole leads a part's machine to its state
+pub leads_here : (x : Whole) (seat : ℕ) (part : Part) (size : Size) (schedule : List Event) → IsReached x.core → x.core.size ≡ size → run size x.schedule ≡ x.core → IsKnown x seat part → schedule ≡ x.schedule → run (size_in part) schedule ≡ x.core
+leads_here x seat part size schedule reached sized leads k same = (λ i. run (size_known x seat part size reached sized k i) (same i)) ∙ leads
+
+pub goes : (size : Size) (s : State (Unit {0}) View) (kept : IsKept size s) (id place value : ℕ) (part next : Part) (y : Whole) → IsReached y.core → y.core.size ≡ size → run size y.schedule ≡ y.core → AreEnabled size [] y.schedule → next.schedule ≡ y.schedule → get_elem? s.views id ≡ some (single part) → me_of next ≡ me_of part
     → Shows y (set s.words place value) (set s.views id (single next)) → Goes size s id place value part next
-goes size s kept id place value part next y reached sized here same_me shows =
+goes size s kept id place value part next y reached sized leads enabled all here same_me shows =
     let there = set_here s.views id (single next) (within s.views id (single part) here) in
     record {
-      kept = record { whole = y; reached = reached; sized = sized; shown = shows };
-      shown = shown y (set s.words place value) (set s.views id (single next)) id next reached shows there;
+      kept = record { whole = y; reached = reached; sized = sized; leads = leads; enabled = enabled; shown = shows };
+      shown = shown y (set s.words place value) (set s.views id (single next)) id next reached (leads_here y id next size next.schedule reached sized leads (shows.known id (single next) there).0 all)
+          (subst (λ (z : Size). AreEnabled z [] next.schedule) (sym (size_known y id next size reached sized (shows.known id (single next) there).0)) (subst (λ (es : List Event). AreEnabled size [] es) (sym all) enabled)) shows there;
       same = record { me = same_me; sized = size_known y id next size reached sized (shows.known id (single next) there).0 ∙ sym (size_known kept.whole id part size kept.reached kept.sized (kept.shown.known id (single part) here).0) };
     }
 
@@ -83,10 +90,11 @@ allows size slots id place part f told owes s kept long here fits = let o = owes
 pub still : (x : Whole) (seat : ℕ) (part : Part) (lane : ℕ) (o o' : Outbound) (i i' : Inbound) → IsKnown x seat part → lane < lane_count (nodes_of x)
     → (sender_of (nodes_of x) lane ≡ me_of part → o ≡ o') → (sender_of (nodes_of x) lane ≢ me_of part → o' ≡ x.outbound lane)
     → (receiver_of (nodes_of x) lane ≡ me_of part → i ≡ i') → (receiver_of (nodes_of x) lane ≢ me_of part → i' ≡ x.inbound lane)
-    → IsTurn x part lane x.core part.node o o' i i'
+    → IsTurn x part lane x.core x.schedule part.node o o' i i'
 still x seat part lane o o' i i' k lt sender not_sender receiver not_receiver = record {
   lane_ok = lt;
   size = refl;
+  further = no_further (me_of part) x.schedule;
   others = λ n apart. refl;
   mine = k.node;
   me = refl;
@@ -130,13 +138,14 @@ looks size slots id lane number part lt few = allows size slots id place part (�
 
     owes : Owes size id place part (λ n. n) (Looks (step slots place 0 0 none) (single part, []))
     owes s kept here = (
-      looked lane number word part,
+      informed x.schedule (looked lane number word part),
       went,
       rw (lane_found lane number 0 (omega arith), at_number) (record {
-        tells = record { view = refl; shown = went.shown; same = went.same };
+        tells = record { schedule = x.schedule; view = refl; shown = went.shown; same = went.same; went = k.seen };
         full = λ sends some. record {
           core = x.core;
           reached = kept.reached;
+          leads = leads_here x id part size x.schedule kept.reached kept.sized kept.leads k refl;
           some_node = k.some_node;
           here = k.node;
           four = four (sends_here sends) some;
@@ -178,7 +187,7 @@ looks size slots id lane number part lt few = allows size slots id place part (�
         i' = if c then looked_in sure word (x.inbound lane) else x.inbound lane
 
         y : Whole
-        y = turned_whole x lane x.core o' i'
+        y = turned_whole x lane x.core x.schedule o' i'
 
         out_is : sender_of (nodes_of x) lane ≡ me_of part → outbound_at part lane ≡ x.outbound lane
         out_is is = k.outbound lane lane_ok is
@@ -227,8 +236,8 @@ looks size slots id lane number part lt few = allows size slots id place part (�
               (maybe_in c sure s.words lane word old.packets o' (x.inbound lane) receives_here surely (maybe_out b s.words lane word old.packets (x.outbound lane) (x.inbound lane) sends_here old.fits));
         }
 
-        shows : Shows y (set s.words place word) (set s.views id (single (looked lane number word part)))
-        shows = lane_step x s.words s.views id lane number 0 word part x.core part.node
+        shows : Shows y (set s.words place word) (set s.views id (single (informed x.schedule (looked lane number word part))))
+        shows = lane_step x s.words s.views id lane number 0 word part x.core x.schedule part.node
             (if b then looked_out word (outbound_at part lane) else outbound_at part lane) o'
             (if c then looked_in sure word (inbound_at part lane) else inbound_at part lane) i'
             kept.shown here (omega arith)
@@ -239,8 +248,8 @@ looks size slots id lane number part lt few = allows size slots id place part (�
             (λ apart. if_false c _ (x.inbound lane) (and_left (eqb (receiver_of part.node.cache.nodes lane) (me_of part)) _ (ne_eqb (receiver_of part.node.cache.nodes lane) (me_of part) (λ e. apart (subst (λ (n : ℕ). receiver_of n lane ≡ me_of part) nodes e))))))
             shows_lane
 
-        went : Goes size s id place word part (looked lane number word part)
-        went = goes size s kept id place word part (looked lane number word part) y kept.reached kept.sized here refl shows
+        went : Goes size s id place word part (informed x.schedule (looked lane number word part))
+        went = goes size s kept id place word part (informed x.schedule (looked lane number word part)) y kept.reached kept.sized kept.leads kept.enabled refl here refl shows
 
         four : word ≡ word_at s.words lane (x.outbound lane).sent 0 → word ≢ 0 → length (lane_at x.core lane) ≡ 4
         four is some_word =

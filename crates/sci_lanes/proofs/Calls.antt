@@ -21,7 +21,7 @@ use Rattle.sci_core.proofs.WellFormedSteps.{reached_well}
 use Rattle.sci_lanes.specs.declared.cell.CellId.{CellId}
 use Rattle.sci_lanes.specs.declared.view.Part.{Part}
 use Rattle.sci_lanes.specs.Cells.{lane_count, receiver_of}
-use Rattle.sci_lanes.specs.Shown.{me_of, outbound_at, inbound_at}
+use Rattle.sci_lanes.specs.Shown.{informed, me_of, outbound_at, inbound_at}
 use Rattle.sci_lanes.specs.Telling.{IsFront, IsFull, IsShown, IsSending, IsTaking, IsBeating, SomeLineWaits}
 use Rattle.sci_lanes.specs.Ends.{nodes_in, lane_at_cell, IsNextToSend, IsNextToTake, MayPublish, MayFree, MayBeat, node_after, taken_by, MayBeAsked, MayBeGiven, FitsInside}
 use Rattle.sci_lanes.proofs.Seats.{IsInLane, takes_in, shown_nodes}
@@ -65,8 +65,8 @@ fronted : (core : Core) (from n : ℕ) (letters : List Letter) → IsReached cor
 fronted core from n [] reached f t is four = absurd (omega arith)
 fronted core from n (letter ∷ rest) reached f t is four = let w = (request_enabled core from n reached f t).waited letter rest is in (letter, w.0, w.1)
 
-pub full_waits : (part : Part) (cell : CellId) → IsShown part → IsNextToSend part cell → cell.kind ≡ Requests → IsFull part (lane_at_cell part cell) → SomeLineWaits part.node
-full_waits part cell s next kind full =
+pub full_waits : (part : Part) (cell : CellId) (schedule : List Event) → IsShown part → IsNextToSend part cell → cell.kind ≡ Requests → IsFull (informed schedule part) (lane_at_cell part cell) → SomeLineWaits part.node
+full_waits part cell schedule s next kind full =
     let core = full.core in
     let me = me_of part in
     let well = (reached_well core full.reached).each_part me full.some_node in
@@ -110,12 +110,11 @@ beating_asks part (event.Refuse from n) may = tt
 beating_asks part (event.Reply n) may = tt
 beating_asks part (event.Accept from n) may = tt
 
-pub publishing : (part : Part) (cell : CellId) (first : ℕ) (e : Event) → MayPublish part cell first e → IsSending part (lane_at_cell part cell) first (node_after part.node (side part.node e))
+pub publishing : (part : Part) (cell : CellId) (first : ℕ) (e : Event) → MayPublish part cell first e → IsSending part (lane_at_cell part cell) first e (node_after part.node (side part.node e))
 publishing part cell first e may =
     let after_is : node_after part.node (side part.node e) ≡ may.after = ap (node_after part.node) may.side_is in
-    subst (λ (node : NodeOf). IsSending part (lane_at_cell part cell) first node) (sym after_is)
+    subst (λ (node : NodeOf). IsSending part (lane_at_cell part cell) first e node) (sym after_is)
     (record {
-      event = e;
       kind = cell.kind;
       packet = may.packet;
       own = may.own;
@@ -126,12 +125,11 @@ publishing part cell first e may =
       spelled = may.spelled;
     })
 
-pub beating : (part : Part) (e : Event) → MayBeat part e → IsBeating part (node_after part.node (side part.node e))
-beating part e may = subst (λ (node : NodeOf). IsBeating part node) (sym (ap (node_after part.node) may.side_is)) (record { event = e; own = may.own; side_is = may.side_is })
+pub beating : (part : Part) (e : Event) → MayBeat part e → IsBeating part e (node_after part.node (side part.node e))
+beating part e may = subst (λ (node : NodeOf). IsBeating part e node) (sym (ap (node_after part.node) may.side_is)) (record { own = may.own; side_is = may.side_is })
 
-pub freeing : (part : Part) (cell : CellId) (e : Event) (packet : Packet) (next : NodeOf) → (may : MayFree part cell e) → packet ≡ may.packet → taken_by (side part.node e) (letter_of packet) ≡ Some next → IsTaking part (lane_at_cell part cell) next
+pub freeing : (part : Part) (cell : CellId) (e : Event) (packet : Packet) (next : NodeOf) → (may : MayFree part cell e) → packet ≡ may.packet → taken_by (side part.node e) (letter_of packet) ≡ Some next → IsTaking part (lane_at_cell part cell) e next
 freeing part cell e packet next may is takes = record {
-  event = e;
   kind = cell.kind;
   from = cell.sender;
   taking = may.taking;

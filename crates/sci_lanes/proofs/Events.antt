@@ -1,6 +1,9 @@
 -- Publishing, freeing and beating are events of the machine, and keep the rule.
-use Rattle.std.proofs.Common.{◌≡◌, ◌≢◌, ℕ, suc, ◌+◌, ◌*◌, ◌%◌, ◌^◌, ◌<◌, List, [], ◌∷◌, ◌++◌, length, get_or, set, map, Option, Some, refl, sym, ap, subst, ◌∙◌, arith, mul_assoc}
+use Rattle.std.proofs.Common.{◌≡◌, ◌≢◌, ℕ, suc, ◌+◌, ◌*◌, ◌%◌, ◌^◌, ◌<◌, List, [], ◌∷◌, ◌++◌, length, get_or, set, map, Option, None, Some, refl, sym, ap, subst, ◌∙◌, arith, mul_assoc}
+use Rattle.std.specs.Prelude.{IsSome, unwrap_or}
+use Rattle.std.proofs.lemmas.List.{append-nil, append_assoc}
 use Rattle.std.proofs.lemmas.List.{get_or-set_same, get_or-set_other, map_push}
+use Rattle.std.proofs.lemmas.List.Sums.{fold_push}
 use mathlib.Core.Option.{none}
 use Rattle.atomic_table.specs.Table.{step, Allows}
 use Rattle.sci_words.specs.declared.event.Event.{Event}
@@ -11,7 +14,7 @@ use Rattle.sci_cache.specs.Cache.{Letter, letter_of}
 use Rattle.sci_core.specs.Size.{Size}
 use Rattle.sci_core.specs.declared.lane.LaneKind.{LaneKind}
 use Rattle.sci_core.specs.Node.{NodeOf, no_node}
-use Rattle.sci_core.specs.Core.{Core, node_at, with_node, with_lane, lane_at, lane_of, lane_place, side, node_of, sent_by, taken_as, taken_from, stepping}
+use Rattle.sci_core.specs.Core.{Core, node_at, with_node, with_lane, lane_at, lane_of, lane_place, side, node_of, sent_by, taken_as, taken_from, IsEnabled, stepping, step as machine_step, opening, run}
 use Rattle.sci_core.specs.Reached.{IsReached}
 use Rattle.sci_core.proofs.Places.{place_below, place_from, place_to}
 use Rattle.sci_core.proofs.Stepping.{stepping_changed, stepping_sent, stepping_takes}
@@ -20,16 +23,20 @@ use Rattle.sci_lanes.specs.declared.view.Outbound.{Outbound}
 use Rattle.sci_lanes.specs.declared.view.Inbound.{Inbound}
 use Rattle.sci_lanes.specs.declared.view.Part.{Part}
 use Rattle.sci_lanes.specs.Cells.{cell_place, own_place, lane_count, sender_of, receiver_of, word_at}
-use Rattle.sci_lanes.specs.Shown.{Fits, ShowsLane, Whole, nodes_of, me_of, single, outbound_at, inbound_at, IsKnown, Shows, IsKept}
+use Rattle.sci_lanes.specs.Shown.{AreEnabled, Fits, ShowsLane, Whole, nodes_of, me_of, single, informed, outbound_at, inbound_at, IsKnown, Shows, IsKept}
 use Rattle.sci_lanes.specs.Knowing.{published_out, published, freed_in, freed, with_node_known}
-use Rattle.sci_lanes.specs.Telling.{IsSending, IsTaking, IsBeating}
+use Rattle.sci_words.specs.declared.event.Event.TheVariants as event_is
+use Rattle.sci_history.specs.declared.entry.Entry.{Entry}
+use Rattle.sci_core.specs.Core.{Side, Takes, changes, performs, sends}
+use Rattle.sci_core.specs.declared.lane.LaneKind.TheVariants.{Requests, Answers}
+use Rattle.sci_lanes.specs.Telling.{IsMade, IsSending, IsTaken, IsTaking, IsBeating, lane_taken}
 use Rattle.sci_lanes.specs.Plays.{Publishes, Frees, Beats}
 use Rattle.sci_lanes.proofs.Words.{same_cell, place_within, own_apart, stored_else}
 use Rattle.sci_lanes.proofs.LaneSteps.{agreeing, out_published, in_freed}
-use Rattle.sci_lanes.proofs.Keeping.{step_shows}
+use Rattle.sci_lanes.proofs.Keeping.{step_shows, one_further, seen_all}
 use Rattle.sci_lanes.proofs.Turning.{turned_whole, lane_step}
 use Rattle.sci_lanes.proofs.Facts.{known_part}
-use Rattle.sci_lanes.proofs.Allowed.{lane_found, goes, Goes, Owes, allows}
+use Rattle.sci_lanes.proofs.Allowed.{lane_found, size_known, leads_here, goes, Goes, Owes, allows}
 
 -- ---- places of lanes
 
@@ -56,20 +63,44 @@ lanes_within core lane reached lt = subst (λ (k : ℕ). lane < k) (sym ((reache
 side_here : (x : Whole) (seat : ℕ) (part : Part) (event : Event) → IsKnown x seat part → node_of event ≡ me_of part → side (node_at x.core (node_of event)) event ≡ side part.node event
 side_here x seat part event k own = ap (λ (n : ℕ). side (node_at x.core n) event) own ∙ ap (λ (node : NodeOf). side node event) k.node
 
+-- ---- schedules
+
+-- a schedule goes on by an event that is enabled
+pub run_further : (size : Size) (schedule : List Event) (old new : Core) (e : Event) → run size schedule ≡ old → stepping old e ≡ Some new → run size (schedule ++ e ∷ []) ≡ new
+run_further size schedule old new e leads steps =
+    fold_push machine_step (opening size) schedule e ∙ (ap (λ (k : Core). machine_step k e) leads ∙ ap (λ (o : Option Core). unwrap_or o old) steps)
+
+enabled_more : (size : Size) (known xs : List Event) (e : Event) → AreEnabled size known xs → IsEnabled (run size (known ++ xs)) e → AreEnabled size known (xs ++ e ∷ [])
+enabled_more size known [] e all one = (subst (λ (es : List Event). IsEnabled (run size es) e) (append-nil known) one, tt)
+enabled_more size known (x ∷ xs) e all one = (all.0, enabled_more size (known ++ x ∷ []) xs e all.1 (subst (λ (es : List Event). IsEnabled (run size es) e) (sym (append_assoc known (x ∷ []) xs)) one))
+
+one_enabled : (size : Size) (schedule : List Event) (old new : Core) (e : Event) → AreEnabled size [] schedule → run size schedule ≡ old → stepping old e ≡ Some new → AreEnabled size [] (schedule ++ e ∷ [])
+one_enabled size schedule old new e all leads steps = enabled_more size [] schedule e all (subst (λ (o : Core). IsEnabled o e) (sym leads) (subst IsSome (sym steps) refl))
+
+-- an event of the part's node that is enabled in the state of the whole is made
+abbrev pub made : (x : Whole) (seat : ℕ) (part : Part) (size : Size) (core : Core) (e : Event) → IsReached x.core → x.core.size ≡ size → run size x.schedule ≡ x.core → IsKnown x seat part → stepping x.core e ≡ Some core → IsMade part e (x.schedule ++ e ∷ [])
+made x seat part size core e reached sized leads k steps = record {
+  others = k.seen.others;
+  further = ap (λ (es : List Event). es ++ e ∷ []) k.seen.further;
+  apart = k.seen.apart;
+  stepped = ap (λ (o : Core). stepping o e) (leads_here x seat part size (part.schedule ++ k.seen.others) reached sized leads k (sym k.seen.further))
+      ∙ (steps ∙ ap (λ (o : Core). Some o) (sym (ap (λ (z : Size). run z (x.schedule ++ e ∷ [])) (size_known x seat part size reached sized k) ∙ run_further size x.schedule x.core core e leads steps)));
+}
+
 -- ---- publish
 
-pub publishes : (size : Size) (slots id lane number first : ℕ) (part : Part) (next : NodeOf) → number ≡ (outbound_at part lane).sent % 4 → IsSending part lane first next
-    → Allows (IsKept size) slots id (single part, []) (cell_place lane number + 0) (λ n. first) (λ n. Publishes next (step slots (cell_place lane number + 0) first 0 none) (single part, []) first)
-publishes size slots id lane number first part next number_is may = allows size slots id place part (λ n. first) (λ n. Publishes next (step slots place first 0 none) (single part, []) first) owes
+pub publishes : (size : Size) (slots id lane number first : ℕ) (part : Part) (event : Event) (next : NodeOf) → number ≡ (outbound_at part lane).sent % 4 → IsSending part lane first event next
+    → Allows (IsKept size) slots id (single part, []) (cell_place lane number + 0) (λ n. first) (λ n. Publishes event next (step slots (cell_place lane number + 0) first 0 none) (single part, []) first)
+publishes size slots id lane number first part event next number_is may = allows size slots id place part (λ n. first) (λ n. Publishes event next (step slots place first 0 none) (single part, []) first) owes
   where
     place : ℕ
     place = cell_place lane number + 0
 
-    owes : Owes size id place part (λ n. first) (λ n. Publishes next (step slots place first 0 none) (single part, []) first)
+    owes : Owes size id place part (λ n. first) (λ n. Publishes event next (step slots place first 0 none) (single part, []) first)
     owes s kept here = (
-      published lane next part,
+      informed (x.schedule ++ event ∷ []) (published lane next part),
       went,
-      rw (lane_found lane number 0 (omega arith)) (record { view = refl; shown = went.shown; same = went.same }),
+      rw (lane_found lane number 0 (omega arith)) (record { schedule = x.schedule ++ event ∷ []; view = refl; shown = went.shown; same = went.same; went = made x id part size core event kept.reached kept.sized kept.leads k stepped }),
     )
       where
         x : Whole
@@ -105,11 +136,11 @@ publishes size slots id lane number first part next number_is may = allows size 
         core : Core
         core = sent_by x.core me may.kind next letter
 
-        stepped : stepping x.core may.event ≡ Some core
-        stepped = stepping_sent x.core core may.event may.kind next letter (subst (λ (n : ℕ). n < nodes_of x) (sym may.own) k.some_node) (side_here x id part may.event k may.own ∙ may.side_is) (ap (λ (n : ℕ). sent_by x.core n may.kind next letter) (sym may.own))
+        stepped : stepping x.core event ≡ Some core
+        stepped = stepping_sent x.core core event may.kind next letter (subst (λ (n : ℕ). n < nodes_of x) (sym may.own) k.some_node) (side_here x id part event k may.own ∙ may.side_is) (ap (λ (n : ℕ). sent_by x.core n may.kind next letter) (sym may.own))
 
         reached : IsReached core
-        reached = reached_stepping x.core core may.event kept.reached stepped
+        reached = reached_stepping x.core core event kept.reached stepped
 
         mine : node_at core me ≡ next
         mine = get_or-set_same x.core.parts me next no_node (parts_within x.core me kept.reached k.some_node)
@@ -125,17 +156,18 @@ publishes size slots id lane number first part next number_is may = allows size 
         turn = let p = ap (λ (u : Outbound). u.sent) out_is in ap (λ (c : ℕ). c + 0) (same_cell lane number o.sent (omega arith))
 
         y : Whole
-        y = turned_whole x lane core (published_out o) (x.inbound lane)
+        y = turned_whole x lane core (x.schedule ++ event ∷ []) (published_out o) (x.inbound lane)
 
         fits : Fits (set s.words (cell_place lane o.sent + 0) first) lane (old.packets ++ may.packet ∷ []) (published_out o) (x.inbound lane)
         fits = out_published s.words lane first may.packet old.packets o (x.inbound lane) (ap (λ (u : Outbound). u.vacant) (sym out_is) ∙ may.vacant) may.spelled.packet (sym may.spelled.spelled_so ∙ ap (λ (u : Outbound). first ∷ u.filled) out_is)
             (subst (λ (n : ℕ). cell_place lane o.sent + 0 < n) (sym kept.shown.long) (place_within (nodes_of x) lane o.sent 0 at.0 (omega arith))) old.fits
 
-        shows : Shows y (set s.words (cell_place lane o.sent + 0) first) (set s.views id (single (published lane next part)))
-        shows = lane_step x s.words s.views id lane o.sent 0 first part core next (published_out (outbound_at part lane)) (published_out o) (inbound_at part lane) (x.inbound lane) kept.shown here (omega arith)
+        shows : Shows y (set s.words (cell_place lane o.sent + 0) first) (set s.views id (single (informed (x.schedule ++ event ∷ []) (published lane next part))))
+        shows = lane_step x s.words s.views id lane o.sent 0 first part core (x.schedule ++ event ∷ []) next (published_out (outbound_at part lane)) (published_out o) (inbound_at part lane) (x.inbound lane) kept.shown here (omega arith)
             (record {
               lane_ok = at.0;
               size = refl;
+              further = one_further me x.schedule event may.own;
               others = λ n apart. get_or-set_other x.core.parts me n next no_node apart;
               mine = mine;
               me = me_stays core me next reached k.some_node mine;
@@ -147,11 +179,48 @@ publishes size slots id lane number first part next number_is may = allows size 
             })
             (record { packets = old.packets ++ may.packet ∷ []; letters = map_push letter_of old.packets may.packet ∙ (ap (λ (ls : List Letter). ls ++ letter ∷ []) old.letters ∙ sym lane_now); fits = fits })
 
-        went : Goes size s id place first part (published lane next part)
-        went = goes size s kept id place first part (published lane next part) y reached kept.sized here (me_stays core me next reached k.some_node mine)
-            (subst (λ (p : ℕ). Shows y (set s.words p first) (set s.views id (single (published lane next part)))) (sym turn) shows)
+        went : Goes size s id place first part (informed (x.schedule ++ event ∷ []) (published lane next part))
+        went = goes size s kept id place first part (informed (x.schedule ++ event ∷ []) (published lane next part)) y reached kept.sized (run_further size x.schedule x.core core event kept.leads stepped) (one_enabled size x.schedule x.core core event kept.enabled kept.leads stepped) refl here (me_stays core me next reached k.some_node mine)
+            (subst (λ (p : ℕ). Shows y (set s.words p first) (set s.views id (single (informed (x.schedule ++ event ∷ []) (published lane next part))))) (sym turn) shows)
 
 -- ---- free
+
+takes_as : {kind k : LaneKind} {from f : ℕ} {t u : Letter → Option NodeOf} → Takes kind from t ≡ Takes k f u → (kind ≡ k) × (from ≡ f)
+takes_as e = (ap kind_of e, ap from_of e)
+  where
+    kind_of : Side → LaneKind
+    kind_of (Takes a b c) = a
+    kind_of _ = Requests
+
+    from_of : Side → ℕ
+    from_of (Takes a b c) = b
+    from_of _ = 0
+
+-- the lane from which an event takes, by its side at its node
+taken_lane : (core : Core) (node : NodeOf) (e : Event) (kind : LaneKind) (from : ℕ) (taking : Letter → Option NodeOf) → side node e ≡ Takes kind from taking → lane_taken core e ≡ lane_of core kind from (node_of e)
+taken_lane core node (event_is.Issue n op) kind from taking is = absurd (none _ is)
+  where
+    none : (o : Option NodeOf) → changes o ≡ Takes kind from taking → ⊥
+    none None e = cc
+    none (Some x) e = cc
+taken_lane core node (event_is.Perform n line) kind from taking is = absurd (none _ is)
+  where
+    none : (o : Option (NodeOf × Entry)) → performs o ≡ Takes kind from taking → ⊥
+    none None e = cc
+    none (Some x) e = cc
+taken_lane core node (event_is.Ask n line k) kind from taking is = absurd (none _ is)
+  where
+    none : (o : Option (NodeOf × Letter)) → sends Requests o ≡ Takes kind from taking → ⊥
+    none None e = cc
+    none (Some x) e = cc
+taken_lane core node (event_is.Serve f n) kind from taking is = let e = takes_as is in (λ i. lane_of core (e.0 i) (e.1 i) n)
+taken_lane core node (event_is.Refuse f n) kind from taking is = let e = takes_as is in (λ i. lane_of core (e.0 i) (e.1 i) n)
+taken_lane core node (event_is.Reply n) kind from taking is = absurd (none _ is)
+  where
+    none : (o : Option (NodeOf × Letter)) → sends Answers o ≡ Takes kind from taking → ⊥
+    none None e = cc
+    none (Some x) e = cc
+taken_lane core node (event_is.Accept f n) kind from taking is = let e = takes_as is in (λ i. lane_of core (e.0 i) (e.1 i) n)
 
 -- the lane begins with a packet that the node takes
 takes_front : (core : Core) (me place : ℕ) (taking : Letter → Option NodeOf) (lane : List Letter) (letter : Letter) (rest : List Letter) (next : NodeOf) → lane ≡ letter ∷ rest → taking letter ≡ Some next
@@ -181,18 +250,18 @@ oldest words lane letters o i p (q ∷ packets) is f good found =
     sym (f.full 0 k q refl a) ∙ (ap (λ (t : ℕ). word_at words lane t k) turn ∙ (f.found k (subst (λ (ws : List ℕ). k < length ws) (sym found) b) ∙ ap (λ (ws : List ℕ). get_or ws k 0) found))) in
     record { packets = packets; letters_are = sym is ∙ ap (λ (r : Packet). letter_of r ∷ map letter_of packets) same; fits = subst (λ (r : Packet). Fits words lane (r ∷ packets) o i) same f }
 
-pub frees : (size : Size) (slots id lane number : ℕ) (part : Part) (next : NodeOf) → number ≡ (inbound_at part lane).taken % 4 → IsTaking part lane next
-    → Allows (IsKept size) slots id (single part, []) (cell_place lane number + 0) (λ n. 0) (λ n. Frees next (step slots (cell_place lane number + 0) 0 0 none) (single part, []) 0)
-frees size slots id lane number part next number_is may = allows size slots id place part (λ n. 0) (λ n. Frees next (step slots place 0 0 none) (single part, []) 0) owes
+pub frees : (size : Size) (slots id lane number : ℕ) (part : Part) (event : Event) (next : NodeOf) → number ≡ (inbound_at part lane).taken % 4 → IsTaking part lane event next
+    → Allows (IsKept size) slots id (single part, []) (cell_place lane number + 0) (λ n. 0) (λ n. Frees event next (step slots (cell_place lane number + 0) 0 0 none) (single part, []) 0)
+frees size slots id lane number part event next number_is may = allows size slots id place part (λ n. 0) (λ n. Frees event next (step slots place 0 0 none) (single part, []) 0) owes
   where
     place : ℕ
     place = cell_place lane number + 0
 
-    owes : Owes size id place part (λ n. 0) (λ n. Frees next (step slots place 0 0 none) (single part, []) 0)
+    owes : Owes size id place part (λ n. 0) (λ n. Frees event next (step slots place 0 0 none) (single part, []) 0)
     owes s kept here = (
-      freed lane next part,
+      informed (x.schedule ++ event ∷ []) (freed lane next part),
       went,
-      rw (lane_found lane number 0 (omega arith)) (record { view = refl; shown = went.shown; same = went.same }),
+      rw (lane_found lane number 0 (omega arith)) (record { schedule = x.schedule ++ event ∷ []; view = refl; shown = went.shown; same = went.same; went = went_as }),
     )
       where
         x : Whole
@@ -237,15 +306,30 @@ frees size slots id lane number part next number_is may = allows size slots id p
         front : lane_of x.core may.kind may.from me ≡ letter_of may.packet ∷ rest
         front = subst (λ (l : ℕ). lane_at x.core l ≡ letter_of may.packet ∷ rest) lane_is old.letters_are
 
-        stepped : stepping x.core may.event ≡ Some core
+        stepped : stepping x.core event ≡ Some core
         stepped =
-            stepping_takes x.core may.event may.kind may.from may.taking (subst (λ (n : ℕ). n < nodes_of x) (sym may.own) k.some_node) from (side_here x id part may.event k may.own ∙ may.side_is)
+            stepping_takes x.core event may.kind may.from may.taking (subst (λ (n : ℕ). n < nodes_of x) (sym may.own) k.some_node) from (side_here x id part event k may.own ∙ may.side_is)
             ∙ (ap (λ (n : ℕ). taken_from x.core n (lane_place (nodes_of x) may.kind may.from n) may.taking (lane_of x.core may.kind may.from n)) may.own
             ∙ (takes_front x.core me (lane_place (nodes_of x) may.kind may.from me) may.taking (lane_of x.core may.kind may.from me) (letter_of may.packet) rest next front may.gives
             ∙ ap (λ (l : ℕ). Some (with_lane (with_node x.core me next) l rest)) (sym lane_is)))
 
         reached : IsReached core
-        reached = reached_stepping x.core core may.event kept.reached stepped
+        reached = reached_stepping x.core core event kept.reached stepped
+
+        event_made : IsMade part event (x.schedule ++ event ∷ [])
+        event_made = made x id part size core event kept.reached kept.sized kept.leads k stepped
+
+        taken_from_lane : lane_taken x.core event ≡ letter_of may.packet ∷ rest
+        taken_from_lane = taken_lane x.core part.node event may.kind may.from may.taking may.side_is ∙ (ap (λ (n : ℕ). lane_of x.core may.kind may.from n) may.own ∙ front)
+
+        went_as : IsTaken part lane event (x.schedule ++ event ∷ [])
+        went_as = record {
+          made = event_made;
+          packet = may.packet;
+          spelled = may.spelled;
+          rest = rest;
+          front = ap (λ (o : Core). lane_taken o event) (leads_here x id part size (part.schedule ++ k.seen.others) kept.reached kept.sized kept.leads k (sym k.seen.further)) ∙ taken_from_lane;
+        }
 
         mine : node_at core me ≡ next
         mine = get_or-set_same x.core.parts me next no_node (parts_within x.core me kept.reached k.some_node)
@@ -257,13 +341,14 @@ frees size slots id lane number part next number_is may = allows size slots id p
         turn = let p = ap (λ (u : Inbound). u.taken) in_is in ap (λ (c : ℕ). c + 0) (same_cell lane number i.taken (omega arith))
 
         y : Whole
-        y = turned_whole x lane core (x.outbound lane) (freed_in i)
+        y = turned_whole x lane core (x.schedule ++ event ∷ []) (x.outbound lane) (freed_in i)
 
-        shows : Shows y (set s.words (cell_place lane i.taken + 0) 0) (set s.views id (single (freed lane next part)))
-        shows = lane_step x s.words s.views id lane i.taken 0 0 part core next (outbound_at part lane) (x.outbound lane) (freed_in (inbound_at part lane)) (freed_in i) kept.shown here (omega arith)
+        shows : Shows y (set s.words (cell_place lane i.taken + 0) 0) (set s.views id (single (informed (x.schedule ++ event ∷ []) (freed lane next part))))
+        shows = lane_step x s.words s.views id lane i.taken 0 0 part core (x.schedule ++ event ∷ []) next (outbound_at part lane) (x.outbound lane) (freed_in (inbound_at part lane)) (freed_in i) kept.shown here (omega arith)
             (record {
               lane_ok = at.0;
               size = refl;
+              further = one_further me x.schedule event may.own;
               others = λ n apart. get_or-set_other x.core.parts me n next no_node apart;
               mine = mine;
               me = me_stays core me next reached k.some_node mine;
@@ -279,15 +364,15 @@ frees size slots id lane number part next number_is may = allows size slots id p
               fits = in_freed s.words lane may.packet old.packets (x.outbound lane) i (subst (λ (n : ℕ). cell_place lane i.taken + 0 < n) (sym kept.shown.long) (place_within (nodes_of x) lane i.taken 0 at.0 (omega arith))) old.fits;
             })
 
-        went : Goes size s id place 0 part (freed lane next part)
-        went = goes size s kept id place 0 part (freed lane next part) y reached kept.sized here (me_stays core me next reached k.some_node mine)
-            (subst (λ (p : ℕ). Shows y (set s.words p 0) (set s.views id (single (freed lane next part)))) (sym turn) shows)
+        went : Goes size s id place 0 part (informed (x.schedule ++ event ∷ []) (freed lane next part))
+        went = goes size s kept id place 0 part (informed (x.schedule ++ event ∷ []) (freed lane next part)) y reached kept.sized (run_further size x.schedule x.core core event kept.leads stepped) (one_enabled size x.schedule x.core core event kept.enabled kept.leads stepped) refl here (me_stays core me next reached k.some_node mine)
+            (subst (λ (p : ℕ). Shows y (set s.words p 0) (set s.views id (single (informed (x.schedule ++ event ∷ []) (freed lane next part))))) (sym turn) shows)
 
 -- ---- beat
 
-pub beats : (size : Size) (slots id : ℕ) (part : Part) (next : NodeOf) → IsBeating part next
-    → Allows (IsKept size) slots id (single part, []) (own_place size.nodes (me_of part)) (λ n. (n + 1) % 2 ^ 64) (Beats next (step slots (own_place size.nodes (me_of part)) 1 0 none) (single part, []))
-beats size slots id part next may = allows size slots id place part (λ n. (n + 1) % 2 ^ 64) (Beats next (step slots place 1 0 none) (single part, [])) owes
+pub beats : (size : Size) (slots id : ℕ) (part : Part) (event : Event) (next : NodeOf) → IsBeating part event next
+    → Allows (IsKept size) slots id (single part, []) (own_place size.nodes (me_of part)) (λ n. (n + 1) % 2 ^ 64) (Beats event next (step slots (own_place size.nodes (me_of part)) 1 0 none) (single part, []))
+beats size slots id part event next may = allows size slots id place part (λ n. (n + 1) % 2 ^ 64) (Beats event next (step slots place 1 0 none) (single part, [])) owes
   where
     me : ℕ
     me = me_of part
@@ -295,8 +380,12 @@ beats size slots id part next may = allows size slots id place part (λ n. (n + 
     place : ℕ
     place = own_place size.nodes me
 
-    owes : Owes size id place part (λ n. (n + 1) % 2 ^ 64) (Beats next (step slots place 1 0 none) (single part, []))
-    owes s kept here = (with_node_known next part, went, record { view = refl; shown = went.shown; same = went.same })
+    owes : Owes size id place part (λ n. (n + 1) % 2 ^ 64) (Beats event next (step slots place 1 0 none) (single part, []))
+    owes s kept here = (
+      informed (x.schedule ++ event ∷ []) (with_node_known next part),
+      went,
+      record { schedule = x.schedule ++ event ∷ []; view = refl; shown = went.shown; same = went.same; went = made x id part size core event kept.reached kept.sized kept.leads k stepped },
+    )
       where
         x : Whole
         x = kept.whole
@@ -310,11 +399,11 @@ beats size slots id part next may = allows size slots id place part (λ n. (n + 
         core : Core
         core = with_node x.core me next
 
-        stepped : stepping x.core may.event ≡ Some core
-        stepped = stepping_changed x.core core may.event next (subst (λ (n : ℕ). n < nodes_of x) (sym may.own) k.some_node) (side_here x id part may.event k may.own ∙ may.side_is) (ap (λ (n : ℕ). with_node x.core n next) (sym may.own))
+        stepped : stepping x.core event ≡ Some core
+        stepped = stepping_changed x.core core event next (subst (λ (n : ℕ). n < nodes_of x) (sym may.own) k.some_node) (side_here x id part event k may.own ∙ may.side_is) (ap (λ (n : ℕ). with_node x.core n next) (sym may.own))
 
         reached : IsReached core
-        reached = reached_stepping x.core core may.event kept.reached stepped
+        reached = reached_stepping x.core core event kept.reached stepped
 
         mine : node_at core me ≡ next
         mine = get_or-set_same x.core.parts me next no_node (parts_within x.core me kept.reached k.some_node)
@@ -323,7 +412,7 @@ beats size slots id part next may = allows size slots id place part (λ n. (n + 
         same_me = me_stays core me next reached k.some_node mine
 
         y : Whole
-        y = record { core = core; outbound = x.outbound; inbound = x.inbound; owner = x.owner }
+        y = record { core = core; schedule = x.schedule ++ event ∷ []; outbound = x.outbound; inbound = x.inbound; owner = x.owner }
 
         apart : (lane turn j : ℕ) → lane < lane_count (nodes_of x) → j < 11 → cell_place lane turn + j ≢ place
         apart lane turn j lt few = own_apart size.nodes me lane turn j (subst (λ (z : Size). lane < lane_count z.nodes) kept.sized lt) few
@@ -346,13 +435,14 @@ beats size slots id part next may = allows size slots id place part (λ n. (n + 
                   old.fits;
             }
 
-        went : Goes size s id place value part (with_node_known next part)
-        went = goes size s kept id place value part (with_node_known next part) y reached kept.sized here same_me
-            (step_shows x y s.words s.views id place value part (with_node_known next part) kept.shown here
+        went : Goes size s id place value part (informed (x.schedule ++ event ∷ []) (with_node_known next part))
+        went = goes size s kept id place value part (informed (x.schedule ++ event ∷ []) (with_node_known next part)) y reached kept.sized (run_further size x.schedule x.core core event kept.leads stepped) (one_enabled size x.schedule x.core core event kept.enabled kept.leads stepped) refl here same_me
+            (step_shows x y s.words s.views id place value part (informed (x.schedule ++ event ∷ []) (with_node_known next part)) kept.shown here
             (record {
               size = refl;
               owner = λ n. refl;
               me = same_me;
+              further = one_further me x.schedule event may.own;
               others = λ n not. get_or-set_other x.core.parts me n next no_node not;
               outbound = λ lane not. refl;
               inbound = λ lane not. refl;
@@ -360,6 +450,7 @@ beats size slots id part next may = allows size slots id place part (λ n. (n + 
                 some_node = subst (λ (m : ℕ). m < nodes_of x) (sym same_me) k.some_node;
                 mine = ap x.owner same_me ∙ k.mine;
                 node = ap (λ (m : ℕ). node_at core m) same_me ∙ mine;
+                seen = seen_all (informed (x.schedule ++ event ∷ []) (with_node_known next part));
                 outbound_long = k.outbound_long;
                 inbound_long = k.inbound_long;
                 outbound = λ lane lt is. k.outbound lane lt (is ∙ same_me);

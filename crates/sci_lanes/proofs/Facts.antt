@@ -14,8 +14,8 @@ use Rattle.sci_lanes.specs.declared.view.Inbound.{Inbound}
 use Rattle.sci_lanes.specs.declared.view.Part.{Part}
 use Rattle.sci_lanes.specs.declared.view.View.{View}
 use Rattle.sci_lanes.specs.Cells.{word_at}
-use Rattle.sci_lanes.specs.Shown.{Fits, ShowsLane, Whole, me_of, single, inbound_at, IsKnown, Shows}
-use Rattle.sci_lanes.specs.Telling.{IsFront, IsShown}
+use Rattle.sci_lanes.specs.Shown.{AreEnabled, Fits, ShowsLane, Whole, me_of, single, inbound_at, IsKnown, Shows}
+use Rattle.sci_lanes.specs.Telling.{IsFront, IsShown, size_in, state_of}
 
 -- a lane has as many packets as its cells show
 pub lane_length : {words : List ℕ} {place : ℕ} {lane : List Letter} {o : Outbound} {i : Inbound} (s : ShowsLane words place lane o i) → length lane ≡ length s.packets
@@ -38,12 +38,14 @@ front_shown words place lane o i (p ∷ packets) letters f found = record {
 pub known_part : (x : Whole) (seat : ℕ) (part : Part) → IsReached x.core → IsKnown x seat part → IsPart x.core.size (me_of part) part.node
 known_part x seat part reached k = subst (λ n. IsPart x.core.size (me_of part) n) k.node ((reached_well x.core reached).each_part (me_of part) k.some_node)
 
-pub shown : (x : Whole) (words : List ℕ) (views : List View) (seat : ℕ) (part : Part) → IsReached x.core → Shows x words views → get_elem? views seat ≡ some (single part) → IsShown part
-shown x words views seat part reached s here =
+pub shown : (x : Whole) (words : List ℕ) (views : List View) (seat : ℕ) (part : Part) → IsReached x.core → state_of part ≡ x.core → AreEnabled (size_in part) [] part.schedule → Shows x words views → get_elem? views seat ≡ some (single part) → IsShown part
+shown x words views seat part reached leads enabled s here =
     let k : IsKnown x seat part = (s.known seat (single part) here).0 in
     record {
       core = x.core;
       reached = reached;
+      leads = leads;
+      enabled = enabled;
       some_node = k.some_node;
       here = k.node;
       outbound_long = k.outbound_long;

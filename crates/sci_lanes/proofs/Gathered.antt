@@ -5,26 +5,27 @@ use Rattle.std.proofs.Math.Nat.{mod-lt}
 use Rattle.std.proofs.lemmas.Bool.{cases_lt, lt-ltb, le-ltb}
 use Rattle.std.proofs.lemmas.List.{ext_get_or, get_or_past}
 use Rattle.std.proofs.lemmas.Option.{slice_get-get_or}
+use Rattle.sci_words.specs.declared.event.Event.{Event}
 use Rattle.sci_words.specs.declared.extent.Extent.{Extent}
 use Rattle.sci_words.specs.declared.limits.TheConstants.{MAX_NODES}
 use Rattle.sci_words.specs.declared.stamped.Stamped.{Stamped}
 use Rattle.sci_history.specs.declared.entry.Entry.{Entry}
 use Rattle.sci_history.specs.Placed.{log_of}
 use Rattle.sci_cache.specs.Cache.{Letter}
-use Rattle.sci_core.specs.Size.{Size, size_of}
+use Rattle.sci_core.specs.Size.{Size, IsSize, size_of}
 use Rattle.sci_core.specs.Node.{NodeOf, no_node}
-use Rattle.sci_core.specs.Core.{core_of, node_at, lane_at}
+use Rattle.sci_core.specs.Core.{Core, core_of, node_at, lane_at, run}
 use Rattle.sci_core.specs.Reached.{IsReached}
 use Rattle.sci_core.specs.Outcome.{logs_of}
 use Rattle.sci_core.proofs.WellFormedSteps.{reached_well}
 use Rattle.sci_core.proofs.Logs.{all_logs}
-use Rattle.sci_core.proofs.ReachedLaws.{log_at, log_beyond}
+use Rattle.sci_core.proofs.ReachedLaws.{log_at, log_beyond, schedule_log}
 use Rattle.sci_lanes.specs.declared.view.Part.{Part}
 use Rattle.sci_lanes.specs.Cells.{lane_count, receiver_of, word_count}
-use Rattle.sci_lanes.specs.Shown.{Fits, nodes_of, me_of, IsKnown}
+use Rattle.sci_lanes.specs.Shown.{AreEnabled, Fits, nodes_of, me_of, IsKnown, IsSeen}
 use Rattle.sci_lanes.specs.Telling.{no_part, size_in}
 use Rattle.sci_lanes.specs.Ends.{EndOf, LanesOf}
-use Rattle.sci_lanes.specs.Gathering.{IsOf, AreAll, AreGathered, AreJoined, AreKept, AreLanes, AreLogged, HasNodes, HaveInboxTurns, HaveLogs, IsReadOff, TakesFrom}
+use Rattle.sci_lanes.specs.Gathering.{IsOf, AreAll, AreGathered, AreJoined, AreKept, AreLanes, AreLogged, AreMadeBy, HasNodes, HaveInboxTurns, HaveLogs, IsReadOff, TakesFrom}
 use Rattle.sci_lanes.proofs.Keeping.{all_at}
 use Rattle.sci_lanes.proofs.Events.{count_is}
 use Rattle.sci_lanes.proofs.Allowed.{size_known}
@@ -40,19 +41,27 @@ module _ {Z : Type 0} where
 
   module _ (table : LanesOf) (extent : Extent) (limit : ℕ) (ends : List EndOf) (parts : List Part) (nodes : List NodeOf) (inbox_turns : List (Vec ℕ Z)) (words : List ℕ) (lanes : List (List Letter))
       (some : 0 < extent.nodes) (size_is : table.size ≡ size_of extent limit) (own : (place : ℕ) (end : EndOf) → slice_get ends place ≡ Some end → IsOf table end) (all : AreAll extent.nodes ends) (j : AreJoined extent.nodes extent.nodes parts nodes inbox_turns)
-      (kept : AreKept ends [] nodes) (r : IsReadOff (record { parts = parts; words = words })) (long : length words ≡ word_count extent.nodes) (read : AreLanes extent.nodes words inbox_turns (lane_count extent.nodes) lanes) where
+      (kept : AreKept ends [] parts) (r : IsReadOff (record { parts = parts; words = words })) (long : length words ≡ word_count extent.nodes) (read : AreLanes extent.nodes words inbox_turns (lane_count extent.nodes) lanes) where
     n : ℕ
     n = extent.nodes
 
     part_at : (k : ℕ) → k < extent.nodes → IsKnown r.whole r.seat (get_or parts k no_part)
     part_at k lt = all_at (IsKnown r.whole r.seat) parts k (get_or parts k no_part) (slice_get-get_or parts k no_part (let count = j.parts_long in omega arith)) r.known
 
-    -- the node of each end is there
-    pub end_node : (place : ℕ) (end : EndOf) → slice_get ends place ≡ Some end → get_or nodes (me_of end.part) no_node ≡ end.part.node
-    end_node place end is = elim (kept place end is) [ inl none ↦ absurd (nothing none.0 end none.1) | inr there ↦ there.1 ]
+    -- what each end knows is there
+    end_part : (place : ℕ) (end : EndOf) → slice_get ends place ≡ Some end → (me_of end.part < extent.nodes) × (get_or parts (me_of end.part) no_part ≡ end.part)
+    end_part place end is = elim (kept place end is) [ inl none ↦ absurd (nothing none.0 end none.1) | inr there ↦ (subst (λ (m : ℕ). me_of end.part < m) j.parts_long there.0, there.1) ]
       where
         nothing : (k : ℕ) (e : EndOf) → slice_get [] k ≡ Some e → ⊥
         nothing k e h = cc
+
+    -- the node of each end is there
+    pub end_node : (place : ℕ) (end : EndOf) → slice_get ends place ≡ Some end → get_or nodes (me_of end.part) no_node ≡ end.part.node
+    end_node place end is = let h = end_part place end is in (j.each (me_of end.part) h.0).node ∙ ap (λ (x : Part). x.node) h.1
+
+    -- each end knows a beginning of the schedule
+    pub end_seen : (place : ℕ) (end : EndOf) → slice_get ends place ≡ Some end → IsSeen end.part r.whole.schedule
+    end_seen place end is = let h = end_part place end is in subst (λ (x : Part). IsSeen x r.whole.schedule) h.1 (part_at (me_of end.part) h.0).seen
 
     sized : r.whole.core.size ≡ size_of extent limit
     sized =
@@ -60,7 +69,7 @@ module _ {Z : Type 0} where
         let k = part_at 0 some in
         let first = j.each 0 some in
         let node : (get_or parts 0 no_part).node ≡ e.end.part.node = sym first.node ∙ (ap (λ (m : ℕ). get_or nodes m no_node) (sym e.numbered) ∙ end_node e.place e.end e.there) in
-        sym (size_known r.whole r.seat (get_or parts 0 no_part) r.whole.core.size r.reached refl k) ∙ (ap (λ (x : NodeOf). size_in (record { node = x; outbound = []; inbound = [] })) node ∙ ((own e.place e.end e.there).sized ∙ size_is))
+        sym (size_known r.whole r.seat (get_or parts 0 no_part) r.whole.core.size r.reached refl k) ∙ (ap (λ (x : NodeOf). size_in (record { node = x; schedule = []; outbound = []; inbound = [] })) node ∙ ((own e.place e.end e.there).sized ∙ size_is))
 
     count : nodes_of r.whole ≡ extent.nodes
     count = ap (λ z. z.nodes) sized
@@ -98,6 +107,13 @@ module _ {Z : Type 0} where
     pub reached_core : IsReached (core_of extent limit nodes lanes)
     reached_core = subst IsReached core_is r.reached
 
+    -- the schedule leads there
+    pub led_core : run (size_of extent limit) r.whole.schedule ≡ core_of extent limit nodes lanes
+    led_core = ap (λ (z : Size). run z r.whole.schedule) (sym sized) ∙ (r.leads ∙ core_is)
+
+    pub led_enabled : AreEnabled (size_of extent limit) [] r.whole.schedule
+    led_enabled = subst (λ (z : Size). AreEnabled z [] r.whole.schedule) sized r.enabled
+
     -- the logs of the ends are its logs
     pub logs_there : (logs : List (List Entry)) → AreLogged extent.nodes ends logs → logs ≡ logs_of (core_of extent limit nodes lanes)
     logs_there logs a = all_logs (core_of extent limit nodes lanes) logs extent.nodes j.nodes_long a.sixteen each
@@ -107,6 +123,10 @@ module _ {Z : Type 0} where
           | inl lt ↦ rw (lt-ltb k extent.nodes lt) (let h = a.here k lt in h.4 ∙ ap (λ (x : NodeOf). x.log) (sym (ap (λ (m : ℕ). get_or nodes m no_node) (sym h.3) ∙ end_node h.0 h.1 h.2)))
           | inr le ↦ rw (le-ltb k extent.nodes le) (a.none k le)
         ]
+
+-- logs of the state where a schedule leads are what it makes
+pub logs_made : (size : Size) (schedule : List Event) (core : Core) (logs : List (List Entry)) → IsSize size → run size schedule ≡ core → logs ≡ logs_of core → AreMadeBy size schedule logs
+logs_made size schedule core logs sizes leads is n lt = ap (λ ls. log_of ls n) is ∙ (log_at core n lt ∙ (ap (λ (x : Core). (node_at x n).log) (sym leads) ∙ schedule_log size schedule n sizes))
 
 -- the log of each end is its node's
 pub node_log : (size : Size) (ends : List EndOf) (logs : List (List Entry)) (last : List Stamped) → AreGathered size ends logs last → HaveLogs ends logs

@@ -9,9 +9,10 @@ use lib.ListN.{get_elem?, length-append}
 use Rattle.atomic_table.specs.Table.{Joins, Allows, State, step, keeps}
 use Rattle.atomic_table.proofs.Lists.{at_set, set_here}
 use Rattle.sci_core.specs.Size.{Size}
+use Rattle.sci_core.specs.Core.{run}
 use Rattle.sci_lanes.specs.declared.view.View.{View}
 use Rattle.sci_lanes.specs.Cells.{word_count}
-use Rattle.sci_lanes.specs.Shown.{Whole, nodes_of, IsKnown, HasRead, IsCovered, Shows, IsKept}
+use Rattle.sci_lanes.specs.Shown.{AreEnabled, Whole, nodes_of, IsKnown, HasRead, IsCovered, Shows, IsKept}
 use Rattle.sci_lanes.specs.Ends.{no_view}
 use Rattle.sci_lanes.specs.Gathering.{Gathers, HasNodes, both_views, read_more}
 use Rattle.sci_lanes.proofs.Keeping.{all_at}
@@ -109,6 +110,8 @@ module _ (size : Size) (slots id place : ℕ) (view : View) (every : HasNodes si
       whole = kept.whole;
       reached = kept.reached;
       sized = kept.sized;
+      leads = kept.leads;
+      enabled = kept.enabled;
       shown = subst (λ (ws : List ℕ). Shows kept.whole ws (set s.views id (after s kept here))) (sym (set-get_or s.words place 0)) (shows s kept here);
     },
     record {
@@ -118,6 +121,8 @@ module _ (size : Size) (slots id place : ℕ) (view : View) (every : HasNodes si
         seat = id;
         words = s.words;
         reached = kept.reached;
+        leads = ap (λ (z : Size). run z kept.whole.schedule) kept.sized ∙ kept.leads;
+        enabled = subst (λ (z : Size). AreEnabled z [] kept.whole.schedule) (sym kept.sized) kept.enabled;
         long = kept.shown.long;
         lanes = kept.shown.lanes;
         known = known_parts s kept here;

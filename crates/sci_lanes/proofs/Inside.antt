@@ -10,7 +10,8 @@ use Rattle.sci_lanes.specs.declared.view.Outbound.{Outbound}
 use Rattle.sci_lanes.specs.declared.view.Inbound.{Inbound}
 use Rattle.sci_lanes.specs.declared.view.Part.{Part}
 use Rattle.sci_lanes.specs.Cells.{lane_count, receiver_of, lane_number}
-use Rattle.sci_lanes.specs.Shown.{me_of, no_outbound, no_inbound, outbound_at, inbound_at}
+use Rattle.sci_words.specs.declared.event.Event.{Event}
+use Rattle.sci_lanes.specs.Shown.{me_of, informed, no_outbound, no_inbound, outbound_at, inbound_at}
 use Rattle.sci_lanes.specs.Knowing.{has_sent_more, with_lane_known, looked_in, looked_out, looked, is_sending, is_receiving, filled, filled_out, read, read_in, published, published_out, freed, freed_in, with_node_known}
 use Rattle.sci_lanes.specs.Telling.{IsShown, IsSameNode}
 use Rattle.sci_lanes.specs.Ends.{nodes_in, lane_at_cell, FitsInside}
@@ -38,10 +39,10 @@ pub record IsChange (part : Part) (me nodes : ℕ) (turns turns' inbox_turns inb
   pub taken : receiver_of nodes lane ≡ me → get_or inbox_turns' (lane / nodes) 0 ≡ i.taken % 4
   pub taken_same : (other : ℕ) → other ≢ lane → receiver_of nodes other ≡ me → get_or inbox_turns' (other / nodes) 0 ≡ get_or inbox_turns (other / nodes) 0
 
-pub inside_changed : (part : Part) (node : NodeOf) (me nodes : ℕ) (turns turns' inbox_turns inbox_turns' : List ℕ) (lane : ℕ) (next node' : NodeOf) (o : Outbound) (i : Inbound) → FitsInside part node me nodes turns inbox_turns
-    → IsChange part me nodes turns turns' inbox_turns inbox_turns' lane o i → IsShown (with_lane_known lane next o i part) → node' ≡ next → next.cache.me ≡ me_of part → next.cache.nodes ≡ nodes_in part
-    → FitsInside (with_lane_known lane next o i part) node' me nodes turns' inbox_turns'
-inside_changed part node me nodes turns turns' inbox_turns inbox_turns' lane next node' o i f c shown node_is same_me same_nodes =
+pub inside_changed : (part : Part) (node : NodeOf) (me nodes : ℕ) (turns turns' inbox_turns inbox_turns' : List ℕ) (lane : ℕ) (schedule : List Event) (next node' : NodeOf) (o : Outbound) (i : Inbound) → FitsInside part node me nodes turns inbox_turns
+    → IsChange part me nodes turns turns' inbox_turns inbox_turns' lane o i → IsShown (informed schedule (with_lane_known lane next o i part)) → node' ≡ next → next.cache.me ≡ me_of part → next.cache.nodes ≡ nodes_in part
+    → FitsInside (informed schedule (with_lane_known lane next o i part)) node' me nodes turns' inbox_turns'
+inside_changed part node me nodes turns turns' inbox_turns inbox_turns' lane schedule next node' o i f c shown node_is same_me same_nodes =
     let out_in : lane < length part.outbound = subst (λ (n : ℕ). lane < n) (sym f.outbound_long) c.lane_ok in
     let in_in : lane < length part.inbound = subst (λ (n : ℕ). lane < n) (sym f.inbound_long) c.lane_ok in
     let out_here : get_or (set part.outbound lane o) lane no_outbound ≡ o = get_or-set_same part.outbound lane o no_outbound out_in in
@@ -93,17 +94,17 @@ module _ (part : Part) (node : NodeOf) (me nodes : ℕ) (turns inbox_turns : Lis
     taken_same = λ other apart is. refl;
   }
 
-  pub filled_inside : (new : Part) (index word : ℕ) → new ≡ filled lane index word part → IsShown new → FitsInside new node me nodes turns inbox_turns
+  pub filled_inside : (new : Part) (index word : ℕ) → new ≡ informed new.schedule (filled lane index word part) → IsShown new → FitsInside new node me nodes turns inbox_turns
   filled_inside new index word is shown =
       subst (λ (p : Part). FitsInside p node me nodes turns inbox_turns) (sym is)
-      (inside_changed part node me nodes turns turns inbox_turns inbox_turns lane part.node node (filled_out index word (outbound_at part lane)) (inbound_at part lane) f
+      (inside_changed part node me nodes turns turns inbox_turns inbox_turns lane new.schedule part.node node (filled_out index word (outbound_at part lane)) (inbound_at part lane) f
       (unturned (filled_out index word (outbound_at part lane)) (inbound_at part lane) refl refl)
       (subst IsShown is shown) f.node_is refl refl)
 
-  pub read_inside : (new : Part) (index word : ℕ) → new ≡ read lane index word part → IsShown new → FitsInside new node me nodes turns inbox_turns
+  pub read_inside : (new : Part) (index word : ℕ) → new ≡ informed new.schedule (read lane index word part) → IsShown new → FitsInside new node me nodes turns inbox_turns
   read_inside new index word is shown =
       subst (λ (p : Part). FitsInside p node me nodes turns inbox_turns) (sym is)
-      (inside_changed part node me nodes turns turns inbox_turns inbox_turns lane part.node node (outbound_at part lane) (read_in index word (inbound_at part lane)) f
+      (inside_changed part node me nodes turns turns inbox_turns inbox_turns lane new.schedule part.node node (outbound_at part lane) (read_in index word (inbound_at part lane)) f
       (unturned (outbound_at part lane) (read_in index word (inbound_at part lane)) refl refl)
       (subst IsShown is shown) f.node_is refl refl)
 
@@ -115,24 +116,24 @@ module _ (part : Part) (node : NodeOf) (me nodes : ℕ) (turns inbox_turns : Lis
   in_taken true sure word i = refl
   in_taken false sure word i = refl
 
-  pub looked_inside : (new : Part) (word : ℕ) → new ≡ looked lane cell.number word part → IsShown new → FitsInside new node me nodes turns inbox_turns
+  pub looked_inside : (new : Part) (word : ℕ) → new ≡ informed new.schedule (looked lane cell.number word part) → IsShown new → FitsInside new node me nodes turns inbox_turns
   looked_inside new word is shown =
       let o = if is_sending part lane cell.number then looked_out word (outbound_at part lane) else outbound_at part lane in
       let i = if is_receiving part lane cell.number then looked_in (has_sent_more part lane) word (inbound_at part lane) else inbound_at part lane in
       subst (λ (p : Part). FitsInside p node me nodes turns inbox_turns) (sym is)
-      (inside_changed part node me nodes turns turns inbox_turns inbox_turns lane part.node node o i f
+      (inside_changed part node me nodes turns turns inbox_turns inbox_turns lane new.schedule part.node node o i f
       (unturned o i (out_sent (is_sending part lane cell.number) word (outbound_at part lane)) (in_taken (is_receiving part lane cell.number) (has_sent_more part lane) word (inbound_at part lane)))
       (subst IsShown is shown) f.node_is refl refl)
 
-  pub published_inside : (new : Part) (next node' : NodeOf) (turn : ℕ) → cell.number ≡ (outbound_at part lane).sent % 4 → turn ≡ (cell.number + 1) % 4 → new ≡ published lane next part → IsShown new → node' ≡ next → IsSameNode part new
+  pub published_inside : (new : Part) (next node' : NodeOf) (turn : ℕ) → cell.number ≡ (outbound_at part lane).sent % 4 → turn ≡ (cell.number + 1) % 4 → new ≡ informed new.schedule (published lane next part) → IsShown new → node' ≡ next → IsSameNode part new
       → FitsInside new node' me nodes (set turns (lane_number nodes cell) turn) inbox_turns
   published_inside new next node' turn number turn_is is shown node_is same =
       let o = published_out (outbound_at part lane) in
       let here : lane_number nodes cell ≡ lane = ap (λ (n : ℕ). lane_number n cell) f.nodes_is in
       let within : lane < length turns = subst (λ (n : ℕ). lane < n) (sym f.turns_long) lane_here in
-      let same' : IsSameNode part (published lane next part) = subst (λ (p : Part). IsSameNode part p) is same in
+      let same' : IsSameNode part (informed new.schedule (published lane next part)) = subst (λ (p : Part). IsSameNode part p) is same in
       subst (λ (p : Part). FitsInside p node' me nodes (set turns (lane_number nodes cell) turn) inbox_turns) (sym is)
-      (inside_changed part node me nodes turns (set turns (lane_number nodes cell) turn) inbox_turns inbox_turns lane next node' o (inbound_at part lane) f
+      (inside_changed part node me nodes turns (set turns (lane_number nodes cell) turn) inbox_turns inbox_turns lane new.schedule next node' o (inbound_at part lane) f
       (record {
         lane_ok = lane_here;
         turns_long = length-set turns (lane_number nodes cell) turn;
@@ -144,15 +145,15 @@ module _ (part : Part) (node : NodeOf) (me nodes : ℕ) (turns inbox_turns : Lis
       })
       (subst IsShown is shown) node_is same'.me (ap (λ z. z.nodes) same'.sized))
 
-  pub freed_inside : (new : Part) (next node' : NodeOf) (turn : ℕ) → cell.receiver ≡ me_of part → cell.number ≡ (inbound_at part lane).taken % 4 → turn ≡ (cell.number + 1) % 4 → new ≡ freed lane next part → IsShown new → node' ≡ next → IsSameNode part new
+  pub freed_inside : (new : Part) (next node' : NodeOf) (turn : ℕ) → cell.receiver ≡ me_of part → cell.number ≡ (inbound_at part lane).taken % 4 → turn ≡ (cell.number + 1) % 4 → new ≡ informed new.schedule (freed lane next part) → IsShown new → node' ≡ next → IsSameNode part new
       → FitsInside new node' me nodes turns (set inbox_turns (lane_number nodes cell / nodes) turn)
   freed_inside new next node' turn mine number turn_is is shown node_is same =
       let i = freed_in (inbound_at part lane) in
       let here : lane_number nodes cell ≡ lane = ap (λ (n : ℕ). lane_number n cell) f.nodes_is in
       let receives : receiver_of nodes lane ≡ me = subst (λ (n : ℕ). receiver_of n lane ≡ me) (sym f.nodes_is) (at.receiver ∙ (mine ∙ sym f.me_is)) in
-      let same' : IsSameNode part (freed lane next part) = subst (λ (p : Part). IsSameNode part p) is same in
+      let same' : IsSameNode part (informed new.schedule (freed lane next part)) = subst (λ (p : Part). IsSameNode part p) is same in
       subst (λ (p : Part). FitsInside p node' me nodes turns (set inbox_turns (lane_number nodes cell / nodes) turn)) (sym is)
-      (inside_changed part node me nodes turns turns inbox_turns (set inbox_turns (lane_number nodes cell / nodes) turn) lane next node' (outbound_at part lane) i f
+      (inside_changed part node me nodes turns turns inbox_turns (set inbox_turns (lane_number nodes cell / nodes) turn) lane new.schedule next node' (outbound_at part lane) i f
       (record {
         lane_ok = lane_here;
         turns_long = refl;
@@ -165,10 +166,10 @@ module _ (part : Part) (node : NodeOf) (me nodes : ℕ) (turns inbox_turns : Lis
       })
       (subst IsShown is shown) node_is same'.me (ap (λ z. z.nodes) same'.sized))
 
-pub beaten_inside : (part new : Part) (node : NodeOf) (me nodes : ℕ) (turns inbox_turns : List ℕ) (next node' : NodeOf) → FitsInside part node me nodes turns inbox_turns → new ≡ with_node_known next part → IsShown new → node' ≡ next → IsSameNode part new
+pub beaten_inside : (part new : Part) (node : NodeOf) (me nodes : ℕ) (turns inbox_turns : List ℕ) (next node' : NodeOf) → FitsInside part node me nodes turns inbox_turns → new ≡ informed new.schedule (with_node_known next part) → IsShown new → node' ≡ next → IsSameNode part new
     → FitsInside new node' me nodes turns inbox_turns
 beaten_inside part new node me nodes turns inbox_turns next node' f is shown node_is same =
-    let same' : IsSameNode part (with_node_known next part) = subst (λ (p : Part). IsSameNode part p) is same in
+    let same' : IsSameNode part (informed new.schedule (with_node_known next part)) = subst (λ (p : Part). IsSameNode part p) is same in
     subst (λ (p : Part). FitsInside p node' me nodes turns inbox_turns) (sym is)
     (record {
       shown = subst IsShown is shown;

@@ -61,7 +61,7 @@ module _ {Z : Type 0} where
   -- the first nodes are joined, and the ends of the others are left
   pub record AreJoining (table : TableId) (all count : ℕ) (ends left : List EndOf) (parts : List Part) (nodes : List NodeOf) (inbox_turns : List (Vec ℕ Z)) : Type 0 where
     pub joined : AreJoined all count parts nodes inbox_turns
-    pub kept : AreKept ends left nodes
+    pub kept : AreKept ends left parts
     pub rest : length left + count ≡ all
     pub every : (n : ℕ) → count ≤ n → n < all → HasEndOf left n
     pub own : (place : ℕ) (end : EndOf) → slice_get left place ≡ Some end → (end.table ≡ table) × (nodes_in end.part ≡ all)
@@ -102,18 +102,18 @@ module _ {Z : Type 0} where
           })
     ]
 
-    kept_new : AreKept ends (remove left place) (nodes ++ node ∷ [])
+    kept_new : AreKept ends (remove left place) (parts ++ end.part ∷ [])
     kept_new k e is =
-        let long = j.joined.nodes_long in
-        let pushed : length (nodes ++ node ∷ []) ≡ length nodes + 1 = length_push nodes node in
+        let long = j.joined.parts_long in
+        let pushed : length (parts ++ end.part ∷ []) ≡ length parts + 1 = length_push parts end.part in
         elim (j.kept k e is) [
           | inl still ↦ elim (is_left left place still.0 end e there still.1) [
             | inl same ↦ (
                 let me : me_of e.part ≡ count = ap (λ (x : EndOf). me_of x.part) (sym same) ∙ numbered in
-                inr (omega arith, get_or_push nodes node no_node (me_of e.part) (long ∙ sym me) ∙ (node_is ∙ ap (λ (x : EndOf). x.part.node) same)))
+                inr (omega arith, get_or_push parts end.part no_part (me_of e.part) (long ∙ sym me) ∙ ap (λ (x : EndOf). x.part) same))
             | inr more ↦ inl more
           ]
-          | inr joined ↦ inr (omega (arith, joined.0, pushed), get_or_append_left nodes (node ∷ []) no_node (me_of e.part) joined.0 ∙ joined.1)
+          | inr joined ↦ inr (omega (arith, joined.0, pushed), get_or_append_left parts (end.part ∷ []) no_part (me_of e.part) joined.0 ∙ joined.1)
         ]
 
     pub one_joined : AreJoining table all (count + 1) ends (remove left place) (parts ++ end.part ∷ []) (nodes ++ node ∷ []) (inbox_turns ++ turns ∷ [])

@@ -3,15 +3,16 @@ use Rattle.std.proofs.Common.{◌≡◌, ◌≢◌, ℕ, zero, suc, ◌<◌, inl
 use Rattle.std.specs.Prelude.{slice_get}
 use Rattle.std.specs.List.{AllByRecursion}
 use Rattle.std.proofs.lemmas.Bool.{cases_eq}
-use Rattle.std.proofs.lemmas.List.{length-set}
+use Rattle.std.proofs.lemmas.List.{append-nil, append_assoc, length-set}
+use Rattle.sci_words.specs.declared.event.Event.{Event}
 use mathlib.Core.Option.{some, some-injective, some-ne-none}
 use lib.ListN.{get_elem?}
 use Rattle.atomic_table.proofs.Lists.{at_set, set_here, set_else}
-use Rattle.sci_core.specs.Core.{node_at, lane_at}
+use Rattle.sci_core.specs.Core.{node_at, node_of, lane_at}
 use Rattle.sci_lanes.specs.declared.view.Part.{Part}
 use Rattle.sci_lanes.specs.declared.view.View.{View}
 use Rattle.sci_lanes.specs.Cells.{lane_count, sender_of, receiver_of, word_count}
-use Rattle.sci_lanes.specs.Shown.{Whole, nodes_of, me_of, single, ShowsLane, IsKnown, HasRead, IsCovered, Shows}
+use Rattle.sci_lanes.specs.Shown.{Whole, nodes_of, me_of, single, ShowsLane, IsKnown, IsSeen, HasRead, IsCovered, Shows}
 
 -- ---- lists
 
@@ -61,6 +62,32 @@ pub read_nothing : (x y : Whole) (seat n : ℕ) (words others read : List ℕ) �
 read_nothing x y seat n words others [] few apart h = read_none y seat others
 read_nothing x y seat n words others (w ∷ read) few apart h = absurd (apart (h.every (omega arith) n few))
 
+-- ---- schedules
+
+-- a schedule goes on by events of this node
+pub record IsFurther (n : ℕ) (old new : List Event) : Type 0 where
+  pub events : List Event
+  pub more : new ≡ old ++ events
+  pub own : AllByRecursion (λ e. node_of e ≡ n) events
+
+pub no_further : (n : ℕ) (schedule : List Event) → IsFurther n schedule schedule
+no_further n schedule = record { events = []; more = sym (append-nil schedule); own = tt }
+
+pub one_further : (n : ℕ) (schedule : List Event) (e : Event) → node_of e ≡ n → IsFurther n schedule (schedule ++ e ∷ [])
+one_further n schedule e own = record { events = e ∷ []; more = refl; own = (own, tt) }
+
+-- a part knows all that it knows
+pub seen_all : (p : Part) → IsSeen p p.schedule
+seen_all p = record { others = []; further = sym (append-nil p.schedule); apart = tt }
+
+-- what another's part knows stays a beginning
+pub seen_further : (p : Part) (n : ℕ) (old new : List Event) → me_of p ≢ n → IsFurther n old new → IsSeen p old → IsSeen p new
+seen_further p n old new not f s = record {
+  others = s.others ++ f.events;
+  further = f.more ∙ (ap (λ (es : List Event). es ++ f.events) s.further ∙ append_assoc p.schedule s.others f.events);
+  apart = all_join (λ e. node_of e ≢ me_of p) s.others f.events s.apart (all_by (λ e. node_of e ≡ n) (λ e. node_of e ≢ me_of p) (λ e own is. not (sym is ∙ own)) f.events f.own);
+}
+
 -- ---- one step of a seat that has one node
 
 -- A whole after a step: the node of the part and what it knows may have changed, and nothing of other nodes.
@@ -68,6 +95,7 @@ pub record Turned (x y : Whole) (seat : ℕ) (part next : Part) : Type 0 where
   pub size : nodes_of y ≡ nodes_of x
   pub owner : (n : ℕ) → y.owner n ≡ x.owner n
   pub me : me_of next ≡ me_of part
+  pub further : IsFurther (me_of part) x.schedule y.schedule
   pub others : (n : ℕ) → n ≢ me_of part → node_at y.core n ≡ node_at x.core n
   pub outbound : (lane : ℕ) → sender_of (nodes_of x) lane ≢ me_of part → y.outbound lane ≡ x.outbound lane
   pub inbound : (lane : ℕ) → receiver_of (nodes_of x) lane ≢ me_of part → y.inbound lane ≡ x.inbound lane
@@ -83,6 +111,7 @@ other_known x y seat other part next p apart mine t k =
       some_node = subst (λ (m : ℕ). me_of p < m) (sym size) k.some_node;
       mine = t.owner (me_of p) ∙ k.mine;
       node = t.others (me_of p) not_me ∙ k.node;
+      seen = seen_further p (me_of part) x.schedule y.schedule not_me t.further k.seen;
       outbound_long = k.outbound_long ∙ ap lane_count (sym size);
       inbound_long = k.inbound_long ∙ ap lane_count (sym size);
       outbound = λ lane lt is.

@@ -24,7 +24,7 @@ use Rattle.sci_lanes.specs.Cells.{cell_place, lane_count, word_count}
 use Rattle.sci_lanes.specs.Shown.{Fits, Whole, me_of, no_outbound, no_inbound, single, opening_part, first_view, IsKnown, HasRead, IsKept}
 use Rattle.sci_lanes.specs.Telling.{IsShown, part_of, size_in}
 use Rattle.sci_lanes.specs.Ends.{FitsInside, rest_view, no_view, first_off, first_only, EndOf, IsSeated, opening_ends}
-use Rattle.sci_lanes.proofs.Keeping.{read_none}
+use Rattle.sci_lanes.proofs.Keeping.{read_none, seen_all}
 use Rattle.sci_lanes.proofs.Sharing.{splits}
 
 reached_opening : (size : Size) → IsMachineSize size → IsReached (opening size)
@@ -59,11 +59,12 @@ fits_opened words lane zeros = record {
 }
 
 -- a part of the opening state
-known_opened : (size : Size) (n : ℕ) → n < size.nodes → IsKnown (record { core = opening size; outbound = λ l. no_outbound; inbound = λ l. no_inbound; owner = λ m. 0 }) 0 (opening_part size n)
+known_opened : (size : Size) (n : ℕ) → n < size.nodes → IsKnown (record { core = opening size; schedule = []; outbound = λ l. no_outbound; inbound = λ l. no_inbound; owner = λ m. 0 }) 0 (opening_part size n)
 known_opened size n lt = record {
   some_node = lt;
   mine = refl;
   node = node_opened size n lt;
+  seen = seen_all (opening_part size n);
   outbound_long = length-replicate (lane_count size.nodes) no_outbound;
   inbound_long = length-replicate (lane_count size.nodes) no_inbound;
   outbound = λ lane less is. replicated (lane_count size.nodes) lane no_outbound;
@@ -84,6 +85,8 @@ opened size words ok long zeros = record {
   whole = x;
   reached = reached_opening size ok;
   sized = refl;
+  leads = refl;
+  enabled = tt;
   shown = record {
     long = long;
     lanes = λ lane lt. record { packets = []; letters = sym (lane_opened size lane); fits = fits_opened words lane zeros };
@@ -94,7 +97,7 @@ opened size words ok long zeros = record {
 }
   where
     x : Whole
-    x = record { core = opening size; outbound = λ l. no_outbound; inbound = λ l. no_inbound; owner = λ m. 0 }
+    x = record { core = opening size; schedule = []; outbound = λ l. no_outbound; inbound = λ l. no_inbound; owner = λ m. 0 }
 
     known : (seat : ℕ) (view : View) → get_elem? (first_view size ∷ []) seat ≡ some view → AllByRecursion (IsKnown x seat) view.parts
     known zero view e = subst (λ (v : View). AllByRecursion (IsKnown x 0) v.parts) (some-injective (first_view size) view e) (all_opened (IsKnown x 0) size 0 size.nodes (λ n le lt. known_opened size n (omega arith)))
@@ -125,10 +128,15 @@ split_right size n view lt is = ap first_only (is ∙ rest_is size n lt)
 
 -- ---- ends
 
+pub size_opened : (size : Size) (m : ℕ) → size_in (opening_part size m) ≡ size
+size_opened size m = λ i. record { nodes = size.nodes; lines = length-replicate size.lines untouched i; slots = size.slots; limit = size.limit }
+
 pub shown_opened : (size : Size) (n : ℕ) → IsMachineSize size → n < size.nodes → IsShown (opening_part size n)
 shown_opened size n ok lt = record {
   core = opening size;
   reached = reached_opening size ok;
+  leads = ap (λ (z : Size). opening z) (size_opened size n);
+  enabled = tt;
   some_node = lt;
   here = node_opened size n lt;
   outbound_long = length-replicate (lane_count size.nodes) no_outbound;
@@ -170,9 +178,6 @@ machine_size extent limit some_operation few = record {
   some_operation = some_operation;
   few_operations = few;
 }
-
-pub size_opened : (size : Size) (m : ℕ) → size_in (opening_part size m) ≡ size
-size_opened size m = λ i. record { nodes = size.nodes; lines = length-replicate size.lines untouched i; slots = size.slots; limit = size.limit }
 
 pub seated_opened : (extent : Extent) (limit n : ℕ) (key : Extent × ℕ) (table seat : TableId) (knows : Me (Unit {0}) View) → IsMachineSize (size_of extent limit) → n < extent.nodes → key ≡ (extent, limit) → seat ≡ table → seat.words ≡ word_count extent.nodes
     → knows ≡ (single (opening_part (size_of extent limit) n), []) → IsSeated key table seat knows

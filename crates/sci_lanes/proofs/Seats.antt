@@ -1,5 +1,5 @@
 -- What a seat that has one node owes at each step, and what it is after it.
-use Rattle.std.proofs.Common.{◌≡◌, ℕ, ◌+◌, ◌%◌, ◌^◌, ◌<◌, ◌⊎◌, inl, inr, true, [], sym, ap, subst, ◌∙◌, arith}
+use Rattle.std.proofs.Common.{◌≡◌, ℕ, List, ◌+◌, ◌%◌, ◌^◌, ◌<◌, ◌⊎◌, inl, inr, true, [], sym, ap, subst, ◌∙◌, arith}
 use Rattle.std.proofs.lemmas.Bool.{and_from, eq-eqb}
 use mathlib.Core.Option.{none}
 use Rattle.atomic_table.specs.Table.{Me, step, Allows}
@@ -12,7 +12,8 @@ use Rattle.sci_lanes.specs.declared.cell.CellId.{CellId}
 use Rattle.sci_lanes.specs.declared.view.Part.{Part}
 use Rattle.sci_lanes.specs.declared.view.View.{View}
 use Rattle.sci_lanes.specs.Cells.{cell_place, own_place, lane_count, sender_of, receiver_of, lane_number, word_count}
-use Rattle.sci_lanes.specs.Shown.{me_of, single, outbound_at, IsKept}
+use Rattle.sci_words.specs.declared.event.Event.{Event}
+use Rattle.sci_lanes.specs.Shown.{me_of, single, informed, outbound_at, IsKept}
 use Rattle.sci_lanes.specs.Knowing.{is_sending}
 use Rattle.sci_lanes.specs.Telling.{part_of, size_in, IsShown, IsSameNode, IsSending, IsTaking, IsBeating, Tells}
 use Rattle.sci_lanes.specs.Plays.{lane_in, number_in, index_in, LooksAt, Looks, Fills, Reads, Publishes, Frees, Beats}
@@ -83,9 +84,9 @@ look_asks key table seat id knows cell nodes place s nodes_are next is =
     )
 
 -- after a step the seat has the next part
-pub seated_after : (key : Extent × ℕ) (table seat later : TableId) (knows after : Me (Unit {0}) View) (next : Part) → IsSeated key table seat knows → later ≡ seat → Tells (part_of knows.0) next after → IsSeated key table later after
-seated_after key table seat later knows after next s same t =
-    let next_is : part_of after.0 ≡ next = ap (λ (k : Me (Unit {0}) View). part_of k.0) t.view in
+pub seated_after : (key : Extent × ℕ) (table seat later : TableId) (knows after : Me (Unit {0}) View) (how : List Event → Type 0) (next : Part) → IsSeated key table seat knows → later ≡ seat → Tells how (part_of knows.0) next after → IsSeated key table later after
+seated_after key table seat later knows after how next s same t =
+    let next_is : part_of after.0 ≡ informed t.schedule next = ap (λ (k : Me (Unit {0}) View). part_of k.0) t.view in
     record {
       same = same ∙ s.same;
       long = s.long;
@@ -94,13 +95,17 @@ seated_after key table seat later knows after next s same t =
       sized = ap size_in next_is ∙ (t.same.sized ∙ s.sized);
     }
 
-pub part_after : (part next : Part) (after : Me (Unit {0}) View) → Tells part next after → part_of after.0 ≡ next
-part_after part next after t = ap (λ (k : Me (Unit {0}) View). part_of k.0) t.view
+pub part_after : (how : List Event → Type 0) (part next : Part) (after : Me (Unit {0}) View) (t : Tells how part next after) → part_of after.0 ≡ informed t.schedule next
+part_after how part next after t = ap (λ (k : Me (Unit {0}) View). part_of k.0) t.view
+
+-- what is told of the schedule, that the part knows then
+pub went_after : (how : List Event → Type 0) (part next : Part) (after : Me (Unit {0}) View) (t : Tells how part next after) → how (part_of after.0).schedule
+went_after how part next after t = subst how (sym (ap (λ (p : Part). p.schedule) (part_after how part next after t))) t.went
 
 -- the part is still of the node
-pub same_after : (part old next : Part) (after : Me (Unit {0}) View) → part ≡ old → Tells part next after → IsSameNode old (part_of after.0)
-same_after part old next after is t =
-    subst (λ (p : Part). IsSameNode old p) (sym (part_after part next after t)) (subst (λ (p : Part). IsSameNode p next) is t.same)
+pub same_after : (how : List Event → Type 0) (part old next : Part) (after : Me (Unit {0}) View) → part ≡ old → Tells how part next after → IsSameNode old (part_of after.0)
+same_after how part old next after is t =
+    subst (λ (p : Part). IsSameNode old p) (sym (part_after how part next after t)) (subst (λ (p : Part). IsSameNode p (informed t.schedule next)) is t.same)
 
 -- what a look told
 pub look_told : (knows after : Me (Unit {0}) View) (cell : CellId) (nodes place word slots : ℕ) → IsNextToSend (part_of knows.0) cell ⊎ IsNextToTake (part_of knows.0) cell → IsShown (part_of knows.0) → nodes ≡ nodes_in (part_of knows.0)
@@ -120,10 +125,11 @@ is_sending_here part cell s n =
     and_from _ _ (eq-eqb (sender_of (nodes_in part) (lane_at_cell part cell)) (me_of part) (at.sender ∙ n.mine)) (eq-eqb cell.number ((outbound_at part (lane_at_cell part cell)).sent % 4) n.next)
 
 -- what contracts see of a seat after a step
-pub view_after : (seat later : TableId) (knows after : Me (Unit {0}) View) (now : EndOf) (next : Part) → record { table = seat; part = part_of knows.0 } ≡ now → later ≡ seat → Tells now.part next after
-    → record { table = later; part = part_of after.0 } ≡ with_part now next
-view_after seat later knows after now next view same t =
-    ends later now.table (part_of after.0) next (same ∙ ap (λ (e : EndOf). e.table) view) (part_after now.part next after t)
+pub view_after : (seat later : TableId) (knows after : Me (Unit {0}) View) (now : EndOf) (how : List Event → Type 0) (next : Part) → record { table = seat; part = part_of knows.0 } ≡ now → later ≡ seat → Tells how now.part next after
+    → record { table = later; part = part_of after.0 } ≡ with_part now (informed (part_of after.0).schedule next)
+view_after seat later knows after now how next view same t =
+    let is = part_after how now.part next after t in
+    ends later now.table (part_of after.0) (informed (part_of after.0).schedule next) (same ∙ ap (λ (e : EndOf). e.table) view) (is ∙ ap (λ (es : List Event). informed es next) (sym (ap (λ (p : Part). p.schedule) is)))
   where
     ends : (a b : TableId) (p q : Part) → a ≡ b → p ≡ q → record { table = a; part = p } ≡ with_part (record { table = b; part = q }) q
     ends a b p q s t = λ i. record { table = s i; part = t i }
@@ -194,57 +200,57 @@ module _ (key : Extent × ℕ) (table seat : TableId) (id : ℕ) (knows : Me (Un
             })),
       )
 
-  pub publish_asks : (first : ℕ) (next : NodeOf) → IsNextToSend now.part cell → IsSending now.part (lane_at_cell now.part cell) first next → place ≡ cell_place (lane_number nodes cell) cell.number + 0
-      → Asks key table seat id knows place (λ n. first) (λ n. Publishes next (step table.slots place first 0 none) knows first)
-  publish_asks first next to_send may is =
+  pub publish_asks : (first : ℕ) (event : Event) (next : NodeOf) → IsNextToSend now.part cell → IsSending now.part (lane_at_cell now.part cell) first event next → place ≡ cell_place (lane_number nodes cell) cell.number + 0
+      → Asks key table seat id knows place (λ n. first) (λ n. Publishes event next (step table.slots place first 0 none) knows first)
+  publish_asks first event next to_send may is =
       let part = part_of knows.0 in
-      let m = subst (λ (p : Part). IsSending p (lane_at_cell p cell) first next) (sym part_is) may in
+      let m = subst (λ (p : Part). IsSending p (lane_at_cell p cell) first event next) (sym part_is) may in
       let to_send' = subst (λ (p : Part). IsNextToSend p cell) (sym part_is) to_send in
       let at = sends_in part cell s.shown to_send' in
       let lane = lane_at_cell part cell in
       let place_is = place_now part cell nodes place 0 nodes_here is in (
         s.same,
         place_in_table key table seat knows s lane cell.number 0 place at.lane (omega arith) place_is,
-        allowed_seated key table.slots id place (cell_place lane cell.number + 0) knows part (λ n. first) (λ p k n. Publishes next (step table.slots p first 0 none) k first) s.seated place_is
-            (publishes (size_of key.0 key.1) table.slots id lane cell.number first part next to_send'.next m),
+        allowed_seated key table.slots id place (cell_place lane cell.number + 0) knows part (λ n. first) (λ p k n. Publishes event next (step table.slots p first 0 none) k first) s.seated place_is
+            (publishes (size_of key.0 key.1) table.slots id lane cell.number first part event next to_send'.next m),
       )
 
-  pub free_asks : (next : NodeOf) → IsNextToTake now.part cell → IsTaking now.part (lane_at_cell now.part cell) next → place ≡ cell_place (lane_number nodes cell) cell.number + 0
-      → Asks key table seat id knows place (λ n. 0) (λ n. Frees next (step table.slots place 0 0 none) knows 0)
-  free_asks next to_take may is =
+  pub free_asks : (event : Event) (next : NodeOf) → IsNextToTake now.part cell → IsTaking now.part (lane_at_cell now.part cell) event next → place ≡ cell_place (lane_number nodes cell) cell.number + 0
+      → Asks key table seat id knows place (λ n. 0) (λ n. Frees event next (step table.slots place 0 0 none) knows 0)
+  free_asks event next to_take may is =
       let part = part_of knows.0 in
-      let m = subst (λ (p : Part). IsTaking p (lane_at_cell p cell) next) (sym part_is) may in
+      let m = subst (λ (p : Part). IsTaking p (lane_at_cell p cell) event next) (sym part_is) may in
       let to_take' = subst (λ (p : Part). IsNextToTake p cell) (sym part_is) to_take in
       let at = takes_in part cell s.shown to_take' in
       let lane = lane_at_cell part cell in
       let place_is = place_now part cell nodes place 0 nodes_here is in (
         s.same,
         place_in_table key table seat knows s lane cell.number 0 place at.lane (omega arith) place_is,
-        allowed_seated key table.slots id place (cell_place lane cell.number + 0) knows part (λ n. 0) (λ p k n. Frees next (step table.slots p 0 0 none) k 0) s.seated place_is
-            (frees (size_of key.0 key.1) table.slots id lane cell.number part next to_take'.next m),
+        allowed_seated key table.slots id place (cell_place lane cell.number + 0) knows part (λ n. 0) (λ p k n. Frees event next (step table.slots p 0 0 none) k 0) s.seated place_is
+            (frees (size_of key.0 key.1) table.slots id lane cell.number part event next to_take'.next m),
       )
 
   -- ---- what they tell
 
-  lane_told : (index : ℕ) → index < 11 → place ≡ cell_place (lane_number nodes cell) cell.number + index → lane_in place ≡ lane_at_cell now.part cell
+  pub lane_told : (index : ℕ) → index < 11 → place ≡ cell_place (lane_number nodes cell) cell.number + index → lane_in place ≡ lane_at_cell now.part cell
   lane_told index few is = ap lane_in (place_now now.part cell nodes place index nodes_are is) ∙ lane_found (lane_at_cell now.part cell) cell.number index few
 
   index_told : (index : ℕ) → index < 11 → place ≡ cell_place (lane_number nodes cell) cell.number + index → index_in place ≡ index
   index_told index few is = ap index_in (place_now now.part cell nodes place index nodes_are is) ∙ index_found (lane_at_cell now.part cell) cell.number index few
 
   -- by a step on a word of the cell that leaves a part as f says, which looks at the lane and the word's number
-  pub told_after : (later : TableId) (after : Me (Unit {0}) View) (index : ℕ) (f : ℕ → ℕ → Part → Part) → index < 11 → place ≡ cell_place (lane_number nodes cell) cell.number + index → later ≡ seat
-      → Tells (part_of knows.0) (f (lane_in place) (index_in place) (part_of knows.0)) after → record { table = later; part = part_of after.0 } ≡ with_part now (f (lane_at_cell now.part cell) index now.part)
-  told_after later after index f few is same t =
-      view_after seat later knows after now (f (lane_at_cell now.part cell) index now.part) view same
-      (subst (λ (p : Part). Tells p (f (lane_at_cell now.part cell) index p) after) part_is
-      (subst (λ (l : ℕ). Tells (part_of knows.0) (f l index (part_of knows.0)) after) (lane_told index few is)
-      (subst (λ (i : ℕ). Tells (part_of knows.0) (f (lane_in place) i (part_of knows.0)) after) (index_told index few is) t)))
+  pub told_after : (later : TableId) (after : Me (Unit {0}) View) (index : ℕ) (how : Part → List Event → Type 0) (f : ℕ → ℕ → Part → Part) → index < 11 → place ≡ cell_place (lane_number nodes cell) cell.number + index → later ≡ seat
+      → Tells (how (part_of knows.0)) (part_of knows.0) (f (lane_in place) (index_in place) (part_of knows.0)) after → record { table = later; part = part_of after.0 } ≡ with_part now (informed (part_of after.0).schedule (f (lane_at_cell now.part cell) index now.part))
+  told_after later after index how f few is same t =
+      view_after seat later knows after now (how now.part) (f (lane_at_cell now.part cell) index now.part) view same
+      (subst (λ (p : Part). Tells (how p) p (f (lane_at_cell now.part cell) index p) after) part_is
+      (subst (λ (l : ℕ). Tells (how (part_of knows.0)) (part_of knows.0) (f l index (part_of knows.0)) after) (lane_told index few is)
+      (subst (λ (i : ℕ). Tells (how (part_of knows.0)) (part_of knows.0) (f (lane_in place) i (part_of knows.0)) after) (index_told index few is) t)))
 
-pub beat_asks : (key : Extent × ℕ) (table seat : TableId) (id : ℕ) (knows : Me (Unit {0}) View) (me nodes place : ℕ) (next : NodeOf) → IsSeated key table seat knows → (now : EndOf) → record { table = seat; part = part_of knows.0 } ≡ now
-    → me ≡ me_of now.part → nodes ≡ nodes_in now.part → IsBeating now.part next → place ≡ own_place nodes me
-    → Asks key table seat id knows place (λ n. (n + 1) % 2 ^ 64) (Beats next (step table.slots place 1 0 none) knows)
-beat_asks key table seat id knows me nodes place next s now view me_is nodes_are may is =
+pub beat_asks : (key : Extent × ℕ) (table seat : TableId) (id : ℕ) (knows : Me (Unit {0}) View) (me nodes place : ℕ) (event : Event) (next : NodeOf) → IsSeated key table seat knows → (now : EndOf) → record { table = seat; part = part_of knows.0 } ≡ now
+    → me ≡ me_of now.part → nodes ≡ nodes_in now.part → IsBeating now.part event next → place ≡ own_place nodes me
+    → Asks key table seat id knows place (λ n. (n + 1) % 2 ^ 64) (Beats event next (step table.slots place 1 0 none) knows)
+beat_asks key table seat id knows me nodes place event next s now view me_is nodes_are may is =
     let part = part_of knows.0 in
     let part_is : part ≡ now.part = ap (λ (e : EndOf). e.part) view in
     let size_nodes = key_nodes key table seat knows s in
@@ -253,6 +259,6 @@ beat_asks key table seat id knows me nodes place next s now view me_is nodes_are
     let long = s.long in (
       s.same,
       omega arith,
-      allowed_seated key table.slots id place (own_place key.0.nodes (me_of part)) knows part (λ n. (n + 1) % 2 ^ 64) (λ p k. Beats next (step table.slots p 1 0 none) k) s.seated at
-          (beats (size_of key.0 key.1) table.slots id part next (subst (λ (p : Part). IsBeating p next) (sym part_is) may)),
+      allowed_seated key table.slots id place (own_place key.0.nodes (me_of part)) knows part (λ n. (n + 1) % 2 ^ 64) (λ p k. Beats event next (step table.slots p 1 0 none) k) s.seated at
+          (beats (size_of key.0 key.1) table.slots id part event next (subst (λ (p : Part). IsBeating p event next) (sym part_is) may)),
     )

@@ -24,7 +24,7 @@ last_at? (z ∷ xs) x (suc k) y e = elim (last_at? xs x k y e) [ inl h ↦ inl h
 
 -- the same state, with other owners
 abbrev pub owned_by : Whole → (ℕ → ℕ) → Whole
-owned_by x owner = record { core = x.core; outbound = x.outbound; inbound = x.inbound; owner = owner }
+owned_by x owner = record { core = x.core; schedule = x.schedule; outbound = x.outbound; inbound = x.inbound; owner = owner }
 
 -- a part stays known, if its node's owner does
 moved : (x : Whole) (owner : ℕ → ℕ) (seat later : ℕ) (p : Part) → owner (me_of p) ≡ later → IsKnown x seat p → IsKnown (owned_by x owner) later p
@@ -32,6 +32,7 @@ moved x owner seat later p is k = record {
   some_node = k.some_node;
   mine = is;
   node = k.node;
+  seen = k.seen;
   outbound_long = k.outbound_long;
   inbound_long = k.inbound_long;
   outbound = k.outbound;
@@ -135,6 +136,8 @@ splits size id p rest none s kept here = record {
   whole = owned_by kept.whole (changed_at kept.whole.owner (me_of p) (length s.views));
   reached = kept.reached;
   sized = kept.sized;
+  leads = kept.leads;
+  enabled = kept.enabled;
   shown = split_shows kept.whole s.words s.views id p rest kept.shown here none;
 }
 
@@ -220,5 +223,7 @@ joins size id other v w s kept here apart there = record {
   whole = owned_by kept.whole (λ n. if eqb (kept.whole.owner n) other then id else kept.whole.owner n);
   reached = kept.reached;
   sized = kept.sized;
+  leads = kept.leads;
+  enabled = kept.enabled;
   shown = join_shows kept.whole s.words s.views id other v w kept.shown here apart (sym (set_else s.views id other _ apart) ∙ there);
 }

@@ -18,7 +18,7 @@ use Rattle.sci_lanes.specs.declared.view.Part.{Part}
 use Rattle.sci_lanes.specs.declared.view.View.{View}
 use Rattle.sci_core.specs.declared.lane.LaneKind.{LaneKind}
 use Rattle.sci_lanes.specs.Cells.{cell_place, lane_count, receiver_of, lane_number, word_count}
-use Rattle.sci_lanes.specs.Shown.{outbound_at, inbound_at, me_of, single, opening_part}
+use Rattle.sci_lanes.specs.Shown.{outbound_at, inbound_at, me_of, single, informed, IsSeen, opening_part}
 use Rattle.sci_lanes.specs.Knowing.{looked, filled, read, published, freed, with_node_known}
 use Rattle.sci_lanes.specs.Telling.{part_of, size_in, IsShown}
 
@@ -64,6 +64,10 @@ freed_at cell node end = with_part end (freed (lane_at_cell end.part cell) node 
 abbrev pub beaten : NodeOf → EndOf → EndOf
 beaten node end = with_part end (with_node_known node end.part)
 
+-- the end, with so much known of the schedule
+abbrev pub informed_at : List Event → EndOf → EndOf
+informed_at schedule end = with_part end (informed schedule end.part)
+
 -- ---- the next cells
 
 -- the cell into which the part's node sends next in its lane
@@ -84,7 +88,8 @@ pub record LooksFor (kind : LaneKind) (from word : ℕ) (old new : EndOf) : Type
   pub kind_is : cell.kind ≡ kind
   pub sender_is : cell.sender ≡ from
   pub next : IsNextToTake old.part cell
-  pub looked : new ≡ looked_at cell word old
+  pub looked : new ≡ informed_at new.part.schedule (looked_at cell word old)
+  pub seen : IsSeen old.part new.part.schedule
 
 -- ---- what is known where a step is made
 

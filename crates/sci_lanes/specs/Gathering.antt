@@ -1,17 +1,20 @@
 -- Gathering: all ends are joined, and the state that their lanes show is read.
-use Rattle.std.specs.Prelude.{◌≡◌, ℕ, ◌+◌, ◌*◌, ◌/◌, ◌%◌, ◌<◌, ◌≤◌, ◌⊎◌, List, [], ◌∷◌, ◌++◌, length, map, slice_get, slice_index, slice_index_or, Some, Vec, vec_len, vec_capacity}
+use Rattle.std.specs.Prelude.{◌≡◌, ℕ, ◌+◌, ◌*◌, ◌/◌, ◌%◌, ◌<◌, ◌≤◌, ◌⊎◌, List, [], ◌∷◌, ◌++◌, filter, length, map, slice_get, slice_index, slice_index_or, Some, Vec, vec_len, vec_capacity}
 use Rattle.std.specs.List.{AllByRecursion}
 use Rattle.std.specs.VecDeque.{deque_len, deque_capacity}
 use Rattle.atomic_table.specs.Table.{Me, Step}
 use Rattle.sci_history.specs.declared.entry.Entry.{Entry}
-use Rattle.sci_history.specs.Placed.{log_of}
+use Rattle.sci_history.specs.Placed.{is_of_node, log_of}
+use Rattle.sci_words.specs.declared.limits.TheConstants.{MAX_NODES}
 use Rattle.sci_words.specs.declared.stamped.Stamped.{Stamped}
+use Rattle.sci_words.specs.declared.event.Event.{Event}
 use Rattle.sci_packets.specs.declared.packet.Packet.{Packet}
 use Rattle.sci_packets.specs.Spelling.{IsPacket, words_of}
 use Rattle.sci_cache.specs.Cache.{Letter, letter_of}
 use Rattle.sci_core.specs.Size.{Size}
 use Rattle.sci_core.specs.Node.{NodeOf, no_node}
-use Rattle.sci_core.specs.Core.{Core, node_at, lane_at}
+use Rattle.sci_core.specs.Core.{Core, node_at, lane_at, run}
+use Rattle.sci_core.specs.Done.{done}
 use Rattle.sci_core.specs.Reached.{IsReached}
 use Rattle.sci_core.specs.Outcome.{logs_of}
 use Rattle.sci_core.specs.Sharing.{last_of}
@@ -21,7 +24,7 @@ use Rattle.sci_lanes.specs.declared.view.Outbound.{Outbound}
 use Rattle.sci_lanes.specs.declared.view.Part.{Part}
 use Rattle.sci_lanes.specs.declared.view.View.{View}
 use Rattle.sci_lanes.specs.Cells.{lane_count, receiver_of, word_count}
-use Rattle.sci_lanes.specs.Shown.{Fits, ShowsLane, Whole, nodes_of, me_of, inbound_at, IsKnown, HasRead}
+use Rattle.sci_lanes.specs.Shown.{Fits, ShowsLane, Whole, nodes_of, me_of, inbound_at, AreEnabled, IsKnown, IsSeen, HasRead}
 use Rattle.sci_lanes.specs.Telling.{no_part, size_in}
 use Rattle.sci_lanes.specs.Ends.{EndOf, LanesOf}
 
@@ -49,13 +52,23 @@ pub record AreAll (nodes : ℕ) (ends : List EndOf) : Type 0 where
 
 -- ---- what comes out
 
--- A state where a schedule leads, whose nodes are those of the ends, with its logs and its last contents.
+-- each node's log has the entries that its own events of a schedule make, in their order
+abbrev pub AreMadeBy : Size → List Event → List (List Entry) → Type 0
+AreMadeBy size schedule logs = (n : ℕ) → n < MAX_NODES → log_of logs n ≡ filter (is_of_node n) (done size schedule)
+
+-- A state where one schedule of enabled events leads, whose nodes are those of the ends, with its logs, which are what the
+-- schedule makes, and its last contents. Each end knows a beginning of the schedule, after which no event of its node comes.
 pub record AreGathered (size : Size) (ends : List EndOf) (logs : List (List Entry)) (last : List Stamped) : Type 0 where
   pub core : Core
   pub reached : IsReached core
   pub sized : core.size ≡ size
+  pub schedule : List Event
+  pub leads : run size schedule ≡ core
+  pub enabled : AreEnabled size [] schedule
+  pub seen : (place : ℕ) (end : EndOf) → slice_get ends place ≡ Some end → IsSeen end.part schedule
   pub nodes : (place : ℕ) (end : EndOf) → slice_get ends place ≡ Some end → node_at core (me_of end.part) ≡ end.part.node
   pub logs_are : logs ≡ logs_of core
+  pub made : AreMadeBy size schedule logs
   pub last_are : last ≡ last_of core
 
 -- each end's log is its node's
@@ -82,6 +95,8 @@ pub record IsReadOff (view : View) : Type 0 where
   pub seat : ℕ
   pub words : List ℕ
   pub reached : IsReached whole.core
+  pub leads : run whole.core.size whole.schedule ≡ whole.core
+  pub enabled : AreEnabled whole.core.size [] whole.schedule
   pub long : length words ≡ word_count (nodes_of whole)
   pub lanes : (lane : ℕ) → lane < lane_count (nodes_of whole) → ShowsLane words lane (lane_at whole.core lane) (whole.outbound lane) (whole.inbound lane)
   pub known : AllByRecursion (IsKnown whole seat) view.parts
@@ -119,9 +134,9 @@ module _ {Z : Type 0} where
     pub inbox_turns_long : length inbox_turns ≡ count
     pub each : (n : ℕ) → n < count → IsJoinedAt all parts nodes inbox_turns n
 
--- each end that was given is still there, or its node was joined
-abbrev pub AreKept : List EndOf → List EndOf → List NodeOf → Type 0
-AreKept ends left nodes = (place : ℕ) (end : EndOf) → slice_get ends place ≡ Some end → ((k : ℕ) × (slice_get left k ≡ Some end)) ⊎ ((me_of end.part < length nodes) × (slice_index_or nodes (me_of end.part) no_node ≡ end.part.node))
+-- each end that was given is still there, or what it knows was joined
+abbrev pub AreKept : List EndOf → List EndOf → List Part → Type 0
+AreKept ends left parts = (place : ℕ) (end : EndOf) → slice_get ends place ≡ Some end → ((k : ℕ) × (slice_get left k ≡ Some end)) ⊎ ((me_of end.part < length parts) × (slice_index_or parts (me_of end.part) no_part ≡ end.part))
 
 -- a vector with nothing in it that has room for so many
 abbrev pub HasRoom : {X Z : Type 0} → ℕ → Vec X Z → Type 0

@@ -1,15 +1,16 @@
 -- What words and views show: the state of a machine.
-use Rattle.std.specs.Prelude.{◌≡◌, ℕ, suc, ◌+◌, ◌<◌, ◌≤◌, true, false, List, [], ◌∷◌, map, length, replicate, slice_index, slice_index_or, slice_get, Some}
+use Rattle.std.specs.Prelude.{◌≡◌, ◌≢◌, ◌++◌, ℕ, suc, ◌+◌, ◌<◌, ◌≤◌, true, false, List, [], ◌∷◌, map, length, replicate, slice_index, slice_index_or, slice_get, Some}
 use Rattle.std.specs.List.{AllByRecursion, range_with_len}
 use mathlib.Core.Option.{some}
 use lib.ListN.{get_elem?}
 use Rattle.atomic_table.specs.Table.{State}
+use Rattle.sci_words.specs.declared.event.Event.{Event}
 use Rattle.sci_packets.specs.declared.packet.Packet.{Packet}
 use Rattle.sci_packets.specs.Spelling.{IsPacket, words_of}
 use Rattle.sci_cache.specs.Cache.{Letter, letter_of}
 use Rattle.sci_core.specs.Size.{Size}
 use Rattle.sci_core.specs.Node.{opening_node}
-use Rattle.sci_core.specs.Core.{Core, node_at, lane_at}
+use Rattle.sci_core.specs.Core.{Core, IsEnabled, node_at, node_of, lane_at, run}
 use Rattle.sci_core.specs.Reached.{IsReached}
 use Rattle.sci_lanes.specs.declared.view.Outbound.{Outbound}
 use Rattle.sci_lanes.specs.declared.view.Inbound.{Inbound}
@@ -69,17 +70,40 @@ single part = record { parts = part ∷ []; words = [] }
 
 -- a node of a machine in which nothing was done yet
 abbrev pub opening_part : Size → ℕ → Part
-opening_part size n = record { node = opening_node n size; outbound = replicate (lane_count size.nodes) no_outbound; inbound = replicate (lane_count size.nodes) no_inbound }
+opening_part size n = record { node = opening_node n size; schedule = []; outbound = replicate (lane_count size.nodes) no_outbound; inbound = replicate (lane_count size.nodes) no_inbound }
 
 -- all of them, which the first seat has
 abbrev pub first_view : Size → View
 first_view size = record { parts = map (opening_part size) (range_with_len 0 size.nodes); words = [] }
 
+-- ---- schedules
+
+-- no event of this node is among them
+abbrev pub AreOfOthers : ℕ → List Event → Type 0
+AreOfOthers n events = AllByRecursion (λ e. node_of e ≢ n) events
+
+-- The schedule goes on from what a part knows of it, by events of other nodes alone: so the part knows all of its own, and
+-- all that came before the last of these.
+pub record IsSeen (part : Part) (schedule : List Event) : Type 0 where
+  pub others : List Event
+  pub further : schedule ≡ part.schedule ++ others
+  pub apart : AreOfOthers (me_of part) others
+
+-- each of these further events of a schedule is enabled in the state where it comes
+abbrev pub AreEnabled : Size → List Event → List Event → Type 0
+AreEnabled size known [] = Unit {0}
+AreEnabled size known (e ∷ more) = IsEnabled (run size known) e × AreEnabled size (known ++ e ∷ []) more
+
+-- the part, with so much known of the schedule
+abbrev pub informed : List Event → Part → Part
+informed schedule part = record part { schedule = schedule }
+
 -- ---- the whole
 
--- a state, what each lane's ends know of it, and which seat has each node
+-- a state, the schedule that led there, what each lane's ends know of it, and which seat has each node
 pub record Whole : Type 0 where
   pub core : Core
+  pub schedule : List Event
   pub outbound : ℕ → Outbound
   pub inbound : ℕ → Inbound
   pub owner : ℕ → ℕ
@@ -92,6 +116,7 @@ pub record IsKnown (x : Whole) (seat : ℕ) (part : Part) : Type 0 where
   pub some_node : me_of part < nodes_of x
   pub mine : x.owner (me_of part) ≡ seat
   pub node : node_at x.core (me_of part) ≡ part.node
+  pub seen : IsSeen part x.schedule
   pub outbound_long : length part.outbound ≡ lane_count (nodes_of x)
   pub inbound_long : length part.inbound ≡ lane_count (nodes_of x)
   pub outbound : (lane : ℕ) → lane < lane_count (nodes_of x) → sender_of (nodes_of x) lane ≡ me_of part → outbound_at part lane ≡ x.outbound lane
@@ -120,9 +145,12 @@ pub record Shows (x : Whole) (words : List ℕ) (views : List View) : Type 0 whe
   pub covered : (n : ℕ) → n < nodes_of x → IsCovered x views n
   pub read : (seat : ℕ) (view : View) → get_elem? views seat ≡ some view → HasRead x seat words view.words
 
--- The rule of the table: words and views show a state where a schedule leads.
+-- The rule of the table: words and views show the state where one schedule leads, of events that are enabled when they come.
+-- Each view knows a beginning of it.
 pub record IsKept (size : Size) (s : State (Unit {0}) View) : Type 0 where
   pub whole : Whole
   pub reached : IsReached whole.core
   pub sized : whole.core.size ≡ size
+  pub leads : run size whole.schedule ≡ whole.core
+  pub enabled : AreEnabled size [] whole.schedule
   pub shown : Shows whole s.words s.views

@@ -72,12 +72,12 @@ impl LaneEnd {
     ghost use Rattle.sci_cache.specs.Cache.{letter_of};
     ghost use Rattle.sci_core.specs.declared.lane.LaneKind.TheVariants.{Requests};
     ghost use Rattle.sci_core.specs.Core.{side};
-    ghost use Rattle.sci_lanes.specs.Shown.{inbound_at, me_of};
+    ghost use Rattle.sci_lanes.specs.Shown.{inbound_at, IsSeen, me_of};
     ghost use Rattle.sci_lanes.specs.Gathering.{HasTurns};
-    ghost use Rattle.sci_lanes.specs.Telling.{IsSameNode, IsShown, SomeLineWaits};
+    ghost use Rattle.sci_lanes.specs.Telling.{IsMade, IsSameNode, IsShown, IsTaken, SomeLineWaits};
     ghost use Rattle.sci_lanes.specs.Ends.{FitsInside, IsNextToSend, IsNextToTake, LooksFor, MayBeat, MayFill};
     ghost use Rattle.sci_lanes.specs.Ends.{MayFree, MayPublish, MayRead, after_event, beaten};
-    ghost use Rattle.sci_lanes.specs.Ends.{filled_at, freed_at, lane_at_cell, looked_at, nodes_in};
+    ghost use Rattle.sci_lanes.specs.Ends.{filled_at, freed_at, informed_at, lane_at_cell, looked_at, nodes_in};
     ghost use Rattle.sci_lanes.specs.Ends.{published_at, read_at, taken_by};
 
     /// The end of a node in a machine of so many nodes, in which nothing was done yet. Refused if memory is.
@@ -196,7 +196,8 @@ impl LaneEnd {
     /// its node awaits an answer.
     pub fn look(&mut self, cell: CellId) -> u64
         requires { IsNextToSend self.old.part cell ⊎ IsNextToTake self.old.part cell }
-        ensures part { self.new ≡ looked_at cell result self.old }
+        ensures part { self.new ≡ informed_at self.new.part.schedule (looked_at cell result self.old) }
+        ensures seen { IsSeen self.old.part self.new.part.schedule }
         ensures shown { IsShown self.new.part }
         ensures waits { cell.kind ≡ Requests → IsNextToSend self.old.part cell → result ≢ 0 →
             SomeLineWaits self.new.part.node }
@@ -209,7 +210,8 @@ impl LaneEnd {
     /// it no longer count.
     pub fn fill(&mut self, cell: CellId, index: usize, word: u64)
         requires { MayFill self.old.part cell index }
-        ensures part { self.new ≡ filled_at cell index word self.old }
+        ensures part { self.new ≡ informed_at self.new.part.schedule (filled_at cell index word self.old) }
+        ensures seen { IsSeen self.old.part self.new.part.schedule }
         ensures shown { IsShown self.new.part }
     {
         self.seat.fill(&cell, self.nodes, index, word);
@@ -219,7 +221,8 @@ impl LaneEnd {
     /// found. Words that were found after it no longer count.
     pub fn read_word(&mut self, cell: CellId, index: usize) -> u64
         requires { MayRead self.old.part cell index }
-        ensures part { self.new ≡ read_at cell index result self.old }
+        ensures part { self.new ≡ informed_at self.new.part.schedule (read_at cell index result self.old) }
+        ensures seen { IsSeen self.old.part self.new.part.schedule }
         ensures shown { IsShown self.new.part }
     {
         self.seat.read(&cell, self.nodes, index)
@@ -230,13 +233,15 @@ impl LaneEnd {
     /// that this event of the node sends, to the receiver of the cell. The node makes its side of the event.
     pub fn publish(&mut self, cell: CellId, first: u64, event: &Event)
         requires { MayPublish self.old.part cell first event.now }
-        ensures part { self.new ≡ published_at cell (after_event self.old event.now) self.old }
+        ensures part { self.new ≡ informed_at self.new.part.schedule
+            (published_at cell (after_event self.old event.now) self.old) }
+        ensures made { IsMade self.old.part event.now self.new.part.schedule }
         ensures same { IsSameNode self.old.part self.new.part }
         ensures shown { IsShown self.new.part }
     {
         make_alone(&mut self.node, event);
         self.seat
-            .publish::<Brand>(&cell, self.nodes, first, &self.node);
+            .publish::<Brand>(&cell, self.nodes, first, event, &self.node);
         let lane = cell.lane(self.nodes);
         self.turns[lane] = (cell.number + 1) % LANE_CELLS;
     }
@@ -248,14 +253,17 @@ impl LaneEnd {
         requires may { MayFree self.old.part cell event.now }
         requires spelled { SpellsInWords packet.now
             (inbound_at self.old.part (lane_at_cell self.old.part cell)).found }
-        ensures part { self.new ≡ freed_at cell self.new.part.node self.old }
+        ensures part { self.new ≡ informed_at self.new.part.schedule (freed_at cell self.new.part.node self.old) }
+        ensures oldest { IsTaken self.old.part (lane_at_cell self.old.part cell) event.now
+            self.new.part.schedule }
         ensures taken { taken_by (side self.old.part.node event.now) (letter_of packet.now)
             ≡ Some self.new.part.node }
         ensures same { IsSameNode self.old.part self.new.part }
         ensures shown { IsShown self.new.part }
     {
         make_taking(&mut self.node, event, packet);
-        self.seat.free::<Brand>(&cell, self.nodes, &self.node);
+        self.seat
+            .free::<Brand>(&cell, self.nodes, event, &self.node);
         let place = cell.inbox(self.nodes);
         let number = (cell.number + 1) % LANE_CELLS;
         self.inbox_turns[place] = number;
@@ -266,11 +274,14 @@ impl LaneEnd {
     #[inline(always)]
     pub fn beat(&mut self, event: &Event)
         requires { MayBeat self.old.part event.now }
-        ensures part { self.new ≡ beaten (after_event self.old event.now) self.old }
+        ensures part { self.new ≡ informed_at self.new.part.schedule
+            (beaten (after_event self.old event.now) self.old) }
+        ensures made { IsMade self.old.part event.now self.new.part.schedule }
         ensures same { IsSameNode self.old.part self.new.part }
         ensures shown { IsShown self.new.part }
     {
         make_alone(&mut self.node, event);
-        self.seat.beat::<Brand>(self.me, self.nodes, &self.node);
+        self.seat
+            .beat::<Brand>(self.me, self.nodes, event, &self.node);
     }
 }

@@ -211,7 +211,7 @@ fn join_all<E: HasEnd + Drop>(
     ensures knows { seat.new.me ≡ (record { parts = seat.new.me.0.parts; words = [] }, []) }
     ensures joined { AreJoined count count seat.new.me.0.parts nodes.new.items
         inbox_turns.new.items }
-    ensures kept { AreKept (map E.end_of ends.items) [] nodes.new.items }
+    ensures kept { AreKept (map E.end_of ends.items) [] seat.new.me.0.parts }
 {
     for n in 0..count {
         let Some(place) = place_of(&ends, n) else {

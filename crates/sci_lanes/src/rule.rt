@@ -1,5 +1,7 @@
 //! The rule of the table, and what each kind of step tells.
 
+ghost use Rattle.sci_words.specs.declared.event.Event.{Event};
+ghost use Rattle.sci_words.specs.declared.event.Event.TheVariants.{Reply};
 ghost use Rattle.sci_core.specs.Node.{NodeOf, no_node};
 
 use crate::view::View;
@@ -83,12 +85,16 @@ impl Play<(), View> for Read {
     ghost then = { Reads };
 }
 
-/// What the node of a step becomes. Each call picks it.
+/// What the event of a step is, and what its node becomes. Each call picks them.
 pub(crate) trait Becomes {
+    ghost event: { Event };
+
     ghost next: { NodeOf };
 }
 
 impl Becomes for Brand {
+    ghost event = { Reply 0 };
+
     ghost next = { no_node };
 }
 
@@ -100,7 +106,7 @@ pub(crate) struct Publish<B> {
 impl<B: Becomes> Play<(), View> for Publish<B> {
     ghost use Rattle.sci_lanes.specs.Plays.{Publishes};
 
-    ghost then = { Publishes B.next };
+    ghost then = { Publishes B.event B.next };
 }
 
 /// A store of 0 to the first word of a cell whose packet was read.
@@ -111,7 +117,7 @@ pub(crate) struct Free<B> {
 impl<B: Becomes> Play<(), View> for Free<B> {
     ghost use Rattle.sci_lanes.specs.Plays.{Frees};
 
-    ghost then = { Frees B.next };
+    ghost then = { Frees B.event B.next };
 }
 
 /// An addition of 1 to a node's own word.
@@ -122,5 +128,5 @@ pub(crate) struct Beat<B> {
 impl<B: Becomes> Play<(), View> for Beat<B> {
     ghost use Rattle.sci_lanes.specs.Plays.{Beats};
 
-    ghost then = { Beats B.next };
+    ghost then = { Beats B.event B.next };
 }

@@ -5,6 +5,7 @@ use crate::rule::{Beat, Becomes, Both, Fill, Free, LaneTable, Look, Publish, Rea
 use crate::view::View;
 use atomic_table::Seat;
 use sci_core::Node;
+use sci_words::Event;
 use std::marker::Model;
 use std::sync::Arc;
 
@@ -33,10 +34,10 @@ impl NodeSeat {
     ghost use Rattle.std.specs.Arc.{arc_value};
     ghost use Rattle.sci_lanes.specs.Cells.{cell_place, lane_number};
     ghost use Rattle.sci_lanes.specs.Gathering.{joined_with};
-    ghost use Rattle.sci_lanes.specs.Shown.{me_of};
-    ghost use Rattle.sci_lanes.specs.Telling.{IsBeating, IsFull, IsSameNode, IsSending, IsShown, IsTaking, part_of};
+    ghost use Rattle.sci_lanes.specs.Shown.{informed, IsSeen, me_of};
+    ghost use Rattle.sci_lanes.specs.Telling.{IsBeating, IsFull, IsMade, IsSameNode, IsSending, IsShown, IsTaken, IsTaking, part_of};
     ghost use Rattle.sci_lanes.specs.Ends.{IsNextToSend, IsNextToTake, IsSeated, MayFill, MayRead, beaten};
-    ghost use Rattle.sci_lanes.specs.Ends.{filled_at, freed_at, lane_at_cell, looked_at, nodes_in};
+    ghost use Rattle.sci_lanes.specs.Ends.{filled_at, freed_at, informed_at, lane_at_cell, looked_at, nodes_in};
     ghost use Rattle.sci_lanes.specs.Ends.{published_at, read_at};
 
     /// A seat that has one node, at its table.
@@ -54,10 +55,11 @@ impl NodeSeat {
         requires nodes { nodes ≡ nodes_in self.old.part }
         requires next { IsNextToSend self.old.part cell.now ⊎ IsNextToTake self.old.part cell.now }
         requires place { place ≡ cell_place (lane_number nodes cell.now) cell.now.number + 0 }
-        ensures part { self.new ≡ looked_at cell.now result self.old }
+        ensures part { self.new ≡ informed_at self.new.part.schedule (looked_at cell.now result self.old) }
+        ensures seen { IsSeen self.old.part self.new.part.schedule }
         ensures shown { IsShown self.new.part }
         ensures full { IsNextToSend self.old.part cell.now → result ≢ 0 →
-            IsFull self.old.part (lane_at_cell self.old.part cell.now) }
+            IsFull (informed self.new.part.schedule self.old.part) (lane_at_cell self.old.part cell.now) }
     {
         let shared = &self.table.shared;
         shared.load::<Look>(&mut self.seat, place)
@@ -67,7 +69,8 @@ impl NodeSeat {
     pub(crate) fn fill(&mut self, cell: &CellId, nodes: u8, index: usize, word: u64)
         requires nodes { nodes ≡ nodes_in self.old.part }
         requires may { MayFill self.old.part cell.now index }
-        ensures part { self.new ≡ filled_at cell.now index word self.old }
+        ensures part { self.new ≡ informed_at self.new.part.schedule (filled_at cell.now index word self.old) }
+        ensures seen { IsSeen self.old.part self.new.part.schedule }
         ensures shown { IsShown self.new.part }
     {
         let place = cell.place(nodes, index);
@@ -79,7 +82,8 @@ impl NodeSeat {
     pub(crate) fn read(&mut self, cell: &CellId, nodes: u8, index: usize) -> u64
         requires nodes { nodes ≡ nodes_in self.old.part }
         requires may { MayRead self.old.part cell.now index }
-        ensures part { self.new ≡ read_at cell.now index result self.old }
+        ensures part { self.new ≡ informed_at self.new.part.schedule (read_at cell.now index result self.old) }
+        ensures seen { IsSeen self.old.part self.new.part.schedule }
         ensures shown { IsShown self.new.part }
     {
         let place = cell.place(nodes, index);
@@ -87,14 +91,23 @@ impl NodeSeat {
         shared.load::<Read>(&mut self.seat, place)
     }
 
-    /// Stores the first word of the next cell to send into: the packet is sent, and
-    /// the node becomes `after`.
-    pub(crate) fn publish<B: Becomes>(&mut self, cell: &CellId, nodes: u8, first: u64, after: &Node)
+    /// Stores the first word of the next cell to send into: the packet of this event is sent, and the node becomes
+    /// `after`.
+    pub(crate) fn publish<B: Becomes>(
+        &mut self,
+        cell: &CellId,
+        nodes: u8,
+        first: u64,
+        event: &Event,
+        after: &Node,
+    )
+        requires event { event.now ≡ B.event }
         requires after { after.now ≡ B.next }
         requires nodes { nodes ≡ nodes_in self.old.part }
         requires next { IsNextToSend self.old.part cell.now }
-        requires sending { IsSending self.old.part (lane_at_cell self.old.part cell.now) first B.next }
-        ensures part { self.new ≡ published_at cell.now B.next self.old }
+        requires sending { IsSending self.old.part (lane_at_cell self.old.part cell.now) first B.event B.next }
+        ensures part { self.new ≡ informed_at self.new.part.schedule (published_at cell.now B.next self.old) }
+        ensures made { IsMade self.old.part B.event self.new.part.schedule }
         ensures same { IsSameNode self.old.part self.new.part }
         ensures shown { IsShown self.new.part }
     {
@@ -105,12 +118,15 @@ impl NodeSeat {
 
     /// Stores 0 to the first word of the next cell to take from: the packet is taken, and the node becomes
     /// `after`.
-    pub(crate) fn free<B: Becomes>(&mut self, cell: &CellId, nodes: u8, after: &Node)
+    pub(crate) fn free<B: Becomes>(&mut self, cell: &CellId, nodes: u8, event: &Event, after: &Node)
+        requires event { event.now ≡ B.event }
         requires after { after.now ≡ B.next }
         requires nodes { nodes ≡ nodes_in self.old.part }
         requires next { IsNextToTake self.old.part cell.now }
-        requires taking { IsTaking self.old.part (lane_at_cell self.old.part cell.now) B.next }
-        ensures part { self.new ≡ freed_at cell.now B.next self.old }
+        requires taking { IsTaking self.old.part (lane_at_cell self.old.part cell.now) B.event B.next }
+        ensures part { self.new ≡ informed_at self.new.part.schedule (freed_at cell.now B.next self.old) }
+        ensures taken { IsTaken self.old.part (lane_at_cell self.old.part cell.now) B.event
+            self.new.part.schedule }
         ensures same { IsSameNode self.old.part self.new.part }
         ensures shown { IsShown self.new.part }
     {
@@ -120,12 +136,14 @@ impl NodeSeat {
     }
 
     /// Adds 1 to the own word of the node `me`, which is the seat's: the node becomes `after`.
-    pub(crate) fn beat<B: Becomes>(&mut self, me: u8, nodes: u8, after: &Node)
+    pub(crate) fn beat<B: Becomes>(&mut self, me: u8, nodes: u8, event: &Event, after: &Node)
+        requires event { event.now ≡ B.event }
         requires after { after.now ≡ B.next }
         requires me { me ≡ me_of self.old.part }
         requires nodes { nodes ≡ nodes_in self.old.part }
-        requires beating { IsBeating self.old.part B.next }
-        ensures part { self.new ≡ beaten B.next self.old }
+        requires beating { IsBeating self.old.part B.event B.next }
+        ensures part { self.new ≡ informed_at self.new.part.schedule (beaten B.next self.old) }
+        ensures made { IsMade self.old.part B.event self.new.part.schedule }
         ensures same { IsSameNode self.old.part self.new.part }
         ensures shown { IsShown self.new.part }
     {

@@ -2,6 +2,7 @@
 //! speak of.
 
 use sci_core::Node;
+use sci_words::Event;
 use std::collections::LinkedList;
 
 /// What a sender knows of a lane.
@@ -22,10 +23,12 @@ pub struct Inbound {
     pub found: LinkedList<u64>,
 }
 
-/// A node, and what it knows of the lanes. Both lists have an entry for each lane of the machine; those of other nodes'
-/// lanes say nothing.
+/// A node, what it knows of the lanes, and the schedule as far as it knows it: all events of the machine up to the node's
+/// last step at the table. Both lists of lanes have an entry for each lane of the machine; those of other nodes' lanes say
+/// nothing.
 pub struct Part {
     pub node: Node,
+    pub schedule: LinkedList<Event>,
     pub outbound: LinkedList<Outbound>,
     pub inbound: LinkedList<Inbound>,
 }

@@ -8,10 +8,11 @@ use Rattle.sci_lanes.specs.declared.view.Inbound.{Inbound}
 use Rattle.sci_lanes.specs.declared.view.Outbound.{Outbound}
 use Rattle.sci_lanes.specs.declared.view.Part.{Part}
 use Rattle.sci_lanes.specs.Cells.{lane_count, receiver_of, sender_of}
-use Rattle.sci_lanes.specs.Shown.{inbound_at, me_of, no_inbound, no_outbound, outbound_at}
+use Rattle.sci_words.specs.declared.event.Event.{Event}
+use Rattle.sci_lanes.specs.Shown.{inbound_at, IsSeen, me_of, no_inbound, no_outbound, outbound_at}
 use Rattle.sci_lanes.specs.Knowing.{found_first, has_sent_more, is_receiving, is_sending, looked_in, looked_out, read_in}
 use Rattle.sci_lanes.specs.Telling.{IsFront, IsShown}
-use Rattle.sci_lanes.specs.Ends.{EndOf, IsNextToSend, IsNextToTake, lane_at_cell, looked_at, nodes_in, read_at}
+use Rattle.sci_lanes.specs.Ends.{EndOf, IsNextToSend, IsNextToTake, informed_at, lane_at_cell, looked_at, nodes_in, read_at}
 use Rattle.sci_packets.specs.declared.packet.Packet.{Packet}
 use Rattle.sci_packets.specs.Spelling.{words_of}
 use Rattle.sci_packets.proofs.WordLaws.{first_word-above}
@@ -41,11 +42,11 @@ if_true false x y e = cc
 -- ---- looks
 
 -- a sender that finds 0 knows its cell empty
-vacant_here : (end : EndOf) (cell : CellId) (word : ℕ) → IsShown (looked_at cell word end).part → IsNextToSend end.part cell → word ≡ 0 → (outbound_at (looked_at cell word end).part (lane_at_cell end.part cell)).vacant ≡ true
-vacant_here end cell word shown next none =
-    let new = looked_at cell word end in
+vacant_here : (end : EndOf) (es : List Event) (cell : CellId) (word : ℕ) → IsSeen end.part es → IsShown (informed_at es (looked_at cell word end)).part → IsNextToSend end.part cell → word ≡ 0 → (outbound_at (informed_at es (looked_at cell word end)).part (lane_at_cell end.part cell)).vacant ≡ true
+vacant_here end es cell word seen shown next none =
+    let new = informed_at es (looked_at cell word end) in
     let lane = lane_at_cell end.part cell in
-    let at = sends_in new.part cell shown (still_sends end new cell (look_still end new cell word refl) next) in
+    let at = sends_in new.part cell shown (still_sends end new cell (look_still end new cell word seen refl) next) in
     let b = is_sending end.part lane cell.number in
     let o = if b then looked_out word (outbound_at end.part lane) else outbound_at end.part lane in
     let long : length (set end.part.outbound lane o) ≡ length end.part.outbound = length-set end.part.outbound lane o in
@@ -54,19 +55,19 @@ vacant_here end cell word shown next none =
     let o_is : o ≡ looked_out word (outbound_at end.part lane) = if_true b _ _ sends in
     ap (λ (x : Outbound). x.vacant) (get_or-set_same end.part.outbound lane o no_outbound within ∙ o_is) ∙ eq-eqb word 0 none
 
-pub looked_vacant : (end new : EndOf) (cell : CellId) (word : ℕ) → IsShown new.part → IsNextToSend end.part cell → new ≡ looked_at cell word end → word ≡ 0 → (outbound_at new.part (lane_at_cell new.part cell)).vacant ≡ true
-looked_vacant end new cell word shown next is none =
-    subst (λ (e : EndOf). (outbound_at e.part (lane_at_cell e.part cell)).vacant ≡ true) (sym is) (vacant_here end cell word (subst (λ (e : EndOf). IsShown e.part) is shown) next none)
+pub looked_vacant : (end new : EndOf) (cell : CellId) (word : ℕ) → IsSeen end.part new.part.schedule → IsShown new.part → IsNextToSend end.part cell → new ≡ informed_at new.part.schedule (looked_at cell word end) → word ≡ 0 → (outbound_at new.part (lane_at_cell new.part cell)).vacant ≡ true
+looked_vacant end new cell word seen shown next is none =
+    subst (λ (e : EndOf). (outbound_at e.part (lane_at_cell e.part cell)).vacant ≡ true) (sym is) (vacant_here end new.part.schedule cell word seen (subst (λ (e : EndOf). IsShown e.part) is shown) next none)
 
 first_found : (sure : Bool) (word : ℕ) → word ≢ 0 → found_first sure word ≡ word ∷ []
 first_found sure word some = ap (λ (b : Bool). if b && not sure then [] else word ∷ []) (ne_eqb word 0 some)
 
 -- what was found by a look
-looked_here : (end : EndOf) (cell : CellId) (word : ℕ) → IsShown (looked_at cell word end).part → IsNextToTake end.part cell → (inbound_at (looked_at cell word end).part (lane_at_cell end.part cell)).found ≡ found_first (has_sent_more end.part (lane_at_cell end.part cell)) word
-looked_here end cell word shown next =
-    let new = looked_at cell word end in
+looked_here : (end : EndOf) (es : List Event) (cell : CellId) (word : ℕ) → IsSeen end.part es → IsShown (informed_at es (looked_at cell word end)).part → IsNextToTake end.part cell → (inbound_at (informed_at es (looked_at cell word end)).part (lane_at_cell end.part cell)).found ≡ found_first (has_sent_more end.part (lane_at_cell end.part cell)) word
+looked_here end es cell word seen shown next =
+    let new = informed_at es (looked_at cell word end) in
     let lane = lane_at_cell end.part cell in
-    let at = takes_in new.part cell shown (still_takes end new cell (look_still end new cell word refl) next) in
+    let at = takes_in new.part cell shown (still_takes end new cell (look_still end new cell word seen refl) next) in
     let b = is_receiving end.part lane cell.number in
     let sure = has_sent_more end.part lane in
     let i = if b then looked_in sure word (inbound_at end.part lane) else inbound_at end.part lane in
@@ -77,13 +78,13 @@ looked_here end cell word shown next =
     ap (λ (x : Inbound). x.found) (get_or-set_same end.part.inbound lane i no_inbound within ∙ i_is)
 
 -- a receiver that finds another word has found it
-pub looked_found : (end new : EndOf) (cell : CellId) (word : ℕ) → IsShown new.part → IsNextToTake end.part cell → new ≡ looked_at cell word end → word ≢ 0 → (inbound_at new.part (lane_at_cell new.part cell)).found ≡ word ∷ []
-looked_found end new cell word shown next is some =
-    subst (λ (e : EndOf). (inbound_at e.part (lane_at_cell e.part cell)).found ≡ word ∷ []) (sym is) (looked_here end cell word (subst (λ (e : EndOf). IsShown e.part) is shown) next ∙ first_found (has_sent_more end.part (lane_at_cell end.part cell)) word some)
+pub looked_found : (end new : EndOf) (cell : CellId) (word : ℕ) → IsSeen end.part new.part.schedule → IsShown new.part → IsNextToTake end.part cell → new ≡ informed_at new.part.schedule (looked_at cell word end) → word ≢ 0 → (inbound_at new.part (lane_at_cell new.part cell)).found ≡ word ∷ []
+looked_found end new cell word seen shown next is some =
+    subst (λ (e : EndOf). (inbound_at e.part (lane_at_cell e.part cell)).found ≡ word ∷ []) (sym is) (looked_here end new.part.schedule cell word seen (subst (λ (e : EndOf). IsShown e.part) is shown) next ∙ first_found (has_sent_more end.part (lane_at_cell end.part cell)) word some)
 
 -- ---- reads
 
-pub read_found : (end new : EndOf) (cell : CellId) (index word : ℕ) → IsShown end.part → IsNextToTake end.part cell → new ≡ read_at cell index word end
+pub read_found : (end new : EndOf) (cell : CellId) (index word : ℕ) → IsShown end.part → IsNextToTake end.part cell → new ≡ informed_at new.part.schedule (read_at cell index word end)
     → inbound_at new.part (lane_at_cell new.part cell) ≡ read_in index word (inbound_at end.part (lane_at_cell end.part cell))
 read_found end new cell index word shown next is =
     let lane = lane_at_cell end.part cell in
@@ -111,18 +112,18 @@ zero_first packet words is agrees some =
     omega arith
 
 -- a node that finds nothing in a lane to itself has taken all
-nothing_here : (end : EndOf) (cell : CellId) (sure : Bool) → IsShown (looked_at cell 0 end).part → IsNextToTake end.part cell → has_sent_more end.part (lane_at_cell end.part cell) ≡ sure → cell.sender ≡ me_of end.part
+nothing_here : (end : EndOf) (es : List Event) (cell : CellId) (sure : Bool) → IsSeen end.part es → IsShown (informed_at es (looked_at cell 0 end)).part → IsNextToTake end.part cell → has_sent_more end.part (lane_at_cell end.part cell) ≡ sure → cell.sender ≡ me_of end.part
     → (outbound_at end.part (lane_at_cell end.part cell)).sent ≡ (inbound_at end.part (lane_at_cell end.part cell)).taken
-nothing_here end cell true shown next more own =
-    let new = looked_at cell 0 end in
-    let found : (inbound_at new.part (lane_at_cell new.part cell)).found ≡ 0 ∷ [] = looked_here end cell 0 shown next ∙ ap (λ (b : Bool). found_first b 0) more in
-    let there = still_takes end new cell (look_still end new cell 0 refl) next in
+nothing_here end es cell true seen shown next more own =
+    let new = informed_at es (looked_at cell 0 end) in
+    let found : (inbound_at new.part (lane_at_cell new.part cell)).found ≡ 0 ∷ [] = looked_here end es cell 0 seen shown next ∙ ap (λ (b : Bool). found_first b 0) more in
+    let there = still_takes end new cell (look_still end new cell 0 seen refl) next in
     let front = front_found new.part cell shown there (subst (λ (ws : List ℕ). 0 < length ws) (sym found) (omega arith)) in
     absurd (zero_first front.packet _ found front.agrees (words_some front.packet))
-nothing_here end cell false shown next more own =
-    let new = looked_at cell 0 end in
+nothing_here end es cell false seen shown next more own =
+    let new = informed_at es (looked_at cell 0 end) in
     let lane = lane_at_cell end.part cell in
-    let at = takes_in new.part cell shown (still_takes end new cell (look_still end new cell 0 refl) next) in
+    let at = takes_in new.part cell shown (still_takes end new cell (look_still end new cell 0 seen refl) next) in
     let sends : eqb (sender_of (nodes_in end.part) lane) (me_of end.part) ≡ true = eq-eqb (sender_of (nodes_in end.part) lane) (me_of end.part) (at.sender ∙ own) in
     eqb-true _ _ (all_taken (eqb (sender_of (nodes_in end.part) lane) (me_of end.part)) (eqb (outbound_at end.part lane).sent (inbound_at end.part lane).taken) sends more)
   where
@@ -152,23 +153,23 @@ emptied_before old new kind still same =
     let here : (outbound_at new.part (own_lane old.part kind)).sent ≡ (inbound_at new.part (own_lane old.part kind)).taken = subst (λ (l : ℕ). (outbound_at new.part l).sent ≡ (inbound_at new.part l).taken) lane same in
     sym (still.sent (own_lane old.part kind)) ∙ (here ∙ still.taken (own_lane old.part kind))
 
-pub looked_nothing : (end new : EndOf) (cell : CellId) (word : ℕ) → IsShown new.part → IsNextToTake end.part cell → new ≡ looked_at cell word end → word ≡ 0 → cell.sender ≡ me_of new.part → IsEmptied new.part cell.kind
-looked_nothing end new cell word shown next is none own =
-    let still = look_still end new cell word is in
+pub looked_nothing : (end new : EndOf) (cell : CellId) (word : ℕ) → IsSeen end.part new.part.schedule → IsShown new.part → IsNextToTake end.part cell → new ≡ informed_at new.part.schedule (looked_at cell word end) → word ≡ 0 → cell.sender ≡ me_of new.part → IsEmptied new.part cell.kind
+looked_nothing end new cell word seen shown next is none own =
+    let still = look_still end new cell word seen is in
     let own_before : cell.sender ≡ me_of end.part = own ∙ ap (λ (n : NodeOf). n.cache.me) still.node in
-    let is_zero : new ≡ looked_at cell 0 end = is ∙ ap (λ (w : ℕ). looked_at cell w end) none in
+    let is_zero : new ≡ informed_at new.part.schedule (looked_at cell 0 end) = is ∙ ap (λ (w : ℕ). informed_at new.part.schedule (looked_at cell w end)) none in
     emptied_still end new cell.kind still
-    (emptied_as end.part cell own_before next.mine (nothing_here end cell (has_sent_more end.part (lane_at_cell end.part cell)) (subst (λ (e : EndOf). IsShown e.part) is_zero shown) next refl own_before))
+    (emptied_as end.part cell own_before next.mine (nothing_here end new.part.schedule cell (has_sent_more end.part (lane_at_cell end.part cell)) seen (subst (λ (e : EndOf). IsShown e.part) is_zero shown) next refl own_before))
 
 -- a node that finds a cell to itself full has not taken all
-pub looked_full : (end new : EndOf) (cell : CellId) (word : ℕ) → IsShown new.part → IsNextToSend end.part cell → new ≡ looked_at cell word end → word ≢ 0 → cell.receiver ≡ me_of end.part → IsEmptied new.part cell.kind → ⊥
-looked_full end new cell word shown next is some own emptied =
-    let still = look_still end new cell word is in
+pub looked_full : (end new : EndOf) (cell : CellId) (word : ℕ) → IsSeen end.part new.part.schedule → IsShown new.part → IsNextToSend end.part cell → new ≡ informed_at new.part.schedule (looked_at cell word end) → word ≢ 0 → cell.receiver ≡ me_of end.part → IsEmptied new.part cell.kind → ⊥
+looked_full end new cell word seen shown next is some own emptied =
+    let still = look_still end new cell word seen is in
     let before = emptied_before end new cell.kind still emptied in
     let same = emptied_at end.part cell next.mine own before in
     let number = next.next in
     let takes : IsNextToTake end.part cell = record { mine = own; other = subst (λ (n : ℕ). n < nodes_in end.part) (own ∙ sym next.mine) next.other; next = number ∙ ap (λ (k : ℕ). k % 4) same } in
-    let found = looked_found end new cell word shown takes is some in
+    let found = looked_found end new cell word seen shown takes is some in
     let there = still_takes end new cell still takes in
     let front = front_found new.part cell shown there (subst (λ (ws : List ℕ). 0 < length ws) (sym found) (omega arith)) in
     let lane = lane_at_cell new.part cell in

@@ -1,5 +1,5 @@
 -- What a station may do with what it has received, and what it has to send.
-use Rattle.std.proofs.Common.{◌≡◌, ◌<◌, ℕ, false, List, ◌∷◌, get_or, length, Option, Some, None, refl, sym, ap, subst, ◌∙◌}
+use Rattle.std.proofs.Common.{◌≡◌, ◌≢◌, ◌<◌, ℕ, false, List, [], ◌∷◌, ◌++◌, get_or, length, Option, Some, None, refl, sym, ap, subst, ◌∙◌}
 use Rattle.std.specs.Prelude.{IsSome, slice_get}
 use Rattle.sci_words.specs.declared.event.AskKind.{AskKind}
 use Rattle.sci_words.specs.declared.event.Event.{Event}
@@ -9,7 +9,7 @@ use Rattle.sci_packets.proofs.Whole.{one_by_words}
 use Rattle.sci_cache.specs.Cache.{Letter, letter_of}
 use Rattle.sci_core.specs.declared.lane.LaneKind.{LaneKind}
 use Rattle.sci_core.specs.declared.lane.LaneKind.TheVariants.{Answers, Requests}
-use Rattle.sci_core.specs.Core.{Sends, Takes, lane_at, lane_of, lane_place, node_at, sends, side}
+use Rattle.sci_core.specs.Core.{Core, Sends, Takes, run, stepping, lane_at, lane_of, lane_place, node_at, sends, side}
 use Rattle.sci_core.specs.Node.{NodeOf, is_setback, node_accepting, node_asking, node_refusing, node_replying, node_serving, replied_by}
 use Rattle.sci_core.specs.Reached.{IsReachedNode}
 use Rattle.sci_core.specs.WellFormed.{IsInLane}
@@ -25,13 +25,19 @@ use Rattle.sci_policy.proofs.Deciding.{refuses_no_setback}
 use Rattle.sci_policy.proofs.Targets.{asked_target, waiting_target}
 use Rattle.sci_lanes.specs.declared.cell.CellId.{CellId}
 use Rattle.sci_lanes.specs.declared.view.Part.{Part}
-use Rattle.sci_lanes.specs.Shown.{inbound_at, me_of}
+use Rattle.std.proofs.lemmas.List.{append_assoc}
+use Rattle.sci_core.specs.Core.{node_of}
+use Rattle.sci_lanes.specs.Shown.{inbound_at, me_of, AreOfOthers}
+use Rattle.sci_lanes.proofs.Keeping.{all_join}
+use Rattle.sci_station.proofs.Stills.{same_of_still}
 use Rattle.sci_lanes.specs.Telling.{IsSameNode, IsShown}
-use Rattle.sci_lanes.specs.Ends.{EndOf, MayFree, freed_at, lane_at_cell, nodes_in, taken_by}
+use Rattle.sci_lanes.specs.Ends.{EndOf, MayFree, freed_at, informed_at, lane_at_cell, nodes_in, taken_by}
 use Rattle.sci_lanes.proofs.Seats.{shown_nodes}
 use Rattle.sci_lanes.proofs.Events.{words_some}
 use Rattle.sci_station.specs.Ends.{HasRead, IsSameEnd, IsStill}
-use Rattle.sci_station.specs.Moves.{IsMade}
+use Rattle.sci_lanes.specs.Telling.{IsMade, IsTaken, size_in}
+use Rattle.sci_lanes.proofs.Calls.{one_spelled}
+use Rattle.sci_station.specs.Moves.{IsFront, IsDecided}
 use Rattle.sci_station.proofs.Cells.{front_found}
 
 -- ---- sending
@@ -151,6 +157,24 @@ may_take part cell packet from n policy decision.Serve e read k f is free decide
     some_same : Some e ≡ Some (event.Serve from n) → event.Serve from n ≡ e
     some_same h = cc
 
+-- the packet that was read was the front of the event's lane when the event came
+pub front_taken : (part : Part) (cell : CellId) (e : Event) (packet : Packet) (schedule : List Event) → HasRead part cell packet → (t : IsTaken part (lane_at_cell part cell) e schedule)
+    → IsFront (run (size_in part) (part.schedule ++ t.made.others)) e (letter_of packet)
+front_taken part cell e packet schedule read t = (t.rest, t.front ∙ ap (λ (p : Packet). letter_of p ∷ t.rest) (one_spelled t.packet packet _ t.spelled read.spelled))
+
+-- an event that was made after steps that are none
+pub made_later : (old mid : EndOf) (e : Event) (schedule : List Event) → IsStill old mid → IsMade mid.part e schedule → IsMade old.part e schedule
+made_later old mid e schedule still m =
+    let others = still.seen.others in
+    let same = (same_of_still old mid still).node in
+    let known : mid.part.schedule ++ m.others ≡ old.part.schedule ++ (others ++ m.others) = ap (λ (es : List Event). es ++ m.others) still.seen.further ∙ append_assoc old.part.schedule others m.others in
+    record {
+      others = others ++ m.others;
+      further = m.further ∙ ap (λ (es : List Event). es ++ e ∷ []) known;
+      apart = all_join (λ v. node_of v ≢ me_of old.part) others m.others still.seen.apart (subst (λ (n : ℕ). AreOfOthers n m.others) same.me m.apart);
+      stepped = (λ i. stepping (run (sym same.sized i) (sym known i)) e) ∙ (m.stepped ∙ (λ i. Some (run (same.sized i) schedule)));
+    }
+
 -- ---- events of a turn
 
 pub take_is_own : (d : Decision) (from n : ℕ) (e : Event) → Some e ≡ decided_event d from n → IsTurnEvent n e
@@ -165,22 +189,22 @@ take_is_own decision.Serve from n e is = subst (IsTurnEvent n) (some_same is) (r
     some_same h = cc
 
 -- a request is taken as the policy decides, and its sender is noted
-pub take_made : (before after : PolicyOf) (old new : NodeOf) (d : Decision) (from n : ℕ) (e : Event) (request : Letter) → decided before old request ≡ d → Some e ≡ decided_event d from n → taken_by (side old e) request ≡ Some new
-    → after ≡ record before { served = Some from } → IsMade before old e after new
-take_made before after old new decision.Keep from n e request decides is takes noted = cc
-take_made before after old new decision.Refuse from n e request decides is takes noted =
-    subst (λ (v : Event). taken_by (side old v) request ≡ Some new → IsMade before old v after new) (some_same is) (λ t. (request, t, decides, noted)) takes
+pub take_made : (before after : PolicyOf) (old new : NodeOf) (state : Core) (d : Decision) (from n : ℕ) (e : Event) (request : Letter) → IsFront state e request → decided before old request ≡ d → Some e ≡ decided_event d from n → taken_by (side old e) request ≡ Some new
+    → after ≡ record before { served = Some from } → IsDecided before old state e after new
+take_made before after old new state decision.Keep from n e request front decides is takes noted = cc
+take_made before after old new state decision.Refuse from n e request front decides is takes noted =
+    subst (λ (v : Event). IsFront state v request → taken_by (side old v) request ≡ Some new → IsDecided before old state v after new) (some_same is) (λ f t. (request, f, t, decides, noted)) front takes
   where
     some_same : Some e ≡ Some (event.Refuse from n) → event.Refuse from n ≡ e
     some_same h = cc
-take_made before after old new decision.Serve from n e request decides is takes noted =
-    subst (λ (v : Event). taken_by (side old v) request ≡ Some new → IsMade before old v after new) (some_same is) (λ t. (request, t, decides, noted)) takes
+take_made before after old new state decision.Serve from n e request front decides is takes noted =
+    subst (λ (v : Event). IsFront state v request → taken_by (side old v) request ≡ Some new → IsDecided before old state v after new) (some_same is) (λ f t. (request, f, t, decides, noted)) front takes
   where
     some_same : Some e ≡ Some (event.Serve from n) → event.Serve from n ≡ e
     some_same h = cc
 
 -- what a free leaves
-pub freed_same : (old new : EndOf) (cell : CellId) → new ≡ freed_at cell new.part.node old → IsSameNode old.part new.part → IsSameEnd old new
+pub freed_same : (old new : EndOf) (cell : CellId) → new ≡ informed_at new.part.schedule (freed_at cell new.part.node old) → IsSameNode old.part new.part → IsSameEnd old new
 freed_same old new cell is same = record { table = ap (λ (e : EndOf). e.table) is; node = same }
 
 pub me_still : (me : ℕ) (old new : EndOf) → IsStill old new → me ≡ me_of old.part → me ≡ me_of new.part

@@ -1,25 +1,38 @@
 -- Ends that have made no event.
-use Rattle.std.proofs.Common.{◌≡◌, ℕ, ◌%◌, ◌<◌, Bool, true, false, [], refl, sym, ap, subst, ◌∙◌}
+use Rattle.std.proofs.Common.{◌≡◌, ◌≢◌, ◌++◌, List, ℕ, ◌%◌, ◌<◌, Bool, true, false, [], refl, sym, ap, subst, ◌∙◌}
 use Rattle.std.specs.Prelude.{if◌then◌else◌}
 use Rattle.sci_core.proofs.Lists.{at_place_set}
 use Rattle.sci_lanes.specs.declared.cell.CellId.{CellId}
 use Rattle.sci_lanes.specs.declared.view.Inbound.{Inbound}
 use Rattle.sci_lanes.specs.declared.view.Outbound.{Outbound}
 use Rattle.sci_lanes.specs.declared.view.Part.{Part}
-use Rattle.sci_lanes.specs.Shown.{inbound_at, no_inbound, no_outbound, outbound_at}
+use Rattle.std.proofs.lemmas.List.{append_assoc}
+use Rattle.sci_words.specs.declared.event.Event.{Event}
+use Rattle.sci_core.specs.Core.{node_of}
+use Rattle.sci_lanes.specs.Shown.{inbound_at, me_of, no_inbound, no_outbound, outbound_at, AreOfOthers, IsSeen}
+use Rattle.sci_lanes.proofs.Keeping.{all_join, seen_all}
 use Rattle.sci_lanes.specs.Knowing.{has_sent_more, filled_out, is_receiving, is_sending, looked_in, looked_out, read_in, with_lane_known}
 use Rattle.sci_lanes.specs.Telling.{size_in}
-use Rattle.sci_lanes.specs.Ends.{EndOf, IsNextToSend, IsNextToTake, filled_at, lane_at_cell, looked_at, read_at, with_part}
+use Rattle.sci_lanes.specs.Ends.{EndOf, IsNextToSend, IsNextToTake, filled_at, informed_at, lane_at_cell, looked_at, read_at, with_part}
 use Rattle.sci_core.specs.Node.{NodeOf}
 use Rattle.sci_station.specs.Ends.{IsSameEnd, IsStill}
 
+-- what was seen, and what was seen then
+pub seen_then : (p q : Part) (schedule : List Event) → me_of q ≡ me_of p → IsSeen p q.schedule → IsSeen q schedule → IsSeen p schedule
+seen_then p q schedule me one two = record {
+  others = one.others ++ two.others;
+  further = two.further ∙ (ap (λ (es : List Event). es ++ two.others) one.further ∙ append_assoc p.schedule one.others two.others);
+  apart = all_join (λ e. node_of e ≢ me_of p) one.others two.others one.apart (subst (λ (n : ℕ). AreOfOthers n two.others) me two.apart);
+}
+
 pub still_itself : (end : EndOf) → IsStill end end
-still_itself end = record { table = refl; node = refl; sent = λ lane. refl; taken = λ lane. refl }
+still_itself end = record { table = refl; node = refl; seen = seen_all end.part; sent = λ lane. refl; taken = λ lane. refl }
 
 pub still_then : (old mid new : EndOf) → IsStill old mid → IsStill mid new → IsStill old new
 still_then old mid new one two = record {
   table = two.table ∙ one.table;
   node = two.node ∙ one.node;
+  seen = seen_then old.part mid.part new.part.schedule (ap (λ (n : NodeOf). n.cache.me) one.node) one.seen two.seen;
   sent = λ lane. two.sent lane ∙ one.sent lane;
   taken = λ lane. two.taken lane ∙ one.taken lane;
 }
@@ -31,7 +44,7 @@ same_of_still old new still = record {
 }
   where
     sizes : (a b : NodeOf) (p q : Part) → q.node ≡ p.node → size_in q ≡ size_in p
-    sizes a b p q same = λ i. size_in (record { node = same i; outbound = []; inbound = [] })
+    sizes a b p q same = λ i. size_in (record { node = same i; schedule = []; outbound = []; inbound = [] })
 
 -- ---- the next cells stay
 
@@ -39,44 +52,46 @@ pub still_sends : (old new : EndOf) (cell : CellId) → IsStill old new → IsNe
 still_sends old new cell still next = record {
   mine = next.mine ∙ ap (λ (n : NodeOf). n.cache.me) (sym still.node);
   other = subst (λ (n : NodeOf). cell.receiver < n.cache.nodes) (sym still.node) next.other;
-  next = next.next ∙ (ap (λ (k : ℕ). k % 4) (sym (still.sent (lane_at_cell old.part cell))) ∙ ap (λ (n : NodeOf). (outbound_at new.part (lane_at_cell (record { node = n; outbound = []; inbound = [] }) cell)).sent % 4) (sym still.node));
+  next = next.next ∙ (ap (λ (k : ℕ). k % 4) (sym (still.sent (lane_at_cell old.part cell))) ∙ ap (λ (n : NodeOf). (outbound_at new.part (lane_at_cell (record { node = n; schedule = []; outbound = []; inbound = [] }) cell)).sent % 4) (sym still.node));
 }
 
 pub still_takes : (old new : EndOf) (cell : CellId) → IsStill old new → IsNextToTake old.part cell → IsNextToTake new.part cell
 still_takes old new cell still next = record {
   mine = next.mine ∙ ap (λ (n : NodeOf). n.cache.me) (sym still.node);
   other = subst (λ (n : NodeOf). cell.sender < n.cache.nodes) (sym still.node) next.other;
-  next = next.next ∙ (ap (λ (k : ℕ). k % 4) (sym (still.taken (lane_at_cell old.part cell))) ∙ ap (λ (n : NodeOf). (inbound_at new.part (lane_at_cell (record { node = n; outbound = []; inbound = [] }) cell)).taken % 4) (sym still.node));
+  next = next.next ∙ (ap (λ (k : ℕ). k % 4) (sym (still.taken (lane_at_cell old.part cell))) ∙ ap (λ (n : NodeOf). (inbound_at new.part (lane_at_cell (record { node = n; schedule = []; outbound = []; inbound = [] }) cell)).taken % 4) (sym still.node));
 }
 
 -- ---- steps that are no event
 
-known_still : (end new : EndOf) (lane : ℕ) (o : Outbound) (i : Inbound) → o.sent ≡ (outbound_at end.part lane).sent → i.taken ≡ (inbound_at end.part lane).taken → new ≡ with_part end (with_lane_known lane end.part.node o i end.part) → IsStill end new
-known_still end new lane o i sent taken is = subst (IsStill end) (sym is) (record {
+known_still : (end new : EndOf) (lane : ℕ) (o : Outbound) (i : Inbound) → o.sent ≡ (outbound_at end.part lane).sent → i.taken ≡ (inbound_at end.part lane).taken → IsSeen end.part new.part.schedule → new ≡ informed_at new.part.schedule (with_part end (with_lane_known lane end.part.node o i end.part)) → IsStill end new
+known_still end new lane o i sent taken seen is = subst (IsStill end) (sym is) (record {
   table = refl;
   node = refl;
+  seen = seen;
   sent = at_place_set (λ (k : ℕ) (x : Outbound). x.sent ≡ (outbound_at end.part k).sent) end.part.outbound lane o no_outbound (λ k. refl) sent;
   taken = at_place_set (λ (k : ℕ) (x : Inbound). x.taken ≡ (inbound_at end.part k).taken) end.part.inbound lane i no_inbound (λ k. refl) taken;
 })
 
-pub fill_still : (end new : EndOf) (cell : CellId) (index word : ℕ) → new ≡ filled_at cell index word end → IsStill end new
-fill_still end new cell index word is = known_still end new (lane_at_cell end.part cell) (filled_out index word (outbound_at end.part (lane_at_cell end.part cell))) (inbound_at end.part (lane_at_cell end.part cell)) refl refl is
+pub fill_still : (end new : EndOf) (cell : CellId) (index word : ℕ) → IsSeen end.part new.part.schedule → new ≡ informed_at new.part.schedule (filled_at cell index word end) → IsStill end new
+fill_still end new cell index word seen is = known_still end new (lane_at_cell end.part cell) (filled_out index word (outbound_at end.part (lane_at_cell end.part cell))) (inbound_at end.part (lane_at_cell end.part cell)) refl refl seen is
 
-pub read_still : (end new : EndOf) (cell : CellId) (index word : ℕ) → new ≡ read_at cell index word end → IsStill end new
-read_still end new cell index word is = known_still end new (lane_at_cell end.part cell) (outbound_at end.part (lane_at_cell end.part cell)) (read_in index word (inbound_at end.part (lane_at_cell end.part cell))) refl refl is
+pub read_still : (end new : EndOf) (cell : CellId) (index word : ℕ) → IsSeen end.part new.part.schedule → new ≡ informed_at new.part.schedule (read_at cell index word end) → IsStill end new
+read_still end new cell index word seen is = known_still end new (lane_at_cell end.part cell) (outbound_at end.part (lane_at_cell end.part cell)) (read_in index word (inbound_at end.part (lane_at_cell end.part cell))) refl refl seen is
 
 if_same : {A : Type 0} (f : A → ℕ) (b : Bool) (x y : A) (n : ℕ) → f x ≡ n → f y ≡ n → f (if b then x else y) ≡ n
 if_same f true x y n h k = h
 if_same f false x y n h k = k
 
-pub look_still : (end new : EndOf) (cell : CellId) (word : ℕ) → new ≡ looked_at cell word end → IsStill end new
-look_still end new cell word is =
+pub look_still : (end new : EndOf) (cell : CellId) (word : ℕ) → IsSeen end.part new.part.schedule → new ≡ informed_at new.part.schedule (looked_at cell word end) → IsStill end new
+look_still end new cell word seen is =
     let lane = lane_at_cell end.part cell in
     known_still end new lane
     (if is_sending end.part lane cell.number then looked_out word (outbound_at end.part lane) else outbound_at end.part lane)
     (if is_receiving end.part lane cell.number then looked_in (has_sent_more end.part lane) word (inbound_at end.part lane) else inbound_at end.part lane)
     (if_same (λ (o : Outbound). o.sent) (is_sending end.part lane cell.number) _ _ _ refl refl)
     (if_same (λ (i : Inbound). i.taken) (is_receiving end.part lane cell.number) _ _ _ refl refl)
+    seen
     is
 
 -- ---- one cell is the next

@@ -6,7 +6,7 @@ use Rattle.sci_core.specs.declared.lane.LaneKind.{LaneKind}
 use Rattle.sci_core.specs.declared.lane.LaneKind.TheVariants.{Answers, Requests}
 use Rattle.sci_core.specs.Core.{Sends, lane_place, side}
 use Rattle.sci_core.specs.Node.{NodeOf}
-use Rattle.sci_lanes.specs.Shown.{inbound_at, me_of, outbound_at}
+use Rattle.sci_lanes.specs.Shown.{inbound_at, IsSeen, me_of, outbound_at}
 use Rattle.sci_lanes.specs.Telling.{IsSameNode, IsShown}
 use Rattle.sci_policy.specs.Rest.{MayRest}
 use Rattle.sci_lanes.specs.declared.cell.CellId.{CellId}
@@ -21,10 +21,12 @@ pub record IsSameEnd (old new : EndOf) : Type 0 where
   pub table : new.table ≡ old.table
   pub node : IsSameNode old.part new.part
 
--- an end that has made no event: its node is the same, and as many packets were sent and taken in each lane
+-- an end that has made no event: its node is the same, the schedule goes on by events of others alone, and as many packets
+-- were sent and taken in each lane
 pub record IsStill (old new : EndOf) : Type 0 where
   pub table : new.table ≡ old.table
   pub node : new.part.node ≡ old.part.node
+  pub seen : IsSeen old.part new.part.schedule
   pub sent : (lane : ℕ) → (outbound_at new.part lane).sent ≡ (outbound_at old.part lane).sent
   pub taken : (lane : ℕ) → (inbound_at new.part lane).taken ≡ (inbound_at old.part lane).taken
 

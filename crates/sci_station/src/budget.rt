@@ -5,17 +5,17 @@ ghost use Rattle.sci_station.specs.Budgets.{HasLess};
 
 /// How many more steps on words a turn may make: as many as it likes if there is no limit.
 #[derive(Clone, Copy)]
-pub(crate) struct Budget {
-    pub(crate) left: Option<u32>,
+pub struct Budget {
+    pub left: Option<u32>,
 }
 
 /// A turn has made as many steps as it may.
 #[derive(Clone, Copy)]
-pub(crate) struct Spent;
+pub struct Spent;
 
 impl Budget {
     /// Allows one step more. Refused, unchanged, if the turn has made as many as it may.
-    pub(crate) fn spend(&mut self) -> Result<(), Spent>
+    pub fn spend(&mut self) -> Result<(), Spent>
         ensures one { IfOk result (λ _. HasLess 1 self.old.left self.new.left) }
         ensures spent { IsErr result → self.old.left ≡ Some 0 }
         ensures same { IsErr result → self.new ≡ self.old }

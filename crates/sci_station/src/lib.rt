@@ -2,14 +2,9 @@
 #![tactic(auto)]
 
 mod budget;
-#[cfg(test)]
-mod by_hand;
-#[cfg(test)]
-mod by_hand_tests;
-#[cfg(test)]
-mod exchange_tests;
 mod fabric;
 mod kept;
+mod laws;
 mod receiving;
 mod sending;
 mod station;
@@ -17,5 +12,9 @@ mod turn;
 mod unanswered;
 mod worker;
 
+pub use budget::{Budget, Spent};
 pub use fabric::{Fabric, Finished};
+pub use laws::{calls_add_their_events, ends_know_their_own_events};
+pub use receiving::{Seen, read_packet, see};
+pub use sending::send;
 pub use station::Station;

@@ -19,16 +19,16 @@ const SHORT_WORDS: usize = 2;
 
 /// A packet that was seen in the next cell of a lane.
 #[derive(Clone, Copy)]
-pub(crate) struct Seen {
+pub struct Seen {
     /// The cell.
-    pub(crate) cell: CellId,
+    pub cell: CellId,
     /// The packet's first word.
-    pub(crate) first: u64,
+    pub first: u64,
 }
 
 /// Looks at the next cell of the lane of a kind from a node to this one. None if no packet is there. The caller sees to it
 /// that there is such a node.
-pub(crate) fn see(
+pub fn see(
     end: &mut LaneEnd,
     budget: &mut Budget,
     kind: LaneKind,
@@ -54,11 +54,7 @@ pub(crate) fn see(
 }
 
 /// Reads the packet that was seen, all its words and no more. It stays in its cell.
-pub(crate) fn read_packet(
-    end: &mut LaneEnd,
-    budget: &mut Budget,
-    seen: Seen,
-) -> Result<Packet, Spent>
+pub fn read_packet(end: &mut LaneEnd, budget: &mut Budget, seen: Seen) -> Result<Packet, Spent>
     requires { HasSeen end.old.part seen }
     ensures read { IfOk result (HasRead end.new.part seen.cell) }
     ensures still { IsStill end.old end.new }

@@ -5,7 +5,7 @@ ghost use Rattle.sci_cache.specs.Cache.{letter_of};
 ghost use Rattle.sci_core.specs.Core.{Sends, node_of, side};
 ghost use Rattle.sci_core.specs.declared.lane.LaneKind.TheVariants.{Requests};
 ghost use Rattle.sci_lanes.specs.Shown.{me_of, outbound_at};
-ghost use Rattle.sci_lanes.specs.Telling.{IsShown, SomeLineWaits};
+ghost use Rattle.sci_lanes.specs.Telling.{IsMade, IsShown, SomeLineWaits};
 ghost use Rattle.sci_lanes.specs.Ends.{IsNextToSend, lane_at_cell, nodes_in};
 ghost use Rattle.sci_station.specs.Budgets.{HasNoMore};
 ghost use Rattle.sci_station.specs.Ends.{IsEmptied, IsSameEnd, IsSentBy, IsStill};
@@ -22,7 +22,7 @@ pub(crate) const PACKET_WORDS: usize = 11;
 /// Sends a packet by an event of the node: a look at the next cell of its lane, and if that is empty, a store of each word.
 /// False if the cell is full. The caller sees to it that the event sends this packet, to a node of the machine. If the turn
 /// has made as many steps as it may before the first word is stored, nothing is sent.
-pub(crate) fn send(
+pub fn send(
     end: &mut LaneEnd,
     budget: &mut Budget,
     kind: LaneKind,
@@ -34,6 +34,8 @@ pub(crate) fn send(
     requires sends { IsSentBy end.old.part.node event.now kind (letter_of packet.now) }
     ensures sent { IfOk result (λ sent. sent ≡ true →
         side end.old.part.node event.now ≡ Sends kind end.new.part.node (letter_of packet.now)) }
+    ensures made { IfOk result (λ sent. sent ≡ true →
+        IsMade end.old.part event.now end.new.part.schedule) }
     ensures full { IfOk result (λ sent. sent ≡ false → IsStill end.old end.new) }
     ensures cut { IsErr result → IsStill end.old end.new }
     ensures waits { IfOk result (λ sent. sent ≡ false → kind ≡ Requests →

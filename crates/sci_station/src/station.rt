@@ -47,11 +47,13 @@ impl Station {
     ghost use Rattle.sci_policy.specs.Rest.{MayIdle};
     ghost use Rattle.sci_policy.specs.Turn.{MayPerform, is_idle, submit_fault};
     ghost use Rattle.sci_policy.specs.Worker.{HasSameWork};
+    ghost use Rattle.sci_words.specs.declared.event.Event.TheVariants.{Issue, Perform};
     ghost use Rattle.sci_lanes.specs.Shown.{me_of};
+    ghost use Rattle.sci_lanes.specs.Telling.{IsMade};
     ghost use Rattle.sci_station.specs.Ends.{IsSameEnd};
     ghost use Rattle.sci_station.specs.Moves.{IsTurn};
     ghost use Rattle.sci_station.specs.OneLog.{IsOneLog};
-    ghost use Rattle.sci_station.specs.Station.{beaten_to, node_in, opening_station};
+    ghost use Rattle.sci_station.specs.Station.{beaten_to, node_in, opening_station, schedule_in};
 
     /// The station of an end whose node has taken no turn yet.
     pub(crate) fn new(end: LaneEnd) -> Station
@@ -74,9 +76,11 @@ impl Station {
         ensures pending { IfOk result
             (λ serial. IsIssued (node_in self.old) (node_in self.new) op) }
         ensures may { IsOk result → submit_fault (node_in self.old) op ≡ None }
+        ensures made { IfOk result (λ serial.
+            IsMade self.old.end.part (Issue (me_of self.old.end.part) op) (schedule_in self.new)) }
         ensures fault { IfErr result
             (λ fault. submit_fault (node_in self.old) op ≡ Some fault) }
-        ensures beaten { self.new ≡ beaten_to (node_in self.new) self.old }
+        ensures beaten { self.new ≡ beaten_to (schedule_in self.new) (node_in self.new) self.old }
         ensures same { IsErr result → self.new ≡ self.old }
         ensures end { IsSameEnd self.old.end self.new.end }
     {
@@ -100,7 +104,9 @@ impl Station {
         ensures logged { IfSome result
             (λ entry. IsLogged (node_in self.old) (node_in self.new) line entry) }
         ensures none { result ≡ None → node_performing (node_in self.old) line ≡ None }
-        ensures beaten { self.new ≡ beaten_to (node_in self.new) self.old }
+        ensures made { IfSome result (λ entry.
+            IsMade self.old.end.part (Perform (me_of self.old.end.part) line) (schedule_in self.new)) }
+        ensures beaten { self.new ≡ beaten_to (schedule_in self.new) (node_in self.new) self.old }
         ensures same { result ≡ None → self.new ≡ self.old }
         ensures end { IsSameEnd self.old.end self.new.end }
     {
@@ -127,8 +133,8 @@ impl Station {
     /// - What is told counts the events. A line that is told of has an operation that can be performed.
     /// - Nothing is told only if no operation is pending, or there are other nodes and some line awaits an answer.
     pub fn turn(&mut self) -> Progress
-        ensures turn { IsTurn (me_of self.old.end.part) self.old.policy (node_in self.old)
-            self.new.policy (node_in self.new) result }
+        ensures turn { IsTurn (me_of self.old.end.part) self.old.policy self.old.end.part
+            self.new.policy self.new.end.part result }
         ensures ready { MayPerform (node_in self.new) result.ready }
         ensures work { HasSameWork (node_in self.old) (node_in self.new) }
         ensures rest { is_idle result ≡ true → MayIdle (node_in self.new) }
@@ -156,8 +162,8 @@ impl Station {
     /// made. What it didn't come to is not told. A packet that was partly sent or partly read is begun again in a later
     /// turn.
     pub fn turn_within(&mut self, steps: u32) -> (Progress, u32)
-        ensures turn { IsTurn (me_of self.old.end.part) self.old.policy (node_in self.old)
-            self.new.policy (node_in self.new) result.0 }
+        ensures turn { IsTurn (me_of self.old.end.part) self.old.policy self.old.end.part
+            self.new.policy self.new.end.part result.0 }
         ensures ready { MayPerform (node_in self.new) result.0.ready }
         ensures work { HasSameWork (node_in self.old) (node_in self.new) }
         ensures steps { result.1 ≤ steps }

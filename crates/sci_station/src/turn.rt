@@ -36,8 +36,8 @@ pub(crate) fn take_turn(
 ) -> Result<(), Spent>
     requires nothing { Counts [] progress.old }
     requires ready { progress.old.ready ≡ None }
-    ensures turn { IsTurn (me_of end.old.part) policy.old end.old.part.node
-        policy.new end.new.part.node progress.new }
+    ensures turn { IsTurn (me_of end.old.part) policy.old end.old.part
+        policy.new end.new.part progress.new }
     ensures ready { MayPerform end.new.part.node progress.new.ready }
     ensures rest { IsOk result → is_idle progress.new ≡ true → HasNothingToDo end.new.part }
     ensures same { IsSameEnd end.old end.new }

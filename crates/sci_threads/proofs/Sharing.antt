@@ -8,12 +8,13 @@ use Rattle.std.proofs.lemmas.List.FromFn.{get_or-map-range_with_len, length-map-
 use Rattle.std.proofs.lemmas.List.Sums.{length-filter}
 use Rattle.std.proofs.lemmas.Option.{get_or_from_slice_get, slice_get-get_or, slice_get-map, slice_get_within}
 use Rattle.atomic_table.specs.Seated.{TableId}
+use Rattle.sci_words.specs.declared.extent.Extent.{Extent}
 use Rattle.sci_words.specs.declared.limits.TheConstants.{MAX_NODES, MAX_OPERATIONS}
 use Rattle.sci_words.specs.declared.operation.Op.{Op}
 use Rattle.sci_history.specs.declared.entry.Entry.{Entry}
 use Rattle.sci_history.specs.Placed.{log_of}
 use Rattle.sci_text.specs.Script.{ScriptValue, IsScript}
-use Rattle.sci_core.specs.Size.{Size}
+use Rattle.sci_core.specs.Size.{Size, size_of}
 use Rattle.sci_core.specs.Node.{opening_node}
 use Rattle.sci_lanes.specs.Shown.{me_of, opening_part}
 use Rattle.sci_lanes.specs.Ends.{EndOf, LanesOf, opening_ends}
@@ -31,7 +32,16 @@ use Rattle.sci_drive.specs.Script.{IsLogOf, IsWholeLogOf}
 use Rattle.sci_station.specs.Ends.{IsSameEnd}
 use Rattle.sci_station.specs.Station.{StationOf, end_in, node_in, opening_station}
 use Rattle.sci_station.proofs.Belonging.{opened_of, same_of}
-use Rattle.sci_threads.specs.Shares.{HasRun, operations_of, own_of}
+use Rattle.sci_threads.specs.Shares.{HasRun, operations_of, own_of, size_for}
+
+-- ---- sizes
+
+-- the machine of the size that a script has is the one that it is run on
+pub sized_for : (extent : Extent) (script : ScriptValue) → extent.nodes ≡ script.nodes → extent.lines ≡ script.lines → extent.slots ≡ script.slots → size_of extent MAX_OPERATIONS ≡ size_for script
+sized_for extent script nodes lines slots = ap (λ n. size n extent.lines extent.slots) nodes ∙ (ap (λ l. size script.nodes l extent.slots) lines ∙ ap (size script.nodes script.lines) slots)
+  where
+    size : ℕ → ℕ → ℕ → Size
+    size n l s = record { nodes = n; lines = l; slots = s; limit = MAX_OPERATIONS }
 
 -- ---- lists
 

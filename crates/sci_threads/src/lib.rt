@@ -5,8 +5,6 @@ mod gate;
 mod laws;
 mod running;
 mod shares;
-#[cfg(test)]
-mod tests;
 
 pub use gate::YieldingGate;
 pub use laws::new_stations_are_fresh;

@@ -36,7 +36,7 @@ loop-index-preserved c =
     let next = still_takes c.args.end.now c.loop-index.end c.args.cell i.still c.requires.next in
     let found = ap (λ (x : Inbound). x.found) (read_found c.loop-index.end c.read_word.new.self c.args.cell index c.read_word.result i.shown next c.read_word.ensures.part) in
     record {
-      still = still_then c.args.end.now c.loop-index.end c.read_word.new.self i.still (read_still c.loop-index.end c.read_word.new.self c.args.cell index c.read_word.result c.read_word.ensures.part);
+      still = still_then c.args.end.now c.loop-index.end c.read_word.new.self i.still (read_still c.loop-index.end c.read_word.new.self c.args.cell index c.read_word.result c.read_word.ensures.seen c.read_word.ensures.part);
       shown = c.read_word.ensures.shown;
       long = length-set c.loop-index.words index c.read_word.result ∙ long;
       order = omega arith;

@@ -14,7 +14,7 @@ pub returns-in-Ok-clause-read : goal.returns-in-Ok-clause-read
 returns-in-Ok-clause-read c =
     let seen = c.args.seen in
     let second = c.read_word-second in
-    let still = read_still c.args.end.now second.new.self seen.cell 1 second.result second.ensures.part in
+    let still = read_still c.args.end.now second.new.self seen.cell 1 second.result second.ensures.seen second.ensures.part in
     let found = ap (λ (x : Inbound). x.found) (read_found c.args.end.now second.new.self seen.cell 1 second.result c.requires.shown c.requires.next second.ensures.part) in
     record {
       shown = second.ensures.shown;
@@ -25,4 +25,4 @@ returns-in-Ok-clause-read c =
 pub returns-in-Err-clause-still : goal.returns-in-Err-clause-still
 returns-in-Err-clause-still c =
     let second = c.read_word-second in
-    still_then c.args.end.now second.new.self c.read_long.new.end (read_still c.args.end.now second.new.self c.args.seen.cell 1 second.result second.ensures.part) c.read_long.ensures.still
+    still_then c.args.end.now second.new.self c.read_long.new.end (read_still c.args.end.now second.new.self c.args.seen.cell 1 second.result second.ensures.seen second.ensures.part) c.read_long.ensures.still

@@ -9,15 +9,15 @@ use Rattle.sci_station.proofs.receiving.see.Goals as goal
 pub returns-then-first-eq0-clause-none : goal.returns-then-first-eq0-clause-none
 returns-then-first-eq0-clause-none c = λ _ own.
     let looked = c.look_for-first.ensures.looked in
-    rw (sym looked.kind_is) (looked_nothing c.args.end.now c.look_for-first.new.self looked.cell c.look_for-first.result c.look_for-first.ensures.shown looked.next looked.looked c.if-first-eq0.true (looked.sender_is ∙ own))
+    rw (sym looked.kind_is) (looked_nothing c.args.end.now c.look_for-first.new.self looked.cell c.look_for-first.result looked.seen c.look_for-first.ensures.shown looked.next looked.looked c.if-first-eq0.true (looked.sender_is ∙ own))
 
 pub returns-then-first-eq0-clause-still : goal.returns-then-first-eq0-clause-still
-returns-then-first-eq0-clause-still c = let looked = c.look_for-first.ensures.looked in look_still c.args.end.now c.look_for-first.new.self looked.cell c.look_for-first.result looked.looked
+returns-then-first-eq0-clause-still c = let looked = c.look_for-first.ensures.looked in look_still c.args.end.now c.look_for-first.new.self looked.cell c.look_for-first.result looked.seen looked.looked
 
 pub next_to_take-cell-requires : goal.next_to_take-cell-requires
 next_to_take-cell-requires c =
     let looked = c.look_for-first.ensures.looked in
-    let still = look_still c.args.end.now c.look_for-first.new.self looked.cell c.look_for-first.result looked.looked in
+    let still = look_still c.args.end.now c.look_for-first.new.self looked.cell c.look_for-first.result looked.seen looked.looked in
     subst (λ (n : NodeOf). c.args.from < n.cache.nodes) (sym still.node) c.requires
 
 pub returns-clause-seen : goal.returns-clause-seen
@@ -26,15 +26,15 @@ returns-clause-seen c =
     let end = c.args.end.now in
     let new = c.look_for-first.new.self in
     let first = c.look_for-first.result in
-    let still = look_still end new looked.cell first looked.looked in
+    let still = look_still end new looked.cell first looked.seen looked.looked in
     let there = still_takes end new looked.cell still looked.next in
     let cell = c.next_to_take-cell in
     let same = next_same new.part cell.result looked.cell cell.ensures.next there (cell.ensures.cell.0 ∙ sym looked.kind_is) (cell.ensures.cell.1 ∙ sym looked.sender_is) in
     subst (λ (k : CellId). HasSeen new.part (record { cell = k; first = first })) (sym same) (record {
       shown = c.look_for-first.ensures.shown;
       next = there;
-      found = looked_found end new looked.cell first c.look_for-first.ensures.shown looked.next looked.looked c.if-first-eq0.false;
+      found = looked_found end new looked.cell first looked.seen c.look_for-first.ensures.shown looked.next looked.looked c.if-first-eq0.false;
     })
 
 pub returns-clause-still : goal.returns-clause-still
-returns-clause-still c = let looked = c.look_for-first.ensures.looked in look_still c.args.end.now c.look_for-first.new.self looked.cell c.look_for-first.result looked.looked
+returns-clause-still c = let looked = c.look_for-first.ensures.looked in look_still c.args.end.now c.look_for-first.new.self looked.cell c.look_for-first.result looked.seen looked.looked

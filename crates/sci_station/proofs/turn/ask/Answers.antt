@@ -13,6 +13,7 @@ send-requires-clause-target c =
 pub returns-then-sent-clause-asked : goal.returns-then-sent-clause-asked
 returns-then-sent-clause-asked c = λ _. record {
   request = letter_of c.in-Some.request;
+  made = c.in_ok-sent.ensures.made c.if-sent.true;
   sends = c.in_ok-sent.ensures.sent c.if-sent.true;
   counted = c.count.ensures.more;
   counts = c.count.ensures.counted;

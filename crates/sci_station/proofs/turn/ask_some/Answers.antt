@@ -12,7 +12,7 @@ use Rattle.sci_policy.specs.Turn.{IsTurnEvent}
 use Rattle.sci_policy.proofs.Telling.{tells_something}
 use Rattle.sci_station.proofs.Budgets.{no_more_then}
 use Rattle.sci_station.proofs.Events.{reached_node, sent_by}
-use Rattle.sci_station.proofs.Turns.{ends_asked, ends_ready, goes_made, goes_still, goes_then, me_stays, step_made, step_then}
+use Rattle.sci_station.proofs.Turns.{ends_asked, ends_ready, goes_made, goes_still, goes_then, me_stays, step_made, step_then, still_so}
 use Rattle.sci_station.proofs.turn.ask_some.Goals as goal
 
 own : (n line : ℕ) (kind : AskKind) → IsTurnEvent n (event.Ask n line kind)
@@ -40,7 +40,7 @@ loop-cell-preserved c =
     record {
       step = step_then c.loop-cell._cell 1 _ _ _ _ _ _ invariant.step (step_made old new c.loop-cell.progress c.ask.new.progress (event.Ask n line kind) c.ask.ensures.same asked.counted);
       goes = goes_then n _ _ _ _ _ _ _ _ _ invariant.goes
-          (goes_made n c.loop-cell.policy c.next.new.self old new c.loop-cell.progress c.ask.new.progress (event.Ask n line kind) (own n line kind) (asked.request, asks, wanted, noted) asked.counted asked.counts);
+          (goes_made n c.loop-cell.policy c.next.new.self old new c.loop-cell.progress c.ask.new.progress (event.Ask n line kind) (own n line kind) c.ask.ensures.same.node asked.made (asked.request, asks, wanted, noted) asked.counted asked.counts);
       first = λ nothing. absurd (tells_something n (event.Ask n line kind) c.loop-cell.progress c.ask.new.progress (own n line kind) asked.counted nothing);
       budget = no_more_then _ _ _ invariant.budget c.ask.ensures.budget;
     }
@@ -51,27 +51,27 @@ pub returns-in_err-ask-in-Some-Ask-clause-turn : goal.returns-in_err-ask-in-Some
 returns-in_err-ask-in-Some-Ask-clause-turn c = λ policy start moved.
     let n = c.args.me in
     let cut = c.in_err-ask-in-Some-Ask.ensures.cut refl in
-    ends_asked n policy start c.loop-cell.policy c.next.new.self c.ask.new.end.part.node c.ask.new.progress
+    ends_asked n policy start c.loop-cell.policy c.next.new.self c.ask.new.end.part c.ask.new.progress
     (asked_here c.loop-cell.policy c.next.new.self c.node.result.now c.ask.new.end.part.node c.next.ensures.then (c.node.ensures.node ∙ sym cut.0.node))
     ((goes_still n c.loop-cell.policy c.loop-cell.end c.ask.new.end c.loop-cell.progress c.ask.new.progress cut.0 cut.1).turn policy start (c.loop-cell.invariant.goes.turn policy start moved))
 
 pub returns-in-Some-Perform-clause-turn : goal.returns-in-Some-Perform-clause-turn
 returns-in-Some-Perform-clause-turn c = λ policy start moved.
-    ends_ready c.args.me policy start c.next.new.self c.loop-cell.end.part.node c.loop-cell.progress _ refl refl refl refl
-    (ends_asked c.args.me policy start c.loop-cell.policy c.next.new.self c.loop-cell.end.part.node c.loop-cell.progress
+    ends_ready c.args.me policy start c.next.new.self c.loop-cell.end.part c.loop-cell.progress _ refl refl refl refl
+    (ends_asked c.args.me policy start c.loop-cell.policy c.next.new.self c.loop-cell.end.part c.loop-cell.progress
     (asked_here c.loop-cell.policy c.next.new.self c.node.result.now c.loop-cell.end.part.node c.next.ensures.then c.node.ensures.node) (c.loop-cell.invariant.goes.turn policy start moved))
 
 pub returns-then-not-branch-clause-turn : goal.returns-then-not-branch-clause-turn
 returns-then-not-branch-clause-turn c = λ policy start moved.
     let n = c.args.me in
     let full = c.in_ok-ask-in-Some-Ask.ensures.full c.if-not-branch.true in
-    ends_asked n policy start c.loop-cell.policy c.next.new.self c.ask.new.end.part.node c.ask.new.progress
+    ends_asked n policy start c.loop-cell.policy c.next.new.self c.ask.new.end.part c.ask.new.progress
     (asked_here c.loop-cell.policy c.next.new.self c.node.result.now c.ask.new.end.part.node c.next.ensures.then (c.node.ensures.node ∙ sym full.end.node))
     ((goes_still n c.loop-cell.policy c.loop-cell.end c.ask.new.end c.loop-cell.progress c.ask.new.progress full.end full.same).turn policy start (c.loop-cell.invariant.goes.turn policy start moved))
 
 pub returns-in-None-clause-turn : goal.returns-in-None-clause-turn
 returns-in-None-clause-turn c = λ policy start moved.
-    ends_asked c.args.me policy start c.loop-cell.policy c.next.new.self c.loop-cell.end.part.node c.loop-cell.progress
+    ends_asked c.args.me policy start c.loop-cell.policy c.next.new.self c.loop-cell.end.part c.loop-cell.progress
     (asked_here c.loop-cell.policy c.next.new.self c.node.result.now c.loop-cell.end.part.node c.next.ensures.then c.node.ensures.node) (c.loop-cell.invariant.goes.turn policy start moved)
 
 -- ---- and nothing was asked
@@ -85,3 +85,15 @@ pub returns-in-None-clause-idle : goal.returns-in-None-clause-idle
 returns-in-None-clause-idle c = λ _ nothing ready.
     let me = me_stays c.args.me c.args.end.now c.loop-cell.end c.loop-cell.invariant.step.same c.requires.me in
     subst MayRest c.node.ensures.node (c.in-None.ensures.rest refl c.args.me (subst (λ (m : NodeOf). IsReachedNode c.args.me m) (sym c.node.ensures.node) (reached_node c.loop-cell.end.part c.args.me me c.node.ensures.shown)))
+
+-- ---- or nothing was made
+
+pub returns-in_err-ask-in-Some-Ask-clause-still : goal.returns-in_err-ask-in-Some-Ask-clause-still
+returns-in_err-ask-in-Some-Ask-clause-still c = λ nothing.
+    let cut = c.in_err-ask-in-Some-Ask.ensures.cut refl in
+    still_so c.args.me c.args.policy.now c.loop-cell.policy c.args.end.now c.loop-cell.end c.ask.new.end c.args.progress.now c.loop-cell.progress c.ask.new.progress c.loop-cell.invariant.goes cut.0 cut.1 nothing
+
+pub returns-then-not-branch-clause-still : goal.returns-then-not-branch-clause-still
+returns-then-not-branch-clause-still c = λ nothing.
+    let full = c.in_ok-ask-in-Some-Ask.ensures.full c.if-not-branch.true in
+    still_so c.args.me c.args.policy.now c.loop-cell.policy c.args.end.now c.loop-cell.end c.ask.new.end c.args.progress.now c.loop-cell.progress c.ask.new.progress c.loop-cell.invariant.goes full.end full.same nothing

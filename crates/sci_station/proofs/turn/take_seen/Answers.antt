@@ -1,10 +1,12 @@
-use Rattle.std.proofs.Common.{◌≡◌, None, refl, sym, ap, ◌∙◌}
+use Rattle.std.proofs.Common.{◌≡◌, ◌++◌, None, refl, sym, ap, ◌∙◌}
 use Rattle.sci_cache.specs.Cache.{letter_of}
 use Rattle.sci_core.specs.Node.{NodeOf}
+use Rattle.sci_core.specs.Core.{run}
+use Rattle.sci_lanes.specs.Telling.{size_in}
 use Rattle.sci_policy.specs.Policy.{decided}
 use Rattle.sci_policy.proofs.Deciding.{keep_of, keeps_no_own}
 use Rattle.sci_policy.proofs.Telling.{tells_something}
-use Rattle.sci_station.proofs.Events.{may_take, me_still, own_request, take_is_own, take_made}
+use Rattle.sci_station.proofs.Events.{front_taken, may_take, me_still, own_request, take_is_own, take_made}
 use Rattle.sci_station.proofs.Turns.{goes_made, goes_still, goes_then}
 use Rattle.sci_station.proofs.turn.take_seen.Goals as goal
 
@@ -28,8 +30,8 @@ returns-in_err-reply-clause-goes c =
     goes_then n c.args.policy.now c.args.policy.now c.served.new.self c.args.end.now c.read_packet.new.end c.reply.new.end c.args.progress.now c.args.progress.now c.reply.new.progress
     (goes_still n c.args.policy.now c.args.end.now c.read_packet.new.end c.args.progress.now c.args.progress.now c.read_packet.ensures.still refl)
     (goes_then n c.args.policy.now c.served.new.self c.served.new.self c.read_packet.new.end c.free.new.self c.reply.new.end c.args.progress.now c.count.new.self c.reply.new.progress
-    (goes_made n c.args.policy.now c.served.new.self c.read_packet.new.end c.free.new.self c.args.progress.now c.count.new.self e (take_is_own c.decide.result from n e c.in-Some.ensures)
-    (take_made c.args.policy.now c.served.new.self part.node c.free.new.self.part.node c.decide.result from n e (letter_of request) decides c.in-Some.ensures c.free.ensures.taken c.served.ensures)
+    (goes_made n c.args.policy.now c.served.new.self c.read_packet.new.end c.free.new.self c.args.progress.now c.count.new.self e (take_is_own c.decide.result from n e c.in-Some.ensures) c.free.ensures.same c.free.ensures.oldest.made
+    (take_made c.args.policy.now c.served.new.self part.node c.free.new.self.part.node (run (size_in part) (part.schedule ++ c.free.ensures.oldest.made.others)) c.decide.result from n e (letter_of request) (front_taken part c.args.seen.cell e request c.free.new.self.part.schedule c.in-Ok.ensures.read c.free.ensures.oldest) decides c.in-Some.ensures c.free.ensures.taken c.served.ensures)
     c.count.ensures.more c.count.ensures.counted)
     (c.reply.ensures.goes c.served.new.self))
 
@@ -44,8 +46,8 @@ returns-clause-goes c =
     goes_then n c.args.policy.now c.args.policy.now c.served.new.self c.args.end.now c.read_packet.new.end c.reply.new.end c.args.progress.now c.args.progress.now c.reply.new.progress
     (goes_still n c.args.policy.now c.args.end.now c.read_packet.new.end c.args.progress.now c.args.progress.now c.read_packet.ensures.still refl)
     (goes_then n c.args.policy.now c.served.new.self c.served.new.self c.read_packet.new.end c.free.new.self c.reply.new.end c.args.progress.now c.count.new.self c.reply.new.progress
-    (goes_made n c.args.policy.now c.served.new.self c.read_packet.new.end c.free.new.self c.args.progress.now c.count.new.self e (take_is_own c.decide.result from n e c.in-Some.ensures)
-    (take_made c.args.policy.now c.served.new.self part.node c.free.new.self.part.node c.decide.result from n e (letter_of request) decides c.in-Some.ensures c.free.ensures.taken c.served.ensures)
+    (goes_made n c.args.policy.now c.served.new.self c.read_packet.new.end c.free.new.self c.args.progress.now c.count.new.self e (take_is_own c.decide.result from n e c.in-Some.ensures) c.free.ensures.same c.free.ensures.oldest.made
+    (take_made c.args.policy.now c.served.new.self part.node c.free.new.self.part.node (run (size_in part) (part.schedule ++ c.free.ensures.oldest.made.others)) c.decide.result from n e (letter_of request) (front_taken part c.args.seen.cell e request c.free.new.self.part.schedule c.in-Ok.ensures.read c.free.ensures.oldest) decides c.in-Some.ensures c.free.ensures.taken c.served.ensures)
     c.count.ensures.more c.count.ensures.counted)
     (c.reply.ensures.goes c.served.new.self))
 
@@ -63,3 +65,12 @@ returns-in_default-clause-other c = λ _ own.
     let source = own_request part seen.cell request c.in-Ok.ensures.read c.requires.kind (own ∙ me) in
     let decides : decided c.args.policy.now part.node (letter_of request) ≡ c.decide.result = ap (λ (m : NodeOf). decided c.args.policy.now m (letter_of request)) (sym c.node.ensures.node) ∙ sym c.decide.ensures in
     absurd (keeps_no_own c.args.policy.now part.node (letter_of request) source (decides ∙ keep_of c.decide.result seen.cell.sender c.args.me (sym c.event.ensures ∙ c.in_default.is)))
+
+pub returns-in-Err-clause-goes : goal.returns-in-Err-clause-goes
+returns-in-Err-clause-goes c = goes_still c.args.me c.args.policy.now c.args.end.now c.read_packet.new.end c.args.progress.now c.args.progress.now c.read_packet.ensures.still refl
+
+pub returns-in_default-clause-goes : goal.returns-in_default-clause-goes
+returns-in_default-clause-goes c = goes_still c.args.me c.args.policy.now c.args.end.now c.read_packet.new.end c.args.progress.now c.args.progress.now c.read_packet.ensures.still refl
+
+pub returns-in_err-spend-clause-goes : goal.returns-in_err-spend-clause-goes
+returns-in_err-spend-clause-goes c = goes_still c.args.me c.args.policy.now c.args.end.now c.read_packet.new.end c.args.progress.now c.args.progress.now c.read_packet.ensures.still refl

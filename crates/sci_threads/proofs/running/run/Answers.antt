@@ -11,9 +11,9 @@ use Rattle.sci_drive.specs.Driving.{HasSubmittedNothing}
 use Rattle.sci_drive.specs.Script.{IsLogOf, IsWholeLogOf}
 use Rattle.sci_station.specs.Ends.{IsSameEnd}
 use Rattle.sci_station.specs.Station.{StationOf, end_in, node_in}
-use Rattle.sci_threads.proofs.Sharing.{came_back, all_unmapped, each_log, in_order, opened_long, opened_known, opened_all_fresh, named_ends, ordered_ends, whole_ends, written_back}
+use Rattle.sci_threads.proofs.Sharing.{came_back, all_unmapped, each_log, in_order, opened_long, opened_known, opened_all_fresh, named_ends, ordered_ends, sized_for, whole_ends, written_back}
 use Rattle.sci_threads.specs.declared.shares.Share.{Share}
-use Rattle.sci_threads.specs.Shares.{operations_of, own_of}
+use Rattle.sci_threads.specs.Shares.{AreLedTo, operations_of, own_of}
 use Rattle.sci_threads.proofs.running.run.Goals as goal
 
 pub shares-requires : goal.shares-requires
@@ -120,3 +120,20 @@ returns-in-Ok-clause-ordered g c = λ is.
     let good = subst (λ (xs : List StationOf). All Good (map end_in xs)) (sym stations) (ordered_ends (λ share. share.station) c.args.issuing (own_of operations) (λ share. share.finished) after is c.run_all.ensures.run) in
     let each = each_log (λ _. IsInProgramOrder) script operations ends c.in-Ok.field-0.logs many own all c.in-Ok.ensures.logs good in
     in_order c.in-Ok.field-0.logs script.nodes c.in-Ok.ensures.gathered.core c.in-Ok.ensures.gathered.reached c.in-Ok.ensures.gathered.logs_are (ap (λ (z : Size). z.nodes) c.in-Ok.ensures.gathered.sized ∙ nodes) each
+
+pub returns-in-Ok-clause-led : goal.returns-in-Ok-clause-led
+returns-in-Ok-clause-led g c =
+    let gathered = c.in-Ok.ensures.gathered in
+    let extent = c.extent.ensures in
+    let size = c.in_ok-fabric.ensures.size ∙ sized_for c.extent.result c.args.script.now extent.nodes extent.lines extent.slots in
+    subst (λ (z : Size). AreLedTo z c.in-Ok.field-0.logs c.in-Ok.field-0.last) size (record {
+      core = gathered.core;
+      reached = gathered.reached;
+      sized = gathered.sized;
+      schedule = gathered.schedule;
+      leads = gathered.leads;
+      enabled = gathered.enabled;
+      logs_are = gathered.logs_are;
+      made = gathered.made;
+      last_are = gathered.last_are;
+    })

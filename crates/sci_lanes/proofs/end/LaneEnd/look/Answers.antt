@@ -19,4 +19,4 @@ returns-clause-waits c = λ kind next some_word.
     let s = c.self.inside in
     let cell = c.args.cell in
     let next' = subst (λ (e : EndOf). IsNextToSend e.part cell) (sym c.self.view_is) next in
-    subst SomeLineWaits (sym (ap (λ (e : EndOf). e.part.node) c.look.ensures.part)) (full_waits s.seat.part cell c.self.invariant.0.shown next' kind (c.look.ensures.full next' some_word))
+    subst SomeLineWaits (sym (ap (λ (e : EndOf). e.part.node) c.look.ensures.part)) (full_waits s.seat.part cell c.look.new.self.part.schedule c.self.invariant.0.shown next' kind (c.look.ensures.full next' some_word))

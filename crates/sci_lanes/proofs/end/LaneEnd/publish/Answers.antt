@@ -21,7 +21,7 @@ publish-requires-clause-sending c =
     let e = c.args.event.now in
     let may = subst (λ (end : EndOf). MayPublish end.part c.args.cell c.args.first e) (sym c.self.view_is) c.requires in
     let node_is = c.make_alone.ensures ∙ ap (λ (node : NodeOf). node_after node (side node e)) c.self.invariant.0.node_is in
-    subst (λ (node : NodeOf). IsSending s.seat.part (lane_at_cell s.seat.part c.args.cell) c.args.first node) (sym node_is) (publishing s.seat.part c.args.cell c.args.first e may)
+    subst (λ (node : NodeOf). IsSending s.seat.part (lane_at_cell s.seat.part c.args.cell) c.args.first e node) (sym node_is) (publishing s.seat.part c.args.cell c.args.first e may)
 
 pub invariant_of-self : goal.invariant_of-self
 invariant_of-self c =

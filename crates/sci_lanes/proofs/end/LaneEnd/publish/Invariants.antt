@@ -1,4 +1,4 @@
 use Rattle.sci_lanes.proofs.end.LaneEnd.publish.Given as goal
 
 abbrev pub ghosts-publish : goal.ghosts-publish
-ghosts-publish a = record { next = a.after.now }
+ghosts-publish a = record { event = a.event.now; next = a.after.now }

@@ -1,10 +1,13 @@
-use Rattle.std.proofs.Common.{ℕ, sym, ap, subst, ◌∙◌, map}
-use Rattle.sci_core.specs.Core.{core_of}
+use Rattle.std.proofs.Common.{ℕ, [], sym, ap, subst, ◌∙◌, map}
+use Rattle.sci_core.specs.Core.{core_of, run}
 use Rattle.sci_core.specs.Sharing.{last_of}
+use Rattle.sci_core.specs.Size.{Size, IsSize}
+use Rattle.sci_core.proofs.WellFormedSteps.{is_size}
+use Rattle.sci_lanes.specs.Shown.{AreEnabled}
 use Rattle.sci_lanes.specs.Cells.{lane_count}
 use Rattle.sci_lanes.specs.Ends.{LanesOf}
 use Rattle.sci_lanes.specs.Gathering.{AreAll, AreLanes, AreLogged, HaveInboxTurns}
-use Rattle.sci_lanes.proofs.Gathered.{every_node, every_turn, end_node, reached_core, logs_there}
+use Rattle.sci_lanes.proofs.Gathered.{every_node, every_turn, end_node, end_seen, reached_core, led_core, led_enabled, logs_there, logs_made}
 use Rattle.sci_lanes.proofs.lanes.Lanes.read.Goals as goal
 
 pub join_all-requires-clause-own : goal.join_all-requires-clause-own
@@ -33,14 +36,25 @@ returns g c =
     let read = subst (λ ws. AreLanes extent.nodes ws c.join_all.new.inbox_turns.items (lane_count extent.nodes) c.read_lanes.new.lanes.items) c.deref-2.ensures.value read in
     let size = ap (λ (l : LanesOf). l.size) c.self.view_is in
     let all = subst (λ (n : ℕ). AreAll n (map g.E.HasEnd.end_of c.args.ends.items)) (sym (ap (λ (l : LanesOf). l.size.nodes) c.self.view_is)) c.requires.all in
+    let reached = reached_core c.args.self extent c.self.inside.limit (map g.E.HasEnd.end_of c.args.ends.items) c.join_all.new.seat.me.0.parts c.join_all.new.nodes.items c.join_all.new.inbox_turns.items c.read_words.new.words.items c.read_lanes.new.lanes.items extent.has_node (sym size)
+    c.requires.own all c.join_all.ensures.joined c.join_all.ensures.kept c.read_words.ensures.read c.read_words.ensures.long read in
+    let leads = ap (λ z. run z c.read_words.ensures.read.whole.schedule) (sym size) ∙ led_core c.args.self extent c.self.inside.limit (map g.E.HasEnd.end_of c.args.ends.items) c.join_all.new.seat.me.0.parts c.join_all.new.nodes.items c.join_all.new.inbox_turns.items c.read_words.new.words.items c.read_lanes.new.lanes.items extent.has_node (sym size)
+    c.requires.own all c.join_all.ensures.joined c.join_all.ensures.kept c.read_words.ensures.read c.read_words.ensures.long read in
+    let logs = logs_there c.args.self extent c.self.inside.limit (map g.E.HasEnd.end_of c.args.ends.items) c.join_all.new.seat.me.0.parts c.join_all.new.nodes.items c.join_all.new.inbox_turns.items c.read_words.new.words.items c.read_lanes.new.lanes.items extent.has_node (sym size)
+    c.requires.own all c.join_all.ensures.joined c.join_all.ensures.kept c.read_words.ensures.read c.read_words.ensures.long read c.args.room.logs (subst (λ (n : ℕ). AreLogged n (map g.E.HasEnd.end_of c.args.ends.items) c.args.room.logs) (sym (ap (λ (l : LanesOf). l.size.nodes) c.self.view_is)) c.requires.logs) in
     record {
       core = core_of extent c.self.inside.limit c.join_all.new.nodes.items c.read_lanes.new.lanes.items;
-      reached = reached_core c.args.self extent c.self.inside.limit (map g.E.HasEnd.end_of c.args.ends.items) c.join_all.new.seat.me.0.parts c.join_all.new.nodes.items c.join_all.new.inbox_turns.items c.read_words.new.words.items c.read_lanes.new.lanes.items extent.has_node (sym size)
-          c.requires.own all c.join_all.ensures.joined c.join_all.ensures.kept c.read_words.ensures.read c.read_words.ensures.long read;
+      reached = reached;
       sized = size;
+      schedule = c.read_words.ensures.read.whole.schedule;
+      leads = leads;
+      enabled = subst (λ (z : Size). AreEnabled z [] c.read_words.ensures.read.whole.schedule) size (led_enabled c.args.self extent c.self.inside.limit (map g.E.HasEnd.end_of c.args.ends.items) c.join_all.new.seat.me.0.parts c.join_all.new.nodes.items c.join_all.new.inbox_turns.items c.read_words.new.words.items c.read_lanes.new.lanes.items extent.has_node (sym size)
+          c.requires.own all c.join_all.ensures.joined c.join_all.ensures.kept c.read_words.ensures.read c.read_words.ensures.long read);
+      seen = end_seen c.args.self extent c.self.inside.limit (map g.E.HasEnd.end_of c.args.ends.items) c.join_all.new.seat.me.0.parts c.join_all.new.nodes.items c.join_all.new.inbox_turns.items c.read_words.new.words.items c.read_lanes.new.lanes.items extent.has_node (sym size)
+          c.requires.own all c.join_all.ensures.joined c.join_all.ensures.kept c.read_words.ensures.read c.read_words.ensures.long read;
       nodes = end_node c.args.self extent c.self.inside.limit (map g.E.HasEnd.end_of c.args.ends.items) c.join_all.new.seat.me.0.parts c.join_all.new.nodes.items c.join_all.new.inbox_turns.items c.read_words.new.words.items c.read_lanes.new.lanes.items extent.has_node (sym size)
           c.requires.own all c.join_all.ensures.joined c.join_all.ensures.kept c.read_words.ensures.read c.read_words.ensures.long read;
-      logs_are = logs_there c.args.self extent c.self.inside.limit (map g.E.HasEnd.end_of c.args.ends.items) c.join_all.new.seat.me.0.parts c.join_all.new.nodes.items c.join_all.new.inbox_turns.items c.read_words.new.words.items c.read_lanes.new.lanes.items extent.has_node (sym size)
-          c.requires.own all c.join_all.ensures.joined c.join_all.ensures.kept c.read_words.ensures.read c.read_words.ensures.long read c.args.room.logs (subst (λ (n : ℕ). AreLogged n (map g.E.HasEnd.end_of c.args.ends.items) c.args.room.logs) (sym (ap (λ (l : LanesOf). l.size.nodes) c.self.view_is)) c.requires.logs);
+      logs_are = logs;
+      made = logs_made _ c.read_words.ensures.read.whole.schedule _ _ (subst IsSize size (is_size _ reached.size)) leads logs;
       last_are = c.last.ensures.last ∙ ap last_of c.of_parts-machine.ensures.parts;
     }

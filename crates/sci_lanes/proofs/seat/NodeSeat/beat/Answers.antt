@@ -1,12 +1,21 @@
-use Rattle.std.proofs.Common.{◌+◌, ◌%◌, ◌^◌, sym, subst}
+use Rattle.std.proofs.Common.{◌+◌, ◌%◌, ◌^◌, sym, ap, subst}
 use mathlib.Core.Option.{none}
 use Rattle.atomic_table.specs.Table.{step}
 use Rattle.sci_lanes.specs.Plays.{Beats}
-use Rattle.sci_lanes.proofs.Seats.{Asks, beat_asks}
+use Rattle.sci_lanes.specs.Ends.{EndOf}
+use Rattle.sci_lanes.specs.Telling.{part_of, IsMade}
+use Rattle.sci_lanes.specs.declared.view.Part.{Part}
+use Rattle.sci_lanes.proofs.Seats.{Asks, beat_asks, went_after}
 use Rattle.sci_lanes.proofs.seat.NodeSeat.beat.Goals as goal
 
 pub fetch_add-requires : goal.fetch_add-requires
 fetch_add-requires g c =
     let s = c.self.inside.seat in
-    subst (λ t. Asks t.shared.key t.shared.table_id s.table_id s.id s.me c.own_word-place.result (λ n. (n + 1) % 2 ^ 64) (Beats g.B.Becomes.next (step t.shared.table_id.slots c.own_word-place.result 1 0 none) s.me)) (sym c.deref.ensures)
-    (beat_asks _ _ _ s.id s.me c.args.me c.args.nodes c.own_word-place.result g.B.Becomes.next c.self.invariant c.args.self.now c.self.view_is c.requires.me c.requires.nodes c.requires.beating c.own_word-place.ensures)
+    subst (λ t. Asks t.shared.key t.shared.table_id s.table_id s.id s.me c.own_word-place.result (λ n. (n + 1) % 2 ^ 64) (Beats g.B.Becomes.event g.B.Becomes.next (step t.shared.table_id.slots c.own_word-place.result 1 0 none) s.me)) (sym c.deref.ensures)
+    (beat_asks _ _ _ s.id s.me c.args.me c.args.nodes c.own_word-place.result g.B.Becomes.event g.B.Becomes.next c.self.invariant c.args.self.now c.self.view_is c.requires.me c.requires.nodes c.requires.beating c.own_word-place.ensures)
+
+pub returns-clause-made : goal.returns-clause-made
+returns-clause-made g c =
+    let s = c.self.inside.seat in
+    subst (λ (p : Part). IsMade p g.B.Becomes.event (part_of c.fetch_add.new.seat.me.0).schedule) (ap (λ (e : EndOf). e.part) c.self.view_is)
+    (went_after (IsMade (part_of s.me.0) g.B.Becomes.event) (part_of s.me.0) _ c.fetch_add.new.seat.me c.fetch_add.ensures.2)

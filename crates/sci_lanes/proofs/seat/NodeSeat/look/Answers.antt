@@ -1,11 +1,13 @@
-use Rattle.std.proofs.Common.{◌≡◌, ◌⊎◌, sym, ap, subst, ◌∙◌}
+use Rattle.std.proofs.Common.{◌≡◌, ◌⊎◌, List, sym, ap, subst, ◌∙◌}
 use mathlib.Core.Option.{none}
 use Rattle.atomic_table.specs.Table.{step}
 use Rattle.sci_lanes.specs.declared.view.Part.{Part}
 use Rattle.sci_lanes.specs.Ends.{EndOf, IsNextToSend, IsNextToTake, nodes_in, lane_at_cell}
 use Rattle.sci_lanes.specs.Plays.{Looks, LooksAt}
-use Rattle.sci_lanes.specs.Telling.{part_of, IsShown}
-use Rattle.sci_lanes.proofs.Seats.{Asks, look_asks, look_told, view_after, is_sending_here}
+use Rattle.sci_lanes.specs.Telling.{part_of, IsFull, IsShown}
+use Rattle.sci_words.specs.declared.event.Event.{Event}
+use Rattle.sci_lanes.specs.Shown.{IsSeen, informed}
+use Rattle.sci_lanes.proofs.Seats.{Asks, look_asks, look_told, part_after, view_after, went_after, is_sending_here}
 use Rattle.sci_lanes.proofs.seat.NodeSeat.look.Goals as goal
 
 pub load-requires : goal.load-requires
@@ -26,9 +28,13 @@ told c =
 
 pub returns-clause-part : goal.returns-clause-part
 returns-clause-part c =
-    view_after c.self.inside.seat.table_id c.load.new.seat.table_id c.self.inside.seat.me c.load.new.seat.me c.args.self.now _ c.self.view_is c.load.ensures.0 (told c).tells
+    view_after c.self.inside.seat.table_id c.load.new.seat.table_id c.self.inside.seat.me c.load.new.seat.me c.args.self.now (IsSeen c.args.self.now.part) _ c.self.view_is c.load.ensures.0 (told c).tells
 
 pub returns-clause-full : goal.returns-clause-full
 returns-clause-full c next some =
     let part_is : part_of c.self.inside.seat.me.0 ≡ c.args.self.now.part = ap (λ (e : EndOf). e.part) c.self.view_is in
-    (told c).full (is_sending_here c.args.self.now.part c.args.cell.now (subst IsShown part_is c.self.invariant.shown) next) some
+    subst (λ (es : List Event). IsFull (informed es c.args.self.now.part) (lane_at_cell c.args.self.now.part c.args.cell.now)) (sym (ap (λ (p : Part). p.schedule) (part_after (IsSeen c.args.self.now.part) c.args.self.now.part _ c.load.new.seat.me (told c).tells)))
+    ((told c).full (is_sending_here c.args.self.now.part c.args.cell.now (subst IsShown part_is c.self.invariant.shown) next) some)
+
+pub returns-clause-seen : goal.returns-clause-seen
+returns-clause-seen c = went_after (IsSeen c.args.self.now.part) c.args.self.now.part _ c.load.new.seat.me (told c).tells

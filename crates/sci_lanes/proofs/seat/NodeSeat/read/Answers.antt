@@ -1,9 +1,13 @@
-use Rattle.std.proofs.Common.{sym, subst}
+use Rattle.std.proofs.Common.{sym, ap, subst}
 use mathlib.Core.Option.{none}
 use Rattle.atomic_table.specs.Table.{step}
 use Rattle.sci_lanes.specs.Knowing.{read}
 use Rattle.sci_lanes.specs.Plays.{Reads}
-use Rattle.sci_lanes.proofs.Seats.{Asks, read_asks, told_after}
+use Rattle.sci_lanes.specs.Shown.{IsSeen}
+use Rattle.sci_lanes.specs.Ends.{EndOf}
+use Rattle.sci_lanes.specs.Telling.{part_of}
+use Rattle.sci_lanes.specs.declared.view.Part.{Part}
+use Rattle.sci_lanes.proofs.Seats.{Asks, read_asks, told_after, went_after}
 use Rattle.sci_lanes.proofs.seat.NodeSeat.read.Goals as goal
 
 pub load-requires : goal.load-requires
@@ -16,4 +20,10 @@ pub returns-clause-part : goal.returns-clause-part
 returns-clause-part c =
     let s = c.self.inside.seat in
     told_after _ _ _ s.id s.me c.args.cell.now c.args.nodes c.place-place.result c.self.invariant c.args.self.now c.self.view_is c.requires.nodes
-    c.load.new.seat.table_id c.load.new.seat.me c.args.index (λ l i p. read l i c.load.result p) c.requires.may.within c.place-place.ensures c.load.ensures.0 c.load.ensures.2
+    c.load.new.seat.table_id c.load.new.seat.me c.args.index (λ p. IsSeen p) (λ l i p. read l i c.load.result p) c.requires.may.within c.place-place.ensures c.load.ensures.0 c.load.ensures.2
+
+pub returns-clause-seen : goal.returns-clause-seen
+returns-clause-seen c =
+    let s = c.self.inside.seat in
+    subst (λ (p : Part). IsSeen p (part_of c.load.new.seat.me.0).schedule) (ap (λ (e : EndOf). e.part) c.self.view_is)
+    (went_after (IsSeen (part_of s.me.0)) (part_of s.me.0) _ c.load.new.seat.me c.load.ensures.2)
