@@ -110,14 +110,6 @@ impl Cache {
         })
     }
 
-    /// The number of lines.
-    #[cfg(test)]
-    pub(crate) fn lines(&self) -> u64
-        ensures { result ≡ length self.now.lines }
-    {
-        self.lines.len() as u64
-    }
-
     /// The state of a line. The caller sees to it that there is such a line.
     pub fn held(&self, line: u8) -> &Held
         requires { line < length self.now.lines }

@@ -26,10 +26,3 @@ pub use states::{
     Asking, Below, Claiming, Clearing, Fading, FreshHead, FreshJoining, HeadState, Joining,
     OutState, Purging, Returning, Rolling, Telling,
 };
-
-#[cfg(test)]
-mod perform_tests;
-#[cfg(test)]
-mod table_tests;
-#[cfg(test)]
-mod tests;

@@ -6,6 +6,3 @@ mod random;
 
 pub use drawing::{any_kind, any_line, any_operation};
 pub use random::Random;
-
-#[cfg(test)]
-mod tests;

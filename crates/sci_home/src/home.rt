@@ -51,13 +51,6 @@ impl Home {
         }
     }
 
-    #[cfg(test)]
-    pub(crate) fn in_state(state: HomeState) -> Home
-        ensures { result ≡ state }
-    {
-        Home { state }
-    }
-
     /// Serves a request for the line and gives the answer, which goes back to the request's sender. The caller
     /// sees to it that the request is an Mread, Fread, Claim, Clear or Wback.
     pub fn serve(&mut self, request: &Packet) -> Packet

@@ -8,6 +8,3 @@ mod state;
 
 pub use home::{Home, is_for_home};
 pub use state::HomeState;
-
-#[cfg(test)]
-mod tests;

@@ -2,8 +2,6 @@
 #![tactic(auto)]
 
 mod lent;
-#[cfg(test)]
-mod memory_tests;
 mod shared;
 mod turn;
 

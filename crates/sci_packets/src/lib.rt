@@ -19,6 +19,3 @@ pub use fault::PacketFault;
 pub use node_id::NodeId;
 pub use packet::Packet;
 pub use words::{from_words, to_words};
-
-#[cfg(test)]
-mod tests;

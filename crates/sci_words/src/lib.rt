@@ -19,6 +19,3 @@ pub use limits::{
 pub use line::{Line, Word};
 pub use operation::{Act, LockOp, Op, Reply, effect};
 pub use stamped::Stamped;
-
-#[cfg(test)]
-mod tests;

@@ -1,0 +1,112 @@
+//! The states of caches and homes in words: a name, the nodes that are named, whether a request is sent, and the contents.
+
+use crate::words::{Link, push_contents, push_link};
+use sci_cache::Held;
+use sci_home::HomeState;
+use sci_words::Stamped;
+use std::alloc::{AllocError, Global};
+
+fn name(held: &Held) -> &'static str {
+    match held {
+        Held::Out(_) => "Out",
+        Held::Asking(_) => "Asking",
+        Held::Joining(_) => "Joining",
+        Held::FreshJoining(_) => "FreshJoining",
+        Held::Head(_) => "Head",
+        Held::FreshHead(_) => "FreshHead",
+        Held::Below(_) => "Below",
+        Held::Purging(_) => "Purging",
+        Held::Claiming(_) => "Claiming",
+        Held::Clearing(_) => "Clearing",
+        Held::Returning(_) => "Returning",
+        Held::Rolling(_) => "Rolling",
+        Held::Telling(_) => "Telling",
+        Held::Fading(_) => "Fading",
+    }
+}
+
+/// The node behind, or the one that is to become it.
+fn behind(held: &Held) -> Option<Link> {
+    match held {
+        Held::Joining(state) => Some(("old", Some(state.old_head))),
+        Held::FreshJoining(state) => Some(("old", Some(state.old_head))),
+        Held::Head(state) => Some(("forward", state.forward)),
+        Held::FreshHead(state) => Some(("forward", state.forward)),
+        Held::Below(state) => Some(("forward", state.forward)),
+        Held::Purging(state) => Some(("next", Some(state.next))),
+        Held::Claiming(state) => Some(("forward", state.forward)),
+        Held::Rolling(state) => Some(("forward", state.forward)),
+        Held::Telling(state) => Some(("behind", Some(state.behind))),
+        _ => None,
+    }
+}
+
+/// The node before.
+fn before(held: &Held) -> Option<Link> {
+    match held {
+        Held::Below(state) => Some(("backward", Some(state.backward))),
+        Held::Rolling(state) => Some(("backward", Some(state.backward))),
+        Held::Telling(state) => Some(("before", Some(state.before))),
+        _ => None,
+    }
+}
+
+fn is_sent(held: &Held) -> bool {
+    match held {
+        Held::Joining(state) => state.sent,
+        Held::FreshJoining(state) => state.sent,
+        Held::Telling(state) => state.sent,
+        _ => false,
+    }
+}
+
+fn contents(held: &Held) -> Option<Stamped> {
+    match held {
+        Held::FreshJoining(state) => Some(state.contents),
+        Held::Head(state) => Some(state.contents),
+        Held::FreshHead(state) => Some(state.contents),
+        Held::Below(state) => Some(state.contents),
+        Held::Purging(state) => Some(state.contents),
+        Held::Claiming(state) => Some(state.contents),
+        Held::Clearing(state) => Some(state.contents),
+        Held::Returning(state) => Some(state.contents),
+        Held::Rolling(state) => Some(state.contents),
+        _ => None,
+    }
+}
+
+/// The state of a line in a cache, as `Below forward none backward 1 @1 7` or `Joining old 0 sent`.
+pub fn state_text(alloc: Global, held: &Held) -> Result<String, AllocError> {
+    let mut text = String::from_str(alloc, name(held))?;
+    if let Some((label, node)) = behind(held) {
+        push_link(&mut text, label, node)?;
+    }
+    if let Some((label, node)) = before(held) {
+        push_link(&mut text, label, node)?;
+    }
+    if is_sent(held) {
+        text.push_str(" sent")?;
+    }
+    if let Some(contents) = contents(held) {
+        text.push(' ')?;
+        push_contents(&mut text, &contents)?;
+    }
+    Ok(text)
+}
+
+/// The state of a line's home, as `GONE 1` or `FRESH 0 @0 0`.
+pub fn home_text(alloc: Global, state: &HomeState) -> Result<String, AllocError> {
+    let mut text = match *state {
+        HomeState::Home(_) => String::from_str(alloc, "HOME")?,
+        HomeState::Fresh { head, .. } => format!(in alloc; "FRESH {}", head.get())?,
+        HomeState::Gone { head } => format!(in alloc; "GONE {}", head.get())?,
+    };
+    match state {
+        HomeState::Home(contents) | HomeState::Fresh { contents, .. } => {
+            text.push(' ')?;
+            push_contents(&mut text, contents)?;
+        }
+        HomeState::Gone { .. } => {}
+    }
+    Ok(text)
+}

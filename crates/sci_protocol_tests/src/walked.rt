@@ -1,0 +1,327 @@
+//! A machine on which the events of a walk or a row happen, and the packets under way as the events that happened say.
+
+use crate::bounded::Bounded;
+use crate::requests::{is_answered_by, request_of};
+use sci_cache::Held;
+use sci_core::LaneKind;
+use sci_packets::{Body, NodeId, Packet};
+use sci_words::{AskKind, Event, Extent};
+use std::alloc::{AllocError, Global};
+use std::collections::VecDeque;
+use std::test::*;
+
+/// How many operations a node may issue.
+pub const LIMIT: u32 = 300;
+
+/// What happened in walks.
+#[derive(Clone, Copy, Debug, PartialEq, Eq)]
+pub struct Counts {
+    pub idle: u64,
+    pub issued: u64,
+    pub loads: u64,
+    pub makers: u64,
+    pub joined: u64,
+    pub purged: u64,
+    pub rolled: u64,
+    pub written_back: u64,
+    pub claimed: u64,
+    pub cleared: u64,
+    pub lost: u64,
+    pub busy: u64,
+}
+
+impl Counts {
+    pub fn none() -> Counts {
+        Counts {
+            idle: 0,
+            issued: 0,
+            loads: 0,
+            makers: 0,
+            joined: 0,
+            purged: 0,
+            rolled: 0,
+            written_back: 0,
+            claimed: 0,
+            cleared: 0,
+            lost: 0,
+            busy: 0,
+        }
+    }
+
+    /// Adds what happened in other walks.
+    pub fn add(&mut self, more: &Counts) {
+        self.idle = self.idle.wrapping_add(more.idle);
+        self.issued = self.issued.wrapping_add(more.issued);
+        self.loads = self.loads.wrapping_add(more.loads);
+        self.makers = self.makers.wrapping_add(more.makers);
+        self.joined = self.joined.wrapping_add(more.joined);
+        self.purged = self.purged.wrapping_add(more.purged);
+        self.rolled = self.rolled.wrapping_add(more.rolled);
+        self.written_back = self.written_back.wrapping_add(more.written_back);
+        self.claimed = self.claimed.wrapping_add(more.claimed);
+        self.cleared = self.cleared.wrapping_add(more.cleared);
+        self.lost = self.lost.wrapping_add(more.lost);
+        self.busy = self.busy.wrapping_add(more.busy);
+    }
+
+    /// One more of what an answer that was accepted ends.
+    fn count_answer(&mut self, asked: &Held, answer: &Body) {
+        let count = match (asked, answer) {
+            (_, Body::Busy) => &mut self.busy,
+            (_, Body::Wbno) => &mut self.lost,
+            (Held::Claiming(_), _) => &mut self.claimed,
+            (Held::Clearing(_), _) => &mut self.cleared,
+            (Held::Returning(_), _) => &mut self.written_back,
+            (Held::Purging(_), _) => &mut self.purged,
+            (Held::Rolling(_), _) => &mut self.rolled,
+            (Held::Joining(_) | Held::FreshJoining(_), _) => &mut self.joined,
+            _ => return,
+        };
+        *count = count.wrapping_add(1);
+    }
+}
+
+/// Ends a queue with an item.
+fn push<T: Drop>(queue: &mut VecDeque<T>, item: T) -> Result<(), AllocError> {
+    queue.push_back(item)?;
+    Ok(())
+}
+
+/// A machine, the packets in its lanes as the events that happened say, and how often each node asked about each
+/// line.
+#[derive(Drop)]
+pub struct Walked {
+    pub extent: Extent,
+    pub machine: Bounded,
+    pub counts: Counts,
+    lanes: Vec<VecDeque<Packet>>,
+    asks: Vec<u16>,
+    issued: Vec<u32>,
+}
+
+impl Walked {
+    /// The machine of a size before any event.
+    pub fn new(alloc: Global, extent: Extent) -> Result<Walked, Fail> {
+        let nodes = usize::from(extent.nodes);
+        let mut lanes = Vec::new(alloc);
+        for _place in 0..2 * nodes * nodes {
+            lanes.push(VecDeque::new(alloc))?;
+        }
+        let mut asks = Vec::new(alloc);
+        for _place in 0..nodes * usize::from(extent.lines) {
+            asks.push(0)?;
+        }
+        let mut issued = Vec::new(alloc);
+        for _node in 0..nodes {
+            issued.push(0)?;
+        }
+        Ok(Walked {
+            extent,
+            machine: Bounded::new(alloc, extent, LIMIT)?,
+            counts: Counts::none(),
+            lanes,
+            asks,
+            issued,
+        })
+    }
+
+    fn place(&self, kind: LaneKind, from: u8, to: u8) -> usize {
+        let nodes = usize::from(self.extent.nodes);
+        let first = match kind {
+            LaneKind::Requests => 0,
+            LaneKind::Answers => 1,
+        };
+        (first * nodes + usize::from(from)) * nodes + usize::from(to)
+    }
+
+    /// The packets under way from one node to another, oldest first.
+    pub fn lane(&self, kind: LaneKind, from: u8, to: u8) -> Option<&VecDeque<Packet>> {
+        if from >= self.extent.nodes || to >= self.extent.nodes {
+            return None;
+        }
+        self.lanes.get(self.place(kind, from, to))
+    }
+
+    /// Whether no packet is under way from one node to another.
+    pub fn is_clear(&self, kind: LaneKind, from: u8, to: u8) -> bool {
+        match self.lane(kind, from, to) {
+            Some(lane) => lane.is_empty(),
+            None => true,
+        }
+    }
+
+    /// The oldest packet under way from one node to another.
+    pub fn oldest(&self, kind: LaneKind, from: u8, to: u8) -> Option<Packet> {
+        self.lane(kind, from, to)?.front().copied()
+    }
+
+    /// How many operations a node has issued.
+    pub fn issued(&self, n: u8) -> u32 {
+        self.issued.get(usize::from(n)).copied().unwrap_or(0)
+    }
+
+    /// The request that a node would send now, by its state and the count of its asks.
+    fn asked(&self, n: u8, line: u8, kind: AskKind) -> Option<Packet> {
+        let (to, body) = request_of(self.machine.held(n, line)?, kind)?;
+        let home = NodeId::new(u16::from(line % self.extent.nodes))?;
+        let place = usize::from(n) * usize::from(self.extent.lines) + usize::from(line);
+        Some(Packet {
+            target: to.unwrap_or(home),
+            source: NodeId::new(u16::from(n))?,
+            control: *self.asks.get(place)?,
+            line: u64::from(line),
+            body,
+        })
+    }
+
+    /// Applies an event and carries the packets as it says; tells whether it was enabled.
+    pub fn step(&mut self, event: &Event) -> Result<bool, Fail> {
+        let happened = match *event {
+            Event::Issue { node, .. } => self.issue(event, node)?,
+            Event::Perform { node, line } => self.perform(event, node, line)?,
+            Event::Ask { node, line, kind } => {
+                let request = self.asked(node, line, kind);
+                self.ask(event, node, line, request)?
+            }
+            Event::Serve { from, node } => self.answer(event, from, node, false)?,
+            Event::Refuse { from, node } => self.answer(event, from, node, true)?,
+            Event::Reply { node } => self.reply(event, node)?,
+            Event::Accept { from, node } => self.accept(event, from, node)?,
+        };
+        if !happened {
+            self.counts.idle = self.counts.idle.wrapping_add(1);
+        }
+        Ok(happened)
+    }
+
+    fn issue(&mut self, event: &Event, n: u8) -> Result<bool, Fail> {
+        if !self.machine.apply(event)? {
+            return Ok(false);
+        }
+        if let Some(issued) = self.issued.get_mut(usize::from(n)) {
+            *issued = issued.wrapping_add(1);
+        }
+        self.counts.issued = self.counts.issued.wrapping_add(1);
+        Ok(true)
+    }
+
+    fn perform(&mut self, event: &Event, n: u8, line: u8) -> Result<bool, Fail> {
+        let pending = self.machine.pending(n, line);
+        if !self.machine.apply(event)? {
+            return Ok(false);
+        }
+        match pending {
+            None => return Err(Fail::from("nothing was pending")),
+            Some(pending) if pending.op.is_maker() => {
+                self.counts.makers = self.counts.makers.wrapping_add(1)
+            }
+            Some(_) => self.counts.loads = self.counts.loads.wrapping_add(1),
+        }
+        Ok(true)
+    }
+
+    fn ask(
+        &mut self,
+        event: &Event,
+        n: u8,
+        line: u8,
+        request: Option<Packet>,
+    ) -> Result<bool, Fail> {
+        if !self.machine.apply(event)? {
+            return Ok(false);
+        }
+        let place = usize::from(n) * usize::from(self.extent.lines) + usize::from(line);
+        let asks = self.asks.get_mut(place).ok_or("there is no such line")?;
+        *asks = asks.wrapping_add(1);
+        self.send(LaneKind::Requests, n, request)?;
+        Ok(true)
+    }
+
+    /// Serves or refuses the oldest request from a node.
+    fn answer(&mut self, event: &Event, from: u8, n: u8, refused: bool) -> Result<bool, Fail> {
+        let waited = self.machine.waiting(n).is_some();
+        if !self.machine.apply(event)? {
+            return Ok(false);
+        }
+        let request = self.take(LaneKind::Requests, from, n)?;
+        let answer = self.machine.waiting(n).ok_or("no answer waits")?;
+        let fits = if refused {
+            answer.body == Body::Busy && !matches!(request.body, Body::Setback { .. })
+        } else {
+            is_answered_by(&request.body, &answer.body)
+        };
+        if waited || !fits || answer != request.answer(answer.body) {
+            return Err(Fail::from("another answer"));
+        }
+        Ok(true)
+    }
+
+    fn reply(&mut self, event: &Event, n: u8) -> Result<bool, Fail> {
+        let waiting = self.machine.waiting(n);
+        if !self.machine.apply(event)? {
+            return Ok(false);
+        }
+        if self.machine.waiting(n).is_some() {
+            return Err(Fail::from("the answer still waits"));
+        }
+        self.send(LaneKind::Answers, n, waiting)?;
+        Ok(true)
+    }
+
+    fn accept(&mut self, event: &Event, from: u8, n: u8) -> Result<bool, Fail> {
+        let mut counts = self.counts;
+        if let Some(answer) = self.oldest(LaneKind::Answers, from, n) {
+            let line = u8::try_from(answer.line)?;
+            let asked = self.machine.held(n, line).ok_or("an answer to no node")?;
+            counts.count_answer(asked, &answer.body);
+        }
+        if !self.machine.apply(event)? {
+            return Ok(false);
+        }
+        self.counts = counts;
+        let _answer = self.take(LaneKind::Answers, from, n)?;
+        Ok(true)
+    }
+
+    /// Ends a lane with the packet that the node's state sends. It is an error if that sends none.
+    fn send(&mut self, kind: LaneKind, from: u8, packet: Option<Packet>) -> Result<(), Fail> {
+        let packet = packet.ok_or("the state sends no packet")?;
+        let to = u8::try_from(packet.target.get())?;
+        let place = self.place(kind, from, to);
+        let lane = self.lanes.get_mut(place).ok_or("there is no such lane")?;
+        push(lane, packet)?;
+        self.shows(kind, from, to)
+    }
+
+    /// Takes the oldest packet of a lane.
+    fn take(&mut self, kind: LaneKind, from: u8, to: u8) -> Result<Packet, Fail> {
+        let place = self.place(kind, from, to);
+        let lane = self.lanes.get_mut(place).ok_or("there is no such lane")?;
+        let packet = lane.pop_front().ok_or("the lane is empty")?;
+        self.shows(kind, from, to)?;
+        Ok(packet)
+    }
+
+    /// An error if the machine doesn't show the packets that the events have left in a lane.
+    fn shows(&self, kind: LaneKind, from: u8, to: u8) -> Result<(), Fail> {
+        let lane = self.lane(kind, from, to).ok_or("there is no such lane")?;
+        if self.machine.front(kind, from, to) != lane.front() {
+            return Err(Fail::from("another front"));
+        }
+        if self.machine.count(kind, from, to) != lane.len() {
+            return Err(Fail::from("another count"));
+        }
+        Ok(())
+    }
+
+    /// An error if the machine doesn't show the packets that the events have left in its lanes.
+    pub fn shows_all(&self) -> Result<(), Fail> {
+        for from in 0..self.extent.nodes {
+            for to in 0..self.extent.nodes {
+                self.shows(LaneKind::Requests, from, to)?;
+                self.shows(LaneKind::Answers, from, to)?;
+            }
+        }
+        Ok(())
+    }
+}

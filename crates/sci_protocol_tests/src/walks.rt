@@ -1,0 +1,247 @@
+//! Walks: schedules whose events are taken by chance, from fixed seeds, mostly among the enabled ones. On the way
+//! and at the end, what the machine shows is compared with what a plain look at the nodes and at the events that
+//! happened gives, and its logs are audited and put into one order. At last each machine comes to rest.
+
+use crate::choices::{any_event, enabled_event};
+use crate::plain_lists::holds;
+use crate::walked::{Counts, Walked};
+use sci_cache::Held;
+use sci_chance::Random;
+use sci_core::LaneKind;
+use sci_history::{OrderVerdict, sequential_order};
+use sci_home::HomeState;
+use sci_text::{Tap, read_logs};
+use sci_words::Extent;
+use std::alloc::Global;
+use std::test::*;
+
+/// Walks on machines of one size: of how many seeds, and how many events each tries.
+#[derive(Drop)]
+struct Walks {
+    nodes: u8,
+    lines: u8,
+    slots: u8,
+    seeds: u16,
+    events: u16,
+}
+
+/// An error if the logs aren't lawful, or have no one order of all entries.
+fn audit_logs(alloc: Global, walked: &Walked) -> Result<(), Fail> {
+    let text = walked.machine.text(alloc)?;
+    let (nodes, logs, last) = read_logs(alloc, &mut Tap::new(text.as_slice()))?;
+    if nodes != walked.extent.nodes {
+        return Err(Fail::from("logs of another machine"));
+    }
+    match sequential_order(alloc, &logs, &last)? {
+        OrderVerdict::Order(_) => Ok(()),
+        found => Err(Fail::new(format_args!("{found:?}"))),
+    }
+}
+
+/// An error if the machine shows anything that a plain look doesn't give.
+fn compare(alloc: Global, walked: &Walked) -> Result<(), Fail> {
+    walked.shows_all()?;
+    let last = walked.machine.last();
+    if last.lines() != walked.extent.lines {
+        return Err(Fail::from("the last contents of other lines"));
+    }
+    for line in 0..last.lines() {
+        holds(alloc, walked, line, last.get(line))?;
+    }
+    audit_logs(alloc, walked)
+}
+
+/// One event of a walk. If a plain look finds an event enabled, it must be.
+fn step(random: &mut Random, walked: &mut Walked) -> Result<(), Fail> {
+    if random.once_in(16) {
+        let event = any_event(random, walked);
+        let _happened = walked.step(&event)?;
+        return Ok(());
+    }
+    for _look in 0..8 {
+        if let Some(event) = enabled_event(random, walked) {
+            if !walked.step(&event)? {
+                return Err(Fail::new(format_args!("{event:?} is not enabled")));
+            }
+            return Ok(());
+        }
+    }
+    Ok(())
+}
+
+/// Whether nothing of a line is left at a node or under way from it, and the line's home has it alone.
+fn rests(walked: &Walked, n: u8, line: u8) -> bool {
+    let machine = &walked.machine;
+    let is_home = machine
+        .home(line)
+        .is_some_and(|home| matches!(home.state(), HomeState::Home(_)));
+    let is_out = machine
+        .held(n, line)
+        .is_some_and(|held| matches!(held, Held::Out(_)));
+    is_home && is_out && machine.pending(n, line).is_none()
+}
+
+/// How many operations are issued and not yet performed.
+fn pending(walked: &Walked) -> u64 {
+    let mut pending: u64 = 0;
+    for n in 0..walked.extent.nodes {
+        for line in 0..walked.extent.lines {
+            if walked.machine.pending(n, line).is_some() {
+                pending = pending.saturating_add(1);
+            }
+        }
+    }
+    pending
+}
+
+/// An error if the machine doesn't come to rest within as many events as it may take, or its logs aren't lawful then,
+/// or lack an operation.
+fn settle(alloc: Global, walked: &mut Walked) -> Result<(), Fail> {
+    let extent = walked.extent;
+    let entries = u64::from(extent.nodes) * u64::from(extent.lines.min(extent.slots));
+    let most = (11 * entries).saturating_add(pending(walked).saturating_mul(9));
+    let events = walked.machine.settle()?;
+    if u64::from(events) > most {
+        return Err(Fail::new(format_args!("{events} events, not {most}")));
+    }
+    for n in 0..extent.nodes {
+        if walked.machine.waiting(n).is_some() {
+            return Err(Fail::from("an answer that waits"));
+        }
+        if walked.machine.entries(n) != walked.issued(n) as usize {
+            return Err(Fail::from("an operation that isn't performed"));
+        }
+        for to in 0..extent.nodes {
+            for kind in [LaneKind::Requests, LaneKind::Answers] {
+                if walked.machine.count(kind, n, to) > 0 {
+                    return Err(Fail::from("a packet under way"));
+                }
+            }
+        }
+        for line in 0..extent.lines {
+            if !rests(walked, n, line) {
+                return Err(Fail::new(format_args!("node {n} and line {line}")));
+            }
+        }
+    }
+    audit_logs(alloc, walked)
+}
+
+/// What happens in the walk of a seed.
+fn walk(alloc: Global, walks: &Walks, seed: u64) -> Result<Counts, Fail> {
+    let extent = Extent::new(walks.nodes, walks.lines, walks.slots).ok_or("an extent")?;
+    let mut random = Random::new(seed);
+    let mut walked = Walked::new(alloc, extent)?;
+    for place in 0..walks.events {
+        if place == walks.events / 2 {
+            compare(alloc, &walked)?;
+        }
+        step(&mut random, &mut walked)?;
+    }
+    compare(alloc, &walked)?;
+    settle(alloc, &mut walked)?;
+    Ok(walked.counts)
+}
+
+/// What happens in all these walks together. The seed of a walk that goes wrong is printed.
+fn walk_all(rt: &impl Eprint, alloc: Global, all: &[Walks]) -> Result<Counts, Fail> {
+    let mut counts = Counts::none();
+    for walks in all {
+        let (nodes, lines, slots) = (walks.nodes, walks.lines, walks.slots);
+        for seed in 0..u64::from(walks.seeds) {
+            match walk(alloc, walks, seed) {
+                Ok(more) => counts.add(&more),
+                Err(fail) => {
+                    let _ = rt.eprintln(format_args!(
+                        "machine {nodes} {lines} {slots}, seed {seed}"
+                    ));
+                    return Err(fail);
+                }
+            }
+        }
+    }
+    Ok(counts)
+}
+
+/// Walks on a machine of this size.
+fn of_size(nodes: u8, lines: u8, slots: u8, seeds: u16, events: u16) -> Walks {
+    Walks {
+        nodes,
+        lines,
+        slots,
+        seeds,
+        events,
+    }
+}
+
+/// An error if something happened seldom or never.
+fn much_happened(counts: &Counts, operations: u64, others: u64) -> Result<(), Fail> {
+    let fewest_operations = counts.loads.min(counts.makers);
+    let fewest_others = counts
+        .joined
+        .min(counts.purged)
+        .min(counts.rolled)
+        .min(counts.written_back)
+        .min(counts.claimed)
+        .min(counts.cleared)
+        .min(counts.lost)
+        .min(counts.busy);
+    if fewest_operations < operations || fewest_others < others {
+        return Err(Fail::new(format_args!("{counts:?}")));
+    }
+    Ok(())
+}
+
+#[test]
+fn walks_of_two_nodes(rt: HostRuntime) -> Result<(), Fail> {
+    let all = [of_size(2, 1, 1, 400, 200), of_size(2, 3, 1, 200, 200)];
+    let counts = walk_all(&rt, rt.alloc(), &all)?;
+    much_happened(&counts, 3_000, 300)
+}
+
+#[test]
+fn walks_of_three_nodes(rt: HostRuntime) -> Result<(), Fail> {
+    let all = [of_size(3, 1, 1, 400, 200), of_size(3, 4, 2, 200, 240)];
+    let counts = walk_all(&rt, rt.alloc(), &all)?;
+    much_happened(&counts, 3_000, 100)
+}
+
+#[test]
+fn walks_of_four_nodes(rt: HostRuntime) -> Result<(), Fail> {
+    let all = [of_size(4, 1, 2, 300, 240), of_size(4, 8, 3, 200, 300)];
+    let counts = walk_all(&rt, rt.alloc(), &all)?;
+    much_happened(&counts, 2_000, 100)
+}
+
+#[test]
+fn walks_of_five_and_six_nodes(rt: HostRuntime) -> Result<(), Fail> {
+    let all = [of_size(5, 2, 2, 200, 300), of_size(6, 1, 1, 200, 300)];
+    let counts = walk_all(&rt, rt.alloc(), &all)?;
+    much_happened(&counts, 1_500, 5)
+}
+
+#[test]
+fn walks_of_seven_to_twelve_nodes(rt: HostRuntime) -> Result<(), Fail> {
+    let all = [
+        of_size(7, 3, 1, 80, 400),
+        of_size(8, 16, 4, 40, 400),
+        of_size(10, 1, 8, 80, 400),
+        of_size(12, 5, 2, 40, 400),
+    ];
+    let counts = walk_all(&rt, rt.alloc(), &all)?;
+    much_happened(&counts, 1_000, 50)
+}
+
+#[test]
+fn walks_of_sixteen_nodes(rt: HostRuntime) -> Result<(), Fail> {
+    let all = [of_size(16, 1, 1, 40, 800), of_size(16, 2, 1, 40, 800)];
+    let counts = walk_all(&rt, rt.alloc(), &all)?;
+    much_happened(&counts, 200, 2)
+}
+
+#[test]
+fn walks_of_many_nodes_and_lines(rt: HostRuntime) -> Result<(), Fail> {
+    let all = [of_size(15, 6, 8, 20, 800), of_size(16, 64, 8, 4, 800)];
+    let counts = walk_all(&rt, rt.alloc(), &all)?;
+    much_happened(&counts, 100, 4)
+}

@@ -1,0 +1,230 @@
+//! Nodes that go in fixed orders and in random ones, until every operation is performed: stations, and nodes that share a
+//! machine under a lock.
+
+use crate::busy::Busy;
+use crate::locked::Locked;
+use crate::running::Running;
+use sci_chance::Random;
+use sci_words::{Act, LockOp, Op};
+use std::alloc::{AllocError, Global};
+use std::sync::Wait;
+use std::test::*;
+
+const ADD: Act = Act::Lock(LockOp::FetchAdd { datum: 1 });
+
+const WRITE: Act = Act::Store(7);
+
+/// What nodes do to one word.
+#[derive(Clone, Copy)]
+struct Work {
+    nodes: u8,
+    acts: &'static [(u8, Act)],
+    /// An order in which nodes once went round for ever, and in which they go before it.
+    before: &'static [u8],
+    order: &'static [u8],
+}
+
+/// Four nodes, each of which adds one three times; six nodes, five of which write; and two nodes that read, of which the
+/// first then writes.
+const WORKS: [Work; 3] = [
+    Work {
+        nodes: 4,
+        acts: &[
+            (0, ADD),
+            (0, ADD),
+            (0, ADD),
+            (1, ADD),
+            (1, ADD),
+            (1, ADD),
+            (2, ADD),
+            (2, ADD),
+            (2, ADD),
+            (3, ADD),
+            (3, ADD),
+            (3, ADD),
+        ],
+        before: &[],
+        order: &[3, 3, 2, 1, 1, 1, 0, 0],
+    },
+    Work {
+        nodes: 6,
+        acts: &[(1, WRITE), (2, WRITE), (3, WRITE), (4, WRITE), (5, WRITE)],
+        before: &[],
+        order: &[4, 3, 1, 0, 5, 2],
+    },
+    Work {
+        nodes: 2,
+        acts: &[(0, Act::Load), (0, WRITE), (1, Act::Load)],
+        before: &[0, 0, 0, 0, 1, 0, 1],
+        order: &[0, 0, 1],
+    },
+];
+
+impl Work {
+    /// Stations that have this to do.
+    fn of_stations(&self, alloc: Global) -> Result<Busy<Running>, Fail> {
+        let nodes = Running::of(alloc, (self.nodes, 1, 1), 3)?;
+        Busy::sharing(alloc, nodes, self.nodes, self.acts)
+    }
+
+    /// Nodes under a lock that have this to do.
+    fn under_a_lock<'a, W: Wait>(
+        &self,
+        rt: &'a W,
+        alloc: Global,
+    ) -> Result<Busy<Locked<'a, W>>, Fail> {
+        let nodes = Locked::of(rt, alloc, (self.nodes, 1, 1), 3)?;
+        Busy::sharing(alloc, nodes, self.nodes, self.acts)
+    }
+
+    /// An order of 8 to 16 goes in which each node has one at least.
+    fn any_order(&self, alloc: Global, random: &mut Random) -> Result<Vec<u8>, AllocError> {
+        let goes = 8 + random.below(9);
+        let mut order = Vec::new(alloc);
+        for go in 0..goes {
+            let place = usize::from(random.below(go + 1)).min(order.len());
+            let node = if go < self.nodes {
+                go
+            } else {
+                random.below(self.nodes)
+            };
+            order.insert(place, node)?;
+        }
+        Ok(order)
+    }
+}
+
+#[test]
+fn orders_end(rt: HostRuntime) -> Result<(), Fail> {
+    for work in &WORKS {
+        let mut stations = work.of_stations(rt.alloc())?;
+        stations.go_all(work.before)?;
+        stations.end(rt.alloc(), work.order)?;
+        let mut nodes = work.under_a_lock(&rt, rt.alloc())?;
+        nodes.go_all(work.before)?;
+        nodes.end(rt.alloc(), work.order)?;
+    }
+    Ok(())
+}
+
+#[test]
+fn random_orders_end(rt: HostRuntime) -> Result<(), Fail> {
+    for seed in 0..1_000 {
+        let mut random = Random::new(seed);
+        for work in &WORKS {
+            let order = work.any_order(rt.alloc(), &mut random)?;
+            work.of_stations(rt.alloc())?.end(rt.alloc(), &order)?;
+            work.under_a_lock(&rt, rt.alloc())?.end(rt.alloc(), &order)?;
+        }
+    }
+    Ok(())
+}
+
+/// A random operation on one of so many lines.
+fn any_op(random: &mut Random, lines: u8) -> Op {
+    let line = random.below(lines);
+    let act = match random.below(3) {
+        0 => Act::Load,
+        1 => Act::Store(u64::from(random.below(100))),
+        _ => ADD,
+    };
+    Op {
+        line,
+        word: random.below(8),
+        act,
+    }
+}
+
+/// Nodes with ten random operations each go in a random order, at most 2,000 times an operation.
+fn random_turns_end(
+    rt: &impl Wait,
+    alloc: Global,
+    size: (u8, u8, u8),
+    seed: u64,
+) -> Result<(), Fail> {
+    let (count, lines, _slots) = size;
+    let mut random = Random::new(seed);
+    let mut busy = Busy::new(alloc, Locked::of(rt, alloc, size, 65_536)?, count, lines)?;
+    for node in 0..count {
+        for _op in 0..10 {
+            let op = any_op(&mut random, lines);
+            busy.add(node, op)?;
+        }
+    }
+    for _round in 0..u32::from(count) * 20_000 {
+        if busy.is_done() {
+            break;
+        }
+        for _go in 0..count {
+            busy.go(random.below(count))?;
+        }
+    }
+    busy.end(alloc, &[])
+}
+
+#[test]
+fn random_turns_of_many_sizes_end(rt: HostRuntime) -> Result<(), Fail> {
+    let sizes = [
+        (2, 1, 1),
+        (3, 2, 1),
+        (4, 1, 1),
+        (5, 3, 2),
+        (6, 8, 2),
+        (8, 1, 1),
+        (8, 16, 4),
+        (12, 4, 1),
+        (16, 1, 1),
+        (16, 8, 3),
+        (16, 64, 8),
+    ];
+    for size in sizes {
+        for seed in 0..10 {
+            random_turns_end(&rt, rt.alloc(), size, seed)?;
+        }
+    }
+    Ok(())
+}
+
+/// How many rounds of all nodes in turn 50 fetch-adds of each node on one line take, and how many packets.
+fn adders(rt: &impl Wait, alloc: Global, nodes: u8) -> Result<(u32, u64), Fail> {
+    let mut busy = Busy::new(
+        alloc,
+        Locked::of(rt, alloc, (nodes, 1, 1), 65_536)?,
+        nodes,
+        1,
+    )?;
+    let mut order = Vec::new(alloc);
+    for node in 0..nodes {
+        order.push(node)?;
+        for _time in 0..50 {
+            let op = Op {
+                line: 0,
+                word: 0,
+                act: ADD,
+            };
+            busy.add(node, op)?;
+        }
+    }
+    let rounds = busy.rounds(&order, 1_000_000)?;
+    let packets = busy.packets;
+    busy.is_lawful(alloc)?;
+    Ok((rounds, packets))
+}
+
+/// On a contended line an operation takes few turns of all nodes and few packets, counted in tenths.
+#[test]
+fn a_contended_line_goes_round(rt: HostRuntime) -> Result<(), Fail> {
+    let bounds = [(2, 36u32, 31u32), (4, 92, 62), (8, 172, 65), (16, 332, 70)];
+    for (nodes, turns, packets) in bounds {
+        let (rounds, taken) = adders(&rt, rt.alloc(), nodes)?;
+        let operations = u64::from(nodes) * 50;
+        let most = operations * u64::from(turns) / 10;
+        assert!(rt;
+            u64::from(rounds) <= most,
+            "{nodes} nodes take {rounds} rounds"
+        );
+        let most = operations * u64::from(packets) / 10;
+        assert!(rt; taken <= most, "{nodes} nodes take {taken} packets");
+    }
+    Ok(())
+}
