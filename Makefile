@@ -1,4 +1,4 @@
-# The targets need Rattle's command `rt` (README.md, "What you need").
+# The targets need Rattle's command `rt` (README.md, "Build and run").
 
 NEED_RT = command -v rt > /dev/null || { echo "rt is missing: put the bin folder of a Rattle kit (rattle-kit-13b or later) on your PATH"; exit 1; }
 
