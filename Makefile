@@ -41,11 +41,16 @@ examples: build
 charts: build
 	@scripts/check_charts.py
 
-# Puts the programs and their manual pages into PREFIX/bin and PREFIX/share/man/man1.
-install: build
-	@install -d "$(PREFIX)/bin" "$(PREFIX)/share/man/man1"
-	@install -m 755 crates/scimem/out/scimem crates/sciview/out/sciview "$(PREFIX)/bin"
-	@install -m 644 docs/scimem.1 docs/sciview.1 "$(PREFIX)/share/man/man1"
+# Puts the programs and their manual pages into PREFIX/bin and PREFIX/share/man, below DESTDIR if that is set. With rt on the
+# PATH the programs are built first; without it, as under sudo, those that are built are taken.
+install:
+	@if command -v rt > /dev/null; then $(MAKE) --no-print-directory build; fi
+	@for name in scimem sciview; do [ -x crates/$$name/out/$$name ] || { echo "$$name isn't built yet: run make build first"; exit 1; }; done
+	@install -d "$(DESTDIR)$(PREFIX)/bin" "$(DESTDIR)$(PREFIX)/share/man/man1" "$(DESTDIR)$(PREFIX)/share/man/man5"
+	@install -m 755 crates/scimem/out/scimem crates/sciview/out/sciview "$(DESTDIR)$(PREFIX)/bin"
+	@install -m 644 docs/scimem.1 docs/sciview.1 "$(DESTDIR)$(PREFIX)/share/man/man1"
+	@scripts/manual_page.py > "$(DESTDIR)$(PREFIX)/share/man/man5/scimem.5"
+	@echo "installed scimem and sciview in $(DESTDIR)$(PREFIX)/bin, and scimem(1), sciview(1) and scimem(5) in $(DESTDIR)$(PREFIX)/share/man"
 
 # Builds tests and the programs over what earlier checks kept, and has memory, reads and writes refused. With CRATE=NAME
 # it tries that crate alone.
