@@ -104,17 +104,18 @@ fn a_station_moves_into_a_thread(rt: HostRuntime) -> Result<(), Fail> {
 const REFUSALS: &str =
     "submit 0 load 64 0 refused NoSuchLine; submit 0 load 0 8 refused NoSuchWord; submit 0 load 0 0 serial 0; turn 0; turn 0; turn 0; perform 0 0 = 0 0 load 0 0 = 0 @0; submit 0 load 0 0 serial 1; submit 0 load 0 0 refused LineTaken; perform 0 0 = 0 1 load 0 0 = 0 @0";
 
-/// The causes when as many operations were submitted as there may be.
-const FULL: &str = "submit 0 load 0 0 refused LogFull; submit 0 load 1 0 refused LogFull";
+/// The causes when as many operations were submitted as there may be. While the last one is pending, its line is taken first.
+const FULL: &str =
+    "submit 0 load 0 0 serial 65535; submit 0 load 0 0 refused LineTaken; submit 0 load 1 0 refused LogFull; perform 0 0 = 0 65535 load 0 0 = 65533 @65533; submit 0 load 0 0 refused LogFull";
 
-/// Fills the log of node 0, of which two operations are done.
+/// Fills the log of node 0, of which two operations are done, but for the last one.
 fn fill<N: Nodes>(nodes: &mut N) -> Result<(), Fail> {
     let add = Op {
         line: 0,
         word: 0,
         act: Act::Lock(LockOp::FetchAdd { datum: 1 }),
     };
-    for serial in 2..65_536 {
+    for serial in 2..65_535 {
         if nodes.submit(0, add)? != Ok(serial) {
             return Err(Fail::from("another serial"));
         }

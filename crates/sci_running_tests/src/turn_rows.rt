@@ -103,6 +103,17 @@ fn answers_are_looked_for_while_one_is_owed(rt: HostRuntime) -> Result<(), Fail>
     )
 }
 
+/// Node 0 owes node 1 two answers. Its turn is cut after the first one, and node 1 takes a turn between: it still looks for the
+/// second one, in a later turn.
+#[test]
+fn each_answer_that_is_owed_is_looked_for(rt: HostRuntime) -> Result<(), Fail> {
+    stations(
+        &rt,
+        (2, 3, 2),
+        "submit 1 load 0 0 serial 0; submit 1 load 2 0 serial 1; turn 1 asked; turn 0 within 18 steps 18 served 1; turn 1 accepted 1; turn 0 served 1; turn 1 accepted 1; perform 1 0 = 1 0 load 0 0 = 0 @0; perform 1 2 = 1 1 load 2 0 = 0 @0",
+    )
+}
+
 /// Node 14 of sixteen wants a line of the last one, and accepts its answer.
 #[test]
 fn an_answer_of_the_last_node_is_accepted(rt: HostRuntime) -> Result<(), Fail> {
