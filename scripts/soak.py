@@ -80,7 +80,7 @@ def fault(given):
         return f"status {status}"
     if ran(["audit"], log) != (0, b"lawful\n"):
         return "a log that `audit` refuses"
-    return wrong_log(given, log, whole=True)
+    return wrong_log(given, log)
 
 
 def main(words):

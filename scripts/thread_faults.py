@@ -1,9 +1,7 @@
 """Trials of `scimem threads` with several nodes: refused allocations, threads that can't be made, little address space.
 
-A run by threads has no answer that is known before: it is one of many. So each log is looked at (thread_logs.py). It has to
-be whole if the command ends as Done, and may be cut if it ends as Unlawful: a node may use up its turns where it waits for a
-node that has no thread, or whose thread the system lets wait. Else memory is refused, and nothing else is written. A run in
-which nothing fails has to be whole if no node's turns are limited."""
+A run by threads has no answer that is known before: it is one of many. So each log is looked at (thread_logs.py): it has to
+be whole, also where threads can't be made. Else memory is refused, and nothing else is written."""
 
 import random
 from collections import namedtuple
@@ -11,10 +9,7 @@ from collections import namedtuple
 from fault_runs import Trial
 from thread_logs import wrong_log
 
-# How many turns a node takes at most if a call fails. A node without a thread uses them up if it waits for another.
-TURNS = "20000"
-WORDS = ["threads", "--turns", TURNS]
-UNLIMITED = ["threads"]
+WORDS = ["threads"]
 MEMORY = (2, b"refused at line 0: memory\n", b"")
 
 # A script of several nodes: its name, its text, and the most address space that it is given above the least, in KB.
@@ -31,34 +26,31 @@ def script(nodes, lines, count, most_space):
 
 
 def is_right(ran, it, usage):
-    """Whether a run has written a log of its script, or has refused for want of memory."""
+    """Whether a run has written a whole log of its script, or has refused for want of memory."""
     if ran.told != b"a" and ran[:3] == (2, b"", usage):
         return True
-    if ran.status in (0, 1) and not ran.errors:
-        return wrong_log(it.given, ran.output, whole=ran.status == 0) is None
+    if ran.status == 0 and not ran.errors:
+        return wrong_log(it.given, ran.output) is None
     return ran[:3] == MEMORY
 
 
 def try_calls(faults, program, usage, it, kind):
-    """Has each call of a kind fail in turn, until a run has none that fails. Without a limit such a run is whole."""
+    """Has each call of a kind fail in turn, until a run has none that fails. That run has to be whole, and so has each in
+    which a thread can't be made."""
     trial = Trial(f"{kind}s of {it.name}")
     for number in range(1, 1_000_000):
         ran = faults.run([program, *WORDS], it.given, fault=f"{kind}:{number}")
         trial.count(ran.told)
-        if not is_right(ran, it, usage):
+        if not is_right(ran, it, usage) or ran.status != 0 and (kind == "thread" or not ran.told):
             trial.fail(f"{kind} {number}", ran)
         if not ran.told:
-            break
-    ran = faults.run([program, *UNLIMITED], it.given)
-    if ran.status != 0 or not is_right(ran, it, usage):
-        trial.fail("nothing", ran)
-    return trial
+            return trial
 
 
 def try_space(faults, program, usage, it, least):
     """Limits the address space in even steps, from the least on."""
     trial = Trial(f"address space of {it.name}")
-    limits = [least + it.most_space * step // 64 for step in range(65)]
+    limits = [least + it.most_space * step // 16 for step in range(17)]
     run = lambda kilobytes: faults.run([program, *WORDS], it.given, kilobytes=kilobytes)
     for kilobytes, ran in zip(limits, faults.pool.map(run, limits)):
         trial.count(ran.status != 0)
@@ -74,4 +66,4 @@ def try_threads(faults, program, usage, least, tell):
     trials = tell("scimem threads", "allocations refused", each("alloc"))
     trials += tell("scimem threads", "threads refused", each("thread"))
     space = [try_space(faults, program, usage, it, least) for it in scripts]
-    return trials + tell("scimem threads", "runs refused or cut for want of address space", space)
+    return trials + tell("scimem threads", "runs refused for want of address space", space)

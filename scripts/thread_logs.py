@@ -5,9 +5,9 @@ from collections import Counter
 from plain_answers import Lines, answer, read_log, read_script
 
 
-def wrong_log(given, log, whole):
-    """Why this isn't a log of a run of the script, or None if it is: it is lawful, each entry is of the operation that its
-    serial names, and none stands twice. If it has to be whole, each operation has its entry."""
+def wrong_log(given, log):
+    """Why this isn't a whole log of a run of the script, or None if it is: it is lawful, and each operation of the script has
+    one entry, with its serial."""
     _nodes, _lines, issued = read_script(Lines(given))
     if answer("audit", log) != (0, b"lawful\n"):
         return "a log that isn't lawful"
@@ -19,6 +19,6 @@ def wrong_log(given, log, whole):
     logged = Counter((it.node, it.serial, it.operation) for it in entries)
     if logged - asked:
         return "entries that aren't the script's"
-    if whole and logged != asked:
+    if logged != asked:
         return "operations without an entry"
     return None

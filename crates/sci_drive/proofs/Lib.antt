@@ -1,2 +1,2 @@
-mod Drives
+pub mod Drives
 pub mod InOrder

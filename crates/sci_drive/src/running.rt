@@ -9,6 +9,7 @@ ghost use Rattle.sci_drive.specs.Script.{IsLogOf, IsWholeLogOf};
 
 use crate::driver::{Driver, Issuing};
 use crate::gate::Gate;
+use crate::laws::new_drivers_may_drive;
 use sci_policy::Worker;
 use sci_words::Op;
 use std::alloc::AllocError;
@@ -72,25 +73,55 @@ pub fn drive_issuing<W: Worker, G: Gate>(
     ensures all { IfOk result (λ ran. ran.finished ≡ false → ran.turns ≡ turns) }
     ensures stays { W.stays worker.old worker.new }
 {
+    new_drivers_may_drive();
     let mut driver = Driver::new(script, issuing);
-    let mut restless = 0;
-    for turn in 0..turns {
-        let round = driver.round(worker, gate)?;
-        if driver.is_answered() && gate.all_done() {
-            return Ok(Ran {
-                finished: true,
-                turns: turn + 1,
-            });
+    driver.go_on(worker, gate, turns)
+}
+
+impl<'a> Driver<'a> {
+    ghost use Rattle.std.specs.Prelude.{◌≡◌, ◌≤◌, [], true, false, length, IfOk};
+    ghost use Rattle.sci_drive.specs.Driving.{IsDriven, IsInOrder};
+
+    /// Goes on with the script, a round at a time, for at most so many turns. It ends finished as soon as the whole script
+    /// is answered and the gate says that all are done. The gate's rest is called after each turn in which nothing moved,
+    /// and after 16 turns in a row without an entry or a rest. Requires the worker that this driver has driven. Refused if
+    /// a turn of the worker is.
+    pub fn go_on<W: Worker, G: Gate>(
+        &mut self,
+        worker: &mut W,
+        gate: &mut G,
+        turns: u32,
+    ) -> Result<Ran, AllocError>
+        requires driven { IsDriven self.old (W.node worker.old) }
+        ensures driven { IsDriven self.new (W.node worker.new) }
+        ensures order { IsInOrder self.old (W.node worker.old) →
+            IsInOrder self.new (W.node worker.new) }
+        ensures answered { IfOk result (λ ran. ran.finished ≡ true →
+            (self.new.next ≡ length self.new.script) × (self.new.pending ≡ [])) }
+        ensures turns { IfOk result (λ ran. ran.turns ≤ turns) }
+        ensures all { IfOk result (λ ran. ran.finished ≡ false → ran.turns ≡ turns) }
+        ensures script { self.new.script ≡ self.old.script }
+        ensures stays { W.stays worker.old worker.new }
+    {
+        let mut restless = 0;
+        for turn in 0..turns {
+            let round = self.round(worker, gate)?;
+            if self.is_answered() && gate.all_done() {
+                return Ok(Ran {
+                    finished: true,
+                    turns: turn + 1,
+                });
+            }
+            restless = if round.answered { 0 } else { restless + 1 };
+            let is_still = !round.answered && round.progress.is_idle();
+            if is_still || restless >= RESTLESS_TURNS {
+                gate.rest();
+                restless = 0;
+            }
         }
-        restless = if round.answered { 0 } else { restless + 1 };
-        let is_still = !round.answered && round.progress.is_idle();
-        if is_still || restless >= RESTLESS_TURNS {
-            gate.rest();
-            restless = 0;
-        }
+        Ok(Ran {
+            finished: false,
+            turns,
+        })
     }
-    Ok(Ran {
-        finished: false,
-        turns,
-    })
 }

@@ -1,5 +1,5 @@
 -- What each node of a machine does of a script.
-use Rattle.std.specs.Prelude.{◌≡◌, ◌<◌, ◌==◌, ℕ, Bool, true, List, [], filter, map, Result, IfOk, slice_index_or, Vec}
+use Rattle.std.specs.Prelude.{◌≡◌, ◌<◌, ◌==◌, ℕ, Bool, true, List, [], filter, length, map, Result, IfOk, slice_index_or, Vec}
 use Rattle.sci_words.specs.declared.limits.TheConstants.{MAX_OPERATIONS}
 use Rattle.sci_words.specs.declared.event.Event.{Event}
 use Rattle.sci_words.specs.declared.operation.Op.{Op}
@@ -18,7 +18,9 @@ use Rattle.sci_lanes.specs.Gathering.{AreMadeBy}
 use Rattle.sci_history.specs.Sequential.{IsInProgramOrder}
 use Rattle.sci_drive.specs.declared.driver.Issuing.{Issuing}
 use Rattle.sci_drive.specs.declared.driver.Issuing.TheVariants.{InOrder}
+use Rattle.sci_drive.specs.Driving.{DriverOf, IsDriven, IsInOrder}
 use Rattle.sci_drive.specs.Script.{IsLogOf, IsWholeLogOf}
+use Rattle.sci_station.specs.Ends.{IsSameEnd}
 
 -- the operations of a node, in their order
 abbrev pub operations_of : ℕ → List (ℕ × Op) → List Op
@@ -54,6 +56,26 @@ pub record AreLedTo (size : Size) (logs : List (List Entry)) (last : List Stampe
 -- the operations of the node with this number
 abbrev pub own_of : {Z : Type 0} → List (Vec Op Z) → ℕ → List Op
 own_of all node = slice_index_or (map (λ own. own.items) all) node []
+
+-- a share before its run: its driver has the operations that stand under its node's number
+pub record IsOpened (issuing : Issuing) (operations : ℕ → List Op) (driver : DriverOf) (end : EndOf) : Type 0 where
+  pub script : driver.script ≡ operations (me_of end.part)
+  pub ordered : issuing ≡ InOrder → IsInOrder driver end.part.node
+
+-- The driver of a share has driven the station of this end, and has come to the end of its script if it has finished.
+pub record IsWell {E : Type 0} (driver : DriverOf) (end : EndOf) (finished : Result Bool E) : Type 0 where
+  pub driven : IsDriven driver end.part.node
+  pub answered : IfOk finished (λ all. all ≡ true → (driver.next ≡ length driver.script) × (driver.pending ≡ []))
+
+-- the same end and the same script, later
+pub record GoesOn (driver : DriverOf) (end : EndOf) (later : DriverOf) (last : EndOf) : Type 0 where
+  pub same : IsSameEnd end last
+  pub script : later.script ≡ driver.script
+  pub order : IsInOrder driver end.part.node → IsInOrder later last.part.node
+
+-- the same of the shares that stand at a place
+abbrev pub HaveGoneOn : {A : Type 0} → (A → DriverOf) → (A → EndOf) → List A → List A → ℕ → A → Type 0
+HaveGoneOn driver end old new k d = GoesOn (driver (slice_index_or old k d)) (end (slice_index_or old k d)) (driver (slice_index_or new k d)) (end (slice_index_or new k d))
 
 -- The log of the end's node is of the operations that stand under its number, and whole if it has finished. It stands in
 -- their order if they were issued so.

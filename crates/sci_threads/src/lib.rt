@@ -4,7 +4,9 @@
 mod gate;
 mod laws;
 mod running;
+mod share;
 mod shares;
+mod start;
 
 pub use gate::YieldingGate;
 pub use laws::new_stations_are_fresh;

@@ -7,7 +7,7 @@ ghost use Rattle.sci_history.specs.Sequential.{AreInProgramOrder, IsSequentially
 ghost use Rattle.sci_drive.specs.declared.driver.Issuing.TheVariants.{InOrder};
 ghost use Rattle.sci_threads.specs.Shares.{AreLedTo, HaveLogsOf, HaveWholeLogsOf, size_for};
 
-use crate::shares::{gathered, operations_by_node, run_all, shares};
+use crate::shares::{Plan, gathered, operations_by_node, run_all, shares};
 use sci_drive::{Gate, Issuing};
 use sci_history::{Last, Logs};
 use sci_lanes::FinishFault;
@@ -18,9 +18,9 @@ use std::alloc::{AllocError, Global};
 use std::thread::Threads;
 
 /// Runs a script: the station of each node is driven through the node's operations, with its own gate, in a thread of
-/// its own, for at most `turns` turns. A node whose thread can't be made is driven without one, and the run may then
-/// end unfinished. Gives the logs, the last contents, and whether all nodes have finished. The caller sees to it that
-/// there is one gate for each node. Refused if memory is.
+/// its own, for at most `turns` turns. If a thread hasn't begun after some 1,000,000 turns of another, as when it can't
+/// be made, all nodes go on in the calling thread, a turn each in a circle. Gives the logs, the last contents, and
+/// whether all nodes have finished. The caller sees to it that there is one gate for each node. Refused if memory is.
 ///
 /// - The logs and the last contents are those of a state where a schedule leads the machine, whatever the threads did.
 /// - In each node's log each entry has the operation of the node that its serial names, and no serial stands twice.
@@ -86,8 +86,13 @@ fn run<R: Threads + Sync, G: Gate + Send + Drop>(
 {
     let operations = operations_by_node(alloc, script)?;
     let (fabric, stations) = Fabric::new(alloc, script.extent(), MAX_OPERATIONS)?;
-    let mut shares = shares(alloc, stations, gates)?;
-    run_all(rt, &mut shares, &operations, issuing, turns);
+    let plan = Plan {
+        operations: &operations,
+        issuing,
+        turns,
+    };
+    let mut shares = shares(alloc, stations, gates, plan)?;
+    run_all(rt, &mut shares, turns);
     let (stations, finished) = gathered(alloc, shares)?;
     match fabric.finish(alloc, stations) {
         Ok(Finished { logs, last }) => Ok((logs, last, finished)),

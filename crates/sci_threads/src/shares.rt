@@ -3,12 +3,13 @@
 ghost use Rattle.std.specs.Prelude.{◌≡◌, ◌<◌, ◌≤◌, ℕ, List, All, IfOk, Ok, true, length, map, slice_index_or};
 ghost use Rattle.sci_words.specs.declared.limits.TheConstants.{MAX_OPERATIONS};
 ghost use Rattle.sci_drive.specs.Driving.{HasSubmittedNothing};
-ghost use Rattle.sci_station.specs.Ends.{IsSameEnd};
 ghost use Rattle.sci_station.specs.Station.{node_in};
 ghost use Rattle.sci_lanes.specs.Shown.{me_of};
-ghost use Rattle.sci_threads.specs.Shares.{HasRun, operations_of, own_of};
+ghost use Rattle.sci_threads.specs.Shares.{GoesOn, HaveGoneOn, IsOpened, IsWell, operations_of, own_of};
 
-use sci_drive::{Gate, Issuing, drive_issuing};
+use crate::share::Share;
+use crate::start::Start;
+use sci_drive::{Driver, Gate, Issuing, new_drivers_may_drive};
 use sci_station::Station;
 use sci_text::Script;
 use sci_words::{MAX_NODES, Op};
@@ -16,76 +17,83 @@ use std::alloc::{AllocError, Global};
 use std::thread;
 use std::thread::Threads;
 
-/// A node's share of a run: its station and its gate, and whether it has finished.
-#[derive(Drop)]
-pub(crate) struct Share<G> {
-    pub(crate) station: Station,
-    pub(crate) gate: G,
-    pub(crate) finished: Result<bool, AllocError>,
+/// What the nodes of a run do: the operations of each, when they are submitted, and how many turns each may take.
+#[derive(Clone, Copy)]
+pub(crate) struct Plan<'a> {
+    pub(crate) operations: &'a [Vec<Op>],
+    pub(crate) issuing: Issuing,
+    pub(crate) turns: u32,
 }
 
-impl<G: Gate> Share<G> {
-    /// Drives the station through those of the operations that are its node's, for at most so many turns.
-    pub(crate) fn run(&mut self, operations: &[Vec<Op>], issuing: Issuing, turns: u32)
-        requires known { me_of self.old.station.end.part < length operations.now }
-        requires few { All (λ own. length own.items ≤ MAX_OPERATIONS) operations.now }
-        requires fresh { HasSubmittedNothing (node_in self.old.station) }
-        ensures same { IsSameEnd self.old.station.end self.new.station.end }
-        ensures run { HasRun issuing (own_of operations.now)
-            self.new.station.end self.new.finished }
-    {
-        let own = &operations[self.station.me() as usize];
-        self.finished = match drive_issuing(
-            &mut self.station,
-            own,
-            issuing,
-            &mut self.gate,
-            turns,
-        ) {
-            Ok(ran) => Ok(ran.finished),
-            Err(refused) => Err(refused),
-        };
+/// Each share that has not ended goes on for a turn. Whether one has not ended then.
+fn go_round<G: Gate>(shares: &mut [Share<'_, G>]) -> bool
+    requires well { All
+        (λ share. IsWell share.driver share.station.end share.finished) shares.old }
+    ensures well { All
+        (λ share. IsWell share.driver share.station.end share.finished) shares.new }
+    ensures gone { (k : ℕ) (d : _) → k < length shares.old → HaveGoneOn
+        (λ share. share.driver) (λ share. share.station.end) shares.old shares.new k d }
+{
+    let mut more = false;
+    for n in 0..shares.len() {
+        shares[n].go_on(1);
+        if !shares[n].has_ended() {
+            more = true;
+        }
+    }
+    more
+}
+
+/// All shares go on in this thread, a turn each in a circle, until all have ended.
+fn go_on_in_a_circle<G: Gate>(shares: &mut [Share<'_, G>], turns: u32)
+    requires well { All
+        (λ share. IsWell share.driver share.station.end share.finished) shares.old }
+    ensures well { All
+        (λ share. IsWell share.driver share.station.end share.finished) shares.new }
+    ensures gone { (k : ℕ) (d : _) → k < length shares.old → HaveGoneOn
+        (λ share. share.driver) (λ share. share.station.end) shares.old shares.new k d }
+{
+    for _round in 0..turns {
+        if !go_round(shares) {
+            return;
+        }
     }
 }
 
-/// Drives each station in a thread of its own, for at most so many turns. One whose thread can't be made is driven
-/// without one.
+/// Drives each station in a thread of its own, for at most as many turns as it has left. If a thread can't be made, all go
+/// on in this one, a turn each in a circle.
 pub(crate) fn run_all<R: Threads + Sync, G: Gate + Send>(
     rt: &R,
-    shares: &mut [Share<G>],
-    operations: &[Vec<Op>],
-    issuing: Issuing,
+    shares: &mut [Share<'_, G>],
     turns: u32,
 )
-    requires known { All
-        (λ share. me_of share.station.end.part < length operations.now) shares.old }
-    requires few { All (λ own. length own.items ≤ MAX_OPERATIONS) operations.now }
-    requires fresh { All (λ share. HasSubmittedNothing (node_in share.station)) shares.old }
-    ensures same { (k : ℕ) (d : _) → k < length shares.old → IsSameEnd
-        (slice_index_or shares.old k d).station.end (slice_index_or shares.new k d).station.end }
-    ensures run { All (λ share.
-        HasRun issuing (own_of operations.now) share.station.end share.finished) shares.new }
+    requires well { All
+        (λ share. IsWell share.driver share.station.end share.finished) shares.old }
+    ensures well { All
+        (λ share. IsWell share.driver share.station.end share.finished) shares.new }
+    ensures gone { (k : ℕ) (d : _) → k < length shares.old → HaveGoneOn
+        (λ share. share.driver) (λ share. share.station.end) shares.old shares.new k d }
 {
-    let run = |_place: usize, share: &mut Share<G>|
-        requires { (me_of share.now.station.end.part < length operations.now)
-            × All (λ own. length own.items ≤ MAX_OPERATIONS) operations.now
-            × HasSubmittedNothing (node_in share.now.station) }
-        ensures { IsSameEnd share.entry.now.station.end share.exit.now.station.end
-            × HasRun issuing (own_of operations.entry.now)
-            share.exit.now.station.end share.exit.now.finished }
-    { share.run(operations, issuing, turns) };
+    let start = Start::new(shares.len());
+    let run = |_place: usize, share: &mut Share<'_, G>|
+        requires { IsWell share.now.driver share.now.station.end share.now.finished }
+        ensures { GoesOn share.entry.now.driver share.entry.now.station.end
+            share.exit.now.driver share.exit.now.station.end
+            × IsWell share.exit.now.driver share.exit.now.station.end share.exit.now.finished }
+    { share.run(&start) };
     thread::for_each_mut(rt, shares, MAX_NODES as usize, &run);
+    go_on_in_a_circle(shares, turns);
 }
 
 /// The stations, and whether all have finished. Refused if memory is, or was to one of them.
 pub(crate) fn gathered<G: Drop>(
     alloc: Global,
-    shares: Vec<Share<G>>,
+    shares: Vec<Share<'_, G>>,
 ) -> Result<(Vec<Station>, bool), AllocError>
     ensures stations { IfOk result
-        (λ all. all.0.items ≡ map (λ share. share.station) shares.items) }
+        (λ all. all.0.items ≡ map (λ share. share.station) shares.entry.items) }
     ensures finished { IfOk result
-        (λ all. all.1 ≡ true → All (λ share. share.finished ≡ Ok true) shares.items) }
+        (λ all. all.1 ≡ true → All (λ share. share.finished ≡ Ok true) shares.entry.items) }
 {
     let mut stations = Vec::with_capacity(alloc, shares.len())?;
     let mut all = true;
@@ -123,20 +131,35 @@ pub fn operations_by_node(alloc: Global, script: &Script) -> Result<Vec<Vec<Op>>
     Ok(all)
 }
 
-/// The shares of all nodes. Refused if memory is.
-pub(crate) fn shares<G: Drop>(
+/// The shares of all nodes, of which none has done anything. Refused if memory is.
+pub(crate) fn shares<'a, G: Drop>(
     alloc: Global,
     stations: Vec<Station>,
     gates: Vec<G>,
-) -> Result<Vec<Share<G>>, AllocError>
+    plan: Plan<'a>,
+) -> Result<Vec<Share<'a, G>>, AllocError>
     requires gates { length gates.items ≡ length stations.items }
-    ensures { IfOk result (λ shares. map (λ share. share.station) shares.items ≡ stations.items) }
+    requires known { All
+        (λ station. me_of station.end.part < length plan.operations.now) stations.items }
+    requires few { All (λ own. length own.items ≤ MAX_OPERATIONS) plan.operations.now }
+    requires fresh { All (λ station. HasSubmittedNothing (node_in station)) stations.items }
+    ensures stations { IfOk result
+        (λ shares. map (λ share. share.station) shares.items ≡ stations.items) }
+    ensures well { IfOk result (λ shares. All
+        (λ share. IsWell share.driver share.station.end share.finished) shares.items) }
+    ensures opened { IfOk result (λ shares. All
+        (λ share. IsOpened plan.entry.issuing (own_of plan.entry.operations.now) share.driver
+        share.station.end) shares.items) }
 {
+    new_drivers_may_drive();
     let mut shares = Vec::with_capacity(alloc, stations.len())?;
     for (station, gate) in stations.into_iter().zip(gates) {
+        let own = &plan.operations[station.me() as usize];
         shares.push(Share {
+            driver: Driver::new(own, plan.issuing),
             station,
             gate,
+            left: plan.turns,
             finished: Ok(false),
         })?;
     }

@@ -1,4 +1,4 @@
-use Rattle.std.proofs.Common.{◌≡◌, ◌<◌, ℕ, List, All, Ok, true, Vec, length, map, get_or, sym, ap, subst, ◌∙◌}
+use Rattle.std.proofs.Common.{◌≡◌, ◌<◌, ◌≤◌, ℕ, List, All, Ok, true, Vec, length, map, get_or, sym, ap, subst, ◌∙◌}
 use Rattle.std.specs.Prelude.{slice_index_or}
 use Rattle.sci_words.specs.declared.operation.Op.{Op}
 use Rattle.sci_history.specs.Sequential.{IsInProgramOrder}
@@ -11,38 +11,30 @@ use Rattle.sci_drive.specs.Driving.{HasSubmittedNothing}
 use Rattle.sci_drive.specs.Script.{IsLogOf, IsWholeLogOf}
 use Rattle.sci_station.specs.Ends.{IsSameEnd}
 use Rattle.sci_station.specs.Station.{StationOf, end_in, node_in}
-use Rattle.sci_threads.proofs.Sharing.{came_back, all_unmapped, each_log, in_order, opened_long, opened_known, opened_all_fresh, named_ends, ordered_ends, sized_for, whole_ends, written_back}
-use Rattle.sci_threads.specs.declared.shares.Share.{Share}
-use Rattle.sci_threads.specs.Shares.{AreLedTo, operations_of, own_of}
+use Rattle.sci_threads.proofs.Sharing.{came_back, each_log, in_order, opened_long, opened_known, opened_all_fresh, named_ends, ordered_ends, sized_for, whole_ends, written_back}
+use Rattle.sci_threads.specs.declared.share.Share.{Share}
+use Rattle.sci_threads.proofs.Going.{all_run}
+use Rattle.sci_threads.specs.Shares.{AreLedTo, HaveGoneOn, IsWell, operations_of, own_of}
 use Rattle.sci_threads.proofs.running.run.Goals as goal
 
 pub shares-requires : goal.shares-requires
 shares-requires g c =
     let f = c.in_ok-fabric.fabric in
-    let long = ap length c.in_ok-fabric.ensures.stations ∙ opened_long f.table (size_of c.extent.result MAX_OPERATIONS) c.extent.result.nodes in
-    record { gates = c.requires.gates ∙ (sym c.extent.ensures.nodes ∙ sym long) }
-
-pub run_all-requires-clause-known : goal.run_all-requires-clause-known
-run_all-requires-clause-known g c =
-    let f = c.in_ok-fabric.fabric in
     let size = size_of c.extent.result MAX_OPERATIONS in
     let count = c.extent.result.nodes in
-    let made = c.in_ok-shares.ensures ∙ c.in_ok-fabric.ensures.stations in
-    let known : All (λ (s : StationOf). me_of s.end.part < count) (map (λ share. share.station) c.in_ok-shares.shares.items) = subst (All (λ (s : StationOf). me_of s.end.part < count)) (sym made) (opened_known f.table size count) in
-    let each = all_unmapped (λ (s : StationOf). me_of s.end.part < count) (λ share. share.station) c.in_ok-shares.shares.items known in
-    let all = subst (All (λ share. me_of share.station.end.part < count)) (sym c.deref_mut.ensures.value) each in
-    let long = c.extent.ensures.nodes ∙ (sym c.in_ok-operations.ensures.nodes ∙ sym (ap length c.deref.ensures.value)) in
-    λ lts met k d lt. subst (λ (n : ℕ). me_of (get_or c.deref_mut.result.now k d).station.end.part < n) long (all k d lt)
-
-pub run_all-requires-clause-fresh : goal.run_all-requires-clause-fresh
-run_all-requires-clause-fresh g c =
-    let f = c.in_ok-fabric.fabric in
-    let size = size_of c.extent.result MAX_OPERATIONS in
-    let count = c.extent.result.nodes in
+    let is = c.in_ok-fabric.ensures.stations in
+    let long = ap length is ∙ opened_long f.table size count in
+    let many = c.extent.ensures.nodes ∙ (sym c.in_ok-operations.ensures.nodes ∙ sym (ap length c.deref.ensures.value)) in
     let Fresh : StationOf → Type 0 = λ s. HasSubmittedNothing (node_in s) in
-    let made = c.in_ok-shares.ensures ∙ c.in_ok-fabric.ensures.stations in
-    let fresh : All Fresh (map (λ share. share.station) c.in_ok-shares.shares.items) = subst (All Fresh) (sym made) (opened_all_fresh f.table size count) in
-    λ lts met. subst (All (λ share. Fresh share.station)) (sym c.deref_mut.ensures.value) (all_unmapped Fresh (λ share. share.station) c.in_ok-shares.shares.items fresh)
+    let known : All (λ (s : StationOf). me_of s.end.part < count) c.in_ok-fabric.stations.items = subst (All (λ (s : StationOf). me_of s.end.part < count)) (sym is) (opened_known f.table size count) in record {
+      gates = c.requires.gates ∙ (sym c.extent.ensures.nodes ∙ sym long);
+      known = subst (λ (n : ℕ). All (λ (s : StationOf). me_of s.end.part < n) c.in_ok-fabric.stations.items) many known;
+      few = subst (All (λ (own : Vec Op _). length own.items ≤ MAX_OPERATIONS)) (sym c.deref.ensures.value) c.in_ok-operations.ensures.few;
+      fresh = subst (All Fresh) (sym is) (opened_all_fresh f.table size count);
+    }
+
+pub run_all-requires-clause-well : goal.run_all-requires-clause-well
+run_all-requires-clause-well g c = λ lts met. subst (All (λ (s : Share g.row.G.Denot). IsWell s.driver s.station.end s.finished)) (sym c.deref_mut.ensures.value) c.in_ok-shares.ensures.well
 
 pub finish-requires : goal.finish-requires
 finish-requires g c =
@@ -51,8 +43,8 @@ finish-requires g c =
     let before = c.in_ok-shares.shares in
     let after = c.run_all.new.shares in
     let long : length after ≡ length before.items = c.run_all.auto.shares ∙ ap length c.deref_mut.ensures.value in
-    let each = subst (λ (xs : List (Share g.row.G.Denot)). (k : ℕ) (d : Share g.row.G.Denot) → k < length xs → IsSameEnd (get_or xs k d).station.end (get_or after k d).station.end) c.deref_mut.ensures.value c.run_all.ensures.same in
-    let made = c.in_ok-shares.ensures ∙ c.in_ok-fabric.ensures.stations in
+    let each = subst (λ (xs : List (Share g.row.G.Denot)). (k : ℕ) (d : Share g.row.G.Denot) → k < length xs → IsSameEnd (get_or xs k d).station.end (get_or after k d).station.end) c.deref_mut.ensures.value (λ k d lt. (c.run_all.ensures.gone k d lt).same) in
+    let made = c.in_ok-shares.ensures.stations ∙ c.in_ok-fabric.ensures.stations in
     record { own = (came_back (λ (share : Share g.row.G.Denot). share.station) f size c.extent.result.nodes before.len before.items after c.in_ok-stations.stations.items c.in_ok-fabric.ensures.size made before.ok.0 long each c.in_ok-stations.ensures.stations).0 }
 
 pub unreachable-requires : goal.unreachable-requires
@@ -62,8 +54,8 @@ unreachable-requires g c =
     let before = c.in_ok-shares.shares in
     let after = c.run_all.new.shares in
     let long : length after ≡ length before.items = c.run_all.auto.shares ∙ ap length c.deref_mut.ensures.value in
-    let each = subst (λ (xs : List (Share g.row.G.Denot)). (k : ℕ) (d : Share g.row.G.Denot) → k < length xs → IsSameEnd (get_or xs k d).station.end (get_or after k d).station.end) c.deref_mut.ensures.value c.run_all.ensures.same in
-    let made = c.in_ok-shares.ensures ∙ c.in_ok-fabric.ensures.stations in
+    let each = subst (λ (xs : List (Share g.row.G.Denot)). (k : ℕ) (d : Share g.row.G.Denot) → k < length xs → IsSameEnd (get_or xs k d).station.end (get_or after k d).station.end) c.deref_mut.ensures.value (λ k d lt. (c.run_all.ensures.gone k d lt).same) in
+    let made = c.in_ok-shares.ensures.stations ∙ c.in_ok-fabric.ensures.stations in
     let ends : List EndOf = map end_in c.in_ok-stations.stations.items in
     let all : AreAll c.extent.result.nodes ends = (came_back (λ (share : Share g.row.G.Denot). share.station) f size c.extent.result.nodes before.len before.items after c.in_ok-stations.stations.items c.in_ok-fabric.ensures.size made before.ok.0 long each c.in_ok-stations.ensures.stations).1 in
     c.in-Err-Missing-default-default.ensures.missing c.in-Err-Missing-default-default.field-0-0-is (subst (λ (n : ℕ). AreAll n ends) (sym (ap (λ (z : Size). z.nodes) c.in_ok-fabric.ensures.size)) all)
@@ -82,7 +74,9 @@ returns-in-Ok-clause-named g c =
     let ends = map end_in c.in_ok-stations.stations.items in
     let all = subst (λ (n : ℕ). AreAll n ends) nodes c.in-Ok.ensures.all in
     let Good : EndOf → Type 0 = λ end. IsLogOf (own_of operations (me_of end.part)) end.part.node.log in
-    let good = subst (λ (xs : List StationOf). All Good (map end_in xs)) (sym stations) (named_ends (λ share. share.station) c.args.issuing (own_of operations) (λ share. share.finished) after c.run_all.ensures.run) in
+    let gone = subst (λ (xs : List (Share g.row.G.Denot)). (k : ℕ) (d : Share g.row.G.Denot) → k < length xs → HaveGoneOn (λ (s : Share g.row.G.Denot). s.driver) (λ s. s.station.end) xs after k d) c.deref_mut.ensures.value c.run_all.ensures.gone in
+    let ran = all_run (λ (s : Share g.row.G.Denot). s.driver) (λ s. s.station.end) (λ s. s.finished) c.args.issuing (own_of c.deref.result.now) before.items after long c.in_ok-shares.ensures.opened gone c.run_all.ensures.well in
+    let good = subst (λ (xs : List StationOf). All Good (map end_in xs)) (sym stations) (named_ends (λ share. share.station) c.args.issuing (own_of operations) (λ share. share.finished) after ran) in
     each_log IsLogOf script operations ends c.in-Ok.field-0.logs many own all c.in-Ok.ensures.logs good
 
 pub returns-in-Ok-clause-whole : goal.returns-in-Ok-clause-whole
@@ -100,7 +94,9 @@ returns-in-Ok-clause-whole g c = λ finished.
     let all = subst (λ (n : ℕ). AreAll n ends) nodes c.in-Ok.ensures.all in
     let done = subst (All (λ share. share.finished ≡ Ok true)) (written_back before.len after before.items before.ok.0 long) (c.in_ok-stations.ensures.finished finished) in
     let Good : EndOf → Type 0 = λ end. IsWholeLogOf (own_of operations (me_of end.part)) end.part.node.log in
-    let good = subst (λ (xs : List StationOf). All Good (map end_in xs)) (sym stations) (whole_ends (λ share. share.station) c.args.issuing (own_of operations) (λ share. share.finished) after c.run_all.ensures.run done) in
+    let gone = subst (λ (xs : List (Share g.row.G.Denot)). (k : ℕ) (d : Share g.row.G.Denot) → k < length xs → HaveGoneOn (λ (s : Share g.row.G.Denot). s.driver) (λ s. s.station.end) xs after k d) c.deref_mut.ensures.value c.run_all.ensures.gone in
+    let ran = all_run (λ (s : Share g.row.G.Denot). s.driver) (λ s. s.station.end) (λ s. s.finished) c.args.issuing (own_of c.deref.result.now) before.items after long c.in_ok-shares.ensures.opened gone c.run_all.ensures.well in
+    let good = subst (λ (xs : List StationOf). All Good (map end_in xs)) (sym stations) (whole_ends (λ share. share.station) c.args.issuing (own_of operations) (λ share. share.finished) after ran done) in
     each_log IsWholeLogOf script operations ends c.in-Ok.field-0.logs many own all c.in-Ok.ensures.logs good
 
 pub returns-in-Ok-clause-ordered : goal.returns-in-Ok-clause-ordered
@@ -117,7 +113,9 @@ returns-in-Ok-clause-ordered g c = λ is.
     let ends = map end_in c.in_ok-stations.stations.items in
     let all = subst (λ (n : ℕ). AreAll n ends) nodes c.in-Ok.ensures.all in
     let Good : EndOf → Type 0 = λ end. IsInProgramOrder end.part.node.log in
-    let good = subst (λ (xs : List StationOf). All Good (map end_in xs)) (sym stations) (ordered_ends (λ share. share.station) c.args.issuing (own_of operations) (λ share. share.finished) after is c.run_all.ensures.run) in
+    let gone = subst (λ (xs : List (Share g.row.G.Denot)). (k : ℕ) (d : Share g.row.G.Denot) → k < length xs → HaveGoneOn (λ (s : Share g.row.G.Denot). s.driver) (λ s. s.station.end) xs after k d) c.deref_mut.ensures.value c.run_all.ensures.gone in
+    let ran = all_run (λ (s : Share g.row.G.Denot). s.driver) (λ s. s.station.end) (λ s. s.finished) c.args.issuing (own_of c.deref.result.now) before.items after long c.in_ok-shares.ensures.opened gone c.run_all.ensures.well in
+    let good = subst (λ (xs : List StationOf). All Good (map end_in xs)) (sym stations) (ordered_ends (λ share. share.station) c.args.issuing (own_of operations) (λ share. share.finished) after is ran) in
     let each = each_log (λ _. IsInProgramOrder) script operations ends c.in-Ok.field-0.logs many own all c.in-Ok.ensures.logs good in
     in_order c.in-Ok.field-0.logs script.nodes c.in-Ok.ensures.gathered.core c.in-Ok.ensures.gathered.reached c.in-Ok.ensures.gathered.logs_are (ap (λ (z : Size). z.nodes) c.in-Ok.ensures.gathered.sized ∙ nodes) each
 
