@@ -15,6 +15,10 @@ use std::{env, io};
 pub const USAGE: &str =
     "usage: scimem oracle | replay | threads [--turns T] | audit | decode | upgrade";
 
+/// What stands below the usage line on standard error.
+pub const MANUAL: &str =
+    "A command reads standard input to its end. The manual is scimem(1), and its formats are in scimem(5).";
+
 /// How many turns a node of `threads` takes at most, and does if the words don't say.
 pub const MAX_TURNS: u32 = 1_000_000_000;
 
