@@ -3,12 +3,13 @@
 
 The packets of a schedule are those that `sciview packets` writes and `scimem decode` prints. A chart has to have an arrow
 for each, in their order: from the column of its sender to that of its receiver, downwards, dotted only for a busy answer,
-and in short dashes only for a request that is answered busy. Each event has its row, and no two texts overlap. The
-schedules are those of examples/ and the first events of scripts/make_schedule.py. A chart in docs/ has to be what the
+and in short dashes only for a request that is answered busy. Its label names it, and the node that it names. Each event has
+its row, with its line in the schedule, no two texts overlap, and no label says nothing of its line. The schedules are those of examples/ and the first events of scripts/make_schedule.py. A chart in docs/ has to be what the
 program draws of the schedule of that name. The last line is 'N passed, M failed', of charts.
 """
 
 import os
+import re
 import subprocess
 import sys
 import xml.etree.ElementTree as xml
@@ -38,10 +39,22 @@ def schedules():
 
 
 def packets(given):
-    """The packets that a schedule sends: command, receiver and sender."""
+    """The packets that a schedule sends: command, receiver, sender, and what a chart calls it."""
     for line in ran(SCIMEM, "decode", given=ran(SCIVIEW, "packets", given=given)).decode().splitlines():
         words = line.split()
-        yield words[0], int(words[2]), int(words[4])
+        named = [" ->"] * (words[0] == "purged") + [f" {words[words.index('id') + 1]}"] if "id" in words else []
+        yield words[0], int(words[2]), int(words[4]), "".join([words[0], *named])
+
+
+def said_of_packets(texts, rows):
+    """What the labels beside the rows in which packets are sent say first, in their order."""
+    heights = {int(it.get("y")): it.text.split()[1] for it in rows if it.get("class") == "event"}
+    for text in texts:
+        # A label stands 8 pixels above its row's text, or below it.
+        place = int(text.get("y"))
+        event = heights.get(place + 8) or heights.get(place - 8)
+        if text.get("class") == "label" and event in ("ask", "reply"):
+            yield re.sub(r"^line \d+: ", "", text.text).split(",")[0]
 
 
 def points(arrow):
@@ -67,19 +80,24 @@ def faults(given):
     sent = list(packets(given))
     if len(arrows) != len(sent):
         yield f"{len(arrows)} arrows of {len(sent)} packets"
-    for arrow, (command, receiver, sender) in zip(arrows, sent):
+    for arrow, (command, receiver, sender, _name) in zip(arrows, sent):
         (x, y), (to_x, to_y) = points(arrow)
         if (x, to_x) != (columns[sender], columns[receiver]) or y >= to_y:
             yield f"the arrow of {command} from {sender} to {receiver}"
         if (arrow.get("class") == "busy") != (command == "busy"):
             yield f"the arrow of {command} is drawn as {arrow.get('class')}"
     refused = sum(it.get("class") == "refused" for it in arrows)
-    if refused > sum(command == "busy" for command, _receiver, _sender in sent):
+    if refused > sum(command == "busy" for command, *_ in sent):
         yield "more refusals than busy answers"
     texts = [it for it in chart.iter(f"{SPACE}text")]
     rows = [it for it in texts if it.get("class") in ("event", "dead") and it.get("x") == "24"]
-    if len(rows) != given.count(b"\n") - 1:
-        yield f"{len(rows)} rows"
+    events = given.decode().splitlines()[1:]
+    if [it.text for it in rows] != [f"{line}: {event}" for line, event in enumerate(events, 2)]:
+        yield f"{len(rows)} rows, of {len(events)} events"
+    if [*said_of_packets(texts, rows)] != [name for *_, name in sent]:
+        yield "a label that names another packet, or none"
+    if any(it.text.endswith(": ") for it in texts if it.get("class") == "label"):
+        yield "a label that says nothing of its line"
     texts.sort(key=lambda it: int(it.get("y")))
     for place, text in enumerate(texts):
         for other in texts[place + 1 : place + 24]:

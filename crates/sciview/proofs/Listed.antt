@@ -9,9 +9,8 @@ use Rattle.sci_core.specs.Core.{Core, step, stepping}
 use Rattle.sci_core.specs.Shape.{IsAuthority}
 use Rattle.sci_core.specs.Sharing.{last_at}
 use Rattle.sci_core.specs.SharingList.{IsSharingList}
-use Rattle.sci_text.specs.Number.{number as number_text}
 use Rattle.sciview.specs.TraceAnswer.{line_changed}
-use Rattle.sciview.specs.ListsAnswer.{AreListed, IsAuthorityOf, IsListLine, IsListed, authority_text, home_name_text, last_text, line_within, list_text, member_text}
+use Rattle.sciview.specs.ListsAnswer.{AreListed, IsAuthorityOf, IsListLine, IsListed, authority_text, home_name_text, last_text, line_within, list_text, member_text, place_text}
 use Rattle.sciview.proofs.Joined.{joined, joined4}
 
 -- ---- the list of a line
@@ -41,14 +40,14 @@ pub none_listed : (k : ℕ) (old : List ℕ) (line : Option ℕ) (next : Option 
 none_listed k old line next idle = ([], sym (append-nil old), rw idle (nothing_listed k line))
 
 -- of one that leads to another state, the list of its line
-pub event_listed : (k line : ℕ) (within : Option ℕ) (stepped : Option Core) (next : Core) (old n1 n2 n3 : List ℕ) → Some line ≡ within → stepped ≡ Some next → n1 ≡ old ++ number_text k → n2 ≡ n1 ++ codes ": "
+pub event_listed : (k line : ℕ) (within : Option ℕ) (stepped : Option Core) (next : Core) (old n1 n2 n3 : List ℕ) → Some line ≡ within → stepped ≡ Some next → n1 ≡ old ++ place_text k line → n2 ≡ n1 ++ codes ": "
     → (text : List ℕ) × (n3 ≡ n2 ++ text) × IsListLine next line text → (text : List ℕ) × (n3 ≡ old ++ text) × IsListed k within stepped text
 event_listed k line within stepped next old n1 n2 n3 is done e1 e2 list =
-    let front = joined old (number_text k) (codes ": ") n1 n2 e1 e2 in
-    let whole = joined old (number_text k ++ codes ": ") list.0 n2 n3 front list.1 in
-    let told = whole ∙ ap (λ (l : List ℕ). old ++ l) (append_assoc (number_text k) (codes ": ") list.0) in
-    let listed : IsListed k (Some line) (Some next) (number_text k ++ (codes ": " ++ list.0)) = (list.0, list.2, refl) in
-    (number_text k ++ (codes ": " ++ list.0), told, rw (← is, done) listed)
+    let front = joined old (place_text k line) (codes ": ") n1 n2 e1 e2 in
+    let whole = joined old (place_text k line ++ codes ": ") list.0 n2 n3 front list.1 in
+    let told = whole ∙ ap (λ (l : List ℕ). old ++ l) (append_assoc (place_text k line) (codes ": ") list.0) in
+    let listed : IsListed k (Some line) (Some next) (place_text k line ++ (codes ": " ++ list.0)) = (list.0, list.2, refl) in
+    (place_text k line ++ (codes ": " ++ list.0), told, rw (← is, done) listed)
 
 -- ---- events one after another
 

@@ -1,5 +1,5 @@
 -- The words of a command line.
-use Rattle.std.specs.Prelude.{◌≡◌, ◌<◌, ◌^◌, ◌++◌, ℕ, List, [], ◌∷◌, codes, Option, Some, None, true, false}
+use Rattle.std.specs.Prelude.{◌≡◌, ◌<◌, ◌^◌, ◌++◌, ◌⊎◌, ℕ, List, [], ◌∷◌, codes, Option, Some, None, true, false}
 use Rattle.sci_words.specs.declared.limits.TheConstants.{MAX_LINES}
 use Rattle.sci_text.specs.Number.{number}
 use Rattle.sciview.specs.declared.random.Walk.{Walk}
@@ -47,5 +47,5 @@ Chooses words (Trace true) = words ≡ codes "trace" ∷ (codes "--strict" ∷ [
 Chooses words Lists = words ≡ codes "lists" ∷ []
 Chooses words (Chart line) = ChoosesChart words line
 Chooses words (Random walk dead) = (words ≡ codes "random" ∷ (walk_words walk ++ dead_words dead)) × FitsWalk walk × FitsDead dead
-Chooses words Help = words ≡ codes "--help" ∷ []
+Chooses words Help = (words ≡ codes "--help" ∷ []) ⊎ (words ≡ codes "-h" ∷ [])
 Chooses words Version = words ≡ codes "--version" ∷ []

@@ -68,11 +68,15 @@ pub record IsListLine (core : Core) (line : ℕ) (text : List ℕ) : Type 0 wher
   pub judged : IsAuthorityOf core line authority
   pub written : text ≡ list_text core line nodes authority
 
+-- where an event stands in the schedule, and which line of memory it is about
+unfoldable pub place_text : ℕ → ℕ → List ℕ
+place_text k line = number k ++ (codes " line" ++ field line)
+
 -- what is written of an event that is about this line, or none, and leads to this state, or isn't enabled
 abbrev pub IsListed : ℕ → Option ℕ → Option Core → List ℕ → Type 0
 IsListed k None next text = text ≡ []
 IsListed k (Some line) None text = text ≡ []
-IsListed k (Some line) (Some next) text = (list : List ℕ) × IsListLine next line list × (text ≡ number k ++ (codes ": " ++ list))
+IsListed k (Some line) (Some next) text = (list : List ℕ) × IsListLine next line list × (text ≡ place_text k line ++ (codes ": " ++ list))
 
 -- the lists behind each event, in the state to which it leads
 abbrev pub AreListed : Core → ℕ → List Event → List ℕ → Type 0

@@ -24,7 +24,7 @@ use Rattle.sci_command.specs.VerdictLine.{verdict_text}
 
 -- why an entry comes after another
 unfoldable pub reason_text : Reason → List ℕ
-reason_text Logged = codes "program order"
+reason_text Logged = codes "log order"
 reason_text ReadsFrom = codes "write before read"
 reason_text FromRead = codes "read before write"
 reason_text Coherence = codes "version order"

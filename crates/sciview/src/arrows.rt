@@ -51,6 +51,8 @@ pub struct Arrow {
     pub sent: u32,
     /// The row where it was taken, if it was.
     pub taken: Option<u32>,
+    /// How many packets of the sender to itself were under way when it was sent, if it is one.
+    pub beside: usize,
 }
 
 /// The packets that were sent so far, with those that are under way.
@@ -90,15 +92,27 @@ impl Arrows {
         &self.sent
     }
 
+    /// How many packets of a packet's sender to itself are under way, if that is whom it is for.
+    fn to_itself(&self, packet: &Packet) -> usize {
+        if packet.source != packet.target {
+            return 0;
+        }
+        let (first, second) = (lane_of(packet), lane_of(packet) ^ 1);
+        let under_way = |lane: usize| self.lanes.get(lane).map_or(0, VecDeque::len);
+        under_way(first).saturating_add(under_way(second))
+    }
+
     /// A packet is sent in a row. Refused if memory is.
     pub fn send(&mut self, packet: &Packet, row: u32) -> Result<(), AllocError> {
         let place = self.sent.len();
+        let beside = self.to_itself(packet);
         self.sent.push(Arrow {
             kind: ArrowKind::of(packet),
             source: packet.source.get(),
             target: packet.target.get(),
             sent: row,
             taken: None,
+            beside,
         })?;
         if let Some(lane) = self.lanes.get_mut(lane_of(packet)) {
             lane.push_back(place)?;
@@ -115,15 +129,16 @@ impl Arrows {
         Some(arrow)
     }
 
-    /// A packet is taken in a row: it is the oldest of its lane.
-    pub fn take(&mut self, packet: &Packet, row: u32) {
-        let _ = self.take_oldest(packet, row);
+    /// A packet is taken in a row: it is the oldest of its lane. Gives the row where it was sent.
+    pub fn take(&mut self, packet: &Packet, row: u32) -> Option<u32> {
+        let arrow = self.take_oldest(packet, row)?;
+        Some(arrow.sent)
     }
 
-    /// A request is taken in a row, to be answered busy: it is the oldest of its lane.
-    pub fn refuse(&mut self, packet: &Packet, row: u32) {
-        if let Some(arrow) = self.take_oldest(packet, row) {
-            arrow.kind = ArrowKind::Refused;
-        }
+    /// A request is taken in a row, to be answered busy: it is the oldest of its lane. Gives the row where it was sent.
+    pub fn refuse(&mut self, packet: &Packet, row: u32) -> Option<u32> {
+        let arrow = self.take_oldest(packet, row)?;
+        arrow.kind = ArrowKind::Refused;
+        Some(arrow.sent)
     }
 }

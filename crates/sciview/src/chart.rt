@@ -12,6 +12,7 @@ ghost use Rattle.sciview.specs.ChartAnswer.{IsChartAnswer, IsScheduleText};
 
 use crate::deed::{applied, deed_of, line_of, packet_of};
 use crate::drawing::Drawing;
+use crate::layout::{FIRST_LINE, NumberedEvent};
 use sci_command::{Outcome, refuse, write_answer};
 use sci_core::Machine;
 use sci_packets::Packet;
@@ -32,14 +33,20 @@ fn is_shown(line: Option<u8>, event: &Event, packet: Option<&Packet>) -> bool {
 fn chart_of(alloc: Global, schedule: &Schedule, line: Option<u8>) -> Result<Vec<u8>, AllocError> {
     let mut machine = Machine::new(alloc, schedule.extent(), MAX_OPERATIONS)?;
     let mut drawing = Drawing::new(alloc, schedule, line)?;
+    let mut text_line = FIRST_LINE;
     for event in schedule.events() {
         let packet = packet_of(&machine, event);
         if is_shown(line, event, packet.as_ref()) {
             let deed = deed_of(alloc, &mut machine, event, packet.as_ref())?;
-            drawing.add(event, &deed)?;
+            let numbered = NumberedEvent {
+                line: text_line,
+                event,
+            };
+            drawing.add(&numbered, &deed)?;
         } else {
             let _ = applied(&mut machine, event)?;
         }
+        text_line = text_line.saturating_add(1);
     }
     drawing.text()
 }

@@ -109,7 +109,7 @@ fn chosen_by(word: &str) -> Option<Command>
         "trace" => Some(Command::Trace { strict: false }),
         "lists" => Some(Command::Lists),
         "chart" => Some(Command::Chart { line: None }),
-        "--help" => Some(Command::Help),
+        "--help" | "-h" => Some(Command::Help),
         "--version" => Some(Command::Version),
         _ => None,
     }

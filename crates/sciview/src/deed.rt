@@ -4,9 +4,8 @@ ghost use Rattle.std.specs.Prelude.{◌≡◌, IfOk, OnOk, is_some};
 ghost use Rattle.sci_core.specs.Core.{step, stepping};
 
 use crate::event_words::taken;
-use crate::labels::{Change, Sight, push_change, push_performed};
+use crate::labels::{Change, Sight, push_change, push_packet, push_performed};
 use crate::packets::sent;
-use sci_command::command_name;
 use sci_core::{ApplyFault, Machine, node_of};
 use sci_packets::Packet;
 use sci_words::Event;
@@ -93,7 +92,7 @@ fn label_of(
     let mut label = Vec::new(alloc);
     match mark {
         Mark::Performed => push_performed(&mut label, machine, node)?,
-        Mark::Sent(packet) => label.extend_from_slice(command_name(&packet.body))?,
+        Mark::Sent(packet) => push_packet(&mut label, &packet.body)?,
         _ => {}
     }
     push_change(&mut label, change)?;

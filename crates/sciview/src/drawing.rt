@@ -3,13 +3,22 @@
 use crate::arrows::{Arrow, Arrows};
 use crate::deed::{Deed, Mark};
 use crate::elements::{Point, push_ground, push_line, push_polyline, push_svg, push_words};
-use crate::layout::{Layout, MARGIN, ROWS, names_at, row_at};
+use crate::layout::{Layout, MARGIN, NumberedEvent, ROWS, names_at, row_at};
 use crate::legend::{RIGHT, push_legend, push_style};
 use crate::rows::Rows;
 use sci_command::push_labelled;
 use sci_text::{Schedule, push_text};
-use sci_words::{Event, Extent};
+use sci_words::Extent;
 use std::alloc::{AllocError, Global};
+
+/// If a packet is under way for more rows than these, both ends of its arrow name it.
+const FAR: u32 = 10;
+
+/// How far the arrow of a packet of a node to itself goes to the left, and how much farther that of the next one goes which
+/// is under way with it.
+const LOOP: i16 = 28;
+
+const NEXT_LOOP: i16 = 12;
 
 /// A chart that is being drawn.
 #[derive(Drop)]
@@ -43,15 +52,19 @@ impl Drawing {
     }
 
     /// Adds an event in a row of its own, and what it did. Refused if memory is.
-    pub fn add(&mut self, event: &Event, deed: &Deed) -> Result<(), AllocError> {
+    pub fn add(&mut self, event: &NumberedEvent, deed: &Deed) -> Result<(), AllocError> {
         let row = self.rows.count();
-        match &deed.mark {
-            Mark::Sent(packet) => self.arrows.send(packet, row)?,
+        let sent = match &deed.mark {
+            Mark::Sent(packet) => {
+                self.arrows.send(packet, row)?;
+                None
+            }
             Mark::Taken(packet) => self.arrows.take(packet, row),
             Mark::Refused(packet) => self.arrows.refuse(packet, row),
-            Mark::Dead | Mark::Issued | Mark::Performed => {}
-        }
-        self.rows.add(event, deed)
+            Mark::Dead | Mark::Issued | Mark::Performed => None,
+        };
+        let is_far = sent.is_some_and(|sent| row.saturating_sub(sent) > FAR);
+        self.rows.add(event, deed, is_far)
     }
 
     /// Where the columns end.
@@ -140,7 +153,8 @@ impl Drawing {
         };
         let class = arrow.kind.class();
         if arrow.source == arrow.target {
-            let way = [from, from.moved(-28, 0), to.moved(-28, 0), to];
+            let left = LOOP + NEXT_LOOP * arrow.beside.min(3) as i16;
+            let way = [from, from.moved(-left, 0), to.moved(-left, 0), to];
             push_polyline(out, class, &way)
         } else {
             push_line(out, class, from, to)

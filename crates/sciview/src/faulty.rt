@@ -2,7 +2,7 @@
 
 use crate::numbered::Numbered;
 use sci_history::{Entry, FaultKind};
-use sci_words::{Line, MAX_NODES, Stamped, WORDS_PER_LINE, Word, effect};
+use sci_words::{Act, Line, MAX_NODES, Stamped, WORDS_PER_LINE, Word, effect};
 use std::alloc::{AllocError, Global};
 use std::collections::BTreeMap;
 
@@ -13,8 +13,9 @@ const NODES: usize = MAX_NODES as usize;
 pub enum Cause<'a> {
     /// This entry before it made its version already.
     MadeBefore(Numbered<'a>),
-    /// The line has only so many makers.
-    FewMakers(u64),
+    /// The line has so many makers, which should make the versions from 1 to their number; the second number is the least
+    /// version from 1 on that no entry makes.
+    FewMakers(u64, u64),
     /// The word was another one when its turn came: this one, which that entry made, if it isn't the zero that was there
     /// at first.
     OtherWord(Word, Option<Numbered<'a>>),
@@ -59,16 +60,40 @@ fn makers(entries: &[Numbered]) -> u64 {
     entries.iter().filter(|it| it.entry.op.is_maker()).count() as u64
 }
 
+/// The least version from 1 on that none of the entries makes.
+fn least_unmade(alloc: Global, entries: &[Numbered]) -> Result<u64, AllocError> {
+    let mut versions = Vec::new(alloc);
+    for at in entries {
+        if at.entry.op.is_maker() {
+            versions.push(at.entry.version)?;
+        }
+    }
+    versions.sort()?;
+    let mut least = 1u64;
+    for version in versions {
+        if version == least {
+            least = least.saturating_add(1);
+        }
+    }
+    Ok(least)
+}
+
 /// The first entry whose version is missing.
-fn missing<'a>(entries: &[Numbered<'a>]) -> Option<FaultyEntry<'a>> {
+fn missing<'a>(
+    alloc: Global,
+    entries: &[Numbered<'a>],
+) -> Result<Option<FaultyEntry<'a>>, AllocError> {
     let makers = makers(entries);
-    let at = entries.iter().find(|it| {
+    let Some(at) = entries.iter().find(|it| {
         it.entry.version > makers || (it.entry.op.is_maker() && it.entry.version == 0)
-    })?;
-    Some(FaultyEntry {
-        at: *at,
-        cause: Cause::FewMakers(makers),
     })
+    else {
+        return Ok(None);
+    };
+    Ok(Some(FaultyEntry {
+        at: *at,
+        cause: Cause::FewMakers(makers, least_unmade(alloc, entries)?),
+    }))
 }
 
 /// The first entry, in the order of versions, whose reply isn't its effect's.
@@ -90,7 +115,8 @@ fn wrong<'a>(placed: &[Numbered<'a>]) -> Option<FaultyEntry<'a>> {
             });
         }
         line = line.with(op.word, new);
-        if op.is_maker() {
+        // A lock operation that leaves the word alone doesn't make it.
+        if new != old || matches!(op.act, Act::Store(_)) {
             makers[word] = Some(*at);
         }
     }
@@ -139,7 +165,7 @@ pub fn faulty_entry<'a>(
 ) -> Result<Option<FaultyEntry<'a>>, AllocError> {
     match kind {
         FaultKind::VersionTwice => made_twice(alloc, entries),
-        FaultKind::VersionMissing => Ok(missing(entries)),
+        FaultKind::VersionMissing => missing(alloc, entries),
         FaultKind::WrongReply => Ok(wrong(placed)),
         FaultKind::OutOfOrder => Ok(disordered(entries)),
         FaultKind::LastDiffers => Ok(None),

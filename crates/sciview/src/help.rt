@@ -4,6 +4,10 @@
 pub const USAGE: &str =
     "usage: sciview order | explain | packets | trace [--strict] | lists | chart [--line L] | random N M C EVENTS SEED [--dead K] | --help | --version";
 
+/// What stands below the usage line on standard error.
+pub const MANUAL: &str =
+    "A command but random reads standard input to its end. The manual is sciview(1), and sciview --help is its short form.";
+
 /// What `--version` writes.
 pub const VERSION: &str = "sciview 0.1.0\n";
 
@@ -26,9 +30,9 @@ of a schedule:
                     what `scimem decode` reads
   trace [--strict]  what each event does, or why it isn't enabled; if strict, up
                     to the first that isn't
-  lists             the sharing list of a line behind each event that may have
-                    changed it, the node that may change the line, and the
-                    line's last contents
+  lists             behind each event that may have changed the sharing list of
+                    a line: the line's number, the list, the node that may
+                    change the line, and the line's last contents
   chart [--line L]  a message sequence chart of its events in SVG: of all lines,
                     or of the line L, 0 to 63, alone
 

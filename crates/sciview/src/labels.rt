@@ -1,16 +1,45 @@
 //! What a chart says at the column of a node.
 
-use crate::state_words::{head, home_name, state_name};
+use crate::state_words::{backward, forward, head, home_name, push_node, state_name};
+use sci_cache::Held;
+use sci_command::command_name;
 use sci_core::Machine;
 use sci_home::HomeState;
+use sci_packets::{Body, NodeId};
 use sci_text::{push_entry, push_field, push_text};
 use std::alloc::AllocError;
+
+/// What a chart says of a cache's state: its name and its neighbours.
+#[derive(Clone, Copy, PartialEq, Eq)]
+struct CacheSight {
+    name: &'static str,
+    forward: Option<NodeId>,
+    backward: Option<NodeId>,
+}
+
+impl CacheSight {
+    /// What is said of a state.
+    fn of(held: &Held) -> CacheSight {
+        CacheSight {
+            name: state_name(held),
+            forward: forward(held),
+            backward: backward(held),
+        }
+    }
+
+    /// Appends it, as `Below fwd 0 back 2`.
+    fn push(&self, out: &mut Vec<u8>) -> Result<(), AllocError> {
+        push_text(out, self.name)?;
+        push_node(out, b" fwd", self.forward)?;
+        push_node(out, b" back", self.backward)
+    }
+}
 
 /// What is seen of one line at one node.
 #[derive(Clone, Copy)]
 pub struct Sight {
-    /// The name of the cache's state for the line, or nothing if there is no such line.
-    cache: &'static str,
+    /// What is said of the cache's state for the line, if there is such a line.
+    cache: Option<CacheSight>,
     /// What the home of the line knows, if it is at the node.
     home: Option<HomeState>,
 }
@@ -26,7 +55,7 @@ impl Sight {
     /// What is seen of a line at a node. Nothing is seen if there is no such node, or no line.
     pub fn of(machine: &Machine, node: u8, line: Option<u64>) -> Sight {
         let nothing = Sight {
-            cache: "",
+            cache: None,
             home: None,
         };
         if node >= machine.extent().nodes {
@@ -35,7 +64,7 @@ impl Sight {
         let node = machine.node(node);
         match line.and_then(|line| u8::try_from(line).ok()) {
             Some(line) if line < node.extent().lines => Sight {
-                cache: state_name(node.held(line)),
+                cache: Some(CacheSight::of(node.held(line))),
                 home: node.home(line).map(|home| home.state()),
             },
             _ => nothing,
@@ -52,16 +81,18 @@ fn push_home(out: &mut Vec<u8>, state: &HomeState) -> Result<(), AllocError> {
     }
 }
 
-/// Appends how the cache's state changed, as `Out -> Asking`, if it did.
+/// Appends how the cache's state changed, as `Head fwd 1 -> Head fwd 0`, if its name or a neighbour did.
 fn push_cache_change(out: &mut Vec<u8>, change: &Change) -> Result<(), AllocError> {
-    let (before, after) = (change.before.cache, change.after.cache);
+    let (Some(before), Some(after)) = (&change.before.cache, &change.after.cache) else {
+        return Ok(());
+    };
     if before == after {
         return Ok(());
     }
     push_between(out)?;
-    push_text(out, before)?;
+    before.push(out)?;
     push_text(out, " -> ")?;
-    push_text(out, after)
+    after.push(out)
 }
 
 /// Appends how the home's state changed, as `home HOME -> GONE 2`, if it did.
@@ -101,5 +132,27 @@ pub fn push_performed(out: &mut Vec<u8>, machine: &Machine, node: u8) -> Result<
     match machine.node(node).log().last() {
         Some(entry) => push_entry(out, entry),
         None => Ok(()),
+    }
+}
+
+/// Appends a label and a node that a packet names, or `none`.
+fn push_named(out: &mut Vec<u8>, label: &str, node: Option<NodeId>) -> Result<(), AllocError> {
+    push_text(out, label)?;
+    match node {
+        Some(node) => push_field(out, u64::from(node.get())),
+        None => push_text(out, " none"),
+    }
+}
+
+/// Appends the name of a packet, and the node that it names: `mgone 2`, `roll none`, `purged -> 0`. Refused if memory is.
+pub fn push_packet(out: &mut Vec<u8>, body: &Body) -> Result<(), AllocError> {
+    out.extend_from_slice(command_name(body))?;
+    match body {
+        Body::Roll { forward } => push_named(out, "", *forward),
+        Body::Setback { backward } => push_named(out, "", Some(*backward)),
+        Body::Mgone { old_head } => push_named(out, "", Some(*old_head)),
+        Body::Purged { forward } => push_named(out, " ->", *forward),
+        Body::Fdata { old_head, .. } => push_named(out, "", *old_head),
+        _ => Ok(()),
     }
 }

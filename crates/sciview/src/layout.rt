@@ -2,7 +2,8 @@
 
 ghost use Rattle.std.specs.Prelude.{◌<◌, ◌^◌};
 
-use sci_text::{Schedule, push_event_line};
+use sci_text::{Schedule, push_event_line, push_number, push_text};
+use sci_words::Event;
 use std::alloc::{AllocError, Global};
 
 /// How wide a character is at most, in pixels.
@@ -25,6 +26,28 @@ const ROW: u64 = 30;
 
 /// After so many rows the names of the nodes stand once more.
 pub const ROWS: u32 = 40;
+
+/// The line of a schedule in which its first event stands.
+pub const FIRST_LINE: u64 = 2;
+
+/// An event, and the line of the schedule in which it stands.
+#[derive(Clone, Copy)]
+pub struct NumberedEvent<'a> {
+    pub line: u64,
+    pub event: &'a Event,
+}
+
+impl NumberedEvent<'_> {
+    /// Appends the event's text with its line, as `2: reply 0`. Refused if memory is.
+    pub fn push(&self, out: &mut Vec<u8>) -> Result<(), AllocError> {
+        push_number(out, self.line)?;
+        push_text(out, ": ")?;
+        push_event_line(out, *self.event)?;
+        // Without the line feed.
+        let _feed = out.pop();
+        Ok(())
+    }
+}
 
 /// Where the columns of a chart are.
 #[derive(Clone, Copy)]
@@ -50,10 +73,12 @@ impl Layout {
     pub fn of(alloc: Global, schedule: &Schedule) -> Result<Layout, AllocError> {
         let mut longest = 0;
         let mut text = Vec::new(alloc);
+        let mut line = FIRST_LINE;
         for event in schedule.events() {
             text.clear();
-            push_event_line(&mut text, *event)?;
+            NumberedEvent { line, event }.push(&mut text)?;
             longest = longest.max(count_of(&text));
+            line = line.saturating_add(1);
         }
         Ok(Layout { longest })
     }

@@ -12,7 +12,7 @@ ghost use Rattle.sci_command.specs.Input.{IsReadAs};
 ghost use Rattle.sci_command.specs.Writing.{WritesFront};
 ghost use Rattle.sciview.specs.PacketsAnswer.{before};
 ghost use Rattle.sciview.specs.TraceAnswer.{line_changed as line_changed_of};
-ghost use Rattle.sciview.specs.ListsAnswer.{AreListed, IsListLine, IsListed, IsListsAnswer, IsListsOf, authority_text, home_name_text, last_text, line_within, member_text, name_text};
+ghost use Rattle.sciview.specs.ListsAnswer.{AreListed, IsListLine, IsListed, IsListsAnswer, IsListsOf, authority_text, home_name_text, last_text, line_within, member_text, name_text, place_text};
 
 use crate::event_words::line_changed;
 use crate::state_words::{home_name, state_name};
@@ -135,6 +135,15 @@ fn push_list(
     push_last(out, &last)
 }
 
+/// Appends the number of an event's line in the schedule, and the line of memory that the event is about.
+#[tactic(auto, unfolding(crate::specs::ListsAnswer::place_text))]
+fn push_place(out: &mut Vec<u8>, number: u64, line: u8) -> Result<(), AllocError>
+    ensures { OnOk result (out.new.items ≡ out.old.items ++ place_text number line) }
+{
+    push_number(out, number)?;
+    push_labelled(out, b" line", u64::from(line))
+}
+
 /// Takes a step, and appends the list of the line that it may have changed.
 fn push_listed(
     alloc: Global,
@@ -157,7 +166,7 @@ fn push_listed(
     let Some(line) = line else {
         return Ok(());
     };
-    push_number(out, number)?;
+    push_place(out, number, line)?;
     push_text(out, ": ")?;
     push_list(alloc, out, machine, line)
 }
@@ -196,7 +205,7 @@ fn answer<R: Read>(alloc: Global, reader: &mut Tap<R>) -> Result<Vec<u8>, TextFa
 
 /// Reads a schedule to its end, applies its events in text order to a new machine whose nodes may each issue 65,536
 /// operations, and writes a line behind each event that is enabled and may change a line of the machine: the number of
-/// the event's line in the schedule, the name of the home's state, the members of the line's list from the head on, the node
+/// the event's line in the schedule, the line of memory, the name of the home's state, the members of the line's list from the head on, the node
 /// that may change the line or is about to, and the line's last contents. It is Done. A schedule with a fault is
 /// Refused, with the line `refused at line K: KIND` alone, as are a reader that fails, too long an input and running out
 /// of memory, at line 0. The whole text is made before its first byte is written. After a failed read or write nothing

@@ -29,13 +29,13 @@ mod walking;
 
 use carrying_out::carried_out;
 use choice::asked;
-use help::USAGE;
+use help::{MANUAL, USAGE};
 use sci_text::Tap;
 use std::process::ExitCode;
 
 fn main(rt: HostRuntime) -> ExitCode {
     let Ok(Some(command)) = asked(&rt) else {
-        let _ = eprintln!(rt; "{USAGE}");
+        let _ = eprintln!(rt; "{USAGE}\n{MANUAL}");
         return ExitCode::from(2);
     };
     let mut reader = Tap::new(rt.stdin());

@@ -61,15 +61,29 @@ fn push_other_word(
     }
 }
 
-/// Appends that an entry has a version that no maker made.
-fn push_few_makers(out: &mut Vec<u8>, at: Numbered, makers: u64) -> Result<(), AllocError> {
+/// Appends that an entry has a version that is missing: how many makers the line has, which versions they should make, and
+/// the least version that no entry makes.
+fn push_few_makers(
+    out: &mut Vec<u8>,
+    at: Numbered,
+    makers: u64,
+    least: u64,
+) -> Result<(), AllocError> {
     let does: &[u8] = if at.entry.op.is_maker() {
         b" makes version"
     } else {
         b" loads at version"
     };
     push_labelled(out, does, at.entry.version)?;
-    push_labelled(out, b"; the versions made on the line are 1 to", makers)
+    match makers {
+        0 => return push_text(out, "; the line has no maker, so its only version is 0"),
+        1 => push_text(out, "; the line has 1 maker, which should make version 1")?,
+        _ => {
+            push_labelled(out, b"; the line has", makers)?;
+            push_labelled(out, b" makers, which should make versions 1 to", makers)?;
+        }
+    }
+    push_labelled(out, b"; the least version that no entry makes is", least)
 }
 
 /// Appends why an entry is at fault.
@@ -80,7 +94,7 @@ fn push_cause(out: &mut Vec<u8>, at: Numbered, cause: Cause) -> Result<(), Alloc
             push_text(out, ", which was made by ")?;
             push_who_where(out, earlier)
         }
-        Cause::FewMakers(makers) => push_few_makers(out, at, makers),
+        Cause::FewMakers(makers, least) => push_few_makers(out, at, makers, least),
         Cause::OtherWord(word, maker) => push_other_word(out, at, word, maker),
         Cause::SerialAfter(earlier) => {
             push_text(out, " was logged after ")?;
@@ -96,8 +110,11 @@ fn push_cause(out: &mut Vec<u8>, at: Numbered, cause: Cause) -> Result<(), Alloc
     }
 }
 
-/// Appends the lines of entries, of which the one on this line of the text is marked.
+/// Appends the lines of entries, of which the one on this line of the text is marked. Nothing if there are none.
 fn push_around(out: &mut Vec<u8>, placed: &[Numbered], marked: usize) -> Result<(), AllocError> {
+    if placed.is_empty() {
+        return Ok(());
+    }
     let place = placed
         .iter()
         .position(|it| it.text_line == marked)

@@ -24,7 +24,7 @@ fn reason_words(reason: Reason) -> &'static str
     ensures { result.now ≡ reason_text reason }
 {
     match reason {
-        Reason::Logged => "program order",
+        Reason::Logged => "log order",
         Reason::ReadsFrom => "write before read",
         Reason::FromRead => "read before write",
         Reason::Coherence => "version order",

@@ -2,12 +2,12 @@
 
 use crate::deed::{Deed, Mark};
 use crate::elements::{Point, push_circle, push_line, push_words};
-use crate::layout::{Layout, MARGIN, row_at, width_of};
+use crate::labels::push_packet;
+use crate::layout::{Layout, MARGIN, NumberedEvent, row_at, width_of};
 use sci_command::push_labelled;
 use sci_core::node_of;
 use sci_packets::Packet;
-use sci_text::{push_event_line, push_text};
-use sci_words::Event;
+use sci_text::push_text;
 use std::alloc::{AllocError, Global};
 
 /// How far a mark goes from its middle.
@@ -108,11 +108,14 @@ impl Rows {
     }
 
     /// Appends the text of an event at the left, and a line from there to its node's column.
-    fn push_event(&mut self, event: &Event, mark: &Mark, at: Point) -> Result<(), AllocError> {
+    fn push_event(
+        &mut self,
+        event: &NumberedEvent,
+        mark: &Mark,
+        at: Point,
+    ) -> Result<(), AllocError> {
         self.text.clear();
-        push_event_line(&mut self.text, *event)?;
-        // Without the line feed.
-        self.text.pop();
+        event.push(&mut self.text)?;
         let class = match mark {
             Mark::Dead => "dead",
             _ => "event",
@@ -126,13 +129,28 @@ impl Rows {
         push_line(&mut self.below, "guide", end.moved(REACH, 0), at)
     }
 
-    /// Appends what is said of an event beside its node's column.
-    fn push_label(&mut self, deed: &Deed, at: Point) -> Result<(), AllocError> {
+    /// Makes the text of what is said of an event: first the packet that it took, if that is from far.
+    fn make_label(&mut self, deed: &Deed, is_far: bool) -> Result<(), AllocError> {
         self.text.clear();
+        let packet = if is_far { packet_of(&deed.mark) } else { None };
+        if deed.label.is_empty() && packet.is_none() {
+            return Ok(());
+        }
         if self.names_lines {
             push_line_of(&mut self.text, &deed.mark)?;
         }
-        self.text.extend_from_slice(&deed.label)?;
+        if let Some(packet) = packet {
+            push_packet(&mut self.text, &packet.body)?;
+            if !deed.label.is_empty() {
+                push_text(&mut self.text, ", ")?;
+            }
+        }
+        self.text.extend_from_slice(&deed.label)
+    }
+
+    /// Appends what is said of an event beside its node's column.
+    fn push_label(&mut self, deed: &Deed, is_far: bool, at: Point) -> Result<(), AllocError> {
+        self.make_label(deed, is_far)?;
         if self.text.is_empty() {
             return Ok(());
         }
@@ -146,15 +164,21 @@ impl Rows {
         push_words(&mut self.above, "label", start, &self.text)
     }
 
-    /// Adds a row at the end: an event, and what it did. Refused if memory is.
-    pub fn add(&mut self, event: &Event, deed: &Deed) -> Result<(), AllocError> {
+    /// Adds a row at the end: an event, and what it did. If it took a packet that `is_far`, the row names it. Refused if memory
+    /// is.
+    pub fn add(
+        &mut self,
+        event: &NumberedEvent,
+        deed: &Deed,
+        is_far: bool,
+    ) -> Result<(), AllocError> {
         let at = Point {
-            x: self.layout.column(u16::from(node_of(event))),
+            x: self.layout.column(u16::from(node_of(event.event))),
             y: row_at(self.count),
         };
         self.push_event(event, &deed.mark, at)?;
         push_mark(&mut self.above, &deed.mark, at)?;
-        self.push_label(deed, at)?;
+        self.push_label(deed, is_far, at)?;
         self.count = self.count.saturating_add(1);
         Ok(())
     }

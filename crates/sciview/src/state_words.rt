@@ -39,7 +39,7 @@ pub fn state_name(held: &Held) -> &'static str
 
 /// The node behind an entry, or the old head for one that is joining.
 #[tactic(auto, unfolding(crate::specs::StateWords::forward_of))]
-fn forward(held: &Held) -> Option<NodeId>
+pub fn forward(held: &Held) -> Option<NodeId>
     ensures { result ≡ forward_of (state_of held.now) }
 {
     match held {
@@ -58,7 +58,7 @@ fn forward(held: &Held) -> Option<NodeId>
 
 /// The node before an entry.
 #[tactic(auto, unfolding(crate::specs::StateWords::backward_of))]
-fn backward(held: &Held) -> Option<NodeId>
+pub fn backward(held: &Held) -> Option<NodeId>
     ensures { result ≡ backward_of (state_of held.now) }
 {
     match held {
@@ -102,7 +102,7 @@ fn contents(held: &Held) -> Option<Stamped>
 
 /// Appends a label and a node, if there is one.
 #[tactic(auto, unfolding(crate::specs::StateWords::node_text))]
-fn push_node(out: &mut Vec<u8>, label: &[u8], node: Option<NodeId>) -> Result<(), AllocError>
+pub fn push_node(out: &mut Vec<u8>, label: &[u8], node: Option<NodeId>) -> Result<(), AllocError>
     ensures { OnOk result (out.new.items ≡ out.old.items ++ node_text label.now node) }
 {
     match node {

@@ -1,4 +1,3 @@
-use Rattle.std.proofs.Common.{◌≡◌}
 use Rattle.sciview.proofs.Words.{both}
 use Rattle.sciview.proofs.choice.random_of.Goals as goal
 

@@ -17,5 +17,5 @@ returns-clause-text c =
     let core = c.args.machine.now in
     let event = c.args.event.now in
     on_ok_weaker c.push_list.result
-    (λ list. event_listed c.args.number c.in-Some.line (line_within core (line_changed core event)) (stepping core event) c.apply.new.self _ _ _ _ c.in-Some.ensures c.in-Ok.ensures.done c.in_ok-push_number.ensures.text c.in_ok-push_text.ensures.text list)
+    (λ list. event_listed c.args.number c.in-Some.line (line_within core (line_changed core event)) (stepping core event) c.apply.new.self _ _ _ _ c.in-Some.ensures c.in-Ok.ensures.done c.in_ok-push_place.ensures c.in_ok-push_text.ensures.text list)
     c.push_list.ensures
