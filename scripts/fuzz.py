@@ -6,7 +6,7 @@
 
 An input is a good text or run of packets in which something was changed: bytes, lines, numbers, ends of lines, or the size.
 A text's answer has to be the one that scripts/plain_answers.py works out. What a schedule or packets give has to have one of
-the forms that docs/TEXTS.md and README.md have. Whatever of the output is a log is read again: it is its own upgrade, and
+the forms that docs/TEXTS.md and docs/COMMANDS.md have. Whatever of the output is a log is read again: it is its own upgrade, and
 lawful unless the input was a log. The program has to end by itself.
 
 With `largest` each command reads inputs of the greatest length, and of one byte more, that repeat one thing.
