@@ -12,7 +12,7 @@ use std::alloc::AllocError;
 const SLICE: u32 = 10_000;
 
 /// After so many looks a node gives up waiting for the others to begin.
-const PATIENCE: u32 = 100;
+const PATIENCE: u32 = 25;
 
 /// A node's share of a run: its station with the driver that drives it, its gate, how many turns it may still take, and
 /// whether it has finished.
