@@ -45,19 +45,28 @@ decided_event Keep from n = None
 decided_event Refuse from n = Some (event.Refuse from n)
 decided_event Serve from n = Some (event.Serve from n)
 
+-- a count that stays at the most that 32 bits hold
+abbrev pub capped : ℕ → ℕ
+capped n = if nat_lt n 4294967295 then n else 4294967295
+
+-- the count with one more, if one is to be counted
+abbrev pub more_if : Bool → ℕ → ℕ
+more_if true n = capped (n + 1)
+more_if false n = n
+
 -- what is told after one event more
 abbrev pub counted : Progress → Event → Progress
 counted progress e = record progress {
-  accepted = progress.accepted + one_if (is_accept e);
-  served = progress.served + one_if (is_service e);
+  accepted = more_if (is_accept e) progress.accepted;
+  served = more_if (is_service e) progress.served;
   replied = progress.replied || is_reply e;
   asked = progress.asked || is_ask e;
 }
 
 -- what is told of a turn counts its events
 pub record Counts (events : List Event) (progress : Progress) : Type 0 where
-  pub accepted : progress.accepted ≡ count_by is_accept events
-  pub served : progress.served ≡ count_by is_service events
+  pub accepted : progress.accepted ≡ capped (count_by is_accept events)
+  pub served : progress.served ≡ capped (count_by is_service events)
   pub replied : progress.replied ≡ list_any is_reply events
   pub asked : progress.asked ≡ list_any is_ask events
 

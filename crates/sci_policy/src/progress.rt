@@ -1,5 +1,8 @@
 //! What a node did in a turn.
 
+ghost use Rattle.std.specs.Prelude.{◌≡◌, ◌+◌};
+ghost use Rattle.sci_policy.specs.Turn.{capped};
+
 use sci_words::Event;
 
 /// What a node did in a turn.
@@ -17,8 +20,15 @@ pub struct Progress {
     pub ready: Option<u8>,
 }
 
+/// One more, or the most that there is.
+fn one_more(count: u32) -> u32
+    ensures { result ≡ capped (count + 1) }
+{
+    if count < u32::MAX { count + 1 } else { count }
+}
+
 impl Progress {
-    ghost use Rattle.std.specs.Prelude.{◌≡◌, ◌<◌, ◌++◌, ◌∷◌, [], List, None};
+    ghost use Rattle.std.specs.Prelude.{◌≡◌, ◌++◌, ◌∷◌, [], List, None};
     ghost use Rattle.sci_words.specs.declared.event.Event.{Event};
     ghost use Rattle.sci_policy.specs.Turn.{Counts, counted, is_idle};
 
@@ -36,17 +46,15 @@ impl Progress {
         }
     }
 
-    /// Counts an event that the node made. The caller sees to it that there are fewer than 2^32 of a kind.
+    /// Counts an event that the node made. A count stays at 2^32 - 1 once it is there.
     pub fn count(&mut self, event: &Event)
-        requires accepted { self.old.accepted < u32.MAX }
-        requires served { self.old.served < u32.MAX }
         ensures more { self.new ≡ counted self.old event.now }
         ensures counted { (events : List Event) → Counts events self.old →
             Counts (events ++ event.now ∷ []) self.new }
     {
         match event {
-            Event::Accept { .. } => self.accepted += 1,
-            Event::Serve { .. } | Event::Refuse { .. } => self.served += 1,
+            Event::Accept { .. } => self.accepted = one_more(self.accepted),
+            Event::Serve { .. } | Event::Refuse { .. } => self.served = one_more(self.served),
             Event::Reply { .. } => self.replied = true,
             Event::Ask { .. } => self.asked = true,
             Event::Issue { .. } | Event::Perform { .. } => {}
