@@ -1,0 +1,115 @@
+-- What a node can do at its post.
+use Rattle.std.proofs.Common.{◌≡◌, ◌<◌, ℕ, false, List, [], ◌∷◌, Option, Some, None, refl, sym, ap, subst, ◌∙◌}
+use Rattle.std.specs.Prelude.{IsSome, option_map}
+use Rattle.sci_words.specs.declared.event.AskKind.{AskKind}
+use Rattle.sci_words.specs.declared.event.Event.{Event}
+use Rattle.sci_words.specs.declared.event.Event.TheVariants as event
+use Rattle.sci_cache.specs.Cache.{Letter}
+use Rattle.sci_core.specs.declared.lane.LaneKind.{LaneKind}
+use Rattle.sci_core.specs.declared.lane.LaneKind.TheVariants.{Answers, Requests}
+use Rattle.sci_core.specs.Core.{Core, IsEnabled, Sends, lane_of, node_at, sends, sent_by}
+use Rattle.sci_core.specs.Node.{NodeOf, is_setback, node_accepting, node_asking, node_refusing, node_replying, node_serving, replied_by}
+use Rattle.sci_core.specs.Sides.{TakesFront, taken_to}
+use Rattle.sci_core.proofs.Enabled.{accept_enabled, request_enabled}
+use Rattle.sci_core.proofs.Sides.{steps_by_sides}
+use Rattle.sci_policy.specs.declared.decision.Decision.{Decision}
+use Rattle.sci_policy.specs.declared.decision.Decision.TheVariants as decision
+use Rattle.sci_policy.specs.Policy.{PolicyOf, decided}
+use Rattle.sci_policy.specs.Turn.{IsTurnEvent, decided_event}
+use Rattle.sci_policy.proofs.Deciding.{refuses_no_setback}
+use Rattle.sci_policy.proofs.Targets.{asked_target, waiting_target}
+use Rattle.sci_turn.specs.Posts.{IsFront, IsPost, MaySend, MayTake, PostOf, node_in, nodes_in}
+
+there : {A B : Type 0} (f : A → B) (o : Option A) → IsSome o → IsSome (option_map f o)
+there f None e = cc
+there f (Some x) e = refl
+
+some_of : {A : Type 0} (o : Option A) → IsSome o → (x : A) × (o ≡ Some x)
+some_of None e = cc
+some_of (Some x) e = (x, refl)
+
+front_taken : (core : Core) (n from : ℕ) (kind : LaneKind) (taking : NodeOf → Letter → Option NodeOf) (e : Event) (letter : Letter) (rest : List Letter) → TakesFront core n kind taking from e → lane_of core kind from n ≡ letter ∷ rest → IsSome (taking (node_at core n) letter) → IsEnabled core e
+front_taken core n from kind taking e letter rest takes is some = subst IsSome (sym (takes.front letter rest is)) (there (taken_to core n kind from rest) (taking (node_at core n) letter) some)
+
+pub may_accept : (post : PostOf) (from : ℕ) (letter : Letter) → IsPost post → from < nodes_in post → IsFront post Answers from letter → MayTake post Answers from letter (event.Accept from post.me)
+may_accept post from letter here f front =
+    let some = accept_enabled post.core from post.me here.reached f here.some letter front.0 front.1 in
+    let next = some_of (node_accepting (node_in post) letter) some in
+    record {
+      own = refl;
+      front = front;
+      enabled = front_taken post.core post.me from Answers node_accepting (event.Accept from post.me) letter front.0 ((steps_by_sides post.core post.me here.some).accept from f) front.1 some;
+      sender = f;
+      taking = node_accepting (node_in post);
+      next = next.0;
+      side_is = refl;
+      gives = next.1;
+    }
+
+may_serve : (post : PostOf) (from : ℕ) (letter : Letter) → IsPost post → from < nodes_in post → IsFront post Requests from letter → (node_in post).waiting ≡ None → MayTake post Requests from letter (event.Serve from post.me)
+may_serve post from letter here f front free =
+    let some = (request_enabled post.core from post.me here.reached f here.some).served letter front.0 front.1 free in
+    let next = some_of (node_serving (node_in post) letter) some in
+    record {
+      own = refl;
+      front = front;
+      enabled = front_taken post.core post.me from Requests node_serving (event.Serve from post.me) letter front.0 ((steps_by_sides post.core post.me here.some).serve from f) front.1 some;
+      sender = f;
+      taking = node_serving (node_in post);
+      next = next.0;
+      side_is = refl;
+      gives = next.1;
+    }
+
+may_refuse : (post : PostOf) (from : ℕ) (letter : Letter) → IsPost post → from < nodes_in post → IsFront post Requests from letter → (node_in post).waiting ≡ None → is_setback letter.body ≡ false → MayTake post Requests from letter (event.Refuse from post.me)
+may_refuse post from letter here f front free other =
+    let some = (request_enabled post.core from post.me here.reached f here.some).refused letter front.0 front.1 free other in
+    let next = some_of (node_refusing (node_in post) letter) some in
+    record {
+      own = refl;
+      front = front;
+      enabled = front_taken post.core post.me from Requests node_refusing (event.Refuse from post.me) letter front.0 ((steps_by_sides post.core post.me here.some).refuse from f) front.1 some;
+      sender = f;
+      taking = node_refusing (node_in post);
+      next = next.0;
+      side_is = refl;
+      gives = next.1;
+    }
+
+-- a request is taken as the policy decides
+pub may_take : (post : PostOf) (from : ℕ) (letter : Letter) (policy : PolicyOf) (d : Decision) (e : Event) → IsPost post → from < nodes_in post → IsFront post Requests from letter → (node_in post).waiting ≡ None → decided policy (node_in post) letter ≡ d
+    → Some e ≡ decided_event d from post.me → MayTake post Requests from letter e
+may_take post from letter policy decision.Keep e here f front free decides takes = cc
+may_take post from letter policy decision.Refuse e here f front free decides takes = subst (MayTake post Requests from letter) (some_same takes) (may_refuse post from letter here f front free (refuses_no_setback policy (node_in post) letter decides))
+  where
+    some_same : Some e ≡ Some (event.Refuse from post.me) → event.Refuse from post.me ≡ e
+    some_same h = cc
+may_take post from letter policy decision.Serve e here f front free decides takes = subst (MayTake post Requests from letter) (some_same takes) (may_serve post from letter here f front free)
+  where
+    some_same : Some e ≡ Some (event.Serve from post.me) → event.Serve from post.me ≡ e
+    some_same h = cc
+
+-- ---- sending
+
+replying : (node : NodeOf) (answer : Letter) → node.waiting ≡ Some answer → node_replying node ≡ Some (record node { waiting = None }, answer)
+replying node answer waits = ap (replied_by node) waits
+
+pub may_reply : (post : PostOf) (answer : Letter) → IsPost post → (node_in post).waiting ≡ Some answer → MaySend post Answers answer (event.Reply post.me)
+may_reply post answer here waits =
+    let node = node_in post in
+    record {
+      own = refl;
+      enabled = subst IsSome (sym ((steps_by_sides post.core post.me here.some).reply ∙ ap (λ (o : Option (NodeOf × Letter)). option_map (λ (s : NodeOf × Letter). sent_by post.core post.me Answers s.0 s.1) o) (replying node answer waits))) refl;
+      next = record node { waiting = None };
+      side_is = ap (sends Answers) (replying node answer waits);
+      target = waiting_target post.core post.me answer here.reached here.some waits;
+    }
+
+pub may_ask : (post : PostOf) (line : ℕ) (kind : AskKind) (next : NodeOf) (request : Letter) → IsPost post → node_asking (node_in post) line kind ≡ Some (next, request) → MaySend post Requests request (event.Ask post.me line kind)
+may_ask post line kind next request here asks = record {
+  own = refl;
+  enabled = subst IsSome (sym ((steps_by_sides post.core post.me here.some).ask line kind ∙ ap (λ (o : Option (NodeOf × Letter)). option_map (λ (s : NodeOf × Letter). sent_by post.core post.me Requests s.0 s.1) o) asks)) refl;
+  next = next;
+  side_is = ap (sends Requests) asks;
+  target = asked_target post.core post.me line kind (next, request) here.reached here.some asks;
+}

@@ -1,0 +1,47 @@
+use Rattle.std.proofs.Common.{◌≡◌, Bool, false, ◌<◌, None, refl, ap, sym, subst, ◌∙◌}
+use Rattle.std.specs.Prelude.{IfSome, is_some, option_copied, option_map}
+use Rattle.sci_cache.specs.Cache.{letter_of}
+use Rattle.sci_core.specs.Node.{NodeOf}
+use Rattle.sci_core.specs.declared.lane.LaneKind.TheVariants.{Requests}
+use Rattle.sci_policy.proofs.Deciding.{none_seen}
+use Rattle.sci_turn.specs.Posts.{IsFront, PostOf, node_in}
+use Rattle.sci_turn.specs.Moves.{taken_next}
+use Rattle.sci_turn.specs.Idle.{TookNone}
+use Rattle.sci_turn.proofs.Moments.{if_ok_map, node_stays, none_came, none_waits, so_after, so_now}
+use Rattle.sci_turn.proofs.Turns.{goes_still, goes_then}
+use Rattle.sci_turn.proofs.turn.take.Goals as goal
+
+pub returns-in_err-look-clause-goes : goal.returns-in_err-look-clause-goes
+returns-in_err-look-clause-goes g c = goes_still c.args.policy.now (g.P.Post.post c.args.post.now) (g.P.Post.post c.look.new.self) c.args.progress.now c.args.progress.now c.look.ensures.still refl
+
+pub returns-then-not-branch-clause-goes : goal.returns-then-not-branch-clause-goes
+returns-then-not-branch-clause-goes g c = goes_still c.args.policy.now (g.P.Post.post c.args.post.now) (g.P.Post.post c.look.new.self) c.args.progress.now c.args.progress.now c.look.ensures.still refl
+
+pub returns-then-not-branch-clause-idle : goal.returns-then-not-branch-clause-idle
+returns-then-not-branch-clause-idle g c = λ _.
+    let old = g.P.Post.post c.args.post.now in
+    let new = g.P.Post.post c.look.new.self in
+    let P = λ (x : PostOf). taken_next c.args.policy.now x.core c.args.from x.me ≡ None in
+    so_after P old new new c.look.ensures.still (so_now P new (none_came c.args.policy.now c.args.from new (c.in_ok-look.ensures.none c.if-not-branch.true)))
+
+pub returns-clause-goes : goal.returns-clause-goes
+returns-clause-goes g c =
+    let old = g.P.Post.post c.args.post.now in
+    let mid = g.P.Post.post c.look.new.self in
+    let new = g.P.Post.post c.take_seen.new.post in
+    goes_then c.args.policy.now c.args.policy.now c.take_seen.new.policy old mid new c.args.progress.now c.args.progress.now c.take_seen.new.progress
+    (goes_still c.args.policy.now old mid c.args.progress.now c.args.progress.now c.look.ensures.still refl) c.take_seen.ensures.goes
+
+pub returns-clause-idle : goal.returns-clause-idle
+returns-clause-idle g c =
+    let old = g.P.Post.post c.args.post.now in
+    let mid = g.P.Post.post c.look.new.self in
+    let new = g.P.Post.post c.take_seen.new.post in
+    let P = λ (x : PostOf). taken_next c.args.policy.now x.core c.args.from x.me ≡ None in
+    if_ok_map (λ (taken : Bool). taken ≡ false → TookNone c.args.policy.now c.args.from mid new) (λ (taken : Bool). taken ≡ false → TookNone c.args.policy.now c.args.from old new) c.take_seen.result
+    (λ taken was is. so_after P old mid new c.look.ensures.still (was is)) c.take_seen.ensures.idle
+
+-- ---- what stays
+
+pub returns-clause-stays : goal.returns-clause-stays
+returns-clause-stays g c = g.met.P.Post.stays_through c.args.post.now c.look.new.self c.take_seen.new.post c.look.ensures.stays c.take_seen.ensures.stays

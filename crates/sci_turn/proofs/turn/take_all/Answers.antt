@@ -1,0 +1,53 @@
+use Rattle.std.proofs.Common.{◌≡◌, ◌<◌, ◌≤◌, ◌+◌, ◌%◌, ℕ, None, refl, ap, sym, subst, ◌∙◌, arith, inl, inr}
+use Rattle.std.proofs.lemmas.Bool.{cases_lt}
+use Rattle.sci_policy.specs.Policy.{PolicyOf}
+use Rattle.sci_policy.proofs.Circles.{comes_by}
+use Rattle.sci_turn.specs.Posts.{PostOf, nodes_in}
+use Rattle.sci_turn.specs.Moves.{taken_next}
+use Rattle.sci_turn.specs.Idle.{TookNone}
+use Rattle.sci_turn.proofs.Moments.{node_stays, so_after, so_still}
+use Rattle.sci_turn.proofs.Turns.{goes_then}
+use Rattle.sci_turn.proofs.turn.take_all.Goals as goal
+
+pub returns-in_err-take_from-clause-goes : goal.returns-in_err-take_from-clause-goes
+returns-in_err-take_from-clause-goes g c = goes_then _ _ _ _ _ _ _ _ _ c.loop-place.invariant.goes c.take_from.ensures.goes
+
+pub loop-place-preserved : goal.loop-place-preserved
+loop-place-preserved g c =
+    let old = g.P.Post.post c.args.post.now in
+    let mid = g.P.Post.post c.loop-place.post in
+    let new = g.P.Post.post c.take_from.new.post in
+    let policy = c.args.policy.now in
+    let nodes = c.nodes-nodes.result in
+    let first = c.first_sender-first.result in
+    let place = c.loop-place.place in
+    let invariant = c.loop-place.invariant in
+    record {
+      goes = goes_then _ _ _ _ _ _ _ _ _ invariant.goes c.take_from.ensures.goes;
+      stays = g.met.P.Post.stays_through c.args.post.now c.loop-place.post c.take_from.new.post c.loop-place.invariant.stays c.take_from.ensures.stays;
+      none = λ nothing other below. (
+          let later = c.take_from.ensures.goes.still nothing in
+          let earlier = invariant.goes.still later.nothing in
+          elim (cases_lt other place) [
+            | inl before ↦ so_still (λ (x : PostOf). taken_next policy x.core ((first + other) % nodes) x.me ≡ None) old mid new (invariant.none later.nothing other before) later.post
+            | inr past ↦
+                let same : place ≡ other = omega arith in
+                subst (λ (j : ℕ). TookNone policy ((first + j) % nodes) old new) same
+                (subst (λ (p : PolicyOf). TookNone p ((first + place) % nodes) old new) earlier.policy (so_after (λ (x : PostOf). taken_next c.loop-place.policy x.core ((first + place) % nodes) x.me ≡ None) old mid new earlier.post (c.in_ok-take_from.ensures.idle refl nothing)))
+          ]);
+    }
+
+pub returns-clause-idle : goal.returns-clause-idle
+returns-clause-idle g c = λ _ nothing from f.
+    let old = g.P.Post.post c.args.post.now in
+    let new = g.P.Post.post c.loop-place.post in
+    let nodes = c.nodes-nodes.result in
+    let first = c.first_sender-first.result in
+    let start : first < nodes = c.first_sender-first.ensures.below in
+    let by = comes_by nodes first from start (subst (λ (k : ℕ). from < k) (sym c.nodes-nodes.ensures) f) in
+    let ended : nodes ≤ c.loop-place.place = c.loop-place-test.false in
+    let below : by.place < c.loop-place.place = let few = by.below in omega arith in
+    subst (λ (j : ℕ). TookNone c.args.policy.now j old new) by.there (c.loop-place.invariant.none nothing by.place below)
+
+pub returns-in_err-take_from-clause-stays : goal.returns-in_err-take_from-clause-stays
+returns-in_err-take_from-clause-stays g c = g.met.P.Post.stays_through c.args.post.now c.loop-place.post c.take_from.new.post c.loop-place.invariant.stays c.take_from.ensures.stays
