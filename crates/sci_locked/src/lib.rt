@@ -2,6 +2,7 @@
 #![tactic(auto)]
 
 mod lent;
+mod post;
 mod shared;
 mod turn;
 
