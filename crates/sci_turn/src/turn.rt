@@ -1,6 +1,6 @@
 //! A node's turn.
 
-ghost use Rattle.std.specs.Prelude.{◌≡◌, ◌<◌, ℕ, [], true, false, None, IfOk, IfSome, IsErr, IsOk, IsSome};
+ghost use Rattle.std.specs.Prelude.{◌≡◌, ◌<◌, ◌+◌, ◌%◌, ℕ, [], true, false, None, IfOk, IfSome, IsErr, IsOk, IsSome};
 ghost use Rattle.sci_core.specs.declared.lane.LaneKind.TheVariants.{Answers, Requests};
 ghost use Rattle.sci_core.specs.Node.{node_asking};
 ghost use Rattle.sci_words.specs.declared.event.Event.TheVariants.{Ask};
@@ -115,6 +115,20 @@ fn accept<P: Post>(post: &mut P, progress: &mut Progress, from: u8) -> Result<bo
     if !post.look(LaneKind::Answers, from)? {
         return Ok(false);
     }
+    accept_seen(post, progress, from)?;
+    Ok(true)
+}
+
+/// The answer that was seen is accepted.
+fn accept_seen<P: Post>(post: &mut P, progress: &mut Progress, from: u8) -> Result<(), P::Stop>
+    requires from { from < nodes_in (P.post post.old) }
+    requires sees { P.sees post.old Answers from }
+    ensures goes { (policy : PolicyOf) →
+        GoesOn policy (P.post post.old) policy (P.post post.new) progress.old progress.new }
+    ensures told { IsOk result → MadeNothing progress.new → ⊥ }
+    ensures stays { P.stays post.old post.new }
+    ensures stops { IsErr result → P.may_stop post.new }
+{
     let node = post.me();
     // Read, so that the prover knows that the state is reached.
     let _here = post.node();
@@ -122,7 +136,7 @@ fn accept<P: Post>(post: &mut P, progress: &mut Progress, from: u8) -> Result<bo
     let event = Event::Accept { from, node };
     post.take(LaneKind::Answers, from, &answer, &event)?;
     progress.count(&event);
-    Ok(true)
+    Ok(())
 }
 
 /// Up to four requests from each node are served or refused, beginning after the node served last.
@@ -142,11 +156,20 @@ fn take_all<P: Post>(
     let nodes = post.nodes();
     let _here = post.node();
     let first = policy.first_sender(nodes);
-    for place in 0..nodes {
-        let from = (first + place) % nodes;
+    let mut from = first;
+    for _place in 0..nodes {
         take_from(post, policy, progress, from)?;
+        from = after(from, nodes);
     }
     Ok(())
+}
+
+/// The node that comes after another in a circle of so many.
+fn after(node: u8, nodes: u8) -> u8
+    requires { node < nodes }
+    ensures { result ≡ (node + 1) % nodes }
+{
+    if node == nodes - 1 { 0 } else { node + 1 }
 }
 
 /// Up to four requests from a node are served or refused, and each is answered if its lane has room.

@@ -1,6 +1,7 @@
 use Rattle.std.proofs.Common.{◌≡◌, ◌<◌, ◌≤◌, ◌+◌, ◌%◌, ℕ, None, refl, ap, sym, subst, ◌∙◌, arith, inl, inr}
 use Rattle.std.proofs.lemmas.Bool.{cases_lt}
 use Rattle.sci_policy.specs.Policy.{PolicyOf}
+use Rattle.std.proofs.Math.Nat.{mod-add-mod, mod-lt}
 use Rattle.sci_policy.proofs.Circles.{comes_by}
 use Rattle.sci_turn.specs.Posts.{PostOf, nodes_in}
 use Rattle.sci_turn.specs.Moves.{taken_next}
@@ -8,6 +9,11 @@ use Rattle.sci_turn.specs.Idle.{TookNone}
 use Rattle.sci_turn.proofs.Moments.{node_stays, so_after, so_still}
 use Rattle.sci_turn.proofs.Turns.{goes_then}
 use Rattle.sci_turn.proofs.turn.take_all.Goals as goal
+
+next_at : (nodes first place from next : ℕ) → next ≡ (from + 1) % nodes → from ≡ (first + place) % nodes → next ≡ (first + (place + 1)) % nodes
+next_at nodes first place from next is at =
+    let sum : first + place + 1 ≡ first + (place + 1) = omega arith in
+    is ∙ (ap (λ (k : ℕ). (k + 1) % nodes) at ∙ (mod-add-mod (first + place) nodes 1 ∙ ap (λ (k : ℕ). k % nodes) sum))
 
 pub returns-in_err-take_from-clause-goes : goal.returns-in_err-take_from-clause-goes
 returns-in_err-take_from-clause-goes g c = goes_then _ _ _ _ _ _ _ _ _ c.loop-place.invariant.goes c.take_from.ensures.goes
@@ -20,10 +26,12 @@ loop-place-preserved g c =
     let policy = c.args.policy.now in
     let nodes = c.nodes-nodes.result in
     let first = c.first_sender-first.result in
-    let place = c.loop-place.place in
+    let place = c.loop-place._place in
     let invariant = c.loop-place.invariant in
     record {
       goes = goes_then _ _ _ _ _ _ _ _ _ invariant.goes c.take_from.ensures.goes;
+      at = next_at nodes first place c.loop-place.from c.after-from.result c.after-from.ensures invariant.at;
+      below = subst (λ (k : ℕ). k < nodes) (sym c.after-from.ensures) (mod-lt (c.loop-place.from + 1) (let below = invariant.below in omega arith));
       stays = g.met.P.Post.stays_through c.args.post.now c.loop-place.post c.take_from.new.post c.loop-place.invariant.stays c.take_from.ensures.stays;
       none = λ nothing other below. (
           let later = c.take_from.ensures.goes.still nothing in
@@ -33,7 +41,7 @@ loop-place-preserved g c =
             | inr past ↦
                 let same : place ≡ other = omega arith in
                 subst (λ (j : ℕ). TookNone policy ((first + j) % nodes) old new) same
-                (subst (λ (p : PolicyOf). TookNone p ((first + place) % nodes) old new) earlier.policy (so_after (λ (x : PostOf). taken_next c.loop-place.policy x.core ((first + place) % nodes) x.me ≡ None) old mid new earlier.post (c.in_ok-take_from.ensures.idle refl nothing)))
+                (subst (λ (p : PolicyOf). TookNone p ((first + place) % nodes) old new) earlier.policy (so_after (λ (x : PostOf). taken_next c.loop-place.policy x.core ((first + place) % nodes) x.me ≡ None) old mid new earlier.post (subst (λ (j : ℕ). TookNone c.loop-place.policy j mid new) invariant.at (c.in_ok-take_from.ensures.idle refl nothing))))
           ]);
     }
 
@@ -45,8 +53,8 @@ returns-clause-idle g c = λ _ nothing from f.
     let first = c.first_sender-first.result in
     let start : first < nodes = c.first_sender-first.ensures.below in
     let by = comes_by nodes first from start (subst (λ (k : ℕ). from < k) (sym c.nodes-nodes.ensures) f) in
-    let ended : nodes ≤ c.loop-place.place = c.loop-place-test.false in
-    let below : by.place < c.loop-place.place = let few = by.below in omega arith in
+    let ended : nodes ≤ c.loop-place._place = c.loop-place-test.false in
+    let below : by.place < c.loop-place._place = let few = by.below in omega arith in
     subst (λ (j : ℕ). TookNone c.args.policy.now j old new) by.there (c.loop-place.invariant.none nothing by.place below)
 
 pub returns-in_err-take_from-clause-stays : goal.returns-in_err-take_from-clause-stays
