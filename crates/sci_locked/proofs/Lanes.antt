@@ -8,7 +8,7 @@ use Rattle.std.proofs.lemmas.List.{get_or-set_other, length_push, set_past}
 use Rattle.sci_words.specs.declared.event.Event.{Event}
 use Rattle.sci_cache.specs.Cache.{Letter}
 use Rattle.sci_core.specs.declared.lane.LaneKind.{LaneKind}
-use Rattle.sci_core.specs.Core.{Core, Side, Sends, Takes, lane_at, lane_of, lane_place, node_at, node_of, sent_by, side, step_by, stepping, taken_as, taken_from, with_lane, with_node}
+use Rattle.sci_core.specs.Core.{Core, Sends, Takes, lane_at, lane_of, lane_place, node_at, node_of, sent_by, side, stepping, taken_as, taken_from, with_lane, with_node}
 use Rattle.sci_core.specs.Node.{NodeOf}
 use Rattle.sci_turn.specs.Posts.{IsMade, IsStill, IsTaken, MayTake, OthersLead}
 use Rattle.sci_turn.proofs.Stills.{still_itself}

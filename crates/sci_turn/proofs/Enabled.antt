@@ -1,5 +1,5 @@
 -- What a node can do at its post.
-use Rattle.std.proofs.Common.{◌≡◌, ◌<◌, ℕ, false, List, [], ◌∷◌, Option, Some, None, refl, sym, ap, subst, ◌∙◌}
+use Rattle.std.proofs.Common.{◌≡◌, ◌<◌, ℕ, false, List, ◌∷◌, Option, Some, None, refl, sym, ap, subst, ◌∙◌}
 use Rattle.std.specs.Prelude.{IsSome, option_map}
 use Rattle.sci_words.specs.declared.event.AskKind.{AskKind}
 use Rattle.sci_words.specs.declared.event.Event.{Event}
@@ -7,7 +7,7 @@ use Rattle.sci_words.specs.declared.event.Event.TheVariants as event
 use Rattle.sci_cache.specs.Cache.{Letter}
 use Rattle.sci_core.specs.declared.lane.LaneKind.{LaneKind}
 use Rattle.sci_core.specs.declared.lane.LaneKind.TheVariants.{Answers, Requests}
-use Rattle.sci_core.specs.Core.{Core, IsEnabled, Sends, lane_of, node_at, sends, sent_by}
+use Rattle.sci_core.specs.Core.{Core, IsEnabled, lane_of, node_at, sends, sent_by}
 use Rattle.sci_core.specs.Node.{NodeOf, is_setback, node_accepting, node_asking, node_refusing, node_replying, node_serving, replied_by}
 use Rattle.sci_core.specs.Sides.{TakesFront, taken_to}
 use Rattle.sci_core.proofs.Enabled.{accept_enabled, request_enabled}
@@ -15,7 +15,7 @@ use Rattle.sci_core.proofs.Sides.{steps_by_sides}
 use Rattle.sci_policy.specs.declared.decision.Decision.{Decision}
 use Rattle.sci_policy.specs.declared.decision.Decision.TheVariants as decision
 use Rattle.sci_policy.specs.Policy.{PolicyOf, decided}
-use Rattle.sci_policy.specs.Turn.{IsTurnEvent, decided_event}
+use Rattle.sci_policy.specs.Turn.{decided_event}
 use Rattle.sci_policy.proofs.Deciding.{refuses_no_setback}
 use Rattle.sci_policy.proofs.Targets.{asked_target, waiting_target}
 use Rattle.sci_turn.specs.Posts.{IsFront, IsPost, MaySend, MayTake, PostOf, node_in, nodes_in}

@@ -1,5 +1,5 @@
 -- The events of a turn, each made and counted.
-use Rattle.std.proofs.Common.{◌≡◌, ◌<◌, ℕ, List, [], ◌∷◌, ◌++◌, Option, Some, None, refl, sym, ap, subst, ◌∙◌}
+use Rattle.std.proofs.Common.{◌≡◌, ℕ, List, [], ◌∷◌, ◌++◌, Some, None, refl, sym, ap, subst, ◌∙◌}
 use Rattle.sci_words.specs.declared.event.AskKind.{AskKind}
 use Rattle.sci_words.specs.declared.event.Event.{Event}
 use Rattle.sci_words.specs.declared.event.Event.TheVariants as event
@@ -13,7 +13,7 @@ use Rattle.sci_policy.specs.declared.progress.Progress.{Progress}
 use Rattle.sci_policy.specs.declared.want.Want.TheVariants.{Ask}
 use Rattle.sci_policy.specs.Policy.{PolicyOf, decided, next_policy, next_wanted}
 use Rattle.sci_policy.specs.Turn.{Counts, IsTurnEvent, counted, decided_event}
-use Rattle.sci_turn.specs.Posts.{IsFront, IsMade, IsTaken, PostOf, node_in}
+use Rattle.sci_turn.specs.Posts.{IsMade, IsTaken, PostOf, node_in}
 use Rattle.sci_turn.specs.Moves.{Decides, GoesOn, IsAsked, taken_next}
 use Rattle.sci_turn.proofs.Moments.{taken_event}
 use Rattle.sci_turn.proofs.Turns.{goes_made}

@@ -1,5 +1,5 @@
 -- A turn that reports nothing has found nothing to do; and then nothing is pending, or an answer of another is awaited.
-use Rattle.std.proofs.Common.{◌≡◌, ◌≢◌, ◌≤◌, ◌<◌, ℕ, true, if◌then◌else◌, arith, List, [], ◌∷◌, length, Option, Some, None, refl, sym, ap, subst, ◌∙◌, inl, inr}
+use Rattle.std.proofs.Common.{◌≡◌, ◌≤◌, ◌<◌, ℕ, true, if◌then◌else◌, arith, List, [], ◌∷◌, length, Option, Some, None, refl, sym, ap, subst, ◌∙◌, inl, inr}
 use Rattle.std.specs.Prelude.{IfSome, IsSome, is_some, slice_get}
 use Rattle.std.proofs.lemmas.Bool.{cases_lt}
 use Rattle.sci_words.specs.declared.event.AskKind.{AskKind}
@@ -24,7 +24,7 @@ use Rattle.sci_policy.specs.declared.want.Want.TheVariants.{Perform, Ask}
 use Rattle.sci_policy.specs.Lines.{state_on}
 use Rattle.sci_policy.specs.Policy.{IsEnabledWant, PolicyOf, decided, next_policy, next_wanted, ticked, turned}
 use Rattle.sci_policy.specs.Rest.{AwaitsOthers, Awaits, MayIdle, MayRest, NothingPending, NothingPends}
-use Rattle.sci_policy.specs.Turn.{MadeNothing, decided_event}
+use Rattle.sci_policy.specs.Turn.{decided_event}
 use Rattle.sci_policy.proofs.Alone.{alone_rests, first_only}
 use Rattle.sci_policy.proofs.Deciding.{keep_of, keeps_no_own}
 use Rattle.sci_policy.proofs.Rests.{may_rest}

@@ -11,7 +11,7 @@ use Rattle.sci_policy.specs.Policy.{PolicyOf, next_policy}
 use Rattle.sci_policy.specs.Turn.{Counts, IsTurnEvent, MadeNothing, counted}
 use Rattle.sci_policy.proofs.Telling.{tells_something}
 use Rattle.sci_turn.specs.Posts.{IsFurther, IsMade, IsSamePost, IsStill, OthersLead, PostOf, node_in}
-use Rattle.sci_turn.specs.Moves.{Decides, GoesOn, HasEnded, HasMoved, IsOwn, Leads, WasStill, own_of}
+use Rattle.sci_turn.specs.Moves.{Decides, GoesOn, HasEnded, HasMoved, IsOwn, Leads, own_of}
 use Rattle.sci_turn.proofs.Stills.{further_itself, further_then, same_itself, same_then, still_then}
 
 leads_join : (n : ℕ) (a : PolicyOf) (x : Core) (xs : List Event) (b : PolicyOf) (y : Core) (ys : List Event) (c : PolicyOf) (z : Core) → Leads n a x xs b y → Leads n b y ys c z → Leads n a x (xs ++ ys) c z

@@ -25,7 +25,7 @@ use Rattle.sci_policy.specs.Turn.{IsTurnEvent, MayPerform}
 use Rattle.sci_policy.specs.Worker.{HasSameWork, IsNodeTurn, Makes, SidesLead}
 use Rattle.sci_policy.proofs.LogEnds.{same_some}
 use Rattle.sci_turn.specs.Posts.{IsPost, PostOf, node_in}
-use Rattle.sci_turn.specs.Moves.{HasEnded, IsTurn, Leads, own_of}
+use Rattle.sci_turn.specs.Moves.{IsTurn, Leads, own_of}
 
 -- ---- an event of another node
 

@@ -1,4 +1,4 @@
-use Rattle.std.proofs.Common.{◌≡◌, refl, rules}
+use Rattle.std.proofs.Common.{rules}
 use Rattle.sci_turn.specs.Posts.{IsPost}
 use Rattle.sci_turn.proofs.Idling.{may_idle}
 use Rattle.sci_turn.proofs.Working.{post_after}

@@ -1,8 +1,8 @@
-use Rattle.std.proofs.Common.{◌≡◌, ◌<◌, ◌+◌, ℕ, refl, subst, sym, arith, inl, inr, []}
+use Rattle.std.proofs.Common.{◌≡◌, ◌<◌, ℕ, refl, subst, arith, inl, inr, []}
 use Rattle.std.proofs.lemmas.Bool.{cases_lt}
 use Rattle.sci_core.specs.declared.lane.LaneKind.TheVariants.{Answers}
 use Rattle.sci_policy.specs.Policy.{opening_policy}
-use Rattle.sci_turn.specs.Posts.{PostOf, lane_to, nodes_in}
+use Rattle.sci_turn.specs.Posts.{PostOf, lane_to}
 use Rattle.sci_turn.specs.Idle.{WasEmpty}
 use Rattle.sci_turn.proofs.Moments.{node_stays, so_after, so_still}
 use Rattle.sci_turn.proofs.Turns.{goes_then}

@@ -1,4 +1,4 @@
-use Rattle.std.proofs.Common.{◌≡◌, refl, []}
+use Rattle.std.proofs.Common.{◌≡◌, []}
 use Rattle.sci_core.specs.declared.lane.LaneKind.TheVariants.{Answers}
 use Rattle.sci_policy.specs.Policy.{opening_policy}
 use Rattle.sci_turn.specs.Posts.{PostOf, lane_to}

@@ -1,8 +1,7 @@
-use Rattle.std.proofs.Common.{◌≡◌, ℕ, Option, None, Some, refl, sym, ap, subst, ◌∙◌}
-use Rattle.std.specs.Prelude.{IfSome, IsSome}
-use Rattle.sci_words.specs.declared.event.AskKind.{AskKind}
+use Rattle.std.proofs.Common.{◌≡◌, Option, None, Some, refl, sym, ap, subst, ◌∙◌}
+use Rattle.std.specs.Prelude.{IfSome}
 use Rattle.sci_words.specs.declared.event.Event.TheVariants as event
-use Rattle.sci_core.specs.Node.{NodeOf, node_asking}
+use Rattle.sci_core.specs.Node.{NodeOf}
 use Rattle.sci_policy.specs.declared.want.Want.{Want}
 use Rattle.sci_policy.specs.declared.want.Want.TheVariants.{Ask}
 use Rattle.sci_policy.specs.Policy.{IsEnabledWant, PolicyOf, next_policy, next_wanted}
@@ -12,7 +11,7 @@ use Rattle.sci_turn.specs.Posts.{PostOf, node_in}
 use Rattle.sci_turn.specs.Idle.{IsHeldUp}
 use Rattle.sci_turn.proofs.Events.{goes_asked}
 use Rattle.sci_turn.proofs.Stills.{still_then}
-use Rattle.sci_turn.proofs.Turns.{ends_asked, ends_ready, ends_there, goes_still, goes_then}
+use Rattle.sci_turn.proofs.Turns.{ends_asked, ends_ready, goes_still, goes_then}
 use Rattle.sci_turn.proofs.turn.ask_some.Goals as goal
 
 -- the policy was asked about the node as it is

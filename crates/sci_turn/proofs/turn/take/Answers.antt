@@ -1,13 +1,8 @@
-use Rattle.std.proofs.Common.{◌≡◌, Bool, false, ◌<◌, None, refl, ap, sym, subst, ◌∙◌}
-use Rattle.std.specs.Prelude.{IfSome, is_some, option_copied, option_map}
-use Rattle.sci_cache.specs.Cache.{letter_of}
-use Rattle.sci_core.specs.Node.{NodeOf}
-use Rattle.sci_core.specs.declared.lane.LaneKind.TheVariants.{Requests}
-use Rattle.sci_policy.proofs.Deciding.{none_seen}
-use Rattle.sci_turn.specs.Posts.{IsFront, PostOf, node_in}
+use Rattle.std.proofs.Common.{◌≡◌, Bool, false, None, refl}
+use Rattle.sci_turn.specs.Posts.{PostOf}
 use Rattle.sci_turn.specs.Moves.{taken_next}
 use Rattle.sci_turn.specs.Idle.{TookNone}
-use Rattle.sci_turn.proofs.Moments.{if_ok_map, node_stays, none_came, none_waits, so_after, so_now}
+use Rattle.sci_turn.proofs.Moments.{if_ok_map, none_came, so_after, so_now}
 use Rattle.sci_turn.proofs.Turns.{goes_still, goes_then}
 use Rattle.sci_turn.proofs.turn.take.Goals as goal
 

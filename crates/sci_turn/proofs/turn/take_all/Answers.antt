@@ -3,10 +3,10 @@ use Rattle.std.proofs.lemmas.Bool.{cases_lt}
 use Rattle.sci_policy.specs.Policy.{PolicyOf}
 use Rattle.std.proofs.Math.Nat.{mod-add-mod, mod-lt}
 use Rattle.sci_policy.proofs.Circles.{comes_by}
-use Rattle.sci_turn.specs.Posts.{PostOf, nodes_in}
+use Rattle.sci_turn.specs.Posts.{PostOf}
 use Rattle.sci_turn.specs.Moves.{taken_next}
 use Rattle.sci_turn.specs.Idle.{TookNone}
-use Rattle.sci_turn.proofs.Moments.{node_stays, so_after, so_still}
+use Rattle.sci_turn.proofs.Moments.{so_after, so_still}
 use Rattle.sci_turn.proofs.Turns.{goes_then}
 use Rattle.sci_turn.proofs.turn.take_all.Goals as goal
 

@@ -1,4 +1,4 @@
-use Rattle.std.proofs.Common.{◌≡◌, None, refl, subst}
+use Rattle.std.proofs.Common.{◌≡◌, None, subst}
 use Rattle.sci_policy.specs.Policy.{PolicyOf}
 use Rattle.sci_turn.specs.Posts.{PostOf}
 use Rattle.sci_turn.specs.Moves.{taken_next}

@@ -1,4 +1,4 @@
-use Rattle.std.proofs.Common.{◌≡◌, ℕ, Option, refl, sym, subst, ◌∙◌}
+use Rattle.std.proofs.Common.{refl, sym, subst, ◌∙◌}
 use Rattle.sci_policy.specs.Policy.{PolicyOf}
 use Rattle.sci_policy.specs.Turn.{MayPerform}
 use Rattle.sci_policy.proofs.Telling.{idle_tells}

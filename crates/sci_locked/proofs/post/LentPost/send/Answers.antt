@@ -1,4 +1,4 @@
-use Rattle.std.proofs.Common.{◌≤◌, ◌<◌, ℕ, length, refl, subst, arith}
+use Rattle.std.proofs.Common.{◌<◌, ℕ, length, refl, subst, arith}
 use Rattle.sci_cache.specs.Cache.{letter_of}
 use Rattle.sci_core.specs.Core.{lane_of}
 use Rattle.sci_locked.proofs.Lanes.{alone_sends, room_sent}
