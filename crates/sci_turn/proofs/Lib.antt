@@ -5,3 +5,4 @@ pub mod Events
 pub mod Moments
 pub mod Idling
 pub mod Working
+pub mod Asking

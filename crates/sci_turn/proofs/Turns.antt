@@ -43,35 +43,41 @@ own_more n more e is = own_join n more (e ∷ []) ∙ ap (λ (es : List Event). 
 -- ---- going on
 
 -- no event was made
-moved_still : (first policy : PolicyOf) (start old new : PostOf) (told : Progress) → IsStill old new → HasMoved first start policy old told → HasMoved first start policy new told
+pub moved_still : (first policy : PolicyOf) (start old new : PostOf) (told : Progress) → IsStill old new → (moved : HasMoved first start policy old told) → (now : HasMoved first start policy new told) × (own_of start.me now.more ≡ own_of start.me moved.more)
 moved_still first policy start old new told still moved =
     let lead : OthersLead start.me old.core still.others new.core = subst (λ (n : ℕ). OthersLead n old.core still.others new.core) moved.same.me still.lead in
-    record {
-      same = same_then start old new moved.same still.same;
-      more = moved.more ++ still.others;
-      leads = leads_join start.me first start.core moved.more policy old.core still.others policy new.core moved.leads (leads_others start.me policy old.core still.others new.core lead);
-      further = further_then start.me start.schedule moved.more old.schedule still.others new.schedule moved.further (subst (λ (n : ℕ). IsFurther n old.schedule still.others new.schedule) moved.same.me still.further);
-      counts = subst (λ (es : List Event). Counts es told) (sym (own_seen start.me old.core moved.more still.others new.core lead)) moved.counts;
-    }
+    let own = own_seen start.me old.core moved.more still.others new.core lead in (
+      record {
+        same = same_then start old new moved.same still.same;
+        more = moved.more ++ still.others;
+        leads = leads_join start.me first start.core moved.more policy old.core still.others policy new.core moved.leads (leads_others start.me policy old.core still.others new.core lead);
+        further = further_then start.me start.schedule moved.more old.schedule still.others new.schedule moved.further (subst (λ (n : ℕ). IsFurther n old.schedule still.others new.schedule) moved.same.me still.further);
+        counts = subst (λ (es : List Event). Counts es told) (sym own) moved.counts;
+      },
+      own,
+    )
 
 -- an event was made
-moved_more : (first before after : PolicyOf) (start mid new : PostOf) (told tells : Progress) (e : Event) → HasMoved first start before mid told → IsSamePost mid new → stepping mid.core e ≡ Some new.core → IsOwn mid.me before mid.core e after
-    → IsFurther mid.me mid.schedule (e ∷ []) new.schedule → ((events : List Event) → Counts events told → Counts (events ++ e ∷ []) tells) → HasMoved first start after new tells
+pub moved_more : (first before after : PolicyOf) (start mid new : PostOf) (told tells : Progress) (e : Event) → (moved : HasMoved first start before mid told) → IsSamePost mid new → stepping mid.core e ≡ Some new.core → IsOwn mid.me before mid.core e after
+    → IsFurther mid.me mid.schedule (e ∷ []) new.schedule → ((events : List Event) → Counts events told → Counts (events ++ e ∷ []) tells) → (now : HasMoved first start after new tells) × (own_of start.me now.more ≡ own_of start.me moved.more ++ e ∷ [])
 moved_more first before after start mid new told tells e moved same steps own further counts =
     let here : IsOwn start.me before mid.core e after = subst (λ (n : ℕ). IsOwn n before mid.core e after) moved.same.me own in
-    record {
-      same = same_then start mid new moved.same same;
-      more = moved.more ++ e ∷ [];
-      leads = leads_join start.me first start.core moved.more before mid.core (e ∷ []) after new.core moved.leads (new.core, after, steps, inl here, (refl, refl));
-      further = further_then start.me start.schedule moved.more mid.schedule (e ∷ []) new.schedule moved.further (subst (λ (n : ℕ). IsFurther n mid.schedule (e ∷ []) new.schedule) moved.same.me further);
-      counts = subst (λ (es : List Event). Counts es tells) (sym (own_more start.me moved.more e here.kind.own)) (counts (own_of start.me moved.more) moved.counts);
-    }
+    let more = own_more start.me moved.more e here.kind.own in (
+      record {
+        same = same_then start mid new moved.same same;
+        more = moved.more ++ e ∷ [];
+        leads = leads_join start.me first start.core moved.more before mid.core (e ∷ []) after new.core moved.leads (new.core, after, steps, inl here, (refl, refl));
+        further = further_then start.me start.schedule moved.more mid.schedule (e ∷ []) new.schedule moved.further (subst (λ (n : ℕ). IsFurther n mid.schedule (e ∷ []) new.schedule) moved.same.me further);
+        counts = subst (λ (es : List Event). Counts es tells) (sym more) (counts (own_of start.me moved.more) moved.counts);
+      },
+      more,
+    )
 
 pub goes_still : (policy : PolicyOf) (old new : PostOf) (told tells : Progress) → IsStill old new → tells ≡ told → GoesOn policy old policy new told tells
 goes_still policy old new told tells still is = record {
   same = still.same;
   ready = ap (λ (p : Progress). p.ready) is;
-  turn = λ first start moved. subst (λ (p : Progress). HasMoved first start policy new p) (sym is) (moved_still first policy start old new told still moved);
+  turn = λ first start moved. subst (λ (p : Progress). HasMoved first start policy new p) (sym is) (moved_still first policy start old new told still moved).0;
   still = λ nothing. record { post = still; policy = refl; nothing = subst MadeNothing is nothing };
 }
 
@@ -92,8 +98,8 @@ pub goes_made : (before after : PolicyOf) (old new : PostOf) (told tells : Progr
 goes_made before after old new told tells e own made decides is counts = record {
   same = same_then old made.mid new made.still.same made.same;
   ready = ap (λ (p : Progress). p.ready) is;
-  turn = λ policy start moved. moved_more policy before after start made.mid new told tells e (moved_still policy before start old made.mid told made.still moved) made.same made.made
-      (subst (λ (n : ℕ). IsOwn n before made.mid.core e after) (sym made.still.same.me) (record { kind = own; decides = decides })) made.further counts;
+  turn = λ policy start moved. (moved_more policy before after start made.mid new told tells e (moved_still policy before start old made.mid told made.still moved).0 made.same made.made
+      (subst (λ (n : ℕ). IsOwn n before made.mid.core e after) (sym made.still.same.me) (record { kind = own; decides = decides })) made.further counts).0;
   still = λ nothing. absurd (tells_something old.me e told tells own is nothing);
 }
 

@@ -10,6 +10,7 @@ ghost use Rattle.sci_policy.specs.Turn.{Counts, MadeNothing, MayPerform, is_idle
 ghost use Rattle.sci_policy.specs.Worker.{HasSameWork, IsNodeTurn};
 ghost use Rattle.sci_turn.specs.Posts.{IsStill, node_in, nodes_in};
 ghost use Rattle.sci_turn.specs.Moves.{EndsTurn, GoesOn, IsAsked, IsTurn};
+ghost use Rattle.sci_turn.specs.Far.{AsksAll, HasAskedAll};
 ghost use Rattle.sci_turn.specs.Idle.{AsksNothing, IsIdleTurn, IsReplyHeldUp, TookNone, WasEmpty, WasHeldUp};
 
 use crate::post::Post;
@@ -29,6 +30,8 @@ pub fn take_turn<P: Post>(
     requires ready { progress.old.ready ≡ None }
     ensures turn { IsTurn policy.old (P.post post.old) policy.new (P.post post.new) progress.new }
     ensures ready { MayPerform (node_in (P.post post.new)) progress.new.ready }
+    ensures asks { IsOk result → HasAskedAll (turned policy.old) (P.post post.old)
+        policy.new (P.post post.new) progress.new }
     ensures idle { IsOk result → is_idle progress.new ≡ true →
         IsIdleTurn policy.old (P.post post.old) policy.new (P.post post.new) }
     ensures rest { IsOk result → is_idle progress.new ≡ true → MayIdle (node_in (P.post post.new)) }
@@ -263,6 +266,8 @@ fn ask_some<P: Post>(
     ensures turn { EndsTurn policy.old (P.post post.old) policy.new (P.post post.new)
         progress.old progress.new }
     ensures ready { MayPerform (node_in (P.post post.new)) progress.new.ready }
+    ensures asks { IsOk result → AsksAll policy.old (P.post post.old) policy.new (P.post post.new)
+        progress.old progress.new }
     ensures idle { IsOk result → MadeNothing progress.new → progress.new.ready ≡ None →
         AsksNothing policy.old (P.post post.old) policy.new (P.post post.new) progress.old }
     ensures stays { P.stays post.old post.new }

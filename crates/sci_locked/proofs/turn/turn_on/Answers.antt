@@ -1,4 +1,7 @@
-use Rattle.std.proofs.Common.{rules}
+use Rattle.std.proofs.Common.{◌≡◌, ℕ, refl, sym, subst, rules}
+use Rattle.sci_core.specs.Core.{Core}
+use Rattle.sci_policy.specs.Policy.{turned}
+use Rattle.sci_turn.specs.Far.{HasAskedAll}
 use Rattle.sci_turn.specs.Posts.{IsPost}
 use Rattle.sci_turn.proofs.Idling.{may_idle}
 use Rattle.sci_turn.proofs.Working.{post_after}
@@ -11,6 +14,13 @@ returns-clause-turn c = search rules
 
 pub returns-clause-idle : goal.returns-clause-idle
 returns-clause-idle c = search rules
+
+pub returns-clause-asks : goal.returns-clause-asks
+returns-clause-asks c =
+    let post = c.take_turn.new.post in
+    let asked : ℕ → Core → Type 0 = λ n core. HasAskedAll (turned c.args.policy.now) (post_at c.args.node c.args.machine.now) c.take_turn.new.policy (post_at n core) c.take_turn.new.progress in
+    let there : (core : Core) → core ≡ post.machine.now → asked c.args.node core = λ core is. subst (asked c.args.node) (sym is) (subst (λ (n : ℕ). asked n post.machine.now) c.take_turn.ensures.turn.moved.same.me (c.in_ok-take_turn.ensures.asks refl)) in
+    there _ (search rules)
 
 pub returns-clause-same : goal.returns-clause-same
 returns-clause-same c = λ idle. alone_still c.args.node c.args.node c.args.machine.now _ (returns-clause-idle c idle).still

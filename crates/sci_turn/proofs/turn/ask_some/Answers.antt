@@ -1,4 +1,4 @@
-use Rattle.std.proofs.Common.{◌≡◌, Option, None, Some, refl, sym, ap, subst, ◌∙◌}
+use Rattle.std.proofs.Common.{◌≡◌, Option, None, Some, refl, sym, ap, subst, ◌∙◌, arith, inl, inr}
 use Rattle.std.specs.Prelude.{IfSome}
 use Rattle.sci_words.specs.declared.event.Event.TheVariants as event
 use Rattle.sci_core.specs.Node.{NodeOf}
@@ -9,6 +9,7 @@ use Rattle.sci_policy.specs.Turn.{MadeNothing}
 use Rattle.sci_policy.proofs.Telling.{tells_something}
 use Rattle.sci_turn.specs.Posts.{PostOf, node_in}
 use Rattle.sci_turn.specs.Idle.{IsHeldUp}
+use Rattle.sci_turn.proofs.Asking.{asks_ended, asks_more, asks_no_more}
 use Rattle.sci_turn.proofs.Events.{goes_asked}
 use Rattle.sci_turn.proofs.Stills.{still_then}
 use Rattle.sci_turn.proofs.Turns.{ends_asked, ends_ready, goes_still, goes_then}
@@ -38,6 +39,7 @@ loop-cell-preserved g c =
     record {
       goes = goes_then _ _ _ _ _ _ _ _ _ c.loop-cell.invariant.goes (goes_asked c.loop-cell.policy c.next.new.self old new line kind c.loop-cell.progress c.ask.new.progress wanted noted asked);
       stays = g.met.P.Post.stays_through c.args.post.now c.loop-cell.post c.ask.new.post c.loop-cell.invariant.stays c.ask.ensures.stays;
+      asks = asks_more c.loop-cell._cell c.args.policy.now c.loop-cell.policy c.next.new.self (g.P.Post.post c.args.post.now) old new c.args.progress.now c.loop-cell.progress c.ask.new.progress line kind c.loop-cell.invariant.asks wanted noted asked;
       first = λ nothing. absurd (tells_something old.me (event.Ask old.me line kind) c.loop-cell.progress c.ask.new.progress (record { own = refl; kind = refl }) asked.counted nothing);
     }
 
@@ -116,3 +118,35 @@ returns-in_err-ask-in-Some-Ask-clause-stays g c = g.met.P.Post.stays_through c.a
 
 pub returns-then-not-branch-clause-stays : goal.returns-then-not-branch-clause-stays
 returns-then-not-branch-clause-stays g c = g.met.P.Post.stays_through c.args.post.now c.loop-cell.post c.ask.new.post c.loop-cell.invariant.stays c.ask.ensures.stays
+
+-- ---- how far the turn goes
+
+pub returns-then-not-branch-clause-asks : goal.returns-then-not-branch-clause-asks
+returns-then-not-branch-clause-asks g c = λ _ policy start moved.
+    let old = g.P.Post.post c.loop-cell.post in
+    let new = g.P.Post.post c.ask.new.post in
+    let line = c.in-Some-Ask.line in
+    let kind = c.in-Some-Ask.kind in
+    let full = c.in_ok-ask-in-Some-Ask.ensures.full c.if-not-branch.true in
+    let node = c.node.ensures.node ∙ sym full.still.node in
+    let wanted : next_wanted c.loop-cell.policy (node_in new) ≡ Some (Ask line kind) = wants_here c.loop-cell.policy c.node.result.now (node_in new) (Some (Ask line kind)) _ c.in-Some-Ask.ensures.want node (ap Some c.in-Some-Ask.field-0-is) in
+    asks_no_more policy c.loop-cell.policy c.next.new.self start new c.ask.new.progress
+    ((goes_still c.loop-cell.policy old new c.loop-cell.progress c.ask.new.progress full.still full.same).turn policy start (c.loop-cell.invariant.goes.turn policy start moved))
+    (asked_here c.loop-cell.policy c.next.new.self c.node.result.now (node_in new) c.next.ensures.then node)
+    (wants_this new _ (Some (Ask line kind)) wanted full.full)
+
+pub returns-in-Some-Perform-clause-asks : goal.returns-in-Some-Perform-clause-asks
+returns-in-Some-Perform-clause-asks g c = λ _ policy start moved. record { ended = returns-in-Some-Perform-clause-turn g c policy start moved; asks = inr (inl refl) }
+
+pub returns-in-None-clause-asks : goal.returns-in-None-clause-asks
+returns-in-None-clause-asks g c = λ _ policy start moved.
+    let here = g.P.Post.post c.loop-cell.post in
+    let wanted : next_wanted c.loop-cell.policy (node_in here) ≡ None = wants_here c.loop-cell.policy c.node.result.now (node_in here) None _ c.in-None.ensures.want c.node.ensures.node refl in
+    asks_no_more policy c.loop-cell.policy c.next.new.self start here c.loop-cell.progress (c.loop-cell.invariant.goes.turn policy start moved)
+    (asked_here c.loop-cell.policy c.next.new.self c.node.result.now (node_in here) c.next.ensures.then c.node.ensures.node)
+    (wants_this here _ None wanted tt)
+
+pub returns-clause-asks : goal.returns-clause-asks
+returns-clause-asks g c = λ _ policy start moved.
+    let so = c.loop-cell.invariant.asks policy start moved in
+    asks_ended policy c.loop-cell.policy start (g.P.Post.post c.loop-cell.post) c.loop-cell.progress so.0 (let most = so.1 in let ended = c.loop-cell-test.false in omega arith)

@@ -4,6 +4,7 @@ use Rattle.sci_policy.specs.Turn.{MayPerform}
 use Rattle.sci_policy.proofs.Telling.{idle_tells}
 use Rattle.sci_turn.specs.Posts.{node_in}
 use Rattle.sci_turn.specs.Moves.{HasEnded}
+use Rattle.sci_turn.specs.Far.{HasAskedAll}
 use Rattle.sci_turn.proofs.Idling.{idle_turn, may_idle}
 use Rattle.sci_turn.proofs.Turns.{ends_there, turn_begins}
 use Rattle.sci_turn.proofs.Working.{node_turn, post_after, turn_work}
@@ -118,3 +119,15 @@ returns-clause-node g c = node_turn c.args.policy.now (g.P.Post.post c.args.post
 
 pub returns-clause-work : goal.returns-clause-work
 returns-clause-work g c = turn_work c.args.policy.now (g.P.Post.post c.args.post.now) c.ask_some.new.policy (g.P.Post.post c.ask_some.new.post) c.ask_some.new.progress c.node-here.ensures.post (returns-clause-turn g c) c.ask_some.ensures.ready
+
+-- ---- how far the turn goes
+
+pub returns-clause-asks : goal.returns-clause-asks
+returns-clause-asks g c = λ ok.
+    let policy = c.begin_turn.new.self in
+    let old = g.P.Post.post c.args.post.now in
+    let begun = turn_begins policy old c.args.progress.now c.requires.nothing in
+    let one = (c.reply.ensures.goes policy).turn policy old begun in
+    let two = (c.accept_all.ensures.goes policy).turn policy old one in
+    let three = c.take_all.ensures.goes.turn policy old two in
+    subst (λ (p : PolicyOf). HasAskedAll p old c.ask_some.new.policy (g.P.Post.post c.ask_some.new.post) c.ask_some.new.progress) c.begin_turn.ensures (c.ask_some.ensures.asks ok policy old three)
