@@ -1,6 +1,6 @@
 -- How often a turn asks.
-use Rattle.std.proofs.Common.{◌≡◌, ◌≤◌, ◌+◌, ℕ, Bool, true, false, arith, List, [], ◌∷◌, ◌++◌, Option, Some, refl, sym, ap, subst, ◌∙◌, inl, inr}
-use Rattle.std.specs.Prelude.{IfSome, count_by, if◌then◌else◌}
+use Rattle.std.proofs.Common.{◌≡◌, ◌≤◌, ◌+◌, ℕ, arith, List, [], ◌∷◌, ◌++◌, Some, refl, sym, ap, subst, ◌∙◌, inl, inr}
+use Rattle.std.specs.Prelude.{IfSome, count_by}
 use Rattle.std.proofs.lemmas.List.Sums.{fold_push}
 use Rattle.sci_words.specs.declared.event.AskKind.{AskKind}
 use Rattle.sci_words.specs.declared.event.Event.{Event}
@@ -10,7 +10,7 @@ use Rattle.sci_policy.specs.declared.progress.Progress.{Progress}
 use Rattle.sci_policy.specs.declared.want.Want.TheVariants.{Ask}
 use Rattle.sci_policy.specs.Policy.{PolicyOf, next_policy, next_wanted}
 use Rattle.sci_policy.specs.Turn.{is_ask}
-use Rattle.sci_turn.specs.Posts.{IsStill, PostOf, node_in}
+use Rattle.sci_turn.specs.Posts.{PostOf, node_in}
 use Rattle.sci_turn.specs.Moves.{HasMoved, IsAsked, IsOwn, own_of}
 use Rattle.sci_turn.specs.Idle.{IsHeldUp}
 use Rattle.sci_turn.specs.Far.{HasAskedAll}
