@@ -30,3 +30,4 @@ pub mod LoadCounts
 pub mod Waits
 pub mod Walks
 pub mod FoundOrders
+pub mod SerialOrder

@@ -11,7 +11,7 @@ use Rattle.sci_words.specs.declared.operation.Act.{Act}
 use Rattle.sci_words.specs.declared.operation.Act.TheVariants.{Load, Store}
 use Rattle.sci_words.specs.declared.operation.Reply.TheVariants.{Stored}
 use Rattle.sci_history.specs.declared.entry.Entry.{Entry}
-use Rattle.sci_history.specs.Placed.{is_making, maker_count, in_order, above_serials, by_node_and_serial, placed_entries}
+use Rattle.sci_history.specs.Placed.{is_making, maker_count, in_order, above_serials, in_serial_order, by_node_and_serial, placed_entries}
 use Rattle.sci_history.specs.Audit.{entries_of}
 use Rattle.sci_history.proofs.Order.{HasKeysBelow, all_weaker, all-in_order}
 use Rattle.sci_history.proofs.Placement.{place, place-below, above_serials-above, by_version-in_order, all-by_node_and_serial}
@@ -53,10 +53,16 @@ at_place_is : (k : ℕ) → place (at_place k).now ≡ k
 unfolding at_place ref_to
 at_place_is k = half_is k (k % 2) refl (omega arith)
 
-pub record Sorts (lt : Bor Entry → Bor Entry → Bool) (xs ys : List (Bor Entry)) : Type 0 where
+pub record Sorts {X : Type 0} (lt : X → X → Bool) (xs ys : List X) : Type 0 where
   pub sorted : IsSortedBy lt ys
   pub stable : IsStableBy lt xs ys
   pub moved : IsPermutation xs ys
+
+-- a log's entries, sorted by serial
+pub sorted_by_serial : (xs ys : List Entry) → Sorts (λ x y. is_lt (nat_cmp x.serial y.serial)) xs ys → ys ≡ in_serial_order xs
+unfolding entry_with
+sorted_by_serial xs ys h =
+    sorted_is (λ x y. is_lt (nat_cmp x.serial y.serial)) (λ e. e.serial) (λ k. entry_with 0 k 0 Load) (λ x y. is_lt-nat_cmp x.serial y.serial) (λ k. refl) (above_serials xs) xs ys h.sorted h.stable h.moved (above_serials-above xs (above_serials xs) (omega arith))
 
 after_serial : (xs ys : List (Bor Entry)) → Sorts (λ x y. is_lt (nat_cmp x.now.serial y.now.serial)) xs ys → entries_of ys ≡ in_order (λ e. e.serial) (above_serials (entries_of xs)) (entries_of xs)
 unfolding entry_with ref_to

@@ -51,9 +51,13 @@ abbrev pub above_serials : List Entry → ℕ
 above_serials [] = 0
 above_serials (entry ∷ entries) = max (entry.serial + 1) (above_serials entries)
 
+-- by serial, and those of one serial as they stand
+abbrev pub in_serial_order : List Entry → List Entry
+in_serial_order entries = in_order (λ entry. entry.serial) (above_serials entries) entries
+
 -- by node, then by serial, then by place in the log
 abbrev pub by_node_and_serial : List Entry → List Entry
-by_node_and_serial entries = in_order (λ entry. entry.node) MAX_NODES (in_order (λ entry. entry.serial) (above_serials entries) entries)
+by_node_and_serial entries = in_order (λ entry. entry.node) MAX_NODES (in_serial_order entries)
 
 -- for each version below the bound its makers, and then the loads at it
 unfoldable pub by_version : ℕ → List Entry → List Entry

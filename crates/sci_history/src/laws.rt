@@ -20,7 +20,7 @@ ghost use Rattle.sci_history.specs.Memory.{IsRun, stamped_at, words_of_lines, ze
 ghost use Rattle.sci_history.specs.Oracle.{IsInRange, Issue, oracle_last, oracle_logs};
 ghost use Rattle.sci_history.specs.Placed.{AreOwn, is_making, is_of_node, is_on_line, log_of, on_line, pair_of};
 ghost use Rattle.sci_history.specs.Seen.{DidOn};
-ghost use Rattle.sci_history.specs.Sequential.{IsInProgramOrder, IsSequentialOrder, IsSequentiallyConsistent};
+ghost use Rattle.sci_history.specs.Sequential.{AreInProgramOrder, IsInProgramOrder, IsSequentialOrder, IsSequentiallyConsistent, by_serial};
 
 /// A script's logs and last contents on one memory of one thread are lawful, whatever operations it has within
 /// the limits.
@@ -136,4 +136,11 @@ pub fn sequential_logs_are_lawful()
 pub fn cycles_rule_out_orders()
     ensures { (logs : List (List Entry)) (last : List Stamped) (steps : List Step) → IsCycle logs steps →
         IsSequentiallyConsistent logs last → ⊥ }
+{}
+
+/// Lawful logs stay lawful when each node's entries are put in the order issued, and logs in program order stay as they are.
+pub fn serial_order_is_lawful()
+    ensures lawful { (logs : List (List Entry)) (last : List Stamped) → length logs ≡ MAX_NODES → Lawful logs last →
+        Lawful (by_serial logs) last }
+    ensures issued { (logs : List (List Entry)) → AreInProgramOrder logs → by_serial logs ≡ logs }
 {}

@@ -23,7 +23,7 @@ pub use last::Last;
 pub use laws::{
     cycles_rule_out_orders, history_is_lawful, lawful_is_faultless, no_stale_read, one_lawful_end,
     one_partition, one_word_at_a_version, oracle_is_lawful, orders_are_runs, runs_are_functions,
-    runs_compose, sequential_logs_are_lawful, stores_are_seen,
+    runs_compose, sequential_logs_are_lawful, serial_order_is_lawful, stores_are_seen,
 };
 pub use logs::{Logs, PushFault};
 pub use memory::Memory;

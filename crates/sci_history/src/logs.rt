@@ -1,8 +1,9 @@
 //! The logs of all nodes.
 
-ghost use Rattle.std.specs.Prelude.{◌≡◌, ◌≢◌, ◌≤◌, ◌<◌, ◌++◌, ◌∷◌, [], ◌↔◌, List, ℕ, length, replicate, slice_set, OnOk, OnErr, IsErrOf};
+ghost use Rattle.std.specs.Prelude.{◌≡◌, ◌≢◌, ◌≤◌, ◌<◌, ◌++◌, ◌∷◌, [], ◌↔◌, List, ℕ, length, replicate, slice_set, IfOk, OnOk, OnErr, IsErrOf};
 ghost use Rattle.sci_words.specs.declared.limits.TheConstants.{MAX_NODES, MAX_OPERATIONS};
-ghost use Rattle.sci_history.specs.Placed.{AreOwn, log_of};
+ghost use Rattle.sci_history.specs.Placed.{AreOwn, in_serial_order as in_serial_order_of, log_of};
+ghost use Rattle.sci_history.specs.Sequential.{by_serial as by_serial_of};
 
 use crate::entry::Entry;
 use sci_words::{MAX_NODES, MAX_OPERATIONS};
@@ -92,6 +93,18 @@ impl Logs {
         MAX_NODES
     }
 
+    /// The logs with the entries of each node by their serials, which is the order in which the node issued them. Entries of
+    /// one serial stay as they stand. Refused if memory is.
+    pub fn by_serial(&self, alloc: Global) -> Result<Logs, AllocError>
+        ensures { IfOk result (λ sorted. sorted ≡ by_serial_of self.now) }
+    {
+        let Logs { mut lists } = Logs::new(alloc);
+        for node in 0..NODES {
+            lists[node] = in_serial_order(alloc, &self.lists[node])?;
+        }
+        Ok(Logs { lists })
+    }
+
     /// The number of entries in all logs, or the greatest `usize` if there are more.
     pub(crate) fn entries(&self) -> usize {
         let mut count: usize = 0;
@@ -111,6 +124,15 @@ impl Logs {
     {
         self.lists[node as usize].as_slice()
     }
+}
+
+/// Entries by their serials; those of one serial stay as they stand.
+fn in_serial_order(alloc: Global, log: &[Entry]) -> Result<Vec<Entry>, AllocError>
+    ensures { IfOk result (λ sorted. sorted.items ≡ in_serial_order_of log.now) }
+{
+    let mut sorted = Vec::from_slice(alloc, log)?;
+    sorted.sort_by_key(|entry| entry.serial)?;
+    Ok(sorted)
 }
 
 fn push_entry(log: &mut Vec<Entry>, entry: Entry) -> Result<(), PushFault>
