@@ -1,35 +1,15 @@
 -- The last contents of a line, found step by step.
 use Rattle.std.proofs.Common.{◌≡◌, ℕ, ◌+◌, ◌<◌, List, [], ◌∷◌, ◌++◌, length, get_or, take, drop, Option, Some, None, refl, sym, ap, ◌∙◌, arith}
-use Rattle.std.specs.Prelude.{option_to_list, unwrap_or}
+use Rattle.std.specs.Prelude.{unwrap_or}
 use Rattle.std.specs.Option.{option_or}
 use Rattle.sci_core.proofs.Options.{after_none, found_first}
-use Rattle.std.specs.List.{flat_map}
 use Rattle.std.proofs.lemmas.List.{take_more, take_all, take-append-drop}
 use Rattle.std.proofs.lemmas.List.FromFn.{length-map-range_with_len, get_or-map-range_with_len}
 use Rattle.sci_words.specs.declared.stamped.Stamped.{Stamped}
 use Rattle.sci_words.specs.Stamped.{zero_stamped}
-use Rattle.sci_packets.specs.declared.body.Body.{Body}
 use Rattle.sci_home.specs.Serving.{current_of}
-use Rattle.sci_cache.specs.Cache.{Letter}
-use Rattle.sci_core.specs.Node.{NodeOf}
 use Rattle.sci_core.specs.Core.{Core}
-use Rattle.sci_core.specs.Sharing.{answer_to, Sharer, sharer_of, sharers, home_at, authority_contents, first_authority, last_at}
-use Rattle.sci_core.proofs.Seeking.{seek, seek_first, seek_second}
-
--- ---- the answer that is under way
-
-abbrev waiting : List NodeOf → List Letter
-waiting parts = flat_map (λ (part : NodeOf). option_to_list part.waiting) parts
-
-abbrev carried : List (List Letter) → List Letter
-carried lanes = flat_map (λ (lane : List Letter). lane) lanes
-
-pub found_waiting : (core : Core) (n line : ℕ) (parts : List NodeOf) (found : Option Body) (b : Body) → parts ≡ core.parts → found ≡ seek n line (flat_map (λ (part : NodeOf). option_to_list part.waiting) parts) → found ≡ Some b → Some b ≡ answer_to core n line
-found_waiting core n line parts found b same is some = grind (arith, seek, seek_first)
-
-pub found_carried : (core : Core) (n line : ℕ) (parts : List NodeOf) (lanes : List (List Letter)) (first second : Option Body) → parts ≡ core.parts → lanes ≡ core.lanes
-    → first ≡ seek n line (flat_map (λ (part : NodeOf). option_to_list part.waiting) parts) → first ≡ None → second ≡ seek n line (flat_map (λ (lane : List Letter). lane) lanes) → second ≡ answer_to core n line
-found_carried core n line parts lanes first second same along is none found = grind (arith, seek, seek_second)
+use Rattle.sci_core.specs.Sharing.{Sharer, sharer_of, sharers, home_at, authority_contents, first_authority, last_at}
 
 -- ---- the authority
 

@@ -65,3 +65,4 @@ pub mod Emptying
 pub mod EmptyRuns
 pub mod PendingRuns
 pub mod Walking
+pub mod Answering

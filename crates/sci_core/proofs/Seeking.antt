@@ -67,20 +67,9 @@ seek_whole n line packets i b e =
 
 -- ---- packets in parts
 
-flat_more : {X : Type 0} (f : X → List Letter) (xs : List X) (i : ℕ) (d : X) → i < length xs → flat_map f (take (i + 1) xs) ≡ flat_map f (take i xs) ++ f (get_or xs i d)
+pub flat_more : {X : Type 0} (f : X → List Letter) (xs : List X) (i : ℕ) (d : X) → i < length xs → flat_map f (take (i + 1) xs) ≡ flat_map f (take i xs) ++ f (get_or xs i d)
 flat_more f xs i d below =
     ap (flat_map f) (take_more xs i d below) ∙ (flat_map-append f (take i xs) (get_or xs i d ∷ []) ∙ ap (λ (ys : List Letter). flat_map f (take i xs) ++ ys) (append-nil (f (get_or xs i d))))
-
-pub parts_more : {X : Type 0} (n line : ℕ) (f : X → List Letter) (xs : List X) (i : ℕ) (d : X) → i < length xs → seek n line (flat_map f (take i xs)) ≡ None
-    → seek n line (flat_map f (take (i + 1) xs)) ≡ seek n line (f (get_or xs i d))
-parts_more n line f xs i d below none =
-    ap (seek n line) (flat_more f xs i d below) ∙ (seek_append n line (flat_map f (take i xs)) (f (get_or xs i d)) ∙ after_none (seek n line (flat_map f (take i xs))) _ none)
-
-pub parts_whole : {X : Type 0} (n line : ℕ) (f : X → List Letter) (xs : List X) (i : ℕ) (b : Body) → seek n line (flat_map f (take i xs)) ≡ Some b → seek n line (flat_map f xs) ≡ Some b
-parts_whole n line f xs i b e =
-    ap (λ ys. seek n line (flat_map f ys)) (sym (take-append-drop i xs)) ∙
-    (ap (seek n line) (flat_map-append f (take i xs) (drop i xs)) ∙
-    (seek_append n line (flat_map f (take i xs)) (flat_map f (drop i xs)) ∙ found_first (seek n line (flat_map f (take i xs))) _ b e))
 
 pub seek_first : (n line : ℕ) (xs ys : List Letter) (b : Body) → seek n line xs ≡ Some b → seek n line (xs ++ ys) ≡ Some b
 seek_first n line xs ys b e = seek_append n line xs ys ∙ found_first (seek n line xs) (seek n line ys) b e

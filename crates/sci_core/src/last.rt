@@ -1,13 +1,12 @@
 //! The last contents of each line, wherever they are.
 
 ghost use Rattle.std.specs.Prelude.{◌≡◌, ◌&&◌, not, ◌<◌, ◌≤◌, ◌%◌, filter, map, option_to_list, Some, None};
-ghost use Rattle.std.specs.List.{flat_map};
 ghost use Rattle.sci_packets.specs.Table.{is_request};
 ghost use Rattle.sci_cache.specs.Held.{state_of};
 ghost use Rattle.sci_cache.specs.Cache.{letter_of};
 ghost use Rattle.sci_core.specs.Sharing.{is_about, answer_in, contents_held};
 
-use crate::lane::Lane;
+use crate::lane::{Lane, LaneKind};
 use crate::node::Node;
 use crate::state::State;
 use sci_cache::Held;
@@ -86,31 +85,6 @@ fn waiting_answer(node: &Node, n: u8, line: u8) -> Option<Body>
     }
 }
 
-/// The first answer to node `n` about a line that waits at one of these nodes.
-pub(crate) fn waiting_among(nodes: &[Node], n: u8, line: u8) -> Option<Body>
-    ensures { result ≡ answer_in
-        (filter (is_about n line) (flat_map (λ part. option_to_list part.waiting) nodes.now)) }
-{
-    for node in nodes {
-        if let Some(body) = waiting_answer(node, n, line) {
-            return Some(body);
-        }
-    }
-    None
-}
-
-/// The first answer to node `n` about a line that is in one of these lanes.
-pub(crate) fn carried_among(lanes: &[Lane], n: u8, line: u8) -> Option<Body>
-    ensures { result ≡ answer_in (filter (is_about n line) (flat_map (λ lane. lane) lanes.now)) }
-{
-    for lane in lanes {
-        if let Some(body) = lane.answer_to(n, line) {
-            return Some(body);
-        }
-    }
-    None
-}
-
 impl Lane {
     ghost use Rattle.std.specs.Prelude.{◌≡◌, filter};
     ghost use Rattle.sci_core.specs.Sharing.{is_about, answer_in};
@@ -128,23 +102,58 @@ impl Lane {
 }
 
 impl State {
-    ghost use Rattle.std.specs.Prelude.{◌≡◌, ◌<◌, ℕ, None, IfSome};
+    ghost use Rattle.std.specs.Prelude.{◌≡◌, ◌<◌, ◌++◌, ℕ, None, IfSome, filter, option_to_list};
+    ghost use Rattle.sci_core.specs.declared.lane.LaneKind.TheVariants.{Answers};
+    ghost use Rattle.sci_core.specs.Core.{lane_of, node_at};
     ghost use Rattle.sci_core.specs.WellFormed.{IsWellFormed};
     ghost use Rattle.sci_core.specs.Shape.{IsAuthority};
-    ghost use Rattle.sci_core.specs.Sharing.{authority_contents, sharer_of, home_at, last_at as last_at_of};
+    ghost use Rattle.sci_core.specs.Sharing.{answer_in, answer_to as answer_to_of, authority_contents, is_about, sharer_of, home_at, last_at as last_at_of};
+    ghost use Rattle.sci_core.specs.Tidy.{IsTidy};
     ghost use Rattle.sci_home.specs.Serving.{current_of};
+
+    /// The answer that is under way from one node to node `n` about a line: one that waits there, or one in the lane.
+    fn answer_from(&self, from: u8, n: u8, line: u8) -> Option<Body>
+        requires from { from < self.now.size.nodes }
+        requires n { n < self.now.size.nodes }
+        ensures { result ≡ answer_in (filter (is_about n line)
+            (option_to_list (node_at self.now from).waiting ++ lane_of self.now Answers from n)) }
+    {
+        match waiting_answer(self.node(from), n, line) {
+            Some(body) => Some(body),
+            None => self.lane(LaneKind::Answers, from, n).answer_to(n, line),
+        }
+    }
+
+    /// The answer that is under way to node `n` about a line, from whichever node.
+    pub(crate) fn answer_to(&self, n: u8, line: u8) -> Option<Body>
+        requires well { IsWellFormed self.now }
+        requires tidy { IsTidy self.now }
+        requires n { n < self.now.size.nodes }
+        requires line { line < self.now.size.lines }
+        ensures { result ≡ answer_to_of self.now n line }
+    {
+        for from in 0..self.nodes() {
+            if let Some(body) = self.answer_from(from, n, line) {
+                return Some(body);
+            }
+        }
+        None
+    }
 
     /// The contents of a line in node `n`, if it is the one that may change the line or is about to. The
     /// caller sees to it that there are such a node and such a line.
     fn authority(&self, line: u8, n: u8) -> Option<Stamped>
         requires well { IsWellFormed self.now }
+        requires tidy { IsTidy self.now }
         requires n { n < self.now.size.nodes }
         requires line { line < self.now.size.lines }
         ensures { result ≡ authority_contents (sharer_of self.now line n) }
     {
         match self.node(n).held(line) {
-            // These have no contents of their own, whatever is under way: no packet is looked at.
+            // These have no contents of their own, or await no answer: no packet is looked at.
             Held::Out(_) | Held::Below(_) => None,
+            Held::Head(state) => Some(state.contents),
+            Held::FreshHead(state) => Some(state.contents),
             held => {
                 let answer = self.answer_to(n, line);
                 authority(held, &answer)
@@ -155,6 +164,7 @@ impl State {
     /// The first node that may change a line or is about to. The caller sees to it that there is such a line.
     pub(crate) fn first_authority(&self, line: u8) -> Option<u8>
         requires well { IsWellFormed self.now }
+        requires tidy { IsTidy self.now }
         requires line { line < self.now.size.lines }
         ensures here { IfSome result (λ n. n < self.now.size.nodes) }
         ensures found { IfSome result (IsAuthority self.now line) }
@@ -186,6 +196,7 @@ impl State {
     /// caller sees to it that there is such a line.
     pub(crate) fn last_at(&self, line: u8) -> Stamped
         requires well { IsWellFormed self.now }
+        requires tidy { IsTidy self.now }
         requires line { line < self.now.size.lines }
         ensures { result ≡ last_at_of self.now line }
     {

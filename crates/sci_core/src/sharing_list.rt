@@ -65,6 +65,7 @@ impl State {
     ghost use Rattle.sci_core.specs.Shape.{HasShape};
     ghost use Rattle.sci_core.specs.Sharing.{home_at};
     ghost use Rattle.sci_core.specs.SharingList.{IsSharingList, link_at};
+    ghost use Rattle.sci_core.specs.Tidy.{IsTidy};
     ghost use Rattle.sci_core.specs.WellFormed.{IsWellFormed};
 
     /// The head of a line's list, or None if the home has the line alone. The caller sees to it that there is such a
@@ -84,6 +85,7 @@ impl State {
     /// such a node and such a line, and that the node is a member.
     fn behind(&self, line: u8, n: u8) -> Option<NodeId>
         requires well { IsWellFormed self.now }
+        requires tidy { IsTidy self.now }
         requires n { n < self.now.size.nodes }
         requires line { line < self.now.size.lines }
         requires member { link_at self.now line n ≡ None → ⊥ }
@@ -107,6 +109,7 @@ impl State {
     /// The list of a line. The caller sees to it that there is such a line. Refused if memory is.
     pub(crate) fn sharing_list(&self, alloc: Global, line: u8) -> Result<Vec<u8>, AllocError>
         requires well { IsWellFormed self.now }
+        requires tidy { IsTidy self.now }
         requires shape { HasShape self.now line }
         requires line { line < self.now.size.lines }
         ensures { IfOk result (λ nodes. IsSharingList self.now line nodes.items) }

@@ -1,7 +1,6 @@
 //! The state of a machine: its nodes and its lanes, and how one of them changes.
 
 use crate::lane::{Lane, LaneKind};
-use crate::last::{carried_among, waiting_among};
 use crate::node::Node;
 use sci_packets::{Body, Packet};
 use sci_words::Extent;
@@ -34,7 +33,6 @@ impl State {
     ghost use Rattle.sci_core.specs.Node.{NodeOf};
     ghost use Rattle.sci_core.specs.Core.{core_of, lane_place, lane_of, with_lane, with_sent, node_at, opening, HasSize};
     ghost use Rattle.sci_core.specs.Size.{size_of};
-    ghost use Rattle.sci_core.specs.Sharing.{answer_to as answer_to_of};
 
     /// Where a lane stands among all: in the order of kinds, then of senders, then of receivers.
     fn place(&self, kind: LaneKind, from: usize, to: usize) -> usize
@@ -184,15 +182,5 @@ impl State {
     {
         let place = self.place(kind, usize::from(from), usize::from(to));
         let _taken = self.lanes[place].take();
-    }
-
-    /// The answer that is under way to node `n` about a line: one that waits to be sent, or one in a lane.
-    pub(crate) fn answer_to(&self, n: u8, line: u8) -> Option<Body>
-        ensures { result ≡ answer_to_of self.now n line }
-    {
-        match waiting_among(&self.nodes, n, line) {
-            Some(body) => Some(body),
-            None => carried_among(&self.lanes, n, line),
-        }
     }
 }

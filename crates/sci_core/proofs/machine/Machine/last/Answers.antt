@@ -1,4 +1,4 @@
--- A reached state is well formed, and all lines are read off it.
+-- A reached state is well formed and tidy, and all lines are read off it.
 use Rattle.std.proofs.Common.{◌≡◌, List, length, ap, sym, subst, ◌∙◌, arith}
 use Rattle.std.proofs.lemmas.List.FromFn.{fill_by_all, length-map-range_with_len}
 use Rattle.sci_words.specs.declared.stamped.Stamped.{Stamped}
@@ -9,11 +9,15 @@ use Rattle.sci_core.specs.Core.{Core}
 use Rattle.sci_core.specs.Outcome.{logs_of}
 use Rattle.sci_core.specs.Sharing.{last_at, last_of}
 use Rattle.sci_core.proofs.WellFormedSteps.{reached_well}
+use Rattle.sci_core.proofs.TidyRuns.{reached_tidy}
 use Rattle.sci_core.proofs.ReachedLaws.{reached_consistent, reached_lawful}
 use Rattle.sci_core.proofs.machine.Machine.last.Goals as goal
 
 pub last_at-requires-clause-well : goal.last_at-requires-clause-well
 last_at-requires-clause-well c = reached_well c.self.inside.state c.self.invariant
+
+pub last_at-requires-clause-tidy : goal.last_at-requires-clause-tidy
+last_at-requires-clause-tidy c = reached_tidy c.self.inside.state c.self.invariant
 
 pub returns-clause-last : goal.returns-clause-last
 returns-clause-last c =

@@ -1,12 +1,16 @@
--- A reached state is well formed, and each of its lines has its shape.
+-- A reached state is well formed and tidy, and each of its lines has its shape.
 use Rattle.std.proofs.Common.{◌<◌, subst, sym}
 use Rattle.sci_core.specs.Core.{Core}
 use Rattle.sci_core.proofs.WellFormedSteps.{reached_well}
+use Rattle.sci_core.proofs.TidyRuns.{reached_tidy}
 use Rattle.sci_core.proofs.ReachedLaws.{reached_shapes}
 use Rattle.sci_core.proofs.machine.Machine.sharing_list.Goals as goal
 
 pub sharing_list-requires-clause-well : goal.sharing_list-requires-clause-well
 sharing_list-requires-clause-well c = reached_well c.self.inside.state c.self.invariant
+
+pub sharing_list-requires-clause-tidy : goal.sharing_list-requires-clause-tidy
+sharing_list-requires-clause-tidy c = reached_tidy c.self.inside.state c.self.invariant
 
 pub sharing_list-requires-clause-shape : goal.sharing_list-requires-clause-shape
 sharing_list-requires-clause-shape c =

@@ -1,16 +1,11 @@
--- What waits is looked at before what is carried.
-use Rattle.std.proofs.Common.{ap, ◌∙◌}
-use Rattle.sci_core.specs.Core.{Core}
-use Rattle.sci_core.proofs.LastContents.{found_waiting, found_carried}
+-- The first that is found is the only one.
+use Rattle.std.proofs.Common.{sym, ◌∙◌, arith}
+use Rattle.sci_core.proofs.Answering.{found_from, none_from}
 use Rattle.sci_core.proofs.state.State.answer_to.Goals as goal
 
 pub returns-in-Some : goal.returns-in-Some
 returns-in-Some c =
-    let parts = c.deref.ensures.value ∙ ap (λ (core : Core). core.parts) c.self.view_is in
-    found_waiting c.args.self.now c.args.n c.args.line _ c.waiting_among.result c.in-Some.body parts c.waiting_among.ensures c.in-Some.is
+    sym (found_from c.args.self.now c.loop-from.from c.args.n c.args.line c.in-Some.body c.requires.well c.requires.tidy (omega (arith, c.nodes-from-end.ensures.nodes)) c.requires.n c.requires.line (sym c.answer_from.ensures ∙ c.in-Some.is))
 
-pub returns-in-None : goal.returns-in-None
-returns-in-None c =
-    let parts = c.deref.ensures.value ∙ ap (λ (core : Core). core.parts) c.self.view_is in
-    let lanes = c.deref-in-None.ensures.value ∙ ap (λ (core : Core). core.lanes) c.self.view_is in
-    found_carried c.args.self.now c.args.n c.args.line _ _ c.waiting_among.result c.carried_among.result parts lanes c.waiting_among.ensures c.in-None.is c.carried_among.ensures
+pub returns : goal.returns
+returns c = sym (none_from c.args.self.now c.args.n c.args.line c.requires.well c.requires.n (λ k below. c.loop-from.invariant k (omega (arith, c.nodes-from-end.ensures.nodes))))
