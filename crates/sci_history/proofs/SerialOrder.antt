@@ -7,6 +7,7 @@ use Rattle.std.proofs.lemmas.List.Elements.{All-from_recursion, recursion_from_A
 use Rattle.sci_words.specs.declared.limits.TheConstants.{MAX_NODES}
 use Rattle.sci_history.specs.declared.entry.Entry.{Entry}
 use Rattle.sci_words.specs.declared.stamped.Stamped.{Stamped}
+use Rattle.sci_history.specs.Audit.{AreWithin, IsWithin}
 use Rattle.sci_history.specs.Lawful.{Lawful}
 use Rattle.sci_history.specs.Placed.{AreOwn, in_serial_order, log_of, is_on_line, on_line, placed, above_serials, in_order}
 use Rattle.sci_history.specs.Sequential.{AreInProgramOrder, by_serial}
@@ -42,6 +43,10 @@ log_sorted logs node = ap (get_or (by_serial logs) node) (sym none_sorted) ∙ g
 -- each has its own node's entries
 pub own_sorted : (logs : List (List Entry)) → AreOwn logs → AreOwn (by_serial logs)
 own_sorted logs own node = rw (log_sorted logs node) (all_sorted (λ e. e.node ≡ node) (log_of logs node) (own node))
+
+-- and is within the same lines and words
+pub within_sorted : (lines : ℕ) (logs : List (List Entry)) → AreWithin lines logs → AreWithin lines (by_serial logs)
+within_sorted lines logs within node = rw (log_sorted logs node) (all_sorted (IsWithin lines) (log_of logs node) (within node))
 
 -- logs that are sorted one by one
 pub all_logs_sorted : (logs sorted : List (List Entry)) → length sorted ≡ length logs → ((node : ℕ) → node < length logs → log_of sorted node ≡ in_serial_order (log_of logs node)) → sorted ≡ by_serial logs

@@ -11,7 +11,7 @@ ghost use Rattle.sci_words.specs.declared.stamped.Stamped.{Stamped};
 ghost use Rattle.sci_words.specs.Stamped.{zero_stamped};
 ghost use Rattle.sci_history.specs.declared.entry.Entry.{Entry};
 ghost use Rattle.sci_history.specs.declared.verdict.FaultKind.{FaultKind};
-ghost use Rattle.sci_history.specs.Audit.{HasNoFault, IsLineFault};
+ghost use Rattle.sci_history.specs.Audit.{AreWithin, HasNoFault, IsLineFault};
 ghost use Rattle.sci_history.specs.Cycle.{IsCycle};
 ghost use Rattle.sci_history.specs.History.{HasHistory};
 ghost use Rattle.sci_history.specs.declared.order_verdict.Step.{Step};
@@ -142,5 +142,7 @@ pub fn cycles_rule_out_orders()
 pub fn serial_order_is_lawful()
     ensures lawful { (logs : List (List Entry)) (last : List Stamped) → length logs ≡ MAX_NODES → Lawful logs last →
         Lawful (by_serial logs) last }
+    ensures within { (lines : ℕ) (logs : List (List Entry)) → AreWithin lines logs →
+        AreWithin lines (by_serial logs) }
     ensures issued { (logs : List (List Entry)) → AreInProgramOrder logs → by_serial logs ≡ logs }
 {}

@@ -5,20 +5,22 @@ use Rattle.sci_command.specs.declared.outcome.Outcome.TheVariants.{Done, Unlawfu
 use Rattle.sci_command.specs.Input.{IsReadAs}
 use Rattle.sciview.specs.ExplainAnswer.{IsExplanationOf, IsExplainAnswer}
 use Rattle.sciview.specs.OrderAnswer.{IsOrderOf, IsOrderAnswer}
+use Rattle.sciview.specs.declared.order.OrderRequest.{OrderRequest}
+use Rattle.sciview.specs.declared.trace.TraceRequest.{TraceRequest}
 use Rattle.sciview.specs.TraceAnswer.{IsTraceOf, IsTraceAnswer}
 
 -- it is never Refused then
-pub order_answer : (known : Option (List ℕ)) (failed : Bool) (text : List ℕ) (outcome : Outcome) → (outcome ≡ Refused → ⊥) → IsReadAs known failed (λ bytes. IsOrderOf bytes text outcome) → IsOrderAnswer known failed text outcome
-order_answer known failed text Done other h = h
-order_answer known failed text Unlawful other h = h
-order_answer known failed text Refused other h = absurd (other refl)
+pub order_answer : (request : OrderRequest) (known : Option (List ℕ)) (failed : Bool) (text : List ℕ) (outcome : Outcome) → (outcome ≡ Refused → ⊥) → IsReadAs known failed (λ bytes. IsOrderOf request bytes text outcome) → IsOrderAnswer request known failed text outcome
+order_answer request known failed text Done other h = h
+order_answer request known failed text Unlawful other h = h
+order_answer request known failed text Refused other h = absurd (other refl)
 
 pub explain_answer : (known : Option (List ℕ)) (failed : Bool) (text : List ℕ) (outcome : Outcome) → (outcome ≡ Refused → ⊥) → IsReadAs known failed (λ bytes. IsExplanationOf bytes text outcome) → IsExplainAnswer known failed text outcome
 explain_answer known failed text Done other h = h
 explain_answer known failed text Unlawful other h = h
 explain_answer known failed text Refused other h = absurd (other refl)
 
-pub trace_answer : (strict : Bool) (known : Option (List ℕ)) (failed : Bool) (text : List ℕ) (outcome : Outcome) → (outcome ≡ Refused → ⊥) → IsReadAs known failed (λ bytes. IsTraceOf strict bytes text outcome) → IsTraceAnswer strict known failed text outcome
-trace_answer strict known failed text Done other h = h
-trace_answer strict known failed text Unlawful other h = h
-trace_answer strict known failed text Refused other h = absurd (other refl)
+pub trace_answer : (request : TraceRequest) (known : Option (List ℕ)) (failed : Bool) (text : List ℕ) (outcome : Outcome) → (outcome ≡ Refused → ⊥) → IsReadAs known failed (λ bytes. IsTraceOf request bytes text outcome) → IsTraceAnswer request known failed text outcome
+trace_answer request known failed text Done other h = h
+trace_answer request known failed text Unlawful other h = h
+trace_answer request known failed text Refused other h = absurd (other refl)

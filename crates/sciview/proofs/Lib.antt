@@ -1,3 +1,4 @@
+mod Asked
 pub mod Answered
 mod Notes
 mod Sent
@@ -7,3 +8,4 @@ pub mod Outcomes
 pub mod Listed
 pub mod Walks
 pub mod Words
+mod Orders

@@ -9,8 +9,7 @@ use Rattle.sci_core.specs.Core.{Core, step, stepping}
 use Rattle.sci_core.specs.Shape.{IsAuthority}
 use Rattle.sci_core.specs.Sharing.{last_at}
 use Rattle.sci_core.specs.SharingList.{IsSharingList}
-use Rattle.sciview.specs.TraceAnswer.{line_changed}
-use Rattle.sciview.specs.ListsAnswer.{AreListed, IsAuthorityOf, IsListLine, IsListed, authority_text, home_name_text, last_text, line_within, list_text, member_text, place_text}
+use Rattle.sciview.specs.ListsAnswer.{AreListed, IsAuthorityOf, IsListLine, IsListed, authority_text, home_name_text, last_text, listed_line, list_text, member_text, place_text}
 use Rattle.sciview.proofs.Joined.{joined, joined4}
 
 -- ---- the list of a line
@@ -52,19 +51,19 @@ event_listed k line within stepped next old n1 n2 n3 is done e1 e2 list =
 -- ---- events one after another
 
 -- whatever is listed of what is left ends the text
-pub record IsListedTo (start : Core) (events : List Event) (text : List ℕ) (core : Core) (number : ℕ) (left : List Event) : Type 0 where
-  pub ends : (rest : List ℕ) → AreListed core number left rest → AreListed start 2 events (text ++ rest)
+pub record IsListedTo (asked : Option ℕ) (start : Core) (events : List Event) (text : List ℕ) (core : Core) (number : ℕ) (left : List Event) : Type 0 where
+  pub ends : (rest : List ℕ) → AreListed asked core number left rest → AreListed asked start 2 events (text ++ rest)
 
 -- one event more
-pub lists_more : (start : Core) (all : List Event) (text : List ℕ) (core : Core) (number : ℕ) (events : List Event) (k : ℕ) (d : Event) (first : List ℕ) → k < length events
-    → IsListed number (line_within core (line_changed core (get_or events k d))) (stepping core (get_or events k d)) first
-    → IsListedTo start all text core number (drop k events) → IsListedTo start all (text ++ first) (step core (get_or events k d)) (number + 1) (drop (k + 1) events)
-lists_more start all text core number events k d first lt is was = record {
+pub lists_more : (asked : Option ℕ) (start : Core) (all : List Event) (text : List ℕ) (core : Core) (number : ℕ) (events : List Event) (k : ℕ) (d : Event) (first : List ℕ) → k < length events
+    → IsListed number (listed_line asked core (get_or events k d)) (stepping core (get_or events k d)) first
+    → IsListedTo asked start all text core number (drop k events) → IsListedTo asked start all (text ++ first) (step core (get_or events k d)) (number + 1) (drop (k + 1) events)
+lists_more asked start all text core number events k d first lt is was = record {
   ends = λ (rest : List ℕ) listed.
-      subst (AreListed start 2 all) (sym (append_assoc text first rest)) (was.ends (first ++ rest) (subst (λ (left : List Event). AreListed core number left (first ++ rest)) (sym (drop_more events k d lt)) (first, (rest, (is, (listed, refl))))));
+      subst (AreListed asked start 2 all) (sym (append_assoc text first rest)) (was.ends (first ++ rest) (subst (λ (left : List Event). AreListed asked core number left (first ++ rest)) (sym (drop_more events k d lt)) (first, (rest, (is, (listed, refl))))));
 }
 
 -- no event more
-pub lists_all : (start : Core) (all : List Event) (text : List ℕ) (core : Core) (number : ℕ) (events : List Event) (k : ℕ) → length events ≤ k → IsListedTo start all text core number (drop k events) → AreListed start 2 all text
-lists_all start all text core number events k past was =
-    subst (AreListed start 2 all) (append-nil text) (was.ends [] (subst (λ (left : List Event). AreListed core number left []) (sym (drop_all k events past)) refl))
+pub lists_all : (asked : Option ℕ) (start : Core) (all : List Event) (text : List ℕ) (core : Core) (number : ℕ) (events : List Event) (k : ℕ) → length events ≤ k → IsListedTo asked start all text core number (drop k events) → AreListed asked start 2 all text
+lists_all asked start all text core number events k past was =
+    subst (AreListed asked start 2 all) (append-nil text) (was.ends [] (subst (λ (left : List Event). AreListed asked core number left []) (sym (drop_all k events past)) refl))

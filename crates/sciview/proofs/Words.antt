@@ -1,9 +1,12 @@
 -- The words of a walk, from the words of its numbers and those of its share.
 use Rattle.std.proofs.Common.{◌≡◌, ◌↔◌, ◌<◌, ◌^◌, ℕ, arith, length, get_or, IfSome, List, [], ◌∷◌, ◌++◌, map, take, drop, Option, Some, None, sym, ap, ◌∙◌, refl, subst}
 use Rattle.std.proofs.lemmas.List.{take-map, drop-map, take-append-drop, map-append}
+use Rattle.std.specs.Prelude.{codes, Bool, true, false, option_map}
+use Rattle.sciview.specs.declared.trace.TraceRequest.{TraceRequest}
+use Rattle.sci_words.specs.declared.limits.TheConstants.{MAX_LINES}
 use Rattle.sci_text.specs.Number.{number}
 use Rattle.sciview.specs.declared.random.Walk.{Walk}
-use Rattle.sciview.specs.Choice.{FitsDead, FitsWalk, dead_words, walk_words}
+use Rattle.sciview.specs.Choice.{ChoosesTrace, FitsDead, FitsLine, FitsWalk, dead_words, flag, line_words, walk_words}
 
 -- the words are those of the first five and those of the rest
 parts : {X : Type 0} (f : X → List ℕ) (words : List X) → map f words ≡ map f (take 5 words) ++ map f (drop 5 words)
@@ -85,3 +88,55 @@ five_said f words d n0 n1 n2 n3 n4 s0 s1 s2 s3 s4 long i0 i1 i2 i3 i4 e0 e1 e2 e
           let a4 = agree s4 (f (get_or words 4 d)) n4 walk.seed i4 e4 (ap (λ (l : List (List ℕ)). get_or l 4 []) whole) said.1.seed_fits in
           rw (a0, a1, a2, a3, a4) refl,
     )
+
+-- ---- the line that two words say
+
+two : {X : Type 0} (f : X → List ℕ) (words : List X) (d : X) → length words ≡ 2 → map f words ≡ f (get_or words 0 d) ∷ f (get_or words 1 d) ∷ []
+two f [] d long = absurd (omega arith)
+two f (a ∷ []) d long = absurd (omega arith)
+two f (a ∷ b ∷ []) d long = refl
+two f (a ∷ b ∷ c ∷ rest) d long = absurd (omega arith)
+
+pub line_said : {X : Type 0} (f : X → List ℕ) (words : List X) (d : X) (said : Option ℕ) (there : ℕ) → length words ≡ 2 → f (get_or words 0 d) ≡ codes "--line" → said ≡ Some there
+    → ((line : ℕ) → (said ≡ Some line) ↔ ((f (get_or words 1 d) ≡ number line) × (line < MAX_LINES)))
+    → (line : Option ℕ) → (let one : Option (Option ℕ) = Some (Some there) in one ≡ Some line) ↔ ((map f words ≡ line_words line) × FitsLine line)
+unfolding line_words
+line_said f words d said there long first is says None =
+    let none : map f words ≡ [] → ⊥ = λ e. let l = ap (λ (ws : List (List ℕ)). length ws) (sym (two f words d long) ∙ e) in absurd (omega arith) in
+    (λ same. absurd (cc), λ h. absurd (none h.0))
+line_said f words d said there long first is says (Some line) = (
+  λ same. let h = (says line).0 (let e : said ≡ Some line = cc in e) in (two f words d long ∙ rw (first, h.0) refl, h.1),
+  λ h. let word : f (get_or words 1 d) ≡ number line = ap (λ (ws : List (List ℕ)). get_or ws 1 []) (sym (two f words d long) ∙ h.0) in let e = (says line).1 (word, h.1) in cc,
+)
+
+-- ---- words without `--strict`
+
+abbrev first : List (List ℕ) → List ℕ
+first [] = []
+first (word ∷ rest) = word
+
+-- words that say a line, or nothing, don't begin with it
+no_strict : (words : List (List ℕ)) (there line : Option ℕ) → words ≡ line_words there → words ≡ codes "--strict" ∷ line_words line → ⊥
+unfolding line_words
+no_strict words None line a b = let long = ap (λ (ws : List (List ℕ)). length ws) (sym a ∙ b) in absurd (omega arith)
+no_strict words (Some n) line a b = let same : codes "--line" ≡ codes "--strict" = ap first (sym a ∙ b) in absurd (cc)
+
+abbrev plain : Option ℕ → TraceRequest
+plain line = record { strict = false; line = line }
+
+abbrev line_of : Option TraceRequest → Option (Option ℕ)
+line_of None = None
+line_of (Some request) = Some request.line
+
+abbrev strict_of : Option TraceRequest → Option Bool
+strict_of None = None
+strict_of (Some request) = Some request.strict
+
+not_strict : (words : List (List ℕ)) (said : Option (Option ℕ)) (there : Option ℕ) → said ≡ Some there → ((line : Option ℕ) → (said ≡ Some line) ↔ ((words ≡ line_words line) × FitsLine line)) → (strict : Bool) (line : Option ℕ)
+    → (let one : Option TraceRequest = Some record { strict = false; line = there } in one ≡ Some record { strict = strict; line = line }) ↔ ((words ≡ flag (codes "--strict") strict ++ line_words line) × FitsLine line)
+not_strict words said there is says false line = (λ same. (says line).0 (is ∙ ap line_of same), λ h. ap (option_map plain) (sym is ∙ (says line).1 h))
+not_strict words said there is says true line = (λ same. let apart : Some false ≡ Some true = ap strict_of same in absurd (cc), λ h. absurd (no_strict words there line ((says there).0 is).0 h.0))
+
+pub line_alone : (words : List (List ℕ)) (said : Option (Option ℕ)) (there : Option ℕ) → said ≡ Some there → ((line : Option ℕ) → (said ≡ Some line) ↔ ((words ≡ line_words line) × FitsLine line)) → (request : TraceRequest)
+    → (let one : Option TraceRequest = Some record { strict = false; line = there } in one ≡ Some request) ↔ ChoosesTrace words request
+line_alone words said there is says request = not_strict words said there is says request.strict request.line

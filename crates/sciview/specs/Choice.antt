@@ -1,15 +1,49 @@
 -- The words of a command line.
-use Rattle.std.specs.Prelude.{◌≡◌, ◌<◌, ◌^◌, ◌++◌, ◌⊎◌, ℕ, List, [], ◌∷◌, codes, Option, Some, None, true, false}
+use Rattle.std.specs.Prelude.{◌≡◌, ◌<◌, ◌^◌, ◌++◌, ◌⊎◌, ℕ, Bool, List, [], ◌∷◌, codes, Option, Some, None, true, false}
 use Rattle.sci_words.specs.declared.limits.TheConstants.{MAX_LINES}
 use Rattle.sci_text.specs.Number.{number}
+use Rattle.sciview.specs.declared.order.NodeOrder.{NodeOrder}
+use Rattle.sciview.specs.declared.order.NodeOrder.TheVariants.{Logged, BySerial}
+use Rattle.sciview.specs.declared.order.OrderRequest.{OrderRequest}
 use Rattle.sciview.specs.declared.random.Walk.{Walk}
+use Rattle.sciview.specs.declared.trace.TraceRequest.{TraceRequest}
 use Rattle.sciview.specs.declared.choice.Command.{Command}
 use Rattle.sciview.specs.declared.choice.Command.TheVariants.{Order, Explain, Packets, Trace, Lists, Chart, Random, Help, Version}
 
--- `chart` alone, for all lines, or with a line
-abbrev pub ChoosesChart : List (List ℕ) → Option ℕ → Type 0
-ChoosesChart words None = words ≡ codes "chart" ∷ []
-ChoosesChart words (Some line) = (words ≡ codes "chart" ∷ codes "--line" ∷ number line ∷ []) × (line < MAX_LINES)
+-- an option that is one word, if it is given
+abbrev pub flag : List ℕ → Bool → List (List ℕ)
+flag word false = []
+flag word true = word ∷ []
+
+-- the words that say a line, if one is asked for
+unfoldable pub line_words : Option ℕ → List (List ℕ)
+line_words None = []
+line_words (Some line) = codes "--line" ∷ number line ∷ []
+
+-- a line that some machine has
+abbrev pub FitsLine : Option ℕ → Type 0
+FitsLine None = Unit {0}
+FitsLine (Some line) = line < MAX_LINES
+
+-- options stand in either order
+abbrev pub AreOptions : List (List ℕ) → List (List ℕ) → List (List ℕ) → Type 0
+AreOptions words a b = (words ≡ a ++ b) ⊎ (words ≡ b ++ a)
+
+-- what stands behind `order`
+abbrev pub asks_serials : NodeOrder → Bool
+asks_serials Logged = false
+asks_serials BySerial = true
+
+abbrev pub ChoosesOrder : List (List ℕ) → OrderRequest → Type 0
+ChoosesOrder words request = AreOptions words (flag (codes "--by-serial") (asks_serials request.keeps)) (flag (codes "--show") request.shows)
+
+-- what stands behind `trace`
+abbrev pub ChoosesTrace : List (List ℕ) → TraceRequest → Type 0
+ChoosesTrace words request = (words ≡ flag (codes "--strict") request.strict ++ line_words request.line) × FitsLine request.line
+
+-- what stands behind `lists`, and behind `chart`
+abbrev pub ChoosesLine : List (List ℕ) → Option ℕ → Type 0
+ChoosesLine words line = (words ≡ line_words line) × FitsLine line
 
 -- the words of a walk
 unfoldable pub walk_words : Walk → List (List ℕ)
@@ -37,15 +71,19 @@ FitsDead (Some share) = share < 2 ^ 64
 abbrev pub ChoosesWalk : List (List ℕ) → Walk → Option ℕ → Type 0
 ChoosesWalk words walk dead = (words ≡ walk_words walk ++ dead_words dead) × FitsWalk walk × FitsDead dead
 
+-- the first word chooses a command, and those behind it what it is asked for
+abbrev pub ChoosesBy : List ℕ → List (List ℕ) → Command → Type 0
+ChoosesBy word rest (Order request) = (word ≡ codes "order") × ChoosesOrder rest request
+ChoosesBy word rest Explain = (word ≡ codes "explain") × (rest ≡ [])
+ChoosesBy word rest Packets = (word ≡ codes "packets") × (rest ≡ [])
+ChoosesBy word rest (Trace request) = (word ≡ codes "trace") × ChoosesTrace rest request
+ChoosesBy word rest (Lists line) = (word ≡ codes "lists") × ChoosesLine rest line
+ChoosesBy word rest (Chart line) = (word ≡ codes "chart") × ChoosesLine rest line
+ChoosesBy word rest (Random walk dead) = (word ≡ codes "random") × ChoosesWalk rest walk dead
+ChoosesBy word rest Help = ((word ≡ codes "--help") ⊎ (word ≡ codes "-h")) × (rest ≡ [])
+ChoosesBy word rest Version = (word ≡ codes "--version") × (rest ≡ [])
+
 -- the words choose the command
 abbrev pub Chooses : List (List ℕ) → Command → Type 0
-Chooses words Order = words ≡ codes "order" ∷ []
-Chooses words Explain = words ≡ codes "explain" ∷ []
-Chooses words Packets = words ≡ codes "packets" ∷ []
-Chooses words (Trace false) = words ≡ codes "trace" ∷ []
-Chooses words (Trace true) = words ≡ codes "trace" ∷ (codes "--strict" ∷ [])
-Chooses words Lists = words ≡ codes "lists" ∷ []
-Chooses words (Chart line) = ChoosesChart words line
-Chooses words (Random walk dead) = (words ≡ codes "random" ∷ (walk_words walk ++ dead_words dead)) × FitsWalk walk × FitsDead dead
-Chooses words Help = (words ≡ codes "--help" ∷ []) ⊎ (words ≡ codes "-h" ∷ [])
-Chooses words Version = words ≡ codes "--version" ∷ []
+Chooses [] command = ⊥
+Chooses (word ∷ rest) command = ChoosesBy word rest command

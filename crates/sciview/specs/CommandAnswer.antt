@@ -15,12 +15,12 @@ use Rattle.sciview.specs.TraceAnswer.{IsTraceAnswer}
 
 -- the text that a command writes, and how it ends, for the bytes of a reader, which has failed or not
 abbrev pub IsAnswerTo : Command → Option (List ℕ) → Bool → List ℕ → Outcome → Type 0
-IsAnswerTo commands.Order input failed text outcome = IsOrderAnswer input failed text outcome
+IsAnswerTo (commands.Order request) input failed text outcome = IsOrderAnswer request input failed text outcome
 IsAnswerTo commands.Explain input failed text outcome = IsExplainAnswer input failed text outcome
 IsAnswerTo commands.Packets input failed text outcome = IsPacketsAnswer input failed text outcome
-IsAnswerTo (commands.Trace strict) input failed text outcome = IsTraceAnswer strict input failed text outcome
-IsAnswerTo commands.Lists input failed text outcome = IsListsAnswer input failed text outcome
-IsAnswerTo (commands.Chart line) input failed text outcome = IsChartAnswer input failed text outcome
+IsAnswerTo (commands.Trace request) input failed text outcome = IsTraceAnswer request input failed text outcome
+IsAnswerTo (commands.Lists line) input failed text outcome = IsListsAnswer line input failed text outcome
+IsAnswerTo (commands.Chart line) input failed text outcome = IsChartAnswer line input failed text outcome
 IsAnswerTo (commands.Random walk dead) input failed text outcome = IsRandomAnswer walk dead text outcome
 IsAnswerTo commands.Help input failed text outcome = (text ≡ HELP.now) × (outcome ≡ Done)
 IsAnswerTo commands.Version input failed text outcome = (text ≡ VERSION.now) × (outcome ≡ Done)

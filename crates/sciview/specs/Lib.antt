@@ -1,3 +1,4 @@
+pub mod AskedLine
 pub mod ChartAnswer
 pub mod Choice
 pub mod CommandAnswer

@@ -11,13 +11,12 @@ use Rattle.sci_core.specs.Sharing.{last_at}
 use Rattle.sci_core.specs.SharingList.{IsSharingList}
 use Rattle.sci_text.specs.Number.{number, field}
 use Rattle.sci_text.specs.Schedule.{ScheduleValue, IsSchedule, schedule_text}
-use Rattle.sci_text.specs.FirstFault.{IsTold}
-use Rattle.sci_text.specs.ScheduleFault.{IsScheduleFault}
 use Rattle.sci_command.specs.declared.outcome.Outcome.{Outcome}
 use Rattle.sci_command.specs.declared.outcome.Outcome.TheVariants.{Done, Unlawful, Refused}
 use Rattle.sci_command.specs.Input.{IsReadAs}
 use Rattle.sci_command.specs.PacketLine.{contents_text}
 use Rattle.sci_command.specs.Refusal.{IsRefusalBy}
+use Rattle.sciview.specs.AskedLine.{HasLine, IsAskedFault, is_asked}
 use Rattle.sciview.specs.PacketsAnswer.{before}
 use Rattle.sciview.specs.StateWords.{state_name, home_name}
 use Rattle.sciview.specs.TraceAnswer.{line_changed}
@@ -78,21 +77,28 @@ IsListed k None next text = text ≡ []
 IsListed k (Some line) None text = text ≡ []
 IsListed k (Some line) (Some next) text = (list : List ℕ) × IsListLine next line list × (text ≡ place_text k line ++ (codes ": " ++ list))
 
--- the lists behind each event, in the state to which it leads
-abbrev pub AreListed : Core → ℕ → List Event → List ℕ → Type 0
-AreListed core k [] text = text ≡ []
-AreListed core k (e ∷ events) text =
-    (first : List ℕ) × ((rest : List ℕ) × (IsListed k (line_within core (line_changed core e)) (stepping core e) first × (AreListed (step core e) (k + 1) events rest × (text ≡ first ++ rest))))
+-- the line of which an event's list is shown: the one that it may change, if that is asked for
+abbrev pub listed_line : Option ℕ → Core → Event → Option ℕ
+listed_line asked core e =
+    if is_asked asked (line_within core (line_changed core e)) then line_within core (line_changed core e) else None
 
--- the input is the text of a schedule, and the lists behind its events are written; the first event stands in line 2
-pub record IsListsOf (input text : List ℕ) : Type 0 where
+-- the lists behind each event, in the state to which it leads
+abbrev pub AreListed : Option ℕ → Core → ℕ → List Event → List ℕ → Type 0
+AreListed asked core k [] text = text ≡ []
+AreListed asked core k (e ∷ events) text =
+    (first : List ℕ) × ((rest : List ℕ) × (IsListed k (listed_line asked core e) (stepping core e) first × (AreListed asked (step core e) (k + 1) events rest × (text ≡ first ++ rest))))
+
+-- The input is the text of a schedule whose machine has the line that is asked for, and the lists behind its events are
+-- written. The first event stands in line 2.
+pub record IsListsOf (asked : Option ℕ) (input text : List ℕ) : Type 0 where
   pub schedule : ScheduleValue
   pub good : IsSchedule schedule
   pub read : input ≡ schedule_text schedule
-  pub written : AreListed (before schedule) 2 schedule.events text
+  pub has : HasLine asked schedule
+  pub written : AreListed asked (before schedule) 2 schedule.events text
 
 -- what `lists` writes, and how it ends, for the bytes of a reader, which has failed or not
-abbrev pub IsListsAnswer : Option (List ℕ) → Bool → List ℕ → Outcome → Type 0
-IsListsAnswer input failed text Done = IsReadAs input failed (λ bytes. IsListsOf bytes text)
-IsListsAnswer input failed text Refused = IsRefusalBy (λ kind line. IsTold IsScheduleFault kind input failed line) text
-IsListsAnswer input failed text Unlawful = ⊥
+abbrev pub IsListsAnswer : Option ℕ → Option (List ℕ) → Bool → List ℕ → Outcome → Type 0
+IsListsAnswer asked input failed text Done = IsReadAs input failed (λ bytes. IsListsOf asked bytes text)
+IsListsAnswer asked input failed text Refused = IsRefusalBy (λ kind line. IsAskedFault asked kind input failed line) text
+IsListsAnswer asked input failed text Unlawful = ⊥

@@ -1,5 +1,5 @@
 -- What `order` writes for its input.
-use Rattle.std.specs.Prelude.{◌≡◌, ◌↔◌, ℕ, Bool, List, [], ◌∷◌, ◌++◌, codes, Option}
+use Rattle.std.specs.Prelude.{◌≡◌, ◌↔◌, ℕ, Bool, List, [], ◌∷◌, ◌++◌, codes, Option, if◌then◌else◌}
 use Rattle.std.specs.List.{flat_map}
 use Rattle.sci_words.specs.declared.stamped.Stamped.{Stamped}
 use Rattle.sci_history.specs.declared.entry.Entry.{Entry}
@@ -7,13 +7,14 @@ use Rattle.sci_history.specs.declared.verdict.Verdict.TheVariants as verdicts
 use Rattle.sci_history.specs.declared.order_verdict.OrderVerdict.{OrderVerdict}
 use Rattle.sci_history.specs.declared.order_verdict.OrderVerdict.TheVariants.{Fault, Order, Cycle}
 use Rattle.sci_history.specs.declared.order_verdict.Reason.{Reason}
-use Rattle.sci_history.specs.declared.order_verdict.Reason.TheVariants.{Logged, ReadsFrom, FromRead, Coherence}
+use Rattle.sci_history.specs.declared.order_verdict.Reason.TheVariants as reasons
 use Rattle.sci_history.specs.declared.order_verdict.Step.{Step}
+use Rattle.sci_history.specs.Audit.{IsFault, entries_of}
 use Rattle.sci_history.specs.Lawful.{Lawful}
 use Rattle.sci_history.specs.Cycle.{IsOrderVerdict}
-use Rattle.sci_history.specs.Sequential.{IsSequentiallyConsistent}
+use Rattle.sci_history.specs.Sequential.{IsSequentiallyConsistent, by_serial}
 use Rattle.sci_text.specs.FirstFault.{IsTold}
-use Rattle.sci_text.specs.Log.{issue_text, outcome_text}
+use Rattle.sci_text.specs.Log.{entry_line, issue_text, outcome_text}
 use Rattle.sci_text.specs.LogFault.{IsLogFault}
 use Rattle.sci_text.specs.LogValue.{IsLogs}
 use Rattle.sci_command.specs.declared.outcome.Outcome.{Outcome}
@@ -21,50 +22,82 @@ use Rattle.sci_command.specs.declared.outcome.Outcome.TheVariants.{Done, Unlawfu
 use Rattle.sci_command.specs.Input.{IsReadAs}
 use Rattle.sci_command.specs.Refusal.{IsRefusalBy}
 use Rattle.sci_command.specs.VerdictLine.{verdict_text}
+use Rattle.sciview.specs.declared.order.NodeOrder.{NodeOrder}
+use Rattle.sciview.specs.declared.order.NodeOrder.TheVariants.{Logged, BySerial}
+use Rattle.sciview.specs.declared.order.OrderRequest.{OrderRequest}
+
+-- each node's entries in the order that is asked for
+abbrev pub kept : NodeOrder → List (List Entry) → List (List Entry)
+kept Logged logs = logs
+kept BySerial logs = by_serial logs
+
+-- ---- texts
+
+-- what the entries of one node stand in
+unfoldable pub order_name : NodeOrder → List ℕ
+order_name Logged = codes "log order"
+order_name BySerial = codes "program order"
 
 -- why an entry comes after another
-unfoldable pub reason_text : Reason → List ℕ
-reason_text Logged = codes "log order"
-reason_text ReadsFrom = codes "write before read"
-reason_text FromRead = codes "read before write"
-reason_text Coherence = codes "version order"
+unfoldable pub reason_text : NodeOrder → Reason → List ℕ
+reason_text keeps reasons.Logged = order_name keeps
+reason_text keeps reasons.ReadsFrom = codes "write before read"
+reason_text keeps reasons.FromRead = codes "read before write"
+reason_text keeps reasons.Coherence = codes "version order"
 
 -- an entry of a cycle, why it comes after the one on the next line, and the line feed
-unfoldable pub step_text : Step → List ℕ
-step_text step = (issue_text step.entry ++ outcome_text step.entry) ++ (codes " comes after the next: " ++ (reason_text step.reason ++ 10 ∷ []))
+unfoldable pub step_text : NodeOrder → Step → List ℕ
+step_text keeps step = (issue_text step.entry ++ outcome_text step.entry) ++ (codes " comes after the next: " ++ (reason_text keeps step.reason ++ 10 ∷ []))
 
--- that logs aren't sequentially consistent, and the entries of a cycle
-abbrev pub cycle_text : List Step → List ℕ
-cycle_text steps = (codes "not sequentially consistent" ++ 10 ∷ []) ++ flat_map step_text steps
+-- whether logs are sequentially consistent, and in which sense
+unfoldable pub sense_text : NodeOrder → List ℕ
+sense_text Logged = codes "sequentially consistent"
+sense_text BySerial = codes "sequentially consistent in program order"
 
--- that there is an order
-abbrev pub consistent_text : List ℕ
-consistent_text = codes "sequentially consistent" ++ 10 ∷ []
+-- that there is no order, and the entries of a cycle
+unfoldable pub cycle_text : NodeOrder → List Step → List ℕ
+cycle_text keeps steps = codes "not " ++ (sense_text keeps ++ (10 ∷ [] ++ flat_map (step_text keeps) steps))
 
--- the fault of logs that aren't lawful; that there is an order; or a cycle
-abbrev pub order_text : OrderVerdict → List ℕ
-order_text (Fault line kind at) = verdict_text (verdicts.Fault line kind at)
-order_text (Order order) = consistent_text
-order_text (Cycle steps) = cycle_text steps.items
+-- the entries of an order, a line each, if they are asked for
+unfoldable pub shown_text : Bool → List Entry → List ℕ
+shown_text shows order = if shows then flat_map entry_line order else []
 
--- what a look for an order finds is written; it is Done exactly if the logs are lawful and sequentially consistent
-pub record IsFound (logs : List (List Entry)) (last : List Stamped) (text : List ℕ) (outcome : Outcome) : Type 0 where
+-- that there is an order, and its entries
+unfoldable pub found_text : OrderRequest → List Entry → List ℕ
+found_text request order = sense_text request.keeps ++ (10 ∷ [] ++ shown_text request.shows order)
+
+-- the fault of logs that aren't lawful; an order; or a cycle
+abbrev pub order_text : OrderRequest → OrderVerdict → List ℕ
+order_text request (Fault line kind at) = verdict_text (verdicts.Fault line kind at)
+order_text request (Order order) = found_text request (entries_of order.items)
+order_text request (Cycle steps) = cycle_text request.keeps steps.items
+
+-- ---- the answer
+
+-- the fault of logs that aren't lawful, or else what a search for an order of these finds, each node's entries in the order that is asked for
+abbrev pub IsVerdictOf : NodeOrder → List (List Entry) → List Stamped → OrderVerdict → Type 0
+IsVerdictOf keeps logs last (Fault line kind at) = IsFault logs last line kind at
+IsVerdictOf keeps logs last (Order order) = Lawful logs last × IsOrderVerdict (kept keeps logs) last (Order order)
+IsVerdictOf keeps logs last (Cycle steps) = Lawful logs last × IsOrderVerdict (kept keeps logs) last (Cycle steps)
+
+-- what a search for an order finds is written; it is Done exactly if the logs are lawful and there is such an order
+pub record IsFound (request : OrderRequest) (logs : List (List Entry)) (last : List Stamped) (text : List ℕ) (outcome : Outcome) : Type 0 where
   pub verdict : OrderVerdict
-  pub found : IsOrderVerdict logs last verdict
-  pub written : text ≡ order_text verdict
+  pub found : IsVerdictOf request.keeps logs last verdict
+  pub written : text ≡ order_text request verdict
   pub judged : outcome ≡ Refused → ⊥
-  pub ends : (outcome ≡ Done) ↔ (Lawful logs last × IsSequentiallyConsistent logs last)
+  pub ends : (outcome ≡ Done) ↔ (Lawful logs last × IsSequentiallyConsistent (kept request.keeps logs) last)
 
 -- the input is the text of logs with last contents, and what is found of them is written
-pub record IsOrderOf (input text : List ℕ) (outcome : Outcome) : Type 0 where
+pub record IsOrderOf (request : OrderRequest) (input text : List ℕ) (outcome : Outcome) : Type 0 where
   pub nodes : ℕ
   pub logs : List (List Entry)
   pub last : List Stamped
   pub read : IsLogs input nodes logs last
-  pub found : IsFound logs last text outcome
+  pub found : IsFound request logs last text outcome
 
 -- what `order` writes, and how it ends, for the bytes of a reader, which has failed or not
-abbrev pub IsOrderAnswer : Option (List ℕ) → Bool → List ℕ → Outcome → Type 0
-IsOrderAnswer input failed text Done = IsReadAs input failed (λ bytes. IsOrderOf bytes text Done)
-IsOrderAnswer input failed text Unlawful = IsReadAs input failed (λ bytes. IsOrderOf bytes text Unlawful)
-IsOrderAnswer input failed text Refused = IsRefusalBy (λ kind line. IsTold IsLogFault kind input failed line) text
+abbrev pub IsOrderAnswer : OrderRequest → Option (List ℕ) → Bool → List ℕ → Outcome → Type 0
+IsOrderAnswer request input failed text Done = IsReadAs input failed (λ bytes. IsOrderOf request bytes text Done)
+IsOrderAnswer request input failed text Unlawful = IsReadAs input failed (λ bytes. IsOrderOf request bytes text Unlawful)
+IsOrderAnswer request input failed text Refused = IsRefusalBy (λ kind line. IsTold IsLogFault kind input failed line) text

@@ -13,13 +13,13 @@ use Rattle.sci_core.specs.Obstacles.{obstacle_to}
 use Rattle.sci_text.specs.Number.{number, field}
 use Rattle.sci_text.specs.Log.{issue_text, outcome_text}
 use Rattle.sci_text.specs.Schedule.{ScheduleValue, IsSchedule, event_line, schedule_text}
-use Rattle.sci_text.specs.FirstFault.{IsTold}
-use Rattle.sci_text.specs.ScheduleFault.{IsScheduleFault}
 use Rattle.sci_command.specs.declared.outcome.Outcome.{Outcome}
 use Rattle.sci_command.specs.declared.outcome.Outcome.TheVariants.{Done, Unlawful, Refused}
 use Rattle.sci_command.specs.Input.{IsReadAs}
 use Rattle.sci_command.specs.PacketLine.{line_of_packet}
 use Rattle.sci_command.specs.Refusal.{IsRefusalBy}
+use Rattle.sciview.specs.declared.trace.TraceRequest.{TraceRequest}
+use Rattle.sciview.specs.AskedLine.{HasLine, IsAskedFault, is_asked}
 use Rattle.sciview.specs.PacketsAnswer.{before, letter_sent}
 use Rattle.sciview.specs.StateWords.{state_text, home_text}
 use Rattle.sciview.specs.ObstacleWords.{line_named, obstacle_words}
@@ -153,38 +153,62 @@ outcome_of core e (Some next) = effect_text core next e
 unfoldable pub event_text : Core → ℕ → Event → List ℕ
 event_text core k e = number k ++ (codes ": " ++ (event_line e ++ outcome_of core e (stepping core e)))
 
+-- ---- the events that are asked for
+
+-- the line that an event is about: the one that it names, or else that of the packet which it takes or sends
+abbrev pub line_about : Core → Event → Option ℕ
+line_about core (event.Issue n op) = Some op.line
+line_about core (event.Reply n) = line_in core (letter_sent core (event.Reply n))
+line_about core (event.Perform n line) = Some line
+line_about core (event.Ask n line kind) = Some line
+line_about core (event.Serve from n) = line_in core (front_of core Requests from n)
+line_about core (event.Refuse from n) = line_in core (front_of core Requests from n)
+line_about core (event.Accept from n) = line_in core (front_of core Answers from n)
+
+-- whether an event is traced
+abbrev pub is_traced : TraceRequest → Core → Event → Bool
+is_traced request core e = is_asked request.line (line_about core e)
+
 -- ---- events one after another
 
--- whether nothing of a trace comes behind this event
+-- whether nothing of a trace comes behind this event, which is traced
 abbrev pub is_end : Bool → Core → Event → Bool
 is_end strict core e = strict && is_none (stepping core e)
 
--- each event in the state to which those before it lead; a strict trace ends with the first that isn't enabled
-abbrev pub trace_text : Bool → Core → ℕ → List Event → List ℕ
-trace_text strict core k [] = []
-trace_text strict core k (e ∷ events) = event_text core k e ++ (if is_end strict core e then [] else trace_text strict (step core e) (k + 1) events)
+-- each event that is asked for, in the state to which all before it lead; a strict trace ends with the first of them that
+-- isn't enabled
+abbrev pub trace_text : TraceRequest → Core → ℕ → List Event → List ℕ
+trace_text request core k [] = []
+trace_text request core k (e ∷ events) =
+    if is_traced request core e
+    then event_text core k e ++ (if is_end request.strict core e then [] else trace_text request (step core e) (k + 1) events)
+    else trace_text request (step core e) (k + 1) events
 
--- a strict trace is Unlawful if an event isn't enabled
-abbrev pub trace_outcome : Bool → Core → List Event → Outcome
-trace_outcome strict core [] = Done
-trace_outcome strict core (e ∷ events) = if is_end strict core e then Unlawful else trace_outcome strict (step core e) events
+-- a strict trace is Unlawful if one of its events isn't enabled
+abbrev pub trace_outcome : TraceRequest → Core → List Event → Outcome
+trace_outcome request core [] = Done
+trace_outcome request core (e ∷ events) =
+    if is_traced request core e
+    then (if is_end request.strict core e then Unlawful else trace_outcome request (step core e) events)
+    else trace_outcome request (step core e) events
 
 -- ---- the answer
 
 -- the trace of a schedule, whose first event stands in line 2 of its text
-pub record IsTrace (strict : Bool) (schedule : ScheduleValue) (text : List ℕ) (outcome : Outcome) : Type 0 where
-  pub written : text ≡ trace_text strict (before schedule) 2 schedule.events
-  pub ends : outcome ≡ trace_outcome strict (before schedule) schedule.events
+pub record IsTrace (request : TraceRequest) (schedule : ScheduleValue) (text : List ℕ) (outcome : Outcome) : Type 0 where
+  pub written : text ≡ trace_text request (before schedule) 2 schedule.events
+  pub ends : outcome ≡ trace_outcome request (before schedule) schedule.events
 
--- the input is the text of a schedule, and its trace is written
-pub record IsTraceOf (strict : Bool) (input text : List ℕ) (outcome : Outcome) : Type 0 where
+-- the input is the text of a schedule whose machine has the line that is asked for, and its trace is written
+pub record IsTraceOf (request : TraceRequest) (input text : List ℕ) (outcome : Outcome) : Type 0 where
   pub schedule : ScheduleValue
   pub good : IsSchedule schedule
   pub read : input ≡ schedule_text schedule
-  pub trace : IsTrace strict schedule text outcome
+  pub has : HasLine request.line schedule
+  pub trace : IsTrace request schedule text outcome
 
 -- what `trace` writes, and how it ends, for the bytes of a reader, which has failed or not
-abbrev pub IsTraceAnswer : Bool → Option (List ℕ) → Bool → List ℕ → Outcome → Type 0
-IsTraceAnswer strict input failed text Done = IsReadAs input failed (λ bytes. IsTraceOf strict bytes text Done)
-IsTraceAnswer strict input failed text Unlawful = IsReadAs input failed (λ bytes. IsTraceOf strict bytes text Unlawful)
-IsTraceAnswer strict input failed text Refused = IsRefusalBy (λ kind line. IsTold IsScheduleFault kind input failed line) text
+abbrev pub IsTraceAnswer : TraceRequest → Option (List ℕ) → Bool → List ℕ → Outcome → Type 0
+IsTraceAnswer request input failed text Done = IsReadAs input failed (λ bytes. IsTraceOf request bytes text Done)
+IsTraceAnswer request input failed text Unlawful = IsReadAs input failed (λ bytes. IsTraceOf request bytes text Unlawful)
+IsTraceAnswer request input failed text Refused = IsRefusalBy (λ kind line. IsAskedFault request.line kind input failed line) text

@@ -45,11 +45,11 @@ fn outcome_of<R: Read, W: Write>(
     ensures wrote_no_more { is_called_again writer.new ≡ is_called_again writer.old }
 {
     match command {
-        Command::Order => order(alloc, reader, writer),
+        Command::Order(request) => order(alloc, request, reader, writer),
         Command::Explain => explain(alloc, reader, writer),
         Command::Packets => packets(alloc, reader, writer),
-        Command::Trace { strict } => trace(alloc, reader, writer, strict),
-        Command::Lists => lists(alloc, reader, writer),
+        Command::Trace(request) => trace(alloc, request, reader, writer),
+        Command::Lists { line } => lists(alloc, line, reader, writer),
         Command::Chart { line } => chart(alloc, line, reader, writer),
         Command::Random { walk, dead } => random_schedule(alloc, walk, dead, writer),
         Command::Help => write_answer(writer, HELP.as_bytes(), Outcome::Done),

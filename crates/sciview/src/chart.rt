@@ -2,21 +2,21 @@
 
 ghost use Rattle.std.specs.Prelude.{◌≡◌, ℕ, List, false, true, IfOk, IfErr};
 ghost use Rattle.std.specs.Io.KnownBytes.{Appends};
-ghost use Rattle.sci_text.specs.FirstFault.{IsTold};
-ghost use Rattle.sci_text.specs.ScheduleFault.{IsScheduleFault};
 ghost use Rattle.sci_text.specs.Tap.{has_failed, is_called_again, tapped};
 ghost use Rattle.sci_command.specs.declared.outcome.Outcome.{Outcome};
 ghost use Rattle.sci_command.specs.Input.{IsReadAs};
 ghost use Rattle.sci_command.specs.Writing.{WritesFront};
+ghost use Rattle.sciview.specs.AskedLine.{IsAskedFault};
 ghost use Rattle.sciview.specs.ChartAnswer.{IsChartAnswer, IsScheduleText};
 
+use crate::asked_line::read_asked;
 use crate::deed::{applied, deed_of, line_of, packet_of};
 use crate::drawing::Drawing;
 use crate::layout::{FIRST_LINE, NumberedEvent};
 use sci_command::{Outcome, refuse, write_answer};
 use sci_core::Machine;
 use sci_packets::Packet;
-use sci_text::{Schedule, Tap, TextFault, read_schedule};
+use sci_text::{Schedule, Tap, TextFault};
 use sci_words::{Event, MAX_OPERATIONS};
 use std::alloc::{AllocError, Global};
 use std::io::{Read, Write};
@@ -59,12 +59,12 @@ fn answer<R: Read>(
 ) -> Result<Vec<u8>, TextFault>
     requires { has_failed reader.old ≡ false }
     ensures bytes { IfOk result (λ bytes.
-        IsReadAs (R.remaining (tapped reader.old)) (has_failed reader.new) IsScheduleText) }
-    ensures fault { IfErr result (λ fault. IsTold IsScheduleFault fault.kind
+        IsReadAs (R.remaining (tapped reader.old)) (has_failed reader.new) (IsScheduleText line)) }
+    ensures fault { IfErr result (λ fault. IsAskedFault line fault.kind
         (R.remaining (tapped reader.old)) (has_failed reader.new) fault.line) }
     ensures again { is_called_again reader.new ≡ is_called_again reader.old }
 {
-    let schedule = read_schedule(alloc, reader)?;
+    let schedule = read_asked(alloc, line, reader)?;
     Ok(chart_of(alloc, &schedule, line)?)
 }
 
@@ -72,7 +72,7 @@ fn answer<R: Read>(
 /// operations (events that are not enabled change nothing), and writes a message sequence chart of them in SVG: Done.
 /// With a line it shows the events and the packets about that line alone, and else all. A schedule with a fault is
 /// Refused, with the line `refused at line K: KIND` alone, as are a reader that fails, too long an input and running out
-/// of memory, at line 0. The whole chart is made before its first byte is written. After a failed read or write nothing
+/// of memory, at line 0, and a line that the machine doesn't have, as `range` at line 0. The whole chart is made before its first byte is written. After a failed read or write nothing
 /// more is read or written; after a failed write it is Refused.
 pub fn chart<R: Read, W: Write>(
     alloc: Global,
@@ -86,12 +86,14 @@ pub fn chart<R: Read, W: Write>(
     // The answer to the input is written, and nothing else.
     ensures written { has_failed writer.new ≡ false → (text : List ℕ)
         × Appends (W.contents (tapped writer.old)) (W.contents (tapped writer.new)) text
-        × IsChartAnswer (R.remaining (tapped reader.old)) (has_failed reader.new) text result }
+        × IsChartAnswer line
+        (R.remaining (tapped reader.old)) (has_failed reader.new) text result }
 
     // If a write fails, a prefix of it is.
     ensures front { (text : List ℕ) × (outcome : Outcome)
         × WritesFront (W.contents (tapped writer.old)) (W.contents (tapped writer.new)) text
-        × IsChartAnswer (R.remaining (tapped reader.old)) (has_failed reader.new) text outcome }
+        × IsChartAnswer line
+        (R.remaining (tapped reader.old)) (has_failed reader.new) text outcome }
     ensures failed { has_failed writer.new ≡ true → result ≡ Outcome.Refused }
     ensures read_no_more { is_called_again reader.new ≡ is_called_again reader.old }
     ensures wrote_no_more { is_called_again writer.new ≡ is_called_again writer.old }

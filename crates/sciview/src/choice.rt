@@ -4,10 +4,14 @@ ghost use Rattle.std.specs.Prelude.{◌≡◌, ◌↔◌, ◌<◌, ◌∷◌, []
 ghost use Rattle.sci_words.specs.declared.limits.TheConstants.{MAX_LINES};
 ghost use Rattle.sci_text.specs.Number.{number};
 ghost use Rattle.sciview.specs.declared.choice.Command.{Command};
+ghost use Rattle.sciview.specs.declared.order.OrderRequest.{OrderRequest};
 ghost use Rattle.sciview.specs.declared.random.Walk.{Walk};
-ghost use Rattle.sciview.specs.Choice.{Chooses, ChoosesWalk, FitsDead, FitsWalk, dead_words, walk_words};
+ghost use Rattle.sciview.specs.declared.trace.TraceRequest.{TraceRequest};
+ghost use Rattle.sciview.specs.Choice.{Chooses, ChoosesBy, ChoosesOrder, ChoosesTrace, ChoosesWalk, FitsDead, FitsLine, FitsWalk, dead_words, line_words, walk_words};
 
+use crate::order::{NodeOrder, OrderRequest};
 use crate::random::Walk;
+use crate::trace::TraceRequest;
 use sci_command::texts_of;
 use sci_text::whole_number;
 use sci_words::MAX_LINES;
@@ -19,15 +23,15 @@ use std::{env, io};
 #[derive(Clone, Copy)]
 pub enum Command {
     /// Write whether a log is sequentially consistent.
-    Order,
+    Order(OrderRequest),
     /// Write what is wrong with a log.
     Explain,
     /// Write the bytes of the packets that a schedule sends.
     Packets,
-    /// Write what each event of a schedule does; if strict, up to the first that isn't enabled.
-    Trace { strict: bool },
-    /// Write the sharing list of a line behind each event of a schedule that may have changed it.
-    Lists,
+    /// Write what each event of a schedule does.
+    Trace(TraceRequest),
+    /// Write the sharing list behind each event of a schedule that may have changed it: of one line, 0 to 63, or of all.
+    Lists { line: Option<u8> },
     /// Write a chart of a schedule: of one line, 0 to 63, or of all.
     Chart { line: Option<u8> },
     /// Write a schedule that is drawn by chance; `dead` in a hundred of its events may be any events.
@@ -97,20 +101,80 @@ fn random_of(words: &[&str]) -> Option<(Walk, Option<u64>)>
     Some((walk, dead))
 }
 
-/// The command that one word chooses.
-fn chosen_by(word: &str) -> Option<Command>
-    ensures { (command : Command)
-        → (result ≡ Some command) ↔ Chooses (word.now ∷ []) command }
+/// The line that words say: `--line` with a number from 0 to 63, or no word. None if they say neither.
+#[tactic(auto, unfolding(crate::specs::Choice::line_words))]
+fn line_choice(words: &[&str]) -> Option<Option<u8>>
+    ensures { (line : Option ℕ) → (result ≡ Some line) ↔
+        ((map (λ word. word.now) words.now ≡ line_words line) × FitsLine line) }
+{
+    match words {
+        [] => Some(None),
+        ["--line", line] => {
+            let line = line_of(line)?;
+            Some(Some(line))
+        }
+        _ => None,
+    }
+}
+
+/// What the words behind `order` ask for: `--by-serial`, `--show`, both, or neither. None if they say something else.
+fn order_choice(words: &[&str]) -> Option<OrderRequest>
+    ensures { (request : OrderRequest) → (result ≡ Some request) ↔
+        ChoosesOrder (map (λ word. word.now) words.now) request }
+{
+    let (keeps, shows) = match words {
+        [] => (NodeOrder::Logged, false),
+        ["--show"] => (NodeOrder::Logged, true),
+        ["--by-serial"] => (NodeOrder::BySerial, false),
+        ["--by-serial", "--show"] | ["--show", "--by-serial"] => (NodeOrder::BySerial, true),
+        _ => return None,
+    };
+    Some(OrderRequest { keeps, shows })
+}
+
+/// What the words behind `trace` ask for: `--strict`, then a line, or one of them, or neither. None if they say something
+/// else.
+fn trace_choice(words: &[&str]) -> Option<TraceRequest>
+    ensures { (request : TraceRequest) → (result ≡ Some request) ↔
+        ChoosesTrace (map (λ word. word.now) words.now) request }
+{
+    if let Some(line) = line_choice(words) {
+        return Some(TraceRequest {
+            strict: false,
+            line,
+        });
+    }
+    match words {
+        ["--strict", rest @ ..] => {
+            let line = line_choice(rest)?;
+            Some(TraceRequest { strict: true, line })
+        }
+        _ => None,
+    }
+}
+
+/// What a first word chooses, with those behind it. None if they choose nothing.
+fn chosen_by(word: &str, rest: &[&str]) -> Option<Command>
+    ensures { (command : Command) → (result ≡ Some command) ↔
+        ChoosesBy word.now (map (λ word. word.now) rest.now) command }
 {
     match word {
-        "order" => Some(Command::Order),
-        "explain" => Some(Command::Explain),
-        "packets" => Some(Command::Packets),
-        "trace" => Some(Command::Trace { strict: false }),
-        "lists" => Some(Command::Lists),
-        "chart" => Some(Command::Chart { line: None }),
-        "--help" | "-h" => Some(Command::Help),
-        "--version" => Some(Command::Version),
+        "order" => Some(Command::Order(order_choice(rest)?)),
+        "trace" => Some(Command::Trace(trace_choice(rest)?)),
+        "lists" => Some(Command::Lists {
+            line: line_choice(rest)?,
+        }),
+        "chart" => Some(Command::Chart {
+            line: line_choice(rest)?,
+        }),
+        "random" => {
+            let (walk, dead) = random_of(rest)?;
+            Some(Command::Random { walk, dead })
+        }
+        "explain" if rest.is_empty() => Some(Command::Explain),
+        "packets" if rest.is_empty() => Some(Command::Packets),
+        "--help" | "-h" if rest.is_empty() => Some(Command::Help),
+        "--version" if rest.is_empty() => Some(Command::Version),
         _ => None,
     }
 }
@@ -120,19 +184,8 @@ pub fn chosen(words: &[&str]) -> Option<Command>
     ensures { (command : Command)
         → (result ≡ Some command) ↔ Chooses (map (λ word. word.now) words.now) command }
 {
-    match words {
-        [word] => chosen_by(word),
-        ["trace", "--strict"] => Some(Command::Trace { strict: true }),
-        ["chart", "--line", line] => {
-            let line = line_of(line)?;
-            Some(Command::Chart { line: Some(line) })
-        }
-        ["random", numbers @ ..] => {
-            let (walk, dead) = random_of(numbers)?;
-            Some(Command::Random { walk, dead })
-        }
-        _ => None,
-    }
+    let (word, rest) = words.split_first()?;
+    chosen_by(word, rest)
 }
 
 /// The same of words as they are read, the program's own name left out. Refused if memory is.

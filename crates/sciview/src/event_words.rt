@@ -3,7 +3,7 @@
 ghost use Rattle.std.specs.Prelude.{◌≡◌, ◌++◌, IfOk, OnOk, is_some, option_map};
 ghost use Rattle.sci_cache.specs.Cache.{letter_of};
 ghost use Rattle.sci_core.specs.Core.{step, stepping};
-ghost use Rattle.sciview.specs.TraceAnswer.{arrow_text, cache_label, cache_on, cache_text, change_text, changes_text, entry_logged, entry_text, event_text, front_of, home_label, home_on, home_words as home_words_of, last_entry as last_entry_of, letter_taken, line_changed as line_changed_of, line_in as line_in_of, moved_text, outcome_of, reason_line, reason_text};
+ghost use Rattle.sciview.specs.TraceAnswer.{arrow_text, cache_label, cache_on, cache_text, change_text, changes_text, entry_logged, entry_text, event_text, front_of, home_label, home_on, home_words as home_words_of, last_entry as last_entry_of, letter_taken, line_about as line_about_of, line_changed as line_changed_of, line_in as line_in_of, moved_text, outcome_of, reason_line, reason_text};
 
 use crate::obstacle_words::{line_named, push_obstacle};
 use crate::packets::sent;
@@ -61,6 +61,17 @@ pub fn line_changed(machine: &Machine, event: &Event) -> Option<u8>
             line_in(machine, taken(machine, event))
         }
         _ => None,
+    }
+}
+
+/// The line that an event is about: the one that it names, or else that of the packet which it takes or sends.
+pub fn line_about(machine: &Machine, event: &Event) -> Option<u8>
+    ensures { result ≡ line_about_of machine.now event.now }
+{
+    match *event {
+        Event::Issue { op, .. } => Some(op.line),
+        Event::Reply { .. } => line_in(machine, sent(machine, event)),
+        _ => line_changed(machine, event),
     }
 }
 

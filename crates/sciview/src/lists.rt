@@ -1,24 +1,24 @@
 //! The command `lists`: the sharing list of a line behind each event that may have changed it.
 
-ghost use Rattle.std.specs.Prelude.{◌≡◌, ◌++◌, ◌<◌, ℕ, List, false, true, IfOk, IfErr, OnOk};
+ghost use Rattle.std.specs.Prelude.{◌≡◌, ◌++◌, ◌<◌, ℕ, List, false, true, IfOk, IfErr, IfSome, OnOk};
 ghost use Rattle.std.specs.List.{flat_map};
 ghost use Rattle.std.specs.Io.KnownBytes.{Appends};
 ghost use Rattle.sci_core.specs.Core.{step, stepping};
-ghost use Rattle.sci_text.specs.FirstFault.{IsTold};
-ghost use Rattle.sci_text.specs.ScheduleFault.{IsScheduleFault};
 ghost use Rattle.sci_text.specs.Tap.{has_failed, is_called_again, tapped};
 ghost use Rattle.sci_command.specs.declared.outcome.Outcome.{Outcome};
 ghost use Rattle.sci_command.specs.Input.{IsReadAs};
 ghost use Rattle.sci_command.specs.Writing.{WritesFront};
+ghost use Rattle.sciview.specs.AskedLine.{IsAskedFault};
 ghost use Rattle.sciview.specs.PacketsAnswer.{before};
 ghost use Rattle.sciview.specs.TraceAnswer.{line_changed as line_changed_of};
-ghost use Rattle.sciview.specs.ListsAnswer.{AreListed, IsListLine, IsListed, IsListsAnswer, IsListsOf, authority_text, home_name_text, last_text, line_within, member_text, name_text, place_text};
+ghost use Rattle.sciview.specs.ListsAnswer.{AreListed, IsListLine, IsListed, IsListsAnswer, IsListsOf, authority_text, home_name_text, last_text, line_within, listed_line as listed_line_of, member_text, name_text, place_text};
 
+use crate::asked_line::{is_asked, read_asked};
 use crate::event_words::line_changed;
 use crate::state_words::{home_name, state_name};
 use sci_command::{Outcome, push_contents, push_labelled, refuse, write_answer};
 use sci_core::{ApplyFault, Machine};
-use sci_text::{Schedule, Tap, TextFault, push_number, push_text, read_schedule};
+use sci_text::{Schedule, Tap, TextFault, push_number, push_text};
 use sci_words::{Event, MAX_OPERATIONS, Stamped};
 use std::alloc::{AllocError, Global};
 use std::io::{Read, Write};
@@ -28,12 +28,22 @@ const FIRST_EVENT_LINE: u64 = 2;
 
 /// The line that an event may change, if the machine has it.
 fn line_concerned(machine: &Machine, event: &Event) -> Option<u8>
-    ensures { result ≡ line_within machine.now (line_changed_of machine.now event.now) }
+    ensures line { result ≡ line_within machine.now (line_changed_of machine.now event.now) }
+    ensures inside { IfSome result (λ line. line < machine.now.size.lines) }
 {
     match line_changed(machine, event) {
         Some(line) if line < machine.extent().lines => Some(line),
         _ => None,
     }
+}
+
+/// The line of which an event's list is shown: the one that it may change, if that is asked for.
+fn listed_line(machine: &Machine, asked: Option<u8>, event: &Event) -> Option<u8>
+    ensures shown { result ≡ listed_line_of asked machine.now event.now }
+    ensures inside { IfSome result (λ line. line < machine.now.size.lines) }
+{
+    let line = line_concerned(machine, event);
+    if is_asked(asked, line) { line } else { None }
 }
 
 /// The name of a line's state in a node's cache: none if there is no such node or line.
@@ -144,43 +154,56 @@ fn push_place(out: &mut Vec<u8>, number: u64, line: u8) -> Result<(), AllocError
     push_labelled(out, b" line", u64::from(line))
 }
 
-/// Takes a step, and appends the list of the line that it may have changed.
+/// Where an event stands in the schedule, and the line of memory whose list is shown behind it, if one is.
+#[derive(Clone, Copy)]
+struct Place {
+    number: u64,
+    line: Option<u8>,
+}
+
+/// Takes a step, and appends the list that is shown behind it, if the event is enabled.
 fn push_listed(
     alloc: Global,
     out: &mut Vec<u8>,
     machine: &mut Machine,
-    number: u64,
+    place: Place,
     event: &Event,
 ) -> Result<(), AllocError>
+    requires { IfSome place.line (λ line. line < machine.old.size.lines) }
     ensures text { OnOk result ((text : List ℕ) × (out.new.items ≡ out.old.items ++ text)
-        × IsListed number (line_within machine.old (line_changed_of machine.old event.now))
-        (stepping machine.old event.now) text) }
+        × IsListed place.number place.line (stepping machine.old event.now) text) }
     ensures step { OnOk result (machine.new ≡ step machine.old event.now) }
 {
-    let line = line_concerned(machine, event);
     match machine.apply(event) {
         Ok(()) => {}
         Err(ApplyFault::NotEnabled) => return Ok(()),
         Err(ApplyFault::Memory(refused)) => return Err(refused),
     }
-    let Some(line) = line else {
+    let Some(line) = place.line else {
         return Ok(());
     };
-    push_place(out, number, line)?;
+    push_place(out, place.number, line)?;
     push_text(out, ": ")?;
     push_list(alloc, out, machine, line)
 }
 
-/// The lists behind the events of a schedule.
-fn lists_of(alloc: Global, schedule: &Schedule) -> Result<Vec<u8>, AllocError>
+/// The lists behind the events of a schedule: of the line that is asked for, or of all.
+fn lists_of(alloc: Global, asked: Option<u8>, schedule: &Schedule) -> Result<Vec<u8>, AllocError>
     ensures { IfOk result (λ text.
-        AreListed (before schedule.now) 2 schedule.now.events text.items) }
+        AreListed asked (before schedule.now) 2 schedule.now.events text.items) }
 {
     let mut machine = Machine::new(alloc, schedule.extent(), MAX_OPERATIONS)?;
     let mut text = Vec::new(alloc);
     let mut number = FIRST_EVENT_LINE;
     for event in schedule.events() {
-        match push_listed(alloc, &mut text, &mut machine, number, event) {
+        let line = listed_line(&machine, asked, event);
+        match push_listed(
+            alloc,
+            &mut text,
+            &mut machine,
+            Place { number, line },
+            event,
+        ) {
             Ok(()) => {}
             Err(refused) => return Err(refused),
         }
@@ -189,45 +212,57 @@ fn lists_of(alloc: Global, schedule: &Schedule) -> Result<Vec<u8>, AllocError>
     Ok(text)
 }
 
-/// The lists behind the events of the schedule that the reader gives, or its fault.
-fn answer<R: Read>(alloc: Global, reader: &mut Tap<R>) -> Result<Vec<u8>, TextFault>
+/// The lists behind the events of the schedule that the reader gives, or why there are none.
+fn answer<R: Read>(
+    alloc: Global,
+    asked: Option<u8>,
+    reader: &mut Tap<R>,
+) -> Result<Vec<u8>, TextFault>
     requires { has_failed reader.old ≡ false }
     ensures text { IfOk result (λ text.
         IsReadAs (R.remaining (tapped reader.old)) (has_failed reader.new)
-        (λ input. IsListsOf input text.items)) }
-    ensures fault { IfErr result (λ fault. IsTold IsScheduleFault fault.kind
+        (λ input. IsListsOf asked input text.items)) }
+    ensures fault { IfErr result (λ fault. IsAskedFault asked fault.kind
         (R.remaining (tapped reader.old)) (has_failed reader.new) fault.line) }
     ensures again { is_called_again reader.new ≡ is_called_again reader.old }
 {
-    let schedule = read_schedule(alloc, reader)?;
-    Ok(lists_of(alloc, &schedule)?)
+    let schedule = read_asked(alloc, asked, reader)?;
+    Ok(lists_of(alloc, asked, &schedule)?)
 }
 
 /// Reads a schedule to its end, applies its events in text order to a new machine whose nodes may each issue 65,536
-/// operations, and writes a line behind each event that is enabled and may change a line of the machine: the number of
-/// the event's line in the schedule, the line of memory, the name of the home's state, the members of the line's list from the head on, the node
-/// that may change the line or is about to, and the line's last contents. It is Done. A schedule with a fault is
-/// Refused, with the line `refused at line K: KIND` alone, as are a reader that fails, too long an input and running out
-/// of memory, at line 0. The whole text is made before its first byte is written. After a failed read or write nothing
-/// more is read or written; after a failed write it is Refused.
-pub fn lists<R: Read, W: Write>(alloc: Global, reader: &mut Tap<R>, writer: &mut Tap<W>) -> Outcome
+/// operations, and writes a line behind each event that is enabled and may change a line of the machine, or the line that is
+/// asked for: the number of the event's line in the schedule, the line of memory, the name of the home's state, the members
+/// of the line's list from the head on, the node that may change the line or is about to, and the line's last contents. It
+/// is Done. A schedule with a fault is Refused, with the line `refused at line K: KIND` alone, as are a reader that fails,
+/// too long an input and running out of memory, at line 0, and a line that the machine doesn't have, as `range` at line 0.
+/// The whole text is made before its first byte is written. After a failed read or write nothing more is read or written;
+/// after a failed write it is Refused.
+pub fn lists<R: Read, W: Write>(
+    alloc: Global,
+    asked: Option<u8>,
+    reader: &mut Tap<R>,
+    writer: &mut Tap<W>,
+) -> Outcome
     requires reader { has_failed reader.old ≡ false }
     requires writer { has_failed writer.old ≡ false }
 
     // The answer to the input is written, and nothing else.
     ensures written { has_failed writer.new ≡ false → (text : List ℕ)
         × Appends (W.contents (tapped writer.old)) (W.contents (tapped writer.new)) text
-        × IsListsAnswer (R.remaining (tapped reader.old)) (has_failed reader.new) text result }
+        × IsListsAnswer asked
+        (R.remaining (tapped reader.old)) (has_failed reader.new) text result }
 
     // If a write fails, a prefix of it is.
     ensures front { (text : List ℕ) × (outcome : Outcome)
         × WritesFront (W.contents (tapped writer.old)) (W.contents (tapped writer.new)) text
-        × IsListsAnswer (R.remaining (tapped reader.old)) (has_failed reader.new) text outcome }
+        × IsListsAnswer asked
+        (R.remaining (tapped reader.old)) (has_failed reader.new) text outcome }
     ensures failed { has_failed writer.new ≡ true → result ≡ Outcome.Refused }
     ensures read_no_more { is_called_again reader.new ≡ is_called_again reader.old }
     ensures wrote_no_more { is_called_again writer.new ≡ is_called_again writer.old }
 {
-    match answer(alloc, reader) {
+    match answer(alloc, asked, reader) {
         Ok(text) => write_answer(writer, &text, Outcome::Done),
         Err(fault) => refuse(alloc, writer, fault),
     }

@@ -2,6 +2,7 @@
 #![tactic(auto)]
 
 mod arrows;
+mod asked_line;
 mod carrying_out;
 mod chart;
 mod choice;

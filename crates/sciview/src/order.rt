@@ -1,134 +1,290 @@
 //! The command `order`: whether a log is sequentially consistent, or a cycle of entries that shows that it is not.
 
-ghost use Rattle.std.specs.Prelude.{◌≡◌, ◌++◌, ℕ, List, false, true, length, IfOk, IfErr, OnOk};
+ghost use Rattle.std.specs.Prelude.{◌≡◌, ◌++◌, ◌↔◌, ℕ, List, false, true, length, IfOk, IfErr, OnOk};
 ghost use Rattle.std.specs.List.{flat_map};
 ghost use Rattle.std.specs.Io.KnownBytes.{Appends};
-ghost use Rattle.sci_history.specs.Audit.{AreWithin};
+ghost use Rattle.sci_history.specs.Audit.{AreWithin, entries_of};
+ghost use Rattle.sci_history.specs.Cycle.{IsOrdered};
+ghost use Rattle.sci_history.specs.Lawful.{Lawful};
 ghost use Rattle.sci_text.specs.FirstFault.{IsTold};
+ghost use Rattle.sci_text.specs.Log.{entry_line};
 ghost use Rattle.sci_text.specs.LogFault.{IsLogFault};
 ghost use Rattle.sci_text.specs.Tap.{has_failed, is_called_again, tapped};
 ghost use Rattle.sci_command.specs.declared.outcome.Outcome.{Outcome};
 ghost use Rattle.sci_command.specs.Input.{IsReadAs};
 ghost use Rattle.sci_command.specs.Writing.{WritesFront};
-ghost use Rattle.sciview.specs.OrderAnswer.{IsFound, IsOrderAnswer, IsOrderOf, consistent_text, cycle_text as cycle_text_of, reason_text, step_text};
+ghost use Rattle.sciview.specs.OrderAnswer.{IsFound, IsOrderAnswer, IsOrderOf, cycle_text as cycle_text_of, found_text as found_text_of, order_name as order_name_of, order_text, reason_text, sense_text, shown_text, step_text};
 
 use sci_command::{Outcome, refuse, verdict_line, write_answer};
-use sci_history::{Last, Logs, OrderVerdict, Reason, Step, Verdict, sequential_order};
+use sci_history::{
+    Entry, Last, Logs, OrderVerdict, Reason, Step, Verdict, audit, sequential_order,
+    serial_order_is_lawful,
+};
 use sci_text::{Tap, TextFault, push_entry, push_text, read_logs};
 use std::alloc::{AllocError, Global};
 use std::io::{Read, Write};
 
+/// In which order each node's entries have to stand.
+#[derive(Clone, Copy, PartialEq, Eq)]
+pub enum NodeOrder {
+    /// As in the node's log: as they were performed.
+    Logged,
+    /// By their serials: as they were issued, which is the order of the program.
+    BySerial,
+}
+
+/// What is asked of an order of all entries.
+#[derive(Clone, Copy)]
+pub struct OrderRequest {
+    /// In which order each node's entries have to stand in it.
+    pub keeps: NodeOrder,
+    /// Whether its entries are written, if there is one.
+    pub shows: bool,
+}
+
+/// What the entries of one node stand in.
+#[tactic(auto, unfolding(crate::specs::OrderAnswer::order_name))]
+fn order_name(keeps: NodeOrder) -> &'static str
+    ensures { result.now ≡ order_name_of keeps }
+{
+    match keeps {
+        NodeOrder::Logged => "log order",
+        NodeOrder::BySerial => "program order",
+    }
+}
+
 /// Why an entry comes after another.
 #[tactic(auto, unfolding(crate::specs::OrderAnswer::reason_text))]
-fn reason_words(reason: Reason) -> &'static str
-    ensures { result.now ≡ reason_text reason }
+fn reason_words(keeps: NodeOrder, reason: Reason) -> &'static str
+    ensures { result.now ≡ reason_text keeps reason }
 {
     match reason {
-        Reason::Logged => "log order",
+        Reason::Logged => order_name(keeps),
         Reason::ReadsFrom => "write before read",
         Reason::FromRead => "read before write",
         Reason::Coherence => "version order",
     }
 }
 
+/// The words that say that there is an order, and in which sense.
+#[tactic(auto, unfolding(crate::specs::OrderAnswer::sense_text))]
+fn sense_words(keeps: NodeOrder) -> &'static str
+    ensures { result.now ≡ sense_text keeps }
+{
+    match keeps {
+        NodeOrder::Logged => "sequentially consistent",
+        NodeOrder::BySerial => "sequentially consistent in program order",
+    }
+}
+
 /// Appends the line of an entry of a cycle.
 #[tactic(auto, unfolding(crate::specs::OrderAnswer::step_text))]
-fn push_step(out: &mut Vec<u8>, step: &Step) -> Result<(), AllocError>
-    ensures { OnOk result (out.new.items ≡ out.old.items ++ step_text step.now) }
+fn push_step(out: &mut Vec<u8>, keeps: NodeOrder, step: &Step) -> Result<(), AllocError>
+    ensures { OnOk result (out.new.items ≡ out.old.items ++ step_text keeps step.now) }
 {
     push_entry(out, &step.entry)?;
     push_text(out, " comes after the next: ")?;
-    push_text(out, reason_words(step.reason))?;
+    push_text(out, reason_words(keeps, step.reason))?;
     push_text(out, "\n")?;
     Ok(())
 }
 
 /// Appends the lines of the entries of a cycle.
-fn push_steps(out: &mut Vec<u8>, steps: &[Step]) -> Result<(), AllocError>
-    ensures { OnOk result (out.new.items ≡ out.old.items ++ flat_map step_text steps.now) }
+fn push_steps(out: &mut Vec<u8>, keeps: NodeOrder, steps: &[Step]) -> Result<(), AllocError>
+    ensures { OnOk result (out.new.items ≡ out.old.items ++ flat_map (step_text keeps) steps.now) }
 {
     for step in steps {
-        push_step(out, step)?;
+        push_step(out, keeps, step)?;
     }
     Ok(())
 }
 
-/// The text of a cycle: that logs aren't sequentially consistent, and its entries.
-fn cycle_text(alloc: Global, steps: &[Step]) -> Result<Vec<u8>, AllocError>
-    ensures { IfOk result (λ text. text.items ≡ cycle_text_of steps.now) }
+/// The text of a cycle: that there is no order, and its entries.
+#[tactic(auto, unfolding(crate::specs::OrderAnswer::cycle_text))]
+fn cycle_text(alloc: Global, keeps: NodeOrder, steps: &[Step]) -> Result<Vec<u8>, AllocError>
+    ensures { IfOk result (λ text. text.items ≡ cycle_text_of keeps steps.now) }
 {
     let mut text = Vec::new(alloc);
-    push_text(&mut text, "not sequentially consistent")?;
+    push_text(&mut text, "not ")?;
+    push_text(&mut text, sense_words(keeps))?;
     push_text(&mut text, "\n")?;
-    push_steps(&mut text, steps)?;
+    push_steps(&mut text, keeps, steps)?;
     Ok(text)
 }
 
-/// The line that tells that there is an order.
-fn consistent_line(alloc: Global) -> Result<Vec<u8>, AllocError>
-    ensures { IfOk result (λ text. text.items ≡ consistent_text) }
+/// Appends an entry, and the line feed.
+#[tactic(auto, unfolding(sci_text::specs::Log::entry_line))]
+fn push_entry_line(out: &mut Vec<u8>, entry: &Entry) -> Result<(), AllocError>
+    ensures { OnOk result (out.new.items ≡ out.old.items ++ entry_line entry.now) }
+{
+    push_entry(out, entry)?;
+    push_text(out, "\n")?;
+    Ok(())
+}
+
+/// Appends the entries of an order, a line each, if they are shown.
+#[tactic(auto, unfolding(crate::specs::OrderAnswer::shown_text))]
+fn push_shown(out: &mut Vec<u8>, shows: bool, order: &[&Entry]) -> Result<(), AllocError>
+    ensures { OnOk result
+        (out.new.items ≡ out.old.items ++ shown_text shows (entries_of order.now)) }
+{
+    if !shows {
+        return Ok(());
+    }
+    for entry in order {
+        push_entry_line(out, entry)?;
+    }
+    Ok(())
+}
+
+/// The text of an order: that there is one, and its entries.
+#[tactic(auto, unfolding(crate::specs::OrderAnswer::found_text))]
+fn found_text(alloc: Global, request: OrderRequest, order: &[&Entry]) -> Result<Vec<u8>, AllocError>
+    ensures { IfOk result
+        (λ text. text.items ≡ found_text_of request (entries_of order.now)) }
 {
     let mut text = Vec::new(alloc);
-    push_text(&mut text, "sequentially consistent")?;
+    push_text(&mut text, sense_words(request.keeps))?;
     push_text(&mut text, "\n")?;
+    push_shown(&mut text, request.shows, order)?;
     Ok(text)
 }
 
-/// The text of what a look for an order found in logs, and how the command ends.
-fn found(alloc: Global, logs: &Logs, last: &Last) -> Result<(Vec<u8>, Outcome), AllocError>
-    requires { AreWithin (length last.now) logs.now }
-    ensures { IfOk result (λ x. IsFound logs.now last.now x.0.items x.1) }
+/// The text of what a search for an order found, and how the command ends.
+fn told(
+    alloc: Global,
+    request: OrderRequest,
+    verdict: &OrderVerdict,
+) -> Result<(Vec<u8>, Outcome), AllocError>
+    ensures text { IfOk result (λ x. x.0.items ≡ order_text request verdict.now) }
+    ensures judged { IfOk result (λ x. x.1 ≡ Outcome.Refused → ⊥) }
+    ensures ends { IfOk result (λ x. (x.1 ≡ Outcome.Done) ↔ IsOrdered verdict.now) }
 {
-    match sequential_order(alloc, logs, last)? {
+    match verdict {
         OrderVerdict::Fault { line, kind, at } => {
-            let text = verdict_line(alloc, Verdict::Fault { line, kind, at })?;
-            Ok((text, Outcome::Unlawful))
+            let fault = Verdict::Fault {
+                line: *line,
+                kind: *kind,
+                at: *at,
+            };
+            Ok((verdict_line(alloc, fault)?, Outcome::Unlawful))
         }
-        OrderVerdict::Order(_) => Ok((consistent_line(alloc)?, Outcome::Done)),
-        OrderVerdict::Cycle(steps) => Ok((cycle_text(alloc, &steps)?, Outcome::Unlawful)),
+        OrderVerdict::Order(order) => Ok((found_text(alloc, request, order)?, Outcome::Done)),
+        OrderVerdict::Cycle(steps) => {
+            Ok((cycle_text(alloc, request.keeps, steps)?, Outcome::Unlawful))
+        }
+    }
+}
+
+/// The text of what a search finds in lawful logs for an order in which each node's entries stand by serial, and how the
+/// command ends.
+fn found_by_serial(
+    alloc: Global,
+    request: OrderRequest,
+    logs: &Logs,
+    last: &Last,
+) -> Result<(Vec<u8>, Outcome), AllocError>
+    requires keeps { request.keeps ≡ NodeOrder.BySerial }
+    requires within { AreWithin (length last.now) logs.now }
+    requires lawful { Lawful logs.now last.now }
+    ensures { IfOk result (λ x. IsFound request logs.now last.now x.0.items x.1) }
+{
+    serial_order_is_lawful();
+    // Read, so that the prover knows that there are sixteen logs, and that each has its own node's entries.
+    let _nodes = logs.nodes();
+    let sorted = logs.by_serial(alloc)?;
+    let _nodes = sorted.nodes();
+    let verdict = sequential_order(alloc, &sorted, last)?;
+    told(alloc, request, &verdict)
+}
+
+/// The same of logs that may not be lawful.
+fn found_if_lawful(
+    alloc: Global,
+    request: OrderRequest,
+    logs: &Logs,
+    last: &Last,
+) -> Result<(Vec<u8>, Outcome), AllocError>
+    requires keeps { request.keeps ≡ NodeOrder.BySerial }
+    requires within { AreWithin (length last.now) logs.now }
+    ensures { IfOk result (λ x. IsFound request logs.now last.now x.0.items x.1) }
+{
+    let verdict = audit(alloc, logs, last)?;
+    match verdict {
+        Verdict::Lawful => found_by_serial(alloc, request, logs, last),
+        Verdict::Fault { .. } => Ok((verdict_line(alloc, verdict)?, Outcome::Unlawful)),
+    }
+}
+
+/// The text of what a search for an order found in logs, and how the command ends.
+fn found(
+    alloc: Global,
+    request: OrderRequest,
+    logs: &Logs,
+    last: &Last,
+) -> Result<(Vec<u8>, Outcome), AllocError>
+    requires { AreWithin (length last.now) logs.now }
+    ensures { IfOk result (λ x. IsFound request logs.now last.now x.0.items x.1) }
+{
+    match request.keeps {
+        NodeOrder::Logged => told(alloc, request, &sequential_order(alloc, logs, last)?),
+        NodeOrder::BySerial => found_if_lawful(alloc, request, logs, last),
     }
 }
 
 /// The text for the log that the reader gives and how the command ends, or its fault.
-fn answer<R: Read>(alloc: Global, reader: &mut Tap<R>) -> Result<(Vec<u8>, Outcome), TextFault>
+fn answer<R: Read>(
+    alloc: Global,
+    request: OrderRequest,
+    reader: &mut Tap<R>,
+) -> Result<(Vec<u8>, Outcome), TextFault>
     requires { has_failed reader.old ≡ false }
     ensures text { IfOk result (λ x.
         IsReadAs (R.remaining (tapped reader.old)) (has_failed reader.new)
-        (λ input. IsOrderOf input x.0.items x.1)) }
+        (λ input. IsOrderOf request input x.0.items x.1)) }
     ensures judged { IfOk result (λ x. x.1 ≡ Outcome.Refused → ⊥) }
     ensures fault { IfErr result (λ fault. IsTold IsLogFault fault.kind
         (R.remaining (tapped reader.old)) (has_failed reader.new) fault.line) }
     ensures again { is_called_again reader.new ≡ is_called_again reader.old }
 {
     let (_, logs, last) = read_logs(alloc, reader)?;
-    Ok(found(alloc, &logs, &last)?)
+    Ok(found(alloc, request, &logs, &last)?)
 }
 
-/// Reads a log to its end and looks for one order of all its entries that makes it sequentially consistent. Done, with the
-/// line `sequentially consistent`, if there is one. Unlawful if the log isn't lawful, with the line of an audit; and if
-/// there is no order, with the line `not sequentially consistent` and a cycle of at most 32 entries, a line each: it
-/// comes after the one on the next line in every such order, and the last after the first, for the reason that is told. A
-/// text with a fault is Refused, with the line `refused at line K: KIND` alone, as are a reader that fails, too long an
-/// input and running out of memory, at line 0. The whole text is made before its first byte is written. After a failed
-/// read or write nothing more is read or written; after a failed write it is Refused.
-pub fn order<R: Read, W: Write>(alloc: Global, reader: &mut Tap<R>, writer: &mut Tap<W>) -> Outcome
+/// Reads a log to its end and searches for one order of all its entries that makes it sequentially consistent, and in which
+/// each node's entries stand in the order that is asked for: as in its log, or by their serials. Done, with the line
+/// `sequentially consistent` (and ` in program order` if it is by serials), if there is one; if asked, its entries follow, a
+/// line each. Unlawful if the log isn't lawful, with the line of an audit; and if there is no order, with the line
+/// `not sequentially consistent` (` in program order`) and a cycle of at most 32 entries, a line each: each comes after the
+/// one on the next line in every such order, and the last after the first, for the reason beside it. A text with a fault is
+/// Refused, with the line `refused at line K: KIND` alone, as are a reader that fails, too long an input and running out of
+/// memory, at line 0. The whole text is made before its first byte is written. After a failed read or write nothing more is
+/// read or written; after a failed write it is Refused.
+pub fn order<R: Read, W: Write>(
+    alloc: Global,
+    request: OrderRequest,
+    reader: &mut Tap<R>,
+    writer: &mut Tap<W>,
+) -> Outcome
     requires reader { has_failed reader.old ≡ false }
     requires writer { has_failed writer.old ≡ false }
 
     // The answer to the input is written, and nothing else.
     ensures written { has_failed writer.new ≡ false → (text : List ℕ)
         × Appends (W.contents (tapped writer.old)) (W.contents (tapped writer.new)) text
-        × IsOrderAnswer (R.remaining (tapped reader.old)) (has_failed reader.new) text result }
+        × IsOrderAnswer request
+        (R.remaining (tapped reader.old)) (has_failed reader.new) text result }
 
     // If a write fails, a prefix of it is.
     ensures front { (text : List ℕ) × (outcome : Outcome)
         × WritesFront (W.contents (tapped writer.old)) (W.contents (tapped writer.new)) text
-        × IsOrderAnswer (R.remaining (tapped reader.old)) (has_failed reader.new) text outcome }
+        × IsOrderAnswer request
+        (R.remaining (tapped reader.old)) (has_failed reader.new) text outcome }
     ensures failed { has_failed writer.new ≡ true → result ≡ Outcome.Refused }
     ensures read_no_more { is_called_again reader.new ≡ is_called_again reader.old }
     ensures wrote_no_more { is_called_again writer.new ≡ is_called_again writer.old }
 {
-    match answer(alloc, reader) {
+    match answer(alloc, request, reader) {
         Ok((text, outcome)) => write_answer(writer, &text, outcome),
         Err(fault) => refuse(alloc, writer, fault),
     }

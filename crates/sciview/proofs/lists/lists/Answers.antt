@@ -1,8 +1,7 @@
--- What is written is the answer, or the refusal of the fault that is told.
-use Rattle.sci_text.specs.ScheduleFault.{IsScheduleFault}
+-- What is written is the answer, or the refusal of the fault.
 use Rattle.sci_text.specs.Tap.{tapped, has_failed}
 use Rattle.sci_command.specs.declared.outcome.Outcome.TheVariants.{Done}
-use Rattle.sci_command.proofs.Refusals.{refused_told}
+use Rattle.sciview.proofs.Asked.{refused_asked}
 use Rattle.sciview.proofs.lists.lists.Goals as goal
 
 pub returns-in-Err-clause-written : goal.returns-in-Err-clause-written
@@ -11,7 +10,7 @@ returns-in-Err-clause-written g c = λ unfailed.
     let known = g.R.Read.remaining (tapped c.args.reader.now) in
     let failed = has_failed c.answer.new.reader in
     let w = c.refuse.ensures.whole unfailed in
-    let refused = refused_told IsScheduleFault known failed fault w.0 c.in-Err.ensures.fault w.2 in
+    let refused = refused_asked c.args.asked known failed fault w.0 c.in-Err.ensures.fault w.2 in
     (w.0, w.1, rw c.refuse.ensures.refused refused)
 
 pub returns-in-Ok-clause-written : goal.returns-in-Ok-clause-written

@@ -18,10 +18,10 @@ pub returns-in-Ok-clause-written : goal.returns-in-Ok-clause-written
 returns-in-Ok-clause-written g c = λ unfailed.
     let known = g.R.Read.remaining (tapped c.args.reader.now) in
     let failed = has_failed c.answer.new.reader in
-    (c.deref.result.now, c.write_answer.ensures.whole unfailed, rw (c.write_answer.ensures.unfailed unfailed, c.deref.ensures.value) (order_answer known failed c.in-Ok.text.items c.in-Ok.outcome c.in-Ok.ensures.judged c.in-Ok.ensures.text))
+    (c.deref.result.now, c.write_answer.ensures.whole unfailed, rw (c.write_answer.ensures.unfailed unfailed, c.deref.ensures.value) (order_answer c.args.request known failed c.in-Ok.text.items c.in-Ok.outcome c.in-Ok.ensures.judged c.in-Ok.ensures.text))
 
 pub returns-in-Ok-clause-front : goal.returns-in-Ok-clause-front
 returns-in-Ok-clause-front g c =
     let known = g.R.Read.remaining (tapped c.args.reader.now) in
     let failed = has_failed c.answer.new.reader in
-    (c.deref.result.now, c.in-Ok.outcome, c.write_answer.ensures.front, rw c.deref.ensures.value (order_answer known failed c.in-Ok.text.items c.in-Ok.outcome c.in-Ok.ensures.judged c.in-Ok.ensures.text))
+    (c.deref.result.now, c.in-Ok.outcome, c.write_answer.ensures.front, rw c.deref.ensures.value (order_answer c.args.request known failed c.in-Ok.text.items c.in-Ok.outcome c.in-Ok.ensures.judged c.in-Ok.ensures.text))
