@@ -3,9 +3,11 @@
 
 The packets of a schedule are those that `sciview packets` writes and `scimem decode` prints. A chart has to have an arrow
 for each, in their order: from the column of its sender to that of its receiver, downwards, dotted only for a busy answer,
-and in short dashes only for a request that is answered busy. Its label names it, and the node that it names. Each event has
-its row, with its line in the schedule, no two texts overlap, and no label says nothing of its line. The schedules are those of examples/ and the first events of scripts/make_schedule.py. A chart in docs/ has to be what the
-program draws of the schedule of that name. The last line is 'N passed, M failed', of charts.
+and in short dashes only for a request that is answered busy. Its title is the whole packet, and its label names it and the
+node that it names. Each event has its row, with its line in the schedule. A label of a state has the title that `sciview
+trace` prints. No two texts overlap, and no label says nothing of its line. The schedules are those of examples/ and the
+first events of scripts/make_schedule.py. A chart in docs/ has to be what the program draws of the schedule of that name.
+The last line is 'N passed, M failed', of charts.
 """
 
 import os
@@ -13,6 +15,7 @@ import re
 import subprocess
 import sys
 import xml.etree.ElementTree as xml
+from collections import namedtuple
 
 TOP = os.path.dirname(os.path.dirname(os.path.abspath(__file__)))
 SCIMEM, SCIVIEW = (f"{TOP}/crates/{name}/out/{name}" for name in ("scimem", "sciview"))
@@ -38,12 +41,16 @@ def schedules():
     yield "make_schedule.py", b"\n".join(made.split(b"\n")[:2001]) + b"\n"
 
 
+# A packet as `scimem decode` prints it, and what a chart calls it.
+Packet = namedtuple("Packet", "whole command receiver sender name")
+
+
 def packets(given):
-    """The packets that a schedule sends: command, receiver, sender, and what a chart calls it."""
+    """The packets that a schedule sends."""
     for line in ran(SCIMEM, "decode", given=ran(SCIVIEW, "packets", given=given)).decode().splitlines():
         words = line.split()
         named = [" ->"] * (words[0] == "purged") + [f" {words[words.index('id') + 1]}"] if "id" in words else []
-        yield words[0], int(words[2]), int(words[4]), "".join([words[0], *named])
+        yield Packet(line, words[0], int(words[2]), int(words[4]), "".join([words[0], *named]))
 
 
 def said_of_packets(texts, rows):
@@ -59,8 +66,6 @@ def said_of_packets(texts, rows):
 
 def points(arrow):
     """The first point of an arrow, and the last."""
-    if arrow.tag == f"{SPACE}line":
-        return tuple((int(arrow.get(f"x{end}")), int(arrow.get(f"y{end}"))) for end in "12")
     found = [tuple(map(int, it.split(","))) for it in arrow.get("points").split()]
     return found[0], found[-1]
 
@@ -80,24 +85,30 @@ def faults(given):
     sent = list(packets(given))
     if len(arrows) != len(sent):
         yield f"{len(arrows)} arrows of {len(sent)} packets"
-    for arrow, (command, receiver, sender, _name) in zip(arrows, sent):
+    for arrow, packet in zip(arrows, sent):
         (x, y), (to_x, to_y) = points(arrow)
-        if (x, to_x) != (columns[sender], columns[receiver]) or y >= to_y:
-            yield f"the arrow of {command} from {sender} to {receiver}"
-        if (arrow.get("class") == "busy") != (command == "busy"):
-            yield f"the arrow of {command} is drawn as {arrow.get('class')}"
+        if (x, to_x) != (columns[packet.sender], columns[packet.receiver]) or y >= to_y:
+            yield f"the arrow of {packet.whole}"
+        if (arrow.get("class") == "busy") != (packet.command == "busy"):
+            yield f"the arrow of {packet.command} is drawn as {arrow.get('class')}"
+        if arrow.findtext(f"{SPACE}title") != packet.whole:
+            yield f"the title of the arrow of {packet.whole}"
     refused = sum(it.get("class") == "refused" for it in arrows)
-    if refused > sum(command == "busy" for command, *_ in sent):
+    if refused > sum(packet.command == "busy" for packet in sent):
         yield "more refusals than busy answers"
     texts = [it for it in chart.iter(f"{SPACE}text")]
     rows = [it for it in texts if it.get("class") in ("event", "dead") and it.get("x") == "24"]
     events = given.decode().splitlines()[1:]
     if [it.text for it in rows] != [f"{line}: {event}" for line, event in enumerate(events, 2)]:
         yield f"{len(rows)} rows, of {len(events)} events"
-    if [*said_of_packets(texts, rows)] != [name for *_, name in sent]:
+    if [*said_of_packets(texts, rows)] != [packet.name for packet in sent]:
         yield "a label that names another packet, or none"
     if any(it.text.endswith(": ") for it in texts if it.get("class") == "label"):
         yield "a label that says nothing of its line"
+    changes = ran(SCIVIEW, "trace", given=given).decode()
+    for title in (it.findtext(f"{SPACE}title") for it in texts if "->" in it.text and it.get("class") == "label"):
+        if title and f"  {title}\n" not in changes:
+            yield f"the title {title!r}"
     texts.sort(key=lambda it: int(it.get("y")))
     for place, text in enumerate(texts):
         for other in texts[place + 1 : place + 24]:

@@ -3,7 +3,7 @@
 ghost use Rattle.std.specs.Prelude.{◌≡◌, IfOk, OnOk, is_some};
 ghost use Rattle.sci_core.specs.Core.{step, stepping};
 
-use crate::event_words::taken;
+use crate::event_words::{push_changes, standing, taken};
 use crate::labels::{Change, Sight, push_change, push_packet, push_performed};
 use crate::packets::sent;
 use sci_core::{ApplyFault, Machine, node_of};
@@ -33,6 +33,8 @@ pub enum Mark {
 pub struct Deed {
     pub mark: Mark,
     pub label: Vec<u8>,
+    /// How the line's states changed, with their versions, as a trace has it.
+    pub title: Vec<u8>,
 }
 
 /// The packet that an event would send or take, or None if there is none.
@@ -107,16 +109,22 @@ pub fn deed_of(
     packet: Option<&Packet>,
 ) -> Result<Deed, AllocError> {
     let node = node_of(event);
-    let line = line_of(event, packet);
+    let line = line_of(event, packet).and_then(|line| u8::try_from(line).ok());
     let before = Sight::of(machine, node, line);
+    let words = standing(alloc, machine, node, line)?;
     if !applied(machine, event)? {
         return Ok(Deed {
             mark: Mark::Dead,
             label: Vec::new(alloc),
+            title: Vec::new(alloc),
         });
     }
     let after = Sight::of(machine, node, line);
     let mark = mark_of(event, packet);
     let label = label_of(alloc, &mark, machine, node, &Change { before, after })?;
-    Ok(Deed { mark, label })
+    let mut title = Vec::new(alloc);
+    push_changes(alloc, &mut title, machine, node, line, &words)?;
+    // Without the last line feed.
+    let _feed = title.pop();
+    Ok(Deed { mark, label, title })
 }

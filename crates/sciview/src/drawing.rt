@@ -1,12 +1,12 @@
 //! The drawing of a chart: its rows, its columns and its arrows.
 
-use crate::arrows::{Arrow, Arrows};
+use crate::arrows::{Arrow, ArrowKind, Arrows};
 use crate::deed::{Deed, Mark};
 use crate::elements::{Point, push_ground, push_line, push_polyline, push_svg, push_words};
 use crate::layout::{Layout, MARGIN, NumberedEvent, ROWS, names_at, row_at};
 use crate::legend::{RIGHT, push_legend, push_style};
 use crate::rows::Rows;
-use sci_command::push_labelled;
+use sci_command::{push_labelled, push_packet};
 use sci_text::{Schedule, push_text};
 use sci_words::Extent;
 use std::alloc::{AllocError, Global};
@@ -51,20 +51,45 @@ impl Drawing {
         })
     }
 
+    /// Notes which packet an event sent or took in a row, or above the first. Whether it took one that came from far.
+    /// Refused if memory is.
+    fn note(&mut self, mark: &Mark, row: Option<u32>) -> Result<bool, AllocError> {
+        match mark {
+            Mark::Sent(packet) => {
+                self.arrows.send(packet, row)?;
+                Ok(false)
+            }
+            Mark::Taken(packet) => {
+                let arrow = self.arrows.take(packet, row);
+                Ok(arrow.is_some_and(|arrow| arrow.is_longer_than(FAR)))
+            }
+            Mark::Refused(packet) => {
+                let Some(arrow) = self.arrows.take(packet, row) else {
+                    return Ok(false);
+                };
+                arrow.kind = ArrowKind::Refused;
+                Ok(arrow.is_longer_than(FAR))
+            }
+            Mark::Dead | Mark::Issued | Mark::Performed => Ok(false),
+        }
+    }
+
+    /// Goes past an event above the first row, which did this. Refused if memory is.
+    pub fn pass(&mut self, deed: &Deed) -> Result<(), AllocError> {
+        let _is_far = self.note(&deed.mark, None)?;
+        Ok(())
+    }
+
     /// Adds an event in a row of its own, and what it did. Refused if memory is.
     pub fn add(&mut self, event: &NumberedEvent, deed: &Deed) -> Result<(), AllocError> {
         let row = self.rows.count();
-        let sent = match &deed.mark {
-            Mark::Sent(packet) => {
-                self.arrows.send(packet, row)?;
-                None
-            }
-            Mark::Taken(packet) => self.arrows.take(packet, row),
-            Mark::Refused(packet) => self.arrows.refuse(packet, row),
-            Mark::Dead | Mark::Issued | Mark::Performed => None,
-        };
-        let is_far = sent.is_some_and(|sent| row.saturating_sub(sent) > FAR);
+        let is_far = self.note(&deed.mark, Some(row))?;
         self.rows.add(event, deed, is_far)
+    }
+
+    /// Where the columns begin.
+    fn top(&self) -> u64 {
+        names_at(0).saturating_add(6)
     }
 
     /// Where the columns end.
@@ -103,12 +128,12 @@ impl Drawing {
     fn push_columns(&self, out: &mut Vec<u8>) -> Result<(), AllocError> {
         for node in 0..self.extent.nodes {
             let x = self.layout.column(u16::from(node));
-            let top = Point { x, y: names_at(0) };
+            let top = Point { x, y: self.top() };
             let end = Point {
                 x,
                 y: self.bottom(),
             };
-            push_line(out, "column", top.moved(0, 6), end)?;
+            push_line(out, "column", top, end)?;
         }
         Ok(())
     }
@@ -138,26 +163,35 @@ impl Drawing {
     }
 
     /// Appends the arrow of a packet: from its sender's column to its receiver's, in the rows where it was sent and
-    /// taken. A packet that is never taken goes down to where the columns end.
+    /// taken. One that was sent above the first row comes from where the columns begin, and one that isn't taken goes down
+    /// to where they end.
     fn push_arrow(&self, out: &mut Vec<u8>, arrow: &Arrow) -> Result<(), AllocError> {
+        let packet = &arrow.packet;
         let from = Point {
-            x: self.layout.column(arrow.source),
-            y: row_at(arrow.sent),
+            x: self.layout.column(packet.source.get()),
+            y: match arrow.sent {
+                Some(row) => row_at(row),
+                None => self.top(),
+            },
         };
         let to = Point {
-            x: self.layout.column(arrow.target),
+            x: self.layout.column(packet.target.get()),
             y: match arrow.taken {
                 Some(row) => row_at(row),
                 None => self.bottom(),
             },
         };
+        let mut title = Vec::new(self.alloc);
+        push_packet(&mut title, packet)?;
+        // Without the line feed.
+        let _feed = title.pop();
         let class = arrow.kind.class();
-        if arrow.source == arrow.target {
+        if packet.source == packet.target {
             let left = LOOP + NEXT_LOOP * arrow.beside.min(3) as i16;
             let way = [from, from.moved(-left, 0), to.moved(-left, 0), to];
-            push_polyline(out, class, &way)
+            push_polyline(out, class, &way, &title)
         } else {
-            push_line(out, class, from, to)
+            push_polyline(out, class, &[from, to], &title)
         }
     }
 
@@ -172,7 +206,7 @@ impl Drawing {
         push_legend(&mut out)?;
         out.extend_from_slice(self.rows.below())?;
         self.push_columns(&mut out)?;
-        for arrow in self.arrows.all() {
+        for arrow in self.arrows.all().iter().filter(|arrow| arrow.is_shown()) {
             self.push_arrow(&mut out, arrow)?;
         }
         self.push_all_names(&mut out)?;

@@ -38,6 +38,27 @@ fn push_opening(out: &mut Vec<u8>, name: &str, class: &str) -> Result<(), AllocE
     push_text(out, "\"")
 }
 
+/// Appends words. They have none of the characters that XML gives a meaning, but `>`.
+fn push_escaped(out: &mut Vec<u8>, words: &[u8]) -> Result<(), AllocError> {
+    for byte in words {
+        match byte {
+            b'>' => push_text(out, "&gt;")?,
+            _ => out.push(*byte)?,
+        }
+    }
+    Ok(())
+}
+
+/// Appends a title, which a viewer shows where the element that it stands in is pointed at. Nothing if it has no words.
+fn push_title(out: &mut Vec<u8>, title: &[u8]) -> Result<(), AllocError> {
+    if title.is_empty() {
+        return Ok(());
+    }
+    push_text(out, "<title>")?;
+    push_escaped(out, title)?;
+    push_text(out, "</title>")
+}
+
 /// Appends the line from a point to another.
 pub fn push_line(out: &mut Vec<u8>, class: &str, from: Point, to: Point) -> Result<(), AllocError> {
     push_opening(out, "line", class)?;
@@ -48,8 +69,13 @@ pub fn push_line(out: &mut Vec<u8>, class: &str, from: Point, to: Point) -> Resu
     push_text(out, "/>\n")
 }
 
-/// Appends the lines from each point to the next.
-pub fn push_polyline(out: &mut Vec<u8>, class: &str, points: &[Point]) -> Result<(), AllocError> {
+/// Appends the lines from each point to the next, with a title.
+pub fn push_polyline(
+    out: &mut Vec<u8>,
+    class: &str,
+    points: &[Point],
+    title: &[u8],
+) -> Result<(), AllocError> {
     push_opening(out, "polyline", class)?;
     push_text(out, " points=\"")?;
     for (place, point) in points.iter().enumerate() {
@@ -60,7 +86,9 @@ pub fn push_polyline(out: &mut Vec<u8>, class: &str, points: &[Point]) -> Result
         push_text(out, ",")?;
         push_number(out, point.y)?;
     }
-    push_text(out, "\"/>\n")
+    push_text(out, "\">")?;
+    push_title(out, title)?;
+    push_text(out, "</polyline>\n")
 }
 
 /// Appends a circle.
@@ -93,22 +121,35 @@ pub fn push_svg(out: &mut Vec<u8>, size: Point) -> Result<(), AllocError> {
     push_text(out, ">\n")
 }
 
-/// Appends a text that begins at a point of its base line. It has none of the characters that XML gives a meaning, but `>`.
-pub fn push_words(
+/// Words, and the title that a viewer shows where they are pointed at; none if that is empty.
+#[derive(Clone, Copy)]
+pub struct Words<'a> {
+    pub text: &'a [u8],
+    pub title: &'a [u8],
+}
+
+/// Appends words that begin at a point of their base line.
+pub fn push_titled(
     out: &mut Vec<u8>,
     class: &str,
     at: Point,
-    words: &[u8],
+    words: Words,
 ) -> Result<(), AllocError> {
     push_opening(out, "text", class)?;
     push_attribute(out, "x", at.x)?;
     push_attribute(out, "y", at.y)?;
     push_text(out, ">")?;
-    for byte in words {
-        match byte {
-            b'>' => push_text(out, "&gt;")?,
-            _ => out.push(*byte)?,
-        }
-    }
+    push_escaped(out, words.text)?;
+    push_title(out, words.title)?;
     push_text(out, "</text>\n")
+}
+
+/// Appends a text without a title that begins at a point of its base line.
+pub fn push_words(
+    out: &mut Vec<u8>,
+    class: &str,
+    at: Point,
+    text: &[u8],
+) -> Result<(), AllocError> {
+    push_titled(out, class, at, Words { text, title: b"" })
 }

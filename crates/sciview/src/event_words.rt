@@ -226,13 +226,13 @@ fn push_logged(out: &mut Vec<u8>, entry: Option<Entry>) -> Result<(), AllocError
 
 /// The words for a line's states at a node.
 #[derive(Drop)]
-struct LineWords {
+pub struct LineWords {
     cache: Vec<u8>,
     home: Vec<u8>,
 }
 
 /// The words for a line's states at a node now, if there is a line.
-fn standing(
+pub fn standing(
     alloc: Global,
     machine: &Machine,
     n: u8,
@@ -255,7 +255,7 @@ fn standing(
 
 /// Appends how a line's states at a node changed from what they were.
 #[tactic(auto, unfolding(crate::specs::TraceAnswer::changes_text))]
-fn push_changes(
+pub fn push_changes(
     alloc: Global,
     out: &mut Vec<u8>,
     machine: &Machine,

@@ -2,7 +2,7 @@
 
 /// The words that the program knows.
 pub const USAGE: &str =
-    "usage: sciview order | explain | packets | trace [--strict] | lists | chart [--line L] | random N M C EVENTS SEED [--dead K] | --help | --version";
+    "usage: sciview order [--by-serial] [--show] | explain | packets | trace [--strict] [--line L] | lists [--line L] | chart [--line L] | random N M C EVENTS SEED [--dead K] | --help | --version";
 
 /// What stands below the usage line on standard error.
 pub const MANUAL: &str =
@@ -13,14 +13,17 @@ pub const VERSION: &str = "sciview 0.1.0\n";
 
 /// What `--help` writes.
 pub const HELP: &str = "\
-usage: sciview order | explain | packets | trace [--strict] | lists | chart [--line L] | random N M C EVENTS SEED [--dead K] | --help | --version
+usage: sciview order [--by-serial] [--show] | explain | packets | trace [--strict] [--line L] | lists [--line L] | chart [--line L] | random N M C EVENTS SEED [--dead K] | --help | --version
 
 Each command of a log or a schedule reads it from standard input, to its end.
 Each command writes standard output.
 
 of a log:
-  order             `sequentially consistent`, or a cycle of entries which shows
-                    that no order makes the log sequentially consistent
+  order [--by-serial] [--show]
+                    `sequentially consistent`, or a cycle of entries which shows
+                    that no order makes the log sequentially consistent. Each
+                    node's entries stand in the order as in its log, or by their
+                    serials. With --show the order follows.
   explain           of each line of memory that has a fault: the entry at fault,
                     what one memory of one thread gives there, and the entries
                     around it
@@ -28,11 +31,14 @@ of a log:
 of a schedule:
   packets           the bytes of all packets that it sends, one after another:
                     what `scimem decode` reads
-  trace [--strict]  what each event does, or why it isn't enabled; if strict, up
-                    to the first that isn't
-  lists             behind each event that may have changed the sharing list of
+  trace [--strict] [--line L]
+                    what each event does, or why it isn't enabled; if strict, up
+                    to the first that isn't; of all events, or of those about
+                    the line L alone
+  lists [--line L]  behind each event that may have changed the sharing list of
                     a line: the line's number, the list, the node that may
-                    change the line, and the line's last contents
+                    change the line, and the line's last contents; of all lines,
+                    or of the line L alone
   chart [--line L]  a message sequence chart of its events in SVG: of all lines,
                     or of the line L, 0 to 63, alone
 

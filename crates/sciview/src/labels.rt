@@ -53,7 +53,7 @@ pub struct Change {
 
 impl Sight {
     /// What is seen of a line at a node. Nothing is seen if there is no such node, or no line.
-    pub fn of(machine: &Machine, node: u8, line: Option<u64>) -> Sight {
+    pub fn of(machine: &Machine, node: u8, line: Option<u8>) -> Sight {
         let nothing = Sight {
             cache: None,
             home: None,
@@ -62,7 +62,7 @@ impl Sight {
             return nothing;
         }
         let node = machine.node(node);
-        match line.and_then(|line| u8::try_from(line).ok()) {
+        match line {
             Some(line) if line < node.extent().lines => Sight {
                 cache: Some(CacheSight::of(node.held(line))),
                 home: node.home(line).map(|home| home.state()),

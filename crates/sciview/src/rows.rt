@@ -1,7 +1,7 @@
 //! The rows of a chart: an event each.
 
 use crate::deed::{Deed, Mark};
-use crate::elements::{Point, push_circle, push_line, push_words};
+use crate::elements::{Point, Words, push_circle, push_line, push_titled, push_words};
 use crate::labels::push_packet;
 use crate::layout::{Layout, MARGIN, NumberedEvent, row_at, width_of};
 use sci_command::push_labelled;
@@ -161,7 +161,11 @@ impl Rows {
         };
         let start = at.moved(2 * REACH, down);
         self.right = self.right.max(start.x.saturating_add(width_of(&self.text)));
-        push_words(&mut self.above, "label", start, &self.text)
+        let words = Words {
+            text: &self.text,
+            title: deed.title.get(2..).unwrap_or(b""),
+        };
+        push_titled(&mut self.above, "label", start, words)
     }
 
     /// Adds a row at the end: an event, and what it did. If it took a packet that `is_far`, the row names it. Refused if memory
