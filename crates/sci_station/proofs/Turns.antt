@@ -1,7 +1,7 @@
 -- A station's turn with one step more.
-use Rattle.std.proofs.Common.{◌≡◌, ◌≤◌, ◌<◌, ◌+◌, ℕ, arith, Bool, eqb, List, [], ◌∷◌, ◌++◌, refl, sym, ap, subst, ◌∙◌, inl, inr}
+use Rattle.std.proofs.Common.{◌≡◌, ◌≤◌, ◌<◌, ◌+◌, ℕ, arith, Bool, true, false, eqb, List, [], ◌∷◌, ◌++◌, refl, sym, ap, subst, ◌∙◌, inl, inr}
 use Rattle.std.specs.Prelude.{IsSome, cond}
-use Rattle.std.proofs.lemmas.Bool.{eq-eqb, ne_eqb}
+use Rattle.std.proofs.lemmas.Bool.{cases_lt, eq-eqb, le-ltb, lt-ltb, ne_eqb}
 use Rattle.std.proofs.lemmas.List.{append-nil, append_assoc}
 use Rattle.std.proofs.lemmas.List.Elements.{filter-append}
 use Rattle.sci_words.specs.declared.event.Event.{Event}
@@ -10,7 +10,7 @@ use Rattle.sci_core.specs.Core.{Core, IsEnabled, node_of, run}
 use Rattle.sci_core.specs.Node.{NodeOf}
 use Rattle.sci_policy.specs.declared.progress.Progress.{Progress}
 use Rattle.sci_policy.specs.Policy.{PolicyOf, next_policy}
-use Rattle.sci_policy.specs.Turn.{Counts, IsTurnEvent, MadeNothing, counted, is_accept, is_service}
+use Rattle.sci_policy.specs.Turn.{Counts, IsTurnEvent, MadeNothing, capped, counted, is_accept, is_service, more_if}
 use Rattle.sci_policy.proofs.Telling.{one, tells_something}
 use Rattle.sci_lanes.specs.declared.view.Part.{Part}
 use Rattle.sci_lanes.specs.Shown.{AreOfOthers, IsSeen, me_of}
@@ -59,12 +59,23 @@ step_most a b old new told tells le step =
     let served = step.served in
     record { accepted = omega arith; served = omega arith; ready = step.ready; same = step.same }
 
+-- a count rises by one at most
+capped_most : (m : ℕ) → capped m ≤ m
+capped_most m = elim (cases_lt m 4294967295) [
+  | inl below ↦ rw (lt-ltb m 4294967295 below) (omega arith)
+  | inr above ↦ rw (le-ltb m 4294967295 above) above
+]
+
+one_more : (b : Bool) (n : ℕ) → more_if b n ≤ n + 1
+one_more true n = capped_most (n + 1)
+one_more false n = omega arith
+
 pub step_made : (old new : EndOf) (told tells : Progress) (e : Event) → IsSameEnd old new → tells ≡ counted told e → IsStep 1 old new told tells
 step_made old new told tells e same is =
     let accepted = ap (λ (p : Progress). p.accepted) is in
     let served = ap (λ (p : Progress). p.served) is in
-    let an_accept = one (is_accept e) in
-    let a_service = one (is_service e) in
+    let an_accept = one_more (is_accept e) told.accepted in
+    let a_service = one_more (is_service e) told.served in
     record { accepted = omega arith; served = omega arith; ready = ap (λ (p : Progress). p.ready) is; same = same }
 
 -- ---- going on
