@@ -33,7 +33,7 @@ kept BySerial logs = by_serial logs
 
 -- ---- texts
 
--- what the entries of one node stand in
+-- the name of the order in which each node's entries have to stand
 unfoldable pub order_name : NodeOrder → List ℕ
 order_name Logged = codes "log order"
 order_name BySerial = codes "program order"

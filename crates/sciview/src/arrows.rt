@@ -45,28 +45,19 @@ pub struct Arrow {
     pub kind: ArrowKind,
     /// The packet.
     pub packet: Packet,
-    /// The row where it was sent, or None if that is above the first row.
-    pub sent: Option<u32>,
-    /// The row where it was taken, or None if that is above the first row or it wasn't taken.
+    /// The row where it was sent.
+    pub sent: u32,
+    /// The row where it was taken, if it was.
     pub taken: Option<u32>,
     /// How many packets of the sender to itself were under way when it was sent, if it is one.
     pub beside: usize,
 }
 
 impl Arrow {
-    /// Whether an end of it stands in a row.
-    pub fn is_shown(&self) -> bool {
-        self.sent.is_some() || self.taken.is_some()
-    }
-
-    /// Whether it was taken so far from where it was sent that both ends name it: more than this many rows below, or below
-    /// rows that aren't shown.
+    /// Whether it was taken more than this many rows below the one where it was sent.
     pub fn is_longer_than(&self, rows: u32) -> bool {
-        match (self.sent, self.taken) {
-            (Some(sent), Some(taken)) => taken.saturating_sub(sent) > rows,
-            (None, Some(_)) => true,
-            _ => false,
-        }
+        self.taken
+            .is_some_and(|taken| taken.saturating_sub(self.sent) > rows)
     }
 }
 
@@ -117,8 +108,8 @@ impl Arrows {
         under_way(first).saturating_add(under_way(second))
     }
 
-    /// A packet is sent in a row, or above the first. Refused if memory is.
-    pub fn send(&mut self, packet: &Packet, row: Option<u32>) -> Result<(), AllocError> {
+    /// A packet is sent in a row. Refused if memory is.
+    pub fn send(&mut self, packet: &Packet, row: u32) -> Result<(), AllocError> {
         // Makes an option, so that the prover is told of the types inside a packet.
         let _told = Some(*packet);
         let place = self.sent.len();
@@ -136,12 +127,12 @@ impl Arrows {
         Ok(())
     }
 
-    /// A packet is taken in a row, or above the first, and is the oldest of its lane. Gives its way.
-    pub fn take(&mut self, packet: &Packet, row: Option<u32>) -> Option<&mut Arrow> {
+    /// A packet is taken in a row: it is the oldest of its lane. Gives its way.
+    pub fn take(&mut self, packet: &Packet, row: u32) -> Option<&mut Arrow> {
         let lane = self.lanes.get_mut(lane_of(packet))?;
         let place = lane.pop_front()?;
         let arrow = self.sent.get_mut(place)?;
-        arrow.taken = row;
+        arrow.taken = Some(row);
         Some(arrow)
     }
 }

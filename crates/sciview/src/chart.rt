@@ -72,8 +72,9 @@ fn answer<R: Read>(
 /// operations (events that are not enabled change nothing), and writes a message sequence chart of them in SVG: Done.
 /// With a line it shows the events and the packets about that line alone, and else all. A schedule with a fault is
 /// Refused, with the line `refused at line K: KIND` alone, as are a reader that fails, too long an input and running out
-/// of memory, at line 0, and a line that the machine doesn't have, as `range` at line 0. The whole chart is made before its first byte is written. After a failed read or write nothing
-/// more is read or written; after a failed write it is Refused.
+/// of memory, at line 0, and a line that the machine doesn't have, as `range` at line 0. The whole chart is made before
+/// its first byte is written. After a failed read or write nothing more is read or written; after a failed write it is
+/// Refused.
 pub fn chart<R: Read, W: Write>(
     alloc: Global,
     line: Option<u8>,

@@ -51,9 +51,8 @@ impl Drawing {
         })
     }
 
-    /// Notes which packet an event sent or took in a row, or above the first. Whether it took one that came from far.
-    /// Refused if memory is.
-    fn note(&mut self, mark: &Mark, row: Option<u32>) -> Result<bool, AllocError> {
+    /// Notes which packet an event sent or took in a row. Whether it took one that came from far. Refused if memory is.
+    fn note(&mut self, mark: &Mark, row: u32) -> Result<bool, AllocError> {
         match mark {
             Mark::Sent(packet) => {
                 self.arrows.send(packet, row)?;
@@ -74,22 +73,11 @@ impl Drawing {
         }
     }
 
-    /// Goes past an event above the first row, which did this. Refused if memory is.
-    pub fn pass(&mut self, deed: &Deed) -> Result<(), AllocError> {
-        let _is_far = self.note(&deed.mark, None)?;
-        Ok(())
-    }
-
     /// Adds an event in a row of its own, and what it did. Refused if memory is.
     pub fn add(&mut self, event: &NumberedEvent, deed: &Deed) -> Result<(), AllocError> {
         let row = self.rows.count();
-        let is_far = self.note(&deed.mark, Some(row))?;
+        let is_far = self.note(&deed.mark, row)?;
         self.rows.add(event, deed, is_far)
-    }
-
-    /// Where the columns begin.
-    fn top(&self) -> u64 {
-        names_at(0).saturating_add(6)
     }
 
     /// Where the columns end.
@@ -128,12 +116,12 @@ impl Drawing {
     fn push_columns(&self, out: &mut Vec<u8>) -> Result<(), AllocError> {
         for node in 0..self.extent.nodes {
             let x = self.layout.column(u16::from(node));
-            let top = Point { x, y: self.top() };
+            let top = Point { x, y: names_at(0) };
             let end = Point {
                 x,
                 y: self.bottom(),
             };
-            push_line(out, "column", top, end)?;
+            push_line(out, "column", top.moved(0, 6), end)?;
         }
         Ok(())
     }
@@ -163,16 +151,12 @@ impl Drawing {
     }
 
     /// Appends the arrow of a packet: from its sender's column to its receiver's, in the rows where it was sent and
-    /// taken. One that was sent above the first row comes from where the columns begin, and one that isn't taken goes down
-    /// to where they end.
+    /// taken. A packet that is never taken goes down to where the columns end.
     fn push_arrow(&self, out: &mut Vec<u8>, arrow: &Arrow) -> Result<(), AllocError> {
         let packet = &arrow.packet;
         let from = Point {
             x: self.layout.column(packet.source.get()),
-            y: match arrow.sent {
-                Some(row) => row_at(row),
-                None => self.top(),
-            },
+            y: row_at(arrow.sent),
         };
         let to = Point {
             x: self.layout.column(packet.target.get()),
@@ -206,7 +190,7 @@ impl Drawing {
         push_legend(&mut out)?;
         out.extend_from_slice(self.rows.below())?;
         self.push_columns(&mut out)?;
-        for arrow in self.arrows.all().iter().filter(|arrow| arrow.is_shown()) {
+        for arrow in self.arrows.all() {
             self.push_arrow(&mut out, arrow)?;
         }
         self.push_all_names(&mut out)?;

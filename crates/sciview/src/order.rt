@@ -25,7 +25,7 @@ use std::alloc::{AllocError, Global};
 use std::io::{Read, Write};
 
 /// In which order each node's entries have to stand.
-#[derive(Clone, Copy, PartialEq, Eq)]
+#[derive(Clone, Copy)]
 pub enum NodeOrder {
     /// As in the node's log: as they were performed.
     Logged,
@@ -42,7 +42,7 @@ pub struct OrderRequest {
     pub shows: bool,
 }
 
-/// What the entries of one node stand in.
+/// The name of the order in which each node's entries have to stand.
 #[tactic(auto, unfolding(crate::specs::OrderAnswer::order_name))]
 fn order_name(keeps: NodeOrder) -> &'static str
     ensures { result.now ≡ order_name_of keeps }
