@@ -13,7 +13,7 @@ mod writing;
 pub use outcome::Outcome;
 pub use packet_line::{command_name, push_contents, push_identifier, push_packet};
 pub use printing::push_labelled;
-pub use refusal::refuse;
+pub use refusal::{refusal_text, refuse};
 pub use verdict::verdict_line;
 pub use words::texts_of;
 pub use writing::write_answer;

@@ -26,8 +26,9 @@ fn word_of(kind: TextFaultKind) -> &'static str
     }
 }
 
+/// The line of a refusal: `refused at line K: KIND`, and the line feed. Refused if memory is.
 #[tactic(auto, unfolding(crate::specs::Refusal::line_refusal))]
-fn refusal_text(alloc: Global, fault: TextFault) -> Result<Vec<u8>, AllocError>
+pub fn refusal_text(alloc: Global, fault: TextFault) -> Result<Vec<u8>, AllocError>
     ensures { IfOk result (λ text. text.items ≡ line_refusal fault.line fault.kind) }
 {
     let mut text = Vec::new(alloc);

@@ -34,8 +34,9 @@ fn push_event<'a>(schedule: &mut Schedule, bytes: &'a [u8]) -> Result<&'a [u8], 
     Ok(rest)
 }
 
-/// The schedule whose text the bytes are.
-pub fn schedule(alloc: Global, input: &[u8]) -> Result<Schedule, TextFault>
+/// The schedule whose text the bytes are. A refusal names the first line with a fault, or has line 0 if memory was refused; an
+/// input that is too long isn't refused here.
+pub fn schedule_of(alloc: Global, input: &[u8]) -> Result<Schedule, TextFault>
     ensures ok { IfOk result (λ s. input.now ≡ schedule_text s) }
     ensures good { IfOk result IsSchedule }
     ensures fault { IfErr result (IsRefusal IsScheduleFault input.now) }

@@ -11,7 +11,7 @@ ghost use Rattle.sci_text.specs.ScheduleFault.{IsScheduleFault};
 use crate::fault::TextFault;
 use crate::reading::read_input;
 use crate::schedule::Schedule;
-use crate::schedule_lines::schedule;
+use crate::schedule_lines::schedule_of;
 use crate::tap::Tap;
 use std::alloc::Global;
 use std::io::Read;
@@ -42,5 +42,5 @@ pub fn read_schedule<R: Read>(alloc: Global, reader: &mut Tap<R>) -> Result<Sche
     ensures again { is_called_again reader.new ≡ is_called_again reader.old }
 {
     let input = read_input(alloc, reader)?;
-    schedule(alloc, &input)
+    schedule_of(alloc, &input)
 }

@@ -94,8 +94,9 @@ fn push_line<'a>(script: &mut Script, bytes: &'a [u8]) -> Result<&'a [u8], TextF
     Ok(rest)
 }
 
-/// The script whose text the bytes are.
-pub fn script(alloc: Global, input: &[u8]) -> Result<Script, TextFault>
+/// The script whose text the bytes are. A refusal names the first line with a fault, or has line 0 if memory was refused; an
+/// input that is too long isn't refused here.
+pub fn script_of(alloc: Global, input: &[u8]) -> Result<Script, TextFault>
     ensures ok { IfOk result (λ s. input.now ≡ script_text s) }
     ensures good { IfOk result IsScript }
     ensures fault { IfErr result (IsRefusal IsScriptFault input.now) }

@@ -11,7 +11,7 @@ ghost use Rattle.sci_text.specs.ScriptFault.{IsScriptFault};
 use crate::fault::TextFault;
 use crate::reading::read_input;
 use crate::script::Script;
-use crate::script_lines::script;
+use crate::script_lines::script_of;
 use crate::tap::Tap;
 use std::alloc::Global;
 use std::io::Read;
@@ -41,5 +41,5 @@ pub fn read_script<R: Read>(alloc: Global, reader: &mut Tap<R>) -> Result<Script
     ensures again { is_called_again reader.new ≡ is_called_again reader.old }
 {
     let input = read_input(alloc, reader)?;
-    script(alloc, &input)
+    script_of(alloc, &input)
 }

@@ -6,4 +6,4 @@ use Rattle.sci_text.proofs.schedule_reading.read_schedule.Goals as goal
 pub returns-clause-only : goal.returns-clause-only
 returns-clause-only g c = λ schedule good few known.
     let text : c.in_ok-input.input.items ≡ schedule_text schedule = rw known at c.in_ok-input.ensures.bytes in
-    schedule_read_as schedule c.deref.result.now c.schedule.result good (c.deref.ensures.value ∙ text) c.schedule.ensures.ok c.schedule.ensures.good c.schedule.ensures.fault
+    schedule_read_as schedule c.deref.result.now c.schedule_of.result good (c.deref.ensures.value ∙ text) c.schedule_of.ensures.ok c.schedule_of.ensures.good c.schedule_of.ensures.fault

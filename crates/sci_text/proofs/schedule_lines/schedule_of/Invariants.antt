@@ -1,6 +1,6 @@
 use Rattle.std.proofs.Common.{◌≡◌, ◌++◌, length}
 use Rattle.sci_text.specs.Schedule.{IsSchedule, schedule_text}
-use Rattle.sci_text.proofs.schedule_lines.schedule.Given as goal
+use Rattle.sci_text.proofs.schedule_lines.schedule_of.Given as goal
 
 -- the input is the text of the schedule so far, and what is left
 abbrev pub invariant-loop-rest : goal.invariant-loop-rest

@@ -3,7 +3,7 @@ use Rattle.std.proofs.lemmas.Bool.Decides.{nat_tests}
 use Rattle.std.proofs.lemmas.Result.{err_from_is_err_and}
 use Rattle.sci_text.proofs.Results.{ok_then, err_then}
 use Rattle.sci_text.proofs.ScheduleFaults.{event_told, line_shrinks}
-use Rattle.sci_text.proofs.schedule_lines.schedule.Goals as goal
+use Rattle.sci_text.proofs.schedule_lines.schedule_of.Goals as goal
 
 pub loop-rest-smaller : goal.loop-rest-smaller
 loop-rest-smaller c =

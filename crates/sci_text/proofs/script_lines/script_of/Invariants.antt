@@ -1,6 +1,6 @@
 use Rattle.std.proofs.Common.{◌≡◌, ◌++◌, length}
 use Rattle.sci_text.specs.Script.{IsScript, script_text}
-use Rattle.sci_text.proofs.script_lines.script.Given as goal
+use Rattle.sci_text.proofs.script_lines.script_of.Given as goal
 
 -- the input is the text of the script so far, and what is left
 abbrev pub invariant-loop-rest : goal.invariant-loop-rest

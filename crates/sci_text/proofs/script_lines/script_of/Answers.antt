@@ -1,6 +1,6 @@
 use Rattle.sci_text.proofs.Results.{ok_then}
 use Rattle.sci_text.proofs.ScriptText.{line_shrinks}
-use Rattle.sci_text.proofs.script_lines.script.Goals as goal
+use Rattle.sci_text.proofs.script_lines.script_of.Goals as goal
 
 pub loop-rest-smaller : goal.loop-rest-smaller
 loop-rest-smaller c =
