@@ -1,21 +1,23 @@
 -- The answer that is under way to a node about a line waits at the node that answers, or is in the lane from there. By
 -- tidiness there is one at most, so the first that is found is it.
-use Rattle.std.proofs.Common.{◌≡◌, ◌≢◌, ◌⊎◌, ℕ, suc, ◌+◌, ◌*◌, ◌%◌, ◌<◌, ◌≤◌, ◌&&◌, not, Bool, true, false, List, [], ◌∷◌, ◌++◌, length, filter, get_or, take, drop, Option, Some, None, append_assoc, length-append, refl, sym, ap, ◌∙◌, subst, arith, inl, inr}
+use Rattle.std.proofs.Common.{◌≡◌, ◌≢◌, ◌⊎◌, ℕ, suc, ◌+◌, ◌*◌, ◌%◌, ◌<◌, ◌≤◌, ◌&&◌, ◌||◌, not, Bool, true, false, if◌then◌else◌, cond, ◌==◌, List, [], ◌∷◌, ◌++◌, length, filter, get_or, take, drop, Option, Some, None, append_assoc, length-append, refl, sym, ap, ◌∙◌, subst, arith, inl, inr}
 use Rattle.std.specs.Prelude.{option_to_list}
 use Rattle.std.specs.Option.{option_or}
-use Rattle.std.specs.List.{flat_map, AllByRecursion}
+use Rattle.std.specs.List.{flat_map, list_any, AllByRecursion}
 use Rattle.std.proofs.lemmas.Bool.{cases_Bool, cases_eq, ne_eqb}
 use Rattle.std.proofs.lemmas.List.{take-append-drop}
 use Rattle.std.proofs.lemmas.List.Elements.{filter-append, recursion_from_All}
+use Rattle.std.proofs.lemmas.List.Folds.{list_any-append}
 use Rattle.std.proofs.lemmas.Grind.{flat_map-append}
 use Rattle.sci_packets.specs.declared.body.Body.{Body}
 use Rattle.sci_packets.specs.Table.{is_request}
 use Rattle.sci_cache.specs.Cache.{Letter, line_of}
 use Rattle.sci_cache.specs.Line.{LineState}
+use Rattle.sci_cache.specs.State.{waits}
 use Rattle.sci_core.specs.declared.lane.LaneKind.TheVariants.{Requests, Answers}
 use Rattle.sci_core.specs.Node.{NodeOf, no_node}
 use Rattle.sci_core.specs.Core.{Core, node_at, lane_at, lane_of, lane_place}
-use Rattle.sci_core.specs.Sharing.{is_about, answer_in, packets_of, under_way, answer_to}
+use Rattle.sci_core.specs.Sharing.{asker_of, is_about, asks_about, answer_in, packets_of, under_way, answer_to}
 use Rattle.sci_core.specs.Tidy.{HasItsPackets, IsTidy}
 use Rattle.sci_core.specs.WellFormed.{IsInLane, IsWellFormed}
 use Rattle.sci_core.proofs.Options.{after_none}
@@ -84,6 +86,76 @@ found_carried core place n line body tidy below lt inside is =
     let parts : under_way core ≡ (first ++ before) ++ (here ++ after) =
     ap (λ (letters : List Letter). first ++ letters) (split_at carried core.lanes place [] below) ∙ sym (append_assoc first before (here ++ after)) in
     ap (seek n line) parts ∙ found_in n line (first ++ before) here after body (subst (λ (letters : List Letter). length (filter (is_about n line) letters) ≤ 1) parts few) is
+
+-- ---- a request that is under way
+
+abbrev asking : Letter → Bool
+asking letter = is_request letter.body
+
+-- a packet that is alone is no answer if it is a request
+asked_alone : (letters : List Letter) → length letters ≤ 1 → list_any asking letters ≡ true → answer_in letters ≡ None
+asked_alone [] few asks = refl
+asked_alone (letter ∷ []) few asks = alone_is (is_request letter.body) (Some letter.body) asks
+  where
+    alone_is : (asks : Bool) (body : Option Body) → (asks || false) ≡ true → (if asks then None else body) ≡ None
+    alone_is true body e = refl
+    alone_is false body e = cc
+asked_alone (letter ∷ another ∷ letters) few asks = absurd (omega arith)
+
+any_first : (b c : Bool) → b ≡ true → (b || c) ≡ true
+any_first true c e = refl
+any_first false c e = cc
+
+any_second : (b c : Bool) → c ≡ true → (b || c) ≡ true
+any_second true c e = refl
+any_second false c e = e
+
+-- one packet more, if it is a request, about the line, from the node, and of its asks
+stays : (asks about from mine : Bool) (letter : Letter) (more : Bool) (kept : List Letter) → ((asks && (about && from)) || more) ≡ true → (more ≡ true → list_any asking kept ≡ true)
+    → asks ≡ is_request letter.body → (asks ≡ true → mine ≡ from) → list_any asking (cond (about && mine) (letter ∷ kept) kept) ≡ true
+stays true true true true letter more kept any rest is same = any_first (is_request letter.body) (list_any asking kept) (sym is)
+stays true true true false letter more kept any rest is same = let no : false ≡ true = same refl in absurd (cc)
+stays true true false true letter more kept any rest is same = any_second (is_request letter.body) (list_any asking kept) (rest any)
+stays true true false false letter more kept any rest is same = rest any
+stays true false from mine letter more kept any rest is same = rest any
+stays false true from true letter more kept any rest is same = any_second (is_request letter.body) (list_any asking kept) (rest any)
+stays false true from false letter more kept any rest is same = rest any
+stays false false from mine letter more kept any rest is same = rest any
+
+-- the requests of a node about a line are among its packets
+asks_stay : (n line : ℕ) (letters : List Letter) → list_any (asks_about n line) letters ≡ true → list_any asking (filter (is_about n line) letters) ≡ true
+asks_stay n line [] asks = asks
+asks_stay n line (letter ∷ letters) asks = stays (is_request letter.body) (letter.line == line) (letter.source == n) (asker_of letter == n) letter (list_any (asks_about n line) letters) (filter (is_about n line) letters) asks (asks_stay n line letters) refl
+    (λ request. ap (λ (b : Bool). (if b then letter.source else letter.target) == n) request)
+
+asked_in : (n line : ℕ) (before here after : List Letter) → length (filter (is_about n line) (before ++ (here ++ after))) ≤ 1 → list_any (asks_about n line) here ≡ true → seek n line (before ++ (here ++ after)) ≡ None
+asked_in n line before here after few asks =
+    let any = list_any-append (asks_about n line) before (here ++ after) in
+    let rest = list_any-append (asks_about n line) here after in
+    let here_or : list_any (asks_about n line) (here ++ after) ≡ true = rest ∙ any_first (list_any (asks_about n line) here) (list_any (asks_about n line) after) asks in
+    let all : list_any (asks_about n line) (before ++ (here ++ after)) ≡ true = any ∙ any_second (list_any (asks_about n line) before) (list_any (asks_about n line) (here ++ after)) here_or in
+    asked_alone (filter (is_about n line) (before ++ (here ++ after))) few (asks_stay n line (before ++ (here ++ after)) all)
+
+-- if the request is still in a lane, no answer is under way
+asked_carried : (core : Core) (place n line : ℕ) → IsTidy core → place < length core.lanes → n < core.size.nodes → line < core.size.lines → list_any (asks_about n line) (lane_at core place) ≡ true → answer_to core n line ≡ None
+asked_carried core place n line tidy below lt inside asks =
+    let few = few_packets (line % core.size.nodes) (line_of (node_at core n).cache line) (packets_of core n line) (tidy n line lt inside) in
+    let first = flat_map waiting core.parts in
+    let before = flat_map carried (take place core.lanes) in
+    let here = lane_at core place in
+    let after = flat_map carried (drop (place + 1) core.lanes) in
+    let parts : under_way core ≡ (first ++ before) ++ (here ++ after) =
+    ap (λ (letters : List Letter). first ++ letters) (split_at carried core.lanes place [] below) ∙ sym (append_assoc first before (here ++ after)) in
+    ap (seek n line) parts ∙ asked_in n line (first ++ before) here after (subst (λ (letters : List Letter). length (filter (is_about n line) letters) ≤ 1) parts few) asks
+
+-- nor is one if none is awaited
+unawaited : (home : ℕ) (line : LineState) (letters : List Letter) → HasItsPackets home line letters → waits line.state ≡ false → answer_in letters ≡ None
+unawaited home line [] has idle = refl
+unawaited home line (letter ∷ []) has idle = let waiting : waits line.state ≡ true = has.waiting in cc
+unawaited home line (letter ∷ another ∷ letters) has idle = absurd has
+
+pub none_awaited : (core : Core) (n line : ℕ) → IsTidy core → n < core.size.nodes → line < core.size.lines → waits (line_of (node_at core n).cache line).state ≡ false → answer_to core n line ≡ None
+none_awaited core n line tidy lt inside idle = unawaited (line % core.size.nodes) (line_of (node_at core n).cache line) (packets_of core n line) (tidy n line lt inside) idle
 
 -- ---- nothing is found
 
@@ -154,6 +226,10 @@ found_from core from n line body well tidy f lt inside is =
       | inl here ↦ found_waiting core from n line body well tidy f lt inside here
       | inr here ↦ found_carried core (lane_place core.size.nodes Answers from n) n line body tidy (lane_below core Answers from n well f lt) lt inside here
     ]
+
+-- if the request is in the lane to a node, no answer is under way
+pub asked_at : (core : Core) (from n line : ℕ) → IsWellFormed core → IsTidy core → from < core.size.nodes → n < core.size.nodes → line < core.size.lines → list_any (asks_about n line) (lane_of core Requests n from) ≡ true → answer_to core n line ≡ None
+asked_at core from n line well tidy f lt inside asks = asked_carried core (lane_place core.size.nodes Requests n from) n line tidy (lane_below core Requests n from well lt f) lt inside asks
 
 pub none_from : (core : Core) (n line : ℕ) → IsWellFormed core → n < core.size.nodes → ((from : ℕ) → from < core.size.nodes → seek n line (sent_from core from n) ≡ None) → answer_to core n line ≡ None
 none_from core n line well lt none =

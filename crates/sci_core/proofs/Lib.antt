@@ -65,4 +65,5 @@ pub mod Emptying
 pub mod EmptyRuns
 pub mod PendingRuns
 pub mod Walking
+pub mod Shared
 pub mod Answering

@@ -10,7 +10,7 @@ use Rattle.sci_packets.specs.declared.body.Body.TheVariants.{Mdata, Cdata, Purge
 use Rattle.sci_packets.specs.Table.{is_request}
 use Rattle.sci_home.specs.declared.state.HomeState.{HomeState}
 use Rattle.sci_home.specs.Serving.{current_of}
-use Rattle.sci_cache.specs.State.{CacheState, Asking, Joining, FreshJoining, Head, FreshHead, Purging, Claiming, Clearing, Returning}
+use Rattle.sci_cache.specs.State.{CacheState, Asking, Joining, FreshJoining, Head, FreshHead, Purging, Claiming, Clearing, Returning, Rolling, Telling}
 use Rattle.sci_cache.specs.Cache.{Letter, line_of}
 use Rattle.sci_core.specs.Node.{home_of}
 use Rattle.sci_core.specs.Core.{Core, node_at}
@@ -24,6 +24,10 @@ asker_of letter = if is_request letter.body then letter.source else letter.targe
 -- whether a packet makes or answers an ask of node n about a line
 abbrev pub is_about : ℕ → ℕ → Letter → Bool
 is_about n line letter = (letter.line == line) && (asker_of letter == n)
+
+-- whether a packet is the request of an ask of node n about a line
+abbrev pub asks_about : ℕ → ℕ → Letter → Bool
+asks_about n line letter = is_request letter.body && ((letter.line == line) && (letter.source == n))
 
 -- the packets under way: the answers that wait to be sent, and those in lanes
 abbrev pub under_way : Core → List Letter
@@ -42,6 +46,20 @@ abbrev pub answer_to : Core → ℕ → ℕ → Option Body
 answer_to core n line = answer_in (packets_of core n line)
 
 -- ---- nodes
+
+-- The node to which the request of a line that waits went, as its state has it. That of a node that leaves may have gone to an
+-- entry that was before it.
+abbrev pub asked_node : ℕ → CacheState → Option ℕ
+asked_node home Asking = Some home
+asked_node home (Joining p sent) = Some p
+asked_node home (FreshJoining p sent c) = Some p
+asked_node home (Purging q c) = Some q
+asked_node home (Claiming f c) = Some home
+asked_node home (Clearing c) = Some home
+asked_node home (Returning c) = Some home
+asked_node home (Rolling f b c) = Some b
+asked_node home (Telling r w sent) = Some r
+asked_node home state = None
 
 -- what a node has of a line: its state, and the answer that is under way to it
 pub record Sharer : Type 0 where

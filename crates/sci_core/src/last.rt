@@ -4,7 +4,7 @@ ghost use Rattle.std.specs.Prelude.{◌≡◌, ◌&&◌, not, ◌<◌, ◌≤◌
 ghost use Rattle.sci_packets.specs.Table.{is_request};
 ghost use Rattle.sci_cache.specs.Held.{state_of};
 ghost use Rattle.sci_cache.specs.Cache.{letter_of};
-ghost use Rattle.sci_core.specs.Sharing.{is_about, answer_in, contents_held};
+ghost use Rattle.sci_core.specs.Sharing.{is_about, answer_in, contents_held as contents_held_of};
 
 use crate::lane::{Lane, LaneKind};
 use crate::node::Node;
@@ -35,8 +35,8 @@ fn answer_among(packets: &[Packet], n: u8, line: u8) -> Option<Body>
 
 /// The contents of a line in a node that may change it or is about to, by the node's state and the answer that is
 /// under way to it.
-fn authority(held: &Held, answer: &Option<Body>) -> Option<Stamped>
-    ensures { result ≡ contents_held (state_of held.now) answer.now }
+pub(crate) fn contents_held(held: &Held, answer: &Option<Body>) -> Option<Stamped>
+    ensures { result ≡ contents_held_of (state_of held.now) answer.now }
 {
     match held {
         Held::Head(state) if answer.is_none() => Some(state.contents),
@@ -112,7 +112,7 @@ impl State {
     ghost use Rattle.sci_home.specs.Serving.{current_of};
 
     /// The answer that is under way from one node to node `n` about a line: one that waits there, or one in the lane.
-    fn answer_from(&self, from: u8, n: u8, line: u8) -> Option<Body>
+    pub(crate) fn answer_from(&self, from: u8, n: u8, line: u8) -> Option<Body>
         requires from { from < self.now.size.nodes }
         requires n { n < self.now.size.nodes }
         ensures { result ≡ answer_in (filter (is_about n line)
@@ -126,6 +126,20 @@ impl State {
 
     /// The answer that is under way to node `n` about a line, from whichever node.
     pub(crate) fn answer_to(&self, n: u8, line: u8) -> Option<Body>
+        requires well { IsWellFormed self.now }
+        requires tidy { IsTidy self.now }
+        requires n { n < self.now.size.nodes }
+        requires line { line < self.now.size.lines }
+        ensures { result ≡ answer_to_of self.now n line }
+    {
+        match self.answer_where_asked(n, line) {
+            Some(answer) => answer,
+            None => self.answer_from_any(n, line),
+        }
+    }
+
+    /// The answer that is under way to node `n` about a line, looked for at one node after another.
+    fn answer_from_any(&self, n: u8, line: u8) -> Option<Body>
         requires well { IsWellFormed self.now }
         requires tidy { IsTidy self.now }
         requires n { n < self.now.size.nodes }
@@ -156,7 +170,7 @@ impl State {
             Held::FreshHead(state) => Some(state.contents),
             held => {
                 let answer = self.answer_to(n, line);
-                authority(held, &answer)
+                contents_held(held, &answer)
             }
         }
     }
@@ -181,7 +195,7 @@ impl State {
 
     /// The contents of a line at its home, if nobody may have written since. The caller sees to it that there
     /// is such a line.
-    fn home_contents(&self, line: u8) -> Option<Stamped>
+    pub(crate) fn home_contents(&self, line: u8) -> Option<Stamped>
         requires well { IsWellFormed self.now }
         requires line { line < self.now.size.lines }
         ensures { result ≡ current_of (home_at self.now line) }

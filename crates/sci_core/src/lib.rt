@@ -3,6 +3,7 @@
 #![tactic(auto)]
 
 mod apply;
+mod asked;
 mod drain;
 mod fault;
 mod lane;
@@ -39,3 +40,4 @@ pub use outcome::push_log;
 pub use pending::Pending;
 pub use progress::{packets_move_on, packets_run_out, weightless_is_drained, weights_are_bounded};
 pub use queue::{first_come_first_served, members_wait_in_line, the_first_is_served};
+pub use sharing_list::Sharing;

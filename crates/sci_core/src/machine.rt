@@ -4,6 +4,7 @@ use crate::fault::ApplyFault;
 use crate::lane::{Lane, LaneKind};
 use crate::node::Node;
 use crate::outcome::push_log;
+use crate::sharing_list::Sharing;
 use crate::state::State;
 use sci_history::{Last, Logs};
 use sci_packets::Packet;
@@ -195,7 +196,25 @@ impl Machine {
         requires { line < self.now.size.lines }
         ensures { IfOk result (λ nodes. IsSharingList self.now line nodes.items) }
     {
-        self.state.sharing_list(alloc, line)
+        let sharing = self.state.sharing(alloc, line)?;
+        Ok(sharing.nodes)
+    }
+
+    /// The sharing list of a line, the one node that may change it or is about to, and its last contents: what
+    /// `sharing_list`, `authority` and `last_contents` give, found in one walk along the list. The caller sees to it that
+    /// there is such a line. Refused if memory is.
+    pub fn sharing(&self, alloc: Global, line: u8) -> Result<Sharing, AllocError>
+        requires { line < self.now.size.lines }
+        ensures list { IfOk result (λ sharing. IsSharingList self.now line sharing.nodes.items) }
+        ensures here { IfOk result (λ sharing.
+            IfSome sharing.authority (λ n. n < self.now.size.nodes)) }
+        ensures found { IfOk result (λ sharing.
+            IfSome sharing.authority (IsAuthority self.now line)) }
+        ensures none { IfOk result (λ sharing. sharing.authority ≡ None → (n : ℕ) →
+            n < self.now.size.nodes → IsAuthority self.now line n → ⊥) }
+        ensures last { IfOk result (λ sharing. sharing.last ≡ last_at self.now line) }
+    {
+        self.state.sharing(alloc, line)
     }
 
     /// The one node that may change a line or is about to, or None if the home has the line alone. The caller sees to it

@@ -1,15 +1,50 @@
-//! The sharing list of a line, from the home's head along the links of its members.
+//! What the machine has of a line: its sharing list, from the home's head along the links of its members, the one of them
+//! that may change the line, and the line's last contents.
 
-ghost use Rattle.std.specs.Prelude.{◌≡◌};
+ghost use Rattle.std.specs.Prelude.{◌≡◌, None, IfSome, IsSome};
 ghost use Rattle.sci_cache.specs.Held.{state_of};
 ghost use Rattle.sci_cache.specs.Member.{link_of};
 ghost use Rattle.sci_home.specs.Serving.{head_of};
 
+use crate::last::contents_held;
 use crate::state::State;
 use sci_cache::Held;
 use sci_home::HomeState;
 use sci_packets::{Body, NodeId};
+use sci_words::Stamped;
 use std::alloc::{AllocError, Global};
+
+/// What the machine has of a line.
+#[derive(Drop)]
+pub struct Sharing {
+    /// The sharing list: the numbers of its members, each once, from the home's head along their links.
+    pub nodes: Vec<u8>,
+    /// The one node that may change the line or is about to, or None if the home has the line alone.
+    pub authority: Option<u8>,
+    /// The line's last contents.
+    pub last: Stamped,
+}
+
+/// What a member of a list has: the entry behind it, and the contents of the line if it may change it or is about to.
+#[derive(Clone, Copy)]
+struct Member {
+    behind: Option<NodeId>,
+    contents: Option<Stamped>,
+}
+
+/// The member that may change a line or is about to, with the line's contents.
+#[derive(Clone, Copy)]
+struct Authority {
+    node: u8,
+    contents: Stamped,
+}
+
+/// The members of a list, and the authority among them.
+#[derive(Drop)]
+struct Members {
+    nodes: Vec<u8>,
+    authority: Option<Authority>,
+}
 
 /// The entry behind a member, or none at a list's end, by its state and the answer that is under way to it; None for a
 /// line that is no member.
@@ -59,11 +94,23 @@ fn head(state: HomeState) -> Option<NodeId>
     }
 }
 
+/// The authority that is found: a node that has the contents, or else the one found before.
+fn found_now(found: Option<Authority>, node: u8, contents: Option<Stamped>) -> Option<Authority>
+    ensures here { IfSome contents
+        (λ c. IfSome result (λ at. (at.node ≡ node) × (at.contents ≡ c)) × IsSome result) }
+    ensures before { contents ≡ None → result ≡ found }
+{
+    match contents {
+        Some(contents) => Some(Authority { node, contents }),
+        None => found,
+    }
+}
+
 impl State {
-    ghost use Rattle.std.specs.Prelude.{◌≡◌, ◌<◌, IfOk, Some, None};
+    ghost use Rattle.std.specs.Prelude.{◌≡◌, ◌<◌, ℕ, All, IfOk, IfSome, Some, None};
     ghost use Rattle.sci_home.specs.Serving.{head_of};
-    ghost use Rattle.sci_core.specs.Shape.{HasShape};
-    ghost use Rattle.sci_core.specs.Sharing.{home_at};
+    ghost use Rattle.sci_core.specs.Shape.{HasShape, IsAuthority};
+    ghost use Rattle.sci_core.specs.Sharing.{authority_contents, home_at, last_at, sharer_of};
     ghost use Rattle.sci_core.specs.SharingList.{IsSharingList, link_at};
     ghost use Rattle.sci_core.specs.Tidy.{IsTidy};
     ghost use Rattle.sci_core.specs.WellFormed.{IsWellFormed};
@@ -81,49 +128,90 @@ impl State {
         }
     }
 
-    /// The entry behind a member of the list of a line, or none at the list's end. The caller sees to it that there are
-    /// such a node and such a line, and that the node is a member.
-    fn behind(&self, line: u8, n: u8) -> Option<NodeId>
+    /// What a member of the list of a line has. The caller sees to it that there are such a node and such a line, and that
+    /// the node is a member.
+    fn member(&self, line: u8, n: u8) -> Member
         requires well { IsWellFormed self.now }
         requires tidy { IsTidy self.now }
         requires n { n < self.now.size.nodes }
         requires line { line < self.now.size.lines }
         requires member { link_at self.now line n ≡ None → ⊥ }
-        ensures { link_at self.now line n ≡ Some result }
+        ensures behind { link_at self.now line n ≡ Some result.behind }
+        ensures contents { result.contents ≡ authority_contents (sharer_of self.now line n) }
     {
-        match self.node(n).held(line) {
-            // No answer is under way to a member in one of these states: no packet is looked at.
-            Held::Head(state) => state.forward,
-            Held::FreshHead(state) => state.forward,
-            Held::Below(state) => state.forward,
-            held => {
-                let answer = self.answer_to(n, line);
-                match link(held, &answer) {
-                    Some(behind) => behind,
-                    None => unreachable!(),
-                }
-            }
+        let held = self.node(n).held(line);
+        let answer = self.answer_to(n, line);
+        match link(held, &answer) {
+            Some(behind) => Member {
+                behind,
+                contents: contents_held(held, &answer),
+            },
+            None => unreachable!(),
         }
     }
 
-    /// The list of a line. The caller sees to it that there is such a line. Refused if memory is.
-    pub(crate) fn sharing_list(&self, alloc: Global, line: u8) -> Result<Vec<u8>, AllocError>
+    /// The members of the list of a line. The caller sees to it that there is such a line. Refused if memory is.
+    fn members(&self, alloc: Global, line: u8) -> Result<Members, AllocError>
         requires well { IsWellFormed self.now }
         requires tidy { IsTidy self.now }
         requires shape { HasShape self.now line }
         requires line { line < self.now.size.lines }
-        ensures { IfOk result (λ nodes. IsSharingList self.now line nodes.items) }
+        ensures list { IfOk result (λ members. IsSharingList self.now line members.nodes.items) }
+        ensures here { IfOk result (λ members.
+            IfSome members.authority (λ at. at.node < self.now.size.nodes)) }
+        ensures found { IfOk result (λ members. IfSome members.authority
+            (λ at. authority_contents (sharer_of self.now line at.node) ≡ Some at.contents)) }
+        ensures none { IfOk result (λ members. members.authority ≡ None →
+            All (λ n. authority_contents (sharer_of self.now line n) ≡ None) members.nodes.items) }
     {
-        let mut list = Vec::with_capacity(alloc, usize::from(self.nodes()))?;
+        let mut nodes = Vec::with_capacity(alloc, usize::from(self.nodes()))?;
+        let mut authority = None;
         let mut next = self.head(line);
         for _place in 0..self.nodes() {
             let Some(id) = next else {
-                return Ok(list);
+                return Ok(Members { nodes, authority });
             };
-            let n = id.get() as u8;
-            list.push(n)?;
-            next = self.behind(line, n);
+            let node = id.get() as u8;
+            let member = self.member(line, node);
+            nodes.push(node)?;
+            next = member.behind;
+            authority = found_now(authority, node, member.contents);
         }
-        Ok(list)
+        Ok(Members { nodes, authority })
+    }
+
+    /// What the machine has of a line, found in one walk along its list. The caller sees to it that there is such a line.
+    /// Refused if memory is.
+    pub(crate) fn sharing(&self, alloc: Global, line: u8) -> Result<Sharing, AllocError>
+        requires well { IsWellFormed self.now }
+        requires tidy { IsTidy self.now }
+        requires shape { HasShape self.now line }
+        requires line { line < self.now.size.lines }
+        ensures list { IfOk result (λ sharing. IsSharingList self.now line sharing.nodes.items) }
+        ensures here { IfOk result (λ sharing.
+            IfSome sharing.authority (λ n. n < self.now.size.nodes)) }
+        ensures found { IfOk result (λ sharing.
+            IfSome sharing.authority (IsAuthority self.now line)) }
+        ensures none { IfOk result (λ sharing. sharing.authority ≡ None → (n : ℕ) →
+            n < self.now.size.nodes → IsAuthority self.now line n → ⊥) }
+        ensures last { IfOk result (λ sharing. sharing.last ≡ last_at self.now line) }
+    {
+        let members = self.members(alloc, line)?;
+        let Members { nodes, authority } = members;
+        if let Some(at) = authority {
+            return Ok(Sharing {
+                nodes,
+                authority: Some(at.node),
+                last: at.contents,
+            });
+        }
+        match self.home_contents(line) {
+            Some(last) => Ok(Sharing {
+                nodes,
+                authority: None,
+                last,
+            }),
+            None => unreachable!(),
+        }
     }
 }

@@ -6,12 +6,12 @@ use Rattle.sci_core.proofs.TidyRuns.{reached_tidy}
 use Rattle.sci_core.proofs.ReachedLaws.{reached_shapes}
 use Rattle.sci_core.proofs.machine.Machine.sharing_list.Goals as goal
 
-pub sharing_list-requires-clause-well : goal.sharing_list-requires-clause-well
-sharing_list-requires-clause-well c = reached_well c.self.inside.state c.self.invariant
+pub sharing-requires-clause-well : goal.sharing-requires-clause-well
+sharing-requires-clause-well c = reached_well c.self.inside.state c.self.invariant
 
-pub sharing_list-requires-clause-tidy : goal.sharing_list-requires-clause-tidy
-sharing_list-requires-clause-tidy c = reached_tidy c.self.inside.state c.self.invariant
+pub sharing-requires-clause-tidy : goal.sharing-requires-clause-tidy
+sharing-requires-clause-tidy c = reached_tidy c.self.inside.state c.self.invariant
 
-pub sharing_list-requires-clause-shape : goal.sharing_list-requires-clause-shape
-sharing_list-requires-clause-shape c =
+pub sharing-requires-clause-shape : goal.sharing-requires-clause-shape
+sharing-requires-clause-shape c =
     reached_shapes c.self.inside.state c.self.invariant c.args.line (subst (λ (core : Core). c.args.line < core.size.lines) (sym c.self.view_is) c.requires)

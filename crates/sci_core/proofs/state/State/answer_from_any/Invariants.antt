@@ -1,7 +1,7 @@
 use Rattle.std.proofs.Common.{◌≡◌, ◌<◌, ℕ, None}
 use Rattle.sci_core.proofs.Seeking.{seek}
 use Rattle.sci_core.proofs.Answering.{sent_from}
-use Rattle.sci_core.proofs.state.State.answer_to.Given as goal
+use Rattle.sci_core.proofs.state.State.answer_from_any.Given as goal
 
 -- no node so far has one
 abbrev pub invariant-loop-from : goal.invariant-loop-from

@@ -1,0 +1,80 @@
+use Rattle.std.proofs.Common.{◌≡◌, ◌<◌, List, ℕ, length, ap, subst, arith, length-append}
+use Rattle.sci_home.specs.Serving.{head_of}
+use Rattle.sci_core.specs.Sharing.{home_at}
+use Rattle.sci_core.specs.SharingList.{link_at}
+use Rattle.sci_core.proofs.Shared.{sought_first, sought_more}
+use Rattle.sci_core.proofs.Walking.{IsWalked, walk_begins, walk_ends, walk_goes_on, walks_more, walk_fits, walk_done, walked_at}
+use Rattle.sci_core.proofs.state.State.members.Goals as goal
+
+pub loop-place-init : goal.loop-place-init
+loop-place-init c = record {
+  walked = rw (c.in_ok-nodes.ensures.items, c.head-next.ensures) (walk_begins c.args.self.now c.args.line c.requires.shape);
+  counted = ap (λ (l : List ℕ). length l) c.in_ok-nodes.ensures.items;
+  sought = rw c.in_ok-nodes.ensures.items (sought_first c.args.self.now c.args.line);
+}
+
+pub overflow_cast-node : goal.overflow_cast-node
+overflow_cast-node c =
+    let core = c.args.self.now in
+    let first = head_of (home_at core c.args.line) in
+    let at = walked_at (link_at core c.args.line) first c.loop-place.nodes.items c.loop-place.next c.in-Some.id c.get-node.result c.in-Some.is c.get-node.ensures.number c.loop-place.invariant.walked in
+    let fits = walk_fits core c.args.line first c.loop-place.nodes.items c.get-node.result c.requires.well at in
+    let below : c.get-node.result < core.size.nodes = fits.1 in
+    omega (arith, c.nodes.ensures.nodes, c.nodes.type_inv)
+
+pub member-member-requires-clause-n : goal.member-member-requires-clause-n
+member-member-requires-clause-n c =
+    let core = c.args.self.now in
+    let first = head_of (home_at core c.args.line) in
+    let at = walked_at (link_at core c.args.line) first c.loop-place.nodes.items c.loop-place.next c.in-Some.id c.get-node.result c.in-Some.is c.get-node.ensures.number c.loop-place.invariant.walked in
+    let fits = walk_fits core c.args.line first c.loop-place.nodes.items c.get-node.result c.requires.well at in
+    fits.1
+
+pub member-member-requires-clause-member : goal.member-member-requires-clause-member
+member-member-requires-clause-member c =
+    let core = c.args.self.now in
+    let first = head_of (home_at core c.args.line) in
+    let at = walked_at (link_at core c.args.line) first c.loop-place.nodes.items c.loop-place.next c.in-Some.id c.get-node.result c.in-Some.is c.get-node.ensures.number c.loop-place.invariant.walked in
+    λ no. walk_goes_on (link_at core c.args.line) first c.loop-place.nodes.items c.get-node.result at no
+
+pub loop-place-preserved : goal.loop-place-preserved
+loop-place-preserved c =
+    let core = c.args.self.now in
+    let first = head_of (home_at core c.args.line) in
+    let at = walked_at (link_at core c.args.line) first c.loop-place.nodes.items c.loop-place.next c.in-Some.id c.get-node.result c.in-Some.is c.get-node.ensures.number c.loop-place.invariant.walked in
+    let longer = ap (λ (l : List ℕ). length l) c.in_ok-push.ensures.items in record {
+      walked = rw c.in_ok-push.ensures.items (walks_more (link_at core c.args.line) first c.loop-place.nodes.items c.get-node.result c.member-member.result.behind at c.member-member.ensures.behind);
+      counted = omega (arith, longer, length-append {A = ℕ}, c.loop-place.invariant.counted);
+      sought = rw c.in_ok-push.ensures.items (sought_more core c.args.line c.get-node.result c.loop-place.nodes.items c.loop-place.authority c.found_now-authority.result c.member-member.result.contents c.loop-place.invariant.sought (walk_fits core c.args.line first c.loop-place.nodes.items c.get-node.result c.requires.well at).1 c.member-member.ensures.contents c.found_now-authority.ensures.here c.found_now-authority.ensures.before);
+    }
+
+pub returns-in_default-clause-list : goal.returns-in_default-clause-list
+returns-in_default-clause-list c =
+    let core = c.args.self.now in
+    let first = head_of (home_at core c.args.line) in
+    walk_ends (link_at core c.args.line) first c.loop-place.nodes.items (subst (IsWalked (link_at core c.args.line) first c.loop-place.nodes.items) c.in_default.is c.loop-place.invariant.walked)
+
+pub returns-clause-list : goal.returns-clause-list
+returns-clause-list c =
+    let core = c.args.self.now in
+    let first = head_of (home_at core c.args.line) in
+    let long : length c.loop-place.nodes.items ≡ core.size.nodes = omega (arith, c.loop-place.invariant.counted, c.nodes-place-end.ensures.nodes) in
+    walk_done core c.args.line first c.loop-place.nodes.items c.loop-place.next c.requires.well long c.loop-place.invariant.walked
+
+pub returns-in_default-clause-none : goal.returns-in_default-clause-none
+returns-in_default-clause-none c = c.loop-place.invariant.sought.none
+
+pub returns-in_default-clause-here : goal.returns-in_default-clause-here
+returns-in_default-clause-here c = c.loop-place.invariant.sought.below
+
+pub returns-in_default-clause-found : goal.returns-in_default-clause-found
+returns-in_default-clause-found c = c.loop-place.invariant.sought.has
+
+pub returns-clause-none : goal.returns-clause-none
+returns-clause-none c = c.loop-place.invariant.sought.none
+
+pub returns-clause-here : goal.returns-clause-here
+returns-clause-here c = c.loop-place.invariant.sought.below
+
+pub returns-clause-found : goal.returns-clause-found
+returns-clause-found c = c.loop-place.invariant.sought.has
