@@ -16,6 +16,8 @@ use std::alloc::AllocError;
 struct Open;
 
 impl Gate for Open {
+    ghost hears = { λ old calls new. Unit {0} };
+
     fn may_issue(&mut self, _index: u32) -> bool {
         true
     }
@@ -29,6 +31,10 @@ impl Gate for Open {
     }
 
     fn rest(&mut self) {}
+
+    ghost hears_nothing = { λ x. tt };
+
+    ghost hears_on = { λ x y z calls more first second. tt };
 }
 
 /// A station and the driver that has driven it.

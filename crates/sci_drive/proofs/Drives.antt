@@ -241,3 +241,22 @@ whole_of driver node all none d = record {
 pub grows : (first old new : List Entry) (e : Entry) (answered : Bool) → (answered ≡ true → length first < length old) → (answered ≡ false → old ≡ first) → new ≡ old ++ e ∷ [] → length first < length new
 grows first old new e true longer same is = let long = length_push old e in let more = longer refl in omega (arith, ap length is)
 grows first old new e false longer same is = let long = length_push old e in let equal = ap length (same refl) in omega (arith, ap length is)
+
+-- ---- the gate is told
+
+-- nothing of this depends on what the gate was told
+pub tells : (driver : DriverOf) (node : NodeOf) → IsDriven driver node → IsDriven (record driver { was_done = true }) node
+tells driver node d = record {
+  issued = d.issued;
+  within = d.within;
+  named = d.named;
+  submitted = d.submitted;
+  later = d.later;
+  pending = λ line p is. let was = d.pending line p is in record {
+    on = was.on;
+    named = was.named;
+    submitted = was.submitted;
+    unanswered = was.unanswered;
+    known = was.known;
+  };
+}

@@ -1,9 +1,10 @@
 -- What the calls of a worker make of a driver that issues in order, and its node.
-use Rattle.std.proofs.Common.{◌≡◌, ◌≤◌, ◌<◌, ◌+◌, ℕ, arith, List, [], ◌∷◌, ◌++◌, length, All, Option, Some, None, refl, sym, ap, subst, ◌∙◌, inl, inr}
-use Rattle.std.specs.Prelude.{slice_index_or}
+use Rattle.std.proofs.Common.{true, ◌≡◌, ◌≤◌, ◌<◌, ◌+◌, ℕ, arith, List, [], ◌∷◌, ◌++◌, length, take, All, Option, Some, None, refl, sym, ap, subst, ◌∙◌, inl, inr}
+use Rattle.std.specs.Prelude.{slice_get, slice_index_or}
 use Rattle.std.specs.List.{Contains, remove}
 use Rattle.std.proofs.lemmas.Bool.{cases_eq}
-use Rattle.std.proofs.lemmas.List.{get_or_default}
+use Rattle.std.proofs.lemmas.List.{get_or_default, length_push, map-append, take_more}
+use Rattle.std.proofs.lemmas.Option.{get_or_from_slice_get, slice_get_within}
 use Rattle.std.proofs.lemmas.List.Edits.{length-remove}
 use Rattle.std.proofs.lemmas.List.Elements.{All-nil, All-push}
 use Rattle.std.proofs.lemmas.List.Quantifiers.{all_pairs_push}
@@ -16,6 +17,7 @@ use Rattle.sci_core.specs.declared.pending.Pending.{Pending}
 use Rattle.sci_policy.specs.Worker.{HasSameWork}
 use Rattle.sci_drive.specs.declared.driver.Issuing.TheVariants.{InOrder}
 use Rattle.sci_drive.specs.Driving.{DriverOf, HasSubmittedNothing, IsDriven, IsInOrder, opening_driver}
+use Rattle.sci_drive.specs.Script.{IsFrontOf}
 use Rattle.sci_drive.proofs.Drives.{never_both, same_some}
 
 -- ---- the first moment
@@ -27,6 +29,9 @@ opens_in_order script node none = record {
   ordered = rw none.log (λ i j d lt within. absurd (omega arith));
   before = rw none.log (All-nil (λ (e : Entry). e.serial < 0));
   behind = λ line p is. absurd (never_both (pending_on node line) p (none.pending line) is);
+  counted = ap (λ (l : List Entry). length l + 0) (sym none.log);
+  next_one = λ line p is. absurd (never_both (pending_on node line) p (none.pending line) is);
+  front = rw none.log refl;
 }
 
 -- ---- an operation is submitted
@@ -48,6 +53,23 @@ module _ (driver : DriverOf) (old new : NodeOf) (op : Op) (d : IsDriven driver o
     | inr other ↦ absurd (was_free line p (sym (i.others line other) ∙ is))
   ]
 
+  next_now : (line : ℕ) (p : Pending) → pending_on new line ≡ Some p → p.serial ≡ length old.log
+  next_now line p is = elim (cases_eq line op.line) [
+    | inl here ↦
+        let same : record { serial = old.issued; op = op } ≡ p = same_some (pending_on new line) (record { serial = old.issued; op = op }) p (ap (pending_on new) here ∙ i.pending) is in
+        let serial : driver.next ≡ p.serial = sym d.issued ∙ ap (λ (q : Pending). q.serial) same in
+        let all : driver.next ≡ length old.log + length driver.pending = o.counted in
+        let free : length driver.pending ≡ 0 = ap (λ (l : List ℕ). length l) none in
+        omega arith
+    | inr other ↦ absurd (was_free line p (sym (i.others line other) ∙ is))
+  ]
+
+  counted_now : driver.next + 1 ≡ length new.log + length (driver.pending ++ op.line ∷ [])
+  counted_now =
+      let all : driver.next ≡ length old.log + length driver.pending = o.counted in
+      let same : length new.log ≡ length old.log = ap (λ (l : List Entry). length l) i.log in
+      omega (arith, length_push driver.pending op.line)
+
   pub submits_in_order : IsInOrder (record driver { next = driver.next + 1; pending = driver.pending ++ op.line ∷ [] }) new
   submits_in_order = record {
     issues = o.issues;
@@ -55,9 +77,21 @@ module _ (driver : DriverOf) (old new : NodeOf) (op : Op) (d : IsDriven driver o
     ordered = subst IsInProgramOrder (sym i.log) o.ordered;
     before = subst (All (λ e. e.serial < driver.next + 1)) (sym i.log) (λ k e lt. let low = o.before k e lt in omega arith);
     behind = λ line p is. subst (All (λ e. e.serial < p.serial)) (sym i.log) (behind_now line p is);
+    counted = counted_now;
+    next_one = λ line p is. next_now line p is ∙ ap (λ (l : List Entry). length l) (sym i.log);
+    front = subst (IsFrontOf driver.script) (sym i.log) o.front;
   }
 
 -- ---- an operation is performed
+
+-- the next operation of the script joins the log
+front_more : (script : List Op) (log : List Entry) (e : Entry) → e.serial ≡ length log → slice_get script e.serial ≡ Some e.op → IsFrontOf script log → IsFrontOf script (log ++ e ∷ [])
+front_more script log e next named front =
+    let at : slice_get script (length log) ≡ Some e.op = ap (slice_get script) (sym next) ∙ named in
+    let within = slice_get_within script (length log) e.op at in
+    let here = get_or_from_slice_get script (length log) e.op e.op at in
+    let more = take_more script (length log) e.op within in
+    map-append (λ (x : Entry). x.op) log (e ∷ []) ∙ (ap (λ (l : List Op). l ++ e.op ∷ []) front ∙ (ap (λ (o : Op). take (length log) script ++ o ∷ []) (sym here) ∙ (sym more ∙ ap (λ (k : ℕ). take k script) (sym (length_push log e)))))
 
 -- in a list of one, what stands at a place is all that it contains
 only_one : (items : List ℕ) (place line other : ℕ) → length items ≤ 1 → place < length items → slice_index_or items place line ≡ line → Contains items other → other ≡ line
@@ -74,6 +108,13 @@ module _ (driver : DriverOf) (old new : NodeOf) (place line : ℕ) (entry : Entr
     | inr apart ↦ apart (only_one driver.pending place line other o.one within here (d.pending other p (sym (i.others other apart) ∙ is)).known)
   ]
 
+  counted_then : driver.next ≡ length new.log + length (remove driver.pending place)
+  counted_then =
+      let all : driver.next ≡ length old.log + length driver.pending = o.counted in
+      let longer : length new.log ≡ length old.log + 1 = ap (λ (l : List Entry). length l) i.log ∙ length_push old.log entry in
+      let short = length-remove driver.pending place within in
+      omega arith
+
   pub performs_in_order : IsInOrder (record driver { pending = remove driver.pending place }) new
   performs_in_order =
       let p : Pending = record { serial = entry.serial; op = entry.op } in
@@ -85,6 +126,9 @@ module _ (driver : DriverOf) (old new : NodeOf) (place line : ℕ) (entry : Entr
         ordered = subst IsInProgramOrder (sym i.log) (all_pairs_push (λ x y. x.serial < y.serial) old.log entry o.ordered (o.behind line p i.pending));
         before = subst (All (λ e. e.serial < driver.next)) (sym i.log) (All-push (λ (e : Entry). e.serial < driver.next) old.log entry o.before was.submitted);
         behind = λ other q is. absurd (is_free other q is);
+        counted = counted_then;
+        next_one = λ other q is. absurd (is_free other q is);
+        front = subst (IsFrontOf driver.script) (sym i.log) (front_more driver.script old.log entry (o.next_one line p i.pending) was.named o.front);
       }
 
 -- ---- a turn
@@ -97,4 +141,21 @@ turns_in_order driver old new work o =
       ordered = subst IsInProgramOrder (sym work.log) o.ordered;
       before = subst (All (λ e. e.serial < driver.next)) (sym work.log) o.before;
       behind = λ line p is. subst (All (λ e. e.serial < p.serial)) (sym work.log) (o.behind line p (sym (on line) ∙ is));
+      counted = o.counted ∙ ap (λ (l : List Entry). length l + length driver.pending) (sym work.log);
+      next_one = λ line p is. o.next_one line p (sym (on line) ∙ is) ∙ ap (λ (l : List Entry). length l) (sym work.log);
+      front = subst (IsFrontOf driver.script) (sym work.log) o.front;
     }
+
+-- ---- the gate is told
+
+pub tells_in_order : (driver : DriverOf) (node : NodeOf) → IsInOrder driver node → IsInOrder (record driver { was_done = true }) node
+tells_in_order driver node o = record {
+  issues = o.issues;
+  one = o.one;
+  ordered = o.ordered;
+  before = o.before;
+  behind = o.behind;
+  counted = o.counted;
+  next_one = o.next_one;
+  front = o.front;
+}

@@ -1,5 +1,5 @@
 -- A driver beside the worker that it drives.
-use Rattle.std.specs.Prelude.{◌≡◌, ◌<◌, ◌≤◌, ◌⊎◌, ℕ, List, [], length, All, Some, None, slice_get}
+use Rattle.std.specs.Prelude.{◌≡◌, ◌<◌, ◌≤◌, ◌⊎◌, ◌+◌, ℕ, Bool, false, List, [], length, All, Some, None, slice_get}
 use Rattle.std.specs.List.{Contains}
 use Rattle.sci_words.specs.declared.operation.Op.{Op}
 use Rattle.sci_core.specs.Node.{NodeOf, pending_on}
@@ -7,17 +7,19 @@ use Rattle.sci_core.specs.declared.pending.Pending.{Pending}
 use Rattle.sci_history.specs.Sequential.{IsInProgramOrder}
 use Rattle.sci_drive.specs.declared.driver.Issuing.{Issuing}
 use Rattle.sci_drive.specs.declared.driver.Issuing.TheVariants.{InOrder}
-use Rattle.sci_drive.specs.Script.{IsNamedBy, times_answered}
+use Rattle.sci_drive.specs.Script.{IsFrontOf, IsNamedBy, times_answered}
 
--- a script, when its operations are submitted, how many of them were, and the lines on which one is pending, by serial
+-- a script, when its operations are submitted, how many of them were, the lines on which one is pending, by serial, and
+-- whether the gate was told that the whole script is answered
 pub record DriverOf : Type 0 where
   pub script : List Op
   pub issuing : Issuing
   pub next : ℕ
   pub pending : List ℕ
+  pub was_done : Bool
 
 abbrev pub opening_driver : List Op → Issuing → DriverOf
-opening_driver script issuing = record { script = script; issuing = issuing; next = 0; pending = [] }
+opening_driver script issuing = record { script = script; issuing = issuing; next = 0; pending = []; was_done = false }
 
 -- nothing was submitted, and nothing is logged
 pub record HasSubmittedNothing (node : NodeOf) : Type 0 where
@@ -47,11 +49,14 @@ pub record IsDriven (driver : DriverOf) (node : NodeOf) : Type 0 where
   pub later : (serial : ℕ) → driver.next ≤ serial → times_answered serial node.log ≡ 0
   pub pending : (line : ℕ) (p : Pending) → pending_on node line ≡ Some p → IsAwaited driver node line p
 
--- A driver that issues in order: at most one operation is pending, and it comes behind all that are logged; and the log
--- stands in the order of the script.
+-- A driver that issues in order: at most one operation is pending, and it comes next behind all that are logged; and the log
+-- stands in the order of the script, with its first operations.
 pub record IsInOrder (driver : DriverOf) (node : NodeOf) : Type 0 where
   pub issues : driver.issuing ≡ InOrder
   pub one : length driver.pending ≤ 1
   pub ordered : IsInProgramOrder node.log
   pub before : All (λ e. e.serial < driver.next) node.log
   pub behind : (line : ℕ) (p : Pending) → pending_on node line ≡ Some p → All (λ e. e.serial < p.serial) node.log
+  pub counted : driver.next ≡ length node.log + length driver.pending
+  pub next_one : (line : ℕ) (p : Pending) → pending_on node line ≡ Some p → p.serial ≡ length node.log
+  pub front : IsFrontOf driver.script node.log

@@ -1,2 +1,4 @@
+pub mod Calls
 pub mod Driving
+pub mod Resting
 pub mod Script

@@ -1,5 +1,5 @@
 -- How a log answers a script: the operations that one processor is to do, in order.
-use Rattle.std.specs.Prelude.{◌≡◌, ◌<◌, ◌≤◌, ◌==◌, ℕ, List, length, All, count_by, Some, slice_get}
+use Rattle.std.specs.Prelude.{◌≡◌, ◌<◌, ◌≤◌, ◌==◌, ℕ, List, length, map, take, All, count_by, Some, slice_get}
 use Rattle.sci_words.specs.declared.operation.Op.{Op}
 use Rattle.sci_history.specs.declared.entry.Entry.{Entry}
 
@@ -20,3 +20,7 @@ pub record IsLogOf (script : List Op) (log : List Entry) : Type 0 where
 pub record IsWholeLogOf (script : List Op) (log : List Entry) : Type 0 where
   pub named : All (IsNamedBy script) log
   pub each : (serial : ℕ) → serial < length script → times_answered serial log ≡ 1
+
+-- the operations of the log are the first ones of the script, in their order
+abbrev pub IsFrontOf : List Op → List Entry → Type 0
+IsFrontOf script log = map (λ e. e.op) log ≡ take (length log) script

@@ -19,8 +19,8 @@ pub enum Issuing {
     InOrder,
 }
 
-/// A script that is being driven. Contracts see the script, when its operations are submitted, how many of them were,
-/// and the lines on which one is pending.
+/// A script that is being driven. Contracts see the script, when its operations are submitted, how many of them were, the
+/// lines on which one is pending, and whether the gate was told that the whole script is answered.
 #[derive(Drop)]
 pub struct Driver<'a> {
     script: &'a [Op],
@@ -32,7 +32,7 @@ pub struct Driver<'a> {
 }
 
 impl<'a> Model for Driver<'a> {
-    ghost use Rattle.std.specs.Prelude.{◌≤◌, length};
+    ghost use Rattle.std.specs.Prelude.{◌≡◌, ◌≤◌, [], length, true};
     ghost use Rattle.sci_words.specs.declared.limits.TheConstants.{MAX_OPERATIONS};
     ghost use Rattle.sci_drive.specs.Driving.{DriverOf};
 
@@ -43,9 +43,12 @@ impl<'a> Model for Driver<'a> {
       issuing = driver.issuing;
       next = driver.next;
       pending = driver.pending.items;
+      was_done = driver.was_done;
     } };
 
-    ghost invariant = { λ driver. length driver.script.now ≤ MAX_OPERATIONS };
+    ghost invariant = { λ driver. (length driver.script.now ≤ MAX_OPERATIONS)
+        × (driver.was_done ≡ true →
+        (driver.next ≡ length driver.script.now) × (driver.pending.items ≡ [])) };
 }
 
 /// What a round did.
@@ -64,6 +67,7 @@ impl<'a> Driver<'a> {
     ghost use Rattle.sci_policy.specs.Turn.{is_idle};
     ghost use Rattle.sci_policy.specs.Worker.{IsNodeTurn};
     ghost use Rattle.sci_words.specs.declared.limits.TheConstants.{MAX_OPERATIONS};
+    ghost use Rattle.sci_drive.specs.Calls.{IsHeard};
     ghost use Rattle.sci_drive.specs.Driving.{IsDriven, IsInOrder, opening_driver};
 
     /// A driver that has submitted nothing yet. The caller sees to it that the script has at most 65,536 operations.
@@ -115,7 +119,13 @@ impl<'a> Driver<'a> {
             × IsNodeTurn before (W.node worker.new) round.progress) }
         ensures rest { IfOk result (λ round.
             is_idle round.progress ≡ true → MayIdle (W.node worker.new)) }
+        ensures calls { IsHeard G.hears gate.old gate.new
+            self.old self.new (W.node worker.old) (W.node worker.new) }
         ensures script { self.new.script ≡ self.old.script }
+        ensures issuing { self.new.issuing ≡ self.old.issuing }
+        ensures turned { IfOk result (λ round. W.turned worker.old 1 worker.new) }
+        ensures told { IfOk result (λ round. self.new.next ≡ length self.new.script →
+            self.new.pending ≡ [] → self.new.was_done ≡ true) }
         ensures stays { W.stays worker.old worker.new }
     {
         self.submit(worker, gate);
@@ -135,7 +145,11 @@ impl<'a> Driver<'a> {
         ensures order { IsInOrder self.old (W.node worker.old) →
             IsInOrder self.new (W.node worker.new) }
         ensures log { (W.node worker.new).log ≡ (W.node worker.old).log }
+        ensures calls { IsHeard G.hears gate.old gate.new
+            self.old self.new (W.node worker.old) (W.node worker.new) }
         ensures script { self.new.script ≡ self.old.script }
+        ensures issuing { self.new.issuing ≡ self.old.issuing }
+        ensures turned { W.turned worker.old 0 worker.new }
         ensures stays { W.stays worker.old worker.new }
     {
         let is_free = match self.issuing {
@@ -148,7 +162,10 @@ impl<'a> Driver<'a> {
         let Some(op) = self.script.get(self.next) else {
             return;
         };
-        if self.pending.contains(&op.line) || !gate.may_issue(self.next as u32) {
+        if self.pending.contains(&op.line) {
+            return;
+        }
+        if !gate.may_issue(self.next as u32) {
             return;
         }
         if let Ok(_serial) = worker.submit(*op) {
@@ -166,7 +183,11 @@ impl<'a> Driver<'a> {
         ensures answered { result ≡ true →
             length (W.node worker.old).log < length (W.node worker.new).log }
         ensures none { result ≡ false → (W.node worker.new).log ≡ (W.node worker.old).log }
+        ensures calls { IsHeard G.hears gate.old gate.new
+            self.old self.new (W.node worker.old) (W.node worker.new) }
         ensures script { self.new.script ≡ self.old.script }
+        ensures issuing { self.new.issuing ≡ self.old.issuing }
+        ensures turned { W.turned worker.old 0 worker.new }
         ensures stays { W.stays worker.old worker.new }
     {
         let mut answered = false;

@@ -1,13 +1,16 @@
 //! A worker that is driven through a whole script.
 
-ghost use Rattle.std.specs.Prelude.{◌≡◌, ◌≤◌, true, false, length, IfOk};
+ghost use Rattle.std.specs.Prelude.{◌≡◌, ◌≤◌, ◌<◌, [], ◌∷◌, List, true, false, length, IfOk};
 ghost use Rattle.sci_words.specs.declared.limits.TheConstants.{MAX_OPERATIONS};
 ghost use Rattle.sci_history.specs.Sequential.{IsInProgramOrder};
+ghost use Rattle.sci_drive.specs.Calls.{AreCallsOf, Call, EndWithAllDone, Rest, times_done};
 ghost use Rattle.sci_drive.specs.declared.driver.Issuing.TheVariants.{InOrder};
+ghost use Rattle.sci_drive.specs.declared.running.TheConstants.{RESTLESS_TURNS};
 ghost use Rattle.sci_drive.specs.Driving.{HasSubmittedNothing};
-ghost use Rattle.sci_drive.specs.Script.{IsLogOf, IsWholeLogOf};
+ghost use Rattle.sci_drive.specs.Resting.{in_a_row, is_rest_due};
+ghost use Rattle.sci_drive.specs.Script.{IsFrontOf, IsLogOf, IsWholeLogOf};
 
-use crate::driver::{Driver, Issuing};
+use crate::driver::{Driver, Issuing, Round};
 use crate::gate::Gate;
 use crate::laws::new_drivers_may_drive;
 use sci_policy::Worker;
@@ -34,8 +37,15 @@ pub struct Ran {
 /// The caller sees to it that the worker has submitted nothing, and that the script has at most 65,536 operations. An
 /// operation that the worker refuses is tried again in each round. Refused if a turn of the worker is.
 ///
-/// - Each entry has the operation that its serial names, and no serial stands twice, however it ends.
-/// - Finished, each operation of the script has just one entry.
+/// However it ends:
+///
+/// - Each entry has the operation that its serial names, and no serial stands twice.
+/// - The gate was told of each entry once, in the order of the log.
+/// - An operation was submitted only if `may_issue` had answered true for it, and its entry was told after that.
+/// - `done` was called once at most, and no entry was told after it.
+///
+/// Finished, each operation of the script has just one entry, `done` was called, and the last call was an `all_done` that
+/// answered true. It took as many turns as it says.
 pub fn drive<W: Worker, G: Gate>(
     worker: &mut W,
     script: &[Op],
@@ -49,13 +59,18 @@ pub fn drive<W: Worker, G: Gate>(
         ran.finished ≡ true → IsWholeLogOf script.now (W.node worker.new).log) }
     ensures turns { IfOk result (λ ran. ran.turns ≤ turns) }
     ensures all { IfOk result (λ ran. ran.finished ≡ false → ran.turns ≡ turns) }
+    ensures calls { (calls : List Call) × G.hears gate.old calls gate.new
+        × AreCallsOf (W.node worker.new) calls
+        × IfOk result (λ ran. ran.finished ≡ true →
+        (times_done calls ≡ 1) × EndWithAllDone calls) }
+    ensures turned { IfOk result (λ ran. W.turned worker.old ran.turns worker.new) }
     ensures stays { W.stays worker.old worker.new }
 {
     drive_issuing(worker, script, Issuing::Ahead, gate, turns)
 }
 
 /// Drives a worker as `drive` does, but with operations submitted ahead or in order. All that `drive` promises holds of
-/// it too. Issued in order, the log stands in the order of the script, however it ends.
+/// it too. Issued in order, the log has the first operations of the script in their order, however it ends.
 pub fn drive_issuing<W: Worker, G: Gate>(
     worker: &mut W,
     script: &[Op],
@@ -66,11 +81,17 @@ pub fn drive_issuing<W: Worker, G: Gate>(
     requires fresh { HasSubmittedNothing (W.node worker.old) }
     requires few { length script.now ≤ MAX_OPERATIONS }
     ensures ordered { issuing ≡ InOrder → IsInProgramOrder (W.node worker.new).log }
+    ensures front { issuing ≡ InOrder → IsFrontOf script.now (W.node worker.new).log }
     ensures named { IsLogOf script.now (W.node worker.new).log }
     ensures whole { IfOk result (λ ran.
         ran.finished ≡ true → IsWholeLogOf script.now (W.node worker.new).log) }
     ensures turns { IfOk result (λ ran. ran.turns ≤ turns) }
     ensures all { IfOk result (λ ran. ran.finished ≡ false → ran.turns ≡ turns) }
+    ensures calls { (calls : List Call) × G.hears gate.old calls gate.new
+        × AreCallsOf (W.node worker.new) calls
+        × IfOk result (λ ran. ran.finished ≡ true →
+        (times_done calls ≡ 1) × EndWithAllDone calls) }
+    ensures turned { IfOk result (λ ran. W.turned worker.old ran.turns worker.new) }
     ensures stays { W.stays worker.old worker.new }
 {
     new_drivers_may_drive();
@@ -78,9 +99,41 @@ pub fn drive_issuing<W: Worker, G: Gate>(
     driver.go_on(worker, gate, turns)
 }
 
+/// Has the gate rest after a round in which nothing moved, and after 16 in a row without an entry or a rest. It gives how
+/// many there are in a row then.
+fn rest_if_due<G: Gate>(gate: &mut G, round: &Round, restless: u32) -> u32
+    requires few { restless < RESTLESS_TURNS }
+    ensures few { result < RESTLESS_TURNS }
+    ensures rests { is_rest_due round.now restless ≡ true →
+        G.hears gate.old (Rest ∷ []) gate.new × (result ≡ 0) }
+    ensures goes_on { is_rest_due round.now restless ≡ false →
+        G.hears gate.old [] gate.new × (result ≡ in_a_row round.now restless) }
+{
+    let in_a_row = if round.answered { 0 } else { restless + 1 };
+    if (!round.answered && round.progress.is_idle()) || in_a_row >= RESTLESS_TURNS {
+        gate.rest();
+        return 0;
+    }
+    in_a_row
+}
+
 impl<'a> Driver<'a> {
-    ghost use Rattle.std.specs.Prelude.{◌≡◌, ◌≤◌, [], true, false, length, IfOk};
+    ghost use Rattle.std.specs.Prelude.{◌≡◌, ◌≤◌, ◌⊎◌, [], ◌∷◌, List, true, false, length, IfOk};
+    ghost use Rattle.sci_drive.specs.Calls.{AllDone, AreCalls, Call, EndWithAllDone};
     ghost use Rattle.sci_drive.specs.Driving.{IsDriven, IsInOrder};
+
+    /// Whether the whole script is answered and the gate says that all are done. It isn't asked before.
+    fn is_over<G: Gate>(&self, gate: &mut G) -> bool
+        ensures answered { result ≡ true →
+            (self.now.next ≡ length self.now.script) × (self.now.pending ≡ []) }
+        ensures asked { (G.hears gate.old [] gate.new × (result ≡ false))
+            ⊎ G.hears gate.old (AllDone result ∷ []) gate.new }
+    {
+        if !self.is_answered() {
+            return false;
+        }
+        gate.all_done()
+    }
 
     /// Goes on with the script, a round at a time, for at most so many turns. It ends finished as soon as the whole script
     /// is answered and the gate says that all are done. The gate's rest is called after each turn in which nothing moved,
@@ -100,24 +153,25 @@ impl<'a> Driver<'a> {
             (self.new.next ≡ length self.new.script) × (self.new.pending ≡ [])) }
         ensures turns { IfOk result (λ ran. ran.turns ≤ turns) }
         ensures all { IfOk result (λ ran. ran.finished ≡ false → ran.turns ≡ turns) }
+        ensures calls { (calls : List Call) × G.hears gate.old calls gate.new
+            × AreCalls self.old self.new (W.node worker.old) (W.node worker.new) calls
+            × IfOk result (λ ran. ran.finished ≡ true → EndWithAllDone calls) }
         ensures script { self.new.script ≡ self.old.script }
+        ensures issuing { self.new.issuing ≡ self.old.issuing }
+        ensures turned { IfOk result (λ ran. W.turned worker.old ran.turns worker.new) }
+        ensures told { IfOk result (λ ran. ran.finished ≡ true → self.new.was_done ≡ true) }
         ensures stays { W.stays worker.old worker.new }
     {
         let mut restless = 0;
         for turn in 0..turns {
             let round = self.round(worker, gate)?;
-            if self.is_answered() && gate.all_done() {
+            if self.is_over(gate) {
                 return Ok(Ran {
                     finished: true,
                     turns: turn + 1,
                 });
             }
-            restless = if round.answered { 0 } else { restless + 1 };
-            let is_still = !round.answered && round.progress.is_idle();
-            if is_still || restless >= RESTLESS_TURNS {
-                gate.rest();
-                restless = 0;
-            }
+            restless = rest_if_due(gate, &round, restless);
         }
         Ok(Ran {
             finished: false,

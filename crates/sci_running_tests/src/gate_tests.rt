@@ -51,6 +51,8 @@ impl Meeting<'_> {
 }
 
 impl Gate for Meeting<'_> {
+    ghost hears = { λ old calls new. Unit {0} };
+
     fn may_issue(&mut self, _index: u32) -> bool {
         true
     }
@@ -81,6 +83,10 @@ impl Gate for Meeting<'_> {
     fn rest(&mut self) {
         thread::yield_now();
     }
+
+    ghost hears_nothing = { λ x. tt };
+
+    ghost hears_on = { λ x y z calls more first second. tt };
 }
 
 /// A store to word 0 of a line.

@@ -15,6 +15,8 @@ impl Worker for Station {
 
     ghost stays = { λ old new. IsSameEnd old.end new.end };
 
+    ghost turned = { λ old turns new. Unit {0} };
+
     fn submit(&mut self, op: Op) -> Result<u32, SubmitFault> {
         Station::submit(self, op)
     }
@@ -30,4 +32,8 @@ impl Worker for Station {
     ghost stays_itself = { Prim.search rules };
 
     ghost stays_through = { Prim.search rules };
+
+    ghost turned_not = { λ x. tt };
+
+    ghost turned_on = { λ x y z some more first second. tt };
 }

@@ -10,7 +10,7 @@ use Rattle.sci_lanes.specs.Ends.{EndOf}
 use Rattle.sci_lanes.specs.Shown.{me_of}
 use Rattle.sci_drive.specs.declared.driver.Issuing.{Issuing}
 use Rattle.sci_drive.specs.Driving.{DriverOf}
-use Rattle.sci_drive.specs.Script.{IsLogOf, IsWholeLogOf}
+use Rattle.sci_drive.specs.Script.{IsFrontOf, IsLogOf, IsWholeLogOf}
 use Rattle.sci_drive.proofs.Drives.{log_of, whole_of}
 use Rattle.sci_station.proofs.Turns.{same_itself, same_then}
 use Rattle.sci_threads.specs.Shares.{GoesOn, HasRun, HaveGoneOn, IsOpened, IsWell}
@@ -58,6 +58,7 @@ module _ {A : Type 0} (driver : A → DriverOf) (end : A → EndOf) where
             let ended = said is in
             subst (λ (ops : List Op). IsWholeLogOf ops node.log) script (whole_of (driver new) node ended.0 ended.1 well.driven)) well.answered;
         ordered = λ is. (gone.order (opened.ordered is)).ordered;
+        front = λ is. subst (λ (ops : List Op). IsFrontOf ops node.log) script (gone.order (opened.ordered is)).front;
       }
 
   pub all_run : {E : Type 0} (finished : A → Result Bool E) (issuing : Issuing) (operations : ℕ → List Op) (old new : List A) → length new ≡ length old → All (λ s. IsOpened issuing operations (driver s) (end s)) old

@@ -28,7 +28,7 @@ use Rattle.sci_core.proofs.WellFormedSteps.{reached_well}
 use Rattle.sci_core.proofs.ReachedLaws.{log_at, log_beyond, beyond_log}
 use Rattle.sci_drive.specs.declared.driver.Issuing.{Issuing}
 use Rattle.sci_drive.specs.declared.driver.Issuing.TheVariants.{InOrder}
-use Rattle.sci_drive.specs.Script.{IsLogOf, IsWholeLogOf}
+use Rattle.sci_drive.specs.Script.{IsFrontOf, IsLogOf, IsWholeLogOf}
 use Rattle.sci_station.specs.Ends.{IsSameEnd}
 use Rattle.sci_station.specs.Station.{StationOf, end_in, node_in, opening_station}
 use Rattle.sci_station.proofs.Belonging.{opened_of, same_of}
@@ -207,6 +207,11 @@ module _ {A : Type 0} (station : A → StationOf) (issuing : Issuing) (operation
   ordered_ends finished shares is run =
       let Good : EndOf → Type 0 = λ end. IsInProgramOrder end.part.node.log in
       All-map Good end_in (map station shares) (All-map (λ (s : StationOf). Good s.end) station shares (λ k d lt. (run k d lt).ordered is))
+
+  pub front_ends : {E : Type 0} (finished : A → Result Bool E) (shares : List A) → issuing ≡ InOrder → All (λ s. HasRun issuing operations (station s).end (finished s)) shares → All (λ end. IsFrontOf (operations (me_of end.part)) end.part.node.log) (map end_in (map station shares))
+  front_ends finished shares is run =
+      let Good : EndOf → Type 0 = λ end. IsFrontOf (operations (me_of end.part)) end.part.node.log in
+      All-map Good end_in (map station shares) (All-map (λ (s : StationOf). Good s.end) station shares (λ k d lt. (run k d lt).front is))
 
 module _ {A : Type 0} (station : A → StationOf) where
   -- what a run does to each share, it does to each station

@@ -19,7 +19,7 @@ use Rattle.sci_history.specs.Sequential.{IsInProgramOrder}
 use Rattle.sci_drive.specs.declared.driver.Issuing.{Issuing}
 use Rattle.sci_drive.specs.declared.driver.Issuing.TheVariants.{InOrder}
 use Rattle.sci_drive.specs.Driving.{DriverOf, IsDriven, IsInOrder}
-use Rattle.sci_drive.specs.Script.{IsLogOf, IsWholeLogOf}
+use Rattle.sci_drive.specs.Script.{IsFrontOf, IsLogOf, IsWholeLogOf}
 use Rattle.sci_station.specs.Ends.{IsSameEnd}
 
 -- the operations of a node, in their order
@@ -33,6 +33,10 @@ HaveLogsOf script logs = (node : ℕ) → node < script.nodes → IsLogOf (opera
 -- and each operation has just one entry
 abbrev pub HaveWholeLogsOf : ScriptValue → List (List Entry) → Type 0
 HaveWholeLogsOf script logs = (node : ℕ) → node < script.nodes → IsWholeLogOf (operations_of node script.operations) (log_of logs node)
+
+-- the operations of each node's log are the first ones of its operations, in their order
+abbrev pub HaveFrontLogsOf : ScriptValue → List (List Entry) → Type 0
+HaveFrontLogsOf script logs = (node : ℕ) → node < script.nodes → IsFrontOf (operations_of node script.operations) (log_of logs node)
 
 -- the machine that a script is run on, whose nodes may each issue 65,536 operations
 abbrev pub size_for : ScriptValue → Size
@@ -77,9 +81,10 @@ pub record GoesOn (driver : DriverOf) (end : EndOf) (later : DriverOf) (last : E
 abbrev pub HaveGoneOn : {A : Type 0} → (A → DriverOf) → (A → EndOf) → List A → List A → ℕ → A → Type 0
 HaveGoneOn driver end old new k d = GoesOn (driver (slice_index_or old k d)) (end (slice_index_or old k d)) (driver (slice_index_or new k d)) (end (slice_index_or new k d))
 
--- The log of the end's node is of the operations that stand under its number, and whole if it has finished. It stands in
--- their order if they were issued so.
+-- The log of the end's node is of the operations that stand under its number, and whole if it has finished. If they were
+-- issued in order, it stands in their order and has the first ones of them.
 pub record HasRun {E : Type 0} (issuing : Issuing) (operations : ℕ → List Op) (end : EndOf) (finished : Result Bool E) : Type 0 where
   pub named : IsLogOf (operations (me_of end.part)) end.part.node.log
   pub whole : IfOk finished (λ all. all ≡ true → IsWholeLogOf (operations (me_of end.part)) end.part.node.log)
   pub ordered : issuing ≡ InOrder → IsInProgramOrder end.part.node.log
+  pub front : issuing ≡ InOrder → IsFrontOf (operations (me_of end.part)) end.part.node.log

@@ -35,6 +35,8 @@ impl<'a> YieldingGate<'a> {
 }
 
 impl<'a> Gate for YieldingGate<'a> {
+    ghost hears = { λ old calls new. Unit {0} };
+
     fn may_issue(&mut self, _index: u32) -> bool {
         true
     }
@@ -52,4 +54,8 @@ impl<'a> Gate for YieldingGate<'a> {
     fn rest(&mut self) {
         thread::yield_now();
     }
+
+    ghost hears_nothing = { λ x. tt };
+
+    ghost hears_on = { λ x y z calls more first second. tt };
 }

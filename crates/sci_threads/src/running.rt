@@ -5,7 +5,7 @@ ghost use Rattle.sci_words.specs.declared.limits.TheConstants.{MAX_OPERATIONS};
 ghost use Rattle.sci_history.specs.Lawful.{Lawful};
 ghost use Rattle.sci_history.specs.Sequential.{AreInProgramOrder, IsSequentiallyConsistent};
 ghost use Rattle.sci_drive.specs.declared.driver.Issuing.TheVariants.{InOrder};
-ghost use Rattle.sci_threads.specs.Shares.{AreLedTo, HaveLogsOf, HaveWholeLogsOf, size_for};
+ghost use Rattle.sci_threads.specs.Shares.{AreLedTo, HaveFrontLogsOf, HaveLogsOf, HaveWholeLogsOf, size_for};
 
 use crate::shares::{Plan, gathered, operations_by_node, run_all, shares};
 use sci_drive::{Gate, Issuing};
@@ -45,7 +45,8 @@ pub fn run_nodes<R: Threads + Sync, G: Gate + Send + Drop>(
     run(rt, alloc, script, gates, Issuing::Ahead, turns)
 }
 
-/// Runs a script as `run_nodes` does, but each node issues an operation only when all before it are performed. So the
+/// Runs a script as `run_nodes` does, but each node issues an operation only when all before it are performed. So each
+/// node's log has the first operations of the node, in the order of the script, whether it has finished or not. And the
 /// run is sequentially consistent in Lamport's sense ("How to Make a Multiprocessor Computer That Correctly Executes
 /// Multiprocess Programs", 1979): its result is that of all operations in one order, in which those of each node stand
 /// in the order of the script.
@@ -58,6 +59,7 @@ pub fn run_in_order<R: Threads + Sync, G: Gate + Send + Drop>(
 ) -> Result<(Logs, Last, bool), AllocError>
     requires gates { length gates.items ≡ script.now.nodes }
     ensures ordered { IfOk result (λ ran. AreInProgramOrder ran.0) }
+    ensures front { IfOk result (λ ran. HaveFrontLogsOf script.now ran.0) }
     ensures consistent { IfOk result (λ ran. IsSequentiallyConsistent ran.0 ran.1) }
     ensures named { IfOk result (λ ran. HaveLogsOf script.now ran.0) }
     ensures whole { IfOk result (λ ran. ran.2 ≡ true → HaveWholeLogsOf script.now ran.0) }
@@ -78,6 +80,7 @@ fn run<R: Threads + Sync, G: Gate + Send + Drop>(
 ) -> Result<(Logs, Last, bool), AllocError>
     requires gates { length gates.items ≡ script.now.nodes }
     ensures ordered { IfOk result (λ ran. issuing ≡ InOrder → AreInProgramOrder ran.0) }
+    ensures front { IfOk result (λ ran. issuing ≡ InOrder → HaveFrontLogsOf script.now ran.0) }
     ensures named { IfOk result (λ ran. HaveLogsOf script.now ran.0) }
     ensures whole { IfOk result (λ ran. ran.2 ≡ true → HaveWholeLogsOf script.now ran.0) }
     ensures led { IfOk result (λ ran. AreLedTo (size_for script.now) ran.0 ran.1) }

@@ -1,8 +1,12 @@
-use Rattle.std.proofs.Common.{List, ap, subst, ◌∙◌}
+use Rattle.std.proofs.Common.{◌≡◌, true, List, sym, ap, subst, ◌∙◌}
+use Rattle.std.specs.Prelude.{Result, Ok, Err, IfOk}
 use Rattle.std.proofs.lemmas.Result.{IfOk-weaker}
 use Rattle.sci_words.specs.declared.operation.Op.{Op}
-use Rattle.sci_drive.specs.Driving.{DriverOf}
-use Rattle.sci_drive.specs.Script.{IsLogOf, IsWholeLogOf}
+use Rattle.sci_drive.specs.Calls.{AreCalls, EndWithAllDone, times_done}
+use Rattle.sci_drive.specs.Driving.{DriverOf, IsInOrder, opening_driver}
+use Rattle.sci_drive.specs.Script.{IsFrontOf, IsLogOf, IsWholeLogOf}
+use Rattle.sci_drive.specs.declared.driver.Issuing.{Issuing}
+use Rattle.sci_drive.proofs.Calls.{calls_of, told_once}
 use Rattle.sci_drive.proofs.Drives.{log_of, whole_of}
 use Rattle.sci_drive.proofs.running.drive_issuing.Goals as goal
 
@@ -20,3 +24,32 @@ returns-clause-whole g c =
     let all = answered finished in
     subst (λ (ops : List Op). IsWholeLogOf ops node.log) script (whole_of c.go_on.new.self node all.0 all.1 c.go_on.ensures.driven))
     c.go_on.ensures.answered
+
+pub returns-clause-front : goal.returns-clause-front
+returns-clause-front g c = λ in_order.
+    let start = g.W.Worker.node c.args.worker.now in
+    let node = g.W.Worker.node c.go_on.new.worker in
+    let script = c.go_on.ensures.script ∙ ap (λ (d : DriverOf). d.script) c.new-driver.ensures in
+    let issued = subst (λ (issuing : Issuing). IsInOrder (opening_driver c.args.script.now issuing) start) (sym in_order) (c.new_drivers_may_drive.ensures.order c.args.script.now start c.requires.fresh) in
+    let opened = subst (λ (d : DriverOf). IsInOrder d start) (sym c.new-driver.ensures) issued in
+    subst (λ (ops : List Op). IsFrontOf ops node.log) script (c.go_on.ensures.order opened).front
+
+-- what holds of a run that has finished, from two facts of one
+both : {A E : Type 0} (r : Result A E) (f : A → Type 0) (P D T : Type 0) → IfOk r (λ a. f a → P) → IfOk r (λ a. f a → D) → (D → T) → IfOk r (λ a. f a → T × P)
+both (Ok a) f P D T p d t = λ h. (t (d h), p h)
+both (Err e) f P D T p d t = tt
+
+pub returns-clause-calls : goal.returns-clause-calls
+returns-clause-calls g c =
+    let start = g.W.Worker.node c.args.worker.now in
+    let node = g.W.Worker.node c.go_on.new.worker in
+    let heard = c.go_on.ensures.calls in
+    let are : AreCalls (opening_driver c.args.script.now c.args.issuing) c.go_on.new.self start node heard.0 = subst (λ (d : DriverOf). AreCalls d c.go_on.new.self start node heard.0) c.new-driver.ensures heard.2 in (
+      heard.0,
+      heard.1,
+      calls_of c.args.script.now c.args.issuing c.go_on.new.self start node heard.0 c.requires.fresh.log c.go_on.ensures.driven are,
+      both c.go_on.result (λ ran. ran.finished ≡ true) (EndWithAllDone heard.0) (c.go_on.new.self.was_done ≡ true) (times_done heard.0 ≡ 1) heard.3 c.go_on.ensures.told (λ done. told_once c.args.script.now c.args.issuing c.go_on.new.self start node heard.0 done are),
+    )
+
+pub returns-clause-turned : goal.returns-clause-turned
+returns-clause-turned g c = c.go_on.ensures.turned

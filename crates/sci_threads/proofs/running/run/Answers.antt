@@ -8,10 +8,10 @@ use Rattle.sci_core.specs.Size.{Size, size_of}
 use Rattle.sci_lanes.specs.Shown.{me_of}
 use Rattle.sci_lanes.specs.Gathering.{AreAll}
 use Rattle.sci_drive.specs.Driving.{HasSubmittedNothing}
-use Rattle.sci_drive.specs.Script.{IsLogOf, IsWholeLogOf}
+use Rattle.sci_drive.specs.Script.{IsFrontOf, IsLogOf, IsWholeLogOf}
 use Rattle.sci_station.specs.Ends.{IsSameEnd}
 use Rattle.sci_station.specs.Station.{StationOf, end_in, node_in}
-use Rattle.sci_threads.proofs.Sharing.{came_back, each_log, in_order, opened_long, opened_known, opened_all_fresh, named_ends, ordered_ends, sized_for, whole_ends, written_back}
+use Rattle.sci_threads.proofs.Sharing.{came_back, each_log, front_ends, in_order, opened_long, opened_known, opened_all_fresh, named_ends, ordered_ends, sized_for, whole_ends, written_back}
 use Rattle.sci_threads.specs.declared.share.Share.{Share}
 use Rattle.sci_threads.proofs.Going.{all_run}
 use Rattle.sci_threads.specs.Shares.{AreLedTo, HaveGoneOn, IsWell, operations_of, own_of}
@@ -118,6 +118,25 @@ returns-in-Ok-clause-ordered g c = λ is.
     let good = subst (λ (xs : List StationOf). All Good (map end_in xs)) (sym stations) (ordered_ends (λ share. share.station) c.args.issuing (own_of operations) (λ share. share.finished) after is ran) in
     let each = each_log (λ _. IsInProgramOrder) script operations ends c.in-Ok.field-0.logs many own all c.in-Ok.ensures.logs good in
     in_order c.in-Ok.field-0.logs script.nodes c.in-Ok.ensures.gathered.core c.in-Ok.ensures.gathered.reached c.in-Ok.ensures.gathered.logs_are (ap (λ (z : Size). z.nodes) c.in-Ok.ensures.gathered.sized ∙ nodes) each
+
+pub returns-in-Ok-clause-front : goal.returns-in-Ok-clause-front
+returns-in-Ok-clause-front g c = λ is.
+    let before = c.in_ok-shares.shares in
+    let after = c.run_all.new.shares in
+    let long : length after ≡ length before.items = c.run_all.auto.shares ∙ ap length c.deref_mut.ensures.value in
+    let stations : c.in_ok-stations.stations.items ≡ map (λ share. share.station) after = c.in_ok-stations.ensures.stations ∙ ap (map (λ share. share.station)) (written_back before.len after before.items before.ok.0 long) in
+    let operations = c.deref.result.now in
+    let script = c.args.script.now in
+    let many : length operations ≡ script.nodes = ap length c.deref.ensures.value ∙ c.in_ok-operations.ensures.nodes in
+    let own : (n : ℕ) (d : Vec Op _) → n < script.nodes → (slice_index_or operations n d).items ≡ operations_of n script.operations = subst (λ (all : List (Vec Op _)). (n : ℕ) (d : Vec Op _) → n < script.nodes → (slice_index_or all n d).items ≡ operations_of n script.operations) (sym c.deref.ensures.value) c.in_ok-operations.ensures.each in
+    let nodes : c.in_ok-fabric.fabric.size.nodes ≡ script.nodes = ap (λ (z : Size). z.nodes) c.in_ok-fabric.ensures.size ∙ c.extent.ensures.nodes in
+    let ends = map end_in c.in_ok-stations.stations.items in
+    let all = subst (λ (n : ℕ). AreAll n ends) nodes c.in-Ok.ensures.all in
+    let Good : EndOf → Type 0 = λ end. IsFrontOf (own_of operations (me_of end.part)) end.part.node.log in
+    let gone = subst (λ (xs : List (Share g.row.G.Denot)). (k : ℕ) (d : Share g.row.G.Denot) → k < length xs → HaveGoneOn (λ (s : Share g.row.G.Denot). s.driver) (λ s. s.station.end) xs after k d) c.deref_mut.ensures.value c.run_all.ensures.gone in
+    let ran = all_run (λ (s : Share g.row.G.Denot). s.driver) (λ s. s.station.end) (λ s. s.finished) c.args.issuing (own_of c.deref.result.now) before.items after long c.in_ok-shares.ensures.opened gone c.run_all.ensures.well in
+    let good = subst (λ (xs : List StationOf). All Good (map end_in xs)) (sym stations) (front_ends (λ share. share.station) c.args.issuing (own_of operations) (λ share. share.finished) after is ran) in
+    each_log IsFrontOf script operations ends c.in-Ok.field-0.logs many own all c.in-Ok.ensures.logs good
 
 pub returns-in-Ok-clause-led : goal.returns-in-Ok-clause-led
 returns-in-Ok-clause-led g c =

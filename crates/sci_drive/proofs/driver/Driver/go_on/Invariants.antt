@@ -1,11 +1,16 @@
 use Rattle.std.proofs.Common.{◌≡◌, ◌≤◌}
+use Rattle.sci_drive.specs.Calls.{IsHeard}
 use Rattle.sci_drive.specs.Driving.{IsDriven, IsInOrder}
 use Rattle.sci_drive.proofs.driver.Driver.go_on.Given as goal
 
 abbrev pub invariant-loop-turn : goal.invariant-loop-turn
-invariant-loop-turn g l =
-    IsDriven l.self (g.W.Worker.node l.worker)
-    × (l.self.script ≡ l.initial.self.script)
-    × g.W.Worker.stays l.initial.worker l.worker
-    × (l.restless ≤ 15)
-    × (IsInOrder l.initial.self (g.W.Worker.node l.initial.worker) → IsInOrder l.self (g.W.Worker.node l.worker))
+invariant-loop-turn g l = record {
+  driven : IsDriven l.self (g.W.Worker.node l.worker);
+  script : l.self.script ≡ l.initial.self.script;
+  issuing : l.self.issuing ≡ l.initial.self.issuing;
+  stays : g.W.Worker.stays l.initial.worker l.worker;
+  turned : g.W.Worker.turned l.initial.worker l.turn l.worker;
+  few : l.restless ≤ 15;
+  order : IsInOrder l.initial.self (g.W.Worker.node l.initial.worker) → IsInOrder l.self (g.W.Worker.node l.worker);
+  heard : IsHeard g.G.Gate.hears l.initial.gate l.gate l.initial.self l.self (g.W.Worker.node l.initial.worker) (g.W.Worker.node l.worker);
+}

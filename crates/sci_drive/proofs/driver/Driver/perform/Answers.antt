@@ -1,8 +1,12 @@
-use Rattle.std.proofs.Common.{arith, true, false, ◌≡◌, ◌<◌, ℕ, List, length, sym, ap, subst, ◌∙◌}
+use Rattle.std.proofs.Common.{arith, true, false, ◌≡◌, ◌<◌, ℕ, List, [], ◌∷◌, length, refl, sym, ap, subst, ◌∙◌}
+use Rattle.std.specs.List.{remove}
 use Rattle.std.specs.Prelude.{slice_index_or}
 use Rattle.std.proofs.lemmas.List.{get_or_default}
+use Rattle.sci_core.specs.Node.{NodeOf}
 use Rattle.sci_core.specs.Work.{IsLogged}
+use Rattle.sci_drive.specs.Calls.{Answered, IsHeard}
 use Rattle.sci_drive.specs.Driving.{DriverOf, IsDriven, IsInOrder}
+use Rattle.sci_drive.proofs.Calls.{answer_call, heard_nothing, heard_on}
 use Rattle.sci_drive.proofs.Drives.{grows, performs}
 use Rattle.sci_drive.proofs.InOrder.{performs_in_order}
 use Rattle.sci_drive.proofs.driver.Driver.perform.Goals as goal
@@ -11,7 +15,7 @@ use Rattle.sci_drive.proofs.driver.Driver.perform.Goals as goal
 pub loop-place-preserved-in-Some : goal.loop-place-preserved-in-Some
 loop-place-preserved-in-Some g c =
     let at = c.loop-place in
-    let driver : DriverOf = record { script = at.self-inside.script.now; issuing = at.self-inside.issuing; next = at.self-inside.next; pending = at.self-inside.pending.items } in
+    let driver : DriverOf = record { script = at.self-inside.script.now; issuing = at.self-inside.issuing; next = at.self-inside.next; pending = at.self-inside.pending.items; was_done = at.self-inside.was_done } in
     let old = g.W.Worker.node at.worker in
     let new = g.W.Worker.node c.perform.new.self in
     let long = c.len.ensures.value in
@@ -20,14 +24,71 @@ loop-place-preserved-in-Some g c =
     let line : ℕ = slice_index_or c.deref.result.now at.place 0 in
     let logged : IsLogged old new line c.in-Some.entry = c.in-Some.ensures.performed in
     let here : slice_index_or driver.pending at.place line ≡ line = ap (λ (l : List ℕ). slice_index_or l at.place line) (sym c.deref.ensures.0) ∙ get_or_default c.deref.result.now at.place line 0 (subst (λ (l : List ℕ). at.place < length l) (sym c.deref.ensures.0) within) in
-    let made = performs driver old new at.place line c.in-Some.entry at.invariant.0 logged within here in (
-      subst (λ (lines : List ℕ). IsDriven (record driver { pending = lines }) new) (sym c.remove.ensures.items) made,
-      at.invariant.1,
-      g.met.W.Worker.stays_through c.args.worker.now at.worker c.perform.new.self at.invariant.2 c.perform.ensures.stays,
-      λ _. grows (g.W.Worker.node c.args.worker.now).log old.log new.log c.in-Some.entry at.answered at.invariant.3 at.invariant.4 logged.log,
-      λ no. absurd (apart no),
-      λ was. subst (λ (lines : List ℕ). IsInOrder (record driver { pending = lines }) new) (sym c.remove.ensures.items) (performs_in_order driver old new at.place line c.in-Some.entry at.invariant.0 logged within here (at.invariant.5 was)),
-    )
+    let first : DriverOf = record { script = c.self.inside.script.now; issuing = c.self.inside.issuing; next = c.self.inside.next; pending = c.self.inside.pending.items; was_done = c.self.inside.was_done } in
+    let later : DriverOf = record driver { pending = remove driver.pending at.place } in
+    let made = performs driver old new at.place line c.in-Some.entry at.invariant.driven logged within here in
+    let undone : driver.was_done ≡ true → ⊥ = λ was. (let free = (at.invariant.done was).1 in let short : length driver.pending ≡ 0 = ap (λ (l : List ℕ). length l) free in absurd (omega arith)) in
+    let awaited = at.invariant.driven.pending line (record { serial = c.in-Some.entry.serial; op = c.in-Some.entry.op }) logged.pending in
+    let heard : IsHeard g.G.Gate.hears at.gate c.answered.new.self driver later old new = record {
+      calls = Answered c.in-Some.entry ∷ [];
+      heard = c.answered.ensures;
+      are = answer_call driver later old new c.in-Some.entry refl refl undone awaited.submitted logged.log;
+    } in record {
+      driven = subst (λ (lines : List ℕ). IsDriven (record driver { pending = lines }) new) (sym c.remove.ensures.items) made;
+      script = at.invariant.script;
+      issuing = at.invariant.issuing;
+      stays = g.met.W.Worker.stays_through c.args.worker.now at.worker c.perform.new.self at.invariant.stays c.perform.ensures.stays;
+      turned = g.met.W.Worker.turned_on c.args.worker.now at.worker c.perform.new.self 0 0 at.invariant.turned c.perform.ensures.turned;
+      more = λ _. grows (g.W.Worker.node c.args.worker.now).log old.log new.log c.in-Some.entry at.answered at.invariant.more at.invariant.same logged.log;
+      same = λ no. absurd (apart no);
+      order = λ was. subst (λ (lines : List ℕ). IsInOrder (record driver { pending = lines }) new) (sym c.remove.ensures.items) (performs_in_order driver old new at.place line c.in-Some.entry at.invariant.driven logged within here (at.invariant.order was));
+      done = λ was. absurd (undone was);
+      heard = subst (λ (lines : List ℕ). IsHeard g.G.Gate.hears c.args.gate.now c.answered.new.self first (record driver { pending = lines }) (g.W.Worker.node c.args.worker.now) new) (sym c.remove.ensures.items)
+          (heard_on g.G.Gate.hears g.met.G.Gate.hears_nothing g.met.G.Gate.hears_on c.args.gate.now at.gate c.answered.new.self first driver later (g.W.Worker.node c.args.worker.now) old new at.invariant.heard heard);
+    }
   where
     apart : true ≡ false → ⊥
     apart e = cc
+
+pub loop-place-init : goal.loop-place-init
+loop-place-init g c =
+    let first : DriverOf = record { script = c.self.inside.script.now; issuing = c.self.inside.issuing; next = c.self.inside.next; pending = c.self.inside.pending.items; was_done = c.self.inside.was_done } in
+    let node = g.W.Worker.node c.args.worker.now in
+    record {
+      driven = rw c.self.view_is c.requires.driven;
+      script = refl;
+      issuing = refl;
+      stays = g.met.W.Worker.stays_itself c.args.worker.now;
+      turned = g.met.W.Worker.turned_not c.args.worker.now;
+      more = λ no. absurd (apart no);
+      same = λ _. refl;
+      order = λ was. was;
+      done = c.self.invariant.1;
+      heard = heard_nothing g.G.Gate.hears g.met.G.Gate.hears_nothing g.met.G.Gate.hears_on c.args.gate.now first first node node refl refl refl;
+    }
+  where
+    apart : false ≡ true → ⊥
+    apart e = cc
+
+pub loop-place-preserved : goal.loop-place-preserved
+loop-place-preserved g c =
+    let at = c.loop-place in
+    let driver : DriverOf = record { script = at.self-inside.script.now; issuing = at.self-inside.issuing; next = at.self-inside.next; pending = at.self-inside.pending.items; was_done = at.self-inside.was_done } in
+    let first : DriverOf = record { script = c.self.inside.script.now; issuing = c.self.inside.issuing; next = c.self.inside.next; pending = c.self.inside.pending.items; was_done = c.self.inside.was_done } in
+    let start = g.W.Worker.node c.args.worker.now in
+    let old = g.W.Worker.node at.worker in
+    let new = g.W.Worker.node c.perform.new.self in
+    let same : new ≡ old = c.perform.ensures.same c.in-None.is in
+    let log : new.log ≡ old.log = ap (λ (n : NodeOf). n.log) same in
+    record {
+      driven = subst (IsDriven driver) (sym same) at.invariant.driven;
+      script = at.invariant.script;
+      issuing = at.invariant.issuing;
+      stays = g.met.W.Worker.stays_through c.args.worker.now at.worker c.perform.new.self at.invariant.stays c.perform.ensures.stays;
+      turned = g.met.W.Worker.turned_on c.args.worker.now at.worker c.perform.new.self 0 0 at.invariant.turned c.perform.ensures.turned;
+      more = subst (λ (n : NodeOf). at.answered ≡ true → length start.log < length n.log) (sym same) at.invariant.more;
+      same = λ no. log ∙ at.invariant.same no;
+      order = λ was. subst (IsInOrder driver) (sym same) (at.invariant.order was);
+      done = at.invariant.done;
+      heard = subst (λ (n : NodeOf). IsHeard g.G.Gate.hears c.args.gate.now at.gate first driver start n) (sym same) at.invariant.heard;
+    }

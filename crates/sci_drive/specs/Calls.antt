@@ -1,0 +1,78 @@
+-- What is asked of a gate, and what it is told, while a worker is driven.
+use Rattle.std.specs.Prelude.{◌≡◌, ◌⊎◌, ◌<◌, ◌≤◌, ◌+◌, ℕ, Bool, true, false, List, [], ◌∷◌, ◌++◌, Option, Some, None, count_by, if◌then◌else◌}
+use Rattle.std.specs.List.{Contains, filter_map}
+use Rattle.sci_history.specs.declared.entry.Entry.{Entry}
+use Rattle.sci_core.specs.Node.{NodeOf}
+use Rattle.sci_drive.specs.Driving.{DriverOf}
+
+-- a call of a gate, with its answer
+pub data Call : Type 0 where
+  MayIssue : (index : ℕ) (may : Bool) → Call
+  Answered : (entry : Entry) → Call
+  Done : Call
+  AllDone : (all : Bool) → Call
+  Rest : Call
+
+-- the entry that a call tells of
+abbrev pub entry_told : Call → Option Entry
+entry_told (MayIssue index may) = None
+entry_told (Answered entry) = Some entry
+entry_told Done = None
+entry_told (AllDone all) = None
+entry_told Rest = None
+
+-- the entries that the gate is told of, in the order of the calls
+abbrev pub told : List Call → List Entry
+told calls = filter_map entry_told calls
+
+abbrev pub is_done : Call → Bool
+is_done (MayIssue index may) = false
+is_done (Answered entry) = false
+is_done Done = true
+is_done (AllDone all) = false
+is_done Rest = false
+
+-- how often the gate is told that the whole script is answered
+abbrev pub times_done : List Call → ℕ
+times_done calls = count_by is_done calls
+
+-- how often it was, before a driver goes on
+abbrev pub times_before : DriverOf → ℕ
+times_before driver = if driver.was_done then 1 else 0
+
+-- an entry is told of only after its operation was allowed, by one of these calls or before them
+abbrev pub AreAllowed : ℕ → List Call → Type 0
+AreAllowed before calls = (front back : List Call) (entry : Entry) → calls ≡ front ++ Answered entry ∷ back → (entry.serial < before) ⊎ Contains front (MayIssue entry.serial true)
+
+-- no entry is told of after the gate was told that the whole script is answered
+abbrev pub EndWithDone : List Call → Type 0
+EndWithDone calls = (front back : List Call) → calls ≡ front ++ Done ∷ back → told back ≡ []
+
+-- the last call asked whether all are done, and they are
+abbrev pub EndWithAllDone : List Call → Type 0
+EndWithAllDone calls = (front : List Call) × (calls ≡ front ++ AllDone true ∷ [])
+
+-- The calls that a driver makes while it drives a node from one moment to another: it tells of each entry once, in the order
+-- of the log; it submits what was allowed, and nothing else; and it tells once that the script is answered, as the last.
+pub record AreCalls (old new : DriverOf) (before after : NodeOf) (calls : List Call) : Type 0 where
+  pub told_all : after.log ≡ before.log ++ told calls
+  pub submitted : (index : ℕ) → old.next ≤ index → index < new.next → Contains calls (MayIssue index true)
+  pub allowed : AreAllowed old.next calls
+  pub once : times_done calls + times_before old ≡ times_before new
+  pub last : EndWithDone calls
+  pub quiet : old.was_done ≡ true → told calls ≡ []
+
+-- The gate, whose calls lead it from one moment to another as `hears` says, has had such calls.
+pub record IsHeard {G : Type 0} (hears : G → List Call → G → Type 0) (gate later : G) (old new : DriverOf) (before after : NodeOf) : Type 0 where
+  pub calls : List Call
+  pub heard : hears gate calls later
+  pub are : AreCalls old new before after calls
+
+-- The calls of a whole run, from which a node has come with its log: the gate is told of each of its entries once, in the order
+-- of the log; what was submitted was allowed; and the gate is told at most once that the script is answered, as the last.
+pub record AreCallsOf (node : NodeOf) (calls : List Call) : Type 0 where
+  pub told_all : node.log ≡ told calls
+  pub submitted : (index : ℕ) → index < node.issued → Contains calls (MayIssue index true)
+  pub allowed : AreAllowed 0 calls
+  pub once : times_done calls ≤ 1
+  pub last : EndWithDone calls

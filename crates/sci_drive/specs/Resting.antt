@@ -1,0 +1,13 @@
+-- When a gate rests.
+use Rattle.std.specs.Prelude.{ℕ, ◌+◌, nat_le, Bool, ◌&&◌, ◌||◌, not, if◌then◌else◌}
+use Rattle.sci_policy.specs.Turn.{is_idle}
+use Rattle.sci_drive.specs.declared.driver.Round.{Round}
+use Rattle.sci_drive.specs.declared.running.TheConstants.{RESTLESS_TURNS}
+
+-- how many turns there are in a row without an entry or a rest, after this round
+abbrev pub in_a_row : Round → ℕ → ℕ
+in_a_row round restless = if round.answered then 0 else restless + 1
+
+-- nothing moved, or there are too many in a row
+abbrev pub is_rest_due : Round → ℕ → Bool
+is_rest_due round restless = (not round.answered && is_idle round.progress) || nat_le RESTLESS_TURNS (in_a_row round restless)
