@@ -1,4 +1,5 @@
 mod Asked
+mod Checked
 pub mod Answered
 mod Notes
 mod Sent

@@ -21,7 +21,7 @@ use Rattle.sci_command.specs.VerdictLine.{verdict_text}
 use Rattle.sciview.specs.declared.order.NodeOrder.{NodeOrder}
 use Rattle.sciview.specs.declared.order.NodeOrder.TheVariants.{Logged, BySerial}
 use Rattle.sciview.specs.declared.order.OrderRequest.{OrderRequest}
-use Rattle.sciview.specs.OrderAnswer.{IsFound, IsVerdictOf, kept, order_text}
+use Rattle.sciview.specs.OrderAnswer.{IsFound, IsVerdictOf, kept, IsOrderText}
 
 -- three facts of what was answered give a fourth
 pub if_ok_three : {X E : Type 0} (P Q R S : X → Type 0) (r : Result X E) → ((x : X) → P x → Q x → R x → S x) → IfOk r P → IfOk r Q → IfOk r R → IfOk r S
@@ -29,9 +29,9 @@ if_ok_three P Q R S (Ok x) f p q r = f x p q r
 if_ok_three P Q R S (Err e) f p q r = tt
 
 -- logs that aren't lawful
-pub fault_found : (request : OrderRequest) (logs : List (List Entry)) (last : List Stamped) (line : ℕ) (kind : FaultKind) (at : Option (ℕ × ℕ)) (text : List ℕ) → (let fault : Verdict = verdicts.Fault line kind at in IsVerdict logs last fault × ((fault ≡ verdicts.Lawful) ↔ Lawful logs last) × (text ≡ verdict_text fault))
-    → IsFound request logs last text Unlawful
-fault_found request logs last line kind at text h = record {
+pub fault_found : (request : OrderRequest) (before : ℕ) (logs : List (List Entry)) (last : List Stamped) (line : ℕ) (kind : FaultKind) (at : Option (ℕ × ℕ)) (text : List ℕ) → (let fault : Verdict = verdicts.Fault line kind at in IsVerdict logs last fault × ((fault ≡ verdicts.Lawful) ↔ Lawful logs last) × (text ≡ verdict_text fault))
+    → IsFound request before logs last text Unlawful
+fault_found request before logs last line kind at text h = record {
   verdict = Fault line kind at;
   found = h.0;
   written = h.2;
@@ -46,9 +46,9 @@ kept_verdict keeps logs last (Fault line kind at) lawful sorted own sixteen is =
 kept_verdict keeps logs last (Order order) lawful sorted own sixteen is = (lawful, is)
 kept_verdict keeps logs last (Cycle steps) lawful sorted own sixteen is = (lawful, is)
 
-pub serial_found : (request : OrderRequest) (logs sorted : List (List Entry)) (last : List Stamped) (verdict : OrderVerdict) (text : List ℕ) (outcome : Outcome) → request.keeps ≡ BySerial → sorted ≡ by_serial logs → Lawful logs last → Lawful (by_serial logs) last → AreOwn sorted → length sorted ≡ MAX_NODES
-    → IsOrderVerdict sorted last verdict → IsOrdered verdict ↔ (Lawful sorted last × IsSequentiallyConsistent sorted last) → text ≡ order_text request verdict → (outcome ≡ Refused → ⊥) → (outcome ≡ Done) ↔ IsOrdered verdict → IsFound request logs last text outcome
-serial_found request logs sorted last verdict text outcome keeps is lawful still own sixteen found ordered written judged ends =
+pub serial_found : (request : OrderRequest) (before : ℕ) (logs sorted : List (List Entry)) (last : List Stamped) (verdict : OrderVerdict) (text : List ℕ) (outcome : Outcome) → request.keeps ≡ BySerial → sorted ≡ by_serial logs → Lawful logs last → Lawful (by_serial logs) last → AreOwn sorted → length sorted ≡ MAX_NODES
+    → IsOrderVerdict sorted last verdict → IsOrdered verdict ↔ (Lawful sorted last × IsSequentiallyConsistent sorted last) → IsOrderText request before logs verdict text → (outcome ≡ Refused → ⊥) → (outcome ≡ Done) ↔ IsOrdered verdict → IsFound request before logs last text outcome
+serial_found request before logs sorted last verdict text outcome keeps is lawful still own sixteen found ordered written judged ends =
     let same : sorted ≡ kept request.keeps logs = is ∙ ap (λ (k : NodeOrder). kept k logs) (sym keeps) in
     let still_kept = subst (λ (ls : List (List Entry)). Lawful ls last) (sym is ∙ same) still in
     record {
@@ -68,9 +68,9 @@ logged_verdict logs last (Fault line kind at) is = is
 logged_verdict logs last (Order order) is = (is.0, is)
 logged_verdict logs last (Cycle steps) is = (is.0, is)
 
-pub logged_found : (request : OrderRequest) (logs : List (List Entry)) (last : List Stamped) (verdict : OrderVerdict) (text : List ℕ) (outcome : Outcome) → request.keeps ≡ Logged
-    → IsOrderVerdict logs last verdict → IsOrdered verdict ↔ (Lawful logs last × IsSequentiallyConsistent logs last) → text ≡ order_text request verdict → (outcome ≡ Refused → ⊥) → (outcome ≡ Done) ↔ IsOrdered verdict → IsFound request logs last text outcome
-logged_found request logs last verdict text outcome keeps found ordered written judged ends =
+pub logged_found : (request : OrderRequest) (before : ℕ) (logs : List (List Entry)) (last : List Stamped) (verdict : OrderVerdict) (text : List ℕ) (outcome : Outcome) → request.keeps ≡ Logged
+    → IsOrderVerdict logs last verdict → IsOrdered verdict ↔ (Lawful logs last × IsSequentiallyConsistent logs last) → IsOrderText request before logs verdict text → (outcome ≡ Refused → ⊥) → (outcome ≡ Done) ↔ IsOrdered verdict → IsFound request before logs last text outcome
+logged_found request before logs last verdict text outcome keeps found ordered written judged ends =
     let same : logs ≡ kept request.keeps logs = ap (λ (k : NodeOrder). kept k logs) (sym keeps) in
     record {
       verdict = verdict;

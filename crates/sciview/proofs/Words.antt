@@ -1,12 +1,14 @@
 -- The words of a walk, from the words of its numbers and those of its share.
-use Rattle.std.proofs.Common.{◌≡◌, ◌↔◌, ◌<◌, ◌^◌, ℕ, arith, length, get_or, IfSome, List, [], ◌∷◌, ◌++◌, map, take, drop, Option, Some, None, sym, ap, ◌∙◌, refl, subst}
-use Rattle.std.proofs.lemmas.List.{take-map, drop-map, take-append-drop, map-append}
+use Rattle.std.proofs.Common.{◌≡◌, ◌↔◌, ◌<◌, ◌≤◌, ◌⊎◌, ◌+◌, ◌^◌, ℕ, inl, inr, arith, length, get_or, IfSome, List, [], ◌∷◌, ◌++◌, map, take, drop, Option, Some, None, sym, ap, ◌∙◌, refl, subst}
+use Rattle.std.proofs.lemmas.List.{length-map, take-map, drop-map, take-append-drop, map-append}
 use Rattle.std.specs.Prelude.{codes, Bool, true, false, option_map}
+use Rattle.sciview.specs.declared.chart.ChartRequest.{ChartRequest}
+use Rattle.sciview.specs.declared.chart.TextLines.{TextLines}
 use Rattle.sciview.specs.declared.trace.TraceRequest.{TraceRequest}
 use Rattle.sci_words.specs.declared.limits.TheConstants.{MAX_LINES}
 use Rattle.sci_text.specs.Number.{number}
 use Rattle.sciview.specs.declared.random.Walk.{Walk}
-use Rattle.sciview.specs.Choice.{ChoosesTrace, FitsDead, FitsLine, FitsWalk, dead_words, flag, line_words, walk_words}
+use Rattle.sciview.specs.Choice.{ChoosesChart, ChoosesTrace, FitsDead, FitsEvents, FitsLine, FitsWalk, dead_words, events_words, flag, line_words, walk_words}
 
 -- the words are those of the first five and those of the rest
 parts : {X : Type 0} (f : X → List ℕ) (words : List X) → map f words ≡ map f (take 5 words) ++ map f (drop 5 words)
@@ -140,3 +142,84 @@ not_strict words said there is says true line = (λ same. let apart : Some false
 pub line_alone : (words : List (List ℕ)) (said : Option (Option ℕ)) (there : Option ℕ) → said ≡ Some there → ((line : Option ℕ) → (said ≡ Some line) ↔ ((words ≡ line_words line) × FitsLine line)) → (request : TraceRequest)
     → (let one : Option TraceRequest = Some record { strict = false; line = there } in one ≡ Some request) ↔ ChoosesTrace words request
 line_alone words said there is says request = not_strict words said there is says request.strict request.line
+
+-- ---- the words of a chart
+
+-- the words of a line are two or none, and those of lines of a schedule three or none
+parted : (words : List (List ℕ)) (at : ℕ) (line : Option ℕ) (events : Option TextLines) → (length words < 3 → at ≡ length words) → (3 ≤ length words → at + 3 ≡ length words) → words ≡ line_words line ++ events_words events → (take at words ≡ line_words line) × (drop at words ≡ events_words events)
+unfolding line_words events_words
+parted words at None None short long is =
+    let none : at ≡ 0 = (let l = ap (λ (ws : List (List ℕ)). length ws) is in short (omega (arith, l)) ∙ l) in
+    rw (none, is) (refl, refl)
+parted words at None (Some lines) short long is =
+    let none : at ≡ 0 = (let l = ap (λ (ws : List (List ℕ)). length ws) is in let e = long (omega (arith, l)) in omega (arith, l, e)) in
+    rw (none, is) (refl, refl)
+parted words at (Some line) None short long is =
+    let two_words : at ≡ 2 = (let l = ap (λ (ws : List (List ℕ)). length ws) is in short (omega (arith, l)) ∙ l) in
+    rw (two_words, is) (refl, refl)
+parted words at (Some line) (Some lines) short long is =
+    let two_words : at ≡ 2 = (let l = ap (λ (ws : List (List ℕ)). length ws) is in let e = long (omega (arith, l)) in omega (arith, l, e)) in
+    rw (two_words, is) (refl, refl)
+
+abbrev events_of : Option ChartRequest → Option (Option TextLines)
+events_of None = None
+events_of (Some request) = Some request.events
+
+abbrev chart_line_of : Option ChartRequest → Option (Option ℕ)
+chart_line_of None = None
+chart_line_of (Some request) = Some request.line
+
+pub chart_said : (words : List (List ℕ)) (at : ℕ) (line_said : Option (Option ℕ)) (events_said : Option (Option TextLines)) (line_there : Option ℕ) (events_there : Option TextLines) → (length words < 3 → at ≡ length words) → (3 ≤ length words → at + 3 ≡ length words)
+    → line_said ≡ Some line_there → events_said ≡ Some events_there
+    → ((line : Option ℕ) → (line_said ≡ Some line) ↔ ((take at words ≡ line_words line) × FitsLine line))
+    → ((events : Option TextLines) → (events_said ≡ Some events) ↔ ((drop at words ≡ events_words events) × FitsEvents events))
+    → (request : ChartRequest) → (let one : Option ChartRequest = Some record { line = line_there; events = events_there } in one ≡ Some request) ↔ ChoosesChart words request
+chart_said words at line_said events_said line_there events_there short long line_is events_is lines events request = (
+  λ same.
+      let from_line = (lines request.line).0 (line_is ∙ ap chart_line_of same) in
+      let from_events = (events request.events).0 (events_is ∙ ap events_of same) in
+      (sym (take-append-drop at words) ∙ ap (λ (l : List (List ℕ)). l ++ drop at words) from_line.0 ∙ ap (λ (l : List (List ℕ)). line_words request.line ++ l) from_events.0, from_line.1, from_events.1),
+  λ said.
+      let parts = parted words at request.line request.events short long said.0 in
+      let line_same : line_said ≡ Some request.line = (lines request.line).1 (parts.0, said.1) in
+      let events_same : events_said ≡ Some request.events = (events request.events).1 (parts.1, said.2) in
+      let line_at : line_there ≡ request.line = (let e : Some line_there ≡ Some request.line = sym line_is ∙ line_same in cc) in
+      let events_at : events_there ≡ request.events = (let e : Some events_there ≡ Some request.events = sym events_is ∙ events_same in cc) in
+      rw (line_at, events_at) refl,
+)
+
+-- words that don't say a line, or don't say lines of the schedule behind it, choose nothing
+pub chart_not_said : (words : List (List ℕ)) (at : ℕ) (line_said : Option (Option ℕ)) (events_said : Option (Option TextLines)) (result : Option ChartRequest) → (length words < 3 → at ≡ length words) → (3 ≤ length words → at + 3 ≡ length words)
+    → result ≡ None → (line_said ≡ None) ⊎ (events_said ≡ None)
+    → ((line : Option ℕ) → (line_said ≡ Some line) ↔ ((take at words ≡ line_words line) × FitsLine line))
+    → ((events : Option TextLines) → (events_said ≡ Some events) ↔ ((drop at words ≡ events_words events) × FitsEvents events))
+    → (request : ChartRequest) → (result ≡ Some request) ↔ ChoosesChart words request
+chart_not_said words at line_said events_said result short long is (inl none) lines events request = (
+  λ same. absurd (cc),
+  λ said.
+      let parts = parted words at request.line request.events short long said.0 in
+      let line_same : line_said ≡ Some request.line = (lines request.line).1 (parts.0, said.1) in
+      absurd (cc),
+)
+chart_not_said words at line_said events_said result short long is (inr none) lines events request = (
+  λ same. absurd (cc),
+  λ said.
+      let parts = parted words at request.line request.events short long said.0 in
+      let events_same : events_said ≡ Some request.events = (events request.events).1 (parts.1, said.2) in
+      absurd (cc),
+)
+
+-- what the first words say and what the others say, of the texts of the words
+pub chart_parts : {X : Type 0} (f : X → List ℕ) (words front back : List X) (at : ℕ) (line_said : Option (Option ℕ)) (events_said : Option (Option TextLines)) → (length words < 3 → at ≡ length words) → (3 ≤ length words → at + 3 ≡ length words) → front ≡ take at words → back ≡ drop at words
+    → ((line : Option ℕ) → (line_said ≡ Some line) ↔ ((map f front ≡ line_words line) × FitsLine line))
+    → ((events : Option TextLines) → (events_said ≡ Some events) ↔ ((map f back ≡ events_words events) × FitsEvents events))
+    → (length (map f words) < 3 → at ≡ length (map f words)) × (3 ≤ length (map f words) → at + 3 ≡ length (map f words))
+    × ((line : Option ℕ) → (line_said ≡ Some line) ↔ ((take at (map f words) ≡ line_words line) × FitsLine line))
+    × ((events : Option TextLines) → (events_said ≡ Some events) ↔ ((drop at (map f words) ≡ events_words events) × FitsEvents events))
+chart_parts f words front back at line_said events_said short long in_front behind lines events =
+    let same : length (map f words) ≡ length words = length-map words f in (
+      λ lt. short (omega (arith, lt, same)) ∙ sym same,
+      λ le. long (omega (arith, le, same)) ∙ sym same,
+      subst (λ (l : List (List ℕ)). (line : Option ℕ) → (line_said ≡ Some line) ↔ ((l ≡ line_words line) × FitsLine line)) (ap (map f) in_front ∙ sym (take-map f at words)) lines,
+      subst (λ (l : List (List ℕ)). (events : Option TextLines) → (events_said ≡ Some events) ↔ ((l ≡ events_words events) × FitsEvents events)) (ap (map f) behind ∙ sym (drop-map f at words)) events,
+    )

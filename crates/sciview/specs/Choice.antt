@@ -1,14 +1,16 @@
 -- The words of a command line.
-use Rattle.std.specs.Prelude.{◌≡◌, ◌<◌, ◌^◌, ◌++◌, ◌⊎◌, ℕ, Bool, List, [], ◌∷◌, codes, Option, Some, None, true, false}
+use Rattle.std.specs.Prelude.{◌≡◌, ◌<◌, ◌≤◌, ◌^◌, ◌++◌, ◌⊎◌, ℕ, Bool, List, [], ◌∷◌, codes, Option, Some, None, true, false}
 use Rattle.sci_words.specs.declared.limits.TheConstants.{MAX_LINES}
 use Rattle.sci_text.specs.Number.{number}
+use Rattle.sciview.specs.declared.chart.ChartRequest.{ChartRequest}
+use Rattle.sciview.specs.declared.chart.TextLines.{TextLines}
 use Rattle.sciview.specs.declared.order.NodeOrder.{NodeOrder}
 use Rattle.sciview.specs.declared.order.NodeOrder.TheVariants.{Logged, BySerial}
 use Rattle.sciview.specs.declared.order.OrderRequest.{OrderRequest}
 use Rattle.sciview.specs.declared.random.Walk.{Walk}
 use Rattle.sciview.specs.declared.trace.TraceRequest.{TraceRequest}
 use Rattle.sciview.specs.declared.choice.Command.{Command}
-use Rattle.sciview.specs.declared.choice.Command.TheVariants.{Order, Explain, Packets, Trace, Lists, Chart, Random, Help, Version}
+use Rattle.sciview.specs.declared.choice.Command.TheVariants.{Order, Explain, Check, Packets, Trace, Lists, Chart, Random, Help, Version}
 
 -- an option that is one word, if it is given
 abbrev pub flag : List ℕ → Bool → List (List ℕ)
@@ -41,7 +43,21 @@ ChoosesOrder words request = AreOptions words (flag (codes "--by-serial") (asks_
 abbrev pub ChoosesTrace : List (List ℕ) → TraceRequest → Type 0
 ChoosesTrace words request = (words ≡ flag (codes "--strict") request.strict ++ line_words request.line) × FitsLine request.line
 
--- what stands behind `lists`, and behind `chart`
+-- the words that say lines of a schedule, if some are asked for
+unfoldable pub events_words : Option TextLines → List (List ℕ)
+events_words None = []
+events_words (Some lines) = codes "--events" ∷ number lines.first ∷ number lines.last ∷ []
+
+-- numbers of 64 bits, the first not above the last
+abbrev pub FitsEvents : Option TextLines → Type 0
+FitsEvents None = Unit {0}
+FitsEvents (Some lines) = (lines.first ≤ lines.last) × (lines.last < 2 ^ 64)
+
+-- what stands behind `chart`
+abbrev pub ChoosesChart : List (List ℕ) → ChartRequest → Type 0
+ChoosesChart words request = (words ≡ line_words request.line ++ events_words request.events) × FitsLine request.line × FitsEvents request.events
+
+-- what stands behind `lists`
 abbrev pub ChoosesLine : List (List ℕ) → Option ℕ → Type 0
 ChoosesLine words line = (words ≡ line_words line) × FitsLine line
 
@@ -75,10 +91,11 @@ ChoosesWalk words walk dead = (words ≡ walk_words walk ++ dead_words dead) × 
 abbrev pub ChoosesBy : List ℕ → List (List ℕ) → Command → Type 0
 ChoosesBy word rest (Order request) = (word ≡ codes "order") × ChoosesOrder rest request
 ChoosesBy word rest Explain = (word ≡ codes "explain") × (rest ≡ [])
+ChoosesBy word rest Check = (word ≡ codes "check") × (rest ≡ [])
 ChoosesBy word rest Packets = (word ≡ codes "packets") × (rest ≡ [])
 ChoosesBy word rest (Trace request) = (word ≡ codes "trace") × ChoosesTrace rest request
 ChoosesBy word rest (Lists line) = (word ≡ codes "lists") × ChoosesLine rest line
-ChoosesBy word rest (Chart line) = (word ≡ codes "chart") × ChoosesLine rest line
+ChoosesBy word rest (Chart request) = (word ≡ codes "chart") × ChoosesChart rest request
 ChoosesBy word rest (Random walk dead) = (word ≡ codes "random") × ChoosesWalk rest walk dead
 ChoosesBy word rest Help = ((word ≡ codes "--help") ⊎ (word ≡ codes "-h")) × (rest ≡ [])
 ChoosesBy word rest Version = (word ≡ codes "--version") × (rest ≡ [])

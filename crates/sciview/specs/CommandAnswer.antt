@@ -6,6 +6,7 @@ use Rattle.sciview.specs.declared.choice.Command.{Command}
 use Rattle.sciview.specs.declared.choice.Command.TheVariants as commands
 use Rattle.sciview.specs.declared.help.TheConstants.{HELP, VERSION}
 use Rattle.sciview.specs.ChartAnswer.{IsChartAnswer}
+use Rattle.sciview.specs.CheckAnswer.{IsCheckAnswer}
 use Rattle.sciview.specs.ExplainAnswer.{IsExplainAnswer}
 use Rattle.sciview.specs.ListsAnswer.{IsListsAnswer}
 use Rattle.sciview.specs.OrderAnswer.{IsOrderAnswer}
@@ -17,10 +18,11 @@ use Rattle.sciview.specs.TraceAnswer.{IsTraceAnswer}
 abbrev pub IsAnswerTo : Command → Option (List ℕ) → Bool → List ℕ → Outcome → Type 0
 IsAnswerTo (commands.Order request) input failed text outcome = IsOrderAnswer request input failed text outcome
 IsAnswerTo commands.Explain input failed text outcome = IsExplainAnswer input failed text outcome
+IsAnswerTo commands.Check input failed text outcome = IsCheckAnswer input failed text outcome
 IsAnswerTo commands.Packets input failed text outcome = IsPacketsAnswer input failed text outcome
 IsAnswerTo (commands.Trace request) input failed text outcome = IsTraceAnswer request input failed text outcome
 IsAnswerTo (commands.Lists line) input failed text outcome = IsListsAnswer line input failed text outcome
-IsAnswerTo (commands.Chart line) input failed text outcome = IsChartAnswer line input failed text outcome
+IsAnswerTo (commands.Chart request) input failed text outcome = IsChartAnswer request.line input failed text outcome
 IsAnswerTo (commands.Random walk dead) input failed text outcome = IsRandomAnswer walk dead text outcome
 IsAnswerTo commands.Help input failed text outcome = (text ≡ HELP.now) × (outcome ≡ Done)
 IsAnswerTo commands.Version input failed text outcome = (text ≡ VERSION.now) × (outcome ≡ Done)

@@ -1,6 +1,6 @@
 -- What `order` writes for its input.
-use Rattle.std.specs.Prelude.{◌≡◌, ◌↔◌, ℕ, Bool, List, [], ◌∷◌, ◌++◌, codes, Option, if◌then◌else◌}
-use Rattle.std.specs.List.{flat_map}
+use Rattle.std.specs.Prelude.{◌≡◌, ◌↔◌, ℕ, Bool, List, [], ◌∷◌, ◌++◌, length, map, codes, Option, Some, None, if◌then◌else◌}
+use Rattle.std.specs.List.{AllByRecursion, flat_map}
 use Rattle.sci_words.specs.declared.stamped.Stamped.{Stamped}
 use Rattle.sci_history.specs.declared.entry.Entry.{Entry}
 use Rattle.sci_history.specs.declared.verdict.Verdict.TheVariants as verdicts
@@ -13,6 +13,7 @@ use Rattle.sci_history.specs.Audit.{IsFault, entries_of}
 use Rattle.sci_history.specs.Lawful.{Lawful}
 use Rattle.sci_history.specs.Cycle.{IsOrderVerdict}
 use Rattle.sci_history.specs.Sequential.{IsSequentiallyConsistent, by_serial}
+use Rattle.sci_text.specs.Number.{field}
 use Rattle.sci_text.specs.FirstFault.{IsTold}
 use Rattle.sci_text.specs.Log.{entry_line, issue_text, outcome_text}
 use Rattle.sci_text.specs.LogFault.{IsLogFault}
@@ -24,7 +25,9 @@ use Rattle.sci_command.specs.Refusal.{IsRefusalBy}
 use Rattle.sci_command.specs.VerdictLine.{verdict_text}
 use Rattle.sciview.specs.declared.order.NodeOrder.{NodeOrder}
 use Rattle.sciview.specs.declared.order.NodeOrder.TheVariants.{Logged, BySerial}
+use Rattle.sciview.specs.declared.order.NumberedStep.{NumberedStep}
 use Rattle.sciview.specs.declared.order.OrderRequest.{OrderRequest}
+use Rattle.sciview.specs.EntryLines.{IsBeforeEntries, IsLineOf}
 
 -- each node's entries in the order that is asked for
 abbrev pub kept : NodeOrder → List (List Entry) → List (List Entry)
@@ -45,9 +48,18 @@ reason_text keeps reasons.ReadsFrom = codes "write before read"
 reason_text keeps reasons.FromRead = codes "read before write"
 reason_text keeps reasons.Coherence = codes "version order"
 
--- an entry of a cycle, why it comes after the one on the next line, and the line feed
-unfoldable pub step_text : NodeOrder → Step → List ℕ
-step_text keeps step = (issue_text step.entry ++ outcome_text step.entry) ++ (codes " comes after the next: " ++ (reason_text keeps step.reason ++ 10 ∷ []))
+-- the number of the line on which an entry stands
+unfoldable pub place_text : Option ℕ → List ℕ
+place_text None = []
+place_text (Some line) = codes "line" ++ (field line ++ codes ": ")
+
+-- why an entry of a cycle comes after the one on the next line, and the line feed
+unfoldable pub why_text : NodeOrder → Reason → List ℕ
+why_text keeps reason = codes " comes after the next: " ++ (reason_text keeps reason ++ 10 ∷ [])
+
+-- where an entry of a cycle stands, the entry, and why it comes after the one on the next line
+unfoldable pub step_text : NodeOrder → NumberedStep → List ℕ
+step_text keeps x = place_text x.line ++ ((issue_text x.step.entry ++ outcome_text x.step.entry) ++ why_text keeps x.step.reason)
 
 -- whether logs are sequentially consistent, and in which sense
 unfoldable pub sense_text : NodeOrder → List ℕ
@@ -55,7 +67,7 @@ sense_text Logged = codes "sequentially consistent"
 sense_text BySerial = codes "sequentially consistent in program order"
 
 -- that there is no order, and the entries of a cycle
-unfoldable pub cycle_text : NodeOrder → List Step → List ℕ
+unfoldable pub cycle_text : NodeOrder → List NumberedStep → List ℕ
 cycle_text keeps steps = codes "not " ++ (sense_text keeps ++ (10 ∷ [] ++ flat_map (step_text keeps) steps))
 
 -- the entries of an order, a line each, if they are asked for
@@ -66,11 +78,15 @@ shown_text shows order = if shows then flat_map entry_line order else []
 unfoldable pub found_text : OrderRequest → List Entry → List ℕ
 found_text request order = sense_text request.keeps ++ (10 ∷ [] ++ shown_text request.shows order)
 
+-- entries of a cycle with the lines of the text on which they stand
+abbrev pub AreNumbered : ℕ → List (List Entry) → List Step → List NumberedStep → Type 0
+AreNumbered before logs steps numbered = (map (λ x. x.step) numbered ≡ steps) × AllByRecursion (λ x. IsLineOf before logs x.step.entry x.line) numbered
+
 -- the fault of logs that aren't lawful; an order; or a cycle
-abbrev pub order_text : OrderRequest → OrderVerdict → List ℕ
-order_text request (Fault line kind at) = verdict_text (verdicts.Fault line kind at)
-order_text request (Order order) = found_text request (entries_of order.items)
-order_text request (Cycle steps) = cycle_text request.keeps steps.items
+abbrev pub IsOrderText : OrderRequest → ℕ → List (List Entry) → OrderVerdict → List ℕ → Type 0
+IsOrderText request before logs (Fault line kind at) text = text ≡ verdict_text (verdicts.Fault line kind at)
+IsOrderText request before logs (Order order) text = text ≡ found_text request (entries_of order.items)
+IsOrderText request before logs (Cycle steps) text = (numbered : List NumberedStep) × AreNumbered before logs steps.items numbered × (text ≡ cycle_text request.keeps numbered)
 
 -- ---- the answer
 
@@ -80,11 +96,11 @@ IsVerdictOf keeps logs last (Fault line kind at) = IsFault logs last line kind a
 IsVerdictOf keeps logs last (Order order) = Lawful logs last × IsOrderVerdict (kept keeps logs) last (Order order)
 IsVerdictOf keeps logs last (Cycle steps) = Lawful logs last × IsOrderVerdict (kept keeps logs) last (Cycle steps)
 
--- what a search for an order finds is written; it is Done exactly if the logs are lawful and there is such an order
-pub record IsFound (request : OrderRequest) (logs : List (List Entry)) (last : List Stamped) (text : List ℕ) (outcome : Outcome) : Type 0 where
+-- What a search for an order finds is written, where so many lines of the text come before the entries. It is Done exactly if the logs are lawful and there is such an order
+pub record IsFound (request : OrderRequest) (before : ℕ) (logs : List (List Entry)) (last : List Stamped) (text : List ℕ) (outcome : Outcome) : Type 0 where
   pub verdict : OrderVerdict
   pub found : IsVerdictOf request.keeps logs last verdict
-  pub written : text ≡ order_text request verdict
+  pub written : IsOrderText request before logs verdict text
   pub judged : outcome ≡ Refused → ⊥
   pub ends : (outcome ≡ Done) ↔ (Lawful logs last × IsSequentiallyConsistent (kept request.keeps logs) last)
 
@@ -94,7 +110,9 @@ pub record IsOrderOf (request : OrderRequest) (input text : List ℕ) (outcome :
   pub logs : List (List Entry)
   pub last : List Stamped
   pub read : IsLogs input nodes logs last
-  pub found : IsFound request logs last text outcome
+  pub before : ℕ
+  pub places : IsBeforeEntries input (length last) before
+  pub found : IsFound request before logs last text outcome
 
 -- what `order` writes, and how it ends, for the bytes of a reader, which has failed or not
 abbrev pub IsOrderAnswer : OrderRequest → Option (List ℕ) → Bool → List ℕ → Outcome → Type 0

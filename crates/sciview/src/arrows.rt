@@ -45,19 +45,24 @@ pub struct Arrow {
     pub kind: ArrowKind,
     /// The packet.
     pub packet: Packet,
-    /// The row where it was sent.
-    pub sent: u32,
+    /// The row where it was sent, unless that was before the first row.
+    pub sent: Option<u32>,
     /// The row where it was taken, if it was.
     pub taken: Option<u32>,
+    /// Whether it was taken before the first row.
+    pub is_past: bool,
     /// How many packets of the sender to itself were under way when it was sent, if it is one.
     pub beside: usize,
 }
 
 impl Arrow {
-    /// Whether it was taken more than this many rows below the one where it was sent.
+    /// Whether it was taken more than this many rows below the one where it was sent, or was sent before the first row.
     pub fn is_longer_than(&self, rows: u32) -> bool {
-        self.taken
-            .is_some_and(|taken| taken.saturating_sub(self.sent) > rows)
+        match (self.sent, self.taken) {
+            (Some(sent), Some(taken)) => taken.saturating_sub(sent) > rows,
+            (None, taken) => taken.is_some(),
+            (Some(_), None) => false,
+        }
     }
 }
 
@@ -108,8 +113,8 @@ impl Arrows {
         under_way(first).saturating_add(under_way(second))
     }
 
-    /// A packet is sent in a row. Refused if memory is.
-    pub fn send(&mut self, packet: &Packet, row: u32) -> Result<(), AllocError> {
+    /// A packet is sent in a row, or before the first one. Refused if memory is.
+    pub fn send(&mut self, packet: &Packet, row: Option<u32>) -> Result<(), AllocError> {
         // Makes an option, so that the prover is told of the types inside a packet.
         let _told = Some(*packet);
         let place = self.sent.len();
@@ -119,6 +124,7 @@ impl Arrows {
             packet: *packet,
             sent: row,
             taken: None,
+            is_past: false,
             beside,
         })?;
         if let Some(lane) = self.lanes.get_mut(lane_of(packet)) {
@@ -127,12 +133,13 @@ impl Arrows {
         Ok(())
     }
 
-    /// A packet is taken in a row: it is the oldest of its lane. Gives its way.
-    pub fn take(&mut self, packet: &Packet, row: u32) -> Option<&mut Arrow> {
+    /// A packet is taken in a row, or before the first one: it is the oldest of its lane. Gives its way.
+    pub fn take(&mut self, packet: &Packet, row: Option<u32>) -> Option<&mut Arrow> {
         let lane = self.lanes.get_mut(lane_of(packet))?;
         let place = lane.pop_front()?;
         let arrow = self.sent.get_mut(place)?;
-        arrow.taken = Some(row);
+        arrow.taken = row;
+        arrow.is_past = row.is_none();
         Some(arrow)
     }
 }

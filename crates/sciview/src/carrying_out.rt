@@ -10,6 +10,7 @@ ghost use Rattle.sci_command.specs.Writing.{WritesFront};
 ghost use Rattle.sciview.specs.CommandAnswer.{IsAnswerTo};
 
 use crate::chart::chart;
+use crate::check::check;
 use crate::choice::Command;
 use crate::explain::explain;
 use crate::help::{HELP, VERSION};
@@ -47,10 +48,11 @@ fn outcome_of<R: Read, W: Write>(
     match command {
         Command::Order(request) => order(alloc, request, reader, writer),
         Command::Explain => explain(alloc, reader, writer),
+        Command::Check => check(alloc, reader, writer),
         Command::Packets => packets(alloc, reader, writer),
         Command::Trace(request) => trace(alloc, request, reader, writer),
         Command::Lists { line } => lists(alloc, line, reader, writer),
-        Command::Chart { line } => chart(alloc, line, reader, writer),
+        Command::Chart(request) => chart(alloc, request, reader, writer),
         Command::Random { walk, dead } => random_schedule(alloc, walk, dead, writer),
         Command::Help => write_answer(writer, HELP.as_bytes(), Outcome::Done),
         Command::Version => write_answer(writer, VERSION.as_bytes(), Outcome::Done),

@@ -21,6 +21,28 @@ use sci_words::{Event, MAX_OPERATIONS};
 use std::alloc::{AllocError, Global};
 use std::io::{Read, Write};
 
+/// The lines of a schedule from one to another.
+#[derive(Clone, Copy)]
+pub struct TextLines {
+    pub first: u64,
+    pub last: u64,
+}
+
+/// All lines of a schedule.
+const ALL_LINES: TextLines = TextLines {
+    first: 0,
+    last: u64::MAX,
+};
+
+/// What is asked of a chart.
+#[derive(Clone, Copy)]
+pub struct ChartRequest {
+    /// The line of memory that it is about, if it isn't about all.
+    pub line: Option<u8>,
+    /// The lines of the schedule whose events it shows, if it doesn't show all.
+    pub events: Option<TextLines>,
+}
+
 /// Whether a chart of one line shows an event, which would send or take this packet. A chart of all lines shows each.
 fn is_shown(line: Option<u8>, event: &Event, packet: Option<&Packet>) -> bool {
     match line {
@@ -29,20 +51,32 @@ fn is_shown(line: Option<u8>, event: &Event, packet: Option<&Packet>) -> bool {
     }
 }
 
-/// The chart of a schedule, of one line or of all.
-fn chart_of(alloc: Global, schedule: &Schedule, line: Option<u8>) -> Result<Vec<u8>, AllocError> {
+/// The chart of a schedule. The events on lines before those that are asked for happen above it.
+fn chart_of(
+    alloc: Global,
+    schedule: &Schedule,
+    request: ChartRequest,
+) -> Result<Vec<u8>, AllocError> {
     let mut machine = Machine::new(alloc, schedule.extent(), MAX_OPERATIONS)?;
-    let mut drawing = Drawing::new(alloc, schedule, line)?;
+    let mut drawing = Drawing::new(alloc, schedule, request)?;
+    let lines = request.events.unwrap_or(ALL_LINES);
     let mut text_line = FIRST_LINE;
     for event in schedule.events() {
+        if text_line > lines.last {
+            break;
+        }
         let packet = packet_of(&machine, event);
-        if is_shown(line, event, packet.as_ref()) {
+        if is_shown(request.line, event, packet.as_ref()) {
             let deed = deed_of(alloc, &mut machine, event, packet.as_ref())?;
             let numbered = NumberedEvent {
                 line: text_line,
                 event,
             };
-            drawing.add(&numbered, &deed)?;
+            if text_line < lines.first {
+                drawing.pass(&deed)?;
+            } else {
+                drawing.add(&numbered, &deed)?;
+            }
         } else {
             let _ = applied(&mut machine, event)?;
         }
@@ -54,30 +88,32 @@ fn chart_of(alloc: Global, schedule: &Schedule, line: Option<u8>) -> Result<Vec<
 /// The chart of the schedule that the reader gives, or its fault.
 fn answer<R: Read>(
     alloc: Global,
-    line: Option<u8>,
+    request: ChartRequest,
     reader: &mut Tap<R>,
 ) -> Result<Vec<u8>, TextFault>
     requires { has_failed reader.old ≡ false }
     ensures bytes { IfOk result (λ bytes.
-        IsReadAs (R.remaining (tapped reader.old)) (has_failed reader.new) (IsScheduleText line)) }
-    ensures fault { IfErr result (λ fault. IsAskedFault line fault.kind
+        IsReadAs (R.remaining (tapped reader.old)) (has_failed reader.new) (IsScheduleText request.line)) }
+    ensures fault { IfErr result (λ fault. IsAskedFault request.line fault.kind
         (R.remaining (tapped reader.old)) (has_failed reader.new) fault.line) }
     ensures again { is_called_again reader.new ≡ is_called_again reader.old }
 {
-    let schedule = read_asked(alloc, line, reader)?;
-    Ok(chart_of(alloc, &schedule, line)?)
+    let schedule = read_asked(alloc, request.line, reader)?;
+    Ok(chart_of(alloc, &schedule, request)?)
 }
 
 /// Reads a schedule to its end, applies its events in text order to a new machine whose nodes may each issue 65,536
 /// operations (events that are not enabled change nothing), and writes a message sequence chart of them in SVG: Done.
-/// With a line it shows the events and the packets about that line alone, and else all. A schedule with a fault is
+/// With a line it shows the events and the packets about that line alone, and else all. With lines of the schedule it shows the
+/// events on these alone: a packet that was sent before them comes in from above, and one that is taken after them goes on
+/// to the end. A schedule with a fault is
 /// Refused, with the line `refused at line K: KIND` alone, as are a reader that fails, too long an input and running out
 /// of memory, at line 0, and a line that the machine doesn't have, as `range` at line 0. The whole chart is made before
 /// its first byte is written. After a failed read or write nothing more is read or written; after a failed write it is
 /// Refused.
 pub fn chart<R: Read, W: Write>(
     alloc: Global,
-    line: Option<u8>,
+    request: ChartRequest,
     reader: &mut Tap<R>,
     writer: &mut Tap<W>,
 ) -> Outcome
@@ -87,19 +123,19 @@ pub fn chart<R: Read, W: Write>(
     // The answer to the input is written, and nothing else.
     ensures written { has_failed writer.new ≡ false → (text : List ℕ)
         × Appends (W.contents (tapped writer.old)) (W.contents (tapped writer.new)) text
-        × IsChartAnswer line
+        × IsChartAnswer request.line
         (R.remaining (tapped reader.old)) (has_failed reader.new) text result }
 
     // If a write fails, a prefix of it is.
     ensures front { (text : List ℕ) × (outcome : Outcome)
         × WritesFront (W.contents (tapped writer.old)) (W.contents (tapped writer.new)) text
-        × IsChartAnswer line
+        × IsChartAnswer request.line
         (R.remaining (tapped reader.old)) (has_failed reader.new) text outcome }
     ensures failed { has_failed writer.new ≡ true → result ≡ Outcome.Refused }
     ensures read_no_more { is_called_again reader.new ≡ is_called_again reader.old }
     ensures wrote_no_more { is_called_again writer.new ≡ is_called_again writer.old }
 {
-    match answer(alloc, line, reader) {
+    match answer(alloc, request, reader) {
         Ok(text) => write_answer(writer, &text, Outcome::Done),
         Err(fault) => refuse(alloc, writer, fault),
     }

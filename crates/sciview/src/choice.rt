@@ -1,14 +1,17 @@
 //! The words of the command line.
 
-ghost use Rattle.std.specs.Prelude.{◌≡◌, ◌↔◌, ◌<◌, ◌∷◌, [], ℕ, Option, IfOk, Some, map};
+ghost use Rattle.std.specs.Prelude.{◌≡◌, ◌↔◌, ◌<◌, ◌≤◌, ◌+◌, ◌∷◌, length, [], ℕ, Option, IfOk, Some, map};
 ghost use Rattle.sci_words.specs.declared.limits.TheConstants.{MAX_LINES};
 ghost use Rattle.sci_text.specs.Number.{number};
+ghost use Rattle.sciview.specs.declared.chart.ChartRequest.{ChartRequest};
+ghost use Rattle.sciview.specs.declared.chart.TextLines.{TextLines};
 ghost use Rattle.sciview.specs.declared.choice.Command.{Command};
 ghost use Rattle.sciview.specs.declared.order.OrderRequest.{OrderRequest};
 ghost use Rattle.sciview.specs.declared.random.Walk.{Walk};
 ghost use Rattle.sciview.specs.declared.trace.TraceRequest.{TraceRequest};
-ghost use Rattle.sciview.specs.Choice.{Chooses, ChoosesBy, ChoosesOrder, ChoosesTrace, ChoosesWalk, FitsDead, FitsLine, FitsWalk, dead_words, line_words, walk_words};
+ghost use Rattle.sciview.specs.Choice.{Chooses, ChoosesBy, ChoosesChart, ChoosesOrder, ChoosesTrace, ChoosesWalk, FitsDead, FitsEvents, FitsLine, FitsWalk, dead_words, events_words, line_words, walk_words};
 
+use crate::chart::{ChartRequest, TextLines};
 use crate::order::{NodeOrder, OrderRequest};
 use crate::random::Walk;
 use crate::trace::TraceRequest;
@@ -26,14 +29,16 @@ pub enum Command {
     Order(OrderRequest),
     /// Write what is wrong with a log.
     Explain,
+    /// Write which kind of text the input is, or why it is none.
+    Check,
     /// Write the bytes of the packets that a schedule sends.
     Packets,
     /// Write what each event of a schedule does.
     Trace(TraceRequest),
     /// Write the sharing list behind each event of a schedule that may have changed it: of one line, 0 to 63, or of all.
     Lists { line: Option<u8> },
-    /// Write a chart of a schedule: of one line, 0 to 63, or of all.
-    Chart { line: Option<u8> },
+    /// Write a chart of a schedule.
+    Chart(ChartRequest),
     /// Write a schedule that is drawn by chance; `dead` in a hundred of its events may be any events.
     Random { walk: Walk, dead: Option<u64> },
     /// Write what the program knows.
@@ -153,6 +158,54 @@ fn trace_choice(words: &[&str]) -> Option<TraceRequest>
     }
 }
 
+/// The lines of a schedule that words say: `--events` with two numbers below 2^64, the first not above the last, or no word.
+/// None if they say neither.
+#[tactic(auto, unfolding(crate::specs::Choice::events_words))]
+fn events_choice(words: &[&str]) -> Option<Option<TextLines>>
+    ensures { (events : Option TextLines) → (result ≡ Some events) ↔
+        ((map (λ word. word.now) words.now ≡ events_words events) × FitsEvents events) }
+{
+    match words {
+        [] => Some(None),
+        ["--events", first, last] => {
+            let first = whole_number(first.as_bytes())?;
+            let last = whole_number(last.as_bytes())?;
+            if first > last {
+                return None;
+            }
+            Some(Some(TextLines { first, last }))
+        }
+        _ => None,
+    }
+}
+
+/// How many of the words behind `chart` say a line of memory: all but the last three, or all if they are fewer.
+fn line_word_count(words: &[&str]) -> usize
+    ensures short { length words.now < 3 → result ≡ length words.now }
+    ensures long { 3 ≤ length words.now → result + 3 ≡ length words.now }
+    ensures within { result ≤ length words.now }
+{
+    if words.len() < 3 {
+        words.len()
+    } else {
+        words.len() - 3
+    }
+}
+
+/// What the words behind `chart` ask for: a line, then the lines of the schedule, or one of them, or neither. None if they say
+/// something else.
+fn chart_choice(words: &[&str]) -> Option<ChartRequest>
+    ensures { (request : ChartRequest) → (result ≡ Some request) ↔
+        ChoosesChart (map (λ word. word.now) words.now) request }
+{
+    let (front, back) = words.split_at(line_word_count(words));
+    let (line, events) = (line_choice(front), events_choice(back));
+    Some(ChartRequest {
+        line: line?,
+        events: events?,
+    })
+}
+
 /// What a first word chooses, with those behind it. None if they choose nothing.
 fn chosen_by(word: &str, rest: &[&str]) -> Option<Command>
     ensures { (command : Command) → (result ≡ Some command) ↔
@@ -164,14 +217,13 @@ fn chosen_by(word: &str, rest: &[&str]) -> Option<Command>
         "lists" => Some(Command::Lists {
             line: line_choice(rest)?,
         }),
-        "chart" => Some(Command::Chart {
-            line: line_choice(rest)?,
-        }),
+        "chart" => Some(Command::Chart(chart_choice(rest)?)),
         "random" => {
             let (walk, dead) = random_of(rest)?;
             Some(Command::Random { walk, dead })
         }
         "explain" if rest.is_empty() => Some(Command::Explain),
+        "check" if rest.is_empty() => Some(Command::Check),
         "packets" if rest.is_empty() => Some(Command::Packets),
         "--help" | "-h" if rest.is_empty() => Some(Command::Help),
         "--version" if rest.is_empty() => Some(Command::Version),

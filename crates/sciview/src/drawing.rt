@@ -1,6 +1,7 @@
 //! The drawing of a chart: its rows, its columns and its arrows.
 
 use crate::arrows::{Arrow, ArrowKind, Arrows};
+use crate::chart::ChartRequest;
 use crate::deed::{Deed, Mark};
 use crate::elements::{Point, push_ground, push_line, push_polyline, push_svg, push_words};
 use crate::layout::{Layout, MARGIN, NumberedEvent, ROWS, names_at, row_at};
@@ -25,34 +26,35 @@ const NEXT_LOOP: i16 = 12;
 pub struct Drawing {
     alloc: Global,
     extent: Extent,
-    line: Option<u8>,
+    request: ChartRequest,
     layout: Layout,
     rows: Rows,
     arrows: Arrows,
 }
 
 impl Drawing {
-    /// A chart without an event, of one line of a schedule or of all. Refused if memory is.
+    /// A chart of a schedule without an event. Refused if memory is.
     pub fn new(
         alloc: Global,
         schedule: &Schedule,
-        line: Option<u8>,
+        request: ChartRequest,
     ) -> Result<Drawing, AllocError> {
         let extent = schedule.extent();
         let layout = Layout::of(alloc, schedule)?;
-        let names_lines = line.is_none() && extent.lines > 1;
+        let names_lines = request.line.is_none() && extent.lines > 1;
         Ok(Drawing {
             alloc,
             extent,
-            line,
+            request,
             layout,
             rows: Rows::new(alloc, layout, names_lines),
             arrows: Arrows::new(alloc)?,
         })
     }
 
-    /// Notes which packet an event sent or took in a row. Whether it took one that came from far. Refused if memory is.
-    fn note(&mut self, mark: &Mark, row: u32) -> Result<bool, AllocError> {
+    /// Notes which packet an event sent or took in a row, or before the first one. Whether it took one that came from far.
+    /// Refused if memory is.
+    fn note(&mut self, mark: &Mark, row: Option<u32>) -> Result<bool, AllocError> {
         match mark {
             Mark::Sent(packet) => {
                 self.arrows.send(packet, row)?;
@@ -73,10 +75,16 @@ impl Drawing {
         }
     }
 
+    /// Notes what an event before the first row did. Refused if memory is.
+    pub fn pass(&mut self, deed: &Deed) -> Result<(), AllocError> {
+        self.note(&deed.mark, None)?;
+        Ok(())
+    }
+
     /// Adds an event in a row of its own, and what it did. Refused if memory is.
     pub fn add(&mut self, event: &NumberedEvent, deed: &Deed) -> Result<(), AllocError> {
         let row = self.rows.count();
-        let is_far = self.note(&deed.mark, row)?;
+        let is_far = self.note(&deed.mark, Some(row))?;
         self.rows.add(event, deed, is_far)
     }
 
@@ -102,8 +110,12 @@ impl Drawing {
     fn push_title(&self, out: &mut Vec<u8>) -> Result<(), AllocError> {
         let mut text = Vec::new(self.alloc);
         push_text(&mut text, "Message sequence chart")?;
-        if let Some(line) = self.line {
+        if let Some(line) = self.request.line {
             push_labelled(&mut text, b" of line", u64::from(line))?;
+        }
+        if let Some(lines) = self.request.events {
+            push_labelled(&mut text, b", events of lines", lines.first)?;
+            push_labelled(&mut text, b" to", lines.last)?;
         }
         push_labelled(&mut text, b": nodes", u64::from(self.extent.nodes))?;
         push_labelled(&mut text, b", lines", u64::from(self.extent.lines))?;
@@ -151,12 +163,16 @@ impl Drawing {
     }
 
     /// Appends the arrow of a packet: from its sender's column to its receiver's, in the rows where it was sent and
-    /// taken. A packet that is never taken goes down to where the columns end.
+    /// taken. A packet that was sent before the first row comes from where the columns begin, and one that isn't taken goes
+    /// down to where they end.
     fn push_arrow(&self, out: &mut Vec<u8>, arrow: &Arrow) -> Result<(), AllocError> {
         let packet = &arrow.packet;
         let from = Point {
             x: self.layout.column(packet.source.get()),
-            y: row_at(arrow.sent),
+            y: match arrow.sent {
+                Some(row) => row_at(row),
+                None => names_at(0),
+            },
         };
         let to = Point {
             x: self.layout.column(packet.target.get()),
@@ -190,7 +206,7 @@ impl Drawing {
         push_legend(&mut out)?;
         out.extend_from_slice(self.rows.below())?;
         self.push_columns(&mut out)?;
-        for arrow in self.arrows.all() {
+        for arrow in self.arrows.all().iter().filter(|arrow| !arrow.is_past) {
             self.push_arrow(&mut out, arrow)?;
         }
         self.push_all_names(&mut out)?;

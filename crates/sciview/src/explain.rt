@@ -13,18 +13,13 @@ ghost use Rattle.sci_command.specs.Writing.{WritesFront};
 ghost use Rattle.sciview.specs.ExplainAnswer.{AreNotes, IsExplainAnswer, IsExplained, IsExplanationOf, IsNote};
 
 use crate::note::note_of;
-use crate::numbered::{Numbered, numbered_by_line};
+use crate::numbered::{Numbered, lines_before, numbered_by_line};
 use sci_command::{Outcome, refuse, verdict_line, write_answer};
 use sci_history::{Last, LineFault, Logs, Verdict, audit, line_faults};
 use sci_text::{Tap, TextFault, logs_of, read_input};
 use sci_words::Stamped;
 use std::alloc::{AllocError, Global};
 use std::io::{Read, Write};
-
-/// How many lines a text has.
-fn text_lines(text: &[u8]) -> usize {
-    text.iter().filter(|byte| **byte == b'\n').count()
-}
 
 /// What is written of a line of memory.
 fn piece(
@@ -51,31 +46,16 @@ fn piece(
     Ok(text)
 }
 
-/// The number of the text's line on which the first entry stands, in a text of so many lines.
-fn first_entry_line(lines_of_text: usize, logs: &Logs) -> usize {
-    let mut first = lines_of_text.saturating_add(1);
-    for node in 0..logs.nodes() {
-        first = first.saturating_sub(logs.of(node).len());
-    }
-    first
-}
-
-/// What is written of all lines of memory, of a log with so many lines of text.
-fn notes(
-    alloc: Global,
-    lines_of_text: usize,
-    logs: &Logs,
-    last: &Last,
-) -> Result<Vec<u8>, AllocError>
+/// What is written of all lines of memory, of a log with so many lines of text before its entries.
+fn notes(alloc: Global, before: usize, logs: &Logs, last: &Last) -> Result<Vec<u8>, AllocError>
     requires { AreWithin (length last.now) logs.now }
     ensures { IfOk result (λ text. (faults : List (Option LineFault))
         × AreFound logs.now last.now (length last.now) faults × AreNotes 0 faults text.items) }
 {
     let lines = last.lines();
     let faults = line_faults(alloc, logs, last)?;
-    let first = first_entry_line(lines_of_text, logs);
-    let first_last = first.saturating_sub(lines as usize);
-    let lists = numbered_by_line(alloc, logs, lines, first)?;
+    let first_last = before.saturating_add(1).saturating_sub(lines as usize);
+    let lists = numbered_by_line(alloc, logs, lines, before.saturating_add(1))?;
     let mut text = Vec::new(alloc);
     for line in 0..lines {
         let last_line = first_last.saturating_add(line as usize);
@@ -90,7 +70,7 @@ fn notes(
 /// What is written of logs, and how the command ends.
 fn explained(
     alloc: Global,
-    lines_of_text: usize,
+    before: usize,
     logs: &Logs,
     last: &Last,
 ) -> Result<(Vec<u8>, Outcome), AllocError>
@@ -100,9 +80,7 @@ fn explained(
     let verdict = audit(alloc, logs, last)?;
     match verdict {
         Verdict::Lawful => Ok((verdict_line(alloc, verdict)?, Outcome::Done)),
-        Verdict::Fault { .. } => {
-            Ok((notes(alloc, lines_of_text, logs, last)?, Outcome::Unlawful))
-        }
+        Verdict::Fault { .. } => { Ok((notes(alloc, before, logs, last)?, Outcome::Unlawful)) }
     }
 }
 
@@ -119,7 +97,7 @@ fn answer<R: Read>(alloc: Global, reader: &mut Tap<R>) -> Result<(Vec<u8>, Outco
 {
     let bytes = read_input(alloc, reader)?;
     let (_, logs, last) = logs_of(alloc, &bytes)?;
-    Ok(explained(alloc, text_lines(&bytes), &logs, &last)?)
+    Ok(explained(alloc, lines_before(&bytes, &last), &logs, &last)?)
 }
 
 /// Reads a log to its end and audits it: `lawful` is Done. Of a log that isn't lawful it tells the first fault of each line of

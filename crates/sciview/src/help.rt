@@ -2,7 +2,7 @@
 
 /// The words that the program knows.
 pub const USAGE: &str =
-    "usage: sciview order [--by-serial] [--show] | explain | packets | trace [--strict] [--line L] | lists [--line L] | chart [--line L] | random N M C EVENTS SEED [--dead K] | --help | --version";
+    "usage: sciview order [--by-serial] [--show] | explain | check | packets | trace [--strict] [--line L] | lists [--line L] | chart [--line L] [--events FIRST LAST] | random N M C EVENTS SEED [--dead K] | --help | --version";
 
 /// What stands below the usage line on standard error.
 pub const MANUAL: &str =
@@ -13,9 +13,9 @@ pub const VERSION: &str = "sciview 0.1.0\n";
 
 /// What `--help` writes.
 pub const HELP: &str = "\
-usage: sciview order [--by-serial] [--show] | explain | packets | trace [--strict] [--line L] | lists [--line L] | chart [--line L] | random N M C EVENTS SEED [--dead K] | --help | --version
+usage: sciview order [--by-serial] [--show] | explain | check | packets | trace [--strict] [--line L] | lists [--line L] | chart [--line L] [--events FIRST LAST] | random N M C EVENTS SEED [--dead K] | --help | --version
 
-Each command of a log or a schedule reads it from standard input, to its end.
+Each command of a text reads it from standard input, to its end.
 Each command writes standard output.
 
 of a log:
@@ -28,6 +28,11 @@ of a log:
                     what one memory of one thread gives there, and the entries
                     around it
 
+of a script, a schedule or a log:
+  check             which of these it is, and its size; or the refusal, and a
+                    line that says where and why: the column, what was expected
+                    there, and what stands there
+
 of a schedule:
   packets           the bytes of all packets that it sends, one after another:
                     what `scimem decode` reads
@@ -39,8 +44,10 @@ of a schedule:
                     a line: the line's number, the list, the node that may
                     change the line, and the line's last contents; of all lines,
                     or of the line L alone
-  chart [--line L]  a message sequence chart of its events in SVG: of all lines,
-                    or of the line L, 0 to 63, alone
+  chart [--line L] [--events FIRST LAST]
+                    a message sequence chart of its events in SVG: of all lines
+                    of memory, or of the line L, 0 to 63, alone; of all events,
+                    or of those on the schedule's lines FIRST to LAST alone
 
 of five numbers:
   random N M C EVENTS SEED [--dead K]

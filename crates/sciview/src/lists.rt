@@ -135,14 +135,12 @@ fn push_list(
     ensures { OnOk result ((text : List ℕ)
         × (out.new.items ≡ out.old.items ++ text) × IsListLine machine.now line text) }
 {
-    let nodes = machine.sharing_list(alloc, line)?;
+    let sharing = machine.sharing(alloc, line)?;
     let home = line % machine.extent().nodes;
-    let authority = machine.authority(line);
-    let last = machine.last_contents(line);
     push_text(out, home_name_at(machine, home, line))?;
-    push_members(out, machine, line, &nodes)?;
-    push_authority(out, authority)?;
-    push_last(out, &last)
+    push_members(out, machine, line, &sharing.nodes)?;
+    push_authority(out, sharing.authority)?;
+    push_last(out, &sharing.last)
 }
 
 /// Appends the number of an event's line in the schedule, and the line of memory that the event is about.

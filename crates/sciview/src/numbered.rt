@@ -1,8 +1,13 @@
 //! The entries of a log with the lines of its text.
 
-ghost use Rattle.std.specs.Prelude.{◌≡◌, IfOk, length};
+ghost use Rattle.std.specs.Prelude.{◌≡◌, ◌≤◌, ◌<◌, ◌+◌, ◌*◌, ℕ, Some, IfOk, IfSome, IfNone, length, slice_get, take};
+ghost use Rattle.sci_words.specs.declared.limits.TheConstants.{MAX_LINES, MAX_NODES, MAX_OPERATIONS};
+ghost use Rattle.sci_history.specs.declared.entry.Entry.{Entry};
+ghost use Rattle.sci_history.specs.Placed.{log_of};
+ghost use Rattle.sci_text.specs.LogValue.{entry_count};
+ghost use Rattle.sciview.specs.EntryLines.{IsBeforeEntries, IsLineOf, IsOpening};
 
-use sci_history::{Entry, Logs};
+use sci_history::{Entry, Last, Logs};
 use std::alloc::{AllocError, Global};
 
 /// An entry of a log, and the number of the line that has it in the log's text.
@@ -12,6 +17,72 @@ pub struct Numbered<'a> {
     pub text_line: usize,
     /// The entry.
     pub entry: &'a Entry,
+}
+
+/// How many entries the logs of the nodes below this one have. A node has at most 65,536.
+pub fn entries_before(logs: &Logs, node: u8) -> usize
+    requires node { node ≤ MAX_NODES }
+    requires few { (n : ℕ) → length (log_of logs.now n) ≤ MAX_OPERATIONS }
+    ensures count { result ≡ entry_count (take node logs.now) }
+    ensures few { result ≤ node * MAX_OPERATIONS }
+{
+    let mut count = 0;
+    for lower in 0..node {
+        count += logs.of(lower).len();
+    }
+    count
+}
+
+/// How many lines a log's text has before those of the last contents: 1 in format 2, and 0 in format 1.
+fn opening_lines(text: &[u8]) -> usize
+    ensures is { IsOpening text.now result }
+    ensures few { result ≤ 1 }
+{
+    match text {
+        [b'l', b'o', b'g', b' ', ..] => 1,
+        _ => 0,
+    }
+}
+
+/// How many lines a log's text has before its entries.
+pub fn lines_before(text: &[u8], last: &Last) -> usize
+    ensures is { IsBeforeEntries text.now (length last.now) result }
+    ensures few { result ≤ MAX_LINES + 1 }
+{
+    opening_lines(text) + last.lines() as usize
+}
+
+/// The first place of a log at which an entry stands that has the serial and the line of memory of this one.
+fn place_of(log: &[Entry], entry: &Entry) -> Option<usize>
+    ensures some { IfSome result (λ place. (found : Entry)
+        × (slice_get log.now place ≡ Some found)
+        × (found.serial ≡ entry.now.serial) × (found.op.line ≡ entry.now.op.line)) }
+    ensures few { IfSome result (λ place. place < length log.now) }
+    ensures none { IfNone result ((place : ℕ) → place < length log.now → (found : Entry)
+        → slice_get log.now place ≡ Some found → found.serial ≡ entry.now.serial
+        → found.op.line ≡ entry.now.op.line → ⊥) }
+{
+    for place in 0..log.len() {
+        let found = log[place];
+        if found.serial == entry.serial && found.op.line == entry.op.line {
+            return Some(place);
+        }
+    }
+    None
+}
+
+/// The number of the text's line on which an entry stands, behind so many lines before all entries. None if it isn't in the
+/// logs. A node has at most 65,536 entries.
+pub fn line_of_entry(logs: &Logs, before: usize, entry: &Entry) -> Option<usize>
+    requires few { (n : ℕ) → length (log_of logs.now n) ≤ MAX_OPERATIONS }
+    requires before { before ≤ MAX_LINES + 1 }
+    ensures { IsLineOf before logs.now entry.now result }
+{
+    if entry.node >= logs.nodes() {
+        return None;
+    }
+    let place = place_of(logs.of(entry.node), entry)?;
+    Some(before + entries_before(logs, entry.node) + place + 1)
 }
 
 /// The entries on each of so many lines of memory, in the order of the text, if the first entry of all stands on this line

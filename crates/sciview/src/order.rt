@@ -1,11 +1,13 @@
 //! The command `order`: whether a log is sequentially consistent, or a cycle of entries that shows that it is not.
 
-ghost use Rattle.std.specs.Prelude.{◌≡◌, ◌++◌, ◌↔◌, ℕ, List, false, true, length, IfOk, IfErr, OnOk};
+ghost use Rattle.std.specs.Prelude.{◌≡◌, ◌≤◌, ◌+◌, ◌++◌, ◌↔◌, ℕ, List, false, true, length, IfOk, IfErr, OnOk};
 ghost use Rattle.std.specs.List.{flat_map};
 ghost use Rattle.std.specs.Io.KnownBytes.{Appends};
+ghost use Rattle.sci_words.specs.declared.limits.TheConstants.{MAX_LINES, MAX_OPERATIONS};
 ghost use Rattle.sci_history.specs.Audit.{AreWithin, entries_of};
 ghost use Rattle.sci_history.specs.Cycle.{IsOrdered};
 ghost use Rattle.sci_history.specs.Lawful.{Lawful};
+ghost use Rattle.sci_history.specs.Placed.{log_of};
 ghost use Rattle.sci_text.specs.FirstFault.{IsTold};
 ghost use Rattle.sci_text.specs.Log.{entry_line};
 ghost use Rattle.sci_text.specs.LogFault.{IsLogFault};
@@ -13,14 +15,15 @@ ghost use Rattle.sci_text.specs.Tap.{has_failed, is_called_again, tapped};
 ghost use Rattle.sci_command.specs.declared.outcome.Outcome.{Outcome};
 ghost use Rattle.sci_command.specs.Input.{IsReadAs};
 ghost use Rattle.sci_command.specs.Writing.{WritesFront};
-ghost use Rattle.sciview.specs.OrderAnswer.{IsFound, IsOrderAnswer, IsOrderOf, cycle_text as cycle_text_of, found_text as found_text_of, order_name as order_name_of, order_text, reason_text, sense_text, shown_text, step_text};
+ghost use Rattle.sciview.specs.OrderAnswer.{IsFound, AreNumbered, IsOrderAnswer, IsOrderOf, IsOrderText, cycle_text as cycle_text_of, found_text as found_text_of, order_name as order_name_of, place_text, reason_text, sense_text, shown_text, step_text, why_text};
 
+use crate::numbered::{line_of_entry, lines_before};
 use sci_command::{Outcome, refuse, verdict_line, write_answer};
 use sci_history::{
     Entry, Last, Logs, OrderVerdict, Reason, Step, Verdict, audit, sequential_order,
     serial_order_is_lawful,
 };
-use sci_text::{Tap, TextFault, push_entry, push_text, read_logs};
+use sci_text::{Tap, TextFault, logs_of, push_entry, push_field, push_text, read_input};
 use std::alloc::{AllocError, Global};
 use std::io::{Read, Write};
 
@@ -40,6 +43,22 @@ pub struct OrderRequest {
     pub keeps: NodeOrder,
     /// Whether its entries are written, if there is one.
     pub shows: bool,
+}
+
+/// What is searched for in the logs of a text.
+#[derive(Clone, Copy)]
+struct Search {
+    /// What is asked for.
+    request: OrderRequest,
+    /// How many lines the text has before the entries.
+    before: usize,
+}
+
+/// An entry of a cycle, and the number of the text's line on which it stands.
+#[derive(Clone, Copy)]
+pub struct NumberedStep {
+    pub step: Step,
+    pub line: Option<usize>,
 }
 
 /// The name of the order in which each node's entries have to stand.
@@ -77,20 +96,63 @@ fn sense_words(keeps: NodeOrder) -> &'static str
     }
 }
 
-/// Appends the line of an entry of a cycle.
-#[tactic(auto, unfolding(crate::specs::OrderAnswer::step_text))]
-fn push_step(out: &mut Vec<u8>, keeps: NodeOrder, step: &Step) -> Result<(), AllocError>
-    ensures { OnOk result (out.new.items ≡ out.old.items ++ step_text keeps step.now) }
+/// Appends the number of the line on which an entry stands, if it stands on one.
+#[tactic(auto, unfolding(crate::specs::OrderAnswer::place_text))]
+fn push_place(out: &mut Vec<u8>, line: Option<usize>) -> Result<(), AllocError>
+    ensures { OnOk result (out.new.items ≡ out.old.items ++ place_text line) }
 {
-    push_entry(out, &step.entry)?;
+    match line {
+        None => Ok(()),
+        Some(line) => {
+            push_text(out, "line")?;
+            push_field(out, line as u64)?;
+            push_text(out, ": ")
+        }
+    }
+}
+
+/// Appends why an entry of a cycle comes after the one on the next line, and the line feed.
+#[tactic(auto, unfolding(crate::specs::OrderAnswer::why_text))]
+fn push_why(out: &mut Vec<u8>, keeps: NodeOrder, reason: Reason) -> Result<(), AllocError>
+    ensures { OnOk result (out.new.items ≡ out.old.items ++ why_text keeps reason) }
+{
     push_text(out, " comes after the next: ")?;
-    push_text(out, reason_words(keeps, step.reason))?;
+    push_text(out, reason_words(keeps, reason))?;
     push_text(out, "\n")?;
     Ok(())
 }
 
+/// Appends the line of an entry of a cycle.
+#[tactic(auto, unfolding(crate::specs::OrderAnswer::step_text))]
+fn push_step(out: &mut Vec<u8>, keeps: NodeOrder, it: &NumberedStep) -> Result<(), AllocError>
+    ensures { OnOk result (out.new.items ≡ out.old.items ++ step_text keeps it.now) }
+{
+    push_place(out, it.line)?;
+    push_entry(out, &it.step.entry)?;
+    push_why(out, keeps, it.step.reason)
+}
+
+/// The entries of a cycle with the lines of the text on which they stand.
+fn numbered(
+    alloc: Global,
+    before: usize,
+    logs: &Logs,
+    steps: &[Step],
+) -> Result<Vec<NumberedStep>, AllocError>
+    requires few { (n : ℕ) → length (log_of logs.now n) ≤ MAX_OPERATIONS }
+    requires before { before ≤ MAX_LINES + 1 }
+    ensures { IfOk result (λ numbered. AreNumbered before logs.now steps.now numbered.items) }
+{
+    let mut numbered = Vec::with_capacity(alloc, steps.len())?;
+    for step in steps {
+        let line = line_of_entry(logs, before, &step.entry);
+        numbered.push(NumberedStep { step: *step, line })?;
+    }
+    Ok(numbered)
+}
+
 /// Appends the lines of the entries of a cycle.
-fn push_steps(out: &mut Vec<u8>, keeps: NodeOrder, steps: &[Step]) -> Result<(), AllocError>
+fn push_steps(out: &mut Vec<u8>, keeps: NodeOrder, steps: &[NumberedStep]) -> Result<(), AllocError>
     ensures { OnOk result (out.new.items ≡ out.old.items ++ flat_map (step_text keeps) steps.now) }
 {
     for step in steps {
@@ -101,7 +163,11 @@ fn push_steps(out: &mut Vec<u8>, keeps: NodeOrder, steps: &[Step]) -> Result<(),
 
 /// The text of a cycle: that there is no order, and its entries.
 #[tactic(auto, unfolding(crate::specs::OrderAnswer::cycle_text))]
-fn cycle_text(alloc: Global, keeps: NodeOrder, steps: &[Step]) -> Result<Vec<u8>, AllocError>
+fn cycle_text(
+    alloc: Global,
+    keeps: NodeOrder,
+    steps: &[NumberedStep],
+) -> Result<Vec<u8>, AllocError>
     ensures { IfOk result (λ text. text.items ≡ cycle_text_of keeps steps.now) }
 {
     let mut text = Vec::new(alloc);
@@ -150,13 +216,17 @@ fn found_text(alloc: Global, request: OrderRequest, order: &[&Entry]) -> Result<
     Ok(text)
 }
 
-/// The text of what a search for an order found, and how the command ends.
+/// The text of what a search for an order of logs found, and how the command ends.
 fn told(
     alloc: Global,
-    request: OrderRequest,
+    search: Search,
+    logs: &Logs,
     verdict: &OrderVerdict,
 ) -> Result<(Vec<u8>, Outcome), AllocError>
-    ensures text { IfOk result (λ x. x.0.items ≡ order_text request verdict.now) }
+    requires few { (n : ℕ) → length (log_of logs.now n) ≤ MAX_OPERATIONS }
+    requires before { search.before ≤ MAX_LINES + 1 }
+    ensures text { IfOk result (λ x.
+        IsOrderText search.request search.before logs.now verdict.now x.0.items) }
     ensures judged { IfOk result (λ x. x.1 ≡ Outcome.Refused → ⊥) }
     ensures ends { IfOk result (λ x. (x.1 ≡ Outcome.Done) ↔ IsOrdered verdict.now) }
 {
@@ -169,9 +239,15 @@ fn told(
             };
             Ok((verdict_line(alloc, fault)?, Outcome::Unlawful))
         }
-        OrderVerdict::Order(order) => Ok((found_text(alloc, request, order)?, Outcome::Done)),
+        OrderVerdict::Order(order) => {
+            Ok((found_text(alloc, search.request, order)?, Outcome::Done))
+        }
         OrderVerdict::Cycle(steps) => {
-            Ok((cycle_text(alloc, request.keeps, steps)?, Outcome::Unlawful))
+            let steps = numbered(alloc, search.before, logs, steps)?;
+            Ok((
+                cycle_text(alloc, search.request.keeps, &steps)?,
+                Outcome::Unlawful,
+            ))
         }
     }
 }
@@ -180,14 +256,17 @@ fn told(
 /// command ends.
 fn found_by_serial(
     alloc: Global,
-    request: OrderRequest,
+    search: Search,
     logs: &Logs,
     last: &Last,
 ) -> Result<(Vec<u8>, Outcome), AllocError>
-    requires keeps { request.keeps ≡ NodeOrder.BySerial }
+    requires keeps { search.request.keeps ≡ NodeOrder.BySerial }
+    requires few { (n : ℕ) → length (log_of logs.now n) ≤ MAX_OPERATIONS }
+    requires before { search.before ≤ MAX_LINES + 1 }
     requires within { AreWithin (length last.now) logs.now }
     requires lawful { Lawful logs.now last.now }
-    ensures { IfOk result (λ x. IsFound request logs.now last.now x.0.items x.1) }
+    ensures { IfOk result (λ x.
+        IsFound search.request search.before logs.now last.now x.0.items x.1) }
 {
     serial_order_is_lawful();
     // Read, so that the prover knows that there are sixteen logs, and that each has its own node's entries.
@@ -195,23 +274,26 @@ fn found_by_serial(
     let sorted = logs.by_serial(alloc)?;
     let _nodes = sorted.nodes();
     let verdict = sequential_order(alloc, &sorted, last)?;
-    told(alloc, request, &verdict)
+    told(alloc, search, logs, &verdict)
 }
 
 /// The same of logs that may not be lawful.
 fn found_if_lawful(
     alloc: Global,
-    request: OrderRequest,
+    search: Search,
     logs: &Logs,
     last: &Last,
 ) -> Result<(Vec<u8>, Outcome), AllocError>
-    requires keeps { request.keeps ≡ NodeOrder.BySerial }
+    requires keeps { search.request.keeps ≡ NodeOrder.BySerial }
+    requires few { (n : ℕ) → length (log_of logs.now n) ≤ MAX_OPERATIONS }
+    requires before { search.before ≤ MAX_LINES + 1 }
     requires within { AreWithin (length last.now) logs.now }
-    ensures { IfOk result (λ x. IsFound request logs.now last.now x.0.items x.1) }
+    ensures { IfOk result (λ x.
+        IsFound search.request search.before logs.now last.now x.0.items x.1) }
 {
     let verdict = audit(alloc, logs, last)?;
     match verdict {
-        Verdict::Lawful => found_by_serial(alloc, request, logs, last),
+        Verdict::Lawful => found_by_serial(alloc, search, logs, last),
         Verdict::Fault { .. } => Ok((verdict_line(alloc, verdict)?, Outcome::Unlawful)),
     }
 }
@@ -219,16 +301,19 @@ fn found_if_lawful(
 /// The text of what a search for an order found in logs, and how the command ends.
 fn found(
     alloc: Global,
-    request: OrderRequest,
+    search: Search,
     logs: &Logs,
     last: &Last,
 ) -> Result<(Vec<u8>, Outcome), AllocError>
-    requires { AreWithin (length last.now) logs.now }
-    ensures { IfOk result (λ x. IsFound request logs.now last.now x.0.items x.1) }
+    requires few { (n : ℕ) → length (log_of logs.now n) ≤ MAX_OPERATIONS }
+    requires before { search.before ≤ MAX_LINES + 1 }
+    requires within { AreWithin (length last.now) logs.now }
+    ensures { IfOk result (λ x.
+        IsFound search.request search.before logs.now last.now x.0.items x.1) }
 {
-    match request.keeps {
-        NodeOrder::Logged => told(alloc, request, &sequential_order(alloc, logs, last)?),
-        NodeOrder::BySerial => found_if_lawful(alloc, request, logs, last),
+    match search.request.keeps {
+        NodeOrder::Logged => told(alloc, search, logs, &sequential_order(alloc, logs, last)?),
+        NodeOrder::BySerial => found_if_lawful(alloc, search, logs, last),
     }
 }
 
@@ -247,15 +332,18 @@ fn answer<R: Read>(
         (R.remaining (tapped reader.old)) (has_failed reader.new) fault.line) }
     ensures again { is_called_again reader.new ≡ is_called_again reader.old }
 {
-    let (_, logs, last) = read_logs(alloc, reader)?;
-    Ok(found(alloc, request, &logs, &last)?)
+    let bytes = read_input(alloc, reader)?;
+    let (_, logs, last) = logs_of(alloc, &bytes)?;
+    let before = lines_before(&bytes, &last);
+    let search = Search { request, before };
+    Ok(found(alloc, search, &logs, &last)?)
 }
 
 /// Reads a log to its end and searches for one order of all its entries that makes it sequentially consistent, and in which
 /// each node's entries stand in the order that is asked for: as in its log, or by their serials. Done, with the line
 /// `sequentially consistent` (and ` in program order` if it is by serials), if there is one; if asked, its entries follow, a
 /// line each. Unlawful if the log isn't lawful, with the line of an audit; and if there is no order, with the line
-/// `not sequentially consistent` (` in program order`) and a cycle of at most 32 entries, a line each: each comes after the
+/// `not sequentially consistent` (` in program order`) and a cycle of at most 32 entries, a line each, with the number of the log's line: each comes after the
 /// one on the next line in every such order, and the last after the first, for the reason beside it. A text with a fault is
 /// Refused, with the line `refused at line K: KIND` alone, as are a reader that fails, too long an input and running out of
 /// memory, at line 0. The whole text is made before its first byte is written. After a failed read or write nothing more is

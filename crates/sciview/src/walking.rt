@@ -1,16 +1,18 @@
 //! Walks: schedules whose events are drawn by chance, mostly among the enabled ones.
 
-ghost use Rattle.std.specs.Prelude.{◌≡◌, ◌<◌, ◌≤◌, IfOk, IfErr, IfSome, length};
+ghost use Rattle.std.specs.Prelude.{◌≡◌, ◌<◌, ◌≤◌, ◌+◌, ◌⊎◌, ℕ, IfOk, IfErr, IfSome, length};
 ghost use Rattle.sci_words.specs.declared.limits.TheConstants.{MAX_EVENTS};
+ghost use Rattle.sci_core.specs.Core.{node_of as node_of_event};
 ghost use Rattle.sci_text.specs.declared.fault.TextFaultKind.TheVariants.{Memory};
 ghost use Rattle.sci_text.specs.Schedule.{IsEventWithin};
 ghost use Rattle.sciview.specs.RandomAnswer.{IsWalked};
 
 use crate::deed::applied;
+use sci_cache::Held;
 use sci_chance::{Random, any_kind, any_line, any_operation};
-use sci_core::Machine;
+use sci_core::{LaneKind, Machine, node_of};
 use sci_text::{Schedule, TextFault, TextFaultKind};
-use sci_words::{Event, Extent, MAX_OPERATIONS};
+use sci_words::{AskKind, Event, Extent, MAX_OPERATIONS};
 use std::alloc::{AllocError, Global};
 
 /// How many events are drawn for an enabled one, at most.
@@ -18,10 +20,17 @@ const DRAWS: u16 = 10_000;
 
 /// The node that stands so many steps behind another in the circle of all nodes.
 fn turn(first: u8, steps: u8, nodes: u8) -> u8
-    requires { 0 < nodes }
-    ensures { result < nodes }
+    requires first { first < nodes }
+    requires steps { steps < nodes }
+    ensures within { result < nodes }
+    ensures circle { (result ≡ first + steps) ⊎ (result + nodes ≡ first + steps) }
 {
-    ((u16::from(first) + u16::from(steps)) % u16::from(nodes)) as u8
+    let left = nodes - first;
+    if steps < left {
+        first + steps
+    } else {
+        steps - left
+    }
 }
 
 /// Any event of a machine of this size. First its sort is drawn, and then what it has beside.
@@ -49,42 +58,74 @@ fn any_event(random: &mut Random, extent: Extent) -> Event
     }
 }
 
-/// The same event at the node that stands so many steps behind its own.
-fn turned(event: Event, steps: u8, extent: Extent) -> Event
-    requires { IsEventWithin extent.nodes extent.lines event }
-    ensures { IsEventWithin extent.nodes extent.lines result }
+/// The same event at another node.
+fn moved(event: Event, node: u8) -> Event
+    ensures { (nodes lines : ℕ) → IsEventWithin nodes lines event → node < nodes →
+        IsEventWithin nodes lines result }
 {
-    let nodes = extent.nodes;
     match event {
-        Event::Issue { node, op } => Event::Issue {
-            node: turn(node, steps, nodes),
-            op,
-        },
-        Event::Perform { node, line } => Event::Perform {
-            node: turn(node, steps, nodes),
-            line,
-        },
-        Event::Ask { node, line, kind } => Event::Ask {
-            node: turn(node, steps, nodes),
-            line,
-            kind,
-        },
-        Event::Serve { from, node } => Event::Serve {
-            from,
-            node: turn(node, steps, nodes),
-        },
-        Event::Refuse { from, node } => Event::Refuse {
-            from,
-            node: turn(node, steps, nodes),
-        },
-        Event::Reply { node } => Event::Reply {
-            node: turn(node, steps, nodes),
-        },
-        Event::Accept { from, node } => Event::Accept {
-            from,
-            node: turn(node, steps, nodes),
-        },
+        Event::Issue { op, .. } => Event::Issue { node, op },
+        Event::Perform { line, .. } => Event::Perform { node, line },
+        Event::Ask { line, kind, .. } => Event::Ask { node, line, kind },
+        Event::Serve { from, .. } => Event::Serve { from, node },
+        Event::Refuse { from, .. } => Event::Refuse { from, node },
+        Event::Reply { .. } => Event::Reply { node },
+        Event::Accept { from, .. } => Event::Accept { from, node },
     }
+}
+
+/// Whether a state is one that may ask this kind: false only if it doesn't ask it.
+fn may_ask(held: &Held, kind: AskKind) -> bool {
+    match held {
+        Held::Out(_) => matches!(kind, AskKind::Mread | AskKind::Fread),
+        Held::Joining(_) | Held::FreshJoining(_) => matches!(kind, AskKind::Cread),
+        Held::Head(_) => matches!(kind, AskKind::Purge | AskKind::Wback),
+        Held::FreshHead(_) => matches!(kind, AskKind::Claim | AskKind::Clear),
+        Held::Below(_) => matches!(kind, AskKind::Roll),
+        Held::Telling(_) => matches!(kind, AskKind::Setback),
+        _ => false,
+    }
+}
+
+/// Whether a packet is under way from one node to another. None is if there are no such nodes.
+fn is_under_way(machine: &Machine, kind: LaneKind, from: u8, to: u8) -> bool {
+    let nodes = machine.extent().nodes;
+    from < nodes && to < nodes && machine.count(kind, from, to) > 0
+}
+
+/// Whether an event may be enabled at a node in place of its own, as far as a quick look tells: false only if it isn't.
+fn may_happen(machine: &Machine, event: &Event, n: u8) -> bool {
+    if n >= machine.extent().nodes {
+        return false;
+    }
+    let node = machine.node(n);
+    match *event {
+        Event::Issue { op, .. } => node.may_issue(&op),
+        Event::Perform { line, .. } => node.may_perform(line),
+        Event::Ask { line, kind, .. } => {
+            line < node.extent().lines && may_ask(node.held(line), kind)
+        }
+        Event::Serve { from, .. } | Event::Refuse { from, .. } => {
+            node.waiting().is_none() && is_under_way(machine, LaneKind::Requests, from, n)
+        }
+        Event::Reply { .. } => node.waiting().is_some(),
+        Event::Accept { from, .. } => is_under_way(machine, LaneKind::Answers, from, n),
+    }
+}
+
+/// How many steps behind an event's own node, and no fewer than so many, the first node stands where the event may be
+/// enabled. None if there is none in the circle of all nodes.
+fn steps_to(machine: &Machine, event: &Event, from: u8, extent: Extent) -> Option<u8>
+    requires { node_of_event event.now < extent.nodes }
+    ensures { IfSome result (λ steps. steps < extent.nodes) }
+{
+    let own = node_of(event);
+    for steps in from..extent.nodes {
+        if may_happen(machine, event, turn(own, steps, extent.nodes)) {
+            return Some(steps);
+        }
+    }
+    None
 }
 
 /// Goes round the circle of nodes, from an event's own on, up to one at which the event is enabled, and applies it there.
@@ -97,11 +138,17 @@ fn enabled_somewhere(
     requires { IsEventWithin extent.nodes extent.lines first }
     ensures { IfOk result (λ found. IfSome found (IsEventWithin extent.nodes extent.lines)) }
 {
-    for steps in 0..extent.nodes {
-        let event = turned(first, steps, extent);
+    let own = node_of(&first);
+    let mut from = 0;
+    for _place in 0..extent.nodes {
+        let Some(steps) = steps_to(machine, &first, from, extent) else {
+            return Ok(None);
+        };
+        let event = moved(first, turn(own, steps, extent.nodes));
         if applied(machine, &event)? {
             return Ok(Some(event));
         }
+        from = steps + 1;
     }
     Ok(None)
 }

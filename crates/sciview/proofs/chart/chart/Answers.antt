@@ -9,5 +9,5 @@ returns-in-Err-clause-written g c = λ unfailed.
     let known = g.R.Read.remaining (tapped c.args.reader.now) in
     let failed = has_failed c.answer.new.reader in
     let w = c.refuse.ensures.whole unfailed in
-    let refused = refused_asked c.args.line known failed fault w.0 c.in-Err.ensures.fault w.2 in
+    let refused = refused_asked c.args.request.line known failed fault w.0 c.in-Err.ensures.fault w.2 in
     (w.0, w.1, rw c.refuse.ensures.refused refused)

@@ -3,7 +3,7 @@ use Rattle.std.proofs.Common.{◌≡◌, ◌↔◌, length, sym, ◌∙◌, subs
 use Rattle.sci_history.specs.Audit.{AreWithin}
 use Rattle.sci_history.specs.Cycle.{IsOrdered}
 use Rattle.sci_command.specs.declared.outcome.Outcome.TheVariants.{Done, Refused}
-use Rattle.sciview.specs.OrderAnswer.{IsFound, order_text}
+use Rattle.sciview.specs.OrderAnswer.{IsFound, IsOrderText}
 use Rattle.sciview.proofs.Orders.{if_ok_three, serial_found}
 use Rattle.sciview.proofs.order.found_by_serial.Goals as goal
 
@@ -18,6 +18,6 @@ returns c =
     let verdict = c.in_ok-verdict.verdict in
     let still = c.serial_order_is_lawful.ensures.lawful logs last (sym c.nodes-nodes.ensures.nodes ∙ c.nodes-nodes.ensures.sixteen) c.requires.lawful in
     if_ok_three
-    (λ x. x.0.items ≡ order_text c.args.request verdict) (λ x. x.1 ≡ Refused → ⊥) (λ x. (x.1 ≡ Done) ↔ IsOrdered verdict) (λ x. IsFound c.args.request logs last x.0.items x.1) c.told.result
-    (λ x text judged ends. serial_found c.args.request logs c.in_ok-sorted.sorted last verdict x.0.items x.1 c.requires.keeps c.in_ok-sorted.ensures c.requires.lawful still c.nodes-nodes-2.ensures.own (sym c.nodes-nodes-2.ensures.nodes ∙ c.nodes-nodes-2.ensures.sixteen) c.in_ok-verdict.ensures.verdict c.in_ok-verdict.ensures.order text judged ends)
+    (λ x. IsOrderText c.args.search.request c.args.search.before logs verdict x.0.items) (λ x. x.1 ≡ Refused → ⊥) (λ x. (x.1 ≡ Done) ↔ IsOrdered verdict) (λ x. IsFound c.args.search.request c.args.search.before logs last x.0.items x.1) c.told.result
+    (λ x text judged ends. serial_found c.args.search.request c.args.search.before logs c.in_ok-sorted.sorted last verdict x.0.items x.1 c.requires.keeps c.in_ok-sorted.ensures c.requires.lawful still c.nodes-nodes-2.ensures.own (sym c.nodes-nodes-2.ensures.nodes ∙ c.nodes-nodes-2.ensures.sixteen) c.in_ok-verdict.ensures.verdict c.in_ok-verdict.ensures.order text judged ends)
     c.told.ensures.text c.told.ensures.judged c.told.ensures.ends
