@@ -1,8 +1,10 @@
-# The targets need Rattle's command `rt` (README.md, "Build and run").
+# The targets need Rattle's command `rt` (README.md, "Try it").
 
 NEED_RT = command -v rt > /dev/null || { echo "rt is missing: put the bin folder of a Rattle kit (rattle-kit-13b or later) on your PATH"; exit 1; }
 
-.PHONY: run test build plants cases examples charts install faults soak check fmt clean
+NEED_CARGO = command -v cargo > /dev/null || { echo "cargo is missing: install Rust 1.88 or later (rustup.rs) to build the plain program of bench/"; exit 1; }
+
+.PHONY: run test check fmt bench fuzz soak faults install build plants cases examples charts clean
 
 PREFIX = /usr/local
 
@@ -16,12 +18,12 @@ run:
 # 'N passed, M failed'.
 test:
 	@$(NEED_RT)
-	@scripts/test.py
+	@scripts/gate/test.py
 
 # Tries the wrong bodies that the gate leaves out, over what earlier checks kept; with CRATE=NAME those of that crate alone.
 plants:
 	@$(NEED_RT)
-	@scripts/try_plants.sh $(CRATE)
+	@scripts/gate/try_plants.sh $(CRATE)
 
 # Builds both programs over what earlier checks kept.
 build:
@@ -31,15 +33,15 @@ build:
 
 # Runs the programs on the stored cases alone.
 cases: build
-	@scripts/run_cases.py
+	@scripts/gate/run_cases.py
 
 # Runs the examples of the README, of docs/ and of examples/.
 examples: build
-	@scripts/run_examples.py
+	@scripts/gate/run_examples.py
 
-# Draws charts of the schedules of examples/ and of a made one, and looks whether they show what the schedules do.
+# Draws charts of the schedules of examples/ and of a made one, and checks whether they show what the schedules do.
 charts: build
-	@scripts/check_charts.py
+	@scripts/gate/check_charts.py
 
 # Puts the programs and their manual pages into PREFIX/bin and PREFIX/share/man, below DESTDIR if that is set. With rt on the
 # PATH the programs are built first; without it, as under sudo, those that are built are taken.
@@ -49,21 +51,38 @@ install:
 	@install -d "$(DESTDIR)$(PREFIX)/bin" "$(DESTDIR)$(PREFIX)/share/man/man1" "$(DESTDIR)$(PREFIX)/share/man/man5"
 	@install -m 755 crates/scimem/out/scimem crates/sciview/out/sciview "$(DESTDIR)$(PREFIX)/bin"
 	@install -m 644 docs/scimem.1 docs/sciview.1 "$(DESTDIR)$(PREFIX)/share/man/man1"
-	@scripts/manual_page.py > "$(DESTDIR)$(PREFIX)/share/man/man5/scimem.5"
+	@scripts/make/manual_page.py > "$(DESTDIR)$(PREFIX)/share/man/man5/scimem.5"
 	@echo "installed scimem and sciview in $(DESTDIR)$(PREFIX)/bin, and scimem(1), sciview(1) and scimem(5) in $(DESTDIR)$(PREFIX)/share/man"
 
 # Builds tests and the programs over what earlier checks kept, and has memory, reads and writes refused. With CRATE=NAME
 # it tries that crate alone.
 faults:
 	@$(NEED_RT)
-	@scripts/try_faults.py --build $(CRATE)
+	@scripts/gate/try_faults.py --build $(CRATE)
 
-# Builds the program over what earlier checks kept, and runs seeded scripts of every shape by threads for so many seconds:
+# Builds the program over what earlier checks kept, and runs seeded scripts of every shape by threads for some seconds:
 # make soak SECONDS=600 SEED=2. It isn't part of the gate.
 soak:
 	@$(NEED_RT)
 	@cd crates/scimem && rt run -- $$(cat args) < stdin > /dev/null
-	@scripts/soak.py $(or $(SECONDS),60) $(or $(SEED),1)
+	@scripts/measure/soak.py $(or $(SECONDS),60) $(or $(SEED),1)
+
+# Builds the program over what earlier checks kept, and gives it hostile inputs for some seconds:
+# make fuzz SECONDS=600 SEED=2. It isn't part of the gate.
+fuzz:
+	@$(NEED_RT)
+	@cd crates/scimem && rt run -- $$(cat args) < stdin > /dev/null
+	@scripts/measure/fuzz.py $(or $(SECONDS),60) $(or $(SEED),1)
+
+# Builds both programs over what earlier checks kept, and the plain program of bench/ by cargo; checks that they write the same
+# bytes, and prints what each takes: make bench RUNS=9 SUBJECTS="oracle replay". It isn't part of the gate.
+bench:
+	@$(NEED_RT)
+	@$(NEED_CARGO)
+	@cd crates/scimem && rt run -- $$(cat args) < stdin > /dev/null
+	@cd crates/sci_circle && rt run -- $$(cat args) < stdin > /dev/null
+	@cd bench && cargo build --release --offline --quiet
+	@scripts/measure/bench.py $(or $(RUNS),9) $(SUBJECTS)
 
 # Every crate, over what earlier checks kept.
 check:
@@ -78,4 +97,4 @@ fmt:
 # Removes what checks and builds made.
 clean:
 	@$(NEED_RT)
-	@rm -rf crates/*/out
+	@rm -rf crates/*/out bench/target

@@ -1,0 +1,107 @@
+#!/usr/bin/env python3
+"""Checks the pages of the repository, without building anything:
+
+- each link to a file or to a heading leads to one;
+- each name that a page about code has between backticks stands in the sources, and each file that it names is there;
+- each run of lines of Rust in a page stands in the sources, one line after another, whatever the indentation; a line `..`
+  stands for lines that are left out;
+- each crate has a README of at most 60 lines;
+- the version is the same everywhere (version.py).
+
+The last line is 'N passed, M failed', of pages."""
+
+import os
+import re
+import sys
+from fnmatch import fnmatch
+
+from version import wrong_versions
+
+TOP = os.path.dirname(os.path.dirname(os.path.dirname(os.path.abspath(__file__))))
+MOST_LINES = 60
+BUILT = {".git", "out", "target", "__pycache__"}
+# The pages about code, beside those of crates, and names in them that aren't of this code but of the standard library.
+ABOUT_CODE = {"docs/PROOFS.md", "docs/DECISIONS.md", "docs/EMBEDDING.md"}
+OTHER = {"Mutex", "Read", "Write", "for_each_mut"}
+
+
+def files_of_repository():
+    """All files but those that were built, as paths from the top."""
+    for folder, below, names in os.walk(TOP):
+        below[:] = sorted(it for it in below if it not in BUILT)
+        yield from sorted(os.path.relpath(f"{folder}/{it}", TOP) for it in names)
+
+
+def read(path):
+    with open(f"{TOP}/{path}", encoding="utf-8") as file:
+        return file.read()
+
+
+def anchors(path):
+    """The anchors of a page's headings."""
+    titles = re.findall(r"^#+ (.+)$", read(path), re.MULTILINE)
+    return {re.sub(r"[^\w -]", "", it.lower()).replace(" ", "-") for it in titles}
+
+
+def wrong_links(path):
+    text = re.sub(r"^```.*?^```", "", read(path), flags=re.MULTILINE | re.DOTALL)
+    for link in re.findall(r"\]\(([^)\s]+)\)", text):
+        if re.match(r"[a-z]+:", link):
+            continue
+        name, _, anchor = link.partition("#")
+        target = os.path.normpath(os.path.join(os.path.dirname(path), name)) if name else path
+        if not os.path.exists(f"{TOP}/{target}"):
+            yield f"no such file: {link}"
+        elif anchor and anchor not in anchors(target):
+            yield f"no such heading: {link}"
+
+
+def wrong_code(path, sources):
+    """Lines of Rust in a page that stand nowhere in the sources."""
+    for block in re.findall(r"^```rust\n(.*?)^```", read(path), re.MULTILINE | re.DOTALL):
+        for part in re.split(r"^\s*\.\.\n", block, flags=re.MULTILINE):
+            lines = [it.strip() for it in part.splitlines() if it.strip()]
+            if "\n" + "\n".join(lines) + "\n" not in sources:
+                yield f"no such code: {lines[0]}"
+
+
+def wrong_names(path, words, files):
+    """Names of the code, and of files, that stand nowhere."""
+    text = re.sub(r"^```.*?^```", "", read(path), flags=re.MULTILINE | re.DOTALL)
+    for quoted in sorted(set(re.findall(r"`([^`]+)`", text))):
+        if re.search(r"\.(antt|rt|py|txt)$", quoted):
+            if not any(fnmatch(it, quoted) or fnmatch(it, "*/" + quoted) for it in files):
+                yield f"no such file: {quoted}"
+            continue
+        if quoted.startswith(("rt ", "make ")):
+            continue
+        for name in re.findall(r"[A-Za-z]\w*", quoted):
+            is_front = quoted.endswith((name + "..", name + "*")) and any(it.startswith(name) for it in words)
+            if not is_front and name not in words | OTHER:
+                yield f"no such name: {quoted}"
+                break
+
+
+def main():
+    files = list(files_of_repository())
+    sources = "\n" + "\n".join(it.strip() for path in files if path.endswith(".rt") for it in read(path).splitlines()) + "\n"
+    code = [read(it) for it in files if it.startswith("crates/") and it.endswith((".rt", ".antt")) or it == "crates.txt"]
+    words = set(re.findall(r"\w+", " ".join([*code, *files])))
+    wrong = {"version": list(wrong_versions())}
+    for path in (it for it in files if it.endswith(".md")):
+        wrong[path] = [*wrong_links(path), *wrong_code(path, sources)]
+        if path.startswith("crates/") or path in ABOUT_CODE:
+            wrong[path] += wrong_names(path, words, files)
+        if path.startswith("crates/") and read(path).count("\n") > MOST_LINES:
+            wrong[path].append(f"more than {MOST_LINES} lines")
+    for crate in sorted({it.split("/")[1] for it in files if re.match(r"crates/\w+/src/", it)}):
+        wrong.setdefault(f"crates/{crate}/README.md", ["no such page"])
+    failed = sum(bool(it) for it in wrong.values())
+    for path, found in wrong.items():
+        for it in found:
+            print(f"{path}: {it}", flush=True)
+    print(f"{len(wrong) - failed} passed, {failed} failed")
+    return 1 if failed else 0
+
+
+sys.exit(main())

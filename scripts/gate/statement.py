@@ -1,0 +1,273 @@
+#!/usr/bin/env python3
+"""Lists the definitions on which a contract stands:
+
+    scripts/gate/statement.py                 how many lines each headline contract stands on
+    scripts/gate/statement.py audit [lawful]  its definitions, file by file, in reading order; of its clauses of these names alone
+    scripts/gate/statement.py --table         the table of docs/ASSURANCE.md
+    scripts/gate/statement.py --write         puts the table into that page
+    scripts/gate/statement.py --check         whether that table is current; the last line is 'N passed, M failed'
+
+What a contract stands on is what its clauses name, what those definitions name, and so on: definitions of specs/, types and
+constants of src/, and what contracts see of a type (the `Value` of its `Model`). What the language's library defines isn't followed. Files
+come lowest crate first, in the order of crates.txt and of the crate's specs/Lib.antt. A line is counted once, with the comment
+above a definition, and without empty lines."""
+
+import os
+import re
+import sys
+from collections import namedtuple
+from functools import cache
+
+TOP = os.path.dirname(os.path.dirname(os.path.dirname(os.path.abspath(__file__))))
+# The headline contracts: where each stands, and the type that it is a call of.
+HEADLINES = {
+    "audit": ("sci_history", "auditing", "audit", None),
+    "sequential_order": ("sci_history", "ordering", "sequential_order", None),
+    "Machine::run": ("sci_core", "machine", "run", "Machine"),
+    "Fabric::finish": ("sci_station", "fabric", "finish", "Fabric"),
+    "oracle": ("scimem", "oracle", "oracle", None),
+    "threads": ("scimem", "threads", "threads", None),
+    "order": ("sciview", "order", "order", None),
+}
+# The clauses that say the main thing alone, where a contract says more.
+CLAUSES = {"audit": ["lawful"], "sequential_order": ["order"], "Machine::run": ["ok"], "Fabric::finish": ["lawful", "consistent"]}
+PAGE = "docs/ASSURANCE.md"
+MARKS = ("<!-- made by scripts/gate/statement.py --table -->", "<!-- end -->")
+
+START = re.compile(r"(?:(?:abbrev|unfoldable|opaque) )?(?:pub )?(?:record|data) ([\w-]+)|(?:(?:abbrev|unfoldable|opaque) )?(?:pub )?([\w-]+) :")
+NAME = re.compile(r"[A-Za-z_][\w-]*(?:\.[A-Za-z_][\w-]*)*")
+
+# A definition: its file, its name, the numbers of its lines, and their text.
+Definition = namedtuple("Definition", "path name lines text")
+
+
+@cache
+def lines_of(path):
+    with open(f"{TOP}/{path}", encoding="utf-8") as file:
+        return file.read().split("\n")
+
+
+@cache
+def crates():
+    """The crates, lowest first."""
+    found = (it.split(":")[0] for it in lines_of("crates.txt") if ":" in it and not it.startswith("#"))
+    return [it for it in found if os.path.isdir(f"{TOP}/crates/{it}")]
+
+
+@cache
+def uses(path):
+    """What the names mean that a file takes from others: of each a list of parts."""
+    found = {}
+    for it in re.findall(r"^\s*(?:ghost )?use Rattle\.([^;{\n]*?)(?:\.\{([^}]*)\}| as (\w+))?;?$", "\n".join(lines_of(path)), re.MULTILINE):
+        parts = it[0].split(".")
+        for name in filter(None, (one.strip() for one in it[1].split(","))):
+            inner, _, outer = name.partition(" as ")
+            found[outer or inner] = [*parts, inner]
+        if it[2]:
+            found[it[2]] = parts
+    return found
+
+
+@cache
+def spec(path):
+    """The definitions of a file of specs/, by name, and by the names of their constructors."""
+    lines, found, front, name, start = lines_of(path), {}, None, None, 0
+
+    def end(stop):
+        if name:
+            own = [number for number in range(start, stop) if lines[number].strip()]
+            while own and lines[own[-1]].startswith("--"):
+                own.pop()
+            found[name] = Definition(path, name, own, "\n".join(lines[number] for number in own))
+
+    for number, line in enumerate(lines):
+        match = START.match(line) if not line.startswith(("--", "use ", " ")) else None
+        if match:
+            end(front if front is not None else number)
+            name, start = match[1] or match[2], front if front is not None else number
+        front = (number if front is None else front) if line.startswith("--") and not line.startswith("-- ----") else None
+    end(len(lines))
+    for it in list(found.values()):
+        if re.search(r"^(?:pub )?data ", it.text, re.MULTILINE):
+            for constructor in re.findall(r"^  (\w+) :", it.text, re.MULTILINE):
+                found.setdefault(constructor, it)
+    return found
+
+
+def code(path, name):
+    """The declaration of a type or a constant in the code."""
+    lines = lines_of(path)
+    for number, line in enumerate(lines):
+        match = re.match(rf"pub(?:\(crate\))? (struct|enum|const|trait) {name}\b", line)
+        if match:
+            start = number
+            while start and re.match(r"(///|#\[|//)", lines[start - 1]):
+                start -= 1
+            stop = number
+            while not re.match(r"\}", lines[stop]) and not (lines[stop].rstrip().endswith(";") and (match[1] == "const" or stop == number)):
+                stop += 1
+            own = [it for it in range(start, stop + 1) if lines[it].strip()]
+            return Definition(path, name, own, "\n".join(lines[it] for it in own))
+    return None
+
+
+def model(path, name):
+    """What contracts see of a type: the `Value` of its `impl Model`, or None if there is none."""
+    found = re.search(rf"^impl(?:<[^>]*>)? Model for {name}\b.*?^\}}", "\n".join(lines_of(path)), re.MULTILINE | re.DOTALL)
+    value = found and re.search(r"^ *ghost Value = .*?;$", found[0], re.MULTILINE | re.DOTALL)
+    if not value:
+        return None
+    first = "\n".join(lines_of(path))[: found.start() + value.start()].count("\n")
+    return Definition(path, f"{name} (model)", list(range(first, first + value[0].count("\n") + 1)), value[0])
+
+
+def of_type(path, name):
+    return [it for it in (code(path, name), model(path, name)) if it]
+
+
+@cache
+def type_home(name):
+    """The file that declares a public type of the code, or None."""
+    for crate in crates():
+        folder = f"crates/{crate}/src"
+        for file in sorted(os.listdir(f"{TOP}/{folder}")):
+            if file.endswith(".rt") and re.search(rf"^pub (?:struct|enum) {name}\b", "\n".join(lines_of(f"{folder}/{file}")), re.MULTILINE):
+                return f"{folder}/{file}"
+    return None
+
+
+def meant(path, name):
+    """The definitions that a name stands for in a file."""
+    parts = name.split(".")
+    if path.endswith(".antt") and parts[0] in spec(path):
+        return [spec(path)[parts[0]]]
+    taken = uses(path).get(parts[0])
+    if not taken:
+        return []
+    taken = [*taken, *parts[1:]]
+    if len(taken) < 4 or taken[1] != "specs" or taken[0] not in crates():
+        return []
+    if taken[2] != "declared":
+        found = spec(f"crates/{taken[0]}/specs/{taken[2]}.antt").get(taken[3])
+        return [found] if found else []
+    file = f"crates/{taken[0]}/src/{taken[3]}.rt"
+    if not os.path.exists(f"{TOP}/{file}"):
+        return []
+    if "TheConstants" in taken:
+        name = taken[taken.index("TheConstants") + 1]
+        return of_type(file, name)
+    return of_type(file, taken[4]) if len(taken) > 4 else []
+
+
+def types_in(definition):
+    """What contracts see of the types of the public fields, or of the variants, of a type of the code."""
+    is_enum, lines = "pub enum" in definition.text, definition.text.split("\n")
+    shown = (it for it in lines if not it.lstrip().startswith("//") and (is_enum or re.match(r"\s*pub \w+:", it)))
+    for name in sorted(set(re.findall(r"\b[A-Z]\w+", " ".join(shown)))):
+        yield from of_type(type_home(name), name) if type_home(name) else []
+
+
+def names_in(definition):
+    """The names that a definition uses, comments left out."""
+    text = re.sub(r"(?:--|//).*", "", definition.text)
+    return set(NAME.findall(text))
+
+
+def contract(crate, module, name, owner, clauses):
+    """A contract: the head of a function with its clauses, or those of these names, and the types of its signature."""
+    path = f"crates/{crate}/src/{module}.rt"
+    lines = lines_of(path)
+    start = next(number for number, line in enumerate(lines) if re.match(rf"\s*pub fn {name}\b", line))
+    stop = start
+    while lines[stop].strip() != "{":
+        stop += 1
+    own, is_wanted = [], True
+    for number in range(start, stop):
+        clause = re.match(r"\s*ensures (\w*)", lines[number])
+        is_wanted = clause[1] in clauses or not clauses if clause else is_wanted or lines[number].lstrip().startswith("requires")
+        own += [number] if is_wanted and lines[number].strip() else []
+    types = set(re.findall(r"\b[A-Z]\w+", " ".join(it for it in (lines[n] for n in own) if not re.match(r"\s*(requires|ensures)", it))))
+    return Definition(path, name, own, "\n".join(lines[it] for it in own)), types | {owner} - {None}
+
+
+def statement(name, clauses):
+    """All definitions that a contract, or its clauses of these names, stand on."""
+    head, types = contract(*HEADLINES[name], clauses)
+    found, left = {}, [head]
+    for it in types:
+        file = type_home(it)
+        left += of_type(file, it) if file else []
+    while left:
+        it = left.pop()
+        if (it.path, it.name) in found:
+            continue
+        found[it.path, it.name] = it
+        if re.search(r"^pub (?:struct|enum) ", it.text, re.MULTILINE):
+            left += types_in(it)
+            continue
+        for used in names_in(it):
+            left += meant(it.path, used)
+    del found[head.path, head.name]
+    return found.values()
+
+
+@cache
+def place(path):
+    """Where a file stands in reading order."""
+    _, crate, folder, file = path.split("/", 3)
+    if folder == "src":
+        return crates().index(crate), 0, file
+    listed = re.findall(r"pub mod (\w+)", "\n".join(lines_of(f"crates/{crate}/specs/Lib.antt")))
+    return crates().index(crate), 1, f"{listed.index(file[:-5]):03}"
+
+
+def by_file(name, clauses=()):
+    """The lines and the names of the definitions of each file, in reading order."""
+    files = {}
+    for it in statement(name, clauses):
+        lines, names = files.setdefault(it.path, (set(), []))
+        lines.update(it.lines)
+        names.append((it.lines[0], it.name))
+    return {path: (len(lines), [it for _, it in sorted(names)]) for path, (lines, names) in sorted(files.items(), key=lambda it: place(it[0]))}
+
+
+def total(name, clauses=()):
+    return sum(count for count, _ in by_file(name, clauses).values())
+
+
+def table():
+    each = {name: by_file(name) for name in HEADLINES}
+    files = sorted({path for it in each.values() for path in it}, key=place)
+    rows = [["File", *(f"`{it}`" for it in each)], ["---"] * (len(each) + 1)]
+    rows += [[f"`{path[7:]}`", *(str(it[path][0]) if path in it else "" for it in each.values())] for path in files]
+    rows.append(["**all**", *(f"**{total(it)}**" for it in each)])
+    rows.append(["one clause alone", *(f"{total(it, CLAUSES[it])} ({', '.join(CLAUSES[it])})" if it in CLAUSES else "" for it in each)])
+    return ["| " + " | ".join(row) + " |" for row in rows]
+
+
+def main(words):
+    if words == ["--table"]:
+        print("\n".join(table()))
+    elif words in (["--check"], ["--write"]):
+        page = "\n".join(lines_of(PAGE))
+        front, old, back = re.fullmatch(rf"(.*{MARKS[0]}\n)(.*)({MARKS[1]}.*)", page, re.DOTALL).groups()
+        new = "\n".join(["", *table(), "", ""])
+        if words == ["--write"]:
+            with open(f"{TOP}/{PAGE}", "w", encoding="utf-8") as file:
+                file.write(front + new + back)
+            return 0
+        if new != old:
+            print(f"{PAGE}: the table of definitions isn't current: run scripts/gate/statement.py --write")
+        print(f"{int(new == old)} passed, {int(new != old)} failed")
+        return int(new != old)
+    elif words:
+        for path, (count, names) in by_file(words[0], words[1:]).items():
+            print(f"{count:5} {path}: {', '.join(names)}")
+        print(f"{total(words[0], words[1:]):5} in all")
+    else:
+        for name in HEADLINES:
+            print(f"{total(name):5} {name}")
+    return 0
+
+
+sys.exit(main(sys.argv[1:]))

@@ -1,0 +1,64 @@
+#!/usr/bin/env python3
+"""The gate. First the pages are checked, and their table of definitions. Then rt ci proves every crate and its tests, tries
+the must-fail edits, and runs the tests. The programs that it built run on the stored cases, on the examples and for charts,
+and programs and tests run with memory, reads and writes refused. At the end stands how long each stage took; the last line is
+'N passed, M failed', of all stages."""
+
+import os
+import re
+import resource
+import subprocess
+import sys
+import time
+from collections import namedtuple
+
+TOP = os.path.dirname(os.path.dirname(os.path.dirname(os.path.abspath(__file__))))
+STAGES = {
+    "pages": ["scripts/gate/check_pages.py"],
+    "statements": ["scripts/gate/statement.py", "--check"],
+    "proofs, edits and tests": ["rt", "ci"],
+    "stored cases": ["scripts/gate/run_cases.py"],
+    "examples": ["scripts/gate/run_examples.py"],
+    "charts": ["scripts/gate/check_charts.py"],
+    "refusals": ["scripts/gate/try_faults.py"],
+}
+
+# What a stage counted, and how long it took: by the clock, and of all processors together.
+Stage = namedtuple("Stage", "name passed failed seconds processor")
+
+
+def processor_seconds():
+    """The processor time of all commands that have ended, in seconds."""
+    used = resource.getrusage(resource.RUSAGE_CHILDREN)
+    return used.ru_utime + used.ru_stime
+
+
+def run(name, words):
+    """Runs a stage, and shows what it prints. A stage that fails counts one failure at least."""
+    start, before, counts = time.monotonic(), processor_seconds(), (0, 0)
+    with subprocess.Popen(words, cwd=TOP, stdout=subprocess.PIPE, stderr=subprocess.STDOUT) as ran:
+        for line in ran.stdout:
+            sys.stdout.buffer.write(line)
+            sys.stdout.buffer.flush()
+            found = re.fullmatch(rb"(\d+) passed, (\d+) failed\n", line)
+            counts = (int(found[1]), int(found[2])) if found else counts
+    failed = max(counts[1], int(ran.returncode != 0))
+    return Stage(name, counts[0], failed, time.monotonic() - start, processor_seconds() - before)
+
+
+def main():
+    stages = []
+    for name, words in STAGES.items():
+        stages.append(run(name, words))
+        # Without proofs there are no programs to run.
+        if words == ["rt", "ci"] and stages[-1].failed:
+            break
+    for it in stages:
+        print(f"{it.name}: {it.seconds / 60:.1f} min, {it.processor / 60:.1f} min of processor time")
+    whole = [sum(getattr(it, part) for it in stages) for part in Stage._fields[1:]]
+    print(f"all: {whole[2] / 60:.1f} min, {whole[3] / 60:.1f} min of processor time on {len(os.sched_getaffinity(0))} cores")
+    print(f"{whole[0]} passed, {whole[1]} failed", flush=True)
+    return 1 if whole[1] else 0
+
+
+sys.exit(main())

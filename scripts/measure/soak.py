@@ -1,0 +1,109 @@
+#!/usr/bin/env python3
+"""Runs seeded scripts of every shape through `scimem threads`, for a number of seconds:
+
+    scripts/measure/soak.py [SECONDS [SEED]]        60 seconds and seed 1, if it isn't said
+
+Each log is audited twice: by `scimem audit`, and by a reader written anew (plain_answers.py), which works out each reply.
+Each entry has to be of the operation of the script that its serial names, and each operation has to have one. It prints a
+line every five seconds, and at the end `N runs, M operations, F failed`. A script that failed stays in a file, which the
+line of the failure names."""
+
+import os
+import random
+import subprocess
+import sys
+import tempfile
+import time
+
+TOP = os.path.dirname(os.path.dirname(os.path.dirname(os.path.abspath(__file__))))
+sys.path.append(f"{TOP}/scripts/gate")
+
+from thread_logs import wrong_log  # noqa: E402
+
+PROGRAM = f"{TOP}/crates/scimem/out/scimem"
+MAKERS = ("store {} {} {a}", "fetch-add {} {} {a}", "mask-swap {} {} {a} {d}", "compare-swap {} {} {a} {d}")
+MAKERS += ("bounded-add {} {} {a} {d}", "wrap-add {} {} {a} {d}")
+
+
+def operation(chance, line, loads):
+    """An operation on any word of a line, of which this many in a hundred are loads."""
+    word = chance.randrange(8)
+    if chance.randrange(100) < loads:
+        return f"load {line} {word}"
+    a, d = (chance.choice((0, 1, chance.randrange(2**64))) for _ in range(2))
+    return chance.choice(MAKERS).format(line, word, a=a, d=d)
+
+
+def own_line(chance, node, lines):
+    return operation(chance, node % lines, 50)
+
+
+def any_line(chance, node, lines):
+    return operation(chance, chance.randrange(lines), 50)
+
+
+def mostly_own(chance, node, lines):
+    return operation(chance, node % lines if chance.randrange(20) else chance.randrange(lines), 50)
+
+
+def mostly_loads(chance, node, lines):
+    return operation(chance, chance.randrange(lines), 95)
+
+
+def few_lines(chance, node, lines):
+    return operation(chance, chance.randrange(min(lines, 3)), 40)
+
+
+def one_word(chance, node, lines):
+    return "fetch-add 0 0 1"
+
+
+SHAPES = (own_line, any_line, mostly_own, mostly_loads, few_lines, one_word)
+
+
+def script(chance):
+    """A script of one shape, on a machine of any size; now and then one node has all operations."""
+    nodes, lines, slots = chance.randint(1, 16), chance.choice((1, 2, 5, 64)), chance.randint(1, 8)
+    shape, count = chance.choice(SHAPES), chance.choice((0, 1, 20, 200, 2000)) // nodes + chance.randrange(3)
+    busy = [chance.randrange(nodes)] if chance.randrange(10) == 0 else range(nodes)
+    rows = [f"p {node} {shape(chance, node, lines)}" for _ in range(count) for node in busy]
+    return "\n".join([f"machine {nodes} {lines} {slots}", *rows, ""]).encode()
+
+
+def ran(words, given):
+    done = subprocess.run([PROGRAM, *words], input=given, capture_output=True, timeout=600)
+    return done.returncode, done.stdout
+
+
+def fault(given):
+    """What was wrong with a run of the script, if something was."""
+    status, log = ran(["threads"], given)
+    if status != 0:
+        return f"status {status}"
+    if ran(["audit"], log) != (0, b"lawful\n"):
+        return "a log that `audit` refuses"
+    return wrong_log(given, log)
+
+
+def main(words):
+    seconds, seed = (int(word) for word in (words + ["60", "1"][len(words):]))
+    begun = told = time.monotonic()
+    runs = operations = failed = 0
+    while time.monotonic() - begun < seconds:
+        chance = random.Random(f"{seed} {runs}")
+        given = script(chance)
+        why = fault(given)
+        runs, operations = runs + 1, operations + given.count(b"\np ")
+        if why:
+            failed += 1
+            with tempfile.NamedTemporaryFile(suffix=".script", delete=False) as file:
+                file.write(given)
+            print(f"run {runs}: {why}: {file.name}", flush=True)
+        if time.monotonic() - told >= 5:
+            told = time.monotonic()
+            print(f"{told - begun:.0f} s: {runs:,} runs, {operations:,} operations, {failed} failed", flush=True)
+    print(f"{runs} runs, {operations} operations, {failed} failed")
+    return 1 if failed or not runs else 0
+
+
+sys.exit(main(sys.argv[1:]))
