@@ -216,12 +216,10 @@ def full_pipe(program, case, path):
         return ran._replace(output=taken.read())
 
 
-def reader_that_leaves(program, case):
-    """The status of a run whose output is read for ten bytes alone."""
+def reader_that_leaves(program, case, path):
+    """A run whose output is closed once its first ten bytes were read. Its input is the file."""
     words = [program, *case.words]
-    with subprocess.Popen(words, stdin=subprocess.PIPE, stdout=subprocess.PIPE, bufsize=0) as ran:
-        ran.stdin.write(case.given)
-        ran.stdin.close()
+    with open(path, "rb") as file, subprocess.Popen(words, stdin=file, stdout=subprocess.PIPE) as ran:
         front = ran.stdout.read(10)
         ran.stdout.close()
         return Ran(ran.wait(60), front, b"", b"")
@@ -251,7 +249,7 @@ def try_devices(faults, program, case):
     runs += [(what, ran, b"") for what, ran in output_devices(program, case, path)]
     # (a pipe holds 65,536 bytes, so that a writer of more than a megabyte is still writing)
     if len(case.output) > 1 << 20:
-        runs.append(("a reader that leaves", reader_that_leaves(program, case), case.output[:10]))
+        runs.append(("a reader that leaves", reader_that_leaves(program, case, path), case.output[:10]))
         runs.append(("a full pipe", full_pipe(program, case, path), case.output[: 1 << 16]))
     for what, ran, output in runs:
         trial.count(True)
