@@ -84,10 +84,10 @@ bench:
 	@cd bench && cargo build --release --offline --quiet
 	@scripts/measure/bench.py $(or $(RUNS),9) $(SUBJECTS)
 
-# Every crate, over what earlier checks kept.
+# Each crate that changed since it was last proved here, or that stands on one that did.
 check:
 	@$(NEED_RT)
-	@rt all check
+	@scripts/gate/check.py
 
 # Lays out every crate's files.
 fmt:
@@ -97,4 +97,4 @@ fmt:
 # Removes what checks and builds made.
 clean:
 	@$(NEED_RT)
-	@rm -rf crates/*/out bench/target
+	@rm -rf out crates/*/out bench/target
