@@ -27,7 +27,7 @@ HEADLINES = {
     "Fabric::finish": ("sci_station", "fabric", "finish", "Fabric"),
     "oracle": ("scimem", "oracle", "oracle", None),
     "threads": ("scimem", "threads", "threads", None),
-    "order": ("sciview", "order", "order", None),
+    "order": ("sci_reports", "ordering", "order", None),
 }
 # The clauses that say the main thing alone, where a contract says more.
 CLAUSES = {"audit": ["lawful"], "sequential_order": ["order"], "Machine::run": ["ok"], "Fabric::finish": ["lawful", "consistent"]}

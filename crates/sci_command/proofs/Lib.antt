@@ -1,2 +1,3 @@
+pub mod Finished
 pub mod Refusals
 pub mod Written

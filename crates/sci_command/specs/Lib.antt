@@ -1,3 +1,4 @@
+pub mod Answer
 pub mod Input
 pub mod Refusal
 pub mod Status

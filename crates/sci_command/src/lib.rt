@@ -2,6 +2,7 @@
 //! how they print a packet.
 #![tactic(auto)]
 
+mod answer;
 mod outcome;
 mod packet_line;
 mod printing;
@@ -10,10 +11,11 @@ mod verdict;
 mod words;
 mod writing;
 
+pub use answer::{Answer, finish};
 pub use outcome::Outcome;
 pub use packet_line::{command_name, push_contents, push_identifier, push_packet};
 pub use printing::push_labelled;
-pub use refusal::{refusal_text, refuse};
+pub use refusal::refusal_text;
 pub use verdict::verdict_line;
 pub use words::texts_of;
 pub use writing::write_answer;

@@ -1,16 +1,14 @@
 //! The command `audit`: whether a log is lawful, or the first rule that it breaks.
 
-ghost use Rattle.std.specs.Prelude.{◌≡◌, ℕ, List, false, true, IfOk, IfErr};
-ghost use Rattle.std.specs.Io.KnownBytes.{Appends};
+ghost use Rattle.std.specs.Prelude.{◌≡◌, false, IfOk, IfErr};
 ghost use Rattle.sci_text.specs.FirstFault.{IsTold};
 ghost use Rattle.sci_text.specs.LogFault.{IsLogFault};
 ghost use Rattle.sci_text.specs.Tap.{has_failed, is_called_again, tapped};
 ghost use Rattle.sci_command.specs.declared.outcome.Outcome.{Outcome};
-ghost use Rattle.scimem.specs.LogAnswer.{IsAuditAnswer, IsAuditOf, outcome_of};
-ghost use Rattle.sci_command.specs.Input.{IsReadAs};
-ghost use Rattle.sci_command.specs.Writing.{WritesFront};
+ghost use Rattle.scimem.specs.LogAnswer.{IsAuditAnswer, outcome_of};
+ghost use Rattle.sci_command.specs.Writing.{HasWritten};
 
-use sci_command::{Outcome, refuse, verdict_line, write_answer};
+use sci_command::{Answer, Outcome, finish, verdict_line};
 use sci_history::{Verdict, audit};
 use sci_text::{Tap, TextFault, read_logs};
 use std::alloc::Global;
@@ -27,12 +25,11 @@ fn end_of(verdict: Verdict) -> Outcome
 }
 
 /// The line for the log that the reader gives and how the audit ends, or its fault.
-fn answer<R: Read>(alloc: Global, reader: &mut Tap<R>) -> Result<(Vec<u8>, Outcome), TextFault>
+fn answer<R: Read>(alloc: Global, reader: &mut Tap<R>) -> Result<Answer, TextFault>
     requires { has_failed reader.old ≡ false }
-    ensures text { IfOk result (λ x.
-        IsReadAs (R.remaining (tapped reader.old)) (has_failed reader.new)
-        (λ input. IsAuditOf input x.0.items x.1)) }
-    ensures judged { IfOk result (λ x. x.1 ≡ Outcome.Refused → ⊥) }
+    ensures answer { IfOk result (λ answer.
+        IsAuditAnswer (R.remaining (tapped reader.old)) (has_failed reader.new)
+        answer.text.items answer.outcome) }
     ensures fault { IfErr result (λ fault. IsTold IsLogFault fault.kind
         (R.remaining (tapped reader.old)) (has_failed reader.new) fault.line) }
     ensures again { is_called_again reader.new ≡ is_called_again reader.old }
@@ -40,7 +37,10 @@ fn answer<R: Read>(alloc: Global, reader: &mut Tap<R>) -> Result<(Vec<u8>, Outco
     let (_, logs, last) = read_logs(alloc, reader)?;
     let verdict = audit(alloc, &logs, &last)?;
     let text = verdict_line(alloc, verdict)?;
-    Ok((text, end_of(verdict)))
+    Ok(Answer {
+        text,
+        outcome: end_of(verdict),
+    })
 }
 
 /// Reads a log to its end and judges it: `lawful` is Done, and `fault K NAME line L node N serial S` is Unlawful, the
@@ -55,22 +55,11 @@ pub fn audit_text<R: Read, W: Write>(
 ) -> Outcome
     requires reader { has_failed reader.old ≡ false }
     requires writer { has_failed writer.old ≡ false }
-
-    // The answer to the input is written, and nothing else.
-    ensures written { has_failed writer.new ≡ false → (text : List ℕ)
-        × Appends (W.contents (tapped writer.old)) (W.contents (tapped writer.new)) text
-        × IsAuditAnswer (R.remaining (tapped reader.old)) (has_failed reader.new) text result }
-
-    // If a write fails, a prefix of it is.
-    ensures front { (text : List ℕ) × (outcome : Outcome)
-        × WritesFront (W.contents (tapped writer.old)) (W.contents (tapped writer.new)) text
-        × IsAuditAnswer (R.remaining (tapped reader.old)) (has_failed reader.new) text outcome }
-    ensures failed { has_failed writer.new ≡ true → result ≡ Outcome.Refused }
+    ensures written { HasWritten (W.contents (tapped writer.old)) (W.contents (tapped writer.new))
+        (has_failed writer.new) result
+        (IsAuditAnswer (R.remaining (tapped reader.old)) (has_failed reader.new)) }
     ensures read_no_more { is_called_again reader.new ≡ is_called_again reader.old }
     ensures wrote_no_more { is_called_again writer.new ≡ is_called_again writer.old }
 {
-    match answer(alloc, reader) {
-        Ok((text, outcome)) => write_answer(writer, &text, outcome),
-        Err(fault) => refuse(alloc, writer, fault),
-    }
+    finish(alloc, writer, answer(alloc, reader))
 }

@@ -1,13 +1,12 @@
 //! The commands, each by its word.
 
-ghost use Rattle.std.specs.Prelude.{◌≡◌, ℕ, List, false, true};
-ghost use Rattle.std.specs.Io.KnownBytes.{Appends};
+ghost use Rattle.std.specs.Prelude.{◌≡◌, false};
 ghost use Rattle.std.specs.Process.{exit_status};
 ghost use Rattle.sci_text.specs.Tap.{has_failed, is_called_again, tapped};
 ghost use Rattle.sci_command.specs.declared.outcome.Outcome.{Outcome};
 ghost use Rattle.scimem.specs.CommandAnswer.{IsAnswerTo};
 ghost use Rattle.sci_command.specs.Status.{status_of};
-ghost use Rattle.sci_command.specs.Writing.{WritesFront};
+ghost use Rattle.sci_command.specs.Writing.{HasWritten};
 
 use crate::audit::audit_text;
 use crate::choice::Command;
@@ -33,14 +32,9 @@ fn outcome_of<T: Threads + Sync, R: Read, W: Write>(
 ) -> Outcome
     requires reader { has_failed reader.old ≡ false }
     requires writer { has_failed writer.old ≡ false }
-    ensures written { has_failed writer.new ≡ false → (text : List ℕ)
-        × Appends (W.contents (tapped writer.old)) (W.contents (tapped writer.new)) text
-        × IsAnswerTo command (R.remaining (tapped reader.old)) (has_failed reader.new) text result }
-    ensures front { (text : List ℕ) × (outcome : Outcome)
-        × WritesFront (W.contents (tapped writer.old)) (W.contents (tapped writer.new)) text
-        × IsAnswerTo command
-        (R.remaining (tapped reader.old)) (has_failed reader.new) text outcome }
-    ensures failed { has_failed writer.new ≡ true → result ≡ Outcome.Refused }
+    ensures written { HasWritten (W.contents (tapped writer.old)) (W.contents (tapped writer.new))
+        (has_failed writer.new) result
+        (IsAnswerTo command (R.remaining (tapped reader.old)) (has_failed reader.new)) }
     ensures read_no_more { is_called_again reader.new ≡ is_called_again reader.old }
     ensures wrote_no_more { is_called_again writer.new ≡ is_called_again writer.old }
 {
@@ -65,19 +59,10 @@ pub fn carried_out<T: Threads + Sync, R: Read, W: Write>(
 ) -> ExitCode
     requires reader { has_failed reader.old ≡ false }
     requires writer { has_failed writer.old ≡ false }
-
-    // The answer to the input is written, and nothing else.
-    ensures written { has_failed writer.new ≡ false → (text : List ℕ) × (outcome : Outcome)
-        × Appends (W.contents (tapped writer.old)) (W.contents (tapped writer.new)) text
-        × IsAnswerTo command (R.remaining (tapped reader.old)) (has_failed reader.new) text outcome
-        × (exit_status result ≡ status_of outcome) }
-
-    // If a write fails, a prefix of it is.
-    ensures front { (text : List ℕ) × (outcome : Outcome)
-        × WritesFront (W.contents (tapped writer.old)) (W.contents (tapped writer.new)) text
-        × IsAnswerTo command
-        (R.remaining (tapped reader.old)) (has_failed reader.new) text outcome }
-    ensures failed { has_failed writer.new ≡ true → exit_status result ≡ 2 }
+    ensures written { (outcome : Outcome) × (exit_status result ≡ status_of outcome)
+        × HasWritten (W.contents (tapped writer.old)) (W.contents (tapped writer.new))
+        (has_failed writer.new) outcome
+        (IsAnswerTo command (R.remaining (tapped reader.old)) (has_failed reader.new)) }
     ensures read_no_more { is_called_again reader.new ≡ is_called_again reader.old }
     ensures wrote_no_more { is_called_again writer.new ≡ is_called_again writer.old }
 {

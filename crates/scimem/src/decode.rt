@@ -1,15 +1,14 @@
 //! The command `decode`: a line for each packet.
 
-ghost use Rattle.std.specs.Prelude.{◌≡◌, ◌++◌, ℕ, List, false, true, OnOk, IfOk, IfErr};
-ghost use Rattle.std.specs.Io.KnownBytes.{Appends};
+ghost use Rattle.std.specs.Prelude.{◌≡◌, ◌++◌, false, OnOk, IfOk, IfErr};
 ghost use Rattle.sci_text.specs.Tap.{has_failed, is_called_again, tapped};
 ghost use Rattle.sci_command.specs.declared.outcome.Outcome.{Outcome};
-ghost use Rattle.sci_command.specs.Writing.{WritesFront};
+ghost use Rattle.sci_command.specs.Writing.{HasWritten};
 ghost use Rattle.sci_text.specs.FirstFault.{IsInputFault};
 ghost use Rattle.scimem.specs.Decoding.{IsDecoded, IsInputDecoded, IsAnswer, refusal, fault_word};
 ghost use Rattle.sci_command.specs.Refusal.{kind_word};
 
-use sci_command::{Outcome, push_labelled, push_packet, write_answer};
+use sci_command::{Answer, Outcome, push_labelled, push_packet, write_answer};
 use sci_packets::{PacketFault, decode};
 use sci_text::{Tap, TextFault, TextFaultKind, read_input};
 use std::alloc::{AllocError, Global};
@@ -55,39 +54,45 @@ fn input_refusal(kind: TextFaultKind) -> &'static [u8]
     }
 }
 
-/// The text for bytes, and how the command ends.
-fn text_of(alloc: Global, input: &[u8]) -> Result<(Vec<u8>, Outcome), AllocError>
-    ensures { IfOk result (λ x. IsDecoded input.now x.0.items x.1) }
+/// The answer to bytes.
+fn answer_to(alloc: Global, input: &[u8]) -> Result<Answer, AllocError>
+    ensures { IfOk result (λ answer. IsDecoded input.now answer.text.items answer.outcome) }
 {
-    let mut out = Vec::new(alloc);
+    let mut text = Vec::new(alloc);
     let mut rest = input;
     while !rest.is_empty() {
         match decode(rest) {
             Ok((packet, len)) => {
-                push_packet(&mut out, &packet)?;
+                push_packet(&mut text, &packet)?;
                 rest = &rest[len..];
             }
             Err(fault) => {
-                push_refusal(&mut out, (input.len() - rest.len()) as u64, fault)?;
-                return Ok((out, Outcome::Refused));
+                push_refusal(&mut text, (input.len() - rest.len()) as u64, fault)?;
+                return Ok(Answer {
+                    text,
+                    outcome: Outcome::Refused,
+                });
             }
         }
     }
-    Ok((out, Outcome::Done))
+    Ok(Answer {
+        text,
+        outcome: Outcome::Done,
+    })
 }
 
-/// The text for the input that the reader gives, read to its end, and how the command ends.
-fn answer<R: Read>(alloc: Global, reader: &mut Tap<R>) -> Result<(Vec<u8>, Outcome), TextFault>
+/// The answer to the input that the reader gives, read to its end.
+fn answer<R: Read>(alloc: Global, reader: &mut Tap<R>) -> Result<Answer, TextFault>
     requires { has_failed reader.old ≡ false }
-    ensures text { IfOk result (λ x.
-        IsInputDecoded (R.remaining (tapped reader.old)) x.0.items x.1) }
+    ensures text { IfOk result (λ answer.
+        IsInputDecoded (R.remaining (tapped reader.old)) answer.text.items answer.outcome) }
     ensures unfailed { OnOk result (has_failed reader.new ≡ false) }
     ensures fault { IfErr result (λ fault.
         IsInputFault fault.kind (R.remaining (tapped reader.old)) (has_failed reader.new)) }
     ensures again { is_called_again reader.new ≡ is_called_again reader.old }
 {
     let input = read_input(alloc, reader)?;
-    Ok(text_of(alloc, &input)?)
+    Ok(answer_to(alloc, &input)?)
 }
 
 /// Reads the input to its end, and writes a line for each packet: `NAME to T from S control K line L`, then
@@ -106,22 +111,14 @@ pub fn decode_bytes<R: Read, W: Write>(
 ) -> Outcome
     requires reader { has_failed reader.old ≡ false }
     requires writer { has_failed writer.old ≡ false }
-
-    // The answer to the input is written, and nothing else.
-    ensures written { has_failed writer.new ≡ false → (text : List ℕ)
-        × Appends (W.contents (tapped writer.old)) (W.contents (tapped writer.new)) text
-        × IsAnswer (R.remaining (tapped reader.old)) (has_failed reader.new) text result }
-
-    // If a write fails, a prefix of it is.
-    ensures front { (text : List ℕ) × (outcome : Outcome)
-        × WritesFront (W.contents (tapped writer.old)) (W.contents (tapped writer.new)) text
-        × IsAnswer (R.remaining (tapped reader.old)) (has_failed reader.new) text outcome }
-    ensures failed { has_failed writer.new ≡ true → result ≡ Outcome.Refused }
+    ensures written { HasWritten (W.contents (tapped writer.old)) (W.contents (tapped writer.new))
+        (has_failed writer.new) result
+        (IsAnswer (R.remaining (tapped reader.old)) (has_failed reader.new)) }
     ensures read_no_more { is_called_again reader.new ≡ is_called_again reader.old }
     ensures wrote_no_more { is_called_again writer.new ≡ is_called_again writer.old }
 {
     match answer(alloc, reader) {
-        Ok((text, outcome)) => write_answer(writer, &text, outcome),
+        Ok(answer) => write_answer(writer, &answer.text, answer.outcome),
         Err(fault) => write_answer(writer, input_refusal(fault.kind), Outcome::Refused),
     }
 }

@@ -1,27 +1,25 @@
 //! The command `oracle`: the log of one memory that does a script's operations in text order.
 
-ghost use Rattle.std.specs.Prelude.{◌≡◌, ◌⊎◌, ◌++◌, ℕ, List, false, true, IfOk, IfErr, OnOk};
-ghost use Rattle.std.specs.Io.KnownBytes.{Appends};
+ghost use Rattle.std.specs.Prelude.{◌≡◌, ◌⊎◌, ◌++◌, false, IfOk, IfErr};
 ghost use Rattle.sci_text.specs.FirstFault.{IsTold};
 ghost use Rattle.sci_text.specs.ScriptFault.{IsScriptFault};
 ghost use Rattle.sci_text.specs.Tap.{has_failed, is_called_again, tapped};
 ghost use Rattle.sci_command.specs.declared.outcome.Outcome.{Outcome};
-ghost use Rattle.scimem.specs.OracleAnswer.{IsOracleAnswer, IsOracleOf};
-ghost use Rattle.sci_command.specs.Input.{IsReadAs};
-ghost use Rattle.sci_command.specs.Writing.{WritesFront};
+ghost use Rattle.scimem.specs.OracleAnswer.{IsOracleAnswer};
+ghost use Rattle.sci_command.specs.Writing.{HasWritten};
 
-use sci_command::{Outcome, refuse, write_answer};
+use sci_command::{Answer, Outcome, finish};
 use sci_history::run_oracle;
 use sci_text::{Tap, TextFault, logs_text, read_script};
 use std::alloc::Global;
 use std::io::{Read, Write};
 
 /// The text of the log of the script that the reader gives, or its fault.
-fn answer<R: Read>(alloc: Global, reader: &mut Tap<R>) -> Result<Vec<u8>, TextFault>
+fn answer<R: Read>(alloc: Global, reader: &mut Tap<R>) -> Result<Answer, TextFault>
     requires { has_failed reader.old ≡ false }
-    ensures text { IfOk result (λ text.
-        IsReadAs (R.remaining (tapped reader.old)) (has_failed reader.new)
-        (λ input. IsOracleOf input text.items)) }
+    ensures answer { IfOk result (λ answer.
+        IsOracleAnswer (R.remaining (tapped reader.old)) (has_failed reader.new)
+        answer.text.items answer.outcome) }
     ensures fault { IfErr result (λ fault. IsTold IsScriptFault fault.kind
         (R.remaining (tapped reader.old)) (has_failed reader.new) fault.line) }
     ensures again { is_called_again reader.new ≡ is_called_again reader.old }
@@ -30,7 +28,11 @@ fn answer<R: Read>(alloc: Global, reader: &mut Tap<R>) -> Result<Vec<u8>, TextFa
     let extent = script.extent();
     let (logs, last) = run_oracle(alloc, extent.lines, script.operations())?;
     drop(script);
-    Ok(logs_text(alloc, extent.nodes, &logs, &last)?)
+    let text = logs_text(alloc, extent.nodes, &logs, &last)?;
+    Ok(Answer {
+        text,
+        outcome: Outcome::Done,
+    })
 }
 
 /// Reads a script to its end, does its operations in text order on one memory of one thread, and writes their log in
@@ -41,22 +43,11 @@ fn answer<R: Read>(alloc: Global, reader: &mut Tap<R>) -> Result<Vec<u8>, TextFa
 pub fn oracle<R: Read, W: Write>(alloc: Global, reader: &mut Tap<R>, writer: &mut Tap<W>) -> Outcome
     requires reader { has_failed reader.old ≡ false }
     requires writer { has_failed writer.old ≡ false }
-
-    // The answer to the input is written, and nothing else.
-    ensures written { has_failed writer.new ≡ false → (text : List ℕ)
-        × Appends (W.contents (tapped writer.old)) (W.contents (tapped writer.new)) text
-        × IsOracleAnswer (R.remaining (tapped reader.old)) (has_failed reader.new) text result }
-
-    // If a write fails, a prefix of it is.
-    ensures front { (text : List ℕ) × (outcome : Outcome)
-        × WritesFront (W.contents (tapped writer.old)) (W.contents (tapped writer.new)) text
-        × IsOracleAnswer (R.remaining (tapped reader.old)) (has_failed reader.new) text outcome }
-    ensures failed { has_failed writer.new ≡ true → result ≡ Outcome.Refused }
+    ensures written { HasWritten (W.contents (tapped writer.old)) (W.contents (tapped writer.new))
+        (has_failed writer.new) result
+        (IsOracleAnswer (R.remaining (tapped reader.old)) (has_failed reader.new)) }
     ensures read_no_more { is_called_again reader.new ≡ is_called_again reader.old }
     ensures wrote_no_more { is_called_again writer.new ≡ is_called_again writer.old }
 {
-    match answer(alloc, reader) {
-        Ok(text) => write_answer(writer, &text, Outcome::Done),
-        Err(fault) => refuse(alloc, writer, fault),
-    }
+    finish(alloc, writer, answer(alloc, reader))
 }

@@ -1,16 +1,14 @@
 //! The command `replay`: the log of the machine where a schedule leads.
 
-ghost use Rattle.std.specs.Prelude.{◌≡◌, ℕ, List, false, true, IfOk, IfErr};
-ghost use Rattle.std.specs.Io.KnownBytes.{Appends};
+ghost use Rattle.std.specs.Prelude.{◌≡◌, false, IfOk, IfErr};
 ghost use Rattle.sci_text.specs.FirstFault.{IsTold};
 ghost use Rattle.sci_text.specs.ScheduleFault.{IsScheduleFault};
 ghost use Rattle.sci_text.specs.Tap.{has_failed, is_called_again, tapped};
 ghost use Rattle.sci_command.specs.declared.outcome.Outcome.{Outcome};
-ghost use Rattle.scimem.specs.ReplayAnswer.{IsReplayAnswer, IsReplayOf};
-ghost use Rattle.sci_command.specs.Input.{IsReadAs};
-ghost use Rattle.sci_command.specs.Writing.{WritesFront};
+ghost use Rattle.scimem.specs.ReplayAnswer.{IsReplayAnswer};
+ghost use Rattle.sci_command.specs.Writing.{HasWritten};
 
-use sci_command::{Outcome, refuse, write_answer};
+use sci_command::{Answer, Outcome, finish};
 use sci_core::Machine;
 use sci_text::{Tap, TextFault, logs_text, read_schedule};
 use sci_words::MAX_OPERATIONS;
@@ -18,11 +16,11 @@ use std::alloc::Global;
 use std::io::{Read, Write};
 
 /// The text of the log of where the schedule that the reader gives leads, or its fault.
-fn answer<R: Read>(alloc: Global, reader: &mut Tap<R>) -> Result<Vec<u8>, TextFault>
+fn answer<R: Read>(alloc: Global, reader: &mut Tap<R>) -> Result<Answer, TextFault>
     requires { has_failed reader.old ≡ false }
-    ensures text { IfOk result (λ text.
-        IsReadAs (R.remaining (tapped reader.old)) (has_failed reader.new)
-        (λ input. IsReplayOf input text.items)) }
+    ensures answer { IfOk result (λ answer.
+        IsReplayAnswer (R.remaining (tapped reader.old)) (has_failed reader.new)
+        answer.text.items answer.outcome) }
     ensures fault { IfErr result (λ fault. IsTold IsScheduleFault fault.kind
         (R.remaining (tapped reader.old)) (has_failed reader.new) fault.line) }
     ensures again { is_called_again reader.new ≡ is_called_again reader.old }
@@ -35,7 +33,11 @@ fn answer<R: Read>(alloc: Global, reader: &mut Tap<R>) -> Result<Vec<u8>, TextFa
     let logs = machine.logs(alloc)?;
     let last = machine.last();
     drop(machine);
-    Ok(logs_text(alloc, extent.nodes, &logs, &last)?)
+    let text = logs_text(alloc, extent.nodes, &logs, &last)?;
+    Ok(Answer {
+        text,
+        outcome: Outcome::Done,
+    })
 }
 
 /// Reads a schedule to its end, applies its events in text order to a new machine whose nodes may each issue 65,536
@@ -47,22 +49,11 @@ fn answer<R: Read>(alloc: Global, reader: &mut Tap<R>) -> Result<Vec<u8>, TextFa
 pub fn replay<R: Read, W: Write>(alloc: Global, reader: &mut Tap<R>, writer: &mut Tap<W>) -> Outcome
     requires reader { has_failed reader.old ≡ false }
     requires writer { has_failed writer.old ≡ false }
-
-    // The answer to the input is written, and nothing else.
-    ensures written { has_failed writer.new ≡ false → (text : List ℕ)
-        × Appends (W.contents (tapped writer.old)) (W.contents (tapped writer.new)) text
-        × IsReplayAnswer (R.remaining (tapped reader.old)) (has_failed reader.new) text result }
-
-    // If a write fails, a prefix of it is.
-    ensures front { (text : List ℕ) × (outcome : Outcome)
-        × WritesFront (W.contents (tapped writer.old)) (W.contents (tapped writer.new)) text
-        × IsReplayAnswer (R.remaining (tapped reader.old)) (has_failed reader.new) text outcome }
-    ensures failed { has_failed writer.new ≡ true → result ≡ Outcome.Refused }
+    ensures written { HasWritten (W.contents (tapped writer.old)) (W.contents (tapped writer.new))
+        (has_failed writer.new) result
+        (IsReplayAnswer (R.remaining (tapped reader.old)) (has_failed reader.new)) }
     ensures read_no_more { is_called_again reader.new ≡ is_called_again reader.old }
     ensures wrote_no_more { is_called_again writer.new ≡ is_called_again writer.old }
 {
-    match answer(alloc, reader) {
-        Ok(text) => write_answer(writer, &text, Outcome::Done),
-        Err(fault) => refuse(alloc, writer, fault),
-    }
+    finish(alloc, writer, answer(alloc, reader))
 }

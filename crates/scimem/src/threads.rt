@@ -1,16 +1,14 @@
 //! The command `threads`: the log of a run of a script with one thread a node.
 
-ghost use Rattle.std.specs.Prelude.{◌≡◌, ℕ, List, false, true, IfOk, IfErr};
-ghost use Rattle.std.specs.Io.KnownBytes.{Appends};
+ghost use Rattle.std.specs.Prelude.{◌≡◌, false, IfOk, IfErr};
 ghost use Rattle.sci_text.specs.FirstFault.{IsTold};
 ghost use Rattle.sci_text.specs.ScriptFault.{IsScriptFault};
 ghost use Rattle.sci_text.specs.Tap.{has_failed, is_called_again, tapped};
 ghost use Rattle.sci_command.specs.declared.outcome.Outcome.{Outcome};
-ghost use Rattle.scimem.specs.ThreadsAnswer.{IsThreadsAnswer, IsThreadsOf};
-ghost use Rattle.sci_command.specs.Input.{IsReadAs};
-ghost use Rattle.sci_command.specs.Writing.{WritesFront};
+ghost use Rattle.scimem.specs.ThreadsAnswer.{IsThreadsAnswer};
+ghost use Rattle.sci_command.specs.Writing.{HasWritten};
 
-use sci_command::{Outcome, refuse, write_answer};
+use sci_command::{Answer, Outcome, finish};
 use sci_text::{Tap, TextFault, logs_text, read_script};
 use sci_threads::{YieldingGate, run_nodes};
 use std::alloc::Global;
@@ -25,12 +23,11 @@ fn answer<T: Threads + Sync, R: Read>(
     alloc: Global,
     reader: &mut Tap<R>,
     turns: u32,
-) -> Result<(Vec<u8>, Outcome), TextFault>
+) -> Result<Answer, TextFault>
     requires { has_failed reader.old ≡ false }
-    ensures text { IfOk result (λ answer.
-        IsReadAs (R.remaining (tapped reader.old)) (has_failed reader.new)
-        (λ input. IsThreadsOf input answer.0.items answer.1)) }
-    ensures ends { IfOk result (λ answer. answer.1 ≡ Outcome.Refused → ⊥) }
+    ensures answer { IfOk result (λ answer.
+        IsThreadsAnswer (R.remaining (tapped reader.old)) (has_failed reader.new)
+        answer.text.items answer.outcome) }
     ensures fault { IfErr result (λ fault. IsTold IsScriptFault fault.kind
         (R.remaining (tapped reader.old)) (has_failed reader.new) fault.line) }
     ensures again { is_called_again reader.new ≡ is_called_again reader.old }
@@ -46,7 +43,8 @@ fn answer<T: Threads + Sync, R: Read>(
     } else {
         Outcome::Unlawful
     };
-    Ok((logs_text(alloc, nodes, &logs, &last)?, outcome))
+    let text = logs_text(alloc, nodes, &logs, &last)?;
+    Ok(Answer { text, outcome })
 }
 
 /// Reads a script to its end, runs it with one thread a node, each for at most `turns` turns, and writes the logs and the
@@ -67,22 +65,11 @@ pub fn threads<T: Threads + Sync, R: Read, W: Write>(
 ) -> Outcome
     requires reader { has_failed reader.old ≡ false }
     requires writer { has_failed writer.old ≡ false }
-
-    // The answer to the input is written, and nothing else.
-    ensures written { has_failed writer.new ≡ false → (text : List ℕ)
-        × Appends (W.contents (tapped writer.old)) (W.contents (tapped writer.new)) text
-        × IsThreadsAnswer (R.remaining (tapped reader.old)) (has_failed reader.new) text result }
-
-    // If a write fails, a prefix of it is.
-    ensures front { (text : List ℕ) × (outcome : Outcome)
-        × WritesFront (W.contents (tapped writer.old)) (W.contents (tapped writer.new)) text
-        × IsThreadsAnswer (R.remaining (tapped reader.old)) (has_failed reader.new) text outcome }
-    ensures failed { has_failed writer.new ≡ true → result ≡ Outcome.Refused }
+    ensures written { HasWritten (W.contents (tapped writer.old)) (W.contents (tapped writer.new))
+        (has_failed writer.new) result
+        (IsThreadsAnswer (R.remaining (tapped reader.old)) (has_failed reader.new)) }
     ensures read_no_more { is_called_again reader.new ≡ is_called_again reader.old }
     ensures wrote_no_more { is_called_again writer.new ≡ is_called_again writer.old }
 {
-    match answer(rt, alloc, reader, turns) {
-        Ok((text, outcome)) => write_answer(writer, &text, outcome),
-        Err(fault) => refuse(alloc, writer, fault),
-    }
+    finish(alloc, writer, answer(rt, alloc, reader, turns))
 }

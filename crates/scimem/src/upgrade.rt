@@ -1,32 +1,34 @@
 //! The command `upgrade`: the same log in format 2.
 
-ghost use Rattle.std.specs.Prelude.{◌≡◌, ℕ, List, false, true, IfOk, IfErr};
-ghost use Rattle.std.specs.Io.KnownBytes.{Appends};
+ghost use Rattle.std.specs.Prelude.{◌≡◌, false, IfOk, IfErr};
 ghost use Rattle.sci_text.specs.FirstFault.{IsTold};
 ghost use Rattle.sci_text.specs.LogFault.{IsLogFault};
 ghost use Rattle.sci_text.specs.Tap.{has_failed, is_called_again, tapped};
 ghost use Rattle.sci_command.specs.declared.outcome.Outcome.{Outcome};
-ghost use Rattle.scimem.specs.LogAnswer.{IsUpgradeAnswer, IsUpgradeOf};
-ghost use Rattle.sci_command.specs.Input.{IsReadAs};
-ghost use Rattle.sci_command.specs.Writing.{WritesFront};
+ghost use Rattle.scimem.specs.LogAnswer.{IsUpgradeAnswer};
+ghost use Rattle.sci_command.specs.Writing.{HasWritten};
 
-use sci_command::{Outcome, refuse, write_answer};
+use sci_command::{Answer, Outcome, finish};
 use sci_text::{Tap, TextFault, logs_text, read_logs};
 use std::alloc::Global;
 use std::io::{Read, Write};
 
 /// The text in format 2 of the log that the reader gives, or its fault.
-fn answer<R: Read>(alloc: Global, reader: &mut Tap<R>) -> Result<Vec<u8>, TextFault>
+fn answer<R: Read>(alloc: Global, reader: &mut Tap<R>) -> Result<Answer, TextFault>
     requires { has_failed reader.old ≡ false }
-    ensures text { IfOk result (λ text.
-        IsReadAs (R.remaining (tapped reader.old)) (has_failed reader.new)
-        (λ input. IsUpgradeOf input text.items)) }
+    ensures answer { IfOk result (λ answer.
+        IsUpgradeAnswer (R.remaining (tapped reader.old)) (has_failed reader.new)
+        answer.text.items answer.outcome) }
     ensures fault { IfErr result (λ fault. IsTold IsLogFault fault.kind
         (R.remaining (tapped reader.old)) (has_failed reader.new) fault.line) }
     ensures again { is_called_again reader.new ≡ is_called_again reader.old }
 {
     let (nodes, logs, last) = read_logs(alloc, reader)?;
-    Ok(logs_text(alloc, nodes, &logs, &last)?)
+    let text = logs_text(alloc, nodes, &logs, &last)?;
+    Ok(Answer {
+        text,
+        outcome: Outcome::Done,
+    })
 }
 
 /// Reads a log to its end, and writes it in format 2: Done. It isn't judged, and its entries stay in their order. A
@@ -39,22 +41,11 @@ pub fn upgrade<R: Read, W: Write>(
 ) -> Outcome
     requires reader { has_failed reader.old ≡ false }
     requires writer { has_failed writer.old ≡ false }
-
-    // The answer to the input is written, and nothing else.
-    ensures written { has_failed writer.new ≡ false → (text : List ℕ)
-        × Appends (W.contents (tapped writer.old)) (W.contents (tapped writer.new)) text
-        × IsUpgradeAnswer (R.remaining (tapped reader.old)) (has_failed reader.new) text result }
-
-    // If a write fails, a prefix of it is.
-    ensures front { (text : List ℕ) × (outcome : Outcome)
-        × WritesFront (W.contents (tapped writer.old)) (W.contents (tapped writer.new)) text
-        × IsUpgradeAnswer (R.remaining (tapped reader.old)) (has_failed reader.new) text outcome }
-    ensures failed { has_failed writer.new ≡ true → result ≡ Outcome.Refused }
+    ensures written { HasWritten (W.contents (tapped writer.old)) (W.contents (tapped writer.new))
+        (has_failed writer.new) result
+        (IsUpgradeAnswer (R.remaining (tapped reader.old)) (has_failed reader.new)) }
     ensures read_no_more { is_called_again reader.new ≡ is_called_again reader.old }
     ensures wrote_no_more { is_called_again writer.new ≡ is_called_again writer.old }
 {
-    match answer(alloc, reader) {
-        Ok(text) => write_answer(writer, &text, Outcome::Done),
-        Err(fault) => refuse(alloc, writer, fault),
-    }
+    finish(alloc, writer, answer(alloc, reader))
 }

@@ -1,7 +1,5 @@
 mod Asked
-mod Checked
 pub mod Answered
-mod Notes
 mod Sent
 mod Traced
 pub mod Joined
@@ -9,4 +7,3 @@ pub mod Outcomes
 pub mod Listed
 pub mod Walks
 pub mod Words
-mod Orders

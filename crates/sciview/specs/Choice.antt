@@ -4,9 +4,9 @@ use Rattle.sci_words.specs.declared.limits.TheConstants.{MAX_LINES}
 use Rattle.sci_text.specs.Number.{number}
 use Rattle.sciview.specs.declared.chart.ChartRequest.{ChartRequest}
 use Rattle.sciview.specs.declared.chart.TextLines.{TextLines}
-use Rattle.sciview.specs.declared.order.NodeOrder.{NodeOrder}
-use Rattle.sciview.specs.declared.order.NodeOrder.TheVariants.{Logged, BySerial}
-use Rattle.sciview.specs.declared.order.OrderRequest.{OrderRequest}
+use Rattle.sci_reports.specs.declared.ordering.NodeOrder.{NodeOrder}
+use Rattle.sci_reports.specs.declared.ordering.NodeOrder.TheVariants.{Logged, BySerial}
+use Rattle.sci_reports.specs.declared.ordering.OrderRequest.{OrderRequest}
 use Rattle.sciview.specs.declared.random.Walk.{Walk}
 use Rattle.sciview.specs.declared.trace.TraceRequest.{TraceRequest}
 use Rattle.sciview.specs.declared.choice.Command.{Command}

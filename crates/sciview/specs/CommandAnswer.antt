@@ -6,10 +6,10 @@ use Rattle.sciview.specs.declared.choice.Command.{Command}
 use Rattle.sciview.specs.declared.choice.Command.TheVariants as commands
 use Rattle.sciview.specs.declared.help.TheConstants.{HELP, VERSION}
 use Rattle.sciview.specs.ChartAnswer.{IsChartAnswer}
-use Rattle.sciview.specs.CheckAnswer.{IsCheckAnswer}
-use Rattle.sciview.specs.ExplainAnswer.{IsExplainAnswer}
+use Rattle.sci_reports.specs.CheckAnswer.{IsCheckAnswer}
+use Rattle.sci_reports.specs.ExplainAnswer.{IsExplainAnswer}
 use Rattle.sciview.specs.ListsAnswer.{IsListsAnswer}
-use Rattle.sciview.specs.OrderAnswer.{IsOrderAnswer}
+use Rattle.sci_reports.specs.OrderAnswer.{IsOrderAnswer}
 use Rattle.sciview.specs.PacketsAnswer.{IsPacketsAnswer}
 use Rattle.sciview.specs.RandomAnswer.{IsRandomAnswer}
 use Rattle.sciview.specs.TraceAnswer.{IsTraceAnswer}

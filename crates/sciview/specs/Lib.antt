@@ -1,15 +1,10 @@
 pub mod AskedLine
 pub mod ChartAnswer
-pub mod CheckAnswer
 pub mod Choice
 pub mod CommandAnswer
-pub mod EntryLines
-pub mod ExplainAnswer
-pub mod OrderAnswer
 pub mod PacketsAnswer
 pub mod StateWords
 pub mod ObstacleWords
 pub mod TraceAnswer
 pub mod ListsAnswer
 pub mod RandomAnswer
-pub mod TextReadings

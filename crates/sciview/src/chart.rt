@@ -1,25 +1,22 @@
 //! The command `chart`: a message sequence chart of a schedule.
 
-ghost use Rattle.std.specs.Prelude.{◌≡◌, ℕ, List, false, true, IfOk, IfErr};
-ghost use Rattle.std.specs.Io.KnownBytes.{Appends};
+ghost use Rattle.std.specs.Prelude.{◌≡◌, false, true, IfOk, IfErr};
 ghost use Rattle.sci_text.specs.Tap.{has_failed, is_called_again, tapped};
 ghost use Rattle.sci_command.specs.declared.outcome.Outcome.{Outcome};
-ghost use Rattle.sci_command.specs.Input.{IsReadAs};
-ghost use Rattle.sci_command.specs.Writing.{WritesFront};
 ghost use Rattle.sciview.specs.AskedLine.{IsAskedFault};
-ghost use Rattle.sciview.specs.ChartAnswer.{IsChartAnswer, IsScheduleText};
+ghost use Rattle.sciview.specs.ChartAnswer.{IsChartAnswer};
 
 use crate::asked_line::read_asked;
 use crate::deed::{applied, deed_of, line_of, packet_of};
 use crate::drawing::Drawing;
 use crate::layout::{FIRST_LINE, NumberedEvent};
-use sci_command::{Outcome, refuse, write_answer};
+use sci_command::{Answer, Outcome};
 use sci_core::Machine;
 use sci_packets::Packet;
 use sci_text::{Schedule, Tap, TextFault};
 use sci_words::{Event, MAX_OPERATIONS};
 use std::alloc::{AllocError, Global};
-use std::io::{Read, Write};
+use std::io::Read;
 
 /// The lines of a schedule from one to another.
 #[derive(Clone, Copy)]
@@ -85,58 +82,29 @@ fn chart_of(
     drawing.text()
 }
 
-/// The chart of the schedule that the reader gives, or its fault.
-fn answer<R: Read>(
+/// Reads a schedule to its end, applies its events in text order to a new machine whose nodes may each issue 65,536
+/// operations (events that are not enabled change nothing), and gives a message sequence chart of them in SVG: Done. With a
+/// line it shows the events and the packets about that line alone, and else all. With lines of the schedule it shows the
+/// events on these alone: a packet that was sent before them comes in from above, and one that is taken after them goes on
+/// to the end. A schedule with a fault is refused, as are a reader that fails, too long an input and running out of memory,
+/// at line 0, and a line that the machine doesn't have, as `range` at line 0. After a failed read nothing more is read.
+pub fn chart<R: Read>(
     alloc: Global,
     request: ChartRequest,
     reader: &mut Tap<R>,
-) -> Result<Vec<u8>, TextFault>
+) -> Result<Answer, TextFault>
     requires { has_failed reader.old ≡ false }
-    ensures bytes { IfOk result (λ bytes.
-        IsReadAs (R.remaining (tapped reader.old)) (has_failed reader.new) (IsScheduleText request.line)) }
+    ensures answer { IfOk result (λ answer.
+        IsChartAnswer request.line (R.remaining (tapped reader.old)) (has_failed reader.new)
+        answer.text.items answer.outcome) }
     ensures fault { IfErr result (λ fault. IsAskedFault request.line fault.kind
         (R.remaining (tapped reader.old)) (has_failed reader.new) fault.line) }
     ensures again { is_called_again reader.new ≡ is_called_again reader.old }
 {
     let schedule = read_asked(alloc, request.line, reader)?;
-    Ok(chart_of(alloc, &schedule, request)?)
-}
-
-/// Reads a schedule to its end, applies its events in text order to a new machine whose nodes may each issue 65,536
-/// operations (events that are not enabled change nothing), and writes a message sequence chart of them in SVG: Done.
-/// With a line it shows the events and the packets about that line alone, and else all. With lines of the schedule it shows the
-/// events on these alone: a packet that was sent before them comes in from above, and one that is taken after them goes on
-/// to the end. A schedule with a fault is
-/// Refused, with the line `refused at line K: KIND` alone, as are a reader that fails, too long an input and running out
-/// of memory, at line 0, and a line that the machine doesn't have, as `range` at line 0. The whole chart is made before
-/// its first byte is written. After a failed read or write nothing more is read or written; after a failed write it is
-/// Refused.
-pub fn chart<R: Read, W: Write>(
-    alloc: Global,
-    request: ChartRequest,
-    reader: &mut Tap<R>,
-    writer: &mut Tap<W>,
-) -> Outcome
-    requires reader { has_failed reader.old ≡ false }
-    requires writer { has_failed writer.old ≡ false }
-
-    // The answer to the input is written, and nothing else.
-    ensures written { has_failed writer.new ≡ false → (text : List ℕ)
-        × Appends (W.contents (tapped writer.old)) (W.contents (tapped writer.new)) text
-        × IsChartAnswer request.line
-        (R.remaining (tapped reader.old)) (has_failed reader.new) text result }
-
-    // If a write fails, a prefix of it is.
-    ensures front { (text : List ℕ) × (outcome : Outcome)
-        × WritesFront (W.contents (tapped writer.old)) (W.contents (tapped writer.new)) text
-        × IsChartAnswer request.line
-        (R.remaining (tapped reader.old)) (has_failed reader.new) text outcome }
-    ensures failed { has_failed writer.new ≡ true → result ≡ Outcome.Refused }
-    ensures read_no_more { is_called_again reader.new ≡ is_called_again reader.old }
-    ensures wrote_no_more { is_called_again writer.new ≡ is_called_again writer.old }
-{
-    match answer(alloc, request, reader) {
-        Ok(text) => write_answer(writer, &text, Outcome::Done),
-        Err(fault) => refuse(alloc, writer, fault),
-    }
+    let text = chart_of(alloc, &schedule, request)?;
+    Ok(Answer {
+        text,
+        outcome: Outcome::Done,
+    })
 }

@@ -6,16 +6,16 @@ ghost use Rattle.sci_text.specs.Number.{number};
 ghost use Rattle.sciview.specs.declared.chart.ChartRequest.{ChartRequest};
 ghost use Rattle.sciview.specs.declared.chart.TextLines.{TextLines};
 ghost use Rattle.sciview.specs.declared.choice.Command.{Command};
-ghost use Rattle.sciview.specs.declared.order.OrderRequest.{OrderRequest};
+ghost use Rattle.sci_reports.specs.declared.ordering.OrderRequest.{OrderRequest};
 ghost use Rattle.sciview.specs.declared.random.Walk.{Walk};
 ghost use Rattle.sciview.specs.declared.trace.TraceRequest.{TraceRequest};
 ghost use Rattle.sciview.specs.Choice.{Chooses, ChoosesBy, ChoosesChart, ChoosesOrder, ChoosesTrace, ChoosesWalk, FitsDead, FitsEvents, FitsLine, FitsWalk, dead_words, events_words, line_words, walk_words};
 
 use crate::chart::{ChartRequest, TextLines};
-use crate::order::{NodeOrder, OrderRequest};
 use crate::random::Walk;
 use crate::trace::TraceRequest;
 use sci_command::texts_of;
+use sci_reports::{NodeOrder, OrderRequest};
 use sci_text::whole_number;
 use sci_words::MAX_LINES;
 use std::alloc::{AllocError, Global};

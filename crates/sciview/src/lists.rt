@@ -1,27 +1,24 @@
 //! The command `lists`: the sharing list of a line behind each event that may have changed it.
 
-ghost use Rattle.std.specs.Prelude.{◌≡◌, ◌++◌, ◌<◌, ℕ, List, false, true, IfOk, IfErr, IfSome, OnOk};
+ghost use Rattle.std.specs.Prelude.{◌≡◌, ◌++◌, ◌<◌, ℕ, List, false, IfOk, IfErr, IfSome, OnOk};
 ghost use Rattle.std.specs.List.{flat_map};
-ghost use Rattle.std.specs.Io.KnownBytes.{Appends};
 ghost use Rattle.sci_core.specs.Core.{step, stepping};
 ghost use Rattle.sci_text.specs.Tap.{has_failed, is_called_again, tapped};
 ghost use Rattle.sci_command.specs.declared.outcome.Outcome.{Outcome};
-ghost use Rattle.sci_command.specs.Input.{IsReadAs};
-ghost use Rattle.sci_command.specs.Writing.{WritesFront};
 ghost use Rattle.sciview.specs.AskedLine.{IsAskedFault};
 ghost use Rattle.sciview.specs.PacketsAnswer.{before};
 ghost use Rattle.sciview.specs.TraceAnswer.{line_changed as line_changed_of};
-ghost use Rattle.sciview.specs.ListsAnswer.{AreListed, IsListLine, IsListed, IsListsAnswer, IsListsOf, authority_text, home_name_text, last_text, line_within, listed_line as listed_line_of, member_text, name_text, place_text};
+ghost use Rattle.sciview.specs.ListsAnswer.{AreListed, IsListLine, IsListed, IsListsAnswer, authority_text, home_name_text, last_text, line_within, listed_line as listed_line_of, member_text, name_text, place_text};
 
 use crate::asked_line::{is_asked, read_asked};
 use crate::event_words::line_changed;
 use crate::state_words::{home_name, state_name};
-use sci_command::{Outcome, push_contents, push_labelled, refuse, write_answer};
+use sci_command::{Answer, Outcome, push_contents, push_labelled};
 use sci_core::{ApplyFault, Machine};
 use sci_text::{Schedule, Tap, TextFault, push_number, push_text};
 use sci_words::{Event, MAX_OPERATIONS, Stamped};
 use std::alloc::{AllocError, Global};
-use std::io::{Read, Write};
+use std::io::Read;
 
 /// The line in which the first event of a schedule stands.
 const FIRST_EVENT_LINE: u64 = 2;
@@ -210,58 +207,29 @@ fn lists_of(alloc: Global, asked: Option<u8>, schedule: &Schedule) -> Result<Vec
     Ok(text)
 }
 
-/// The lists behind the events of the schedule that the reader gives, or why there are none.
-fn answer<R: Read>(
+/// Reads a schedule to its end, applies its events in text order to a new machine whose nodes may each issue 65,536
+/// operations, and gives a line behind each event that is enabled and may change a line of the machine, or the line that is
+/// asked for: the number of the event's line in the schedule, the line of memory, the name of the home's state, the members
+/// of the line's list from the head on, the node that may change the line or is about to, and the line's last contents. It
+/// is Done. A schedule with a fault is refused, as are a reader that fails, too long an input and running out of memory, at
+/// line 0, and a line that the machine doesn't have, as `range` at line 0. After a failed read nothing more is read.
+pub fn lists<R: Read>(
     alloc: Global,
     asked: Option<u8>,
     reader: &mut Tap<R>,
-) -> Result<Vec<u8>, TextFault>
+) -> Result<Answer, TextFault>
     requires { has_failed reader.old ≡ false }
-    ensures text { IfOk result (λ text.
-        IsReadAs (R.remaining (tapped reader.old)) (has_failed reader.new)
-        (λ input. IsListsOf asked input text.items)) }
+    ensures answer { IfOk result (λ answer.
+        IsListsAnswer asked (R.remaining (tapped reader.old)) (has_failed reader.new)
+        answer.text.items answer.outcome) }
     ensures fault { IfErr result (λ fault. IsAskedFault asked fault.kind
         (R.remaining (tapped reader.old)) (has_failed reader.new) fault.line) }
     ensures again { is_called_again reader.new ≡ is_called_again reader.old }
 {
     let schedule = read_asked(alloc, asked, reader)?;
-    Ok(lists_of(alloc, asked, &schedule)?)
-}
-
-/// Reads a schedule to its end, applies its events in text order to a new machine whose nodes may each issue 65,536
-/// operations, and writes a line behind each event that is enabled and may change a line of the machine, or the line that is
-/// asked for: the number of the event's line in the schedule, the line of memory, the name of the home's state, the members
-/// of the line's list from the head on, the node that may change the line or is about to, and the line's last contents. It
-/// is Done. A schedule with a fault is Refused, with the line `refused at line K: KIND` alone, as are a reader that fails,
-/// too long an input and running out of memory, at line 0, and a line that the machine doesn't have, as `range` at line 0.
-/// The whole text is made before its first byte is written. After a failed read or write nothing more is read or written;
-/// after a failed write it is Refused.
-pub fn lists<R: Read, W: Write>(
-    alloc: Global,
-    asked: Option<u8>,
-    reader: &mut Tap<R>,
-    writer: &mut Tap<W>,
-) -> Outcome
-    requires reader { has_failed reader.old ≡ false }
-    requires writer { has_failed writer.old ≡ false }
-
-    // The answer to the input is written, and nothing else.
-    ensures written { has_failed writer.new ≡ false → (text : List ℕ)
-        × Appends (W.contents (tapped writer.old)) (W.contents (tapped writer.new)) text
-        × IsListsAnswer asked
-        (R.remaining (tapped reader.old)) (has_failed reader.new) text result }
-
-    // If a write fails, a prefix of it is.
-    ensures front { (text : List ℕ) × (outcome : Outcome)
-        × WritesFront (W.contents (tapped writer.old)) (W.contents (tapped writer.new)) text
-        × IsListsAnswer asked
-        (R.remaining (tapped reader.old)) (has_failed reader.new) text outcome }
-    ensures failed { has_failed writer.new ≡ true → result ≡ Outcome.Refused }
-    ensures read_no_more { is_called_again reader.new ≡ is_called_again reader.old }
-    ensures wrote_no_more { is_called_again writer.new ≡ is_called_again writer.old }
-{
-    match answer(alloc, asked, reader) {
-        Ok(text) => write_answer(writer, &text, Outcome::Done),
-        Err(fault) => refuse(alloc, writer, fault),
-    }
+    let text = lists_of(alloc, asked, &schedule)?;
+    Ok(Answer {
+        text,
+        outcome: Outcome::Done,
+    })
 }

@@ -1,8 +1,7 @@
 //! The command `packets`: the bytes of all packets that a schedule sends.
 
-ghost use Rattle.std.specs.Prelude.{◌≡◌, ◌++◌, ℕ, List, false, true, IfOk, IfErr, OnOk, option_map, option_to_list};
+ghost use Rattle.std.specs.Prelude.{◌≡◌, ◌++◌, false, IfOk, IfErr, OnOk, option_map, option_to_list};
 ghost use Rattle.std.specs.List.{flat_map};
-ghost use Rattle.std.specs.Io.KnownBytes.{Appends};
 ghost use Rattle.sci_packets.specs.Spelling.{spelling};
 ghost use Rattle.sci_cache.specs.Cache.{letter_of};
 ghost use Rattle.sci_core.specs.Core.{step};
@@ -10,17 +9,15 @@ ghost use Rattle.sci_text.specs.FirstFault.{IsTold};
 ghost use Rattle.sci_text.specs.ScheduleFault.{IsScheduleFault};
 ghost use Rattle.sci_text.specs.Tap.{has_failed, is_called_again, tapped};
 ghost use Rattle.sci_command.specs.declared.outcome.Outcome.{Outcome};
-ghost use Rattle.sci_command.specs.Input.{IsReadAs};
-ghost use Rattle.sci_command.specs.Writing.{WritesFront};
-ghost use Rattle.sciview.specs.PacketsAnswer.{AreSpelled, IsPacketsAnswer, IsPacketsOf, before, letter_sent, letters_sent};
+ghost use Rattle.sciview.specs.PacketsAnswer.{AreSpelled, IsPacketsAnswer, before, letter_sent, letters_sent};
 
-use sci_command::{Outcome, refuse, write_answer};
+use sci_command::{Answer, Outcome};
 use sci_core::{ApplyFault, Machine};
 use sci_packets::{Packet, encode};
 use sci_text::{Schedule, Tap, TextFault, read_schedule};
 use sci_words::{Event, MAX_OPERATIONS};
 use std::alloc::{AllocError, Global};
-use std::io::{Read, Write};
+use std::io::Read;
 
 /// The packet that an event sends now, or None if it sends none.
 pub fn sent(machine: &Machine, event: &Event) -> Option<Packet>
@@ -77,49 +74,23 @@ fn packets_of(alloc: Global, schedule: &Schedule) -> Result<Vec<u8>, AllocError>
     Ok(bytes)
 }
 
-/// The bytes of all packets that the schedule sends which the reader gives, or its fault.
-fn answer<R: Read>(alloc: Global, reader: &mut Tap<R>) -> Result<Vec<u8>, TextFault>
+/// Reads a schedule to its end, applies its events in text order to a new machine whose nodes may each issue 65,536
+/// operations (events that are not enabled change nothing), and gives the bytes of each packet that an Ask or a Reply
+/// sends, one after another: Done. `scimem decode` reads them. A schedule with a fault is refused, as are a reader that
+/// fails, too long an input and running out of memory, at line 0. After a failed read nothing more is read.
+pub fn packets<R: Read>(alloc: Global, reader: &mut Tap<R>) -> Result<Answer, TextFault>
     requires { has_failed reader.old ≡ false }
-    ensures bytes { IfOk result (λ bytes.
-        IsReadAs (R.remaining (tapped reader.old)) (has_failed reader.new)
-        (λ input. IsPacketsOf input bytes.items)) }
+    ensures answer { IfOk result (λ answer.
+        IsPacketsAnswer (R.remaining (tapped reader.old)) (has_failed reader.new)
+        answer.text.items answer.outcome) }
     ensures fault { IfErr result (λ fault. IsTold IsScheduleFault fault.kind
         (R.remaining (tapped reader.old)) (has_failed reader.new) fault.line) }
     ensures again { is_called_again reader.new ≡ is_called_again reader.old }
 {
     let schedule = read_schedule(alloc, reader)?;
-    Ok(packets_of(alloc, &schedule)?)
-}
-
-/// Reads a schedule to its end, applies its events in text order to a new machine whose nodes may each issue 65,536
-/// operations (events that are not enabled change nothing), and writes the bytes of each packet that an Ask or a Reply
-/// sends, one after another: Done. `scimem decode` reads them. A schedule with a fault is Refused, with the line
-/// `refused at line K: KIND` alone, as are a reader that fails, too long an input and running out of memory, at line 0.
-/// All bytes are made before the first is written. After a failed read or write nothing more is read or written; after
-/// a failed write it is Refused.
-pub fn packets<R: Read, W: Write>(
-    alloc: Global,
-    reader: &mut Tap<R>,
-    writer: &mut Tap<W>,
-) -> Outcome
-    requires reader { has_failed reader.old ≡ false }
-    requires writer { has_failed writer.old ≡ false }
-
-    // The answer to the input is written, and nothing else.
-    ensures written { has_failed writer.new ≡ false → (text : List ℕ)
-        × Appends (W.contents (tapped writer.old)) (W.contents (tapped writer.new)) text
-        × IsPacketsAnswer (R.remaining (tapped reader.old)) (has_failed reader.new) text result }
-
-    // If a write fails, a prefix of it is.
-    ensures front { (text : List ℕ) × (outcome : Outcome)
-        × WritesFront (W.contents (tapped writer.old)) (W.contents (tapped writer.new)) text
-        × IsPacketsAnswer (R.remaining (tapped reader.old)) (has_failed reader.new) text outcome }
-    ensures failed { has_failed writer.new ≡ true → result ≡ Outcome.Refused }
-    ensures read_no_more { is_called_again reader.new ≡ is_called_again reader.old }
-    ensures wrote_no_more { is_called_again writer.new ≡ is_called_again writer.old }
-{
-    match answer(alloc, reader) {
-        Ok(bytes) => write_answer(writer, &bytes, Outcome::Done),
-        Err(fault) => refuse(alloc, writer, fault),
-    }
+    let text = packets_of(alloc, &schedule)?;
+    Ok(Answer {
+        text,
+        outcome: Outcome::Done,
+    })
 }

@@ -1,19 +1,15 @@
 //! The command `random`: a schedule whose events are drawn by chance.
 
-ghost use Rattle.std.specs.Prelude.{◌≡◌, ◌↔◌, ℕ, List, false, true, IfOk, IfErr, IfSome, IsSome, IsTrue};
-ghost use Rattle.std.specs.Io.KnownBytes.{Appends};
-ghost use Rattle.sci_text.specs.Tap.{has_failed, is_called_again, tapped};
+ghost use Rattle.std.specs.Prelude.{◌≡◌, ◌↔◌, IfOk, IfErr, IfSome, IsSome};
 ghost use Rattle.sci_command.specs.declared.outcome.Outcome.{Outcome};
-ghost use Rattle.sci_command.specs.Writing.{WritesFront};
 ghost use Rattle.sci_words.specs.Extent.{AreWithinLimits};
-ghost use Rattle.sciview.specs.RandomAnswer.{IsRandomAnswer, IsRandomText, IsWalk, IsWalkFault};
+ghost use Rattle.sciview.specs.RandomAnswer.{IsRandomAnswer, IsWalkFault};
 
 use crate::walking::schedule_of;
-use sci_command::{Outcome, refuse, write_answer};
-use sci_text::{Tap, TextFault, TextFaultKind, schedule_text};
+use sci_command::{Answer, Outcome};
+use sci_text::{TextFault, TextFaultKind, schedule_text};
 use sci_words::{Extent, MAX_EVENTS, MAX_LINES, MAX_NODES, MAX_SLOTS};
 use std::alloc::Global;
-use std::io::Write;
 
 /// A walk that is asked for. Its numbers may be out of range.
 #[derive(Clone, Copy)]
@@ -50,10 +46,13 @@ fn extent_of(walk: &Walk) -> Option<Extent>
     Extent::new(walk.nodes as u8, walk.lines as u8, walk.slots as u8)
 }
 
-/// The text of a walk's schedule, or why there is none.
-fn answer(alloc: Global, walk: &Walk, dead: Option<u64>) -> Result<Vec<u8>, TextFault>
-    ensures walk { IfOk result (λ text. IsWalk walk.now dead) }
-    ensures text { IfOk result (λ text. IsRandomText walk.now text.items) }
+/// Gives a schedule of a walk's machine with as many events as it says, drawn from its seed: Done. About `dead` in a
+/// hundred of them, or none without it, are any events; the others are enabled when they come. The same numbers give the
+/// same schedule. A number out of its range (`dead` is 0 to 100) is refused, as `range` at line 0, as is running out of
+/// memory.
+pub fn random_schedule(alloc: Global, walk: &Walk, dead: Option<u64>) -> Result<Answer, TextFault>
+    ensures answer { IfOk result (λ answer.
+        IsRandomAnswer walk.now dead answer.text.items answer.outcome) }
     ensures fault { IfErr result (λ fault. IsWalkFault walk.now dead fault.kind fault.line) }
 {
     let out_of_range = TextFault {
@@ -68,36 +67,9 @@ fn answer(alloc: Global, walk: &Walk, dead: Option<u64>) -> Result<Vec<u8>, Text
         return Err(out_of_range);
     };
     let schedule = schedule_of(alloc, extent, walk.events as u32, share as u8, walk.seed)?;
-    Ok(schedule_text(alloc, &schedule)?)
-}
-
-/// Writes a schedule of a walk's machine with as many events as it says, drawn from its seed: Done. About `dead` in a
-/// hundred of them, or none without it, are any events; the others are enabled when they come. The same numbers give the
-/// same schedule. A number out of its range (`dead` is 0 to 100) is Refused, with the line `refused at line 0: range`
-/// alone, as is running out of memory. The whole text is made before its first byte is written. After a failed write it
-/// is Refused.
-pub fn random_schedule<W: Write>(
-    alloc: Global,
-    walk: Walk,
-    dead: Option<u64>,
-    writer: &mut Tap<W>,
-) -> Outcome
-    requires { has_failed writer.old ≡ false }
-
-    // The answer is written, and nothing else.
-    ensures written { has_failed writer.new ≡ false → (text : List ℕ)
-        × Appends (W.contents (tapped writer.old)) (W.contents (tapped writer.new)) text
-        × IsRandomAnswer walk dead text result }
-
-    // If a write fails, a prefix of it is.
-    ensures front { (text : List ℕ) × (outcome : Outcome)
-        × WritesFront (W.contents (tapped writer.old)) (W.contents (tapped writer.new)) text
-        × IsRandomAnswer walk dead text outcome }
-    ensures failed { has_failed writer.new ≡ true → result ≡ Outcome.Refused }
-    ensures wrote_no_more { is_called_again writer.new ≡ is_called_again writer.old }
-{
-    match answer(alloc, &walk, dead) {
-        Ok(text) => write_answer(writer, &text, Outcome::Done),
-        Err(fault) => refuse(alloc, writer, fault),
-    }
+    let text = schedule_text(alloc, &schedule)?;
+    Ok(Answer {
+        text,
+        outcome: Outcome::Done,
+    })
 }

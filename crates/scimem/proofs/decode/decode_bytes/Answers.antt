@@ -1,13 +1,21 @@
 use Rattle.sci_text.specs.Tap.{tapped, has_failed}
+use Rattle.std.proofs.Common.{inl}
 use Rattle.sci_command.specs.declared.outcome.Outcome.TheVariants.{Refused}
-use Rattle.scimem.specs.Decoding.{IsAnswer, refusal}
-use Rattle.sci_command.specs.Refusal.{kind_word}
+use Rattle.sci_command.proofs.Finished.{written_text}
+use Rattle.scimem.specs.Decoding.{IsAnswer}
 use Rattle.scimem.proofs.Answered.{refused}
 use Rattle.scimem.proofs.decode.decode_bytes.Goals as goal
 
-pub returns-in-Err-clause-written : goal.returns-in-Err-clause-written
-returns-in-Err-clause-written g c = λ unfailed.
+pub returns-in-Ok-clause-written : goal.returns-in-Ok-clause-written
+returns-in-Ok-clause-written g c =
     let known = g.R.Read.remaining (tapped c.args.reader.now) in
-    let failed = has_failed c.answer.new.reader in
-    let told : IsAnswer known failed (refusal 0 (kind_word c.in-Err.fault.kind)) Refused = refused known failed c.in-Err.fault.kind c.in-Err.ensures.fault in
-    (c.input_refusal.result.now, c.write_answer-in-Err.ensures.whole unfailed, rw (c.input_refusal.ensures, c.write_answer-in-Err.ensures.unfailed unfailed) told)
+    let unread = has_failed c.answer.new.reader in
+    let written = c.write_answer-in-Ok.ensures in
+    written_text (IsAnswer known unread) c.deref.result.now c.in-Ok.answer.outcome (rw c.deref.ensures.value (inl (c.in-Ok.ensures.unfailed, c.in-Ok.ensures.text))) _ _ _ _ written.front written.whole written.unfailed written.failed
+
+pub returns-in-Err-clause-written : goal.returns-in-Err-clause-written
+returns-in-Err-clause-written g c =
+    let known = g.R.Read.remaining (tapped c.args.reader.now) in
+    let unread = has_failed c.answer.new.reader in
+    let written = c.write_answer-in-Err.ensures in
+    written_text (IsAnswer known unread) c.input_refusal.result.now Refused (rw c.input_refusal.ensures (refused known unread c.in-Err.fault.kind c.in-Err.ensures.fault)) _ _ _ _ written.front written.whole written.unfailed written.failed

@@ -1,22 +1,11 @@
--- What is written is the answer, or the refusal of the fault that is told.
 use Rattle.sci_text.specs.ScheduleFault.{IsScheduleFault}
 use Rattle.sci_text.specs.Tap.{tapped, has_failed}
-use Rattle.sci_command.specs.declared.outcome.Outcome.TheVariants.{Done}
-use Rattle.sci_command.proofs.Refusals.{refused_told}
+use Rattle.sci_command.proofs.Finished.{finished_reading}
+use Rattle.scimem.specs.ReplayAnswer.{IsReplayAnswer}
 use Rattle.scimem.proofs.replay.replay.Goals as goal
 
-pub returns-in-Err-clause-written : goal.returns-in-Err-clause-written
-returns-in-Err-clause-written g c = λ unfailed.
-    let fault = c.in-Err.fault in
+pub returns-clause-written : goal.returns-clause-written
+returns-clause-written g c =
     let known = g.R.Read.remaining (tapped c.args.reader.now) in
-    let failed = has_failed c.answer.new.reader in
-    let w = c.refuse.ensures.whole unfailed in
-    let refused = refused_told IsScheduleFault known failed fault w.0 c.in-Err.ensures.fault w.2 in
-    (w.0, w.1, rw c.refuse.ensures.refused refused)
-
-pub returns-in-Ok-clause-written : goal.returns-in-Ok-clause-written
-returns-in-Ok-clause-written g c = λ unfailed.
-    (c.deref.result.now, c.write_answer.ensures.whole unfailed, rw (c.write_answer.ensures.unfailed unfailed, c.deref.ensures.value) c.in-Ok.ensures.text)
-
-pub returns-in-Ok-clause-front : goal.returns-in-Ok-clause-front
-returns-in-Ok-clause-front g c = (c.deref.result.now, Done, c.write_answer.ensures.front, rw c.deref.ensures.value c.in-Ok.ensures.text)
+    let unread = has_failed c.answer.new.reader in
+    finished_reading IsScheduleFault known unread (IsReplayAnswer known unread) c.answer.result (λ text refusal. refusal) c.answer.ensures.answer c.answer.ensures.fault _ _ _ _ c.finish.ensures.written

@@ -1,14 +1,11 @@
--- What is written is the answer, or the refusal of the fault that is told.
 use Rattle.sci_text.specs.LogFault.{IsLogFault}
 use Rattle.sci_text.specs.Tap.{tapped, has_failed}
-use Rattle.sci_command.proofs.Refusals.{refused_told}
+use Rattle.sci_command.proofs.Finished.{finished_reading}
+use Rattle.scimem.specs.LogAnswer.{IsUpgradeAnswer}
 use Rattle.scimem.proofs.upgrade.upgrade.Goals as goal
 
-pub returns-in-Err-clause-written : goal.returns-in-Err-clause-written
-returns-in-Err-clause-written g c = λ unfailed.
-    let fault = c.in-Err.fault in
+pub returns-clause-written : goal.returns-clause-written
+returns-clause-written g c =
     let known = g.R.Read.remaining (tapped c.args.reader.now) in
-    let failed = has_failed c.answer.new.reader in
-    let w = c.refuse.ensures.whole unfailed in
-    let refused = refused_told IsLogFault known failed fault w.0 c.in-Err.ensures.fault w.2 in
-    (w.0, w.1, rw c.refuse.ensures.refused refused)
+    let unread = has_failed c.answer.new.reader in
+    finished_reading IsLogFault known unread (IsUpgradeAnswer known unread) c.answer.result (λ text refusal. refusal) c.answer.ensures.answer c.answer.ensures.fault _ _ _ _ c.finish.ensures.written

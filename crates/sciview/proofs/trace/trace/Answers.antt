@@ -1,26 +1,10 @@
--- What is written is the answer, or the refusal of the fault.
-use Rattle.sci_text.specs.Tap.{tapped, has_failed}
-use Rattle.sciview.proofs.Asked.{refused_asked}
+use Rattle.std.proofs.Common.{rules}
+use Rattle.sci_text.specs.Tap.{has_failed, tapped}
 use Rattle.sciview.proofs.Answered.{trace_answer}
 use Rattle.sciview.proofs.trace.trace.Goals as goal
 
-pub returns-in-Err-clause-written : goal.returns-in-Err-clause-written
-returns-in-Err-clause-written g c = λ unfailed.
-    let fault = c.in-Err.fault in
+pub returns-clause-answer : goal.returns-clause-answer
+returns-clause-answer g c =
     let known = g.R.Read.remaining (tapped c.args.reader.now) in
-    let failed = has_failed c.answer.new.reader in
-    let w = c.refuse.ensures.whole unfailed in
-    let refused = refused_asked c.args.request.line known failed fault w.0 c.in-Err.ensures.fault w.2 in
-    (w.0, w.1, rw c.refuse.ensures.refused refused)
-
-pub returns-in-Ok-clause-written : goal.returns-in-Ok-clause-written
-returns-in-Ok-clause-written g c = λ unfailed.
-    let known = g.R.Read.remaining (tapped c.args.reader.now) in
-    let failed = has_failed c.answer.new.reader in
-    (c.deref.result.now, c.write_answer.ensures.whole unfailed, rw (c.write_answer.ensures.unfailed unfailed, c.deref.ensures.value) (trace_answer c.args.request known failed c.in-Ok.text.items c.in-Ok.outcome c.in-Ok.ensures.judged c.in-Ok.ensures.text))
-
-pub returns-in-Ok-clause-front : goal.returns-in-Ok-clause-front
-returns-in-Ok-clause-front g c =
-    let known = g.R.Read.remaining (tapped c.args.reader.now) in
-    let failed = has_failed c.answer.new.reader in
-    (c.deref.result.now, c.in-Ok.outcome, c.write_answer.ensures.front, rw c.deref.ensures.value (trace_answer c.args.request known failed c.in-Ok.text.items c.in-Ok.outcome c.in-Ok.ensures.judged c.in-Ok.ensures.text))
+    let found = c.in_ok-traced.field-0 in
+    trace_answer c.args.request known (has_failed c.read_asked.new.reader) found.text.items found.outcome c.in_ok-traced.ensures.judged (search rules)

@@ -1,0 +1,4 @@
+pub mod Answered
+pub mod Checked
+mod Notes
+mod Orders

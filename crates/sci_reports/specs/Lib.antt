@@ -1,0 +1,5 @@
+pub mod CheckAnswer
+pub mod EntryLines
+pub mod ExplainAnswer
+pub mod OrderAnswer
+pub mod TextReadings

@@ -1,0 +1,121 @@
+-- What `order` writes for its input.
+use Rattle.std.specs.Prelude.{◌≡◌, ◌↔◌, ℕ, Bool, List, [], ◌∷◌, ◌++◌, length, map, codes, Option, Some, None, if◌then◌else◌}
+use Rattle.std.specs.List.{AllByRecursion, flat_map}
+use Rattle.sci_words.specs.declared.stamped.Stamped.{Stamped}
+use Rattle.sci_history.specs.declared.entry.Entry.{Entry}
+use Rattle.sci_history.specs.declared.verdict.Verdict.TheVariants as verdicts
+use Rattle.sci_history.specs.declared.order_verdict.OrderVerdict.{OrderVerdict}
+use Rattle.sci_history.specs.declared.order_verdict.OrderVerdict.TheVariants.{Fault, Order, Cycle}
+use Rattle.sci_history.specs.declared.order_verdict.Reason.{Reason}
+use Rattle.sci_history.specs.declared.order_verdict.Reason.TheVariants as reasons
+use Rattle.sci_history.specs.declared.order_verdict.Step.{Step}
+use Rattle.sci_history.specs.Audit.{IsFault, entries_of}
+use Rattle.sci_history.specs.Lawful.{Lawful}
+use Rattle.sci_history.specs.Cycle.{IsOrderVerdict}
+use Rattle.sci_history.specs.Sequential.{IsSequentiallyConsistent, by_serial}
+use Rattle.sci_text.specs.Number.{field}
+use Rattle.sci_text.specs.FirstFault.{IsTold}
+use Rattle.sci_text.specs.Log.{entry_line, issue_text, outcome_text}
+use Rattle.sci_text.specs.LogFault.{IsLogFault}
+use Rattle.sci_text.specs.LogValue.{IsLogs}
+use Rattle.sci_command.specs.declared.outcome.Outcome.{Outcome}
+use Rattle.sci_command.specs.declared.outcome.Outcome.TheVariants.{Done, Unlawful, Refused}
+use Rattle.sci_command.specs.Input.{IsReadAs}
+use Rattle.sci_command.specs.Refusal.{IsRefusalBy}
+use Rattle.sci_command.specs.VerdictLine.{verdict_text}
+use Rattle.sci_reports.specs.declared.ordering.NodeOrder.{NodeOrder}
+use Rattle.sci_reports.specs.declared.ordering.NodeOrder.TheVariants.{Logged, BySerial}
+use Rattle.sci_reports.specs.declared.ordering.NumberedStep.{NumberedStep}
+use Rattle.sci_reports.specs.declared.ordering.OrderRequest.{OrderRequest}
+use Rattle.sci_reports.specs.EntryLines.{IsBeforeEntries, IsLineOf}
+
+-- each node's entries in the order that is asked for
+abbrev pub kept : NodeOrder → List (List Entry) → List (List Entry)
+kept Logged logs = logs
+kept BySerial logs = by_serial logs
+
+-- ---- texts
+
+-- the name of the order in which each node's entries have to stand
+unfoldable pub order_name : NodeOrder → List ℕ
+order_name Logged = codes "log order"
+order_name BySerial = codes "program order"
+
+-- why an entry comes after another
+unfoldable pub reason_text : NodeOrder → Reason → List ℕ
+reason_text keeps reasons.Logged = order_name keeps
+reason_text keeps reasons.ReadsFrom = codes "write before read"
+reason_text keeps reasons.FromRead = codes "read before write"
+reason_text keeps reasons.Coherence = codes "version order"
+
+-- the number of the line on which an entry stands
+unfoldable pub place_text : Option ℕ → List ℕ
+place_text None = []
+place_text (Some line) = codes "line" ++ (field line ++ codes ": ")
+
+-- why an entry of a cycle comes after the one on the next line, and the line feed
+unfoldable pub why_text : NodeOrder → Reason → List ℕ
+why_text keeps reason = codes " comes after the next: " ++ (reason_text keeps reason ++ 10 ∷ [])
+
+-- where an entry of a cycle stands, the entry, and why it comes after the one on the next line
+unfoldable pub step_text : NodeOrder → NumberedStep → List ℕ
+step_text keeps x = place_text x.line ++ ((issue_text x.step.entry ++ outcome_text x.step.entry) ++ why_text keeps x.step.reason)
+
+-- whether logs are sequentially consistent, and in which sense
+unfoldable pub sense_text : NodeOrder → List ℕ
+sense_text Logged = codes "sequentially consistent"
+sense_text BySerial = codes "sequentially consistent in program order"
+
+-- that there is no order, and the entries of a cycle
+unfoldable pub cycle_text : NodeOrder → List NumberedStep → List ℕ
+cycle_text keeps steps = codes "not " ++ (sense_text keeps ++ (10 ∷ [] ++ flat_map (step_text keeps) steps))
+
+-- the entries of an order, a line each, if they are asked for
+unfoldable pub shown_text : Bool → List Entry → List ℕ
+shown_text shows order = if shows then flat_map entry_line order else []
+
+-- that there is an order, and its entries
+unfoldable pub found_text : OrderRequest → List Entry → List ℕ
+found_text request order = sense_text request.keeps ++ (10 ∷ [] ++ shown_text request.shows order)
+
+-- entries of a cycle with the lines of the text on which they stand
+abbrev pub AreNumbered : ℕ → List (List Entry) → List Step → List NumberedStep → Type 0
+AreNumbered before logs steps numbered = (map (λ x. x.step) numbered ≡ steps) × AllByRecursion (λ x. IsLineOf before logs x.step.entry x.line) numbered
+
+-- the fault of logs that aren't lawful; an order; or a cycle
+abbrev pub IsOrderText : OrderRequest → ℕ → List (List Entry) → OrderVerdict → List ℕ → Type 0
+IsOrderText request before logs (Fault line kind at) text = text ≡ verdict_text (verdicts.Fault line kind at)
+IsOrderText request before logs (Order order) text = text ≡ found_text request (entries_of order.items)
+IsOrderText request before logs (Cycle steps) text = (numbered : List NumberedStep) × AreNumbered before logs steps.items numbered × (text ≡ cycle_text request.keeps numbered)
+
+-- ---- the answer
+
+-- the fault of logs that aren't lawful, or else what a search for an order of these finds, each node's entries in the order that is asked for
+abbrev pub IsVerdictOf : NodeOrder → List (List Entry) → List Stamped → OrderVerdict → Type 0
+IsVerdictOf keeps logs last (Fault line kind at) = IsFault logs last line kind at
+IsVerdictOf keeps logs last (Order order) = Lawful logs last × IsOrderVerdict (kept keeps logs) last (Order order)
+IsVerdictOf keeps logs last (Cycle steps) = Lawful logs last × IsOrderVerdict (kept keeps logs) last (Cycle steps)
+
+-- What a search for an order finds is written, where so many lines of the text come before the entries. It is Done exactly if the logs are lawful and there is such an order
+pub record IsFound (request : OrderRequest) (before : ℕ) (logs : List (List Entry)) (last : List Stamped) (text : List ℕ) (outcome : Outcome) : Type 0 where
+  pub verdict : OrderVerdict
+  pub found : IsVerdictOf request.keeps logs last verdict
+  pub written : IsOrderText request before logs verdict text
+  pub judged : outcome ≡ Refused → ⊥
+  pub ends : (outcome ≡ Done) ↔ (Lawful logs last × IsSequentiallyConsistent (kept request.keeps logs) last)
+
+-- the input is the text of logs with last contents, and what is found of them is written
+pub record IsOrderOf (request : OrderRequest) (input text : List ℕ) (outcome : Outcome) : Type 0 where
+  pub nodes : ℕ
+  pub logs : List (List Entry)
+  pub last : List Stamped
+  pub read : IsLogs input nodes logs last
+  pub before : ℕ
+  pub places : IsBeforeEntries input (length last) before
+  pub found : IsFound request before logs last text outcome
+
+-- what `order` writes, and how it ends, for the bytes of a reader, which has failed or not
+abbrev pub IsOrderAnswer : OrderRequest → Option (List ℕ) → Bool → List ℕ → Outcome → Type 0
+IsOrderAnswer request input failed text Done = IsReadAs input failed (λ bytes. IsOrderOf request bytes text Done)
+IsOrderAnswer request input failed text Unlawful = IsReadAs input failed (λ bytes. IsOrderOf request bytes text Unlawful)
+IsOrderAnswer request input failed text Refused = IsRefusalBy (λ kind line. IsTold IsLogFault kind input failed line) text

@@ -1,0 +1,107 @@
+//! The command `explain`: what is wrong with a log, line by line, and what would be right.
+
+ghost use Rattle.std.specs.Prelude.{◌≡◌, List, Option, false, length, IfOk, IfErr};
+ghost use Rattle.sci_history.specs.declared.faults.LineFault.{LineFault};
+ghost use Rattle.sci_history.specs.Audit.{AreFound, AreWithin};
+ghost use Rattle.sci_text.specs.FirstFault.{IsTold};
+ghost use Rattle.sci_text.specs.LogFault.{IsLogFault};
+ghost use Rattle.sci_text.specs.Tap.{has_failed, is_called_again, tapped};
+ghost use Rattle.sci_command.specs.declared.outcome.Outcome.{Outcome};
+ghost use Rattle.sci_reports.specs.ExplainAnswer.{AreNotes, IsExplainAnswer, IsExplained, IsNote};
+
+use crate::note::note_of;
+use crate::numbered::{Numbered, lines_before, numbered_by_line};
+use sci_command::{Answer, Outcome, verdict_line};
+use sci_history::{Last, LineFault, Logs, Verdict, audit, line_faults};
+use sci_text::{Tap, TextFault, logs_of, read_input};
+use sci_words::Stamped;
+use std::alloc::{AllocError, Global};
+use std::io::Read;
+
+/// What is written of a line of memory.
+fn piece(
+    alloc: Global,
+    line: u8,
+    fault: Option<LineFault>,
+    entries: &[Numbered],
+    last: Stamped,
+    last_line: usize,
+) -> Result<Vec<u8>, AllocError>
+    ensures { IfOk result (λ text. IsNote line fault text.items) }
+{
+    let Some(fault) = fault else {
+        return Ok(Vec::new(alloc));
+    };
+    let verdict = Verdict::Fault {
+        line,
+        kind: fault.kind,
+        at: fault.at,
+    };
+    let mut text = verdict_line(alloc, verdict)?;
+    let note = note_of(alloc, fault, entries, last, last_line)?;
+    text.extend_from_slice(&note)?;
+    Ok(text)
+}
+
+/// What is written of all lines of memory, of a log with so many lines of text before its entries.
+fn notes(alloc: Global, before: usize, logs: &Logs, last: &Last) -> Result<Vec<u8>, AllocError>
+    requires { AreWithin (length last.now) logs.now }
+    ensures { IfOk result (λ text. (faults : List (Option LineFault))
+        × AreFound logs.now last.now (length last.now) faults × AreNotes 0 faults text.items) }
+{
+    let lines = last.lines();
+    let faults = line_faults(alloc, logs, last)?;
+    let first_last = before.saturating_add(1).saturating_sub(lines as usize);
+    let lists = numbered_by_line(alloc, logs, lines, before.saturating_add(1))?;
+    let mut text = Vec::new(alloc);
+    for line in 0..lines {
+        let last_line = first_last.saturating_add(line as usize);
+        let entries = &lists[line as usize];
+        let fault = faults[line as usize];
+        let piece = piece(alloc, line, fault, entries, last.get(line), last_line)?;
+        text.extend_from_slice(&piece)?;
+    }
+    Ok(text)
+}
+
+/// What is written of logs, and how the command ends.
+fn explained(alloc: Global, before: usize, logs: &Logs, last: &Last) -> Result<Answer, AllocError>
+    requires { AreWithin (length last.now) logs.now }
+    ensures { IfOk result (λ x. IsExplained logs.now last.now x.text.items x.outcome) }
+{
+    let verdict = audit(alloc, logs, last)?;
+    match verdict {
+        Verdict::Lawful => Ok(Answer {
+            text: verdict_line(alloc, verdict)?,
+            outcome: Outcome::Done,
+        }),
+        Verdict::Fault { .. } => {
+            Ok(Answer {
+                text: notes(alloc, before, logs, last)?,
+                outcome: Outcome::Unlawful,
+            })
+        }
+    }
+}
+
+/// Reads a log to its end and audits it: `lawful` is Done. Of a log that isn't lawful it tells the first fault of each line of
+/// memory that has one, lowest lines first, and is Unlawful:
+/// - the line of an audit that tells the fault;
+/// - the line of the text that has the entry at fault, what was found there, and what one memory of one thread gives;
+/// - the entry at fault and those around it in the order of versions.
+///
+/// A text with a fault is refused, as are a reader that fails, too long an input and running out of memory, at line 0.
+/// After a failed read nothing more is read.
+pub fn explain<R: Read>(alloc: Global, reader: &mut Tap<R>) -> Result<Answer, TextFault>
+    requires { has_failed reader.old ≡ false }
+    ensures answer { IfOk result (λ answer.
+        IsExplainAnswer (R.remaining (tapped reader.old)) (has_failed reader.new)
+        answer.text.items answer.outcome) }
+    ensures fault { IfErr result (λ fault. IsTold IsLogFault fault.kind
+        (R.remaining (tapped reader.old)) (has_failed reader.new) fault.line) }
+    ensures again { is_called_again reader.new ≡ is_called_again reader.old }
+{
+    let bytes = read_input(alloc, reader)?;
+    let (_, logs, last) = logs_of(alloc, &bytes)?;
+    Ok(explained(alloc, lines_before(&bytes, &last), &logs, &last)?)
+}

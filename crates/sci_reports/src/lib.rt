@@ -1,0 +1,17 @@
+//! Reports on logs and on texts: one order of a log's entries, what is wrong with a log, and what a text is.
+#![tactic(auto)]
+
+mod checking;
+mod diagnosis;
+mod explaining;
+mod faulty;
+mod line_forms;
+mod line_words;
+mod note;
+mod numbered;
+mod ordering;
+mod text_lines;
+
+pub use checking::check;
+pub use explaining::explain;
+pub use ordering::{NodeOrder, OrderRequest, order};

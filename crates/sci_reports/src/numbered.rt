@@ -1,0 +1,125 @@
+//! The entries of a log with the lines of its text.
+
+ghost use Rattle.std.specs.Prelude.{◌≡◌, ◌≤◌, ◌<◌, ◌+◌, ◌*◌, ℕ, Some, IfOk, IfSome, IfNone, length, slice_get, take};
+ghost use Rattle.sci_words.specs.declared.limits.TheConstants.{MAX_LINES, MAX_NODES, MAX_OPERATIONS};
+ghost use Rattle.sci_history.specs.declared.entry.Entry.{Entry};
+ghost use Rattle.sci_history.specs.Placed.{log_of};
+ghost use Rattle.sci_text.specs.LogValue.{entry_count};
+ghost use Rattle.sci_reports.specs.EntryLines.{IsBeforeEntries, IsLineOf, IsOpening};
+
+use sci_history::{Entry, Last, Logs};
+use std::alloc::{AllocError, Global};
+
+/// An entry of a log, and the number of the line that has it in the log's text.
+#[derive(Clone, Copy)]
+pub struct Numbered<'a> {
+    /// The number of the text's line, from 1.
+    pub text_line: usize,
+    /// The entry.
+    pub entry: &'a Entry,
+}
+
+/// How many entries the logs of the nodes below this one have. A node has at most 65,536.
+pub fn entries_before(logs: &Logs, node: u8) -> usize
+    requires node { node ≤ MAX_NODES }
+    requires few { (n : ℕ) → length (log_of logs.now n) ≤ MAX_OPERATIONS }
+    ensures count { result ≡ entry_count (take node logs.now) }
+    ensures few { result ≤ node * MAX_OPERATIONS }
+{
+    let mut count = 0;
+    for lower in 0..node {
+        count += logs.of(lower).len();
+    }
+    count
+}
+
+/// How many lines a log's text has before those of the last contents: 1 in format 2, and 0 in format 1.
+fn opening_lines(text: &[u8]) -> usize
+    ensures is { IsOpening text.now result }
+    ensures few { result ≤ 1 }
+{
+    match text {
+        [b'l', b'o', b'g', b' ', ..] => 1,
+        _ => 0,
+    }
+}
+
+/// How many lines a log's text has before its entries.
+pub fn lines_before(text: &[u8], last: &Last) -> usize
+    ensures is { IsBeforeEntries text.now (length last.now) result }
+    ensures few { result ≤ MAX_LINES + 1 }
+{
+    opening_lines(text) + last.lines() as usize
+}
+
+/// The first place of a log at which an entry stands that has the serial and the line of memory of this one.
+fn place_of(log: &[Entry], entry: &Entry) -> Option<usize>
+    ensures some { IfSome result (λ place. (found : Entry)
+        × (slice_get log.now place ≡ Some found)
+        × (found.serial ≡ entry.now.serial) × (found.op.line ≡ entry.now.op.line)) }
+    ensures few { IfSome result (λ place. place < length log.now) }
+    ensures none { IfNone result ((place : ℕ) → place < length log.now → (found : Entry)
+        → slice_get log.now place ≡ Some found → found.serial ≡ entry.now.serial
+        → found.op.line ≡ entry.now.op.line → ⊥) }
+{
+    for place in 0..log.len() {
+        let found = log[place];
+        if found.serial == entry.serial && found.op.line == entry.op.line {
+            return Some(place);
+        }
+    }
+    None
+}
+
+/// The number of the text's line on which an entry stands, behind so many lines before all entries. None if it isn't in the
+/// logs. A node has at most 65,536 entries.
+pub fn line_of_entry(logs: &Logs, before: usize, entry: &Entry) -> Option<usize>
+    requires few { (n : ℕ) → length (log_of logs.now n) ≤ MAX_OPERATIONS }
+    requires before { before ≤ MAX_LINES + 1 }
+    ensures { IsLineOf before logs.now entry.now result }
+{
+    if entry.node >= logs.nodes() {
+        return None;
+    }
+    let place = place_of(logs.of(entry.node), entry)?;
+    Some(before + entries_before(logs, entry.node) + place + 1)
+}
+
+/// The entries on each of so many lines of memory, in the order of the text, if the first entry of all stands on this line
+/// of the text.
+pub fn numbered_by_line<'a>(
+    alloc: Global,
+    logs: &'a Logs,
+    lines: u8,
+    first: usize,
+) -> Result<Vec<Vec<Numbered<'a>>>, AllocError>
+    ensures { IfOk result (λ lists. length lists.items ≡ lines) }
+{
+    let mut lists = Vec::with_capacity(alloc, lines as usize)?;
+    for _ in 0..lines {
+        lists.push(Vec::new(alloc))?;
+    }
+    let mut text_line = first;
+    for node in 0..logs.nodes() {
+        for entry in logs.of(node) {
+            let line = usize::from(entry.op.line);
+            if line < lists.len() {
+                lists[line].push(Numbered { text_line, entry })?;
+            }
+            text_line = text_line.saturating_add(1);
+        }
+    }
+    Ok(lists)
+}
+
+/// The entries on one line of memory in the order of their versions: at each version its maker first, and of the others
+/// those of lower nodes and serials first.
+pub fn placed<'a>(
+    alloc: Global,
+    entries: &[Numbered<'a>],
+) -> Result<Vec<Numbered<'a>>, AllocError> {
+    let mut placed = Vec::from_slice(alloc, entries)?;
+    placed.sort_by_key(|it| (it.entry.node, it.entry.serial))?;
+    placed.sort_by_key(|it| (it.entry.version, !it.entry.op.is_maker()))?;
+    Ok(placed)
+}

@@ -1,7 +1,0 @@
-use Rattle.std.proofs.Common.{take}
-use Rattle.sciview.specs.ExplainAnswer.{AreNotes}
-use Rattle.sciview.proofs.explain.notes.Given as goal
-
--- what is written of the lines so far
-abbrev pub invariant-loop-line : goal.invariant-loop-line
-invariant-loop-line l = AreNotes 0 (take l.line l.faults.items) l.text.items

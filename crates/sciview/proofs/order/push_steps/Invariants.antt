@@ -1,8 +1,0 @@
-use Rattle.std.proofs.Common.{◌≡◌, ◌++◌, take}
-use Rattle.std.specs.List.{flat_map}
-use Rattle.sciview.specs.OrderAnswer.{step_text}
-use Rattle.sciview.proofs.order.push_steps.Given as goal
-
--- the lines of the entries so far
-abbrev pub invariant-loop-step : goal.invariant-loop-step
-invariant-loop-step l = l.out.items ≡ l.fn.out.items ++ flat_map (step_text l.keeps) (take l.step-index l.steps)
