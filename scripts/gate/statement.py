@@ -2,15 +2,17 @@
 """Lists the definitions on which a contract stands:
 
     scripts/gate/statement.py                 how many lines each headline contract stands on
-    scripts/gate/statement.py audit [lawful]  its definitions, file by file, in reading order; of its clauses of these names alone
-    scripts/gate/statement.py --table         the table of docs/ASSURANCE.md
-    scripts/gate/statement.py --write         puts the table into that page
-    scripts/gate/statement.py --check         whether that table is current; the last line is 'N passed, M failed'
+    scripts/gate/statement.py audit [lawful]  its definitions, file by file, in reading order; of its clauses of these names alone,
+                                              or of these fields of its records, as IsThreadsOf.lawful
+    scripts/gate/statement.py --table         the tables of docs/ASSURANCE.md
+    scripts/gate/statement.py --write         puts the tables into that page
+    scripts/gate/statement.py --check         whether those tables are current; the last line is 'N passed, M failed'
 
 What a contract stands on is what its clauses name, what those definitions name, and so on: definitions of specs/, types and
-constants of src/, and what contracts see of a type (the `Value` of its `Model`). What the language's library defines isn't followed. Files
-come lowest crate first, in the order of crates.txt and of the crate's specs/Lib.antt. A line is counted once, with the comment
-above a definition, and without empty lines."""
+constants of src/, and what contracts see of a type (the `Value` of its `Model`). What the language's library defines isn't followed, and
+neither is the type of a field that no definition reads, since such a field is only copied or compared. Files come lowest crate
+first, in the order of crates.txt and of the crate's specs/Lib.antt. A line is counted once, with the comment above a definition,
+and without empty lines."""
 
 import os
 import re
@@ -29,8 +31,24 @@ HEADLINES = {
     "threads": ("scimem", "threads", "threads", None),
     "order": ("sci_reports", "ordering", "order", None),
 }
-# The clauses that say the main thing alone, where a contract says more.
-CLAUSES = {"audit": ["lawful"], "sequential_order": ["order"], "Machine::run": ["ok"], "Fabric::finish": ["lawful", "consistent"]}
+# Contracts of which docs/ASSURANCE.md counts a main promise alone.
+OTHERS = {
+    "Machine::last": ("sci_core", "machine", "last", "Machine"),
+    "run_nodes": ("sci_threads", "running", "run_nodes", None),
+}
+# Main promises: the words for one, the headline or other contract that has it, and the names of its clauses, or of the fields of
+# the records that say it.
+PROMISES = [
+    ("Lawful exactly if the logs are lawful", "audit", ["lawful"]),
+    ("An order exactly if the logs are sequentially consistent", "sequential_order", ["order"]),
+    ("The machine's logs are lawful and sequentially consistent", "Machine::last", ["lawful", "consistent"]),
+    ("The machine does what the rules of the protocol say", "Machine::run", ["ok"]),
+    ("So are the logs of stations", "Fabric::finish", ["lawful", "consistent"]),
+    ("So are the logs of threads, and they are the script's", "run_nodes", ["named", "whole", "lawful", "consistent"]),
+    ("What is written is the oracle's text of the script", "oracle", ["IsOracleOf.good", "IsOracleOf.read", "IsOracleOf.written"]),
+    ("What is written is such a log of the script", "threads", [f"IsThreadsOf.{it}" for it in ("good", "read", "written", "lawful", "consistent", "named", "whole")]),
+    ("Done exactly if the log that is read is lawful and sequentially consistent", "order", ["IsOrderOf.read", "IsOrderOf.found", "IsFound.ends"]),
+]
 PAGE = "docs/ASSURANCE.md"
 MARKS = ("<!-- made by scripts/gate/statement.py --table -->", "<!-- end -->")
 
@@ -159,18 +177,32 @@ def meant(path, name):
     return of_type(file, taken[4]) if len(taken) > 4 else []
 
 
-def types_in(definition):
-    """What contracts see of the types of the public fields, or of the variants, of a type of the code."""
-    is_enum, lines = "pub enum" in definition.text, definition.text.split("\n")
-    shown = (it for it in lines if not it.lstrip().startswith("//") and (is_enum or re.match(r"\s*pub \w+:", it)))
-    for name in sorted(set(re.findall(r"\b[A-Z]\w+", " ".join(shown)))):
-        yield from of_type(type_home(name), name) if type_home(name) else []
+def without_comments(text):
+    return re.sub(r"(?:--|//).*", "", text)
 
 
-def names_in(definition):
-    """The names that a definition uses, comments left out."""
-    text = re.sub(r"(?:--|//).*", "", definition.text)
-    return set(NAME.findall(text))
+def fields_of(definition):
+    """The fields of a type whose values have fields, each with the text of its type: of a record without parameters, or the public
+    fields of a struct. None for any other definition. (A record with parameters is a statement, and its fields are what it says.)"""
+    text = without_comments(definition.text)
+    if re.search(rf"^(?:\w+ )*record {definition.name} : ", text, re.MULTILINE):
+        return re.findall(r"^  pub ([\w-]+) : (.*(?:\n   .*)*)", text, re.MULTILINE)
+    if re.search(r"^pub struct ", text, re.MULTILINE):
+        return re.findall(r"^\s*pub (\w+): (.*)", text, re.MULTILINE)
+    return None
+
+
+def named_by(definition, text):
+    """The definitions that a text, which is a definition or a part of it, names."""
+    if not definition.path.endswith(".rt") or "ghost Value" in text or "ensures" in text:
+        return [it for name in set(NAME.findall(text)) for it in meant(definition.path, name)]
+    types = sorted(set(re.findall(r"\b[A-Z]\w+", text)))
+    return [it for name in types if type_home(name) for it in of_type(type_home(name), name)]
+
+
+def fields_read(text):
+    """The names of the fields that a text reads or sets."""
+    return set(re.findall(r"\.([a-z][\w-]*)", text)) | set(re.findall(r"([a-z][\w-]*) = ", text))
 
 
 def contract(crate, module, name, owner, clauses):
@@ -190,24 +222,52 @@ def contract(crate, module, name, owner, clauses):
     return Definition(path, name, own, "\n".join(lines[it] for it in own)), types | {owner} - {None}
 
 
-def statement(name, clauses):
-    """All definitions that a contract, or its clauses of these names, stand on."""
-    head, types = contract(*HEADLINES[name], clauses)
-    found, left = {}, [head]
-    for it in types:
-        file = type_home(it)
-        left += of_type(file, it) if file else []
+def with_fields(record, kept):
+    """A record with these of its fields alone, and the fields that they speak of."""
+    texts = {number: lines_of(record.path)[number] for number in record.lines}
+    fields = {it[1]: number for number, text in texts.items() if (it := re.match(r"  pub (\w+) : ", text))}
+    wanted = set(kept)
+    for it in reversed(fields):
+        wanted |= {name for name in NAME.findall(texts[fields[it]]) if name in fields} if it in wanted else set()
+    left_out = {fields[it] for it in fields if it not in wanted}
+    lines = [number for number in record.lines if number not in left_out]
+    return Definition(record.path, record.name, lines, "\n".join(texts[it] for it in lines))
+
+
+def start(name, parts):
+    """Where to begin: at a contract, or its clauses of these names; or at the first record of which these are fields. And those records."""
+    home = {**HEADLINES, **OTHERS}[name]
+    head, types = contract(*home, [it for it in parts if "." not in it])
+    named = [it.split(".") for it in parts if "." in it]
+    if not named:
+        return head, [one for it in types if type_home(it) for one in of_type(type_home(it), it)], {}
+    folder = f"crates/{home[0]}/specs"
+    files = (f"{folder}/{it}.antt" for it in re.findall(r"pub mod (\w+)", "\n".join(lines_of(f"{folder}/Lib.antt"))))
+    records = {it.name: it for file in files for it in spec(file).values()}
+    cut = {record: with_fields(records[record], [it for one, it in named if one == record]) for record, _ in named}
+    return head, [cut[named[0][0]]], cut
+
+
+def statement(name, parts):
+    """All definitions that a contract stands on, or those parts of it."""
+    head, left, cut = start(name, parts)
+    found, read, waiting = {}, set(), []
+    left = left if cut else [head, *left]
     while left:
         it = left.pop()
         if (it.path, it.name) in found:
             continue
-        found[it.path, it.name] = it
-        if re.search(r"^pub (?:struct|enum) ", it.text, re.MULTILINE):
-            left += types_in(it)
-            continue
-        for used in names_in(it):
-            left += meant(it.path, used)
-    del found[head.path, head.name]
+        it = found[it.path, it.name] = cut.get(it.name, it)
+        fields = fields_of(it)
+        if fields is None:
+            text = without_comments(it.text)
+            read |= fields_read(text)
+            left += named_by(it, text)
+        else:
+            waiting += [(it, field, text) for field, text in fields]
+        left += [one for owner, field, text in waiting if field in read for one in named_by(owner, text)]
+        waiting = [one for one in waiting if one[1] not in read]
+    found.pop((head.path, head.name), None)
     return found.values()
 
 
@@ -221,37 +281,48 @@ def place(path):
     return crates().index(crate), 1, f"{listed.index(file[:-5]):03}"
 
 
-def by_file(name, clauses=()):
+def by_file(name, parts=()):
     """The lines and the names of the definitions of each file, in reading order."""
     files = {}
-    for it in statement(name, clauses):
+    for it in statement(name, parts):
         lines, names = files.setdefault(it.path, (set(), []))
         lines.update(it.lines)
         names.append((it.lines[0], it.name))
     return {path: (len(lines), [it for _, it in sorted(names)]) for path, (lines, names) in sorted(files.items(), key=lambda it: place(it[0]))}
 
 
-def total(name, clauses=()):
-    return sum(count for count, _ in by_file(name, clauses).values())
+def total(name, parts=()):
+    return sum(count for count, _ in by_file(name, parts).values())
+
+
+def drawn(rows):
+    return ["| " + " | ".join(row) + " |" for row in rows]
 
 
 def table():
+    """The table of headline contracts."""
     each = {name: by_file(name) for name in HEADLINES}
     files = sorted({path for it in each.values() for path in it}, key=place)
     rows = [["File", *(f"`{it}`" for it in each)], ["---"] * (len(each) + 1)]
     rows += [[f"`{path[7:]}`", *(str(it[path][0]) if path in it else "" for it in each.values())] for path in files]
     rows.append(["**all**", *(f"**{total(it)}**" for it in each)])
-    rows.append(["one clause alone", *(f"{total(it, CLAUSES[it])} ({', '.join(CLAUSES[it])})" if it in CLAUSES else "" for it in each)])
-    return ["| " + " | ".join(row) + " |" for row in rows]
+    return drawn(rows)
+
+
+def promises():
+    """The table of main promises."""
+    rows = [["Promise", "Contract", "Clauses, or fields of records", "Lines"], ["---"] * 4]
+    rows += [[said, f"`{name}`", ", ".join(f"`{it}`" for it in parts), str(total(name, parts))] for said, name, parts in PROMISES]
+    return drawn(rows)
 
 
 def main(words):
     if words == ["--table"]:
-        print("\n".join(table()))
+        print("\n".join([*promises(), "", *table()]))
     elif words in (["--check"], ["--write"]):
         page = "\n".join(lines_of(PAGE))
         front, old, back = re.fullmatch(rf"(.*{MARKS[0]}\n)(.*)({MARKS[1]}.*)", page, re.DOTALL).groups()
-        new = "\n".join(["", *table(), "", ""])
+        new = "\n".join(["", *promises(), "", *table(), "", ""])
         if words == ["--write"]:
             with open(f"{TOP}/{PAGE}", "w", encoding="utf-8") as file:
                 file.write(front + new + back)
