@@ -1,12 +1,15 @@
 //! The lines that packets are printed as.
 
-ghost use Rattle.std.specs.Prelude.{◌≡◌, ◌++◌, OnOk};
+ghost use Rattle.std.specs.Prelude.{◌≡◌, ◌≤◌, ◌+◌, ◌++◌, length, OnOk};
+ghost use Rattle.std.specs.List.{flat_map};
+ghost use Rattle.sci_words.specs.declared.limits.TheConstants.{MAX_TEXT_LINE_BYTES};
+ghost use Rattle.sci_text.specs.Number.{field};
 ghost use Rattle.sci_command.specs.PacketLine.{name_of, identifier_text, contents_text, said_text, packet_line};
 
 use crate::printing::push_labelled;
 use sci_packets::{Body, NodeId, Packet};
-use sci_text::{push_field, push_number};
-use sci_words::Stamped;
+use sci_text::LineEnd;
+use sci_words::{Line, Stamped, WORDS_PER_LINE};
 use std::alloc::AllocError;
 
 /// The name of a command, as `mread`.
@@ -48,17 +51,38 @@ pub fn push_identifier(out: &mut Vec<u8>, identifier: Option<NodeId>) -> Result<
     }
 }
 
-/// Appends contents: ` @V`, their version, and the eight words, with a space before each. Refused if memory is.
+/// Puts the words of a line, with a space before each. The caller sees to it that there is room for eight fields.
+fn put_words(end: &mut LineEnd, line: &Line)
+    requires { 168 + length end.old ≤ MAX_TEXT_LINE_BYTES }
+    ensures text { end.new ≡ flat_map field line.now ++ end.old }
+    ensures short { length end.new ≤ 168 + length end.old }
+{
+    let words = line.words();
+    for done in 0..WORDS_PER_LINE {
+        end.put_field(words[WORDS_PER_LINE - 1 - done]);
+    }
+}
+
+/// Puts contents: ` @V`, their version, and the eight words, with a space before each. The caller sees to it that there is
+/// room for 190 bytes.
 #[tactic(auto, unfolding(crate::specs::PacketLine::contents_text))]
+pub fn put_contents(end: &mut LineEnd, contents: &Stamped)
+    requires { 190 + length end.old ≤ MAX_TEXT_LINE_BYTES }
+    ensures text { end.new ≡ contents_text contents.now ++ end.old }
+    ensures short { length end.new ≤ 190 + length end.old }
+{
+    put_words(end, &contents.line);
+    end.put_number(contents.version);
+    end.put_text(" @");
+}
+
+/// Appends contents, as `put_contents` puts them. Refused if memory is.
 pub fn push_contents(out: &mut Vec<u8>, contents: &Stamped) -> Result<(), AllocError>
     ensures { OnOk result (out.new.items ≡ out.old.items ++ contents_text contents.now) }
 {
-    out.extend_from_slice(b" @")?;
-    push_number(out, contents.version)?;
-    for place in 0..8 {
-        push_field(out, contents.line.word(place))?;
-    }
-    Ok(())
+    let mut end = LineEnd::new();
+    put_contents(&mut end, contents);
+    out.extend_from_slice(end.as_slice())
 }
 
 /// Appends what a command says behind its header.

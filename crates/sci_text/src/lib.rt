@@ -28,6 +28,7 @@ mod tap;
 mod writing;
 
 pub use fault::{TextFault, TextFaultKind};
+pub use line_end::LineEnd;
 pub use log_laws::{no_log_fault, one_log, one_log_fault, written_again};
 pub use log_lines::logs_of;
 pub use log_reading::read_logs;

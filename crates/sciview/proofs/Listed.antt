@@ -10,7 +10,7 @@ use Rattle.sci_core.specs.Shape.{IsAuthority}
 use Rattle.sci_core.specs.Sharing.{last_at}
 use Rattle.sci_core.specs.SharingList.{IsSharingList}
 use Rattle.sciview.specs.ListsAnswer.{AreListed, IsAuthorityOf, IsListLine, IsListed, authority_text, home_name_text, last_text, listed_line, list_text, member_text, place_text}
-use Rattle.sciview.proofs.Joined.{joined, joined4}
+use Rattle.sciview.proofs.Joined.{joined, joined3}
 
 -- ---- the list of a line
 
@@ -19,13 +19,13 @@ authority_judged core line None found none = none refl
 authority_judged core line (Some n) found none = found
 
 -- what was appended of a line
-pub list_appended : (core : Core) (line home_node : ℕ) (old n1 n2 n3 n4 home nodes : List ℕ) (authority : Option ℕ) (last : Stamped) → home_node ≡ line % core.size.nodes → home ≡ home_name_text core home_node line → last ≡ last_at core line
-    → IsSharingList core line nodes → IsAuthorityOf core line authority → n1 ≡ old ++ home → n2 ≡ n1 ++ flat_map (member_text core line) nodes → n3 ≡ n2 ++ authority_text authority → n4 ≡ n3 ++ last_text last
-    → (text : List ℕ) × (n4 ≡ old ++ text) × IsListLine core line text
+pub list_appended : (core : Core) (line home_node : ℕ) (old n1 n2 n3 home nodes : List ℕ) (authority : Option ℕ) (last : Stamped) → home_node ≡ line % core.size.nodes → home ≡ home_name_text core home_node line → last ≡ last_at core line
+    → IsSharingList core line nodes → IsAuthorityOf core line authority → n1 ≡ old ++ home → n2 ≡ n1 ++ flat_map (member_text core line) nodes → n3 ≡ n2 ++ (authority_text authority ++ last_text last)
+    → (text : List ℕ) × (n3 ≡ old ++ text) × IsListLine core line text
 unfolding list_text
-list_appended core line home_node old n1 n2 n3 n4 home nodes authority last is_node is_home is_last list judged e1 e2 e3 e4 =
-    let whole = joined4 old home (flat_map (member_text core line) nodes) (authority_text authority) (last_text last) n1 n2 n3 n4 e1 e2 e3 e4 in
-    let told : n4 ≡ old ++ list_text core line nodes authority = rw (is_home, is_last, is_node) at whole in
+list_appended core line home_node old n1 n2 n3 home nodes authority last is_node is_home is_last list judged e1 e2 e3 =
+    let whole = joined3 old home (flat_map (member_text core line) nodes) (authority_text authority ++ last_text last) n1 n2 n3 e1 e2 e3 in
+    let told : n3 ≡ old ++ list_text core line nodes authority = rw (is_home, is_last, is_node) at whole in
     (list_text core line nodes authority, told, record { nodes = nodes; list = list; authority = authority; judged = judged; written = refl })
 
 -- ---- an event
@@ -39,11 +39,10 @@ pub none_listed : (k : ℕ) (old : List ℕ) (line : Option ℕ) (next : Option 
 none_listed k old line next idle = ([], sym (append-nil old), rw idle (nothing_listed k line))
 
 -- of one that leads to another state, the list of its line
-pub event_listed : (k line : ℕ) (within : Option ℕ) (stepped : Option Core) (next : Core) (old n1 n2 n3 : List ℕ) → Some line ≡ within → stepped ≡ Some next → n1 ≡ old ++ place_text k line → n2 ≡ n1 ++ codes ": "
-    → (text : List ℕ) × (n3 ≡ n2 ++ text) × IsListLine next line text → (text : List ℕ) × (n3 ≡ old ++ text) × IsListed k within stepped text
-event_listed k line within stepped next old n1 n2 n3 is done e1 e2 list =
-    let front = joined old (place_text k line) (codes ": ") n1 n2 e1 e2 in
-    let whole = joined old (place_text k line ++ codes ": ") list.0 n2 n3 front list.1 in
+pub event_listed : (k line : ℕ) (within : Option ℕ) (stepped : Option Core) (next : Core) (old n1 n2 : List ℕ) → Some line ≡ within → stepped ≡ Some next → n1 ≡ old ++ (place_text k line ++ codes ": ")
+    → (text : List ℕ) × (n2 ≡ n1 ++ text) × IsListLine next line text → (text : List ℕ) × (n2 ≡ old ++ text) × IsListed k within stepped text
+event_listed k line within stepped next old n1 n2 is done e1 list =
+    let whole = joined old (place_text k line ++ codes ": ") list.0 n1 n2 e1 list.1 in
     let told = whole ∙ ap (λ (l : List ℕ). old ++ l) (append_assoc (place_text k line) (codes ": ") list.0) in
     let listed : IsListed k (Some line) (Some next) (place_text k line ++ (codes ": " ++ list.0)) = (list.0, list.2, refl) in
     (place_text k line ++ (codes ": " ++ list.0), told, rw (← is, done) listed)

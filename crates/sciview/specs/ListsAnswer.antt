@@ -38,9 +38,13 @@ home_name_text core n line =
     then home_name (home_of (node_at core n) line)
     else []
 
+-- ` -> N `
+unfoldable pub front_text : ℕ → List ℕ
+front_text n = codes " -> " ++ (number n ++ codes " ")
+
 -- a member of a list: ` -> N STATE`
 unfoldable pub member_text : Core → ℕ → ℕ → List ℕ
-member_text core line n = codes " -> " ++ (number n ++ (codes " " ++ name_text core n line))
+member_text core line n = front_text n ++ name_text core n line
 
 -- the node that may change the line or is about to, if there is one
 unfoldable pub authority_text : Option ℕ → List ℕ

@@ -1,21 +1,22 @@
 //! The command `lists`: the sharing list of a line behind each event that may have changed it.
 
-ghost use Rattle.std.specs.Prelude.{◌≡◌, ◌++◌, ◌<◌, ℕ, List, false, IfOk, IfErr, IfSome, OnOk};
+ghost use Rattle.std.specs.Prelude.{◌≡◌, ◌≤◌, ◌+◌, ◌++◌, ◌<◌, ℕ, List, [], codes, length, false, IfOk, IfErr, IfSome, OnOk};
 ghost use Rattle.std.specs.List.{flat_map};
+ghost use Rattle.sci_words.specs.declared.limits.TheConstants.{MAX_TEXT_LINE_BYTES};
 ghost use Rattle.sci_core.specs.Core.{step, stepping};
 ghost use Rattle.sci_text.specs.Tap.{has_failed, is_called_again, tapped};
 ghost use Rattle.sci_command.specs.declared.outcome.Outcome.{Outcome};
 ghost use Rattle.sciview.specs.AskedLine.{IsAskedFault};
 ghost use Rattle.sciview.specs.PacketsAnswer.{before};
 ghost use Rattle.sciview.specs.TraceAnswer.{line_changed as line_changed_of};
-ghost use Rattle.sciview.specs.ListsAnswer.{AreListed, IsListLine, IsListed, IsListsAnswer, authority_text, home_name_text, last_text, line_within, listed_line as listed_line_of, member_text, name_text, place_text};
+ghost use Rattle.sciview.specs.ListsAnswer.{AreListed, IsListLine, IsListed, IsListsAnswer, authority_text, front_text, home_name_text, last_text, line_within, listed_line as listed_line_of, member_text, name_text, place_text};
 
 use crate::asked_line::{is_asked, read_asked};
 use crate::event_words::line_changed;
 use crate::state_words::{home_name, state_name};
-use sci_command::{Answer, Outcome, push_contents, push_labelled};
+use sci_command::{Answer, Outcome, put_contents};
 use sci_core::{ApplyFault, Machine};
-use sci_text::{Schedule, Tap, TextFault, push_number, push_text};
+use sci_text::{LineEnd, Schedule, Tap, TextFault, push_number, push_text};
 use sci_words::{Event, MAX_OPERATIONS, Stamped};
 use std::alloc::{AllocError, Global};
 use std::io::Read;
@@ -73,14 +74,51 @@ fn home_name_at(machine: &Machine, n: u8, line: u8) -> &'static str
     ""
 }
 
+/// What stands before the state of a member of a list, if its number is below sixteen.
+#[tactic(auto, unfolding(crate::specs::ListsAnswer::front_text, sci_text::specs::Number::number))]
+fn member_front(n: u8) -> Option<&'static str>
+    ensures { IfSome result (λ front. front.now ≡ front_text n) }
+{
+    match n {
+        0 => Some(" -> 0 "),
+        1 => Some(" -> 1 "),
+        2 => Some(" -> 2 "),
+        3 => Some(" -> 3 "),
+        4 => Some(" -> 4 "),
+        5 => Some(" -> 5 "),
+        6 => Some(" -> 6 "),
+        7 => Some(" -> 7 "),
+        8 => Some(" -> 8 "),
+        9 => Some(" -> 9 "),
+        10 => Some(" -> 10 "),
+        11 => Some(" -> 11 "),
+        12 => Some(" -> 12 "),
+        13 => Some(" -> 13 "),
+        14 => Some(" -> 14 "),
+        15 => Some(" -> 15 "),
+        _ => None,
+    }
+}
+
+/// Appends what stands before the state of a member. It is one piece, since a long schedule has millions of members.
+#[tactic(auto, unfolding(crate::specs::ListsAnswer::front_text))]
+fn push_front(out: &mut Vec<u8>, n: u8) -> Result<(), AllocError>
+    ensures { OnOk result (out.new.items ≡ out.old.items ++ front_text n) }
+{
+    if let Some(front) = member_front(n) {
+        return push_text(out, front);
+    }
+    push_text(out, " -> ")?;
+    push_number(out, u64::from(n))?;
+    push_text(out, " ")
+}
+
 /// Appends a member of a list.
 #[tactic(auto, unfolding(crate::specs::ListsAnswer::member_text))]
 fn push_member(out: &mut Vec<u8>, machine: &Machine, line: u8, n: u8) -> Result<(), AllocError>
     ensures { OnOk result (out.new.items ≡ out.old.items ++ member_text machine.now line n) }
 {
-    push_text(out, " -> ")?;
-    push_number(out, u64::from(n))?;
-    push_text(out, " ")?;
+    push_front(out, n)?;
     push_text(out, name_at(machine, n, line))
 }
 
@@ -100,25 +138,42 @@ fn push_members(
     Ok(())
 }
 
-/// Appends the node that may change a line, if there is one.
+/// Puts the node that may change a line, if there is one. The caller sees to it that there is room for 32 bytes.
 #[tactic(auto, unfolding(crate::specs::ListsAnswer::authority_text))]
-fn push_authority(out: &mut Vec<u8>, authority: Option<u8>) -> Result<(), AllocError>
-    ensures { OnOk result (out.new.items ≡ out.old.items ++ authority_text authority) }
+fn put_authority(end: &mut LineEnd, authority: Option<u8>)
+    requires { 32 + length end.old ≤ MAX_TEXT_LINE_BYTES }
+    ensures { end.new ≡ authority_text authority ++ end.old }
 {
     match authority {
-        None => Ok(()),
-        Some(n) => push_labelled(out, b"; authority", u64::from(n)),
+        None => {}
+        Some(n) => {
+            end.put_field(u64::from(n));
+            end.put_text("; authority");
+        }
     }
 }
 
-/// Appends the last contents of a line, and the line feed.
+/// Puts the last contents of a line, and the line feed. The caller sees to it that there is room for 197 bytes.
 #[tactic(auto, unfolding(crate::specs::ListsAnswer::last_text))]
-fn push_last(out: &mut Vec<u8>, contents: &Stamped) -> Result<(), AllocError>
-    ensures { OnOk result (out.new.items ≡ out.old.items ++ last_text contents.now) }
+fn put_last(end: &mut LineEnd, contents: &Stamped)
+    requires { end.old ≡ [] }
+    ensures text { end.new ≡ last_text contents.now }
+    ensures short { length end.new ≤ 197 }
 {
-    push_text(out, "; last")?;
-    push_contents(out, contents)?;
-    push_text(out, "\n")
+    end.put_text("\n");
+    put_contents(end, contents);
+    end.put_text("; last");
+}
+
+/// Appends the node that may change a line, if there is one, the line's last contents, and the line feed.
+fn push_last(out: &mut Vec<u8>, authority: Option<u8>, contents: &Stamped) -> Result<(), AllocError>
+    ensures { OnOk result (out.new.items
+        ≡ out.old.items ++ (authority_text authority ++ last_text contents.now)) }
+{
+    let mut end = LineEnd::new();
+    put_last(&mut end, contents);
+    put_authority(&mut end, authority);
+    out.extend_from_slice(end.as_slice())
 }
 
 /// Appends the home of a line, its list, its authority and its last contents.
@@ -136,17 +191,21 @@ fn push_list(
     let home = line % machine.extent().nodes;
     push_text(out, home_name_at(machine, home, line))?;
     push_members(out, machine, line, &sharing.nodes)?;
-    push_authority(out, sharing.authority)?;
-    push_last(out, &sharing.last)
+    push_last(out, sharing.authority, &sharing.last)
 }
 
 /// Appends the number of an event's line in the schedule, and the line of memory that the event is about.
 #[tactic(auto, unfolding(crate::specs::ListsAnswer::place_text))]
 fn push_place(out: &mut Vec<u8>, number: u64, line: u8) -> Result<(), AllocError>
-    ensures { OnOk result (out.new.items ≡ out.old.items ++ place_text number line) }
+    ensures { OnOk result
+        (out.new.items ≡ out.old.items ++ (place_text number line ++ codes ": ")) }
 {
-    push_number(out, number)?;
-    push_labelled(out, b" line", u64::from(line))
+    let mut end = LineEnd::new();
+    end.put_text(": ");
+    end.put_field(u64::from(line));
+    end.put_text(" line");
+    end.put_number(number);
+    out.extend_from_slice(end.as_slice())
 }
 
 /// Where an event stands in the schedule, and the line of memory whose list is shown behind it, if one is.
@@ -178,7 +237,6 @@ fn push_listed(
         return Ok(());
     };
     push_place(out, place.number, line)?;
-    push_text(out, ": ")?;
     push_list(alloc, out, machine, line)
 }
 
