@@ -33,6 +33,10 @@ impl Random {
         if bound == 0 {
             return 0;
         }
+        // A mask in place of a division, which takes much longer: most machines have a power of two nodes and lines.
+        if bound.is_power_of_two() {
+            return (self.step() & u64::from(bound - 1)) as u8;
+        }
         (self.step() % u64::from(bound)) as u8
     }
 

@@ -10,7 +10,7 @@ ghost use Rattle.sciview.specs.RandomAnswer.{IsWalked};
 use crate::deed::applied;
 use sci_cache::Held;
 use sci_chance::{Random, any_kind, any_line, any_operation};
-use sci_core::{LaneKind, Machine, node_of};
+use sci_core::{LaneKind, Machine, Node, node_of};
 use sci_text::{Schedule, TextFault, TextFaultKind};
 use sci_words::{AskKind, Event, Extent, MAX_OPERATIONS};
 use std::alloc::{AllocError, Global};
@@ -93,39 +93,68 @@ fn is_under_way(machine: &Machine, kind: LaneKind, from: u8, to: u8) -> bool {
     from < nodes && to < nodes && machine.count(kind, from, to) > 0
 }
 
-/// Whether an event may be enabled at a node in place of its own, as far as a quick look tells: false only if it isn't.
-fn may_happen(machine: &Machine, event: &Event, n: u8) -> bool {
-    if n >= machine.extent().nodes {
-        return false;
-    }
-    let node = machine.node(n);
-    match *event {
-        Event::Issue { op, .. } => node.may_issue(&op),
-        Event::Perform { line, .. } => node.may_perform(line),
-        Event::Ask { line, kind, .. } => {
-            line < node.extent().lines && may_ask(node.held(line), kind)
-        }
-        Event::Serve { from, .. } | Event::Refuse { from, .. } => {
-            node.waiting().is_none() && is_under_way(machine, LaneKind::Requests, from, n)
-        }
-        Event::Reply { .. } => node.waiting().is_some(),
-        Event::Accept { from, .. } => is_under_way(machine, LaneKind::Answers, from, n),
-    }
+/// The circle of all nodes, from one of them on.
+#[derive(Clone, Copy)]
+struct Circle {
+    first: u8,
+    nodes: u8,
 }
 
-/// How many steps behind an event's own node, and no fewer than so many, the first node stands where the event may be
-/// enabled. None if there is none in the circle of all nodes.
-fn steps_to(machine: &Machine, event: &Event, from: u8, extent: Extent) -> Option<u8>
-    requires { node_of_event event.now < extent.nodes }
-    ensures { IfSome result (λ steps. steps < extent.nodes) }
+/// How many steps behind the first node of a circle, and no fewer than so many, a node stands that passes. None if there is
+/// none in the circle.
+fn steps_to_one<F: Fn(&Node) -> bool>(
+    machine: &Machine,
+    circle: Circle,
+    least: u8,
+    passes: F,
+) -> Option<u8>
+    requires first { circle.first < circle.nodes }
+    requires callable { F.IsAlwaysCallable passes }
+    ensures { IfSome result (λ steps. steps < circle.nodes) }
 {
-    let own = node_of(event);
-    for steps in from..extent.nodes {
-        if may_happen(machine, event, turn(own, steps, extent.nodes)) {
+    for steps in least..circle.nodes {
+        let n = turn(circle.first, steps, circle.nodes);
+        if n < machine.extent().nodes && passes(machine.node(n)) {
             return Some(steps);
         }
     }
     None
+}
+
+/// How many steps behind an event's own node, and no fewer than so many, the first node stands where the event may be
+/// enabled, as far as a quick look tells: a node that is passed over doesn't enable it. None if there is none in the circle
+/// of all nodes. Each sort of event has its own walk, since most draws walk the whole circle.
+fn steps_to(machine: &Machine, event: &Event, least: u8, extent: Extent) -> Option<u8>
+    requires { node_of_event event.now < extent.nodes }
+    ensures { IfSome result (λ steps. steps < extent.nodes) }
+{
+    let circle = Circle {
+        first: node_of(event),
+        nodes: extent.nodes,
+    };
+    match *event {
+        Event::Issue { op, .. } => {
+            steps_to_one(machine, circle, least, |node| node.may_issue(&op))
+        }
+        Event::Perform { line, .. } => {
+            steps_to_one(machine, circle, least, |node| node.may_perform(line))
+        }
+        Event::Ask { line, kind, .. } => steps_to_one(machine, circle, least, |node| {
+            line < node.extent().lines && may_ask(node.held(line), kind)
+        }),
+        Event::Serve { from, .. } | Event::Refuse { from, .. } => {
+            steps_to_one(machine, circle, least, |node| {
+                node.waiting().is_none()
+                    && is_under_way(machine, LaneKind::Requests, from, node.me())
+            })
+        }
+        Event::Reply { .. } => {
+            steps_to_one(machine, circle, least, |node| node.waiting().is_some())
+        }
+        Event::Accept { from, .. } => steps_to_one(machine, circle, least, |node| {
+            is_under_way(machine, LaneKind::Answers, from, node.me())
+        }),
+    }
 }
 
 /// Goes round the circle of nodes, from an event's own on, up to one at which the event is enabled, and applies it there.
