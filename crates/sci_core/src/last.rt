@@ -1,6 +1,6 @@
 //! The last contents of each line, wherever they are.
 
-ghost use Rattle.std.specs.Prelude.{◌≡◌, ◌&&◌, not, ◌<◌, ◌≤◌, ◌%◌, filter, map, option_to_list, Some, None};
+ghost use Rattle.std.specs.Prelude.{◌≡◌, ◌&&◌, not, ◌<◌, ◌≤◌, ◌%◌, filter, map, option_copied, option_to_list, Some, None};
 ghost use Rattle.sci_packets.specs.Table.{is_request};
 ghost use Rattle.sci_cache.specs.Held.{state_of};
 ghost use Rattle.sci_cache.specs.Cache.{letter_of};
@@ -35,40 +35,40 @@ fn answer_among(packets: &[Packet], n: u8, line: u8) -> Option<Body>
 
 /// The contents of a line in a node that may change it or is about to, by the node's state and the answer that is
 /// under way to it.
-pub(crate) fn contents_held(held: &Held, answer: &Option<Body>) -> Option<Stamped>
-    ensures { result ≡ contents_held_of (state_of held.now) answer.now }
+pub(crate) fn contents_held<'a>(held: &'a Held, answer: &'a Option<Body>) -> Option<&'a Stamped>
+    ensures { option_copied result ≡ contents_held_of (state_of held.now) answer.now }
 {
     match held {
-        Held::Head(state) if answer.is_none() => Some(state.contents),
-        Held::FreshHead(state) if answer.is_none() => Some(state.contents),
+        Held::Head(state) if answer.is_none() => Some(&state.contents),
+        Held::FreshHead(state) if answer.is_none() => Some(&state.contents),
         Held::Purging(state) => match answer {
-            None | Some(Body::Busy | Body::Purged { .. }) => Some(state.contents),
+            None | Some(Body::Busy | Body::Purged { .. }) => Some(&state.contents),
             _ => None,
         },
         Held::Claiming(state) => match answer {
-            None | Some(Body::Busy | Body::Wbok | Body::Wbno) => Some(state.contents),
+            None | Some(Body::Busy | Body::Wbok | Body::Wbno) => Some(&state.contents),
             _ => None,
         },
         Held::Clearing(state) => match answer {
-            None | Some(Body::Busy | Body::Wbno) => Some(state.contents),
+            None | Some(Body::Busy | Body::Wbno) => Some(&state.contents),
             _ => None,
         },
         Held::Returning(state) => match answer {
-            None | Some(Body::Busy | Body::Wbno) => Some(state.contents),
+            None | Some(Body::Busy | Body::Wbno) => Some(&state.contents),
             _ => None,
         },
         Held::Asking(_) => match answer {
-            Some(Body::Mdata(contents)) => Some(*contents),
+            Some(Body::Mdata(contents)) => Some(contents),
             Some(
                 Body::Fdata {
                     old_head: None,
                     contents,
                 },
-            ) => Some(*contents),
+            ) => Some(contents),
             _ => None,
         },
         Held::Joining(_) | Held::FreshJoining(_) => match answer {
-            Some(Body::Cdata(contents)) => Some(*contents),
+            Some(Body::Cdata(contents)) => Some(contents),
             _ => None,
         },
         _ => None,
@@ -170,7 +170,7 @@ impl State {
             Held::FreshHead(state) => Some(state.contents),
             held => {
                 let answer = self.answer_to(n, line);
-                contents_held(held, &answer)
+                contents_held(held, &answer).copied()
             }
         }
     }

@@ -1,7 +1,7 @@
 //! What the machine has of a line: its sharing list, from the home's head along the links of its members, the one of them
 //! that may change the line, and the line's last contents.
 
-ghost use Rattle.std.specs.Prelude.{◌≡◌, None, IfSome, IsSome};
+ghost use Rattle.std.specs.Prelude.{◌≡◌, None, IfSome, IsSome, option_copied};
 ghost use Rattle.sci_cache.specs.Held.{state_of};
 ghost use Rattle.sci_cache.specs.Member.{link_of};
 ghost use Rattle.sci_home.specs.Serving.{head_of};
@@ -23,13 +23,6 @@ pub struct Sharing {
     pub authority: Option<u8>,
     /// The line's last contents.
     pub last: Stamped,
-}
-
-/// What a member of a list has: the entry behind it, and the contents of the line if it may change it or is about to.
-#[derive(Clone, Copy)]
-struct Member {
-    behind: Option<NodeId>,
-    contents: Option<Stamped>,
 }
 
 /// The member that may change a line or is about to, with the line's contents.
@@ -94,20 +87,22 @@ fn head(state: HomeState) -> Option<NodeId>
     }
 }
 
-/// The authority that is found: a node that has the contents, or else the one found before.
-fn found_now(found: Option<Authority>, node: u8, contents: Option<Stamped>) -> Option<Authority>
-    ensures here { IfSome contents
-        (λ c. IfSome result (λ at. (at.node ≡ node) × (at.contents ≡ c)) × IsSome result) }
-    ensures before { contents ≡ None → result ≡ found }
+/// Notes the authority: a node that has the contents.
+fn note(found: &mut Option<Authority>, node: u8, contents: Option<&Stamped>)
+    ensures here { IfSome (option_copied contents.entry)
+        (λ c. IfSome found.new (λ at. (at.node ≡ node) × (at.contents ≡ c)) × IsSome found.new) }
+    ensures before { option_copied contents.entry ≡ None → found.new ≡ found.old }
 {
-    match contents {
-        Some(contents) => Some(Authority { node, contents }),
-        None => found,
+    if let Some(contents) = contents {
+        *found = Some(Authority {
+            node,
+            contents: *contents,
+        });
     }
 }
 
 impl State {
-    ghost use Rattle.std.specs.Prelude.{◌≡◌, ◌<◌, ℕ, All, IfOk, IfSome, Some, None};
+    ghost use Rattle.std.specs.Prelude.{◌≡◌, ◌<◌, ℕ, All, IfOk, IfSome, IsSome, Some, None};
     ghost use Rattle.sci_home.specs.Serving.{head_of};
     ghost use Rattle.sci_core.specs.Shape.{HasShape, IsAuthority};
     ghost use Rattle.sci_core.specs.Sharing.{authority_contents, home_at, last_at, sharer_of};
@@ -128,24 +123,25 @@ impl State {
         }
     }
 
-    /// What a member of the list of a line has. The caller sees to it that there are such a node and such a line, and that
-    /// the node is a member.
-    fn member(&self, line: u8, n: u8) -> Member
+    /// The entry behind a member of the list of a line. Notes the member, if it is the authority. The caller sees to it that
+    /// there are such a node and such a line, and that the node is a member.
+    fn behind(&self, line: u8, n: u8, found: &mut Option<Authority>) -> Option<NodeId>
         requires well { IsWellFormed self.now }
         requires tidy { IsTidy self.now }
         requires n { n < self.now.size.nodes }
         requires line { line < self.now.size.lines }
         requires member { link_at self.now line n ≡ None → ⊥ }
-        ensures behind { link_at self.now line n ≡ Some result.behind }
-        ensures contents { result.contents ≡ authority_contents (sharer_of self.now line n) }
+        ensures behind { link_at self.now line n ≡ Some result }
+        ensures here { IfSome (authority_contents (sharer_of self.now line n))
+            (λ c. IfSome found.new (λ at. (at.node ≡ n) × (at.contents ≡ c)) × IsSome found.new) }
+        ensures before { authority_contents (sharer_of self.now line n) ≡ None
+            → found.new ≡ found.old }
     {
         let held = self.node(n).held(line);
         let answer = self.answer_to(n, line);
+        note(found, n, contents_held(held, &answer));
         match link(held, &answer) {
-            Some(behind) => Member {
-                behind,
-                contents: contents_held(held, &answer),
-            },
+            Some(behind) => behind,
             None => unreachable!(),
         }
     }
@@ -172,10 +168,8 @@ impl State {
                 return Ok(Members { nodes, authority });
             };
             let node = id.get() as u8;
-            let member = self.member(line, node);
+            next = self.behind(line, node, &mut authority);
             nodes.push(node)?;
-            next = member.behind;
-            authority = found_now(authority, node, member.contents);
         }
         Ok(Members { nodes, authority })
     }

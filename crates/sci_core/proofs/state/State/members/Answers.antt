@@ -1,6 +1,6 @@
-use Rattle.std.proofs.Common.{◌≡◌, ◌<◌, List, ℕ, length, ap, subst, arith, length-append}
+use Rattle.std.proofs.Common.{◌≡◌, ◌<◌, List, ℕ, length, ap, subst, arith, length-append, refl}
 use Rattle.sci_home.specs.Serving.{head_of}
-use Rattle.sci_core.specs.Sharing.{home_at}
+use Rattle.sci_core.specs.Sharing.{authority_contents, home_at, sharer_of}
 use Rattle.sci_core.specs.SharingList.{link_at}
 use Rattle.sci_core.proofs.Shared.{sought_first, sought_more}
 use Rattle.sci_core.proofs.Walking.{IsWalked, walk_begins, walk_ends, walk_goes_on, walks_more, walk_fits, walk_done, walked_at}
@@ -22,16 +22,16 @@ overflow_cast-node c =
     let below : c.get-node.result < core.size.nodes = fits.1 in
     omega (arith, c.nodes.ensures.nodes, c.nodes.type_inv)
 
-pub member-member-requires-clause-n : goal.member-member-requires-clause-n
-member-member-requires-clause-n c =
+pub behind-next-requires-clause-n : goal.behind-next-requires-clause-n
+behind-next-requires-clause-n c =
     let core = c.args.self.now in
     let first = head_of (home_at core c.args.line) in
     let at = walked_at (link_at core c.args.line) first c.loop-place.nodes.items c.loop-place.next c.in-Some.id c.get-node.result c.in-Some.is c.get-node.ensures.number c.loop-place.invariant.walked in
     let fits = walk_fits core c.args.line first c.loop-place.nodes.items c.get-node.result c.requires.well at in
     fits.1
 
-pub member-member-requires-clause-member : goal.member-member-requires-clause-member
-member-member-requires-clause-member c =
+pub behind-next-requires-clause-member : goal.behind-next-requires-clause-member
+behind-next-requires-clause-member c =
     let core = c.args.self.now in
     let first = head_of (home_at core c.args.line) in
     let at = walked_at (link_at core c.args.line) first c.loop-place.nodes.items c.loop-place.next c.in-Some.id c.get-node.result c.in-Some.is c.get-node.ensures.number c.loop-place.invariant.walked in
@@ -43,9 +43,9 @@ loop-place-preserved c =
     let first = head_of (home_at core c.args.line) in
     let at = walked_at (link_at core c.args.line) first c.loop-place.nodes.items c.loop-place.next c.in-Some.id c.get-node.result c.in-Some.is c.get-node.ensures.number c.loop-place.invariant.walked in
     let longer = ap (λ (l : List ℕ). length l) c.in_ok-push.ensures.items in record {
-      walked = rw c.in_ok-push.ensures.items (walks_more (link_at core c.args.line) first c.loop-place.nodes.items c.get-node.result c.member-member.result.behind at c.member-member.ensures.behind);
+      walked = rw c.in_ok-push.ensures.items (walks_more (link_at core c.args.line) first c.loop-place.nodes.items c.get-node.result c.behind-next.result at c.behind-next.ensures.behind);
       counted = omega (arith, longer, length-append {A = ℕ}, c.loop-place.invariant.counted);
-      sought = rw c.in_ok-push.ensures.items (sought_more core c.args.line c.get-node.result c.loop-place.nodes.items c.loop-place.authority c.found_now-authority.result c.member-member.result.contents c.loop-place.invariant.sought (walk_fits core c.args.line first c.loop-place.nodes.items c.get-node.result c.requires.well at).1 c.member-member.ensures.contents c.found_now-authority.ensures.here c.found_now-authority.ensures.before);
+      sought = rw c.in_ok-push.ensures.items (sought_more core c.args.line c.get-node.result c.loop-place.nodes.items c.loop-place.authority c.behind-next.new.found (authority_contents (sharer_of core c.args.line c.get-node.result)) c.loop-place.invariant.sought (walk_fits core c.args.line first c.loop-place.nodes.items c.get-node.result c.requires.well at).1 refl c.behind-next.ensures.here c.behind-next.ensures.before);
     }
 
 pub returns-in_default-clause-list : goal.returns-in_default-clause-list
