@@ -42,12 +42,13 @@ PROMISES = [
     ("Lawful exactly if the logs are lawful", "audit", ["lawful"]),
     ("An order exactly if the logs are sequentially consistent", "sequential_order", ["order"]),
     ("The machine's logs are lawful and sequentially consistent", "Machine::last", ["lawful", "consistent"]),
-    ("The machine does what the rules of the protocol say", "Machine::run", ["ok"]),
     ("So are the logs of stations", "Fabric::finish", ["lawful", "consistent"]),
     ("So are the logs of threads, and they are the script's", "run_nodes", ["named", "whole", "lawful", "consistent"]),
-    ("What is written is the oracle's text of the script", "oracle", ["IsOracleOf.good", "IsOracleOf.read", "IsOracleOf.written"]),
+    ("The machine does what the rules of the protocol say", "Machine::run", ["ok"]),
+    ("What is written is the oracle's text of the script, and lawful", "oracle", [f"IsOracleOf.{it}" for it in ("good", "read", "written", "lawful")]),
     ("What is written is such a log of the script", "threads", [f"IsThreadsOf.{it}" for it in ("good", "read", "written", "lawful", "consistent", "named", "whole")]),
-    ("Done exactly if the log that is read is lawful and sequentially consistent", "order", ["IsOrderOf.read", "IsOrderOf.found", "IsFound.ends"]),
+    ("The logs are those that the input says", "order", ["IsOrderOf.read"]),
+    ("Done exactly if they are lawful and sequentially consistent", "order", ["IsFound.ends"]),
 ]
 PAGE = "docs/ASSURANCE.md"
 MARKS = ("<!-- made by scripts/gate/statement.py --table -->", "<!-- end -->")
