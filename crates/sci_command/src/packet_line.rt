@@ -51,7 +51,7 @@ pub fn push_identifier(out: &mut Vec<u8>, identifier: Option<NodeId>) -> Result<
     }
 }
 
-/// Puts the words of a line, with a space before each. The caller sees to it that there is room for eight fields.
+/// Puts the words of a line, with a space before each. Requires that there is room for eight fields.
 fn put_words(end: &mut LineEnd, line: &Line)
     requires { 168 + length end.old ≤ MAX_TEXT_LINE_BYTES }
     ensures text { end.new ≡ flat_map field line.now ++ end.old }
@@ -63,7 +63,7 @@ fn put_words(end: &mut LineEnd, line: &Line)
     }
 }
 
-/// Puts contents: ` @V`, their version, and the eight words, with a space before each. The caller sees to it that there is
+/// Puts contents: ` @V`, their version, and the eight words, with a space before each. Requires that there is
 /// room for 190 bytes.
 #[tactic(auto, unfolding(crate::specs::PacketLine::contents_text))]
 pub fn put_contents(end: &mut LineEnd, contents: &Stamped)

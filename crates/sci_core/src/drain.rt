@@ -34,7 +34,7 @@ impl Machine {
         Ok(count)
     }
 
-    /// Makes an event that is enabled: the caller sees to it. Unchanged if memory is refused.
+    /// Makes an event. Requires that it is enabled. Unchanged if memory is refused.
     pub(crate) fn make(&mut self, event: &Event) -> Result<(), AllocError>
         requires { IsEnabled self.old event.now }
         ensures ok { OnOk result (stepping self.old event.now ≡ Some self.new) }

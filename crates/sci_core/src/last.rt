@@ -154,8 +154,8 @@ impl State {
         None
     }
 
-    /// The contents of a line in node `n`, if it is the one that may change the line or is about to. The
-    /// caller sees to it that there are such a node and such a line.
+    /// The contents of a line in node `n`, if it is the one that may change the line or is about to.
+    /// Requires that there are such a node and such a line.
     fn authority(&self, line: u8, n: u8) -> Option<Stamped>
         requires well { IsWellFormed self.now }
         requires tidy { IsTidy self.now }
@@ -175,7 +175,7 @@ impl State {
         }
     }
 
-    /// The first node that may change a line or is about to. The caller sees to it that there is such a line.
+    /// The first node that may change a line or is about to. Requires that there is such a line.
     pub(crate) fn first_authority(&self, line: u8) -> Option<u8>
         requires well { IsWellFormed self.now }
         requires tidy { IsTidy self.now }
@@ -193,7 +193,7 @@ impl State {
         None
     }
 
-    /// The contents of a line at its home, if nobody may have written since. The caller sees to it that there
+    /// The contents of a line at its home, if nobody may have written since. Requires that there
     /// is such a line.
     pub(crate) fn home_contents(&self, line: u8) -> Option<Stamped>
         requires well { IsWellFormed self.now }
@@ -206,8 +206,8 @@ impl State {
         }
     }
 
-    /// The last contents of a line: its home's if nobody may have written since, else the authority's. The
-    /// caller sees to it that there is such a line.
+    /// The last contents of a line: its home's if nobody may have written since, else the authority's.
+    /// Requires that there is such a line.
     pub(crate) fn last_at(&self, line: u8) -> Stamped
         requires well { IsWellFormed self.now }
         requires tidy { IsTidy self.now }

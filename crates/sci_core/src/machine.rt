@@ -50,7 +50,7 @@ impl Machine {
     ghost use Rattle.sci_core.specs.SharingList.{IsSharingList};
 
     /// A machine of this size in which no line was touched: all lines are HOME with zero words at version 0, and
-    /// all else is empty. Each node may issue `limit` operations; the caller sees to it that this is 1 to
+    /// all else is empty. Each node may issue `limit` operations. Requires that this is 1 to
     /// 65,536. Refused if memory is.
     pub fn new(alloc: Global, extent: Extent, limit: u32) -> Result<Machine, AllocError>
         requires some { 1 ≤ limit }
@@ -137,7 +137,7 @@ impl Machine {
         self.state.limit()
     }
 
-    /// A node. The caller sees to it that there is such a node.
+    /// A node. Requires that there is such a node.
     pub fn node(&self, n: u8) -> &Node
         requires { n < self.now.size.nodes }
         ensures node { result.now ≡ node_at self.now n }
@@ -146,7 +146,7 @@ impl Machine {
         self.state.node(n)
     }
 
-    /// A lane. The caller sees to it that there are such nodes.
+    /// A lane. Requires that there are such nodes.
     pub fn lane(&self, kind: LaneKind, from: u8, to: u8) -> &Lane
         requires from { from < self.now.size.nodes }
         requires to { to < self.now.size.nodes }
@@ -155,7 +155,7 @@ impl Machine {
         self.state.lane(kind, from, to)
     }
 
-    /// The oldest packet of a lane, or None if it has none. The caller sees to it that there are such nodes.
+    /// The oldest packet of a lane, or None if it has none. Requires that there are such nodes.
     pub fn front(&self, kind: LaneKind, from: u8, to: u8) -> Option<&Packet>
         requires from { from < self.now.size.nodes }
         requires to { to < self.now.size.nodes }
@@ -165,7 +165,7 @@ impl Machine {
         self.state.lane(kind, from, to).front()
     }
 
-    /// How many packets a lane has. The caller sees to it that there are such nodes.
+    /// How many packets a lane has. Requires that there are such nodes.
     pub fn count(&self, kind: LaneKind, from: u8, to: u8) -> usize
         requires from { from < self.now.size.nodes }
         requires to { to < self.now.size.nodes }
@@ -190,8 +190,8 @@ impl Machine {
         Ok(logs)
     }
 
-    /// The sharing list of a line: the numbers of its members, each once, from the home's head along their links. The
-    /// caller sees to it that there is such a line. Refused if memory is.
+    /// The sharing list of a line: the numbers of its members, each once, from the home's head along their links.
+    /// Requires that there is such a line. Refused if memory is.
     pub fn sharing_list(&self, alloc: Global, line: u8) -> Result<Vec<u8>, AllocError>
         requires { line < self.now.size.lines }
         ensures { IfOk result (λ nodes. IsSharingList self.now line nodes.items) }
@@ -201,7 +201,7 @@ impl Machine {
     }
 
     /// The sharing list of a line, the one node that may change it or is about to, and its last contents: what
-    /// `sharing_list`, `authority` and `last_contents` give, found in one walk along the list. The caller sees to it that
+    /// `sharing_list`, `authority` and `last_contents` give, found in one walk along the list. Requires that
     /// there is such a line. Refused if memory is.
     pub fn sharing(&self, alloc: Global, line: u8) -> Result<Sharing, AllocError>
         requires { line < self.now.size.lines }
@@ -217,8 +217,8 @@ impl Machine {
         self.state.sharing(alloc, line)
     }
 
-    /// The one node that may change a line or is about to, or None if the home has the line alone. The caller sees to it
-    /// that there is such a line.
+    /// The one node that may change a line or is about to, or None if the home has the line alone.
+    /// Requires that there is such a line.
     pub fn authority(&self, line: u8) -> Option<u8>
         requires { line < self.now.size.lines }
         ensures here { IfSome result (λ n. n < self.now.size.nodes) }
@@ -229,7 +229,7 @@ impl Machine {
         self.state.first_authority(line)
     }
 
-    /// The last contents of a line, as in `last`. The caller sees to it that there is such a line.
+    /// The last contents of a line, as in `last`. Requires that there is such a line.
     pub fn last_contents(&self, line: u8) -> Stamped
         requires { line < self.now.size.lines }
         ensures { result ≡ last_at self.now line }

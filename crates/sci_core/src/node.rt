@@ -83,7 +83,7 @@ impl Node {
     ghost use Rattle.sci_core.specs.Node.{IsAtRest, NodeOf, opening_node, lines_of, home_of, pending_on, IsForNode, IsServable, node_issuing, node_performing, node_asking, node_serving, node_refusing, node_replying, node_accepting, may_issue as may_issue_of, serving_at_home, serving_in_cache, answering};
 
     /// The node with the number `me` in a machine of this size, whose processor may issue `limit` operations.
-    /// The caller sees to it that there is such a node, and that `limit` is 1 to 65,536. Refused if memory
+    /// Requires that there is such a node, and that `limit` is 1 to 65,536. Refused if memory
     /// is; no later call takes memory.
     pub fn new(alloc: Global, me: u8, extent: Extent, limit: u32) -> Result<Node, AllocError>
         requires me { me < extent.nodes }
@@ -242,7 +242,7 @@ impl Node {
         }
     }
 
-    /// Asks as `ask` does, without making the packet, for a caller that has it from `asked`. The caller sees to it that there
+    /// Asks as `ask` does, without making the packet, for a caller that has it from `asked`. Requires that there
     /// is one.
     pub fn apply_ask(&mut self, line: u8, kind: AskKind)
         requires { IsSome (node_asking self.old line kind) }
@@ -264,8 +264,8 @@ impl Node {
         self.cache.asked(line, kind)
     }
 
-    /// Serves a request: its answer waits then. False, unchanged, if an answer waits already. The caller
-    /// sees to it that the request is for this node and about a line of the machine, and that the home of the
+    /// Serves a request: its answer waits then. False, unchanged, if an answer waits already.
+    /// Requires that the request is for this node and about a line of the machine, and that the home of the
     /// line is here if it is an Mread, Fread, Claim, Clear or Wback.
     pub fn serve(&mut self, request: &Packet) -> bool
         requires { IsServable self.old (letter_of request.now) }
@@ -325,7 +325,7 @@ impl Node {
         true
     }
 
-    /// Takes an answer. False, unchanged, if it isn't awaited. The caller sees to it that the answer is for
+    /// Takes an answer. False, unchanged, if it isn't awaited. Requires that the answer is for
     /// this node and about a line of the machine.
     pub fn accept(&mut self, answer: &Packet) -> bool
         requires { IsForNode self.old (letter_of answer.now) }
@@ -387,7 +387,7 @@ impl Node {
         self.extent
     }
 
-    /// The cache's state for a line. The caller sees to it that there is such a line.
+    /// The cache's state for a line. Requires that there is such a line.
     pub fn held(&self, line: u8) -> &Held
         requires { line < lines_of self.now }
         ensures { state_of result.now ≡ (line_of self.now.cache line).state }
@@ -457,7 +457,7 @@ impl Node {
         &self.log
     }
 
-    /// The home of a line, or None if it is at another node. The caller sees to it that there is such a line.
+    /// The home of a line, or None if it is at another node. Requires that there is such a line.
     pub fn home(&self, line: u8) -> Option<&Home>
         requires { line < lines_of self.now }
         ensures here { IfSome result

@@ -8,7 +8,7 @@ ghost use Rattle.sci_history.specs.Placed.{log_of};
 use sci_history::{Entry, Logs, PushFault};
 use std::alloc::AllocError;
 
-/// Makes the empty log of a node the one with these entries. The caller sees to it that the node is below 16, that the
+/// Makes the empty log of a node the one with these entries. Requires that the node is below 16, that the
 /// entries are its own, and that there are at most 65,536. Refused if memory is; some entries may then be there.
 pub fn push_log(logs: &mut Logs, n: u8, log: &[Entry]) -> Result<(), AllocError>
     requires node { n < MAX_NODES }

@@ -76,7 +76,7 @@ impl PendingOps {
         }
     }
 
-    /// Makes an operation pending on a line, or none. The caller sees to it that there is such a line.
+    /// Makes an operation pending on a line, or none. Requires that there is such a line.
     pub(crate) fn put(&mut self, line: u8, pending: Option<Pending>)
         requires { line < length self.old }
         ensures { self.new ≡ slice_set self.old line pending }

@@ -15,8 +15,8 @@ pub fn members_wait_in_line()
         (waiting : List ℕ) × AreWaiting core line waiting }
 {}
 
-/// At each step of a reached state those who wait on a line are a queue: whoever the home lets in waits last, and
-/// only the first of those who wait becomes the authority, or whoever is let in if nobody waits.
+/// At each step of a reached state those who wait on a line are a queue: the node that the home lets in waits last, and
+/// only the first of those who wait becomes the authority, or the node that is let in if nobody waits.
 pub fn the_first_is_served()
     ensures { (core : Core) (event : Event) (line : ℕ) (waiting then_ : List ℕ) → IsReachable core →
         line < core.size.lines → AreWaiting core line waiting →

@@ -59,7 +59,7 @@ impl Machine {
     ghost use Rattle.sci_core.specs.Rounds.{AreOut, IsNext, IsRound, rank};
     ghost use Rattle.sci_core.specs.Settling.{IsSettled, IsWithin, Leads, LeadsOn, pending_count, settles};
 
-    /// A node asks about a line, and the request is served, answered and accepted. The caller sees to it that nothing
+    /// A node asks about a line, and the request is served, answered and accepted. Requires that nothing
     /// is under way, that there is such a line, and that the node can ask. If memory is refused, the machine stands
     /// where the events made so far lead.
     fn round(&mut self, node: u8, line: u8, kind: AskKind) -> Result<(), AllocError>
@@ -89,7 +89,7 @@ impl Machine {
         Ok(())
     }
 
-    /// The first node that is wanted for a line, if there is one. The caller sees to it that there is such a line.
+    /// The first node that is wanted for a line, if there is one. Requires that there is such a line.
     fn find(&self, line: u8, wanted: Wanted) -> Option<u8>
         requires { line < self.now.size.lines }
         ensures below { IfSome result (λ n. n < self.now.size.nodes) }
@@ -106,8 +106,8 @@ impl Machine {
         None
     }
 
-    /// The node that asks next about a line, and what, or None if no cache has an entry of it. The caller sees to it
-    /// that nothing is under way, and that there is such a line.
+    /// The node that asks next about a line, and what, or None if no cache has an entry of it.
+    /// Requires that nothing is under way, and that there is such a line.
     fn ask_about(&self, line: u8) -> Option<(u8, AskKind)>
         requires drained { IsDrained self.now }
         requires line { line < self.now.size.lines }
@@ -128,8 +128,8 @@ impl Machine {
         }
     }
 
-    /// The node that asks next, about which line and what, or None if no cache has an entry. The caller sees to it
-    /// that nothing is under way.
+    /// The node that asks next, about which line and what, or None if no cache has an entry.
+    /// Requires that nothing is under way.
     fn next_ask(&self) -> Option<(u8, u8, AskKind)>
         requires { IsDrained self.now }
         ensures node { IfSome result (λ ask. ask.0 < self.now.size.nodes) }
@@ -147,7 +147,7 @@ impl Machine {
         None
     }
 
-    /// Brings every line to its home, and gives the number of events. The caller sees to it that nothing is under
+    /// Brings every line to its home, and gives the number of events. Requires that nothing is under
     /// way. If memory is refused, the machine stands where the events made so far lead.
     fn empty_lines(&mut self) -> Result<u32, AllocError>
         requires { IsDrained self.old }
@@ -191,7 +191,7 @@ impl Machine {
     }
 
     /// Performs the operation that is pending at a node on a line, and gives the number of events: the node reads the
-    /// line, performs the operation, and writes the line back. The caller sees to it that there is such an operation,
+    /// line, performs the operation, and writes the line back. Requires that there is such an operation,
     /// that nothing is under way, and that no cache has an entry. If memory is refused, the machine stands where the
     /// events made so far lead.
     fn perform_pending(&mut self, node: u8, line: u8) -> Result<u32, AllocError>

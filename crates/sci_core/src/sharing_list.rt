@@ -110,7 +110,7 @@ impl State {
     ghost use Rattle.sci_core.specs.Tidy.{IsTidy};
     ghost use Rattle.sci_core.specs.WellFormed.{IsWellFormed};
 
-    /// The head of a line's list, or None if the home has the line alone. The caller sees to it that there is such a
+    /// The head of a line's list, or None if the home has the line alone. Requires that there is such a
     /// line.
     fn head(&self, line: u8) -> Option<NodeId>
         requires well { IsWellFormed self.now }
@@ -123,7 +123,7 @@ impl State {
         }
     }
 
-    /// The entry behind a member of the list of a line. Notes the member, if it is the authority. The caller sees to it that
+    /// The entry behind a member of the list of a line. Notes the member, if it is the authority. Requires that
     /// there are such a node and such a line, and that the node is a member.
     fn behind(&self, line: u8, n: u8, found: &mut Option<Authority>) -> Option<NodeId>
         requires well { IsWellFormed self.now }
@@ -146,7 +146,7 @@ impl State {
         }
     }
 
-    /// The members of the list of a line. The caller sees to it that there is such a line. Refused if memory is.
+    /// The members of the list of a line. Requires that there is such a line. Refused if memory is.
     fn members(&self, alloc: Global, line: u8) -> Result<Members, AllocError>
         requires well { IsWellFormed self.now }
         requires tidy { IsTidy self.now }
@@ -174,7 +174,7 @@ impl State {
         Ok(Members { nodes, authority })
     }
 
-    /// What the machine has of a line, found in one walk along its list. The caller sees to it that there is such a line.
+    /// What the machine has of a line, found in one walk along its list. Requires that there is such a line.
     /// Refused if memory is.
     pub(crate) fn sharing(&self, alloc: Global, line: u8) -> Result<Sharing, AllocError>
         requires well { IsWellFormed self.now }

@@ -70,7 +70,7 @@ impl<'a> Driver<'a> {
     ghost use Rattle.sci_drive.specs.Calls.{IsHeard};
     ghost use Rattle.sci_drive.specs.Driving.{IsDriven, IsInOrder, opening_driver};
 
-    /// A driver that has submitted nothing yet. The caller sees to it that the script has at most 65,536 operations.
+    /// A driver that has submitted nothing yet. Requires that the script has at most 65,536 operations.
     pub fn new(script: &'a [Op], issuing: Issuing) -> Driver<'a>
         requires few { length script.now ≤ MAX_OPERATIONS }
         ensures { result ≡ opening_driver script.now issuing }
@@ -100,7 +100,7 @@ impl<'a> Driver<'a> {
     /// - takes one turn;
     /// - the first time that the whole script is answered, tells the gate that it is done.
     ///
-    /// It tells whether an operation was answered, and what the turn did. The caller sees to it that the worker is the
+    /// It tells whether an operation was answered, and what the turn did. Requires that the worker is the
     /// one that this driver has driven. Refused if the worker's turn is.
     pub fn round<W: Worker, G: Gate>(
         &mut self,

@@ -2,7 +2,7 @@
 
 use sci_history::Entry;
 
-/// Whoever lets a worker go on with its script, and is told of its answers.
+/// A gate lets a worker go on with its script, and is told of its answers.
 pub trait Gate {
     ghost use Rattle.std.specs.Prelude.{List, [], ◌∷◌, ◌++◌};
     ghost use Rattle.sci_drive.specs.Calls.{AllDone, Answered, Call, Done, MayIssue, Rest};

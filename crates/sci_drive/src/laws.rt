@@ -7,7 +7,7 @@ ghost use Rattle.sci_drive.specs.declared.driver.Issuing.{Issuing};
 ghost use Rattle.sci_drive.specs.declared.driver.Issuing.TheVariants.{InOrder};
 ghost use Rattle.sci_drive.specs.Driving.{HasSubmittedNothing, IsDriven, IsInOrder, opening_driver};
 
-/// A new driver may drive whoever has submitted nothing; and if it issues in order, the log so far stands in order.
+/// A new driver may drive a worker that has submitted nothing; and if it issues in order, the log so far stands in order.
 pub fn new_drivers_may_drive()
     ensures driven { (script : List Op) (issuing : Issuing) (node : NodeOf) → HasSubmittedNothing node →
         IsDriven (opening_driver script issuing) node }

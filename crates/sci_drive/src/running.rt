@@ -34,7 +34,7 @@ pub struct Ran {
 /// nothing moved, and after 16 turns in a row without an entry or a rest. Up to four operations are pending at once,
 /// each on another line, and they may be performed in another order than the script's.
 ///
-/// The caller sees to it that the worker has submitted nothing, and that the script has at most 65,536 operations. An
+/// Requires that the worker has submitted nothing, and that the script has at most 65,536 operations. An
 /// operation that the worker refuses is tried again in each round. Refused if a turn of the worker is.
 ///
 /// However it ends:

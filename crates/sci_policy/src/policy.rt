@@ -243,7 +243,7 @@ impl Policy {
     }
 
     /// The node whose requests a turn looks at first, of so many nodes: the one after the node noted last, or 0 if none
-    /// was noted or it isn't one of them. The caller sees to it that there is a node.
+    /// was noted or it isn't one of them. Requires that there is a node.
     pub fn first_sender(&self, nodes: u8) -> u8
         requires { 1 ≤ nodes }
         ensures first { result ≡ first_sender self.now nodes }

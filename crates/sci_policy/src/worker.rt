@@ -1,4 +1,4 @@
-//! Whoever does a processor's operations: submits them, performs them, and takes turns in between.
+//! A worker does a processor's operations: submits them, performs them, and takes turns in between.
 
 use crate::progress::Progress;
 use crate::submit::SubmitFault;
@@ -6,7 +6,7 @@ use sci_history::Entry;
 use sci_words::Op;
 use std::alloc::AllocError;
 
-/// Whoever does a processor's operations. It keeps its own pending operations and its log, and numbers what it submits
+/// A worker does a processor's operations. It keeps its own pending operations and its log, and numbers what it submits
 /// from 0. No call waits for another thread.
 pub trait Worker {
     ghost use Rattle.std.specs.Prelude.{◌≡◌, ◌+◌, ℕ, true, Some, None, IfOk, IfErr, IfSome, IsErr};

@@ -46,7 +46,7 @@ impl LineEnd {
         &self.bytes[self.start..]
     }
 
-    /// Puts a word of the grammar. The caller sees to it that there is room.
+    /// Puts a word of the grammar. Requires that there is room.
     pub fn put_text(&mut self, text: &str)
         requires { length text.now + length self.old ≤ MAX_TEXT_LINE_BYTES }
         ensures { self.new ≡ text.now ++ self.old }
@@ -57,7 +57,7 @@ impl LineEnd {
         self.start = start;
     }
 
-    /// Puts a number in decimal digits. The caller sees to it that there is room for 20.
+    /// Puts a number in decimal digits. Requires that there is room for 20.
     #[tactic(auto, using(crate::proofs::Digits::number_decimal))]
     pub fn put_number(&mut self, n: u64)
         requires { 20 + length self.old ≤ MAX_TEXT_LINE_BYTES }
@@ -68,7 +68,7 @@ impl LineEnd {
         self.start = write_digits(n, &mut self.bytes, end);
     }
 
-    /// Puts a space and a number. The caller sees to it that there is room for 21 bytes.
+    /// Puts a space and a number. Requires that there is room for 21 bytes.
     #[tactic(auto, unfolding(crate::specs::Number::field))]
     pub fn put_field(&mut self, n: u64)
         requires { 21 + length self.old ≤ MAX_TEXT_LINE_BYTES }

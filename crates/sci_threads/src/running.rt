@@ -20,7 +20,7 @@ use std::thread::Threads;
 /// Runs a script: the station of each node is driven through the node's operations, with its own gate, in a thread of
 /// its own, for at most `turns` turns. If a thread hasn't begun after some 250,000 turns of another, as when it can't
 /// be made, all nodes go on in the calling thread, a turn each in a circle. Gives the logs, the last contents, and
-/// whether all nodes have finished. The caller sees to it that there is one gate for each node. Refused if memory is.
+/// whether all nodes have finished. Requires that there is one gate for each node. Refused if memory is.
 ///
 /// - The logs and the last contents are those of a state where a schedule leads the machine, whatever the threads did.
 /// - In each node's log each entry has the operation of the node that its serial names, and no serial stands twice.

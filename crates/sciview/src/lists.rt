@@ -138,7 +138,7 @@ fn push_members(
     Ok(())
 }
 
-/// Puts the node that may change a line, if there is one. The caller sees to it that there is room for 32 bytes.
+/// Puts the node that may change a line, if there is one. Requires that there is room for 32 bytes.
 #[tactic(auto, unfolding(crate::specs::ListsAnswer::authority_text))]
 fn put_authority(end: &mut LineEnd, authority: Option<u8>)
     requires { 32 + length end.old ≤ MAX_TEXT_LINE_BYTES }
@@ -153,7 +153,7 @@ fn put_authority(end: &mut LineEnd, authority: Option<u8>)
     }
 }
 
-/// Puts the last contents of a line, and the line feed. The caller sees to it that there is room for 197 bytes.
+/// Puts the last contents of a line, and the line feed. Requires that there is room for 197 bytes.
 #[tactic(auto, unfolding(crate::specs::ListsAnswer::last_text))]
 fn put_last(end: &mut LineEnd, contents: &Stamped)
     requires { end.old ≡ [] }
