@@ -71,6 +71,9 @@ pub front_of : (lane : List Letter) (letter : Letter) → slice_get lane 0 ≡ S
 front_of [] letter e = cc
 front_of (first ∷ rest) letter e = (rest, let same : first ≡ letter = cc in ap (λ (l : Letter). l ∷ rest) same)
 
+pub one_front : (lane : List Letter) (a b : Letter) (xs ys : List Letter) → lane ≡ a ∷ xs → lane ≡ b ∷ ys → a ≡ b
+one_front lane a b xs ys first second = let same : a ∷ xs ≡ b ∷ ys = sym first ∙ second in cc
+
 pub no_front : (lane : List Letter) → slice_get lane 0 ≡ None → lane ≡ []
 no_front [] e = refl
 no_front (letter ∷ rest) e = cc

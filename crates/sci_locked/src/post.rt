@@ -44,6 +44,14 @@ impl<'a> Post for Lent<'a> {
         self.machine.node(self.node)
     }
 
+    fn next_answering(&self, from: u8) -> Option<u8> {
+        if from < self.nodes() {
+            Some(from)
+        } else {
+            None
+        }
+    }
+
     fn look(&mut self, kind: LaneKind, from: u8) -> Result<bool, AllocError> {
         Ok(self.machine.count(kind, from, self.node) > 0)
     }
@@ -55,13 +63,7 @@ impl<'a> Post for Lent<'a> {
         }
     }
 
-    fn take(
-        &mut self,
-        _kind: LaneKind,
-        _from: u8,
-        _packet: &Packet,
-        event: &Event,
-    ) -> Result<(), AllocError> {
+    fn take(&mut self, _kind: LaneKind, _from: u8, event: &Event) -> Result<(), AllocError> {
         match self.machine.apply(event) {
             Ok(()) => Ok(()),
             Err(ApplyFault::NotEnabled) => unreachable!(),

@@ -89,6 +89,14 @@ pub record IsTaken (old : PostOf) (kind : LaneKind) (from : ℕ) (letter : Lette
   pub made : IsMade old e new
   pub front : IsFront made.mid kind from letter
 
+-- this event of the node takes the oldest packet of a lane
+abbrev pub MayTakeFront : PostOf → LaneKind → ℕ → Event → Type 0
+MayTakeFront post kind from e = (letter : Letter) × MayTake post kind from letter e
+
+-- the event was made, and took the packet that was the oldest
+abbrev pub HasTakenFront : PostOf → LaneKind → ℕ → Event → PostOf → Type 0
+HasTakenFront old kind from e new = (letter : Letter) → IsFront old kind from letter → IsTaken old kind from letter e new
+
 -- this event of the node sends the packet
 pub record MaySend (post : PostOf) (kind : LaneKind) (letter : Letter) (e : Event) : Type 0 where
   pub own : node_of e ≡ post.me

@@ -6,10 +6,12 @@ use sci_words::Event;
 
 /// A node's post: the node itself, and the lanes to it and from it.
 pub trait Post {
-    ghost use Rattle.std.specs.Prelude.{◌≡◌, ◌<◌, ℕ, true, false, [], IfOk, IsErr};
+    ghost use Rattle.std.specs.Prelude.{◌≡◌, ◌<◌, ◌≤◌, ℕ, true, false, [], IfOk, IfSome, IsErr};
     ghost use Rattle.sci_cache.specs.Cache.{letter_of};
+    ghost use Rattle.sci_cache.specs.LineSet.{IsBefore};
     ghost use Rattle.sci_core.specs.declared.lane.LaneKind.{LaneKind};
-    ghost use Rattle.sci_turn.specs.Posts.{IsFront, IsFull, IsMade, IsPost, IsStill, IsTaken, MaySend, MayTake, PostOf, lane_to, node_in, nodes_in};
+    ghost use Rattle.sci_core.specs.declared.lane.LaneKind.TheVariants.{Answers};
+    ghost use Rattle.sci_turn.specs.Posts.{HasTakenFront, IsFront, IsFull, IsMade, IsPost, IsStill, MaySend, MayTakeFront, PostOf, lane_to, node_in, nodes_in};
 
     /// Why a turn stops before its end.
     type Stop;
@@ -38,6 +40,14 @@ pub trait Post {
         ensures node { result.now ≡ node_in (post self.now) }
         ensures post { IsPost (post self.now) };
 
+    /// The first node from one on whose lane of answers is to be looked at, or None if no more is. Nothing has come by the
+    /// lanes that are passed over.
+    fn next_answering(&self, from: u8) -> Option<u8>
+        ensures order { IfSome result (λ node. from ≤ node) }
+        ensures here { IfSome result (λ node. node < nodes_in (post self.now)) }
+        ensures passed { (other : ℕ) → from ≤ other → other < nodes_in (post self.now) →
+            IsBefore other result → lane_to (post self.now) Answers other ≡ [] };
+
     /// Looks whether a packet has come by the lane of a kind from a node. It stays there. The caller sees to it that there
     /// is such a node.
     fn look(&mut self, kind: LaneKind, from: u8) -> Result<bool, Self::Stop>
@@ -57,17 +67,11 @@ pub trait Post {
 
     /// Takes the packet that the last look has seen, by an event of the node. Refused, with no event made, if the turn
     /// stops.
-    fn take(
-        &mut self,
-        kind: LaneKind,
-        from: u8,
-        packet: &Packet,
-        event: &Event,
-    ) -> Result<(), Self::Stop>
-        requires may { MayTake (post self.old) kind from (letter_of packet.now) event.now }
+    fn take(&mut self, kind: LaneKind, from: u8, event: &Event) -> Result<(), Self::Stop>
+        requires may { MayTakeFront (post self.old) kind from event.now }
         requires sees { sees self.old kind from }
         ensures taken { IfOk result
-            (λ _. IsTaken (post self.old) kind from (letter_of packet.now) event.now (post self.new)) }
+            (λ _. HasTakenFront (post self.old) kind from event.now (post self.new)) }
         ensures cut { IsErr result → IsStill (post self.old) (post self.new) }
         ensures stays { stays self.old self.new }
         ensures stops { IsErr result → may_stop self.new };

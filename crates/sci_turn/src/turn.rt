@@ -80,8 +80,12 @@ fn accept_all<P: Post>(post: &mut P, progress: &mut Progress) -> Result<(), P::S
     ensures stays { P.stays post.old post.new }
     ensures stops { IsErr result → P.may_stop post.new }
 {
-    for from in 0..post.nodes() {
+    // Read, so that the prover knows that they are few.
+    let _nodes = post.nodes();
+    let mut next = 0;
+    'answers: while let Some(from) = post.next_answering(next) {
         accept_from(post, progress, from)?;
+        next = from + 1;
     }
     Ok(())
 }
@@ -123,6 +127,7 @@ fn accept<P: Post>(post: &mut P, progress: &mut Progress, from: u8) -> Result<bo
 }
 
 /// The answer that was seen is accepted.
+#[inline(never)]
 fn accept_seen<P: Post>(post: &mut P, progress: &mut Progress, from: u8) -> Result<(), P::Stop>
     requires from { from < nodes_in (P.post post.old) }
     requires sees { P.sees post.old Answers from }
@@ -133,11 +138,11 @@ fn accept_seen<P: Post>(post: &mut P, progress: &mut Progress, from: u8) -> Resu
     ensures stops { IsErr result → P.may_stop post.new }
 {
     let node = post.me();
-    // Read, so that the prover knows that the state is reached.
+    // Read, so that the prover knows that the state is reached, and which answer it is.
     let _here = post.node();
-    let answer = *post.front(LaneKind::Answers, from);
+    let _answer = post.front(LaneKind::Answers, from);
     let event = Event::Accept { from, node };
-    post.take(LaneKind::Answers, from, &answer, &event)?;
+    post.take(LaneKind::Answers, from, &event)?;
     progress.count(&event);
     Ok(())
 }
@@ -225,6 +230,7 @@ fn take<P: Post>(
 }
 
 /// The request that was seen is served or refused, and the answer sent if its lane has room. False if the policy keeps it.
+#[inline(never)]
 fn take_seen<P: Post>(
     post: &mut P,
     policy: &mut Policy,
@@ -247,8 +253,7 @@ fn take_seen<P: Post>(
     let Some(event) = policy.decide(post.node(), request).event(from, me) else {
         return Ok(false);
     };
-    let request = *request;
-    post.take(LaneKind::Requests, from, &request, &event)?;
+    post.take(LaneKind::Requests, from, &event)?;
     progress.count(&event);
     policy.served(from);
     reply(post, progress)?;

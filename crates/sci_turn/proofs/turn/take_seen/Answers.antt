@@ -17,7 +17,7 @@ take-requires-clause-may g c =
     let post = g.P.Post.post c.args.post.now in
     let request = letter_of c.front-request.result.now in
     let decides : decided c.args.policy.now (node_in post) request ≡ c.decide.result = ap (λ (m : NodeOf). decided c.args.policy.now m request) (sym c.node.ensures.node) ∙ sym c.decide.ensures in
-    may_take post c.args.from request c.args.policy.now c.decide.result c.in-Some.event c.node.ensures.post c.requires.from c.front-request.ensures c.requires.free decides (c.in-Some.ensures ∙ ap (decided_event c.decide.result c.args.from) c.me-me.ensures)
+    (request, may_take post c.args.from request c.args.policy.now c.decide.result c.in-Some.event c.node.ensures.post c.requires.from c.front-request.ensures c.requires.free decides (c.in-Some.ensures ∙ ap (decided_event c.decide.result c.args.from) c.me-me.ensures))
 
 pub returns-in_err-take-clause-goes : goal.returns-in_err-take-clause-goes
 returns-in_err-take-clause-goes g c = goes_still c.args.policy.now (g.P.Post.post c.args.post.now) (g.P.Post.post c.take.new.self) c.args.progress.now c.args.progress.now (c.in_err-take.ensures.cut refl) refl
@@ -30,7 +30,7 @@ returns-in_err-reply-clause-goes g c =
     let request = letter_of c.front-request.result.now in
     let decides : decided c.args.policy.now (node_in old) request ≡ c.decide.result = ap (λ (m : NodeOf). decided c.args.policy.now m request) (sym c.node.ensures.node) ∙ sym c.decide.ensures in
     goes_then c.args.policy.now c.served.new.self c.served.new.self old mid new c.args.progress.now c.count.new.self c.reply.new.progress
-    (goes_taken c.args.policy.now c.served.new.self old mid c.me-me.result c.args.from c.decide.result c.in-Some.event request c.args.progress.now c.count.new.self c.me-me.ensures c.requires.free decides c.in-Some.ensures c.in_ok-take.ensures.taken c.served.ensures c.count.ensures.more c.count.ensures.counted)
+    (goes_taken c.args.policy.now c.served.new.self old mid c.me-me.result c.args.from c.decide.result c.in-Some.event request c.args.progress.now c.count.new.self c.me-me.ensures c.requires.free decides c.in-Some.ensures (c.in_ok-take.ensures.taken request c.front-request.ensures) c.served.ensures c.count.ensures.more c.count.ensures.counted)
     (c.reply.ensures.goes c.served.new.self)
 
 pub returns-clause-goes : goal.returns-clause-goes
@@ -41,7 +41,7 @@ returns-clause-goes g c =
     let request = letter_of c.front-request.result.now in
     let decides : decided c.args.policy.now (node_in old) request ≡ c.decide.result = ap (λ (m : NodeOf). decided c.args.policy.now m request) (sym c.node.ensures.node) ∙ sym c.decide.ensures in
     goes_then c.args.policy.now c.served.new.self c.served.new.self old mid new c.args.progress.now c.count.new.self c.reply.new.progress
-    (goes_taken c.args.policy.now c.served.new.self old mid c.me-me.result c.args.from c.decide.result c.in-Some.event request c.args.progress.now c.count.new.self c.me-me.ensures c.requires.free decides c.in-Some.ensures c.in_ok-take.ensures.taken c.served.ensures c.count.ensures.more c.count.ensures.counted)
+    (goes_taken c.args.policy.now c.served.new.self old mid c.me-me.result c.args.from c.decide.result c.in-Some.event request c.args.progress.now c.count.new.self c.me-me.ensures c.requires.free decides c.in-Some.ensures (c.in_ok-take.ensures.taken request c.front-request.ensures) c.served.ensures c.count.ensures.more c.count.ensures.counted)
     (c.reply.ensures.goes c.served.new.self)
 
 pub returns-clause-told : goal.returns-clause-told
