@@ -1,6 +1,6 @@
 -- Each kind of step keeps the rule, and tells its seat what it should.
 use Rattle.std.proofs.Common.{◌≡◌, ◌≢◌, ℕ, zero, suc, ◌+◌, ◌%◌, ◌<◌, inl, inr, Bool, true, false, if◌then◌else◌, eqb, List, [], ◌∷◌, length, get_or, set, refl, sym, ap, subst, ◌∙◌, arith}
-use Rattle.std.specs.Prelude.{not}
+use Rattle.std.specs.Prelude.{map, not}
 use Rattle.std.proofs.lemmas.Bool.{and_parts, and_left, eq-eqb, eqb-true, ne_eqb, cases_lt}
 use Rattle.std.proofs.lemmas.List.{set-get_or}
 use mathlib.Core.Option.{some, none, some-ne-none}
@@ -10,7 +10,8 @@ use Rattle.atomic_table.proofs.Lists.{set_here}
 use Rattle.sci_packets.specs.declared.packet.Packet.{Packet}
 use Rattle.sci_core.specs.Size.{Size}
 use Rattle.sci_words.specs.declared.event.Event.{Event}
-use Rattle.sci_core.specs.Core.{lane_at, run}
+use Rattle.sci_cache.specs.Cache.{Letter, letter_of}
+use Rattle.sci_core.specs.Core.{Core, lane_at, run}
 use Rattle.sci_core.specs.Reached.{IsReached}
 use Rattle.sci_lanes.specs.declared.view.Outbound.{Outbound}
 use Rattle.sci_lanes.specs.declared.view.Inbound.{Inbound}
@@ -22,7 +23,7 @@ use Rattle.sci_lanes.specs.Knowing.{has_sent_more, is_sending, is_receiving, loo
 use Rattle.sci_lanes.specs.Telling.{IsShown, IsSameNode, size_in}
 use Rattle.sci_lanes.specs.Plays.{lane_in, number_in, index_in, Looks}
 use Rattle.sci_lanes.proofs.Words.{same_cell}
-use Rattle.sci_lanes.proofs.LaneSteps.{out_looked, in_looked, sender_finds_empty}
+use Rattle.sci_lanes.proofs.LaneSteps.{first_full, out_looked, in_looked, sender_finds_empty}
 use Rattle.sci_lanes.proofs.Keeping.{no_further}
 use Rattle.sci_lanes.proofs.Turning.{IsTurn, turned_whole, lane_step}
 use Rattle.sci_lanes.proofs.Facts.{lane_length, known_part, shown}
@@ -129,6 +130,14 @@ not_true : (b : Bool) → not b ≡ true → b ≡ true → ⊥
 not_true true e f = cc
 not_true false e f = cc
 
+-- no packet is in a lane whose next cell to take from is empty
+emptied : (words : List ℕ) (place : ℕ) (lane : List Letter) (o : Outbound) (i : Inbound) → ShowsLane words place lane o i → word_at words place i.taken 0 ≡ 0 → lane ≡ []
+emptied words place lane o i shows none_ = by_packets shows.packets shows.letters shows.fits
+  where
+    by_packets : (packets : List Packet) → map letter_of packets ≡ lane → Fits words place packets o i → lane ≡ []
+    by_packets [] letters fits = sym letters
+    by_packets (p ∷ packets) letters fits = let some_ = first_full words place (p ∷ packets) o i fits (omega arith) in absurd (omega arith)
+
 pub looks : (size : Size) (slots id lane number : ℕ) (part : Part) → lane < lane_count size.nodes → number < 4
     → Allows (IsKept size) slots id (single part, []) (cell_place lane number + 0) (λ n. n) (Looks (step slots (cell_place lane number + 0) 0 0 none) (single part, []))
 looks size slots id lane number part lt few = allows size slots id place part (λ n. n) (Looks (step slots place 0 0 none) (single part, [])) owes
@@ -150,6 +159,7 @@ looks size slots id lane number part lt few = allows size slots id place part (�
           here = k.node;
           four = four (sends_here sends) some;
         };
+        empty = λ receives zero_. subst (λ (c : Core). lane_at c lane ≡ []) (sym (leads_here x id part size x.schedule kept.reached kept.sized kept.leads k refl)) (emptied s.words lane (lane_at x.core lane) (x.outbound lane) (x.inbound lane) old (sym (receives_here receives) ∙ zero_));
       }),
     )
       where

@@ -60,6 +60,11 @@ shown x words views seat part reached leads enabled s here =
           let room = l.fits.vacant (ap (λ (o : Outbound). o.vacant) (sym (k.outbound lane lt is)) ∙ empty) in
           let long = lane_length l in
           omega arith;
+      room = λ lane lt.
+          let l = s.lanes lane lt in
+          let few = l.fits.room in
+          let long = lane_length l in
+          omega arith;
       own = λ lane lt sends receives.
           let l = s.lanes lane lt in
           let counted = l.fits.counted in

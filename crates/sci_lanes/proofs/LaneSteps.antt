@@ -160,7 +160,7 @@ unfolding words_of
 count_above q = omega arith
 
 -- the first word of the oldest packet is not 0
-first_full : (words : List ℕ) (lane : ℕ) (packets : List Packet) (o : Outbound) (i : Inbound) → Fits words lane packets o i → 0 < length packets → 0 < word_at words lane i.taken 0
+pub first_full : (words : List ℕ) (lane : ℕ) (packets : List Packet) (o : Outbound) (i : Inbound) → Fits words lane packets o i → 0 < length packets → 0 < word_at words lane i.taken 0
 first_full words lane [] o i f some = absurd (omega arith)
 first_full words lane (p ∷ packets) o i f some =
     let here : word_at words lane (i.taken + 0) 0 ≡ get_or (words_of p) 0 0 = f.full 0 0 p refl (omega (arith, count_above p)) in

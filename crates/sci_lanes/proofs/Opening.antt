@@ -30,7 +30,7 @@ use Rattle.sci_lanes.proofs.Sharing.{splits}
 reached_opening : (size : Size) → IsMachineSize size → IsReached (opening size)
 reached_opening size ok = record { size = ok; schedule = []; leads = refl }
 
-node_opened : (size : Size) (n : ℕ) → n < size.nodes → node_at (opening size) n ≡ opening_node n size
+pub node_opened : (size : Size) (n : ℕ) → n < size.nodes → node_at (opening size) n ≡ opening_node n size
 node_opened size n lt = get_or-map-range_with_len (λ m. opening_node m size) 0 size.nodes n n no_node lt (omega arith)
 
 replicated : {A : Type 0} (count k : ℕ) (a : A) → get_or (replicate count a) k a ≡ a
@@ -39,7 +39,7 @@ replicated count k a = elim (cases_lt k count) [
   | inr le ↦ get_or_past (replicate count a) k a (let c = length-replicate count a in omega arith)
 ]
 
-lane_opened : (size : Size) (lane : ℕ) → lane_at (opening size) lane ≡ []
+pub lane_opened : (size : Size) (lane : ℕ) → lane_at (opening size) lane ≡ []
 lane_opened size lane = replicated (2 * size.nodes * size.nodes) lane []
 
 fits_opened : (words : List ℕ) (lane : ℕ) → ((k : ℕ) → get_or words k 0 ≡ 0) → Fits words lane [] no_outbound no_inbound
@@ -143,6 +143,7 @@ shown_opened size n ok lt = record {
   inbound_long = length-replicate (lane_count size.nodes) no_inbound;
   found = λ lane less is some_found. absurd (let e = ap (λ i. length i.found) (replicated (lane_count size.nodes) lane no_inbound) in omega arith);
   vacant = λ lane less is vacant. absurd (not_vacant (ap (λ o. o.vacant) (sym (replicated (lane_count size.nodes) lane no_outbound)) ∙ vacant));
+  room = λ lane less. let l = ap (λ (ls : List Letter). length ls) (lane_opened size lane) in omega arith;
   own = λ lane less sends receives.
       let o = ap (λ u. u.sent) (replicated (lane_count size.nodes) lane no_outbound) in
       let i = ap (λ u. u.taken) (replicated (lane_count size.nodes) lane no_inbound) in

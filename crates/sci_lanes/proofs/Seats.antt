@@ -13,8 +13,8 @@ use Rattle.sci_lanes.specs.declared.view.Part.{Part}
 use Rattle.sci_lanes.specs.declared.view.View.{View}
 use Rattle.sci_lanes.specs.Cells.{cell_place, own_place, lane_count, sender_of, receiver_of, lane_number, word_count}
 use Rattle.sci_words.specs.declared.event.Event.{Event}
-use Rattle.sci_lanes.specs.Shown.{me_of, single, informed, outbound_at, IsKept}
-use Rattle.sci_lanes.specs.Knowing.{is_sending}
+use Rattle.sci_lanes.specs.Shown.{me_of, single, informed, inbound_at, outbound_at, IsKept}
+use Rattle.sci_lanes.specs.Knowing.{is_receiving, is_sending}
 use Rattle.sci_lanes.specs.Telling.{part_of, size_in, IsShown, IsSameNode, IsSending, IsTaking, IsBeating, Tells}
 use Rattle.sci_lanes.specs.Plays.{lane_in, number_in, index_in, LooksAt, Looks, Fills, Reads, Publishes, Frees, Beats}
 use Rattle.sci_lanes.specs.Ends.{EndOf, with_part, nodes_in, lane_at_cell, IsNextToSend, IsNextToTake, MayFill, MayRead, IsSeated}
@@ -123,6 +123,11 @@ pub is_sending_here : (part : Part) (cell : CellId) → IsShown part → IsNextT
 is_sending_here part cell s n =
     let at = sends_in part cell s n in
     and_from _ _ (eq-eqb (sender_of (nodes_in part) (lane_at_cell part cell)) (me_of part) (at.sender ∙ n.mine)) (eq-eqb cell.number ((outbound_at part (lane_at_cell part cell)).sent % 4) n.next)
+
+pub is_receiving_here : (part : Part) (cell : CellId) → IsShown part → IsNextToTake part cell → is_receiving part (lane_at_cell part cell) cell.number ≡ true
+is_receiving_here part cell s n =
+    let at = takes_in part cell s n in
+    and_from _ _ (eq-eqb (receiver_of (nodes_in part) (lane_at_cell part cell)) (me_of part) (at.receiver ∙ n.mine)) (eq-eqb cell.number ((inbound_at part (lane_at_cell part cell)).taken % 4) n.next)
 
 -- what contracts see of a seat after a step
 pub view_after : (seat later : TableId) (knows after : Me (Unit {0}) View) (now : EndOf) (how : List Event → Type 0) (next : Part) → record { table = seat; part = part_of knows.0 } ≡ now → later ≡ seat → Tells how now.part next after

@@ -1,14 +1,15 @@
 -- What each kind of step on a word tells its seat, which has one part. A word's place tells its lane, its cell and its
 -- number in the cell.
-use Rattle.std.specs.Prelude.{◌≡◌, ◌≢◌, ℕ, ◌/◌, ◌%◌, true}
+use Rattle.std.specs.Prelude.{◌≡◌, ◌≢◌, ℕ, ◌/◌, ◌%◌, true, []}
 use Rattle.atomic_table.specs.Table.{Me, Step}
 use Rattle.sci_words.specs.declared.event.Event.{Event}
+use Rattle.sci_core.specs.Core.{lane_at}
 use Rattle.sci_core.specs.Node.{NodeOf}
 use Rattle.sci_lanes.specs.declared.view.Part.{Part}
 use Rattle.sci_lanes.specs.declared.view.View.{View}
-use Rattle.sci_lanes.specs.Knowing.{is_sending, looked, filled, read, published, freed, with_node_known}
+use Rattle.sci_lanes.specs.Knowing.{is_receiving, is_sending, looked, filled, read, published, freed, with_node_known}
 use Rattle.sci_lanes.specs.Shown.{IsSeen, informed}
-use Rattle.sci_lanes.specs.Telling.{part_of, Tells, IsFull, IsMade, IsTaken}
+use Rattle.sci_lanes.specs.Telling.{part_of, state_of, Tells, IsFull, IsMade, IsTaken}
 
 abbrev pub lane_in : ℕ → ℕ
 lane_in place = place / 44
@@ -23,6 +24,7 @@ index_in place = place % 11
 pub record LooksAt (lane number word : ℕ) (part : Part) (seat : Me (Unit {0}) View) : Type 0 where
   pub tells : Tells (IsSeen part) part (looked lane number word part) seat
   pub full : is_sending part lane number ≡ true → word ≢ 0 → IsFull (informed tells.schedule part) lane
+  pub empty : is_receiving part lane number ≡ true → word ≡ 0 → lane_at (state_of (informed tells.schedule part)) lane ≡ []
 
 abbrev pub Looks : Step (Unit {0}) → Me (Unit {0}) View → ℕ → Me (Unit {0}) View → Type 0
 Looks s before word after = LooksAt (lane_in s.word) (number_in s.word) word (part_of before.0) after

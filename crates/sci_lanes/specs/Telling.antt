@@ -1,7 +1,8 @@
 -- What a part of a state tells of it, and what a step needs.
-use Rattle.std.specs.Prelude.{◌≡◌, ℕ, ◌+◌, ◌<◌, true, List, [], ◌∷◌, ◌++◌, length, slice_index, slice_index_or, Option, Some}
+use Rattle.std.specs.Prelude.{◌≡◌, ℕ, ◌+◌, ◌<◌, ◌≤◌, true, List, [], ◌∷◌, ◌++◌, length, slice_index, slice_index_or, Option, Some}
 use Rattle.atomic_table.specs.Table.{Me}
 use Rattle.sci_words.specs.declared.event.Event.{Event}
+use Rattle.sci_words.specs.declared.limits.TheConstants.{LANE_CELLS}
 use Rattle.sci_packets.specs.declared.packet.Packet.{Packet}
 use Rattle.sci_packets.specs.Spelling.{IsPacket, SpellsInWords, words_of}
 use Rattle.sci_cache.specs.Cache.{Letter, letter_of, line_of}
@@ -58,6 +59,8 @@ pub record IsShown (part : Part) : Type 0 where
   pub found : (lane : ℕ) → lane < lane_count core.size.nodes → receiver_of core.size.nodes lane ≡ me_of part → 0 < length (inbound_at part lane).found → IsFront (lane_at core lane) (inbound_at part lane).found
   -- a cell known empty has room for a packet
   pub vacant : (lane : ℕ) → lane < lane_count core.size.nodes → sender_of core.size.nodes lane ≡ me_of part → (outbound_at part lane).vacant ≡ true → length (lane_at core lane) < 4
+  -- a lane has a place for each packet
+  pub room : (lane : ℕ) → lane < lane_count core.size.nodes → length (lane_at core lane) ≤ LANE_CELLS
   -- the node knows how many packets are in a lane to itself
   pub own : (lane : ℕ) → lane < lane_count core.size.nodes → sender_of core.size.nodes lane ≡ me_of part → receiver_of core.size.nodes lane ≡ me_of part
       → (outbound_at part lane).sent ≡ (inbound_at part lane).taken + length (lane_at core lane)

@@ -66,15 +66,16 @@ impl Model for LaneEnd {
 }
 
 impl LaneEnd {
-    ghost use Rattle.std.specs.Prelude.{◌≡◌, ◌≢◌, ◌<◌, ◌*◌, ◌⊎◌, IfOk, Some, replicate};
+    ghost use Rattle.std.specs.Prelude.{◌≡◌, ◌≢◌, ◌<◌, ◌≤◌, ◌*◌, ◌⊎◌, [], IfOk, Some, length, replicate};
+    ghost use Rattle.sci_words.specs.declared.limits.TheConstants.{LANE_CELLS};
     ghost use Rattle.sci_lanes.specs.Cells.{lane_count};
     ghost use Rattle.sci_packets.specs.Spelling.{SpellsInWords};
     ghost use Rattle.sci_cache.specs.Cache.{letter_of};
     ghost use Rattle.sci_core.specs.declared.lane.LaneKind.TheVariants.{Requests};
-    ghost use Rattle.sci_core.specs.Core.{side};
+    ghost use Rattle.sci_core.specs.Core.{lane_of, side};
     ghost use Rattle.sci_lanes.specs.Shown.{inbound_at, IsSeen, me_of};
     ghost use Rattle.sci_lanes.specs.Gathering.{HasTurns};
-    ghost use Rattle.sci_lanes.specs.Telling.{IsMade, IsSameNode, IsShown, IsTaken, SomeLineWaits};
+    ghost use Rattle.sci_lanes.specs.Telling.{IsMade, IsSameNode, IsShown, IsTaken, SomeLineWaits, state_of};
     ghost use Rattle.sci_lanes.specs.Ends.{FitsInside, IsNextToSend, IsNextToTake, LooksFor, MayBeat, MayFill};
     ghost use Rattle.sci_lanes.specs.Ends.{MayFree, MayPublish, MayRead, after_event, beaten};
     ghost use Rattle.sci_lanes.specs.Ends.{filled_at, freed_at, informed_at, lane_at_cell, looked_at, nodes_in};
@@ -180,11 +181,12 @@ impl LaneEnd {
 
     /// Looks at the first word of the cell from which the node takes next in the lane of a kind from another, and gives it:
     /// 0 if the cell is empty. The caller sees to it that there is such a node. It is quicker than `look`, since the end
-    /// remembers where these cells stand.
+    /// remembers where these cells stand. If the cell is empty, so is the lane.
     pub fn look_for(&mut self, kind: LaneKind, from: u8) -> u64
         requires { from < nodes_in self.old.part }
         ensures looked { LooksFor kind from result self.old self.new }
         ensures shown { IsShown self.new.part }
+        ensures empty { result ≡ 0 → lane_of (state_of self.new.part) kind from (me_of self.new.part) ≡ [] }
     {
         let cell = self.next_to_take(kind, from);
         let place = self.inbox_places[cell.inbox(self.nodes)];
@@ -192,8 +194,8 @@ impl LaneEnd {
     }
 
     /// Looks at the first word of a cell, and gives it: 0 if the cell is empty. The caller sees to it that the cell is
-    /// the next to send into, or the next to take from. A sender that finds a request cell full knows that some line of
-    /// its node awaits an answer.
+    /// the next to send into, or the next to take from. A sender that finds a cell full knows that its lane is, and if it
+    /// is one of requests, that some line of its node awaits an answer.
     pub fn look(&mut self, cell: CellId) -> u64
         requires { IsNextToSend self.old.part cell ⊎ IsNextToTake self.old.part cell }
         ensures part { self.new ≡ informed_at self.new.part.schedule (looked_at cell result self.old) }
@@ -201,6 +203,8 @@ impl LaneEnd {
         ensures shown { IsShown self.new.part }
         ensures waits { cell.kind ≡ Requests → IsNextToSend self.old.part cell → result ≢ 0 →
             SomeLineWaits self.new.part.node }
+        ensures full { IsNextToSend self.old.part cell → result ≢ 0 → LANE_CELLS ≤ length
+            (lane_of (state_of self.new.part) cell.kind (me_of self.new.part) cell.receiver) }
     {
         self.seat.look(&cell, self.nodes, cell.place(self.nodes, 0))
     }

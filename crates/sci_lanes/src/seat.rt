@@ -35,7 +35,8 @@ impl NodeSeat {
     ghost use Rattle.sci_lanes.specs.Cells.{cell_place, lane_number};
     ghost use Rattle.sci_lanes.specs.Gathering.{joined_with};
     ghost use Rattle.sci_lanes.specs.Shown.{informed, IsSeen, me_of};
-    ghost use Rattle.sci_lanes.specs.Telling.{IsBeating, IsFull, IsMade, IsSameNode, IsSending, IsShown, IsTaken, IsTaking, part_of};
+    ghost use Rattle.sci_lanes.specs.Telling.{IsBeating, IsFull, IsMade, IsSameNode, IsSending, IsShown, IsTaken, IsTaking, part_of, state_of};
+    ghost use Rattle.sci_core.specs.Core.{lane_at};
     ghost use Rattle.sci_lanes.specs.Ends.{IsNextToSend, IsNextToTake, IsSeated, MayFill, MayRead, beaten};
     ghost use Rattle.sci_lanes.specs.Ends.{filled_at, freed_at, informed_at, lane_at_cell, looked_at, nodes_in};
     ghost use Rattle.sci_lanes.specs.Ends.{published_at, read_at};
@@ -60,6 +61,8 @@ impl NodeSeat {
         ensures shown { IsShown self.new.part }
         ensures full { IsNextToSend self.old.part cell.now → result ≢ 0 →
             IsFull (informed self.new.part.schedule self.old.part) (lane_at_cell self.old.part cell.now) }
+        ensures empty { IsNextToTake self.old.part cell.now → result ≡ 0 →
+            lane_at (state_of (informed self.new.part.schedule self.old.part)) (lane_at_cell self.old.part cell.now) ≡ [] }
     {
         let shared = &self.table.shared;
         shared.load::<Look>(&mut self.seat, place)

@@ -1,13 +1,14 @@
-use Rattle.std.proofs.Common.{◌≡◌, ◌⊎◌, List, sym, ap, subst, ◌∙◌}
+use Rattle.std.proofs.Common.{◌≡◌, ◌⊎◌, List, [], sym, ap, subst, ◌∙◌}
 use mathlib.Core.Option.{none}
 use Rattle.atomic_table.specs.Table.{step}
 use Rattle.sci_lanes.specs.declared.view.Part.{Part}
 use Rattle.sci_lanes.specs.Ends.{EndOf, IsNextToSend, IsNextToTake, nodes_in, lane_at_cell}
 use Rattle.sci_lanes.specs.Plays.{Looks, LooksAt}
-use Rattle.sci_lanes.specs.Telling.{part_of, IsFull, IsShown}
+use Rattle.sci_lanes.specs.Telling.{part_of, IsFull, IsShown, state_of}
+use Rattle.sci_core.specs.Core.{lane_at}
 use Rattle.sci_words.specs.declared.event.Event.{Event}
 use Rattle.sci_lanes.specs.Shown.{IsSeen, informed}
-use Rattle.sci_lanes.proofs.Seats.{Asks, look_asks, look_told, part_after, view_after, went_after, is_sending_here}
+use Rattle.sci_lanes.proofs.Seats.{Asks, look_asks, look_told, part_after, view_after, went_after, is_receiving_here, is_sending_here}
 use Rattle.sci_lanes.proofs.seat.NodeSeat.look.Goals as goal
 
 pub load-requires : goal.load-requires
@@ -38,3 +39,9 @@ returns-clause-full c next some =
 
 pub returns-clause-seen : goal.returns-clause-seen
 returns-clause-seen c = went_after (IsSeen c.args.self.now.part) c.args.self.now.part _ c.load.new.seat.me (told c).tells
+
+pub returns-clause-empty : goal.returns-clause-empty
+returns-clause-empty c next zero_ =
+    let part_is : part_of c.self.inside.seat.me.0 ≡ c.args.self.now.part = ap (λ (e : EndOf). e.part) c.self.view_is in
+    subst (λ (es : List Event). lane_at (state_of (informed es c.args.self.now.part)) (lane_at_cell c.args.self.now.part c.args.cell.now) ≡ []) (sym (ap (λ (p : Part). p.schedule) (part_after (IsSeen c.args.self.now.part) c.args.self.now.part _ c.load.new.seat.me (told c).tells)))
+    ((told c).empty (is_receiving_here c.args.self.now.part c.args.cell.now (subst IsShown part_is c.self.invariant.shown) next) zero_)
