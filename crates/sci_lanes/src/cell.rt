@@ -38,8 +38,8 @@ impl CellId {
         (kind * nodes + usize::from(self.sender)) * nodes + usize::from(self.receiver)
     }
 
-    /// The number of the cell's lane among the lanes to its receiver: the quotient of `lane` by the number of nodes. The
-    /// caller sees to it that the receiver is one of them.
+    /// The number of the cell's lane among the lanes to its receiver: the quotient of `lane` by the number of nodes.
+    /// Requires that the receiver is one of them.
     pub(crate) fn inbox(&self, nodes: u8) -> usize
         requires { self.now.receiver < nodes }
         ensures place { result ≡ lane_number nodes self.now / nodes }

@@ -145,7 +145,7 @@ impl LaneEnd {
         self.nodes
     }
 
-    /// The cell into which the node sends next in its lane of a kind to another. The caller sees to it that there is such
+    /// The cell into which the node sends next in its lane of a kind to another. Requires that there is such
     /// a node.
     pub fn next_to_send(&self, kind: LaneKind, to: u8) -> CellId
         requires { to < nodes_in self.now.part }
@@ -162,7 +162,7 @@ impl LaneEnd {
         CellId { number, ..cell }
     }
 
-    /// The cell from which the node takes next in the lane of a kind from another. The caller sees to it that there is
+    /// The cell from which the node takes next in the lane of a kind from another. Requires that there is
     /// such a node.
     pub fn next_to_take(&self, kind: LaneKind, from: u8) -> CellId
         requires { from < nodes_in self.now.part }
@@ -180,7 +180,7 @@ impl LaneEnd {
     }
 
     /// Looks at the first word of the cell from which the node takes next in the lane of a kind from another, and gives it:
-    /// 0 if the cell is empty. The caller sees to it that there is such a node. It is quicker than `look`, since the end
+    /// 0 if the cell is empty. Requires that there is such a node. It is quicker than `look`, since the end
     /// remembers where these cells stand. If the cell is empty, so is the lane.
     pub fn look_for(&mut self, kind: LaneKind, from: u8) -> u64
         requires { from < nodes_in self.old.part }
@@ -193,7 +193,7 @@ impl LaneEnd {
         self.seat.look(&cell, self.nodes, place)
     }
 
-    /// Looks at the first word of a cell, and gives it: 0 if the cell is empty. The caller sees to it that the cell is
+    /// Looks at the first word of a cell, and gives it: 0 if the cell is empty. Requires that the cell is
     /// the next to send into, or the next to take from. A sender that finds a cell full knows that its lane is, and if it
     /// is one of requests, that some line of its node awaits an answer.
     pub fn look(&mut self, cell: CellId) -> u64
@@ -209,7 +209,7 @@ impl LaneEnd {
         self.seat.look(&cell, self.nodes, cell.place(self.nodes, 0))
     }
 
-    /// Stores a word, with its number in the cell, into the next cell to send into. The caller sees to it that the cell is
+    /// Stores a word, with its number in the cell, into the next cell to send into. Requires that the cell is
     /// known to be empty, and that the words before this one are filled, all but the first. Words that were filled after
     /// it no longer count.
     pub fn fill(&mut self, cell: CellId, index: usize, word: u64)
@@ -221,7 +221,7 @@ impl LaneEnd {
         self.seat.fill(&cell, self.nodes, index, word);
     }
 
-    /// Loads the word with this number of the next cell to take from. The caller sees to it that the words before it were
+    /// Loads the word with this number of the next cell to take from. Requires that the words before it were
     /// found. Words that were found after it no longer count.
     pub fn read_word(&mut self, cell: CellId, index: usize) -> u64
         requires { MayRead self.old.part cell index }
@@ -233,7 +233,7 @@ impl LaneEnd {
     }
 
     /// Stores the first word of a packet whose other words are filled, into the next cell to send into: from this moment
-    /// the packet is under way. The caller sees to it that the cell is known to be empty, and that the packet is the one
+    /// the packet is under way. Requires that the cell is known to be empty, and that the packet is the one
     /// that this event of the node sends, to the receiver of the cell. The node makes its side of the event.
     pub fn publish(&mut self, cell: CellId, first: u64, event: &Event)
         requires { MayPublish self.old.part cell first event.now }
@@ -251,7 +251,7 @@ impl LaneEnd {
     }
 
     /// Stores 0 to the first word of the next cell to take from: from this moment the packet that was found there is
-    /// taken. The caller sees to it that all its words were found, and that this event of the node takes it, and gives the
+    /// taken. Requires that all its words were found, and that this event of the node takes it, and gives the
     /// packet that the words spell. The node makes its side of the event.
     pub fn free(&mut self, cell: CellId, event: &Event, packet: &Packet)
         requires may { MayFree self.old.part cell event.now }
@@ -274,7 +274,7 @@ impl LaneEnd {
         self.inbox_places[place] = CellId { number, ..cell }.place(self.nodes, 0);
     }
 
-    /// Makes an event of the node that concerns no lane: an Issue or a Perform. The caller sees to it that it is enabled.
+    /// Makes an event of the node that concerns no lane: an Issue or a Perform. Requires that it is enabled.
     #[inline(always)]
     pub fn beat(&mut self, event: &Event)
         requires { MayBeat self.old.part event.now }

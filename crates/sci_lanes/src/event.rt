@@ -10,7 +10,7 @@ use sci_packets::Packet;
 use sci_words::Event;
 
 /// Makes the node's side of an event that takes no packet. An event that takes one changes nothing here, nor does one
-/// that is not enabled. The caller sees to it that what is asked can be.
+/// that is not enabled. Requires that what is asked can be.
 #[inline(always)]
 pub(crate) fn make_alone(node: &mut Node, event: &Event)
     requires { MayBeAsked event.now node.old }
@@ -33,7 +33,7 @@ pub(crate) fn make_alone(node: &mut Node, event: &Event)
     }
 }
 
-/// Makes the node's side of an event that takes this packet. The caller sees to it that the node takes it by this event.
+/// Makes the node's side of an event that takes this packet. Requires that the node takes it by this event.
 pub(crate) fn make_taking(node: &mut Node, event: &Event, packet: &Packet)
     requires takable { MayBeGiven event.now node.old (letter_of packet.now) }
     requires takes { IsSome (taken_by (side node.old event.now) (letter_of packet.now)) }

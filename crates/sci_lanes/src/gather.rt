@@ -31,7 +31,7 @@ impl Lanes {
     ghost use Rattle.sci_lanes.specs.Gathering.{AreAll, AreGathered, AreLogged, AreOf, HaveLogs, IsFresh};
 
     /// Gives the logs of all nodes, and the last contents of each line, in the state that the table shows. The ends may
-    /// come in any order, with packets in their lanes, or with who has them. The caller sees to it that they are ends of
+    /// come in any order, with packets in their lanes, or with who has them. Requires that they are ends of
     /// these lanes.
     ///
     /// Refused with the first of these, and then all comes back as it was:

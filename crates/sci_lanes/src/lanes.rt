@@ -43,7 +43,7 @@ impl Lanes {
     ghost use Rattle.sci_lanes.specs.Ends.{opening_ends};
 
     /// The lanes of a machine of this size in which nothing was done yet, and the end of each node in order. Each node
-    /// may issue `limit` operations; the caller sees to it that this is 1 to 65,536. Refused if memory is. No call of an
+    /// may issue `limit` operations. Requires that this is 1 to 65,536. Refused if memory is. No call of an
     /// end takes memory.
     pub fn new(
         alloc: Global,

@@ -11,7 +11,7 @@ use sci_history::Entry;
 use sci_policy::{SubmitFault, check_submit};
 use sci_words::{Event, Op};
 
-/// Submits an operation at a node: an Issue, whose serial it gives. The caller sees to it that there is such a node.
+/// Submits an operation at a node: an Issue, whose serial it gives. Requires that there is such a node.
 /// Refused, unchanged, with the first of `SubmitFault`'s causes that holds.
 pub fn submit_on(machine: &mut Machine, node: u8, op: Op) -> Result<u32, SubmitFault>
     requires { node < machine.old.size.nodes }
@@ -36,7 +36,7 @@ pub fn submit_on(machine: &mut Machine, node: u8, op: Op) -> Result<u32, SubmitF
 }
 
 /// Performs the operation that is pending on a line at a node: a Perform, whose entry it gives, which now ends the node's
-/// log. The caller sees to it that there is such a node. None, unchanged, if none is pending there or the line's state
+/// log. Requires that there is such a node. None, unchanged, if none is pending there or the line's state
 /// doesn't allow it.
 pub fn perform_on(machine: &mut Machine, node: u8, line: u8) -> Option<Entry>
     requires { node < machine.old.size.nodes }

@@ -19,7 +19,7 @@ use std::alloc::AllocError;
 
 /// Takes a turn of a node. It sends the answer that waits; accepts up to four answers from each node; serves or refuses
 /// up to four requests from each node, beginning after the one served last, and sends each answer; and asks up to four
-/// times what the policy wants. A lane takes at most four packets here. The caller sees to it that there is such a node.
+/// times what the policy wants. A lane takes at most four packets here. Requires that there is such a node.
 ///
 /// - The policy counts the turn, decides each request that is taken, and wants each ask.
 /// - What is told counts the events. A line that is told of has an operation that can be performed.

@@ -48,7 +48,7 @@ pub trait Post {
         ensures passed { (other : ℕ) → from ≤ other → other < nodes_in (post self.now) →
             IsBefore other result → lane_to (post self.now) Answers other ≡ [] };
 
-    /// Looks whether a packet has come by the lane of a kind from a node. It stays there. The caller sees to it that there
+    /// Looks whether a packet has come by the lane of a kind from a node. It stays there. Requires that there
     /// is such a node.
     fn look(&mut self, kind: LaneKind, from: u8) -> Result<bool, Self::Stop>
         requires { from < nodes_in (post self.old) }

@@ -295,7 +295,7 @@ fn ask_some<P: Post>(
     Ok(())
 }
 
-/// The node asks a request of this kind about a line. False if the lane for it has no room. The caller sees to it that the
+/// The node asks a request of this kind about a line. False if the lane for it has no room. Requires that the
 /// node can ask it.
 fn ask<P: Post>(
     post: &mut P,
