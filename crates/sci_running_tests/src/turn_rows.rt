@@ -11,10 +11,10 @@ fn stations(rt: &HostRuntime, size: (u8, u8, u8), row: &str) -> Result<(), Fail>
 }
 
 /// A turn that finds nothing looks once at the cell whose turn it is in each lane to the node, and makes no other step.
-/// The lane of answers of a node that owes none is passed over: its own is looked at, and two of requests.
+/// The lanes of answers of nodes that owe none are passed over, so two of requests are looked at.
 #[test]
 fn an_idle_turn_looks_at_lanes_once(rt: HostRuntime) -> Result<(), Fail> {
-    stations(&rt, (2, 3, 2), "turn 0 within 1000 steps 3 idle")
+    stations(&rt, (2, 3, 2), "turn 0 within 1000 steps 2 idle")
 }
 
 /// A home that asks itself: a turn takes packets before it asks, and answers before requests. So the home takes its
@@ -64,9 +64,10 @@ fn a_turn_begins_after_the_one_served_last(rt: HostRuntime) -> Result<(), Fail> 
 const CHAIN: &str =
     "submit 0 load 0 0 serial 0; turn 0; turn 0; turn 0; perform 0 0 = 0 0 load 0 0 = 0 @0; submit 1 load 0 0 serial 0; submit 2 load 0 0 serial 0; turn 1; turn 2; turn 0 accepted 0 served 2; turn 1 asked; turn 2 asked";
 
-/// A request that is kept stays in its cell. It costs each turn a look, and the first one a word more; the other four looks
-/// find nothing, since the lane of answers of node 2, which owes none, is passed over. The request is served once it may
-/// be, in the very turn that accepts the answer for which it was kept.
+/// A request that is kept stays in its cell. The first turn looks at it and reads a word more; later ones decide it by what
+/// the station remembers. The other three looks find nothing: two lanes of requests are empty, and so is the lane of
+/// answers of node 0, which owes one. The request is served once it may be, in the very turn that accepts the answer for
+/// which it was kept.
 #[test]
 fn a_kept_request_is_looked_at_again(rt: HostRuntime) -> Result<(), Fail> {
     let mut stations = Running::of(rt.alloc(), (3, 1, 1), 6)?;
@@ -74,7 +75,7 @@ fn a_kept_request_is_looked_at_again(rt: HostRuntime) -> Result<(), Fail> {
     play(
         rt.alloc(),
         &mut stations,
-        "turn 1 within 1000 steps 6 idle; turn 1 within 1000 steps 5 idle; turn 1 within 1000 steps 5 idle; turn 0 accepted 0 served 1; turn 1 accepted 1 served 1; turn 2 ready 0",
+        "turn 1 within 1000 steps 5 idle; turn 1 within 1000 steps 3 idle; turn 1 within 1000 steps 3 idle; turn 0 accepted 0 served 1; turn 1 accepted 1 served 1; turn 2 ready 0",
     )
 }
 
@@ -92,14 +93,14 @@ fn a_request_after_a_kept_one_is_served(rt: HostRuntime) -> Result<(), Fail> {
     )
 }
 
-/// A turn looks at the three lanes of requests, and at two of answers while node 0 owes one: that of node 0, and the own
-/// one. When the answer is taken, it looks at the own one alone.
+/// A turn looks at the three lanes of requests, and at the lane of answers of node 0 while that owes one. When the answer
+/// is taken, it looks at none.
 #[test]
 fn answers_are_looked_for_while_one_is_owed(rt: HostRuntime) -> Result<(), Fail> {
     stations(
         &rt,
         (3, 1, 1),
-        "submit 1 load 0 0 serial 0; turn 1 asked; turn 1 within 1000 steps 5 idle; turn 0 accepted 0 served 1; turn 1 accepted 1 served 0; perform 1 0 = 1 0 load 0 0 = 0 @0; turn 1 within 1000 steps 4 idle",
+        "submit 1 load 0 0 serial 0; turn 1 asked; turn 1 within 1000 steps 4 idle; turn 0 accepted 0 served 1; turn 1 accepted 1 served 0; perform 1 0 = 1 0 load 0 0 = 0 @0; turn 1 within 1000 steps 3 idle",
     )
 }
 

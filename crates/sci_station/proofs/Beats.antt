@@ -1,5 +1,5 @@
 -- What an Issue and a Perform of a station do.
-use Rattle.std.proofs.Common.{◌≡◌, ℕ, true, Option, Some, None, refl, sym, ap, subst}
+use Rattle.std.proofs.Common.{◌≡◌, ℕ, true, Option, Some, None, refl, sym, ap, subst, ◌∙◌}
 use Rattle.std.specs.Prelude.{is_some}
 use Rattle.sci_words.specs.declared.event.Event.TheVariants as event
 use Rattle.sci_history.specs.declared.entry.Entry.{Entry}
@@ -9,7 +9,14 @@ use Rattle.sci_core.proofs.WellFormedSteps.{reached_well}
 use Rattle.sci_lanes.specs.declared.view.Part.{Part}
 use Rattle.sci_lanes.specs.Shown.{me_of}
 use Rattle.sci_lanes.specs.Telling.{IsShown}
-use Rattle.sci_lanes.specs.Ends.{MayBeat, node_after}
+use Rattle.sci_lanes.specs.Ends.{EndOf, MayBeat, node_after}
+
+-- what is told of the node of an end that was given is so of the end
+pub node_of_end : (node : NodeOf) (given end : EndOf) → node ≡ given.part.node → given ≡ end → node ≡ end.part.node
+node_of_end node given end is same = is ∙ ap (λ (e : EndOf). e.part.node) same
+
+pub shown_of_end : (given end : EndOf) → IsShown given.part → given ≡ end → IsShown end.part
+shown_of_end given end shown same = subst (λ (e : EndOf). IsShown e.part) same shown
 
 -- the parts of the node fit together
 pub shown_fits : (part : Part) → IsShown part → IsNode part.node

@@ -10,9 +10,9 @@ use Rattle.sci_lanes.specs.declared.view.Part.{Part}
 use Rattle.sci_lanes.specs.Cells.{lane_count, receiver_of, sender_of}
 use Rattle.sci_words.specs.declared.event.Event.{Event}
 use Rattle.sci_lanes.specs.Shown.{inbound_at, IsSeen, me_of, no_inbound, no_outbound, outbound_at}
-use Rattle.sci_lanes.specs.Knowing.{found_first, has_sent_more, is_receiving, is_sending, looked_in, looked_out, read_in}
+use Rattle.sci_lanes.specs.Knowing.{found_first, has_sent_more, is_receiving, is_sending, looked_in, looked_out, read_in, filled_out}
 use Rattle.sci_lanes.specs.Telling.{IsFront, IsShown}
-use Rattle.sci_lanes.specs.Ends.{EndOf, IsNextToSend, IsNextToTake, informed_at, lane_at_cell, looked_at, nodes_in, read_at}
+use Rattle.sci_lanes.specs.Ends.{EndOf, IsNextToSend, IsNextToTake, informed_at, lane_at_cell, looked_at, nodes_in, read_at, filled_at}
 use Rattle.sci_packets.specs.declared.packet.Packet.{Packet}
 use Rattle.sci_packets.specs.Spelling.{words_of}
 use Rattle.sci_packets.proofs.WordLaws.{first_word-above}
@@ -22,9 +22,9 @@ use Rattle.sci_core.specs.declared.lane.LaneKind.TheVariants.{Answers}
 use Rattle.sci_core.specs.Node.{NodeOf}
 use Rattle.sci_core.specs.Core.{lane_at, lane_place}
 use Rattle.sci_lanes.proofs.Events.{words_some}
-use Rattle.sci_station.specs.Ends.{IsEmptied, IsReplyHeldUp, IsStill, own_lane}
+use Rattle.sci_station.specs.Ends.{IsStill}
 use Rattle.sci_lanes.proofs.Seats.{sends_in, shown_nodes, takes_in}
-use Rattle.sci_station.proofs.Stills.{look_still, still_sends, still_takes}
+use Rattle.sci_station.proofs.Stills.{fill_still, look_still, still_sends, still_takes}
 
 lane_in_part : (part : Part) (lane : ℕ) (shown : IsShown part) → lane < lane_count (nodes_in part) → lane < lane_count shown.core.size.nodes
 lane_in_part part lane shown lt = subst (λ (n : ℕ). lane < lane_count n) (shown_nodes part shown) lt
@@ -82,6 +82,20 @@ pub looked_found : (end new : EndOf) (cell : CellId) (word : ℕ) → IsSeen end
 looked_found end new cell word seen shown next is some =
     subst (λ (e : EndOf). (inbound_at e.part (lane_at_cell e.part cell)).found ≡ word ∷ []) (sym is) (looked_here end new.part.schedule cell word seen (subst (λ (e : EndOf). IsShown e.part) is shown) next ∙ first_found (has_sent_more end.part (lane_at_cell end.part cell)) word some)
 
+-- ---- fills
+
+pub filled_there : (end new : EndOf) (cell : CellId) (index word : ℕ) → IsSeen end.part new.part.schedule → IsShown new.part → IsNextToSend end.part cell → new ≡ informed_at new.part.schedule (filled_at cell index word end)
+    → outbound_at new.part (lane_at_cell new.part cell) ≡ filled_out index word (outbound_at end.part (lane_at_cell end.part cell))
+filled_there end new cell index word seen shown next is =
+    let lane = lane_at_cell end.part cell in
+    let o = filled_out index word (outbound_at end.part lane) in
+    let still = fill_still end new cell index word seen is in
+    let at = sends_in new.part cell shown (still_sends end new cell still next) in
+    let same : lane_at_cell new.part cell ≡ lane = ap (λ (e : EndOf). lane_at_cell e.part cell) is in
+    let long : length new.part.outbound ≡ length end.part.outbound = ap (λ (e : EndOf). length e.part.outbound) is ∙ length-set end.part.outbound lane o in
+    let within : lane < length end.part.outbound = subst (λ (n : ℕ). lane < n) long (subst (λ (l : ℕ). l < length new.part.outbound) same (outbound_within new.part (lane_at_cell new.part cell) shown at.lane)) in
+    subst (λ (e : EndOf). outbound_at e.part (lane_at_cell e.part cell) ≡ o) (sym is) (get_or-set_same end.part.outbound lane o no_outbound within)
+
 -- ---- reads
 
 pub read_found : (end new : EndOf) (cell : CellId) (index word : ℕ) → IsShown end.part → IsNextToTake end.part cell → new ≡ informed_at new.part.schedule (read_at cell index word end)
@@ -100,90 +114,3 @@ front_found part cell shown next some =
     let lane = lane_at_cell part cell in
     let at = takes_in part cell shown next in
     shown.found lane (lane_in_part part lane shown at.lane) (subst (λ (n : ℕ). receiver_of n lane ≡ me_of part) (shown_nodes part shown) (at.receiver ∙ next.mine)) some
-
--- ---- a lane to the node itself
-
-zero_first : (packet : Packet) (words : List ℕ) → words ≡ 0 ∷ [] → ((k : ℕ) → k < length words → k < length (words_of packet) → get_or words k 0 ≡ get_or (words_of packet) k 0) → 0 < length (words_of packet) → ⊥
-zero_first packet words is agrees some =
-    let first = first_word-above packet in
-    let here : 0 < length words = subst (λ (ws : List ℕ). 0 < length ws) (sym is) (omega arith) in
-    let e = agrees 0 here some in
-    let z : get_or words 0 0 ≡ 0 = ap (λ (ws : List ℕ). get_or ws 0 0) is in
-    omega arith
-
--- a node that finds nothing in a lane to itself has taken all
-nothing_here : (end : EndOf) (es : List Event) (cell : CellId) (sure : Bool) → IsSeen end.part es → IsShown (informed_at es (looked_at cell 0 end)).part → IsNextToTake end.part cell → has_sent_more end.part (lane_at_cell end.part cell) ≡ sure → cell.sender ≡ me_of end.part
-    → (outbound_at end.part (lane_at_cell end.part cell)).sent ≡ (inbound_at end.part (lane_at_cell end.part cell)).taken
-nothing_here end es cell true seen shown next more own =
-    let new = informed_at es (looked_at cell 0 end) in
-    let found : (inbound_at new.part (lane_at_cell new.part cell)).found ≡ 0 ∷ [] = looked_here end es cell 0 seen shown next ∙ ap (λ (b : Bool). found_first b 0) more in
-    let there = still_takes end new cell (look_still end new cell 0 seen refl) next in
-    let front = front_found new.part cell shown there (subst (λ (ws : List ℕ). 0 < length ws) (sym found) (omega arith)) in
-    absurd (zero_first front.packet _ found front.agrees (words_some front.packet))
-nothing_here end es cell false seen shown next more own =
-    let new = informed_at es (looked_at cell 0 end) in
-    let lane = lane_at_cell end.part cell in
-    let at = takes_in new.part cell shown (still_takes end new cell (look_still end new cell 0 seen refl) next) in
-    let sends : eqb (sender_of (nodes_in end.part) lane) (me_of end.part) ≡ true = eq-eqb (sender_of (nodes_in end.part) lane) (me_of end.part) (at.sender ∙ own) in
-    eqb-true _ _ (all_taken (eqb (sender_of (nodes_in end.part) lane) (me_of end.part)) (eqb (outbound_at end.part lane).sent (inbound_at end.part lane).taken) sends more)
-  where
-    all_taken : (a b : Bool) → a ≡ true → (a && not b) ≡ false → b ≡ true
-    all_taken true true e f = refl
-    all_taken true false e f = cc
-    all_taken false b e f = cc
-
-lane_is_own : (part : Part) (cell : CellId) → cell.sender ≡ me_of part → cell.receiver ≡ me_of part → lane_at_cell part cell ≡ own_lane part cell.kind
-lane_is_own part cell s r = λ i. lane_place (nodes_in part) cell.kind (s i) (r i)
-
-pub emptied_as : (part : Part) (cell : CellId) → cell.sender ≡ me_of part → cell.receiver ≡ me_of part → (outbound_at part (lane_at_cell part cell)).sent ≡ (inbound_at part (lane_at_cell part cell)).taken → IsEmptied part cell.kind
-emptied_as part cell s r same = subst (λ (l : ℕ). (outbound_at part l).sent ≡ (inbound_at part l).taken) (lane_is_own part cell s r) same
-
-pub emptied_at : (part : Part) (cell : CellId) → cell.sender ≡ me_of part → cell.receiver ≡ me_of part → IsEmptied part cell.kind → (outbound_at part (lane_at_cell part cell)).sent ≡ (inbound_at part (lane_at_cell part cell)).taken
-emptied_at part cell s r same = subst (λ (l : ℕ). (outbound_at part l).sent ≡ (inbound_at part l).taken) (sym (lane_is_own part cell s r)) same
-
--- what is emptied stays so while no event is made
-pub emptied_still : (old new : EndOf) (kind : LaneKind) → IsStill old new → IsEmptied old.part kind → IsEmptied new.part kind
-emptied_still old new kind still same =
-    let lane : own_lane new.part kind ≡ own_lane old.part kind = ap (λ (n : NodeOf). lane_place n.cache.nodes kind n.cache.me n.cache.me) still.node in
-    subst (λ (l : ℕ). (outbound_at new.part l).sent ≡ (inbound_at new.part l).taken) (sym lane) (still.sent (own_lane old.part kind) ∙ (same ∙ sym (still.taken (own_lane old.part kind))))
-
-pub emptied_before : (old new : EndOf) (kind : LaneKind) → IsStill old new → IsEmptied new.part kind → IsEmptied old.part kind
-emptied_before old new kind still same =
-    let lane : own_lane new.part kind ≡ own_lane old.part kind = ap (λ (n : NodeOf). lane_place n.cache.nodes kind n.cache.me n.cache.me) still.node in
-    let here : (outbound_at new.part (own_lane old.part kind)).sent ≡ (inbound_at new.part (own_lane old.part kind)).taken = subst (λ (l : ℕ). (outbound_at new.part l).sent ≡ (inbound_at new.part l).taken) lane same in
-    sym (still.sent (own_lane old.part kind)) ∙ (here ∙ still.taken (own_lane old.part kind))
-
-pub looked_nothing : (end new : EndOf) (cell : CellId) (word : ℕ) → IsSeen end.part new.part.schedule → IsShown new.part → IsNextToTake end.part cell → new ≡ informed_at new.part.schedule (looked_at cell word end) → word ≡ 0 → cell.sender ≡ me_of new.part → IsEmptied new.part cell.kind
-looked_nothing end new cell word seen shown next is none own =
-    let still = look_still end new cell word seen is in
-    let own_before : cell.sender ≡ me_of end.part = own ∙ ap (λ (n : NodeOf). n.cache.me) still.node in
-    let is_zero : new ≡ informed_at new.part.schedule (looked_at cell 0 end) = is ∙ ap (λ (w : ℕ). informed_at new.part.schedule (looked_at cell w end)) none in
-    emptied_still end new cell.kind still
-    (emptied_as end.part cell own_before next.mine (nothing_here end new.part.schedule cell (has_sent_more end.part (lane_at_cell end.part cell)) seen (subst (λ (e : EndOf). IsShown e.part) is_zero shown) next refl own_before))
-
--- a node that finds a cell to itself full has not taken all
-pub looked_full : (end new : EndOf) (cell : CellId) (word : ℕ) → IsSeen end.part new.part.schedule → IsShown new.part → IsNextToSend end.part cell → new ≡ informed_at new.part.schedule (looked_at cell word end) → word ≢ 0 → cell.receiver ≡ me_of end.part → IsEmptied new.part cell.kind → ⊥
-looked_full end new cell word seen shown next is some own emptied =
-    let still = look_still end new cell word seen is in
-    let before = emptied_before end new cell.kind still emptied in
-    let same = emptied_at end.part cell next.mine own before in
-    let number = next.next in
-    let takes : IsNextToTake end.part cell = record { mine = own; other = subst (λ (n : ℕ). n < nodes_in end.part) (own ∙ sym next.mine) next.other; next = number ∙ ap (λ (k : ℕ). k % 4) same } in
-    let found = looked_found end new cell word seen shown takes is some in
-    let there = still_takes end new cell still takes in
-    let front = front_found new.part cell shown there (subst (λ (ws : List ℕ). 0 < length ws) (sym found) (omega arith)) in
-    let lane = lane_at_cell new.part cell in
-    let at = takes_in new.part cell shown there in
-    let sends = still_sends end new cell still next in
-    let counted = shown.own lane (lane_in_part new.part lane shown at.lane) (subst (λ (n : ℕ). sender_of n lane ≡ me_of new.part) (shown_nodes new.part shown) (at.sender ∙ sends.mine)) (subst (λ (n : ℕ). receiver_of n lane ≡ me_of new.part) (shown_nodes new.part shown) (at.receiver ∙ there.mine)) in
-    let here = emptied_at new.part cell sends.mine there.mine emptied in
-    let long : 0 < length (lane_at shown.core lane) = subst (λ (ls : List Letter). 0 < length ls) (sym front.front) (omega arith) in
-    omega arith
-
-pub held_still : (old new : EndOf) → IsStill old new → IsReplyHeldUp old.part → IsReplyHeldUp new.part
-held_still old new still held =
-    subst (λ (w : Option Letter). IfSome w (λ answer. answer.target ≡ me_of new.part → IsEmptied new.part Answers → ⊥)) (sym (ap (λ (n : NodeOf). n.waiting) still.node)) (held_by old.part.node.waiting held)
-  where
-    held_by : (w : Option Letter) → IfSome w (λ answer. answer.target ≡ me_of old.part → IsEmptied old.part Answers → ⊥) → IfSome w (λ answer. answer.target ≡ me_of new.part → IsEmptied new.part Answers → ⊥)
-    held_by None h = tt
-    held_by (Some answer) h = λ target emptied. h (target ∙ ap (λ (n : NodeOf). n.cache.me) still.node) (emptied_before old new Answers still emptied)

@@ -11,7 +11,6 @@ use Rattle.sci_core.specs.declared.lane.LaneKind.{LaneKind}
 use Rattle.sci_core.specs.declared.lane.LaneKind.TheVariants.{Answers, Requests}
 use Rattle.sci_core.specs.Core.{Core, Sends, Takes, run, stepping, lane_at, lane_of, lane_place, node_at, sends, side}
 use Rattle.sci_core.specs.Node.{NodeOf, is_setback, node_accepting, node_asking, node_refusing, node_replying, node_serving, replied_by}
-use Rattle.sci_core.specs.Reached.{IsReachedNode}
 use Rattle.sci_core.specs.WellFormed.{IsInLane}
 use Rattle.sci_core.proofs.Applied.{front_holds}
 use Rattle.sci_core.proofs.Places.{place_from}
@@ -37,13 +36,9 @@ use Rattle.sci_lanes.proofs.Events.{words_some}
 use Rattle.sci_station.specs.Ends.{HasRead, IsSameEnd, IsStill}
 use Rattle.sci_lanes.specs.Telling.{IsMade, IsTaken, size_in}
 use Rattle.sci_lanes.proofs.Calls.{one_spelled}
-use Rattle.sci_station.specs.Moves.{IsFront, IsDecided}
 use Rattle.sci_station.proofs.Cells.{front_found}
 
 -- ---- sending
-
-pub reached_node : (part : Part) (n : ℕ) → n ≡ me_of part → IsShown part → IsReachedNode n part.node
-reached_node part n is s = subst (λ (m : ℕ). IsReachedNode m part.node) (sym is) (record { core = s.core; reached = s.reached; some = s.some_node; here = s.here })
 
 -- the answer that waits goes to a node of the machine
 pub reply_target : (part : Part) (answer : Letter) → IsShown part → part.node.waiting ≡ Some answer → answer.target < nodes_in part
@@ -64,7 +59,7 @@ replying node answer waits = ap (replied_by node) waits
 -- ---- receiving
 
 -- the packet that was read is the oldest of its lane
-front_read : (part : Part) (cell : CellId) (packet : Packet) (read : HasRead part cell packet) (kind : LaneKind) (from : ℕ) → cell.kind ≡ kind → cell.sender ≡ from
+pub front_read : (part : Part) (cell : CellId) (packet : Packet) (read : HasRead part cell packet) (kind : LaneKind) (from : ℕ) → cell.kind ≡ kind → cell.sender ≡ from
     → (rest : List Letter) × (lane_of read.shown.core kind from (me_of part) ≡ letter_of packet ∷ rest)
 front_read part cell packet read kind from k f =
     let s = read.shown in
@@ -144,24 +139,6 @@ may_refuse part cell packet from n read k f is free no_setback =
       spelled = read.spelled;
     }
 
--- a request that was read is taken as the policy decides
-pub may_take : (part : Part) (cell : CellId) (packet : Packet) (from n : ℕ) (policy : PolicyOf) (d : Decision) (e : Event) → HasRead part cell packet → cell.kind ≡ Requests → cell.sender ≡ from → n ≡ me_of part → part.node.waiting ≡ None
-    → decided policy part.node (letter_of packet) ≡ d → Some e ≡ decided_event d from n → MayFree part cell e
-may_take part cell packet from n policy decision.Keep e read k f is free decides takes = cc
-may_take part cell packet from n policy decision.Refuse e read k f is free decides takes = subst (MayFree part cell) (some_same takes) (may_refuse part cell packet from n read k f is free (refuses_no_setback policy part.node (letter_of packet) decides))
-  where
-    some_same : Some e ≡ Some (event.Refuse from n) → event.Refuse from n ≡ e
-    some_same h = cc
-may_take part cell packet from n policy decision.Serve e read k f is free decides takes = subst (MayFree part cell) (some_same takes) (may_serve part cell packet from n read k f is free)
-  where
-    some_same : Some e ≡ Some (event.Serve from n) → event.Serve from n ≡ e
-    some_same h = cc
-
--- the packet that was read was the front of the event's lane when the event came
-pub front_taken : (part : Part) (cell : CellId) (e : Event) (packet : Packet) (schedule : List Event) → HasRead part cell packet → (t : IsTaken part (lane_at_cell part cell) e schedule)
-    → IsFront (run (size_in part) (part.schedule ++ t.made.others)) e (letter_of packet)
-front_taken part cell e packet schedule read t = (t.rest, t.front ∙ ap (λ (p : Packet). letter_of p ∷ t.rest) (one_spelled t.packet packet _ t.spelled read.spelled))
-
 -- an event that was made after steps that are none
 pub made_later : (old mid : EndOf) (e : Event) (schedule : List Event) → IsStill old mid → IsMade mid.part e schedule → IsMade old.part e schedule
 made_later old mid e schedule still m =
@@ -174,48 +151,3 @@ made_later old mid e schedule still m =
       apart = all_join (λ v. node_of v ≢ me_of old.part) others m.others still.seen.apart (subst (λ (n : ℕ). AreOfOthers n m.others) same.me m.apart);
       stepped = (λ i. stepping (run (sym same.sized i) (sym known i)) e) ∙ (m.stepped ∙ (λ i. Some (run (same.sized i) schedule)));
     }
-
--- ---- events of a turn
-
-pub take_is_own : (d : Decision) (from n : ℕ) (e : Event) → Some e ≡ decided_event d from n → IsTurnEvent n e
-take_is_own decision.Keep from n e is = cc
-take_is_own decision.Refuse from n e is = subst (IsTurnEvent n) (some_same is) (record { own = refl; kind = refl })
-  where
-    some_same : Some e ≡ Some (event.Refuse from n) → event.Refuse from n ≡ e
-    some_same h = cc
-take_is_own decision.Serve from n e is = subst (IsTurnEvent n) (some_same is) (record { own = refl; kind = refl })
-  where
-    some_same : Some e ≡ Some (event.Serve from n) → event.Serve from n ≡ e
-    some_same h = cc
-
--- a request is taken as the policy decides, and its sender is noted
-pub take_made : (before after : PolicyOf) (old new : NodeOf) (state : Core) (d : Decision) (from n : ℕ) (e : Event) (request : Letter) → IsFront state e request → decided before old request ≡ d → Some e ≡ decided_event d from n → taken_by (side old e) request ≡ Some new
-    → after ≡ record before { served = Some from } → IsDecided before old state e after new
-take_made before after old new state decision.Keep from n e request front decides is takes noted = cc
-take_made before after old new state decision.Refuse from n e request front decides is takes noted =
-    subst (λ (v : Event). IsFront state v request → taken_by (side old v) request ≡ Some new → IsDecided before old state v after new) (some_same is) (λ f t. (request, f, t, decides, noted)) front takes
-  where
-    some_same : Some e ≡ Some (event.Refuse from n) → event.Refuse from n ≡ e
-    some_same h = cc
-take_made before after old new state decision.Serve from n e request front decides is takes noted =
-    subst (λ (v : Event). IsFront state v request → taken_by (side old v) request ≡ Some new → IsDecided before old state v after new) (some_same is) (λ f t. (request, f, t, decides, noted)) front takes
-  where
-    some_same : Some e ≡ Some (event.Serve from n) → event.Serve from n ≡ e
-    some_same h = cc
-
--- what a free leaves
-pub freed_same : (old new : EndOf) (cell : CellId) → new ≡ informed_at new.part.schedule (freed_at cell new.part.node old) → IsSameNode old.part new.part → IsSameEnd old new
-freed_same old new cell is same = record { table = ap (λ (e : EndOf). e.table) is; node = same }
-
-pub me_still : (me : ℕ) (old new : EndOf) → IsStill old new → me ≡ me_of old.part → me ≡ me_of new.part
-me_still me old new still is = is ∙ ap (λ (n : NodeOf). n.cache.me) (sym still.node)
-
--- a request in the lane of a node to itself is its own
-pub own_request : (part : Part) (cell : CellId) (packet : Packet) → HasRead part cell packet → cell.kind ≡ Requests → cell.sender ≡ me_of part → (letter_of packet).source ≡ part.node.cache.me
-own_request part cell packet read k f =
-    let s = read.shown in
-    let me = me_of part in
-    let front = front_read part cell packet read Requests me k f in
-    let place = lane_place s.core.size.nodes Requests me me in
-    let first : slice_get (lane_at s.core place) 0 ≡ Some (letter_of packet) = ap (λ (ls : List Letter). slice_get ls 0) front.1 in
-    (front_holds (IsInLane s.core.size.nodes s.core.size.lines place) (lane_at s.core place) (letter_of packet) first ((reached_well s.core s.reached).each_lane place)).from ∙ place_from s.core.size.nodes Requests me me s.some_node s.some_node

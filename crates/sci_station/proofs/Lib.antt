@@ -1,12 +1,12 @@
 pub mod Budgets
 pub mod Stills
 pub mod Cells
-pub mod Circle
 pub mod Spelled
-pub mod Turns
+pub mod OwnEvents
 pub mod Events
-pub mod Idling
 pub mod OneLogs
 pub mod Beats
-pub mod Working
 pub mod Belonging
+pub mod Posts
+pub mod Owing
+pub mod Remembering

@@ -6,16 +6,26 @@ use Rattle.sci_lanes.specs.declared.cell.CellId.{CellId}
 use Rattle.sci_lanes.specs.declared.view.Inbound.{Inbound}
 use Rattle.sci_lanes.specs.declared.view.Outbound.{Outbound}
 use Rattle.sci_lanes.specs.declared.view.Part.{Part}
-use Rattle.std.proofs.lemmas.List.{append_assoc}
+use Rattle.std.proofs.lemmas.List.{append_assoc, get_or-set_other}
 use Rattle.sci_words.specs.declared.event.Event.{Event}
 use Rattle.sci_core.specs.Core.{node_of}
 use Rattle.sci_lanes.specs.Shown.{inbound_at, me_of, no_inbound, no_outbound, outbound_at, AreOfOthers, IsSeen}
 use Rattle.sci_lanes.proofs.Keeping.{all_join, seen_all}
 use Rattle.sci_lanes.specs.Knowing.{has_sent_more, filled_out, is_receiving, is_sending, looked_in, looked_out, read_in, with_lane_known}
 use Rattle.sci_lanes.specs.Telling.{size_in}
-use Rattle.sci_lanes.specs.Ends.{EndOf, IsNextToSend, IsNextToTake, filled_at, informed_at, lane_at_cell, looked_at, read_at, with_part}
+use Rattle.sci_lanes.specs.Ends.{EndOf, IsNextToSend, IsNextToTake, filled_at, freed_at, informed_at, lane_at_cell, looked_at, published_at, read_at, with_part}
+use Rattle.sci_lanes.specs.Cells.{lane_number}
 use Rattle.sci_core.specs.Node.{NodeOf}
-use Rattle.sci_station.specs.Ends.{IsSameEnd, IsStill}
+use Rattle.sci_station.specs.Ends.{IsSameEnd, IsStill, LeavesOthers}
+
+pub same_itself : (end : EndOf) → IsSameEnd end end
+same_itself end = record { table = refl; node = record { me = refl; sized = refl } }
+
+pub same_then : (old mid new : EndOf) → IsSameEnd old mid → IsSameEnd mid new → IsSameEnd old new
+same_then old mid new one_ two = record {
+  table = two.table ∙ one_.table;
+  node = record { me = two.node.me ∙ one_.node.me; sized = two.node.sized ∙ one_.node.sized };
+}
 
 -- what was seen, and what was seen then
 pub seen_then : (p q : Part) (schedule : List Event) → me_of q ≡ me_of p → IsSeen p q.schedule → IsSeen q schedule → IsSeen p schedule
@@ -102,3 +112,27 @@ next_same part a b one two kind sender =
     let lane : lane_at_cell part a ≡ lane_at_cell part b = (λ i. lane_at_cell part (record { kind = kind i; sender = sender i; receiver = receiver i; number = 0 })) in
     let number : a.number ≡ b.number = one.next ∙ (ap (λ (l : ℕ). (inbound_at part l).taken % 4) lane ∙ sym two.next) in
     λ i. record { kind = kind i; sender = sender i; receiver = receiver i; number = number i }
+
+-- ---- other lanes
+
+-- the lane of a cell stays
+pub lane_still : (old new : EndOf) (cell : CellId) → IsStill old new → lane_at_cell new.part cell ≡ lane_at_cell old.part cell
+lane_still old new cell still = ap (λ (n : NodeOf). lane_number n.cache.nodes cell) still.node
+
+pub others_then : (lane : ℕ) (old mid new : Part) → LeavesOthers lane old mid → LeavesOthers lane mid new → LeavesOthers lane old new
+others_then lane old mid new one two other apart = two other apart ∙ one other apart
+
+pub look_others : (end new : EndOf) (cell : CellId) (word : ℕ) → new ≡ informed_at new.part.schedule (looked_at cell word end) → LeavesOthers (lane_at_cell end.part cell) end.part new.part
+look_others end new cell word is other apart = ap (λ (e : EndOf). inbound_at e.part other) is ∙ get_or-set_other end.part.inbound (lane_at_cell end.part cell) other _ no_inbound apart
+
+pub fill_others : (end new : EndOf) (cell : CellId) (index word : ℕ) → new ≡ informed_at new.part.schedule (filled_at cell index word end) → LeavesOthers (lane_at_cell end.part cell) end.part new.part
+fill_others end new cell index word is other apart = ap (λ (e : EndOf). inbound_at e.part other) is ∙ get_or-set_other end.part.inbound (lane_at_cell end.part cell) other _ no_inbound apart
+
+pub read_others : (end new : EndOf) (cell : CellId) (index word : ℕ) → new ≡ informed_at new.part.schedule (read_at cell index word end) → LeavesOthers (lane_at_cell end.part cell) end.part new.part
+read_others end new cell index word is other apart = ap (λ (e : EndOf). inbound_at e.part other) is ∙ get_or-set_other end.part.inbound (lane_at_cell end.part cell) other _ no_inbound apart
+
+pub publish_others : (end new : EndOf) (cell : CellId) (node : NodeOf) → new ≡ informed_at new.part.schedule (published_at cell node end) → LeavesOthers (lane_at_cell end.part cell) end.part new.part
+publish_others end new cell node is other apart = ap (λ (e : EndOf). inbound_at e.part other) is ∙ get_or-set_other end.part.inbound (lane_at_cell end.part cell) other _ no_inbound apart
+
+pub free_others : (end new : EndOf) (cell : CellId) (node : NodeOf) → new ≡ informed_at new.part.schedule (freed_at cell node end) → LeavesOthers (lane_at_cell end.part cell) end.part new.part
+free_others end new cell node is other apart = ap (λ (e : EndOf). inbound_at e.part other) is ∙ get_or-set_other end.part.inbound (lane_at_cell end.part cell) other _ no_inbound apart

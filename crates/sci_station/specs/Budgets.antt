@@ -1,5 +1,5 @@
 -- How many steps on words a turn may still make.
-use Rattle.std.specs.Prelude.{◌≡◌, ◌≤◌, ◌+◌, ℕ, Option, Some, None}
+use Rattle.std.specs.Prelude.{◌≡◌, ◌≤◌, ◌+◌, ℕ, Option, Some, None, is_none, unwrap_or}
 
 -- so many steps fewer, or still no limit
 abbrev pub HasLess : ℕ → Option ℕ → Option ℕ → Type 0
@@ -8,7 +8,6 @@ HasLess steps (Some old) (Some new) = new + steps ≡ old
 HasLess steps _ _ = ⊥
 
 -- no more than before, or still no limit
-abbrev pub HasNoMore : Option ℕ → Option ℕ → Type 0
-HasNoMore None None = Unit {0}
-HasNoMore (Some old) (Some new) = new ≤ old
-HasNoMore _ _ = ⊥
+pub record HasNoMore (old new : Option ℕ) : Type 0 where
+  pub limit : is_none new ≡ is_none old
+  pub fewer : unwrap_or new 0 ≤ unwrap_or old 0

@@ -1,17 +1,15 @@
 -- A station's end, before and after steps on words.
-use Rattle.std.specs.Prelude.{◌≡◌, ℕ, [], ◌∷◌, None, IfSome}
+use Rattle.std.specs.Prelude.{◌≡◌, ◌≢◌, ℕ, [], ◌∷◌}
 use Rattle.sci_cache.specs.Cache.{Letter}
 use Rattle.sci_words.specs.declared.event.Event.{Event}
 use Rattle.sci_core.specs.declared.lane.LaneKind.{LaneKind}
-use Rattle.sci_core.specs.declared.lane.LaneKind.TheVariants.{Answers, Requests}
-use Rattle.sci_core.specs.Core.{Sends, lane_place, side}
+use Rattle.sci_core.specs.Core.{Sends, side}
 use Rattle.sci_core.specs.Node.{NodeOf}
 use Rattle.sci_lanes.specs.Shown.{inbound_at, IsSeen, me_of, outbound_at}
 use Rattle.sci_lanes.specs.Telling.{IsSameNode, IsShown}
-use Rattle.sci_policy.specs.Rest.{MayRest}
 use Rattle.sci_lanes.specs.declared.cell.CellId.{CellId}
 use Rattle.sci_lanes.specs.declared.view.Part.{Part}
-use Rattle.sci_lanes.specs.Ends.{EndOf, IsNextToTake, lane_at_cell, nodes_in}
+use Rattle.sci_lanes.specs.Ends.{EndOf, IsNextToTake, lane_at_cell}
 use Rattle.sci_packets.specs.Spelling.{SpellsInWords}
 use Rattle.sci_packets.specs.declared.packet.Packet.{Packet}
 use Rattle.sci_station.specs.declared.receiving.Seen.{Seen}
@@ -35,9 +33,9 @@ pub record IsSentBy (node : NodeOf) (e : Event) (kind : LaneKind) (letter : Lett
   pub next : NodeOf
   pub side_is : side node e ≡ Sends kind next letter
 
--- the lane of a kind from the node to itself
-abbrev pub own_lane : Part → LaneKind → ℕ
-own_lane part kind = lane_place (nodes_in part) kind (me_of part) (me_of part)
+-- what is known of the packets that come by any other lane than this one is the same
+abbrev pub LeavesOthers : ℕ → Part → Part → Type 0
+LeavesOthers lane old new = (other : ℕ) → other ≢ lane → inbound_at new other ≡ inbound_at old other
 
 -- the first word of a packet, and no more of it, was found in the next cell of a lane
 pub record HasSeen (part : Part) (seen : Seen) : Type 0 where
@@ -50,20 +48,3 @@ pub record HasRead (part : Part) (cell : CellId) (packet : Packet) : Type 0 wher
   pub shown : IsShown part
   pub next : IsNextToTake part cell
   pub spelled : SpellsInWords packet (inbound_at part (lane_at_cell part cell)).found
-
--- the node has taken all that it has sent to itself in its lane of a kind
-abbrev pub IsEmptied : Part → LaneKind → Type 0
-IsEmptied part kind = (outbound_at part (own_lane part kind)).sent ≡ (inbound_at part (own_lane part kind)).taken
-
--- ---- what a turn that reports nothing has found
-
--- no answer waits, or it goes to another node, or the lane of answers from the node to itself isn't empty
-abbrev pub IsReplyHeldUp : Part → Type 0
-IsReplyHeldUp part = IfSome part.node.waiting (λ answer. answer.target ≡ me_of part → IsEmptied part Answers → ⊥)
-
--- what a turn has found that reports nothing
-pub record HasNothingToDo (part : Part) : Type 0 where
-  pub rest : MayRest part.node
-  pub reply : IsReplyHeldUp part
-  pub answers : IsEmptied part Answers
-  pub requests : part.node.waiting ≡ None → IsEmptied part Requests

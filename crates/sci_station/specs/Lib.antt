@@ -1,5 +1,5 @@
 pub mod Budgets
 pub mod Ends
-pub mod Moves
 pub mod OneLog
+pub mod Posts
 pub mod Station

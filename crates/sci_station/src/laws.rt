@@ -6,12 +6,12 @@ ghost use Rattle.sci_core.specs.Core.{node_of};
 ghost use Rattle.sci_lanes.specs.declared.view.Part.{Part};
 ghost use Rattle.sci_lanes.specs.Shown.{IsSeen, me_of};
 ghost use Rattle.sci_lanes.specs.Telling.{IsMade};
-ghost use Rattle.sci_station.specs.Moves.{events_of};
+ghost use Rattle.sci_turn.specs.Moves.{own_of};
 
 /// A schedule of which an end knows a beginning has no other events of the end's node than those that it knows.
 pub fn ends_know_their_own_events()
     ensures { (part : Part) (schedule : List Event) → IsSeen part schedule →
-        events_of (me_of part) schedule ≡ events_of (me_of part) part.schedule }
+        own_of (me_of part) schedule ≡ own_of (me_of part) part.schedule }
 {}
 
 /// An event that a call makes comes after all events that the end's node made before. So in the schedule of a whole run the
@@ -20,5 +20,5 @@ pub fn ends_know_their_own_events()
 pub fn calls_add_their_events()
     ensures { (part : Part) (e : Event) (schedule : List Event) → node_of e ≡ me_of part →
         IsMade part e schedule →
-        events_of (me_of part) schedule ≡ events_of (me_of part) part.schedule ++ e ∷ [] }
+        own_of (me_of part) schedule ≡ own_of (me_of part) part.schedule ++ e ∷ [] }
 {}

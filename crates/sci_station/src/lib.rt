@@ -5,10 +5,10 @@ mod budget;
 mod fabric;
 mod kept;
 mod laws;
+mod post;
 mod receiving;
 mod sending;
 mod station;
-mod turn;
 mod unanswered;
 mod worker;
 

@@ -2,11 +2,12 @@
 
 ghost use Rattle.std.specs.Prelude.{◌≡◌, ◌≢◌, ◌<◌, ◌≤◌, ℕ, [], ◌∷◌, length, take, None, IfOk, IfSome, IsErr, IsOk};
 ghost use Rattle.sci_packets.specs.Spelling.{NoneSpellsInWords};
+ghost use Rattle.sci_core.specs.Core.{lane_of, lane_place};
 ghost use Rattle.sci_lanes.specs.Shown.{inbound_at, me_of};
-ghost use Rattle.sci_lanes.specs.Telling.{IsShown};
+ghost use Rattle.sci_lanes.specs.Telling.{IsShown, state_of};
 ghost use Rattle.sci_lanes.specs.Ends.{IsNextToTake, lane_at_cell, nodes_in};
 ghost use Rattle.sci_station.specs.Budgets.{HasNoMore};
-ghost use Rattle.sci_station.specs.Ends.{HasRead, HasSeen, IsEmptied, IsStill};
+ghost use Rattle.sci_station.specs.Ends.{HasRead, HasSeen, IsStill, LeavesOthers};
 
 use crate::budget::{Budget, Spent};
 use crate::sending::PACKET_WORDS;
@@ -26,8 +27,8 @@ pub struct Seen {
     pub first: u64,
 }
 
-/// Looks at the next cell of the lane of a kind from a node to this one. None if no packet is there. The caller sees to it
-/// that there is such a node.
+/// Looks at the next cell of the lane of a kind from a node to this one. None if no packet is there: then the lane is empty.
+/// The caller sees to it that there is such a node.
 pub fn see(
     end: &mut LaneEnd,
     budget: &mut Budget,
@@ -38,8 +39,10 @@ pub fn see(
     ensures seen { IfOk result (λ found. IfSome found (HasSeen end.new.part)) }
     ensures kind { IfOk result (λ found. IfSome found (λ seen. seen.cell.kind ≡ kind)) }
     ensures from { IfOk result (λ found. IfSome found (λ seen. seen.cell.sender ≡ from)) }
-    ensures none { IfOk result (λ found. found ≡ None → from ≡ me_of end.new.part →
-        IsEmptied end.new.part kind) }
+    ensures none { IfOk result (λ found. found ≡ None →
+        lane_of (state_of end.new.part) kind from (me_of end.new.part) ≡ []) }
+    ensures others { LeavesOthers (lane_place (nodes_in end.old.part) kind from (me_of end.old.part))
+        end.old.part end.new.part }
     ensures still { IsStill end.old end.new }
     ensures budget { HasNoMore budget.old.left budget.new.left }
     ensures spent { IsErr result → budget.old.left ≢ None }
@@ -57,6 +60,7 @@ pub fn see(
 pub fn read_packet(end: &mut LaneEnd, budget: &mut Budget, seen: Seen) -> Result<Packet, Spent>
     requires { HasSeen end.old.part seen }
     ensures read { IfOk result (HasRead end.new.part seen.cell) }
+    ensures others { LeavesOthers (lane_at_cell end.old.part seen.cell) end.old.part end.new.part }
     ensures still { IsStill end.old end.new }
     ensures budget { HasNoMore budget.old.left budget.new.left }
     ensures spent { IsErr result → budget.old.left ≢ None }
@@ -85,6 +89,7 @@ fn read_long(
         ≡ first ∷ second ∷ [] }
     requires long { NoneSpellsInWords (first ∷ second ∷ []) }
     ensures read { IfOk result (HasRead end.new.part cell) }
+    ensures others { LeavesOthers (lane_at_cell end.old.part cell) end.old.part end.new.part }
     ensures still { IsStill end.old end.new }
     ensures budget { HasNoMore budget.old.left budget.new.left }
     ensures spent { IsErr result → budget.old.left ≢ None }
@@ -121,6 +126,7 @@ fn read(
     ensures found { IsOk result → (inbound_at end.new.part (lane_at_cell end.new.part cell)).found
         ≡ take to words.new }
     ensures begins { take from words.new ≡ take from words.old }
+    ensures others { LeavesOthers (lane_at_cell end.old.part cell) end.old.part end.new.part }
     ensures budget { HasNoMore budget.old.left budget.new.left }
     ensures spent { IsErr result → budget.old.left ≢ None }
 {

@@ -2,13 +2,14 @@
 
 ghost use Rattle.std.specs.Prelude.{◌≡◌, ◌≢◌, ◌<◌, ◌≤◌, ◌-◌, length, take, drop, true, false, IfOk, IsErr, IsOk};
 ghost use Rattle.sci_cache.specs.Cache.{letter_of};
-ghost use Rattle.sci_core.specs.Core.{Sends, node_of, side};
+ghost use Rattle.sci_core.specs.Core.{Sends, lane_of, lane_place, node_of, side};
 ghost use Rattle.sci_core.specs.declared.lane.LaneKind.TheVariants.{Requests};
+ghost use Rattle.sci_words.specs.declared.limits.TheConstants.{LANE_CELLS};
 ghost use Rattle.sci_lanes.specs.Shown.{me_of, outbound_at};
-ghost use Rattle.sci_lanes.specs.Telling.{IsMade, IsShown, SomeLineWaits};
+ghost use Rattle.sci_lanes.specs.Telling.{IsMade, SomeLineWaits, state_of};
 ghost use Rattle.sci_lanes.specs.Ends.{IsNextToSend, lane_at_cell, nodes_in};
 ghost use Rattle.sci_station.specs.Budgets.{HasNoMore};
-ghost use Rattle.sci_station.specs.Ends.{IsEmptied, IsSameEnd, IsSentBy, IsStill};
+ghost use Rattle.sci_station.specs.Ends.{IsSameEnd, IsSentBy, IsStill, LeavesOthers};
 
 use crate::budget::{Budget, Spent};
 use sci_core::LaneKind;
@@ -20,8 +21,8 @@ use sci_words::Event;
 pub(crate) const PACKET_WORDS: usize = 11;
 
 /// Sends a packet by an event of the node: a look at the next cell of its lane, and if that is empty, a store of each word.
-/// False if the cell is full. The caller sees to it that the event sends this packet, to a node of the machine. If the turn
-/// has made as many steps as it may before the first word is stored, nothing is sent.
+/// False if the cell is full: then the lane is. The caller sees to it that the event sends this packet, to a node of the
+/// machine. If the turn has made as many steps as it may before the first word is stored, nothing is sent.
 pub fn send(
     end: &mut LaneEnd,
     budget: &mut Budget,
@@ -40,8 +41,11 @@ pub fn send(
     ensures cut { IsErr result → IsStill end.old end.new }
     ensures waits { IfOk result (λ sent. sent ≡ false → kind ≡ Requests →
         SomeLineWaits end.new.part.node) }
-    ensures own { IfOk result (λ sent. sent ≡ false → packet.now.target ≡ me_of end.new.part →
-        IsEmptied end.new.part kind → ⊥) }
+    ensures held { IfOk result (λ sent. sent ≡ false → LANE_CELLS ≤ length
+        (lane_of (state_of end.new.part) kind (me_of end.new.part) packet.now.target)) }
+    ensures others { LeavesOthers
+        (lane_place (nodes_in end.old.part) kind (me_of end.old.part) packet.now.target)
+        end.old.part end.new.part }
     ensures same { IsSameEnd end.old end.new }
     ensures budget { HasNoMore budget.old.left budget.new.left }
     ensures spent { IsErr result → budget.old.left ≢ None }
@@ -60,7 +64,7 @@ pub fn send(
 }
 
 /// The node that a packet goes to.
-fn target_of(end: &LaneEnd, packet: &Packet) -> u8
+pub(crate) fn target_of(end: &LaneEnd, packet: &Packet) -> u8
     requires { packet.now.target < nodes_in end.now.part }
     ensures { result ≡ packet.now.target }
 {
@@ -79,6 +83,7 @@ fn fill(end: &mut LaneEnd, budget: &mut Budget, cell: CellId, words: &[u64]) -> 
     ensures vacant { (outbound_at end.new.part (lane_at_cell end.new.part cell)).vacant ≡ true }
     ensures filled { IsOk result →
         (outbound_at end.new.part (lane_at_cell end.new.part cell)).filled ≡ words.now }
+    ensures others { LeavesOthers (lane_at_cell end.old.part cell) end.old.part end.new.part }
     ensures budget { HasNoMore budget.old.left budget.new.left }
     ensures spent { IsErr result → budget.old.left ≢ None }
 {

@@ -1,12 +1,10 @@
 //! A station: a node that runs by itself.
 
-use crate::budget::Budget;
-use crate::kept::Kept;
-use crate::turn::take_turn;
-use crate::unanswered::Unanswered;
+use crate::post::StationPost;
 use sci_history::Entry;
 use sci_lanes::{HasEnd, LaneEnd};
 use sci_policy::{Policy, Progress, SubmitFault, check_submit};
+use sci_turn::take_turn;
 use sci_words::{Event, Op};
 use std::marker::Model;
 
@@ -14,10 +12,8 @@ use std::marker::Model;
 /// another, or takes memory. Contracts see its end and what its policy remembers.
 #[derive(Drop)]
 pub struct Station {
-    end: LaneEnd,
+    post: StationPost,
     policy: Policy,
-    unanswered: Unanswered,
-    kept: Kept,
 }
 
 impl Model for Station {
@@ -25,45 +21,48 @@ impl Model for Station {
 
     ghost Value = { StationOf };
 
-    ghost view = { λ station. record { end = station.end; policy = station.policy } };
+    ghost view = { λ station. record { end = station.post.end; policy = station.policy } };
 }
 
 impl HasEnd for Station {
     ghost end_of = { λ station. station.end };
 
     fn end(&self) -> &LaneEnd {
-        &self.end
+        self.post.end()
     }
 
     fn into_end(self) -> LaneEnd {
-        self.end
+        self.post.into_end()
     }
 }
 
 impl Station {
-    ghost use Rattle.std.specs.Prelude.{◌≡◌, ◌<◌, ◌≤◌, true, Some, None, IfErr, IfOk, IfSome, IsErr, IsOk};
+    ghost use Rattle.std.specs.Prelude.{◌≡◌, ◌<◌, ◌≤◌, [], true, Some, None, IfErr, IfOk, IfSome, IsErr, IsOk};
     ghost use Rattle.sci_core.specs.Node.{node_issuing, node_performing};
     ghost use Rattle.sci_core.specs.Work.{IsIssued, IsLogged};
     ghost use Rattle.sci_policy.specs.Rest.{MayIdle};
     ghost use Rattle.sci_policy.specs.Turn.{MayPerform, is_idle, submit_fault};
-    ghost use Rattle.sci_policy.specs.Worker.{HasSameWork};
+    ghost use Rattle.sci_policy.specs.Worker.{HasSameWork, IsNodeTurn};
     ghost use Rattle.sci_words.specs.declared.event.Event.TheVariants.{Issue, Perform};
     ghost use Rattle.sci_lanes.specs.Shown.{me_of};
     ghost use Rattle.sci_lanes.specs.Telling.{IsMade};
+    ghost use Rattle.sci_policy.specs.Policy.{turned};
+    ghost use Rattle.sci_turn.specs.Far.{HasAskedAll};
+    ghost use Rattle.sci_turn.specs.Idle.{IsIdleTurn};
+    ghost use Rattle.sci_turn.specs.Moves.{IsTurn};
     ghost use Rattle.sci_station.specs.Ends.{IsSameEnd};
-    ghost use Rattle.sci_station.specs.Moves.{IsTurn};
+    ghost use Rattle.sci_station.specs.Posts.{post_of};
     ghost use Rattle.sci_station.specs.OneLog.{IsOneLog};
     ghost use Rattle.sci_station.specs.Station.{beaten_to, node_in, opening_station, schedule_in};
 
-    /// The station of an end whose node has taken no turn yet.
+    /// The station of an end in whose machine nothing was done yet.
     pub(crate) fn new(end: LaneEnd) -> Station
+        requires { end.part.schedule ≡ [] }
         ensures { result ≡ opening_station end }
     {
         Station {
-            end,
+            post: StationPost::new(end),
             policy: Policy::new(),
-            unanswered: Unanswered::new(),
-            kept: Kept::new(),
         }
     }
 
@@ -84,13 +83,13 @@ impl Station {
         ensures same { IsErr result → self.new ≡ self.old }
         ensures end { IsSameEnd self.old.end self.new.end }
     {
-        check_submit(self.end.node(), &op)?;
+        check_submit(self.post.end().node(), &op)?;
         let event = Event::Issue {
-            node: self.end.me(),
+            node: self.post.end().me(),
             op,
         };
-        self.end.beat(&event);
-        match self.end.node().pending(op.line) {
+        self.post.beat(&event);
+        match self.post.end().node().pending(op.line) {
             Some(pending) => Ok(pending.serial),
             None => unreachable!(),
         }
@@ -110,15 +109,15 @@ impl Station {
         ensures same { result ≡ None → self.new ≡ self.old }
         ensures end { IsSameEnd self.old.end self.new.end }
     {
-        if !self.end.node().may_perform(line) {
+        if !self.post.end().node().may_perform(line) {
             return None;
         }
         let event = Event::Perform {
-            node: self.end.me(),
+            node: self.post.end().me(),
             line,
         };
-        self.end.beat(&event);
-        match self.end.node().log().last() {
+        self.post.beat(&event);
+        match self.post.end().node().log().last() {
             Some(entry) => Some(*entry),
             None => unreachable!(),
         }
@@ -131,30 +130,31 @@ impl Station {
     /// - Each event is the node's own, enabled when it comes. The policy counts the turn, decides each request that is
     ///   taken, and wants each ask.
     /// - What is told counts the events. A line that is told of has an operation that can be performed.
-    /// - Nothing is told only if no operation is pending, or there are other nodes and some line awaits an answer.
+    /// - It ends after four asks, at a line that can be performed, when the policy wants no more, or at a full lane.
+    /// - Nothing is told only if there was nothing to do: from no node an answer had come, and each request that had come
+    ///   is kept, or an answer waits that found its lane full. Then no operation is pending, or there are other nodes and
+    ///   some line awaits an answer.
     pub fn turn(&mut self) -> Progress
-        ensures turn { IsTurn (me_of self.old.end.part) self.old.policy self.old.end.part
-            self.new.policy self.new.end.part result }
+        ensures turn { IsTurn self.old.policy (post_of self.old.end)
+            self.new.policy (post_of self.new.end) result }
+        ensures asks { HasAskedAll (turned self.old.policy) (post_of self.old.end)
+            self.new.policy (post_of self.new.end) result }
         ensures ready { MayPerform (node_in self.new) result.ready }
+        ensures node { IsNodeTurn (node_in self.old) (node_in self.new) result }
+        ensures idle { is_idle result ≡ true → IsIdleTurn self.old.policy (post_of self.old.end)
+            self.new.policy (post_of self.new.end) }
         ensures work { HasSameWork (node_in self.old) (node_in self.new) }
         ensures rest { is_idle result ≡ true → MayIdle (node_in self.new) }
         ensures end { IsSameEnd self.old.end self.new.end }
     {
         let mut progress = Progress::new();
-        let mut budget = Budget { left: None };
-        match take_turn(
-            &mut self.end,
-            &mut self.policy,
-            &mut self.unanswered,
-            &mut self.kept,
-            &mut progress,
-            &mut budget,
-        ) {
+        self.post.allow(None);
+        match take_turn(&mut self.post, &mut self.policy, &mut progress) {
             Ok(()) => {}
             Err(_) => unreachable!(),
         }
         // Read, so that the prover knows that the node is one of a state.
-        let _node = self.end.node();
+        let _left = self.post.left();
         progress
     }
 
@@ -162,24 +162,18 @@ impl Station {
     /// made. What it didn't come to is not told. A packet that was partly sent or partly read is begun again in a later
     /// turn.
     pub fn turn_within(&mut self, steps: u32) -> (Progress, u32)
-        ensures turn { IsTurn (me_of self.old.end.part) self.old.policy self.old.end.part
-            self.new.policy self.new.end.part result.0 }
+        ensures turn { IsTurn self.old.policy (post_of self.old.end)
+            self.new.policy (post_of self.new.end) result.0 }
         ensures ready { MayPerform (node_in self.new) result.0.ready }
+        ensures node { IsNodeTurn (node_in self.old) (node_in self.new) result.0 }
         ensures work { HasSameWork (node_in self.old) (node_in self.new) }
         ensures steps { result.1 ≤ steps }
         ensures end { IsSameEnd self.old.end self.new.end }
     {
         let mut progress = Progress::new();
-        let mut budget = Budget { left: Some(steps) };
-        let _ended = take_turn(
-            &mut self.end,
-            &mut self.policy,
-            &mut self.unanswered,
-            &mut self.kept,
-            &mut progress,
-            &mut budget,
-        );
-        match budget.left {
+        self.post.allow(Some(steps));
+        let _ended = take_turn(&mut self.post, &mut self.policy, &mut progress);
+        match self.post.left() {
             Some(left) => (progress, steps - left),
             None => unreachable!(),
         }
@@ -191,13 +185,13 @@ impl Station {
         ensures log { result.now ≡ (node_in self.now).log }
         ensures one { IsOneLog result.now }
     {
-        self.end.node().log()
+        self.post.end().node().log()
     }
 
     /// The node's number.
     pub fn me(&self) -> u8
         ensures { result ≡ me_of self.now.end.part }
     {
-        self.end.me()
+        self.post.end().me()
     }
 }

@@ -1,74 +1,77 @@
 //! Which nodes owe a node an answer.
 
+use sci_cache::LineSet;
 use sci_words::MAX_NODES;
+use std::marker::Model;
 
-/// How many requests of a node are unanswered, by the node that each went to.
-#[derive(Clone, Copy, Drop)]
+/// How many answers each node owes a node. Contracts see the counts.
+#[derive(Drop)]
 pub(crate) struct Unanswered {
     counts: [u8; MAX_NODES as usize],
-    // the nodes whose count isn't 0, a bit each
-    owing: u16,
+    /// The nodes whose count isn't 0: a set of small numbers, whatever they number.
+    owing: LineSet,
+}
+
+impl Model for Unanswered {
+    ghost use Rattle.std.specs.Prelude.{ℕ, ◌≡◌, List, nat_lt, slice_index};
+    ghost use Rattle.sci_cache.specs.LineSet.{is_in};
+
+    ghost Value = { List ℕ };
+
+    ghost view = { λ unanswered. unanswered.counts };
+
+    ghost invariant = { λ unanswered. (node : ℕ) →
+        is_in unanswered.owing node ≡ nat_lt 0 (slice_index unanswered.counts node) };
 }
 
 impl Unanswered {
-    ghost use Rattle.std.specs.Prelude.{◌≡◌, ◌<◌, ◌≤◌, None, IfSome};
+    ghost use Rattle.std.specs.Prelude.{◌≡◌, ◌≢◌, ◌<◌, ◌≤◌, ◌+◌, ℕ, IfSome, slice_index};
+    ghost use Rattle.sci_cache.specs.LineSet.{IsBefore};
+    ghost use Rattle.sci_words.specs.declared.limits.TheConstants.{MAX_NODES};
 
-    /// None are.
-    pub(crate) fn new() -> Unanswered {
+    /// None is owed.
+    pub(crate) fn new() -> Unanswered
+        ensures { (node : ℕ) → slice_index result node ≡ 0 }
+    {
         Unanswered {
             counts: [0; MAX_NODES as usize],
-            owing: 0,
+            owing: LineSet::new(),
         }
     }
 
-    /// A request went to a node.
-    pub(crate) fn asked(&mut self, to: u16) {
-        if let Some(count) = self.counts.get_mut(usize::from(to)) {
-            *count = count.saturating_add(1);
-            self.owing |= 1u16 << to;
-        }
-    }
-
-    /// An answer of a node was accepted.
-    pub(crate) fn accepted(&mut self, from: u8) {
-        if let Some(count) = self.counts.get_mut(usize::from(from)) {
-            *count = count.saturating_sub(1);
-            if *count == 0 {
-                self.owing &= !(1u16 << from);
-            }
-        }
-    }
-
-    /// The first node from one on that owes an answer, or that is `me`. None if there is none below `nodes`. The caller sees
-    /// to it that `me` is.
-    pub(crate) fn next_from(&self, from: u8, me: u8, nodes: u8) -> Option<u8>
-        requires { me < nodes }
-        ensures order { IfSome result (λ node. from ≤ node) }
-        ensures here { IfSome result (λ node. node < nodes) }
-        ensures before { IfSome result (λ node. from ≤ me → node ≤ me) }
-        ensures none { result ≡ None → me < from }
+    /// A request went to a node. The caller sees to it that fewer than 255 are unanswered there.
+    pub(crate) fn asked(&mut self, to: u8)
+        requires there { to < MAX_NODES }
+        requires few { slice_index self.old to < 255 }
+        ensures here { slice_index self.new to ≡ slice_index self.old to + 1 }
+        ensures others { (other : ℕ) → other ≢ to →
+            slice_index self.new other ≡ slice_index self.old other }
     {
-        let owing = self.owing_from(from);
-        if from > me {
-            return owing.filter(|node| *node < nodes);
-        }
-        match owing {
-            Some(node) if node < me => Some(node),
-            _ => Some(me),
-        }
+        self.counts[usize::from(to)] += 1;
+        self.owing.put(to, true);
+    }
+
+    /// An answer of a node was accepted. The caller sees to it that it owed one.
+    pub(crate) fn accepted(&mut self, from: u8)
+        requires there { from < MAX_NODES }
+        requires some { 0 < slice_index self.old from }
+        ensures here { slice_index self.new from + 1 ≡ slice_index self.old from }
+        ensures others { (other : ℕ) → other ≢ from →
+            slice_index self.new other ≡ slice_index self.old other }
+    {
+        let left = self.counts[usize::from(from)] - 1;
+        self.counts[usize::from(from)] = left;
+        self.owing.put(from, left > 0);
     }
 
     /// The first node from one on that owes an answer, or None if none does.
-    fn owing_from(&self, from: u8) -> Option<u8>
-        ensures { IfSome result (λ node. from ≤ node) }
+    #[inline(always)]
+    pub(crate) fn next_from(&self, from: u8) -> Option<u8>
+        ensures order { IfSome result (λ node. from ≤ node) }
+        ensures owes { IfSome result (λ node. 0 < slice_index self.now node) }
+        ensures between { (node : ℕ) → from ≤ node → IsBefore node result →
+            slice_index self.now node ≡ 0 }
     {
-        if from >= MAX_NODES {
-            return None;
-        }
-        let left = self.owing >> from;
-        if left == 0 {
-            return None;
-        }
-        Some(from + left.trailing_zeros() as u8)
+        self.owing.next_from(from)
     }
 }

@@ -12,7 +12,7 @@ use Rattle.sci_drive.specs.declared.driver.Issuing.{Issuing}
 use Rattle.sci_drive.specs.Driving.{DriverOf}
 use Rattle.sci_drive.specs.Script.{IsFrontOf, IsLogOf, IsWholeLogOf}
 use Rattle.sci_drive.proofs.Drives.{log_of, whole_of}
-use Rattle.sci_station.proofs.Turns.{same_itself, same_then}
+use Rattle.sci_station.proofs.Stills.{same_itself, same_then}
 use Rattle.sci_threads.specs.Shares.{GoesOn, HasRun, HaveGoneOn, IsOpened, IsWell}
 
 pub stays : (driver : DriverOf) (end : EndOf) → GoesOn driver end driver end

@@ -1,4 +1,4 @@
-use Rattle.sci_station.proofs.Turns.{own_added}
+use Rattle.sci_station.proofs.OwnEvents.{own_added}
 use Rattle.sci_station.proofs.laws.calls_add_their_events.Goals as goal
 
 pub returns : goal.returns

@@ -3,7 +3,7 @@ use Rattle.sci_lanes.specs.Shown.{inbound_at}
 use Rattle.sci_lanes.specs.Telling.{IsShown}
 use Rattle.sci_lanes.specs.Ends.{lane_at_cell}
 use Rattle.sci_station.specs.Budgets.{HasNoMore}
-use Rattle.sci_station.specs.Ends.{IsStill}
+use Rattle.sci_station.specs.Ends.{IsStill, LeavesOthers}
 use Rattle.sci_station.proofs.receiving.read.Given as goal
 
 abbrev pub invariant-loop-index : goal.invariant-loop-index
@@ -14,5 +14,6 @@ invariant-loop-index l = record {
   order : l.from ≤ l.index;
   found : (inbound_at l.end.part (lane_at_cell l.end.part l.cell)).found ≡ take l.index l.words;
   begins : take l.from l.words ≡ take l.from l.fn.words;
+  others : LeavesOthers (lane_at_cell l.fn.end.part l.cell) l.fn.end.part l.end.part;
   budget : HasNoMore l.fn.budget.left l.budget.left;
 }

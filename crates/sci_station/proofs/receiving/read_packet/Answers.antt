@@ -1,8 +1,9 @@
-use Rattle.std.proofs.Common.{List, [], ◌∷◌, ◌++◌, ℕ, length, take, refl, ap, ◌∙◌, arith}
+use Rattle.std.proofs.Common.{List, [], ◌∷◌, ◌++◌, ℕ, length, take, refl, ap, subst, ◌∙◌, arith}
 use Rattle.sci_lanes.specs.declared.view.Inbound.{Inbound}
 use Rattle.sci_station.proofs.Cells.{read_found}
 use Rattle.sci_station.proofs.Spelled.{short_packet}
-use Rattle.sci_station.proofs.Stills.{read_still, still_takes, still_then}
+use Rattle.sci_station.proofs.Stills.{lane_still, others_then, read_others, read_still, still_takes, still_then}
+use Rattle.sci_station.specs.Ends.{LeavesOthers}
 use Rattle.sci_station.proofs.receiving.read_packet.Goals as goal
 
 pub read_word-second-requires : goal.read_word-second-requires
@@ -26,3 +27,13 @@ pub returns-in-Err-clause-still : goal.returns-in-Err-clause-still
 returns-in-Err-clause-still c =
     let second = c.read_word-second in
     still_then c.args.end.now second.new.self c.read_long.new.end (read_still c.args.end.now second.new.self c.args.seen.cell 1 second.result second.ensures.seen second.ensures.part) c.read_long.ensures.still
+
+pub returns-in-Ok-clause-others : goal.returns-in-Ok-clause-others
+returns-in-Ok-clause-others c = let second = c.read_word-second in read_others c.args.end.now second.new.self c.args.seen.cell 1 second.result second.ensures.part
+
+pub returns-in-Err-clause-others : goal.returns-in-Err-clause-others
+returns-in-Err-clause-others c =
+    let second = c.read_word-second in
+    let lane = lane_still c.args.end.now second.new.self c.args.seen.cell (read_still c.args.end.now second.new.self c.args.seen.cell 1 second.result second.ensures.seen second.ensures.part) in
+    others_then _ c.args.end.now.part second.new.self.part c.read_long.new.end.part (read_others c.args.end.now second.new.self c.args.seen.cell 1 second.result second.ensures.part)
+    (subst (λ (l : ℕ). LeavesOthers l second.new.self.part c.read_long.new.end.part) lane c.read_long.ensures.others)

@@ -1,15 +1,27 @@
-use Rattle.std.proofs.Common.{◌<◌, sym, subst, ◌∙◌}
+use Rattle.std.proofs.Common.{◌<◌, ℕ, sym, subst, ◌∙◌}
 use Rattle.sci_core.specs.Node.{NodeOf}
 use Rattle.sci_lanes.specs.declared.cell.CellId.{CellId}
-use Rattle.sci_station.specs.Ends.{HasSeen}
-use Rattle.sci_station.proofs.Cells.{looked_found, looked_nothing}
-use Rattle.sci_station.proofs.Stills.{look_still, next_same, still_takes}
+use Rattle.sci_core.specs.declared.lane.LaneKind.{LaneKind}
+use Rattle.sci_core.specs.Core.{lane_place}
+use Rattle.sci_lanes.specs.Ends.{EndOf, LooksFor, nodes_in}
+use Rattle.sci_lanes.specs.Shown.{me_of}
+use Rattle.sci_station.specs.Ends.{HasSeen, LeavesOthers}
+use Rattle.sci_station.proofs.Cells.{looked_found}
+use Rattle.sci_station.proofs.Stills.{look_others, look_still, next_same, still_takes}
 use Rattle.sci_station.proofs.receiving.see.Goals as goal
 
 pub returns-then-first-eq0-clause-none : goal.returns-then-first-eq0-clause-none
-returns-then-first-eq0-clause-none c = λ _ own.
-    let looked = c.look_for-first.ensures.looked in
-    rw (sym looked.kind_is) (looked_nothing c.args.end.now c.look_for-first.new.self looked.cell c.look_for-first.result looked.seen c.look_for-first.ensures.shown looked.next looked.looked c.if-first-eq0.true (looked.sender_is ∙ own))
+returns-then-first-eq0-clause-none c = λ _. c.look_for-first.ensures.empty c.if-first-eq0.true
+
+-- the lane that was looked at
+others_there : (old new : EndOf) (kind : LaneKind) (from word : ℕ) → LooksFor kind from word old new → LeavesOthers (lane_place (nodes_in old.part) kind from (me_of old.part)) old.part new.part
+others_there old new kind from word looks = subst (λ (l : ℕ). LeavesOthers l old.part new.part) (λ i. lane_place (nodes_in old.part) (looks.kind_is i) (looks.sender_is i) (looks.next.mine i)) (look_others old new looks.cell word looks.looked)
+
+pub returns-then-first-eq0-clause-others : goal.returns-then-first-eq0-clause-others
+returns-then-first-eq0-clause-others c = others_there c.args.end.now c.look_for-first.new.self c.args.kind c.args.from c.look_for-first.result c.look_for-first.ensures.looked
+
+pub returns-clause-others : goal.returns-clause-others
+returns-clause-others c = others_there c.args.end.now c.look_for-first.new.self c.args.kind c.args.from c.look_for-first.result c.look_for-first.ensures.looked
 
 pub returns-then-first-eq0-clause-still : goal.returns-then-first-eq0-clause-still
 returns-then-first-eq0-clause-still c = let looked = c.look_for-first.ensures.looked in look_still c.args.end.now c.look_for-first.new.self looked.cell c.look_for-first.result looked.seen looked.looked

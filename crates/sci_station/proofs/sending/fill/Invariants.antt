@@ -2,7 +2,7 @@ use Rattle.std.proofs.Common.{◌≡◌, ◌<◌, take, true}
 use Rattle.sci_lanes.specs.Shown.{outbound_at}
 use Rattle.sci_lanes.specs.Ends.{lane_at_cell}
 use Rattle.sci_station.specs.Budgets.{HasNoMore}
-use Rattle.sci_station.specs.Ends.{IsStill}
+use Rattle.sci_station.specs.Ends.{IsStill, LeavesOthers}
 use Rattle.sci_station.proofs.sending.fill.Given as goal
 
 abbrev pub invariant-loop-place : goal.invariant-loop-place
@@ -10,5 +10,6 @@ invariant-loop-place l = record {
   still : IsStill l.fn.end l.end;
   vacant : (outbound_at l.end.part (lane_at_cell l.end.part l.cell)).vacant ≡ true;
   filled : 0 < l.place → (outbound_at l.end.part (lane_at_cell l.end.part l.cell)).filled ≡ take l.place l.words;
+  others : LeavesOthers (lane_at_cell l.fn.end.part l.cell) l.fn.end.part l.end.part;
   budget : HasNoMore l.fn.budget.left l.budget.left;
 }

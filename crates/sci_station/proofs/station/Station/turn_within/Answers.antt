@@ -1,9 +1,29 @@
-use Rattle.std.proofs.Common.{subst}
-use Rattle.sci_policy.specs.Worker.{HasSameWork}
+use Rattle.std.proofs.Common.{◌≡◌, ap, subst}
+use Rattle.sci_core.specs.Node.{NodeOf}
+use Rattle.sci_policy.specs.Turn.{MayPerform}
+use Rattle.sci_policy.specs.Worker.{HasSameWork, IsNodeTurn}
+use Rattle.sci_lanes.specs.Ends.{EndOf}
+use Rattle.sci_lanes.specs.Telling.{IsShown}
+use Rattle.sci_turn.specs.Posts.{node_in as node_at_post}
+use Rattle.sci_station.specs.Posts.{StationPostOf, post_of}
 use Rattle.sci_station.specs.Station.{StationOf}
-use Rattle.sci_station.proofs.Working.{turn_work}
+use Rattle.sci_station.proofs.Posts.{node_there}
 use Rattle.sci_station.proofs.station.Station.turn_within.Goals as goal
 
+-- the node of an end that is a post is the end's
+turned_so : (R : NodeOf → NodeOf → Type 0) (inside now : StationOf) (before : StationPostOf) (new : EndOf) → inside ≡ now → before.end ≡ inside.end → IsShown before.end.part → IsShown new.part
+    → R (node_at_post (post_of before.end)) (node_at_post (post_of new)) → R now.end.part.node new.part.node
+turned_so R inside now before new view same s t is =
+    subst (λ (x : StationOf). R x.end.part.node new.part.node) view
+    (subst (λ (e : EndOf). R e.part.node new.part.node) same
+    (subst (λ (m : NodeOf). R m new.part.node) (node_there before.end.part s)
+    (subst (λ (m : NodeOf). R (node_at_post (post_of before.end)) m) (node_there new.part t) is)))
+
+pub returns-clause-ready : goal.returns-clause-ready
+returns-clause-ready c = let new = c.take_turn-ended.new.post.end in subst (λ (m : NodeOf). MayPerform m c.take_turn-ended.new.progress.ready) (node_there new.part c.left.ensures.shown) c.take_turn-ended.ensures.ready
+
+pub returns-clause-node : goal.returns-clause-node
+returns-clause-node c = turned_so (λ (x y : NodeOf). IsNodeTurn x y c.take_turn-ended.new.progress) _ c.args.self.now c.allow.new.self c.take_turn-ended.new.post.end c.self.view_is (ap (λ (p : StationPostOf). p.end) c.allow.ensures.allowed) c.allow.ensures.shown c.left.ensures.shown c.take_turn-ended.ensures.node
+
 pub returns-clause-work : goal.returns-clause-work
-returns-clause-work c =
-    subst (λ (s : StationOf). HasSameWork s.end.part.node c.take_turn-ended.new.end.part.node) c.self.view_is (turn_work c.self.inside.policy c.take_turn-ended.new.policy c.self.inside.end c.take_turn-ended.new.end c.take_turn-ended.new.progress c.take_turn-ended.ensures.turn c.take_turn-ended.ensures.same)
+returns-clause-work c = turned_so HasSameWork _ c.args.self.now c.allow.new.self c.take_turn-ended.new.post.end c.self.view_is (ap (λ (p : StationPostOf). p.end) c.allow.ensures.allowed) c.allow.ensures.shown c.left.ensures.shown c.take_turn-ended.ensures.work

@@ -1,0 +1,34 @@
+-- The events of one node in a schedule that goes on.
+use Rattle.std.proofs.Common.{◌≡◌, ℕ, Bool, eqb, List, [], ◌∷◌, ◌++◌, refl, ap, ◌∙◌}
+use Rattle.std.specs.Prelude.{cond}
+use Rattle.std.proofs.lemmas.Bool.{eq-eqb, ne_eqb}
+use Rattle.std.proofs.lemmas.List.{append-nil}
+use Rattle.std.proofs.lemmas.List.Elements.{filter-append}
+use Rattle.sci_words.specs.declared.event.Event.{Event}
+use Rattle.sci_core.specs.Core.{node_of}
+use Rattle.sci_lanes.specs.declared.view.Part.{Part}
+use Rattle.sci_lanes.specs.Shown.{AreOfOthers, IsSeen, me_of}
+use Rattle.sci_lanes.specs.Telling.{IsMade}
+use Rattle.sci_turn.specs.Moves.{own_of}
+
+-- the own events among these and others' are those among these
+own_others : (n : ℕ) (others : List Event) → AreOfOthers n others → own_of n others ≡ []
+own_others n [] apart = refl
+own_others n (e ∷ others) apart = ap (λ (b : Bool). cond b (e ∷ own_of n others) (own_of n others)) (ne_eqb (node_of e) n apart.0) ∙ own_others n others apart.1
+
+own_one : (n : ℕ) (e : Event) → node_of e ≡ n → own_of n (e ∷ []) ≡ e ∷ []
+own_one n e is = ap (λ (b : Bool). cond b (e ∷ []) []) (eq-eqb (node_of e) n is)
+
+own_join : (n : ℕ) (xs ys : List Event) → own_of n (xs ++ ys) ≡ own_of n xs ++ own_of n ys
+own_join n xs ys = filter-append (λ e. eqb (node_of e) n) xs ys
+
+own_seen : (n : ℕ) (more others : List Event) → AreOfOthers n others → own_of n (more ++ others) ≡ own_of n more
+own_seen n more others apart = own_join n more others ∙ (ap (λ (es : List Event). own_of n more ++ es) (own_others n others apart) ∙ append-nil (own_of n more))
+
+pub own_known : (part : Part) (schedule : List Event) → IsSeen part schedule → own_of (me_of part) schedule ≡ own_of (me_of part) part.schedule
+own_known part schedule seen = ap (own_of (me_of part)) seen.further ∙ own_seen (me_of part) part.schedule seen.others seen.apart
+
+pub own_added : (part : Part) (e : Event) (schedule : List Event) → node_of e ≡ me_of part → IsMade part e schedule → own_of (me_of part) schedule ≡ own_of (me_of part) part.schedule ++ e ∷ []
+own_added part e schedule own made =
+    let n = me_of part in
+    ap (own_of n) made.further ∙ (own_join n (part.schedule ++ made.others) (e ∷ []) ∙ (λ i. own_seen n part.schedule made.others made.apart i ++ own_one n e own i))
