@@ -40,8 +40,8 @@ impl Fabric {
     ghost use Rattle.sci_lanes.specs.Ends.{opening_ends};
     ghost use Rattle.sci_station.specs.Station.{end_in, opening_station};
 
-    /// The lanes of a machine of this size, and its stations, numbered from 0. Each may submit `limit` operations; the
-    /// caller sees to it that this is 1 to 65,536. Refused if memory is. No call of a station takes memory.
+    /// The lanes of a machine of this size, and its stations, numbered from 0. Each may submit `limit` operations;
+    /// requires that this is 1 to 65,536. Refused if memory is. No call of a station takes memory.
     pub fn new(
         alloc: Global,
         extent: Extent,
@@ -61,7 +61,7 @@ impl Fabric {
         Ok((Fabric { lanes }, stations))
     }
     /// Gives the logs of all stations, and the last contents of each line. The stations may come in any order, and need
-    /// not have finished their work. The caller sees to it that they are stations of this fabric.
+    /// not have finished their work. Requires that they are stations of this fabric.
     ///
     /// Refused with the first of these, and then all comes back as it was:
     ///

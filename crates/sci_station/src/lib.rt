@@ -1,4 +1,4 @@
-//! Stations: nodes that run by themselves, each owned by whoever runs it, and share lines without a lock.
+//! Stations: nodes that run by themselves, each owned by the one that runs it, and share lines without a lock.
 #![tactic(auto)]
 
 mod budget;

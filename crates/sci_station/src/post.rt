@@ -89,7 +89,7 @@ impl StationPost {
         self.budget.left
     }
 
-    /// Makes an event of the node that concerns no lane: an Issue or a Perform. The caller sees to it that it is enabled.
+    /// Makes an event of the node that concerns no lane: an Issue or a Perform. Requires that it is enabled.
     #[inline(always)]
     pub(crate) fn beat(&mut self, event: &Event)
         requires { MayBeat self.old.end.part event.now }

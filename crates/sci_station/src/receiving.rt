@@ -28,7 +28,7 @@ pub struct Seen {
 }
 
 /// Looks at the next cell of the lane of a kind from a node to this one. None if no packet is there: then the lane is empty.
-/// The caller sees to it that there is such a node.
+/// Requires that there is such a node.
 pub fn see(
     end: &mut LaneEnd,
     budget: &mut Budget,
@@ -74,7 +74,7 @@ pub fn read_packet(end: &mut LaneEnd, budget: &mut Budget, seen: Seen) -> Result
     }
 }
 
-/// Reads a packet with contents, of which these two words are found. The caller sees to it that they are no packet.
+/// Reads a packet with contents, of which these two words are found. Requires that they are no packet.
 #[inline(never)]
 fn read_long(
     end: &mut LaneEnd,
@@ -104,7 +104,7 @@ fn read_long(
     }
 }
 
-/// Reads the words of the next cell to take from, from one number to another. The caller sees to it that those before are
+/// Reads the words of the next cell to take from, from one number to another. Requires that those before are
 /// found.
 fn read(
     end: &mut LaneEnd,

@@ -21,7 +21,7 @@ use sci_words::Event;
 pub(crate) const PACKET_WORDS: usize = 11;
 
 /// Sends a packet by an event of the node: a look at the next cell of its lane, and if that is empty, a store of each word.
-/// False if the cell is full: then the lane is. The caller sees to it that the event sends this packet, to a node of the
+/// False if the cell is full: then the lane is. Requires that the event sends this packet, to a node of the
 /// machine. If the turn has made as many steps as it may before the first word is stored, nothing is sent.
 pub fn send(
     end: &mut LaneEnd,

@@ -8,7 +8,7 @@ use sci_turn::take_turn;
 use sci_words::{Event, Op};
 use std::marker::Model;
 
-/// A node of a machine, with its end of the lanes and its policy. Whoever owns it runs it, in any thread: no call waits for
+/// A node of a machine, with its end of the lanes and its policy. Its owner runs it, in any thread: no call waits for
 /// another, or takes memory. Contracts see its end and what its policy remembers.
 #[derive(Drop)]
 pub struct Station {

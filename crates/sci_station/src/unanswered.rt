@@ -39,7 +39,7 @@ impl Unanswered {
         }
     }
 
-    /// A request went to a node. The caller sees to it that fewer than 255 are unanswered there.
+    /// A request went to a node. Requires that fewer than 255 are unanswered there.
     pub(crate) fn asked(&mut self, to: u8)
         requires there { to < MAX_NODES }
         requires few { slice_index self.old to < 255 }
@@ -51,7 +51,7 @@ impl Unanswered {
         self.owing.put(to, true);
     }
 
-    /// An answer of a node was accepted. The caller sees to it that it owed one.
+    /// An answer of a node was accepted. Requires that it owed one.
     pub(crate) fn accepted(&mut self, from: u8)
         requires there { from < MAX_NODES }
         requires some { 0 < slice_index self.old from }
