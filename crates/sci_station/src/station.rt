@@ -125,7 +125,7 @@ impl Station {
 
     /// Takes a turn. It sends the answer that waits; accepts up to four answers from each node; serves or refuses up to
     /// four requests from each node, beginning after the one served last, and sends each answer; and asks up to four times
-    /// what the policy wants. A request that the policy keeps stays where it is, to be looked at again in a later turn.
+    /// what the policy wants. A request that the policy keeps stays where it is, to be decided again in a later turn.
     ///
     /// - Each event is the node's own, enabled when it comes. The policy counts the turn, decides each request that is
     ///   taken, and wants each ask.
