@@ -1,11 +1,16 @@
 use Rattle.std.proofs.Common.{All, ◌≡◌, ◌≤◌, arith, suc, List, ◌∷◌, length, Vec, sym, ap, subst, ◌∙◌}
-use Rattle.std.proofs.lemmas.List.Elements.{All-push}
+use Rattle.std.proofs.lemmas.List.Elements.{All-head, All-push}
 use Rattle.sci_circle.specs.declared.runner.Runner.{Runner}
 use Rattle.sci_words.specs.declared.limits.TheConstants.{MAX_OPERATIONS}
 use Rattle.sci_words.specs.declared.operation.Op.{Op}
 use Rattle.sci_drive.specs.Driving.{HasSubmittedNothing, IsDriven}
 use Rattle.sci_station.specs.Station.{StationOf, node_in}
 use Rattle.sci_circle.proofs.circle.new_runners.Goals as goal
+
+pub new-requires-in-loop-station-clause-fresh : goal.new-requires-in-loop-station-clause-fresh
+new-requires-in-loop-station-clause-fresh c =
+    let Fresh : StationOf → Type 0 = λ s. HasSubmittedNothing (node_in s) in
+    All-head Fresh c.in-Some.station c.next.new.self.a.rest.items (subst (All Fresh) c.in-Some.ensures.steps.0.0 c.loop-station.invariant.1)
 
 pub loop-station-preserved : goal.loop-station-preserved
 loop-station-preserved c =
