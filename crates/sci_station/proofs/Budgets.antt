@@ -1,5 +1,5 @@
 -- Budgets over several steps.
-use Rattle.std.proofs.Common.{◌≡◌, ◌≢◌, ◌+◌, ℕ, arith, Option, Some, None, refl, subst, ◌∙◌}
+use Rattle.std.proofs.Common.{◌≡◌, ◌+◌, ℕ, arith, Option, Some, None, refl, ◌∙◌}
 use Rattle.sci_station.specs.Budgets.{HasLess, HasNoMore}
 
 pub no_more_itself : (left : Option ℕ) → HasNoMore left left
@@ -13,9 +13,3 @@ no_more_less steps None None less = no_more_itself None
 no_more_less steps None (Some new) less = absurd less
 no_more_less steps (Some old) None less = absurd less
 no_more_less steps (Some old) (Some new) less = record { limit = refl; fewer = let e : new + steps ≡ old = less in omega arith }
-
--- what is spent has a limit
-pub limited : (old now : Option ℕ) → HasNoMore old now → now ≢ None → old ≢ None
-limited None None less some = λ e. some refl
-limited None (Some now) less some = let clash = less.limit in cc
-limited (Some old) now less some = λ e. cc

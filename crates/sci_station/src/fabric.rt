@@ -42,6 +42,8 @@ impl Fabric {
 
     /// The lanes of a machine of this size, and its stations, numbered from 0. Each may submit `limit` operations;
     /// requires that this is 1 to 65,536. Refused if memory is. No call of a station takes memory.
+    // Out of line, so that the places of its stations on the stack are free again when it returns.
+    #[inline(never)]
     pub fn new(
         alloc: Global,
         extent: Extent,
@@ -67,6 +69,8 @@ impl Fabric {
     ///
     /// - Missing if the stations are not all of the fabric's, each once.
     /// - Memory if memory is refused.
+    // Out of line, so that the places of its stations on the stack are free again when it returns.
+    #[inline(never)]
     pub fn finish(
         self,
         alloc: Global,

@@ -86,6 +86,8 @@ pub(crate) fn run_all<R: Threads + Sync, G: Gate + Send>(
 }
 
 /// The stations, and whether all have finished. Refused if memory is, or was to one of them.
+// Out of line, so that the places of its stations on the stack are free again when it returns.
+#[inline(never)]
 pub(crate) fn gathered<G: Drop>(
     alloc: Global,
     shares: Vec<Share<'_, G>>,
@@ -132,6 +134,8 @@ pub fn operations_by_node(alloc: Global, script: &Script) -> Result<Vec<Vec<Op>>
 }
 
 /// The shares of all nodes, of which none has done anything. Refused if memory is.
+// Out of line, so that the places of its stations on the stack are free again when it returns.
+#[inline(never)]
 pub(crate) fn shares<'a, G: Drop>(
     alloc: Global,
     stations: Vec<Station>,
