@@ -38,12 +38,12 @@ fn answer<T: Threads + Sync, R: Read>(
     let gates = YieldingGate::for_nodes(alloc, nodes, &done)?;
     let (logs, last, finished) = run_nodes(rt, alloc, &script, gates, turns)?;
     drop(script);
+    let text = logs_text(alloc, nodes, &logs, &last)?;
     let outcome = if finished {
         Outcome::Done
     } else {
         Outcome::Unlawful
     };
-    let text = logs_text(alloc, nodes, &logs, &last)?;
     Ok(Answer { text, outcome })
 }
 

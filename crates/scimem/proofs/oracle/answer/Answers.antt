@@ -12,7 +12,7 @@ pub run_oracle-requires-clause-room : goal.run_oracle-requires-clause-room
 run_oracle-requires-clause-room g c = λ node.
     subst (λ (ops : List (ℕ × Op)). count_by (λ p. p.0 == node) ops ≤ MAX_OPERATIONS) (sym c.operations.ensures.value) (few_of_each c.in_ok-script.script c.in_ok-script.ensures.good node)
 
-pub returns-clause-text : goal.returns-clause-text
-returns-clause-text g c =
+pub returns-clause-answer : goal.returns-clause-answer
+returns-clause-answer g c =
     let script = c.in_ok-script.script in
-    (c.in_ok-script.ensures.unfailed, oracle_if (g.R.Read.remaining (tapped c.args.reader.now)) c.in_ok-logs_text.field-0.items script c.in_ok-script.ensures.good c.in_ok-script.ensures.few c.in_ok-script.ensures.text (search rules))
+    (c.in_ok-script.ensures.unfailed, oracle_if (g.R.Read.remaining (tapped c.args.reader.now)) c.in_ok-text.text.items script c.in_ok-script.ensures.good c.in_ok-script.ensures.few c.in_ok-script.ensures.text (search rules))

@@ -4,7 +4,7 @@ use Rattle.sci_text.specs.Tap.{tapped}
 use Rattle.scimem.proofs.ReplayLogs.{replay_if}
 use Rattle.scimem.proofs.replay.answer.Goals as goal
 
-pub returns-clause-text : goal.returns-clause-text
-returns-clause-text g c =
+pub returns-clause-answer : goal.returns-clause-answer
+returns-clause-answer g c =
     let schedule = c.in_ok-schedule.schedule in
-    (c.in_ok-schedule.ensures.unfailed, replay_if (g.R.Read.remaining (tapped c.args.reader.now)) c.in_ok-logs_text.field-0.items schedule c.in_ok-schedule.ensures.good c.in_ok-schedule.ensures.few c.in_ok-schedule.ensures.text (search rules))
+    (c.in_ok-schedule.ensures.unfailed, replay_if (g.R.Read.remaining (tapped c.args.reader.now)) c.in_ok-text.text.items schedule c.in_ok-schedule.ensures.good c.in_ok-schedule.ensures.few c.in_ok-schedule.ensures.text (search rules))

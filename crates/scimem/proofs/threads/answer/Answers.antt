@@ -1,23 +1,32 @@
 -- What is written is the text of a run of the script that was read.
 use Rattle.std.proofs.Common.{◌≡◌, ℕ, true, sym, ap, ◌∙◌}
-use Rattle.sci_text.specs.Tap.{tapped}
-use Rattle.scimem.proofs.ThreadLogs.{IsRunOf, threads_if}
+use Rattle.sci_text.specs.Tap.{has_failed, tapped}
+use Rattle.scimem.proofs.ThreadLogs.{IsRunOf, threads_answer, threads_if}
 use Rattle.sci_text.specs.Log.{log_text}
-use Rattle.sci_command.specs.declared.outcome.Outcome.TheVariants.{Done, Unlawful}
+use Rattle.sci_command.specs.declared.outcome.Outcome.TheVariants.{Done, Refused, Unlawful}
 use Rattle.scimem.proofs.threads.answer.Goals.{then-finished, else-finished}
 use Rattle.scimem.proofs.threads.answer.Goals as goal
 
-pub returns-clause-text : goal.returns-clause-text
-returns-clause-text g c =
+pub returns-clause-answer : goal.returns-clause-answer
+returns-clause-answer g c =
     let script = c.in_ok-script.script in
     let ran = c.in_ok-logs in
-    let text = c.in_ok-logs_text.field-0.items in
+    let text = c.in_ok-text.text.items in
     let run : IsRunOf script ran.logs ran.last ran.finished = record { led = ran.ensures.led; lawful = ran.ensures.lawful; consistent = ran.ensures.consistent; named = ran.ensures.named; whole = ran.ensures.whole } in
     let outcome = c.if-finished.outcome in
-    let ends : outcome ≡ Done → ran.finished ≡ true = λ done. (elim c.if-finished.branch [ then-finished w ↦ w.if-finished.true | else-finished w ↦ absurd (apart (sym w.outcome-is ∙ done)) ]) in (
+    let known = g.R.Read.remaining (tapped c.args.reader.now) in
+    let never : outcome ≡ Refused → ⊥ = λ refused. (elim c.if-finished.branch [ then-finished w ↦ done_apart (sym w.outcome-is ∙ refused) | else-finished w ↦ unlawful_apart (sym w.outcome-is ∙ refused) ]) in
+    let ends : outcome ≡ Done → ran.finished ≡ true = λ done. (elim c.if-finished.branch [ then-finished w ↦ w.if-finished.true | else-finished w ↦ absurd (apart (sym w.outcome-is ∙ done)) ]) in
+    threads_answer known (has_failed c.read_script.new.reader) text outcome never (
       c.in_ok-script.ensures.unfailed,
-      threads_if (g.R.Read.remaining (tapped c.args.reader.now)) text script ran.logs ran.last ran.finished outcome c.in_ok-script.ensures.good c.in_ok-script.ensures.few c.in_ok-script.ensures.text (c.in_ok-logs_text.ensures.text ∙ ap (λ (n : ℕ). log_text n ran.logs ran.last) c.extent-nodes.ensures.nodes) run ends,
+      threads_if known text script ran.logs ran.last ran.finished outcome c.in_ok-script.ensures.good c.in_ok-script.ensures.few c.in_ok-script.ensures.text (c.in_ok-text.ensures.text ∙ ap (λ (n : ℕ). log_text n ran.logs ran.last) c.extent-nodes.ensures.nodes) run ends,
     )
   where
     apart : Unlawful ≡ Done → ⊥
     apart e = cc
+
+    done_apart : Done ≡ Refused → ⊥
+    done_apart e = cc
+
+    unlawful_apart : Unlawful ≡ Refused → ⊥
+    unlawful_apart e = cc
