@@ -1,4 +1,4 @@
--- What the state of a line is to whoever plans the requests of a node (the profile).
+-- What the state of a line is to the planner of a node's requests (the profile).
 use Rattle.std.specs.Prelude.{Bool, true, false, not, Some}
 use Rattle.sci_cache.specs.State.{CacheState, Joining, FreshJoining, Head, FreshHead, Below, Purging, Claiming, Clearing, Returning, Rolling, Telling, Fading}
 use Rattle.sci_cache.specs.declared.line_kind.LineKind.{LineKind}

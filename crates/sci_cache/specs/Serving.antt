@@ -35,7 +35,7 @@ is_next None n = false
 is_next (Some f) n = f == n
 
 -- node n, which is the next entry, leaves the list, and m is the next after it: as in the standard, neighbours'
--- identifiers change by packets. That whoever is asked checks n is the profile.
+-- identifiers change by packets. That the node that is asked checks n is the profile.
 abbrev pub serving_roll : CacheState → ℕ → Option ℕ → CacheState × Body
 serving_roll (Head f c) n m = if is_next f n then (Head m c, Rolled) else (Head f c, Busy)
 serving_roll (FreshHead f c) n m = if is_next f n then (FreshHead m c, Rolled) else (FreshHead f c, Busy)

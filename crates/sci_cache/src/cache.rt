@@ -68,7 +68,7 @@ impl Cache {
     ghost use Rattle.sci_cache.specs.LineSet.{IsBefore, is_in};
     ghost use Rattle.sci_cache.specs.Cache.{CacheOf, line_of, has_slot, letter_of, slots_taken, cache_asking, cache_serving, cache_accepting, cache_performing};
 
-    /// The cache of node `me` in a machine of this size, with no entry for any line. The caller sees to it that
+    /// The cache of node `me` in a machine of this size, with no entry for any line. Requires that
     /// there is such a node. Refused if memory is.
     pub fn new(alloc: Global, me: u8, extent: Extent) -> Result<Cache, AllocError>
         requires { me < extent.nodes }
@@ -110,7 +110,7 @@ impl Cache {
         })
     }
 
-    /// The state of a line. The caller sees to it that there is such a line.
+    /// The state of a line. Requires that there is such a line.
     pub fn held(&self, line: u8) -> &Held
         requires { line < length self.now.lines }
         ensures { state_of result.now ≡ (line_of self.now line).state }
@@ -177,7 +177,7 @@ impl Cache {
         node(line % self.extent.nodes)
     }
 
-    /// Makes a request of this kind about a line. The caller sees to it that there is such a line. Refused,
+    /// Makes a request of this kind about a line. Requires that there is such a line. Refused,
     /// unchanged, with NotNow if the line's state doesn't ask this kind, and else with NoSlot if the line
     /// has no entry and as many lines have one as there are version slots.
     pub fn ask(&mut self, line: u8, kind: AskKind) -> Result<Packet, AskFault>
@@ -194,7 +194,7 @@ impl Cache {
     }
 
     /// The packet that an ask of this kind about a line would send now, or None if the ask would be refused.
-    /// The caller sees to it that there is such a line.
+    /// Requires that there is such a line.
     pub fn asked(&self, line: u8, kind: AskKind) -> Option<Packet>
         requires { line < length self.now.lines }
         ensures asked { IfSome result
@@ -230,7 +230,7 @@ impl Cache {
         })
     }
 
-    /// Makes the request that `asked` gave, which is sent then. The caller sees to it that there is such a line, and
+    /// Makes the request that `asked` gave, which is sent then. Requires that there is such a line, and
     /// that an ask of this kind about it would not be refused.
     pub fn apply_ask(&mut self, line: u8, kind: AskKind)
         requires line { line < length self.old.lines }
@@ -246,7 +246,7 @@ impl Cache {
     }
 
     /// Serves a Cread, Purge, Roll or Setback about a line, and gives the answer, which goes back to the
-    /// request's sender. The caller sees to it that it is one of those and that there is such a line.
+    /// request's sender. Requires that it is one of those and that there is such a line.
     pub fn serve(&mut self, request: &Packet) -> Packet
         requires line { request.now.line < length self.old.lines }
         requires body { IsForCache request.now.body }
@@ -266,7 +266,7 @@ impl Cache {
         request.answer(answer)
     }
 
-    /// Takes an answer about a line. The caller sees to it that there is such a line. Refused, unchanged, if
+    /// Takes an answer about a line. Requires that there is such a line. Refused, unchanged, if
     /// the line's state doesn't list the answer or its control number isn't that of the line's last ask.
     pub fn accept(&mut self, answer: &Packet) -> Result<(), NotAwaited>
         requires { answer.now.line < length self.old.lines }
@@ -286,7 +286,7 @@ impl Cache {
         Ok(())
     }
 
-    /// Performs an operation, and gives its reply and the version that it read or made. The caller sees to it
+    /// Performs an operation, and gives its reply and the version that it read or made. Requires
     /// that there is such a line, and that the word's place is below eight. None, unchanged, if the line's
     /// state doesn't allow it.
     pub fn perform(&mut self, op: Op) -> Option<(Reply, u64)>

@@ -107,7 +107,7 @@ impl Held {
         }
     }
 
-    /// Makes the request of this kind, whose answer is awaited then. The caller sees to it that the state makes it.
+    /// Makes the request of this kind, whose answer is awaited then. Requires that the state makes it.
     pub(crate) fn ask(&mut self, kind: AskKind)
         requires { IsSome (asking (state_of self.old) kind) }
         ensures { IfSome (asking (state_of self.old) kind)

@@ -99,7 +99,7 @@ impl CachedLine {
         })
     }
 
-    /// Makes the request of this kind, which the caller sees to it that the state makes.
+    /// Makes the request of this kind. Requires that the state makes it.
     pub(crate) fn ask(&mut self, kind: AskKind)
         requires { IsSome (asking self.old.state kind) }
         ensures { IfSome (asking self.old.state kind)

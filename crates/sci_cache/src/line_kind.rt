@@ -2,7 +2,7 @@
 
 use crate::held::Held;
 
-/// What the state of a line is to whoever plans the requests of a node. A state may be of several kinds, or of none.
+/// What the state of a line is to the planner of a node's requests. A state may be of several kinds, or of none.
 #[derive(Clone, Copy, Debug, PartialEq, Eq)]
 pub enum LineKind {
     /// The head of a list that may write, with a next entry.

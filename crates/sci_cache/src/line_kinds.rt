@@ -68,7 +68,7 @@ impl LineKinds {
         }
     }
 
-    /// Notes the state that a line has now. The caller sees to it that a machine can have such a line.
+    /// Notes the state that a line has now. Requires that a machine can have such a line.
     pub(crate) fn note(&mut self, line: u8, held: &Held)
         requires { line < MAX_LINES }
         ensures here { (kind : LineKind) →

@@ -36,7 +36,7 @@ impl LineSet {
         LineSet { bits: self.bits }
     }
 
-    /// Puts a line into the set or takes it out. The caller sees to it that a machine can have such a line.
+    /// Puts a line into the set or takes it out. Requires that a machine can have such a line.
     pub fn put(&mut self, line: u8, inside: bool)
         requires { line < MAX_LINES }
         ensures here { is_in self.new line ≡ inside }

@@ -1,4 +1,4 @@
--- What follows from lawfulness for whoever reads and writes a line: the words at each version explain all entries.
+-- What follows from lawfulness for a reader or writer of a line: the words at each version explain all entries.
 use Rattle.std.proofs.Common.{◌≡◌, ◌≢◌, ℕ, zero, suc, ◌+◌, ◌-◌, ◌<◌, ◌≤◌, Bool, true, false, cond, eqb, List, [], ◌∷◌, length, get_or, length-set, refl, sym, ap, ◌∙◌, subst, arith, inl, inr}
 use Rattle.std.specs.Prelude.{IsTrue}
 use Rattle.std.specs.List.{filter, AllByRecursion}

@@ -13,7 +13,7 @@ use std::alloc::{AllocError, Global};
 
 /// Audits logs against last contents: Lawful exactly if for each line one memory of one thread explains both;
 /// else the first fault, of the lowest line that has one and there of the first kind. Refused only if a growth
-/// was. It takes time n log n in the number of entries. The caller sees to it that each entry's line is one of
+/// was. It takes time n log n in the number of entries. Requires that each entry's line is one of
 /// `last`, and its word below 8.
 pub fn audit(alloc: Global, logs: &Logs, last: &Last) -> Result<Verdict, AllocError>
     requires { AreWithin (length last.now) logs.now }
@@ -36,7 +36,7 @@ pub fn audit(alloc: Global, logs: &Logs, last: &Last) -> Result<Verdict, AllocEr
 }
 
 /// The fault of each line, or None where a line has none: on each line the first kind that fails. Refused only if a growth
-/// was. It takes the time of an audit. The caller sees to it that each entry's line is one of `last`, and its word below 8.
+/// was. It takes the time of an audit. Requires that each entry's line is one of `last`, and its word below 8.
 pub fn line_faults(
     alloc: Global,
     logs: &Logs,

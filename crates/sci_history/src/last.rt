@@ -30,7 +30,7 @@ impl Model for Last {
 }
 
 impl Last {
-    /// That many lines of zero words at version 0. The caller sees to it that there are 1 to 64.
+    /// That many lines of zero words at version 0. Requires that there are 1 to 64.
     pub fn zero(lines: u8) -> Last
         requires some { 1 ≤ lines }
         requires few { lines ≤ MAX_LINES }
@@ -55,7 +55,7 @@ impl Last {
         self.lines
     }
 
-    /// The contents of a line. The caller sees to it that there is such a line.
+    /// The contents of a line. Requires that there is such a line.
     pub fn get(&self, line: u8) -> Stamped
         requires { line < length self.now }
         ensures { result ≡ stamped_at self.now line }
@@ -71,7 +71,7 @@ impl Last {
         copy
     }
 
-    /// Replaces the contents of a line, and no other's. The caller sees to it that there is such a line.
+    /// Replaces the contents of a line, and no other's. Requires that there is such a line.
     pub fn set(&mut self, line: u8, stamped: Stamped)
         requires { line < length self.old }
         ensures { self.new ≡ slice_set self.old line stamped }

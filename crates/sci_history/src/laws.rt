@@ -1,5 +1,5 @@
 //! Laws of the definitions that contracts cite: each is the contract of a function that does nothing, so that
-//! whoever reads the definitions sees that they say what they mean.
+//! a reader of the definitions sees that they say what they mean.
 
 ghost use Rattle.std.specs.Prelude.{true, ◌≡◌, ◌≤◌, ◌<◌, ◌↔◌, ◌∷◌, ◌++◌, [], List, ℕ, Option, map, filter, length, AllPairs};
 ghost use Rattle.std.specs.List.{AllByRecursion, flat_map};

@@ -114,7 +114,7 @@ impl Logs {
         count
     }
 
-    /// The log of a node, in the order in which its operations were performed. The caller sees to it that the
+    /// The log of a node, in the order in which its operations were performed. Requires that the
     /// node is below 16.
     pub fn of(&self, node: u8) -> &[Entry]
         requires { node < MAX_NODES }

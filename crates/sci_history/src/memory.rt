@@ -27,7 +27,7 @@ impl Model for Memory {
 }
 
 impl Memory {
-    /// That many lines of zero words at version 0. The caller sees to it that there are 1 to 64.
+    /// That many lines of zero words at version 0. Requires that there are 1 to 64.
     pub fn new(lines: u8) -> Memory
         requires some { 1 ≤ lines }
         requires few { lines ≤ MAX_LINES }
@@ -39,7 +39,7 @@ impl Memory {
     }
 
     /// Does an operation, and answers its reply and the version of its line afterwards: the number of makers on
-    /// the line so far, the operation included if it is one. The caller sees to it that line and word are in
+    /// the line so far, the operation included if it is one. Requires that line and word are in
     /// range and, for a maker, that the line's version is below the greatest u64.
     pub fn do_op(&mut self, op: Op) -> (Reply, u64)
         requires line { op.line < length self.old }

@@ -13,7 +13,7 @@ use sci_words::{MAX_LINES, MAX_OPERATIONS, Op};
 use std::alloc::{AllocError, Global};
 
 /// Does operations, each with the node that issues it, on a memory of that many lines, and answers their logs and
-/// the last contents. Refused only if a log couldn't grow. The caller sees to it that there are 1 to 64 lines,
+/// the last contents. Refused only if a log couldn't grow. Requires that there are 1 to 64 lines,
 /// that nodes are below 16, lines and words in range, and that no node has more than 65,536 operations.
 pub fn run_oracle(alloc: Global, lines: u8, script: &[(u8, Op)]) -> Result<(Logs, Last), AllocError>
     requires some { 1 ≤ lines }

@@ -51,8 +51,8 @@ impl Home {
         }
     }
 
-    /// Serves a request for the line and gives the answer, which goes back to the request's sender. The caller
-    /// sees to it that the request is an Mread, Fread, Claim, Clear or Wback.
+    /// Serves a request for the line and gives the answer, which goes back to the request's sender. Requires
+    /// that the request is an Mread, Fread, Claim, Clear or Wback.
     pub fn serve(&mut self, request: &Packet) -> Packet
         requires { IsForHome request.now.body }
         ensures case { home_serving self.old request.now.source request.now.body

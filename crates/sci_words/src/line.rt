@@ -43,7 +43,7 @@ impl Line {
         &self.words
     }
 
-    /// The word at place `i`, counted from 0. The caller sees to it that `i` is below eight.
+    /// The word at place `i`, counted from 0. Requires that `i` is below eight.
     pub fn word(&self, i: u8) -> Word
         requires { i < WORDS_PER_LINE }
         ensures word { result ≡ slice_index self.now i }
@@ -52,7 +52,7 @@ impl Line {
         self.words[i as usize]
     }
 
-    /// The same line with `word` at place `i`, counted from 0. The caller sees to it that `i` is below eight.
+    /// The same line with `word` at place `i`, counted from 0. Requires that `i` is below eight.
     pub fn with(self, i: u8, word: Word) -> Line
         requires { i < WORDS_PER_LINE }
         ensures changed { result ≡ slice_set self i word }
@@ -63,7 +63,7 @@ impl Line {
         line
     }
 
-    /// Puts `word` at place `i`, counted from 0. The caller sees to it that `i` is below eight.
+    /// Puts `word` at place `i`, counted from 0. Requires that `i` is below eight.
     pub fn set(&mut self, i: u8, word: Word)
         requires { i < WORDS_PER_LINE }
         ensures changed { self.new ≡ slice_set self.old i word }

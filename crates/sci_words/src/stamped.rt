@@ -18,7 +18,7 @@ impl Stamped {
     ghost use Rattle.sci_words.specs.Stamped.{after as stamped_after, reply_of};
 
     /// What the line becomes by an operation, and the reply: the operation's word by its effect, and the
-    /// version one more for a maker. The caller sees to it that the word's place is below eight and, for a
+    /// version one more for a maker. Requires that the word's place is below eight and, for a
     /// maker, that the version is below the greatest u64.
     pub fn after(self, op: Op) -> (Stamped, Reply)
         requires word { op.word < WORDS_PER_LINE }
