@@ -1,6 +1,6 @@
 -- Each round that is next lowers the number of those that are left.
 use Rattle.std.proofs.Common.{◌≡◌, ◌≢◌, ◌⊎◌, ℕ, ◌<◌, not, ◌&&◌, ◌==◌, Bool, true, false, if◌then◌else◌, Option, Some, None, refl, sym, ap, subst, ◌∙◌, arith, inl, inr}
-use Rattle.std.specs.Prelude.{IsSome, unwrap_or}
+use Rattle.std.specs.Prelude.{IsSome}
 use Rattle.std.proofs.lemmas.Bool.{cases_eq, cases_lt, eq-eqb, eqb-true, lt-ltb}
 use Rattle.sci_words.specs.declared.stamped.Stamped.{Stamped}
 use Rattle.sci_words.specs.declared.event.AskKind.{AskKind}
@@ -32,9 +32,7 @@ use Rattle.sci_core.proofs.Heads.{if_head}
 use Rattle.sci_core.proofs.Ranks.{Pair, rank_shift, rank_two}
 use Rattle.sci_core.proofs.Resting.{Quiet, head_first, home_fresh, home_gone, line_known, next_below, next_fresh, out_beyond, quiet}
 use Rattle.sci_core.proofs.Shifts.{Shifts}
-
-some_same : {X : Type 0} (a b : X) → Some a ≡ Some b → a ≡ b
-some_same {X} a b e = ap (λ (o : Option X). unwrap_or o a) e
+use Rattle.sci_core.proofs.Options.{same_some}
 
 no_answer : {X Y : Type 0} (o : Option X) (x : X) → o ≡ None → o ≡ Some x → Y
 no_answer o x none some = let clash : None ≡ Some x = sym none ∙ some in cc
@@ -90,7 +88,7 @@ pub record Known (core new : Core) (n line : ℕ) (a : Asked) : Type 0 where
 
 pub known : (core new : Core) (n line : ℕ) (ask : AskKind) (a : Asked) → IsRound core new n line ask → asking (state_at core line n) ask ≡ Some a → Known core new n line a
 known core new n line ask a r is =
-    let e = some_same r.asked a (sym r.asks ∙ is) in
+    let e = same_some r.asked a (sym r.asks ∙ is) in
     record {
       server = r.server;
       to = r.to ∙ ap (λ (x : Asked). server_of core line x.to) e;
@@ -133,12 +131,12 @@ at_home core n line a old served answer none (In_cache is) = no_answer (serving 
 pub home_round : (core new : Core) (n line : ℕ) (a : Asked) (final : CacheState) → Known core new n line a → Homely core n line a final → Shifts core new n line final
 home_round core new n line a final k h =
     let here = at_home core n line a k.old k.served k.answer h.alone k.serves in
-    let same : k.answer ≡ h.answer = ap (λ (p : HomeState × Body). p.1) (some_same (here.answers.0, k.answer) (h.home, h.answer) (sym here.answers.1 ∙ h.serves)) in
+    let same : k.answer ≡ h.answer = ap (λ (p : HomeState × Body). p.1) (same_some (here.answers.0, k.answer) (h.home, h.answer) (sym here.answers.1 ∙ h.serves)) in
     let taker : k.taker ≡ a.next = elim (cases_eq k.server n) [
       | inl e ↦ k.taker_itself e ∙ (here.stays ∙ k.itself e)
       | inr other ↦ k.taker_another other
     ] in
-    let last = some_same k.final final (sym k.accepts ∙ (ap (λ (s : CacheState). accepting s k.answer) taker ∙ (ap (accepting a.next) same ∙ h.accepts))) in
+    let last = same_some k.final final (sym k.accepts ∙ (ap (λ (s : CacheState). accepting s k.answer) taker ∙ (ap (accepting a.next) same ∙ h.accepts))) in
     record {
       here = k.asker ∙ last;
       others = λ m j not. elim (cases_eq m n) [
@@ -178,10 +176,10 @@ cache_round core new n line q a served final k h =
     let other : k.server ≢ n = λ e. h.apart (sym e ∙ server) in
     let old : k.old ≡ state_at core line q = k.another other ∙ ap (state_at core line) server in
     let is = in_cache core n line a k.old k.served k.answer h.alone k.serves in
-    let both = some_same (k.served, k.answer) (served, h.answer) (sym is ∙ (ap (λ (s : CacheState). serving s n a.request) old ∙ h.serves)) in
+    let both = same_some (k.served, k.answer) (served, h.answer) (sym is ∙ (ap (λ (s : CacheState). serving s n a.request) old ∙ h.serves)) in
     let now : k.served ≡ served = ap (λ (p : CacheState × Body). p.0) both in
     let same : k.answer ≡ h.answer = ap (λ (p : CacheState × Body). p.1) both in
-    let last = some_same k.final final (sym k.accepts ∙ (ap (λ (s : CacheState). accepting s k.answer) (k.taker_another other) ∙ (ap (accepting a.next) same ∙ h.accepts))) in
+    let last = same_some k.final final (sym k.accepts ∙ (ap (λ (s : CacheState). accepting s k.answer) (k.taker_another other) ∙ (ap (accepting a.next) same ∙ h.accepts))) in
     record {
       first = k.asker ∙ last;
       second = ap (state_at new line) (sym server) ∙ (k.then_ other ∙ now);
@@ -212,7 +210,7 @@ told_lowers : (core new : Core) (n line r w : ℕ) → n < core.size.nodes → l
 told_lowers core new n line r w lt inside below was k =
     let a : Asked = record { to = Some r; request = body.Setback w; next = Telling r w true } in
     let is = in_cache core n line a k.old k.served k.answer (λ h. refl) k.serves in
-    let both : serving_setback k.old n w ≡ (k.served, k.answer) = some_same (serving_setback k.old n w) (k.served, k.answer) is in
+    let both : serving_setback k.old n w ≡ (k.served, k.answer) = same_some (serving_setback k.old n w) (k.served, k.answer) is in
     let told : k.answer ≡ body.Told = sym (ap (λ (p : CacheState × Body). p.1) both) ∙ (telling_same k.old n w).1 in
     let server : k.server ≡ r = k.to in
     let ranked : entry_rank (state_at core line n) ≡ 1 = ap entry_rank was in
@@ -221,7 +219,7 @@ told_lowers core new n line r w lt inside below was k =
           let old : k.old ≡ Telling r w true = k.itself e in
           let still : (Telling r w true, body.Told) ≡ (k.served, k.answer) = ap (λ (s : CacheState). serving_setback s n w) (sym old) ∙ both in
           let taker : k.taker ≡ Telling r w true = k.taker_itself e ∙ sym (ap (λ (p : CacheState × Body). p.0) still) in
-          let out : k.final ≡ Out = some_same k.final Out (sym k.accepts ∙ (ap (λ (s : CacheState). accepting s k.answer) taker ∙ ap (λ (b : Body). accepting (Telling r w true) b) told)) in
+          let out : k.final ≡ Out = same_some k.final Out (sym k.accepts ∙ (ap (λ (s : CacheState). accepting s k.answer) taker ∙ ap (λ (b : Body). accepting (Telling r w true) b) told)) in
           let shift : Shifts core new n line Out = record {
             here = k.asker ∙ out;
             others = λ m j not. k.others m j (λ on who. not (elim who [ inl x ↦ x | inr y ↦ y ∙ e ], on));
@@ -233,7 +231,7 @@ told_lowers core new n line r w lt inside below was k =
       | inr other ↦
           let old : k.old ≡ state_at core line k.server = k.another other in
           let taker = k.taker_another other in
-          let out : k.final ≡ Out = some_same k.final Out (sym k.accepts ∙ (ap (λ (s : CacheState). accepting s k.answer) taker ∙ ap (λ (b : Body). accepting (Telling r w true) b) told)) in
+          let out : k.final ≡ Out = same_some k.final Out (sym k.accepts ∙ (ap (λ (s : CacheState). accepting s k.answer) taker ∙ ap (λ (b : Body). accepting (Telling r w true) b) told)) in
           let same : entry_rank k.served ≡ entry_rank (state_at core line k.server) =
           ap entry_rank (sym (ap (λ (p : CacheState × Body). p.0) both)) ∙ ((telling_same k.old n w).0 ∙ ap entry_rank old) in
           let pair : Pair core new n k.server line Out k.served = record { first = k.asker ∙ out; second = k.then_ other; others = k.others; size = k.size } in

@@ -8,6 +8,10 @@ use Rattle.std.proofs.lemmas.Bool.{cases_Bool, ltb-true}
 pub of_some : {X : Type 0} (P : X → Type 0) (o : Option X) (x : X) → o ≡ Some x → IfSome o P → P x
 of_some {X = X} P o x e h = subst (λ (o_ : Option X). IfSome o_ P) e h
 
+-- two values that are there, and are one
+pub same_some : {A : Type 0} (x y : A) → Some x ≡ Some y → x ≡ y
+same_some x y e = cc
+
 -- a value that is there below a bound alone
 pub if_below : {X : Type 0} (a b : ℕ) (P : X → Type 0) (o : Option X) → (a < b → IfSome o P) → IfSome (if nat_lt a b then o else None) P
 if_below a b P o h =

@@ -94,7 +94,7 @@ seen f core line n s q is = ap (f (state_at core line n)) (q.none n) ∙ ap (λ 
 
 -- ---- lists
 
--- whoever leads is the first, if nobody who comes links to it
+-- the node that leads is the first, if none that comes links to it
 first_leads : (view : View) (c : Stamped) (must : Bool) (first : Option ℕ) (ns : List ℕ) (n : ℕ) → IsLed view c must ns → LinkedFrom (link_in view) first ns → IsAmong n ns → role_in view n ≡ Some Leading → ((m : ℕ) → role_in view m ≡ Some Coming → link_in view m ≡ Some (Some n) → ⊥) → first ≡ Some n
 first_leads view c must first [] n led linked h leads none = elim led [ ]
 first_leads view c must first (x ∷ xs) n led linked (inl e) leads none = linked.0 ∙ ap Some (sym e)
@@ -103,7 +103,7 @@ first_leads view c must first (x ∷ xs) n (front, inr comes) linked (inr h) lea
     let rest = first_leads view c _ linked.1.0 xs n comes.1 linked.1.2 h leads none in
     absurd (none x comes.0 (linked.1.1 ∙ ap Some rest))
 
--- whoever stands behind the one that leads follows
+-- a node behind the one that leads follows
 after_leader : (view : View) (c : Stamped) (must : Bool) (first : Option ℕ) (ns : List ℕ) (n q : ℕ) → IsLed view c must ns → LinkedFrom (link_in view) first ns → IsAmong n ns → role_in view n ≡ Some Leading → link_in view n ≡ Some (Some q) → role_in view q ≡ Some Following
 after_leader view c must first [] n q led linked h leads link = elim led [ ]
 after_leader view c must first (x ∷ []) n q (front, inl ahead) linked (inl e) leads link =
@@ -116,7 +116,7 @@ after_leader view c must first (x ∷ xs) n q (front, inl ahead) linked (inr h) 
 after_leader view c must first (x ∷ xs) n q (front, inr comes) linked (inl e) leads link = absurd (roles_differ Coming Leading (role_in view x) comes.0 (ap (role_in view) (sym e) ∙ leads) (λ s. cc))
 after_leader view c must first (x ∷ xs) n q (front, inr comes) linked (inr h) leads link = after_leader view c _ linked.1.0 xs n q comes.1 linked.1.2 h leads link
 
--- whoever stands behind a fresh one that comes is fresh
+-- a node behind a fresh one that comes is fresh
 fresh_behind : (view : View) (c : Stamped) (must : Bool) (first : Option ℕ) (ns : List ℕ) (n q : ℕ) → IsLed view c must ns → LinkedFrom (link_in view) first ns → IsAmong n ns → role_in view n ≡ Some Coming → fresh_in view n ≡ true → link_in view n ≡ Some (Some q) → fresh_in view q ≡ true
 fresh_behind view c must first [] n q led linked h coming fresh link = elim led [ ]
 fresh_behind view c must first (x ∷ xs) n q (front, inl ahead) linked (inl e) coming fresh link = absurd (roles_differ Leading Coming (role_in view x) ahead.0 (ap (role_in view) (sym e) ∙ coming) (λ s. cc))

@@ -31,10 +31,11 @@ use Rattle.sci_core.proofs.Led.{role_in, fresh_in, AreFollowing, IsLed, followin
 use Rattle.sci_core.proofs.Shapes.{IsLedFrom, IsShaped, Shaped}
 use Rattle.sci_core.proofs.PerformShapes.{no_members, member_agrees, has_last}
 use Rattle.sci_core.proofs.ShapeSteps.{view_of, ShapedAt, request_tells}
+use Rattle.sci_core.proofs.Options.{same_some}
 
 -- ---- standings and states
 
--- whoever holds contents as the authority leads
+-- a node that holds contents as the authority leads
 record Holds (state : CacheState) (answer : Option Body) (d : Stamped) : Type 0 where
   pub leads : role_of state answer ≡ Some Leading
   pub same : (c : Stamped) → Agrees c state answer → d ≡ c
@@ -61,7 +62,7 @@ held (Joining p sent) (Some (body.Cdata d)) = record { leads = refl; same = λ c
 held (FreshJoining p sent e) (Some (body.Cdata d)) = record { leads = refl; same = λ c h. h.1 }
 held _ _ = tt
 
--- whoever leads is the authority, and a member
+-- the node that leads is the authority, and a member
 pub record Leader (state : CacheState) (answer : Option Body) : Type 0 where
   pub holds : IsSome (contents_held state answer)
   pub member : (f : Option ℕ) × (link_of state answer ≡ Some f)
@@ -215,9 +216,6 @@ same_if : (o : Option Stamped) (c : Stamped) → ((d : Stamped) → o ≡ Some d
 same_if None c h = tt
 same_if (Some d) c h = h d refl
 
-some_same : (a b : Stamped) → Some a ≡ Some b → a ≡ b
-some_same a b e = cc
-
 -- every authority has the last contents
 authority_same : (core : Core) (line : ℕ) (home : HomeState) (c : Stamped) (ns : List ℕ) (n : ℕ) → IsShaped (view_of core line) home c ns → IfSome (authority_contents (sharer_of core line n)) (λ d. d ≡ c)
 authority_same core line home c ns n is =
@@ -227,7 +225,7 @@ authority_same core line home c ns n is =
     let member = leads_member core line n leads in
     let agrees = member_agrees (view_of core line) home c ns n member.0 member.1 is in
     let has = authority_of core line n some in
-    let same : d ≡ has.contents = some_same d has.contents (sym e ∙ has.are) in
+    let same : d ≡ has.contents = same_some d has.contents (sym e ∙ has.are) in
     same ∙ has.holds.same c agrees))
 
 -- ---- the last contents

@@ -1,4 +1,4 @@
--- Of every line, whoever is let in waits last, and the first of those who wait becomes the authority: of every step, and of
+-- Of every line, the node that is let in waits last, and the first of those who wait becomes the authority: of every step, and of
 -- every schedule.
 use Rattle.std.proofs.Common.{◌≡◌, ◌≢◌, ℕ, zero, suc, ◌+◌, ◌%◌, ◌<◌, ◌≤◌, not, ◌&&◌, Bool, true, false, if◌then◌else◌, List, [], ◌∷◌, ◌++◌, filter, reverse, Option, Some, None, refl, sym, ap, subst, ◌∙◌, arith, inl, inr}
 use Rattle.std.specs.Prelude.{IfSome, slice_get, unwrap_or, ◌==◌}

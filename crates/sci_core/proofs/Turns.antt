@@ -54,7 +54,7 @@ pub data Succeeds (old new : View) (who : List ℕ) : Type 0 where
   Nobody : who ≡ [] → ((n : ℕ) → role_in new n ≡ Some Leading → role_in old n ≡ Some Leading) → Succeeds old new who
   One : (a : ℕ) → who ≡ a ∷ [] → (role_in old a ≡ Some Leading → ⊥) → role_in new a ≡ Some Leading → ((n : ℕ) → n ≢ a → role_in new n ≡ Some Leading → role_in old n ≡ Some Leading) → Succeeds old new who
 
--- a list becomes another: whoever arrives is at its front, and whoever succeeds was the last of those that came
+-- a list becomes another: the node that arrives is at its front, and the one that succeeds was the last of those that came
 pub record Turned (old new : View) (first : Option ℕ) (ns arrival : List ℕ) : Type 0 where
   pub nodes : List ℕ
   pub list : IsListOf (link_in new) first nodes
@@ -270,7 +270,7 @@ joined_turned old new a q home c ns joined is =
       turn = coming_less old new a q c led.0 (head_of home) ns joins is.list.linked is.list.once at led.1;
     }
 
--- whoever leads is a member
+-- the node that leads is a member
 leading_linked : (view : View) (n : ℕ) → link_in view n ≡ None → role_in view n ≡ Some Leading → ⊥
 leading_linked view n none leads = let member = (stands_as (view.state n) (view.answer n) (Some Leading) leads).member in let link = member.1 in cc
 

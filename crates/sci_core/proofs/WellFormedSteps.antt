@@ -264,6 +264,15 @@ pub size_either : {T E : Type 0} (result : Result T E) (old new : Core) (e : Eve
 size_either (Ok x) old new e reached done same = (subst (λ (o : Option Core). IfSome o (StepsWell old)) done (stepping_well old e (reached_well old reached))).same
 size_either (Err f) old new e reached done same = ap (λ (core : Core). core.size) (same refl)
 
+-- the same, where a step that isn't enabled gives nothing
+pub reached_maybe : {T : Type 0} (result : Option T) (old new : Core) (e : Event) → IsReached old → IfSome result (λ _. stepping old e ≡ Some new) → (result ≡ None → new ≡ old) → IsReached new
+reached_maybe (Some x) old new e reached done same = reached_stepping old new e reached done
+reached_maybe None old new e reached done same = subst IsReached (sym (same refl)) reached
+
+pub size_maybe : {T : Type 0} (result : Option T) (old new : Core) (e : Event) → IsReached old → IfSome result (λ _. stepping old e ≡ Some new) → (result ≡ None → new ≡ old) → new.size ≡ old.size
+size_maybe (Some x) old new e reached done same = (subst (λ (o : Option Core). IfSome o (StepsWell old)) done (stepping_well old e (reached_well old reached))).same
+size_maybe None old new e reached done same = ap (λ (core : Core). core.size) (same refl)
+
 -- a node of a reached state fits its machine
 pub any_part : (n : ℕ) (node : NodeOf) (is : IsReachableNode n node) → IsPart is.core.size n node
 any_part n node is = subst (IsPart is.core.size n) is.here ((any_well is.core is.reached).each_part n is.some)

@@ -14,7 +14,7 @@ use Rattle.sci_core.specs.Shape.{IsAuthority}
 use Rattle.sci_core.specs.Sharing.{authority_contents, sharer_of}
 use Rattle.sci_core.specs.SharingList.{IsSharingList}
 
--- Those who wait on a line, whoever is to be the authority next first: the members of its list before the authority,
+-- The nodes that wait on a line, the next authority first: the members of its list before the authority,
 -- from the one directly before it to the front. Nobody waits if the line has no list.
 pub data AreWaiting (core : Core) (line : ℕ) (waiting : List ℕ) : Type 0 where
   Nobody : IsSharingList core line [] → waiting ≡ [] → AreWaiting core line waiting
@@ -59,7 +59,7 @@ succeeded core (e ∷ events) line = successors core (step core e) line ++ succe
 
 -- ---- first come, first served
 
--- The first of those who wait becomes the authority, if anyone does, and whoever is let in waits last: a queue.
+-- The first of those who wait becomes the authority, if anyone does, and the node that is let in waits last: a queue.
 abbrev pub IsInTurn : Core → Event → ℕ → List ℕ → List ℕ → Type 0
 IsInTurn core e line waiting then_ = waiting ++ entrants core e line ≡ successors core (step core e) line ++ then_
 

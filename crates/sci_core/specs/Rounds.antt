@@ -84,7 +84,7 @@ parting (FreshHead (Some q) c) = kind.Claim
 parting (FreshHead None c) = kind.Clear
 parting _ = kind.Wback
 
--- Whoever has to tell another tells it; else the member before the head joins; else the head purges, claims, clears or
+-- A node that has to tell another tells it; else the member before the head joins; else the head purges, claims, clears or
 -- writes back.
 pub data IsNext (core : Core) (line n : ℕ) (ask : AskKind) : Type 0 where
   Tells : is_telling (state_at core line n) ≡ true → ask ≡ kind.Setback → IsNext core line n ask

@@ -38,7 +38,7 @@ is_fresh_at core line n = is_fresh (sharer_of core line n).state (sharer_of core
 abbrev pub AreFresh : Core → ℕ → List ℕ → Type 0
 AreFresh core line nodes = AllByRecursion (λ n. is_fresh_at core line n ≡ true) nodes
 
--- whoever may change the line, or is about to
+-- the node that may change the line, or is about to
 abbrev pub IsAuthority : Core → ℕ → ℕ → Type 0
 IsAuthority core line n = IsSome (authority_contents (sharer_of core line n))
 

@@ -7,6 +7,7 @@ use crate::fault::ApplyFault;
 use crate::lane::LaneKind;
 use crate::state::State;
 use crate::taking::Taking;
+use sci_history::Entry;
 use sci_words::{AskKind, Event, Op};
 
 /// The node whose event it is.
@@ -25,12 +26,14 @@ pub fn node_of(event: &Event) -> u8
 }
 
 impl State {
-    ghost use Rattle.std.specs.Prelude.{◌≡◌, ◌<◌, Some, None, IfOk, IfErr, IsErr, IsTrue, false};
+    ghost use Rattle.std.specs.Prelude.{◌≡◌, ◌<◌, Some, None, IfOk, IfErr, IfSome, IsErr, IsTrue, false};
     ghost use Rattle.sci_words.specs.declared.event.Event.TheVariants as event;
-    ghost use Rattle.sci_core.specs.Core.{stepping};
+    ghost use Rattle.sci_core.specs.Core.{node_at, stepping};
+    ghost use Rattle.sci_core.specs.Node.{node_issuing, node_performing};
     ghost use Rattle.sci_core.specs.Fault.{IsFaultOf};
     ghost use Rattle.sci_core.specs.Taking.{taking_event};
     ghost use Rattle.sci_core.specs.WellFormed.{IsWellFormed};
+    ghost use Rattle.sci_core.specs.Work.{IsIssued, IsLogged};
 
     /// Applies an event, as the step says. Unchanged on refusal: NotEnabled exactly if the event is not
     /// enabled, Memory only if it is.
@@ -44,8 +47,8 @@ impl State {
             return Err(ApplyFault::NotEnabled);
         }
         let enabled = match *event {
-            Event::Issue { node, op } => self.issue(node, op),
-            Event::Perform { node, line } => self.perform(node, line),
+            Event::Issue { node, op } => self.issue(node, op).is_some(),
+            Event::Perform { node, line } => self.perform(node, line).is_some(),
             Event::Ask { node, line, kind } => return self.ask(node, line, kind),
             Event::Serve { from, node } => self.take(Taking::Serve, from, node),
             Event::Refuse { from, node } => self.take(Taking::Refuse, from, node),
@@ -59,24 +62,37 @@ impl State {
         }
     }
 
-    /// A node issues an operation. False, unchanged, if it can't.
-    fn issue(&mut self, n: u8, op: Op) -> bool
+    /// A node issues an operation, whose serial it gives. None, unchanged, if it can't.
+    pub(crate) fn issue(&mut self, n: u8, op: Op) -> Option<u32>
         requires { n < self.old.size.nodes }
-        ensures done { IsTrue result → stepping self.old (event.Issue n op) ≡ Some self.new }
-        ensures not { result ≡ false → stepping self.old (event.Issue n op) ≡ None }
-        ensures same { result ≡ false → self.new ≡ self.old }
+        ensures done { IfSome result
+            (λ serial. stepping self.old (event.Issue n op) ≡ Some self.new) }
+        ensures issued { IfSome result
+            (λ serial. node_issuing (node_at self.old n) op ≡ Some (node_at self.new n)) }
+        ensures serial { IfSome result (λ serial. serial ≡ (node_at self.old n).issued) }
+        ensures pending { IfSome result
+            (λ serial. IsIssued (node_at self.old n) (node_at self.new n) op) }
+        ensures none { result ≡ None → node_issuing (node_at self.old n) op ≡ None }
+        ensures not { result ≡ None → stepping self.old (event.Issue n op) ≡ None }
+        ensures same { result ≡ None → self.new ≡ self.old }
     {
-        self.nodes[usize::from(n)].issue(op).is_some()
+        self.nodes[usize::from(n)].issue(op)
     }
 
-    /// A node performs the operation that is pending on a line. False, unchanged, if it can't.
-    fn perform(&mut self, n: u8, line: u8) -> bool
+    /// A node performs the operation that is pending on a line, and gives its entry. None, unchanged, if it can't.
+    pub(crate) fn perform(&mut self, n: u8, line: u8) -> Option<Entry>
         requires { n < self.old.size.nodes }
-        ensures done { IsTrue result → stepping self.old (event.Perform n line) ≡ Some self.new }
-        ensures not { result ≡ false → stepping self.old (event.Perform n line) ≡ None }
-        ensures same { result ≡ false → self.new ≡ self.old }
+        ensures done { IfSome result
+            (λ entry. stepping self.old (event.Perform n line) ≡ Some self.new) }
+        ensures performed { IfSome result (λ entry.
+            node_performing (node_at self.old n) line ≡ Some (node_at self.new n, entry)) }
+        ensures logged { IfSome result
+            (λ entry. IsLogged (node_at self.old n) (node_at self.new n) line entry) }
+        ensures none { result ≡ None → node_performing (node_at self.old n) line ≡ None }
+        ensures not { result ≡ None → stepping self.old (event.Perform n line) ≡ None }
+        ensures same { result ≡ None → self.new ≡ self.old }
     {
-        self.nodes[usize::from(n)].perform(line).is_some()
+        self.nodes[usize::from(n)].perform(line)
     }
 
     /// A node asks about a line: the request ends the lane to its target. Unchanged on refusal.

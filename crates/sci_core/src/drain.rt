@@ -1,6 +1,5 @@
 //! Bringing all that is under way to its end.
 
-use crate::fault::ApplyFault;
 use crate::lane::LaneKind;
 use crate::machine::Machine;
 use sci_words::Event;
@@ -32,20 +31,6 @@ impl Machine {
             count += 1;
         }
         Ok(count)
-    }
-
-    /// Makes an event. Requires that it is enabled. Unchanged if memory is refused.
-    pub(crate) fn make(&mut self, event: &Event) -> Result<(), AllocError>
-        requires { IsEnabled self.old event.now }
-        ensures ok { OnOk result (stepping self.old event.now ≡ Some self.new) }
-        ensures err { OnErr result (self.new ≡ self.old) }
-        ensures coherent { IsCoherent self.new }
-    {
-        match self.apply(event) {
-            Ok(()) => Ok(()),
-            Err(ApplyFault::Memory(refused)) => Err(refused),
-            Err(ApplyFault::NotEnabled) => unreachable!(),
-        }
     }
 
     /// An event that brings on what is under way, or None if nothing is.

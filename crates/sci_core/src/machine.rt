@@ -6,9 +6,9 @@ use crate::node::Node;
 use crate::outcome::push_log;
 use crate::sharing_list::Sharing;
 use crate::state::State;
-use sci_history::{Last, Logs};
+use sci_history::{Entry, Last, Logs};
 use sci_packets::Packet;
-use sci_words::{Event, Extent, Stamped};
+use sci_words::{Event, Extent, Op, Stamped};
 use std::alloc::{AllocError, Global};
 use std::marker::Model;
 
@@ -34,7 +34,9 @@ impl Machine {
     ghost use Rattle.std.specs.Prelude.{◌≡◌, ◌<◌, ◌≤◌, ℕ, Some, None, IfSome, IfOk, IfErr, IsErr, OnOk, OnErr, option_map, option_copied, slice_get, length};
     ghost use Rattle.sci_words.specs.declared.limits.TheConstants.{MAX_OPERATIONS};
     ghost use Rattle.sci_cache.specs.Cache.{letter_of};
-    ghost use Rattle.sci_core.specs.Core.{core_of, lane_of, node_at, opening, stepping, run_from};
+    ghost use Rattle.sci_words.specs.declared.event.Event.TheVariants.{Issue, Perform};
+    ghost use Rattle.sci_core.specs.Core.{IsEnabled, core_of, lane_of, node_at, opening, stepping, run_from};
+    ghost use Rattle.sci_core.specs.Node.{node_issuing, node_performing};
     ghost use Rattle.sci_core.specs.Fault.{IsFaultOf};
     ghost use Rattle.sci_core.specs.Size.{size_of};
     ghost use Rattle.sci_core.specs.Reached.{IsReached};
@@ -48,6 +50,7 @@ impl Machine {
     ghost use Rattle.sci_core.specs.Sharing.{last_at, last_of};
     ghost use Rattle.sci_core.specs.Shape.{IsAuthority};
     ghost use Rattle.sci_core.specs.SharingList.{IsSharingList};
+    ghost use Rattle.sci_core.specs.Work.{IsIssued, IsLogged};
 
     /// A machine of this size in which no line was touched: all lines are HOME with zero words at version 0, and
     /// all else is empty. Each node may issue `limit` operations. Requires that this is 1 to
@@ -77,6 +80,58 @@ impl Machine {
         ensures coherent { IsCoherent self.new }
     {
         self.state.apply(event)
+    }
+
+    /// Makes an event. Requires that it is enabled. Unchanged if memory is refused, as it can be for an Ask or a Reply alone.
+    pub fn make(&mut self, event: &Event) -> Result<(), AllocError>
+        requires { IsEnabled self.old event.now }
+        ensures ok { OnOk result (stepping self.old event.now ≡ Some self.new) }
+        ensures err { OnErr result (self.new ≡ self.old) }
+        ensures size { self.new.size ≡ self.old.size }
+        ensures coherent { IsCoherent self.new }
+    {
+        match self.apply(event) {
+            Ok(()) => Ok(()),
+            Err(ApplyFault::Memory(refused)) => Err(refused),
+            Err(ApplyFault::NotEnabled) => unreachable!(),
+        }
+    }
+
+    /// Issues an operation at a node, as the event Issue does, and gives its serial: the count of operations issued there
+    /// before. Requires that there is such a node. None, unchanged, if the Issue is not enabled.
+    pub fn issue(&mut self, node: u8, op: Op) -> Option<u32>
+        requires { node < self.old.size.nodes }
+        ensures done { IfSome result (λ serial. stepping self.old (Issue node op) ≡ Some self.new) }
+        ensures issued { IfSome result
+            (λ serial. node_issuing (node_at self.old node) op ≡ Some (node_at self.new node)) }
+        ensures serial { IfSome result (λ serial. serial ≡ (node_at self.old node).issued) }
+        ensures pending { IfSome result
+            (λ serial. IsIssued (node_at self.old node) (node_at self.new node) op) }
+        ensures none { result ≡ None → node_issuing (node_at self.old node) op ≡ None }
+        ensures not { result ≡ None → stepping self.old (Issue node op) ≡ None }
+        ensures same { result ≡ None → self.new ≡ self.old }
+        ensures size { self.new.size ≡ self.old.size }
+        ensures coherent { IsCoherent self.new }
+    {
+        self.state.issue(node, op)
+    }
+
+    /// Performs the operation that is pending on a line at a node, as the event Perform does, and gives its entry, which now
+    /// ends the node's log. Requires that there is such a node. None, unchanged, if the Perform is not enabled.
+    pub fn perform(&mut self, node: u8, line: u8) -> Option<Entry>
+        requires { node < self.old.size.nodes }
+        ensures done { IfSome result (λ entry. stepping self.old (Perform node line) ≡ Some self.new) }
+        ensures performed { IfSome result (λ entry.
+            node_performing (node_at self.old node) line ≡ Some (node_at self.new node, entry)) }
+        ensures logged { IfSome result
+            (λ entry. IsLogged (node_at self.old node) (node_at self.new node) line entry) }
+        ensures none { result ≡ None → node_performing (node_at self.old node) line ≡ None }
+        ensures not { result ≡ None → stepping self.old (Perform node line) ≡ None }
+        ensures same { result ≡ None → self.new ≡ self.old }
+        ensures size { self.new.size ≡ self.old.size }
+        ensures coherent { IsCoherent self.new }
+    {
+        self.state.perform(node, line)
     }
 
     /// Applies events in their order; those that are not enabled change nothing. If memory is refused, the

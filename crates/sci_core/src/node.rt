@@ -75,6 +75,7 @@ impl Node {
     ghost use Rattle.sci_words.specs.declared.limits.TheConstants.{MAX_LINES, MAX_OPERATIONS};
     ghost use Rattle.sci_core.specs.Size.{size_of};
     ghost use Rattle.sci_core.specs.Taking.{IsTakable, node_taking};
+    ghost use Rattle.sci_core.specs.Work.{IsIssued, IsLogged};
     ghost use Rattle.sci_home.specs.Serving.{is_for_home, IsForHome};
     ghost use Rattle.sci_cache.specs.Held.{state_of};
     ghost use Rattle.sci_cache.specs.LineSet.{IsBefore};
@@ -153,6 +154,7 @@ impl Node {
     pub fn issue(&mut self, op: Op) -> Option<u32>
         ensures issued { IfSome result (λ serial. node_issuing self.old op ≡ Some self.new) }
         ensures serial { IfSome result (λ serial. serial ≡ self.old.issued) }
+        ensures pending { IfSome result (λ serial. IsIssued self.old self.new op) }
         ensures none { result ≡ None → node_issuing self.old op ≡ None }
         ensures same { result ≡ None → self.new ≡ self.old }
     {
@@ -185,6 +187,7 @@ impl Node {
     pub fn perform(&mut self, line: u8) -> Option<Entry>
         ensures performed { IfSome result
             (λ entry. node_performing self.old line ≡ Some (self.new, entry)) }
+        ensures logged { IfSome result (λ entry. IsLogged self.old self.new line entry) }
         ensures none { result ≡ None → node_performing self.old line ≡ None }
         ensures same { result ≡ None → self.new ≡ self.old }
     {
