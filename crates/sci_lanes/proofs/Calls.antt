@@ -1,6 +1,6 @@
 -- What the calls of an end need and tell.
 use Rattle.std.proofs.Common.{◌≡◌, ℕ, ◌/◌, ◌%◌, ◌<◌, List, [], ◌∷◌, length, get_or, Option, Some, None, refl, sym, ap, subst, ◌∙◌, true, arith}
-use Rattle.std.specs.Prelude.{is_some, slice_get, IsSome, Result, Ok, Err}
+use Rattle.std.specs.Prelude.{is_some, slice_get, Result, Ok, Err}
 use Rattle.std.proofs.lemmas.List.{get_or_read}
 use Rattle.sci_words.specs.declared.event.Event.{Event}
 use Rattle.sci_words.specs.declared.event.Event.TheVariants as event
@@ -12,8 +12,8 @@ use Rattle.sci_cache.specs.State.{waits}
 use Rattle.sci_core.specs.declared.lane.LaneKind.{LaneKind}
 use Rattle.sci_core.specs.declared.lane.LaneKind.TheVariants.{Requests, Answers}
 use Rattle.sci_words.specs.declared.operation.Op.{Op}
-use Rattle.sci_core.specs.Node.{NodeOf, IsForNode, IsServable, lines_of, node_asking, node_issuing}
-use Rattle.sci_core.specs.Core.{Core, node_at, lane_at, lane_of, lane_place, Changes, Sends, Side, Takes, changes, sends, side}
+use Rattle.sci_core.specs.Node.{NodeOf, IsForNode, IsServable, lines_of, node_issuing}
+use Rattle.sci_core.specs.Core.{Core, node_at, lane_at, lane_of, lane_place, Side, Takes, changes, side}
 use Rattle.sci_core.specs.Reached.{IsReached}
 use Rattle.sci_core.proofs.Applied.{servable, acceptable}
 use Rattle.sci_core.proofs.Enabled.{request_enabled}
@@ -22,8 +22,8 @@ use Rattle.sci_lanes.specs.declared.cell.CellId.{CellId}
 use Rattle.sci_lanes.specs.declared.view.Part.{Part}
 use Rattle.sci_lanes.specs.Cells.{lane_count, receiver_of}
 use Rattle.sci_lanes.specs.Shown.{informed, me_of, outbound_at, inbound_at}
-use Rattle.sci_lanes.specs.Telling.{IsFront, IsFull, IsShown, IsSending, IsTaking, IsBeating, SomeLineWaits}
-use Rattle.sci_lanes.specs.Ends.{nodes_in, lane_at_cell, IsNextToSend, IsNextToTake, MayPublish, MayFree, MayBeat, node_after, taken_by, MayBeAsked, MayBeGiven, FitsInside}
+use Rattle.sci_lanes.specs.Telling.{IsFront, IsFull, IsShown, IsSending, IsTaking, SomeLineWaits}
+use Rattle.sci_lanes.specs.Ends.{nodes_in, lane_at_cell, IsNextToSend, IsNextToTake, MayPublish, MayFree, MayBeat, node_after, taken_by, MayBeGiven, FitsInside}
 use Rattle.sci_lanes.proofs.Seats.{IsInLane, takes_in, shown_nodes}
 use Rattle.sci_lanes.proofs.Events.{sent_place, words_some as words_some_of}
 use Rattle.sci_lanes.proofs.Inside.{inbox_within}
@@ -82,34 +82,6 @@ full_waits part cell schedule s next kind full =
 
 -- ---- events
 
--- what an event asks that sends a packet can be asked
-asked_of : (o : Option (NodeOf × Letter)) (kind : LaneKind) (after : NodeOf) (letter : Letter) → sends Requests o ≡ Sends kind after letter → IsSome o
-asked_of None kind after letter e = cc
-asked_of (Some sent) kind after letter e = refl
-
-pub publishing_asks : (part : Part) (cell : CellId) (first : ℕ) (e : Event) → MayPublish part cell first e → MayBeAsked e part.node
-publishing_asks part cell first (event.Issue n op) may = tt
-publishing_asks part cell first (event.Perform n line) may = tt
-publishing_asks part cell first (event.Ask n line kind) may = asked_of (node_asking part.node line kind) cell.kind may.after (letter_of may.packet) may.side_is
-publishing_asks part cell first (event.Serve from n) may = tt
-publishing_asks part cell first (event.Refuse from n) may = tt
-publishing_asks part cell first (event.Reply n) may = tt
-publishing_asks part cell first (event.Accept from n) may = tt
-
-asks_alone : (o : Option (NodeOf × Letter)) (after : NodeOf) → sends Requests o ≡ Changes after → IsSome o
-asks_alone None after e = cc
-asks_alone (Some sent) after e = refl
-
--- an event that changes its node alone asks nothing
-pub beating_asks : (part : Part) (e : Event) → MayBeat part e → MayBeAsked e part.node
-beating_asks part (event.Issue n op) may = tt
-beating_asks part (event.Perform n line) may = tt
-beating_asks part (event.Ask n line kind) may = asks_alone (node_asking part.node line kind) may.after may.side_is
-beating_asks part (event.Serve from n) may = tt
-beating_asks part (event.Refuse from n) may = tt
-beating_asks part (event.Reply n) may = tt
-beating_asks part (event.Accept from n) may = tt
-
 pub publishing : (part : Part) (cell : CellId) (first : ℕ) (e : Event) → MayPublish part cell first e → IsSending part (lane_at_cell part cell) first e (node_after part.node (side part.node e))
 publishing part cell first e may =
     let after_is : node_after part.node (side part.node e) ≡ may.after = ap (node_after part.node) may.side_is in
@@ -124,9 +96,6 @@ publishing part cell first e may =
       vacant = may.vacant;
       spelled = may.spelled;
     })
-
-pub beating : (part : Part) (e : Event) → MayBeat part e → IsBeating part e (node_after part.node (side part.node e))
-beating part e may = subst (λ (node : NodeOf). IsBeating part e node) (sym (ap (node_after part.node) may.side_is)) (record { own = may.own; side_is = may.side_is })
 
 pub freeing : (part : Part) (cell : CellId) (e : Event) (packet : Packet) (next : NodeOf) → (may : MayFree part cell e) → packet ≡ may.packet → taken_by (side part.node e) (letter_of packet) ≡ Some next → IsTaking part (lane_at_cell part cell) e next
 freeing part cell e packet next may is takes = record {

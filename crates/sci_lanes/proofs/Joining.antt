@@ -11,6 +11,7 @@ use Rattle.sci_lanes.specs.Shown.{me_of}
 use Rattle.sci_lanes.specs.Telling.{no_part}
 use Rattle.sci_lanes.specs.Ends.{EndOf, nodes_in}
 use Rattle.sci_lanes.specs.Gathering.{HasEndOf, HasTurns, IsJoinedAt, AreJoined, AreKept, AreAll}
+use Rattle.sci_core.proofs.Options.{same_some}
 
 -- ---- a list with one element less
 
@@ -25,10 +26,7 @@ from_left (x ∷ xs) (suc p) (suc j) y e = let h = from_left xs p j y e in (suc 
 -- an element of the list is the one that was taken out, or is left
 is_left : {A : Type 0} (xs : List A) (p k : ℕ) (x y : A) → slice_get xs p ≡ Some x → slice_get xs k ≡ Some y → (x ≡ y) ⊎ ((j : ℕ) × (slice_get (remove xs p) j ≡ Some y))
 is_left [] p k x y e f = cc
-is_left (z ∷ xs) zero zero x y e f = inl (some_one x y (sym e ∙ f))
-  where
-    some_one : {A : Type 0} (a b : A) → Some a ≡ Some b → a ≡ b
-    some_one a b e = cc
+is_left (z ∷ xs) zero zero x y e f = inl (same_some x y (sym e ∙ f))
 is_left (z ∷ xs) zero (suc k) x y e f = inr (k, f)
 is_left (z ∷ xs) (suc p) zero x y e f = inr (zero, f)
 is_left (z ∷ xs) (suc p) (suc k) x y e f = elim (is_left xs p k x y e f) [ inl h ↦ inl h | inr h ↦ inr (suc h.0, h.1) ]
@@ -43,10 +41,7 @@ one_less (z ∷ xs) (suc p) x e = let less = one_less xs p x e in omega arith
 -- the element of a list at a place has what is there in the list of what they have
 pub mapped_at : {A B : Type 0} (f : A → B) (xs : List A) (k : ℕ) (x : A) (y : B) → x ≡ get_or xs k x → slice_get (map f xs) k ≡ Some y → f x ≡ y
 mapped_at f [] k x y e h = cc
-mapped_at f (z ∷ xs) zero x y e h = some_one (f x) y (ap (λ w. Some (f w)) e ∙ h)
-  where
-    some_one : {A : Type 0} (a b : A) → Some a ≡ Some b → a ≡ b
-    some_one a b e = cc
+mapped_at f (z ∷ xs) zero x y e h = same_some (f x) y (ap (λ w. Some (f w)) e ∙ h)
 mapped_at f (z ∷ xs) (suc k) x y e h = mapped_at f xs k x y e h
 
 pub mapped_less : {A B : Type 0} (f : A → B) (xs : List A) (p : ℕ) → map f (remove xs p) ≡ remove (map f xs) p

@@ -13,6 +13,7 @@ use Rattle.sci_lanes.specs.declared.view.Part.{Part}
 use Rattle.sci_lanes.specs.declared.view.View.{View}
 use Rattle.sci_lanes.specs.Cells.{lane_count, sender_of, receiver_of, word_count}
 use Rattle.sci_lanes.specs.Shown.{Whole, nodes_of, me_of, single, ShowsLane, IsKnown, IsSeen, HasRead, IsCovered, Shows}
+use Rattle.sci_core.proofs.Options.{same_some}
 
 -- ---- lists
 
@@ -22,10 +23,7 @@ all_by P Q f (x ∷ xs) all = (f x all.0, all_by P Q f xs all.1)
 
 pub all_at : {X : Type 0} (P : X → Type 0) (xs : List X) (k : ℕ) (x : X) → slice_get xs k ≡ Some x → AllByRecursion P xs → P x
 all_at P [] k x e all = cc
-all_at P (y ∷ xs) zero x e all = subst P (some_one y x e) all.0
-  where
-    some_one : {A : Type 0} (a b : A) → Some a ≡ Some b → a ≡ b
-    some_one a b e = cc
+all_at P (y ∷ xs) zero x e all = subst P (same_some y x e) all.0
 all_at P (y ∷ xs) (suc k) x e all = all_at P xs k x e all.1
 
 pub all_join : {X : Type 0} (P : X → Type 0) (xs ys : List X) → AllByRecursion P xs → AllByRecursion P ys → AllByRecursion P (xs ++ ys)

@@ -14,6 +14,7 @@ use Rattle.sci_lanes.specs.declared.view.View.{View}
 use Rattle.sci_lanes.specs.Shown.{Whole, nodes_of, me_of, single, IsKnown, HasRead, IsCovered, Shows, IsKept}
 use Rattle.sci_lanes.proofs.Keeping.{all_by, all_join, get_left, get_right, changed_at, changed_here, changed_else, read_none, read_nothing}
 use Rattle.sci_lanes.proofs.Allowed.{within}
+use Rattle.sci_core.proofs.Options.{same_some}
 
 -- the last of a list, with its place
 last_at? : {A : Type 0} (xs : List A) (x : A) (k : ℕ) (y : A) → get_elem? (xs ++ x ∷ []) k ≡ some y → (get_elem? xs k ≡ some y) ⊎ ((k ≡ length xs) × (x ≡ y))
@@ -100,10 +101,7 @@ split_shows x words views seat p rest s here none = record { long = s.long; lane
     ]
       where
         in_rest : (n place : ℕ) (q : Part) → n ≢ me_of p → slice_get (p ∷ rest) place ≡ Some q → me_of q ≡ n → (k : ℕ) × (slice_get rest k ≡ Some q)
-        in_rest n zero q apart e of_node = absurd (apart (sym of_node ∙ ap me_of (sym (some_one p q e))))
-          where
-            some_one : (a b : Part) → Some a ≡ Some b → a ≡ b
-            some_one a b h = cc
+        in_rest n zero q apart e of_node = absurd (apart (sym of_node ∙ ap me_of (sym (same_some p q e))))
         in_rest n (suc place) q apart e of_node = (place, e)
 
         elsewhere : (n : ℕ) → n ≢ me_of p → IsCovered x views n → IsCovered y (set views seat left ++ single p ∷ []) n

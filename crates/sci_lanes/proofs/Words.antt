@@ -3,6 +3,7 @@ use Rattle.std.proofs.Common.{◌≡◌, ◌≢◌, ℕ, zero, suc, ◌+◌, ◌
 use Rattle.std.specs.Prelude.{slice_get}
 use Rattle.std.proofs.lemmas.List.{get_or-set_other, get_or-set_same}
 use Rattle.sci_lanes.specs.Cells.{cell_place, lane_count, own_place, word_count}
+use Rattle.sci_core.proofs.Options.{same_some}
 
 -- ---- places
 
@@ -42,10 +43,7 @@ stored_here words place value lt = get_or-set_same words place value 0 lt
 -- ---- a list with one element more
 
 pub at_end : {A : Type 0} (xs : List A) (x : A) (k : ℕ) (y : A) → slice_get (xs ++ x ∷ []) k ≡ Some y → ((k < length xs) × (slice_get xs k ≡ Some y)) ⊎ ((k ≡ length xs) × (x ≡ y))
-at_end [] x zero y e = inr (refl, some_one x y e)
-  where
-    some_one : {A : Type 0} (a b : A) → Some a ≡ Some b → a ≡ b
-    some_one a b e = cc
+at_end [] x zero y e = inr (refl, same_some x y e)
 at_end [] x (suc k) y e = cc
 at_end (z ∷ xs) x zero y e = inl (omega arith, e)
 at_end (z ∷ xs) x (suc k) y e = elim (at_end xs x k y e) [ inl h ↦ inl (omega (arith, h.0), h.1) | inr h ↦ inr (ap suc h.0, h.1) ]

@@ -2,6 +2,8 @@
 use Rattle.std.specs.Prelude.{ℕ, ◌+◌, ◌*◌, ◌/◌, ◌%◌, List, slice_index}
 use Rattle.sci_core.specs.Core.{lane_place}
 use Rattle.sci_lanes.specs.declared.cell.CellId.{CellId}
+use Rattle.sci_lanes.specs.declared.cell.TheConstants.{CELL_WORDS}
+use Rattle.sci_words.specs.declared.limits.TheConstants.{LANE_CELLS}
 
 -- ---- lanes, by their number among those of all pairs of nodes
 
@@ -22,14 +24,14 @@ lane_number nodes cell = lane_place nodes cell.kind cell.sender cell.receiver
 
 -- where the cell begins that is used after so many packets
 unfoldable pub cell_place : ℕ → ℕ → ℕ
-cell_place lane turn = (lane * 4 + turn % 4) * 11
+cell_place lane turn = (lane * LANE_CELLS + turn % LANE_CELLS) * CELL_WORDS
 
 -- a word of that cell
 abbrev pub word_at : List ℕ → ℕ → ℕ → ℕ → ℕ
 word_at words lane turn index = slice_index words (cell_place lane turn + index)
 
 abbrev pub own_place : ℕ → ℕ → ℕ
-own_place nodes n = lane_count nodes * 44 + n
+own_place nodes n = lane_count nodes * (LANE_CELLS * CELL_WORDS) + n
 
 abbrev pub word_count : ℕ → ℕ
-word_count nodes = lane_count nodes * 44 + nodes
+word_count nodes = lane_count nodes * (LANE_CELLS * CELL_WORDS) + nodes

@@ -1,16 +1,19 @@
 -- An end of the lanes, as its owner sees it, and what each of its calls needs.
 use Rattle.std.specs.List.{range_with_len}
-use Rattle.std.specs.Prelude.{◌≡◌, ℕ, ◌+◌, ◌-◌, ◌*◌, ◌/◌, ◌%◌, ◌<◌, ◌≤◌, true, List, [], length, slice_index, map, take, drop, Option, None, Some, IsSome, ◌∷◌}
+use Rattle.std.specs.Prelude.{◌≡◌, ℕ, ◌+◌, ◌-◌, ◌*◌, ◌/◌, ◌%◌, ◌<◌, ◌≤◌, true, List, [], length, slice_index, map, take, drop, Option, None, Some, ◌∷◌}
 use Rattle.atomic_table.specs.Table.{Me}
 use Rattle.atomic_table.specs.Seated.{TableId}
 use Rattle.sci_words.specs.declared.extent.Extent.{Extent}
 use Rattle.sci_words.specs.declared.event.Event.{Event}
-use Rattle.sci_words.specs.declared.event.Event.TheVariants.{Ask, Serve, Refuse, Accept}
+use Rattle.sci_words.specs.declared.event.Event.TheVariants.{Issue, Perform, Serve, Refuse, Accept}
 use Rattle.sci_packets.specs.declared.packet.Packet.{Packet}
 use Rattle.sci_packets.specs.Spelling.{SpellsInWords}
 use Rattle.sci_cache.specs.Cache.{Letter, letter_of}
 use Rattle.sci_core.specs.Size.{Size, size_of}
-use Rattle.sci_core.specs.Node.{NodeOf, IsForNode, IsServable, node_asking}
+use Rattle.sci_words.specs.declared.operation.Op.{Op}
+use Rattle.sci_history.specs.declared.entry.Entry.{Entry}
+use Rattle.sci_core.specs.Node.{NodeOf, IsForNode, IsServable, node_issuing, node_performing}
+use Rattle.sci_core.specs.Work.{IsIssued, IsLogged}
 use Rattle.sci_core.specs.Core.{Side, Changes, Sends, Takes, side, node_of}
 use Rattle.sci_lanes.specs.declared.cell.CellId.{CellId}
 use Rattle.sci_lanes.specs.declared.cell.TheConstants.{CELL_WORDS}
@@ -20,7 +23,8 @@ use Rattle.sci_core.specs.declared.lane.LaneKind.{LaneKind}
 use Rattle.sci_lanes.specs.Cells.{cell_place, lane_count, receiver_of, lane_number, word_count}
 use Rattle.sci_lanes.specs.Shown.{outbound_at, inbound_at, me_of, single, informed, IsSeen, opening_part}
 use Rattle.sci_lanes.specs.Knowing.{looked, filled, read, published, freed, with_node_known}
-use Rattle.sci_lanes.specs.Telling.{part_of, size_in, IsShown}
+use Rattle.sci_lanes.specs.Telling.{part_of, size_in, IsMade, IsShown}
+use Rattle.sci_words.specs.declared.limits.TheConstants.{LANE_CELLS}
 
 -- which table it is of, and what it knows
 pub record EndOf : Type 0 where
@@ -74,13 +78,13 @@ informed_at schedule end = with_part end (informed schedule end.part)
 pub record IsNextToSend (part : Part) (cell : CellId) : Type 0 where
   pub mine : cell.sender ≡ me_of part
   pub other : cell.receiver < nodes_in part
-  pub next : cell.number ≡ (outbound_at part (lane_at_cell part cell)).sent % 4
+  pub next : cell.number ≡ (outbound_at part (lane_at_cell part cell)).sent % LANE_CELLS
 
 -- the cell from which it takes next
 pub record IsNextToTake (part : Part) (cell : CellId) : Type 0 where
   pub mine : cell.receiver ≡ me_of part
   pub other : cell.sender < nodes_in part
-  pub next : cell.number ≡ (inbound_at part (lane_at_cell part cell)).taken % 4
+  pub next : cell.number ≡ (inbound_at part (lane_at_cell part cell)).taken % LANE_CELLS
 
 -- the next cell of a lane to the node was looked at, and this word found
 pub record LooksFor (kind : LaneKind) (from word : ℕ) (old new : EndOf) : Type 0 where
@@ -148,15 +152,30 @@ node_after node _ = node
 abbrev pub after_event : EndOf → Event → NodeOf
 after_event end event = node_after end.part.node (side end.part.node event)
 
+-- an end's node has issued an operation, with this serial
+pub record HasIssued (old : EndOf) (op : Op) (serial : ℕ) (new : EndOf) : Type 0 where
+  pub issued : node_issuing old.part.node op ≡ Some new.part.node
+  pub numbered : serial ≡ old.part.node.issued
+  pub pending : IsIssued old.part.node new.part.node op
+  pub made : IsMade old.part (Issue (me_of old.part) op) new.part.schedule
+  pub rest : new ≡ informed_at new.part.schedule (beaten new.part.node old)
+
+-- an end's node has performed the operation that was pending on a line, with this entry
+pub record HasPerformed (old : EndOf) (line : ℕ) (entry : Entry) (new : EndOf) : Type 0 where
+  pub performed : node_performing old.part.node line ≡ Some (new.part.node, entry)
+  pub logged : IsLogged old.part.node new.part.node line entry
+  pub made : IsMade old.part (Perform (me_of old.part) line) new.part.schedule
+  pub rest : new ≡ informed_at new.part.schedule (beaten new.part.node old)
+
 -- what becomes of a node that takes a packet
 abbrev pub taken_by : Side → Letter → Option NodeOf
 taken_by (Takes kind from taking) letter = taking letter
 taken_by _ letter = None
 
--- what the event asks, if it asks something, can be asked at a node
-abbrev pub MayBeAsked : Event → NodeOf → Type 0
-MayBeAsked (Ask n line kind) node = IsSome (node_asking node line kind)
-MayBeAsked _ node = Unit {0}
+-- the event sends a packet
+abbrev pub SendsPacket : Side → Type 0
+SendsPacket (Sends kind next letter) = Unit {0}
+SendsPacket _ = ⊥
 
 -- a packet that the event may take at a node
 abbrev pub MayBeGiven : Event → NodeOf → Letter → Type 0
@@ -187,8 +206,8 @@ pub record FitsInside (part : Part) (node : NodeOf) (me nodes : ℕ) (turns inbo
   pub inbound_long : length part.inbound ≡ lane_count nodes
   pub turns_long : length turns ≡ lane_count nodes
   pub inbox_turns_long : length inbox_turns ≡ 2 * nodes
-  pub turns_are : (lane : ℕ) → lane < lane_count nodes → slice_index turns lane ≡ (outbound_at part lane).sent % 4
-  pub taken_are : (lane : ℕ) → lane < lane_count nodes → receiver_of nodes lane ≡ me → slice_index inbox_turns (lane / nodes) ≡ (inbound_at part lane).taken % 4
+  pub turns_are : (lane : ℕ) → lane < lane_count nodes → slice_index turns lane ≡ (outbound_at part lane).sent % LANE_CELLS
+  pub taken_are : (lane : ℕ) → lane < lane_count nodes → receiver_of nodes lane ≡ me → slice_index inbox_turns (lane / nodes) ≡ (inbound_at part lane).taken % LANE_CELLS
 
 -- where the next cell to take from begins in the table, for each lane to the node
 pub record ArePlaces (nodes me : ℕ) (inbox_turns places : List ℕ) : Type 0 where

@@ -5,7 +5,6 @@ use Rattle.std.specs.VecDeque.{deque_len, deque_capacity}
 use Rattle.atomic_table.specs.Table.{Me, Step}
 use Rattle.sci_history.specs.declared.entry.Entry.{Entry}
 use Rattle.sci_history.specs.Placed.{is_of_node, log_of}
-use Rattle.sci_words.specs.declared.limits.TheConstants.{MAX_NODES}
 use Rattle.sci_words.specs.declared.stamped.Stamped.{Stamped}
 use Rattle.sci_words.specs.declared.event.Event.{Event}
 use Rattle.sci_packets.specs.declared.packet.Packet.{Packet}
@@ -27,6 +26,7 @@ use Rattle.sci_lanes.specs.Cells.{lane_count, receiver_of, word_count}
 use Rattle.sci_lanes.specs.Shown.{Fits, ShowsLane, Whole, nodes_of, me_of, inbound_at, AreEnabled, IsKnown, IsSeen, HasRead}
 use Rattle.sci_lanes.specs.Telling.{no_part, size_in}
 use Rattle.sci_lanes.specs.Ends.{EndOf, LanesOf}
+use Rattle.sci_words.specs.declared.limits.TheConstants.{LANE_CELLS, MAX_NODES}
 
 -- ---- the ends that are given
 
@@ -118,7 +118,7 @@ HasNodes nodes parts = (n : ℕ) → n < nodes → (place : ℕ) × (part : Part
 -- for each lane to a node, the number of the cell to take from
 pub record HasTurns (nodes : ℕ) (part : Part) (inbox_turns : List ℕ) : Type 0 where
   pub long : length inbox_turns ≡ 2 * nodes
-  pub turns : (lane : ℕ) → lane < lane_count nodes → receiver_of nodes lane ≡ me_of part → slice_index inbox_turns (lane / nodes) ≡ (inbound_at part lane).taken % 4
+  pub turns : (lane : ℕ) → lane < lane_count nodes → receiver_of nodes lane ≡ me_of part → slice_index inbox_turns (lane / nodes) ≡ (inbound_at part lane).taken % LANE_CELLS
 
 module _ {Z : Type 0} where
   -- the node with this number, among those that were joined
@@ -144,7 +144,7 @@ HasRoom count v = (v.items ≡ []) × (vec_len v ≡ 0) × (count ≤ vec_capaci
 
 -- there are no packets yet, and there is room for those of a lane
 abbrev pub HasFour : List Packet → ℕ → ℕ → Type 0
-HasFour items count capacity = (items ≡ []) × (count ≡ 0) × (4 ≤ capacity)
+HasFour items count capacity = (items ≡ []) × (count ≡ 0) × (LANE_CELLS ≤ capacity)
 
 -- the words of a packet begin at this place
 pub record IsPacketAt (words : List ℕ) (place : ℕ) (packet : Packet) : Type 0 where
@@ -163,7 +163,7 @@ pub record IsFresh (count : ℕ) (room : Room) : Type 0 where
 
 -- sixteen logs: that of an end of each node, and empty ones for the others
 pub record AreLogged (nodes : ℕ) (ends : List EndOf) (logs : List (List Entry)) : Type 0 where
-  pub sixteen : length logs ≡ 16
+  pub sixteen : length logs ≡ MAX_NODES
   pub here : (n : ℕ) → n < nodes → (place : ℕ) × (end : EndOf) × (slice_get ends place ≡ Some end) × (me_of end.part ≡ n) × (log_of logs n ≡ end.part.node.log)
   pub none : (n : ℕ) → nodes ≤ n → log_of logs n ≡ []
 
@@ -179,4 +179,4 @@ module _ {Z : Type 0} where
   -- the packets of the first lanes, whatever the words show there
   pub record AreLanes (nodes : ℕ) (words : List ℕ) (inbox_turns : List (Vec ℕ Z)) (count : ℕ) (lanes : List (List Letter)) : Type 0 where
     pub long : length lanes ≡ count
-    pub each : (lane : ℕ) (packets : List Packet) (o : Outbound) (i : Inbound) → lane < count → Fits words lane packets o i → TakesFrom nodes inbox_turns lane (i.taken % 4) → slice_index_or lanes lane [] ≡ map letter_of packets
+    pub each : (lane : ℕ) (packets : List Packet) (o : Outbound) (i : Inbound) → lane < count → Fits words lane packets o i → TakesFrom nodes inbox_turns lane (i.taken % LANE_CELLS) → slice_index_or lanes lane [] ≡ map letter_of packets

@@ -6,6 +6,7 @@ use Rattle.sci_lanes.specs.declared.view.Inbound.{Inbound}
 use Rattle.sci_lanes.specs.declared.view.Part.{Part}
 use Rattle.sci_lanes.specs.Cells.{sender_of, receiver_of}
 use Rattle.sci_lanes.specs.Shown.{outbound_at, inbound_at, me_of}
+use Rattle.sci_words.specs.declared.limits.TheConstants.{LANE_CELLS}
 
 -- ---- one end of a lane
 
@@ -38,11 +39,11 @@ freed_in i = record { taken = i.taken + 1; found = [] }
 
 -- whether the part's node sends in a lane, and its next cell there has this number
 abbrev pub is_sending : Part → ℕ → ℕ → Bool
-is_sending part lane number = sender_of part.node.cache.nodes lane == me_of part && number == (outbound_at part lane).sent % 4
+is_sending part lane number = sender_of part.node.cache.nodes lane == me_of part && number == (outbound_at part lane).sent % LANE_CELLS
 
 -- whether it receives in a lane, and its next cell there has this number
 abbrev pub is_receiving : Part → ℕ → ℕ → Bool
-is_receiving part lane number = receiver_of part.node.cache.nodes lane == me_of part && number == (inbound_at part lane).taken % 4
+is_receiving part lane number = receiver_of part.node.cache.nodes lane == me_of part && number == (inbound_at part lane).taken % LANE_CELLS
 
 -- whether the part's node sends in a lane more than was taken there: in a lane to itself it is sure then that packets are
 -- there

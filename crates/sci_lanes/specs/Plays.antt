@@ -1,6 +1,6 @@
 -- What each kind of step on a word tells its seat, which has one part. A word's place tells its lane, its cell and its
 -- number in the cell.
-use Rattle.std.specs.Prelude.{◌≡◌, ◌≢◌, ℕ, ◌/◌, ◌%◌, true, []}
+use Rattle.std.specs.Prelude.{◌*◌, ◌≡◌, ◌≢◌, ℕ, ◌/◌, ◌%◌, true, []}
 use Rattle.atomic_table.specs.Table.{Me, Step}
 use Rattle.sci_words.specs.declared.event.Event.{Event}
 use Rattle.sci_core.specs.Core.{lane_at}
@@ -10,15 +10,17 @@ use Rattle.sci_lanes.specs.declared.view.View.{View}
 use Rattle.sci_lanes.specs.Knowing.{is_receiving, is_sending, looked, filled, read, published, freed, with_node_known}
 use Rattle.sci_lanes.specs.Shown.{IsSeen, informed}
 use Rattle.sci_lanes.specs.Telling.{part_of, state_of, Tells, IsFull, IsMade, IsTaken}
+use Rattle.sci_lanes.specs.declared.cell.TheConstants.{CELL_WORDS}
+use Rattle.sci_words.specs.declared.limits.TheConstants.{LANE_CELLS}
 
 abbrev pub lane_in : ℕ → ℕ
-lane_in place = place / 44
+lane_in place = place / (LANE_CELLS * CELL_WORDS)
 
 abbrev pub number_in : ℕ → ℕ
-number_in place = place / 11 % 4
+number_in place = place / CELL_WORDS % LANE_CELLS
 
 abbrev pub index_in : ℕ → ℕ
-index_in place = place % 11
+index_in place = place % CELL_WORDS
 
 -- a look; a sender that finds its next cell full has four packets in the lane
 pub record LooksAt (lane number word : ℕ) (part : Part) (seat : Me (Unit {0}) View) : Type 0 where

@@ -17,6 +17,8 @@ use Rattle.sci_lanes.specs.declared.view.Inbound.{Inbound}
 use Rattle.sci_lanes.specs.declared.view.Part.{Part}
 use Rattle.sci_lanes.specs.declared.view.View.{View}
 use Rattle.sci_lanes.specs.Cells.{lane_count, sender_of, receiver_of, word_at, word_count}
+use Rattle.sci_lanes.specs.declared.cell.TheConstants.{CELL_WORDS}
+use Rattle.sci_words.specs.declared.limits.TheConstants.{LANE_CELLS}
 
 -- ---- what a part knows of a lane
 
@@ -43,16 +45,16 @@ me_of part = part.node.cache.me
 pub record Fits (words : List ℕ) (lane : ℕ) (packets : List Packet) (o : Outbound) (i : Inbound) : Type 0 where
   pub good : (k : ℕ) (p : Packet) → slice_get packets k ≡ Some p → IsPacket p
   pub counted : o.sent ≡ i.taken + length packets
-  pub room : length packets ≤ 4
+  pub room : length packets ≤ LANE_CELLS
   pub full : (k j : ℕ) (p : Packet) → slice_get packets k ≡ Some p → j < length (words_of p) → word_at words lane (i.taken + k) j ≡ slice_index (words_of p) j
-  pub empty : (k : ℕ) → length packets ≤ k → k < 4 → word_at words lane (i.taken + k) 0 ≡ 0
+  pub empty : (k : ℕ) → length packets ≤ k → k < LANE_CELLS → word_at words lane (i.taken + k) 0 ≡ 0
   -- the sender knows the next cell empty, and what it has filled there
-  pub vacant : o.vacant ≡ true → length packets < 4
+  pub vacant : o.vacant ≡ true → length packets < LANE_CELLS
   pub unfilled : o.vacant ≡ false → o.filled ≡ []
-  pub few_filled : length o.filled < 11
+  pub few_filled : length o.filled < CELL_WORDS
   pub filled : (j : ℕ) → j < length o.filled → word_at words lane o.sent (suc j) ≡ slice_index o.filled j
   -- the receiver has found words of the oldest packet
-  pub few_found : length i.found ≤ 11
+  pub few_found : length i.found ≤ CELL_WORDS
   pub there : 0 < length i.found → 0 < length packets
   pub found : (j : ℕ) → j < length i.found → word_at words lane i.taken j ≡ slice_index i.found j
 

@@ -2,7 +2,6 @@
 use Rattle.std.specs.Prelude.{◌≡◌, ℕ, ◌+◌, ◌<◌, ◌≤◌, true, List, [], ◌∷◌, ◌++◌, length, slice_index, slice_index_or, Option, Some}
 use Rattle.atomic_table.specs.Table.{Me}
 use Rattle.sci_words.specs.declared.event.Event.{Event}
-use Rattle.sci_words.specs.declared.limits.TheConstants.{LANE_CELLS}
 use Rattle.sci_packets.specs.declared.packet.Packet.{Packet}
 use Rattle.sci_packets.specs.Spelling.{IsPacket, SpellsInWords, words_of}
 use Rattle.sci_cache.specs.Cache.{Letter, letter_of, line_of}
@@ -18,6 +17,7 @@ use Rattle.sci_lanes.specs.declared.view.Part.{Part}
 use Rattle.sci_lanes.specs.declared.view.View.{View}
 use Rattle.sci_lanes.specs.Cells.{lane_count, sender_of, receiver_of}
 use Rattle.sci_lanes.specs.Shown.{outbound_at, inbound_at, me_of, single, informed, AreEnabled, AreOfOthers}
+use Rattle.sci_words.specs.declared.limits.TheConstants.{LANE_CELLS}
 
 -- the part of a view that has one alone
 abbrev pub no_part : Part
@@ -58,7 +58,7 @@ pub record IsShown (part : Part) : Type 0 where
   -- words found are those of the oldest packet
   pub found : (lane : ℕ) → lane < lane_count core.size.nodes → receiver_of core.size.nodes lane ≡ me_of part → 0 < length (inbound_at part lane).found → IsFront (lane_at core lane) (inbound_at part lane).found
   -- a cell known empty has room for a packet
-  pub vacant : (lane : ℕ) → lane < lane_count core.size.nodes → sender_of core.size.nodes lane ≡ me_of part → (outbound_at part lane).vacant ≡ true → length (lane_at core lane) < 4
+  pub vacant : (lane : ℕ) → lane < lane_count core.size.nodes → sender_of core.size.nodes lane ≡ me_of part → (outbound_at part lane).vacant ≡ true → length (lane_at core lane) < LANE_CELLS
   -- a lane has a place for each packet
   pub room : (lane : ℕ) → lane < lane_count core.size.nodes → length (lane_at core lane) ≤ LANE_CELLS
   -- the node knows how many packets are in a lane to itself
@@ -72,7 +72,7 @@ pub record IsFull (part : Part) (lane : ℕ) : Type 0 where
   pub leads : state_of part ≡ core
   pub some_node : me_of part < core.size.nodes
   pub here : node_at core (me_of part) ≡ part.node
-  pub four : length (lane_at core lane) ≡ 4
+  pub four : length (lane_at core lane) ≡ LANE_CELLS
 
 -- some line of a node awaits an answer
 pub record SomeLineWaits (node : NodeOf) : Type 0 where

@@ -1,15 +1,16 @@
 //! An end of the lanes: one node, with its seat at the table.
 
 use crate::cell::{CellId, first_places};
-use crate::event::{make_alone, make_taking};
+use crate::event::{make_sending, make_taking};
 use crate::seat::NodeSeat;
 use sci_core::{LaneKind, Node};
+use sci_history::Entry;
 use sci_packets::Packet;
-use sci_words::{Event, LANE_CELLS};
+use sci_words::{Event, LANE_CELLS, Op};
 use std::alloc::{AllocError, Global};
 use std::marker::{Brand, Model};
 
-/// Whoever has an end of the lanes, and maybe more.
+/// A value that has an end of the lanes, and maybe more.
 pub trait HasEnd {
     ghost use Rattle.std.specs.Prelude.{◌≡◌};
     ghost use Rattle.sci_lanes.specs.Ends.{EndOf};
@@ -66,17 +67,18 @@ impl Model for LaneEnd {
 }
 
 impl LaneEnd {
-    ghost use Rattle.std.specs.Prelude.{◌≡◌, ◌≢◌, ◌<◌, ◌≤◌, ◌*◌, ◌⊎◌, [], IfOk, Some, length, replicate};
+    ghost use Rattle.std.specs.Prelude.{◌≡◌, ◌≢◌, ◌<◌, ◌≤◌, ◌*◌, ◌⊎◌, [], IfOk, IfSome, Some, None, length, replicate};
     ghost use Rattle.sci_words.specs.declared.limits.TheConstants.{LANE_CELLS};
     ghost use Rattle.sci_lanes.specs.Cells.{lane_count};
     ghost use Rattle.sci_packets.specs.Spelling.{SpellsInWords};
     ghost use Rattle.sci_cache.specs.Cache.{letter_of};
     ghost use Rattle.sci_core.specs.declared.lane.LaneKind.TheVariants.{Requests};
     ghost use Rattle.sci_core.specs.Core.{lane_of, side};
+    ghost use Rattle.sci_core.specs.Node.{node_issuing, node_performing};
     ghost use Rattle.sci_lanes.specs.Shown.{inbound_at, IsSeen, me_of};
     ghost use Rattle.sci_lanes.specs.Gathering.{HasTurns};
     ghost use Rattle.sci_lanes.specs.Telling.{IsMade, IsSameNode, IsShown, IsTaken, SomeLineWaits, state_of};
-    ghost use Rattle.sci_lanes.specs.Ends.{FitsInside, IsNextToSend, IsNextToTake, LooksFor, MayBeat, MayFill};
+    ghost use Rattle.sci_lanes.specs.Ends.{FitsInside, HasIssued, HasPerformed, IsNextToSend, IsNextToTake, LooksFor, MayBeat, MayFill};
     ghost use Rattle.sci_lanes.specs.Ends.{MayFree, MayPublish, MayRead, after_event, beaten};
     ghost use Rattle.sci_lanes.specs.Ends.{filled_at, freed_at, informed_at, lane_at_cell, looked_at, nodes_in};
     ghost use Rattle.sci_lanes.specs.Ends.{published_at, read_at, taken_by};
@@ -243,7 +245,7 @@ impl LaneEnd {
         ensures same { IsSameNode self.old.part self.new.part }
         ensures shown { IsShown self.new.part }
     {
-        make_alone(&mut self.node, event);
+        make_sending(&mut self.node, event);
         self.seat
             .publish::<Brand>(&cell, self.nodes, first, event, &self.node);
         let lane = cell.lane(self.nodes);
@@ -274,8 +276,44 @@ impl LaneEnd {
         self.inbox_places[place] = CellId { number, ..cell }.place(self.nodes, 0);
     }
 
-    /// Makes an event of the node that concerns no lane: an Issue or a Perform. Requires that it is enabled.
+    /// Issues an operation at the node, and gives its serial: the count of operations issued before. None, unchanged, if the
+    /// node can't issue it.
     #[inline(always)]
+    pub fn issue(&mut self, op: Op) -> Option<u32>
+        ensures issued { IfSome result (λ serial. HasIssued self.old op serial self.new) }
+        ensures none { result ≡ None → node_issuing self.old.part.node op ≡ None }
+        ensures unchanged { result ≡ None → self.new ≡ self.old }
+        ensures same { IsSameNode self.old.part self.new.part }
+        ensures shown { IsShown self.new.part }
+    {
+        let serial = self.node.issue(op)?;
+        let event = Event::Issue { node: self.me, op };
+        self.seat
+            .beat::<Brand>(self.me, self.nodes, &event, &self.node);
+        Some(serial)
+    }
+
+    /// Performs the operation that is pending on a line at the node, and gives its entry, which now ends the log. None,
+    /// unchanged, if none is pending there or the line's state doesn't allow it.
+    #[inline(always)]
+    pub fn perform(&mut self, line: u8) -> Option<Entry>
+        ensures performed { IfSome result (λ entry. HasPerformed self.old line entry self.new) }
+        ensures none { result ≡ None → node_performing self.old.part.node line ≡ None }
+        ensures unchanged { result ≡ None → self.new ≡ self.old }
+        ensures same { IsSameNode self.old.part self.new.part }
+        ensures shown { IsShown self.new.part }
+    {
+        let entry = self.node.perform(line)?;
+        let event = Event::Perform {
+            node: self.me,
+            line,
+        };
+        self.seat
+            .beat::<Brand>(self.me, self.nodes, &event, &self.node);
+        Some(entry)
+    }
+
+    /// Makes an event of the node that concerns no lane: an Issue or a Perform. Requires that it is enabled.
     pub fn beat(&mut self, event: &Event)
         requires { MayBeat self.old.part event.now }
         ensures part { self.new ≡ informed_at self.new.part.schedule
@@ -284,8 +322,14 @@ impl LaneEnd {
         ensures same { IsSameNode self.old.part self.new.part }
         ensures shown { IsShown self.new.part }
     {
-        make_alone(&mut self.node, event);
-        self.seat
-            .beat::<Brand>(self.me, self.nodes, event, &self.node);
+        match *event {
+            Event::Issue { op, .. } => {
+                self.issue(op);
+            }
+            Event::Perform { line, .. } => {
+                self.perform(line);
+            }
+            _ => unreachable!(),
+        }
     }
 }

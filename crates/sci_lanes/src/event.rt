@@ -3,33 +3,24 @@
 ghost use Rattle.std.specs.Prelude.{◌≡◌, Some, IsSome};
 ghost use Rattle.sci_cache.specs.Cache.{letter_of};
 ghost use Rattle.sci_core.specs.Core.{side};
-ghost use Rattle.sci_lanes.specs.Ends.{node_after, taken_by, MayBeAsked, MayBeGiven};
+ghost use Rattle.sci_lanes.specs.Ends.{node_after, taken_by, MayBeGiven, SendsPacket};
 
 use sci_core::Node;
 use sci_packets::Packet;
 use sci_words::Event;
 
-/// Makes the node's side of an event that takes no packet. An event that takes one changes nothing here, nor does one
-/// that is not enabled. Requires that what is asked can be.
+/// Makes the node's side of an event that sends a packet. Requires that it sends one.
 #[inline(always)]
-pub(crate) fn make_alone(node: &mut Node, event: &Event)
-    requires { MayBeAsked event.now node.old }
+pub(crate) fn make_sending(node: &mut Node, event: &Event)
+    requires { SendsPacket (side node.old event.now) }
     ensures { node.new ≡ node_after node.old (side node.old event.now) }
 {
-    match event {
-        Event::Issue { op, .. } => {
-            node.issue(*op);
-        }
-        Event::Perform { line, .. } => {
-            node.perform(*line);
-        }
-        Event::Ask { line, kind, .. } => {
-            node.apply_ask(*line, *kind);
-        }
+    match *event {
+        Event::Ask { line, kind, .. } => node.apply_ask(line, kind),
         Event::Reply { .. } => {
             node.take_answer();
         }
-        Event::Serve { .. } | Event::Refuse { .. } | Event::Accept { .. } => {}
+        _ => unreachable!(),
     }
 }
 

@@ -99,9 +99,11 @@ impl Lanes {
 ghost use Rattle.std.specs.Prelude.{◌≡◌, ◌≢◌, ℕ, ◌+◌, ◌*◌, ◌%◌, ◌<◌, ◌≤◌, true, false, [], ◌∷◌, ◌++◌, List, length, map, None, Some, IfOk, IfSome, slice_get, slice_index};
 ghost use Rattle.std.specs.List.{AllByRecursion};
 ghost use Rattle.std.specs.VecDeque.{deque_capacity, deque_len};
+ghost use Rattle.sci_words.specs.declared.limits.TheConstants.{LANE_CELLS, MAX_NODES};
 ghost use Rattle.sci_packets.specs.declared.packet.Packet.{Packet};
 ghost use Rattle.sci_cache.specs.Cache.{letter_of};
 ghost use Rattle.sci_core.specs.Size.{size_of};
+ghost use Rattle.sci_lanes.specs.declared.cell.TheConstants.{CELL_WORDS};
 ghost use Rattle.sci_lanes.specs.declared.view.Inbound.{Inbound};
 ghost use Rattle.sci_lanes.specs.declared.view.Outbound.{Outbound};
 ghost use Rattle.sci_lanes.specs.Cells.{lane_count, word_count};
@@ -126,7 +128,7 @@ struct Room {
 impl Room {
     /// Memory for the gathering of these ends, which are those of all nodes, with their logs.
     fn new<E: HasEnd>(alloc: Global, nodes: u8, ends: &[E]) -> Result<Room, AllocError>
-        requires few { nodes ≤ 16 }
+        requires few { nodes ≤ MAX_NODES }
         requires all { AreAll nodes (map E.end_of ends.now) }
         ensures fresh { IfOk result (IsFresh nodes) }
         ensures logs { IfOk result (λ room. AreLogged nodes (map E.end_of ends.now) room.logs) }
@@ -150,7 +152,7 @@ impl Room {
 
 /// The logs of these ends, which are those of all nodes. Refused if memory is.
 fn logs_of<E: HasEnd>(alloc: Global, nodes: u8, ends: &[E]) -> Result<Logs, AllocError>
-    requires few { nodes ≤ 16 }
+    requires few { nodes ≤ MAX_NODES }
     requires all { AreAll nodes (map E.end_of ends.now) }
     ensures { IfOk result (AreLogged nodes (map E.end_of ends.now)) }
 {
@@ -193,6 +195,8 @@ fn are_all<E: HasEnd>(ends: &[E], nodes: u8) -> bool
 
 /// Joins the ends to a seat that has no node, in the order of their nodes, and keeps their nodes and the numbers of the
 /// cells from which they take next.
+// Out of line, so that the places of its ends on the stack are free again when it returns.
+#[inline(never)]
 fn join_all<E: HasEnd + Drop>(
     seat: &mut Seat<(), View>,
     mut ends: Vec<E>,
@@ -269,10 +273,10 @@ fn read_lanes(
 
 /// The packets of a lane, oldest first, by its words and the number of the cell to take from.
 fn read_lane(words: &[u64], lane: usize, turn: u8, mut packets: VecDeque<Packet>) -> Lane
-    requires inside { (lane + 1) * 44 ≤ length words.now }
+    requires inside { (lane + 1) * (LANE_CELLS * CELL_WORDS) ≤ length words.now }
     requires room { HasFour packets.items (deque_len packets) (deque_capacity packets) }
     ensures { (shown : List Packet) (o : Outbound) (i : Inbound) → Fits words.now lane shown o i →
-        turn ≡ i.taken % 4 → result ≡ map letter_of shown }
+        turn ≡ i.taken % LANE_CELLS → result ≡ map letter_of shown }
 {
     let cells = usize::from(LANE_CELLS);
     for passed in 0..LANE_CELLS {

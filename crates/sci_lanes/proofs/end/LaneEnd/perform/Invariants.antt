@@ -1,0 +1,4 @@
+use Rattle.sci_lanes.proofs.end.LaneEnd.perform.Given as goal
+
+abbrev pub ghosts-beat : goal.ghosts-beat
+ghosts-beat a = record { event = a.event.now; next = a.after.now }
