@@ -8,8 +8,8 @@ ghost use Rattle.sci_policy.specs.Turn.{submit_fault};
 
 use sci_core::Machine;
 use sci_history::Entry;
-use sci_policy::{SubmitFault, check_submit};
-use sci_words::{Event, Op};
+use sci_policy::SubmitFault;
+use sci_words::Op;
 
 /// Submits an operation at a node: an Issue, whose serial it gives. Requires that there is such a node.
 /// Refused, unchanged, with the first of `SubmitFault`'s causes that holds.
@@ -24,14 +24,9 @@ pub fn submit_on(machine: &mut Machine, node: u8, op: Op) -> Result<u32, SubmitF
     ensures same { IsErr result → machine.new ≡ machine.old }
     ensures size { machine.new.size ≡ machine.old.size }
 {
-    check_submit(machine.node(node), &op)?;
-    match machine.apply(&Event::Issue { node, op }) {
-        Ok(()) => {}
-        Err(_) => unreachable!(),
-    }
-    match machine.node(node).pending(op.line) {
-        Some(pending) => Ok(pending.serial),
-        None => unreachable!(),
+    match machine.issue(node, op) {
+        Some(serial) => Ok(serial),
+        None => Err(SubmitFault::of(machine.node(node), &op)),
     }
 }
 
@@ -49,15 +44,5 @@ pub fn perform_on(machine: &mut Machine, node: u8, line: u8) -> Option<Entry>
     ensures same { result ≡ None → machine.new ≡ machine.old }
     ensures size { machine.new.size ≡ machine.old.size }
 {
-    if !machine.node(node).may_perform(line) {
-        return None;
-    }
-    match machine.apply(&Event::Perform { node, line }) {
-        Ok(()) => {}
-        Err(_) => unreachable!(),
-    }
-    match machine.node(node).log().last() {
-        Some(entry) => Some(*entry),
-        None => unreachable!(),
-    }
+    machine.perform(node, line)
 }

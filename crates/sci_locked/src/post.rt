@@ -2,7 +2,7 @@
 
 ghost use Rattle.std.specs.Prelude.{◌<◌};
 
-use sci_core::{ApplyFault, LaneKind, Machine, Node};
+use sci_core::{LaneKind, Machine, Node};
 use sci_packets::Packet;
 use sci_turn::Post;
 use sci_words::{Event, LANE_CELLS};
@@ -64,11 +64,8 @@ impl<'a> Post for Lent<'a> {
     }
 
     fn take(&mut self, _kind: LaneKind, _from: u8, event: &Event) -> Result<(), AllocError> {
-        match self.machine.apply(event) {
-            Ok(()) => Ok(()),
-            Err(ApplyFault::NotEnabled) => unreachable!(),
-            Err(ApplyFault::Memory(refused)) => Err(refused),
-        }
+        self.machine.make(event)?;
+        Ok(())
     }
 
     /// A lane takes as many packets here as one between running stations has cells.
@@ -79,11 +76,8 @@ impl<'a> Post for Lent<'a> {
         if self.machine.count(kind, self.node, to) >= usize::from(LANE_CELLS) {
             return Ok(false);
         }
-        match self.machine.apply(event) {
-            Ok(()) => Ok(true),
-            Err(ApplyFault::NotEnabled) => unreachable!(),
-            Err(ApplyFault::Memory(refused)) => Err(refused),
-        }
+        self.machine.make(event)?;
+        Ok(true)
     }
 
     ghost stays_itself = { λ x. (refl, λ place many. Prim.omega arith) };

@@ -7,7 +7,7 @@ pub mod Rests
 pub mod Idle
 pub mod Targets
 pub mod Deciding
+pub mod Submitting
 pub mod Telling
-pub mod LogEnds
 pub mod Alone
 pub mod Circles

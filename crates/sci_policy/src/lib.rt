@@ -15,6 +15,6 @@ mod worker;
 pub use decision::Decision;
 pub use policy::{PATIENCE, Policy};
 pub use progress::Progress;
-pub use submit::{SubmitFault, check_submit};
+pub use submit::SubmitFault;
 pub use want::Want;
 pub use worker::Worker;

@@ -1,9 +1,5 @@
 //! Why an operation can't be submitted.
 
-ghost use Rattle.std.specs.Prelude.{◌≡◌, Some, None, IfErr, IsErr, IsOk, IsSome};
-ghost use Rattle.sci_core.specs.Node.{node_issuing};
-ghost use Rattle.sci_policy.specs.Turn.{submit_fault};
-
 use sci_core::Node;
 use sci_words::{Op, WORDS_PER_LINE};
 
@@ -20,24 +16,27 @@ pub enum SubmitFault {
     LogFull,
 }
 
-/// Whether an operation may be submitted at a node now; if not, the first cause that holds.
-pub fn check_submit(node: &Node, op: &Op) -> Result<(), SubmitFault>
-    ensures fault { IfErr result (λ fault. submit_fault node.now op.now ≡ Some fault) }
-    ensures none { IsOk result → submit_fault node.now op.now ≡ None }
-    ensures enabled { IsOk result → IsSome (node_issuing node.now op.now) }
-    ensures not { IsErr result → node_issuing node.now op.now ≡ None }
-{
-    if op.line >= node.extent().lines {
-        return Err(SubmitFault::NoSuchLine);
+impl SubmitFault {
+    ghost use Rattle.std.specs.Prelude.{◌≡◌, Some, None};
+    ghost use Rattle.sci_core.specs.Node.{node_issuing};
+    ghost use Rattle.sci_policy.specs.Turn.{submit_fault};
+
+    /// Why an operation can't be issued at a node: the first cause that holds. Requires that it can't be issued there.
+    pub fn of(node: &Node, op: &Op) -> SubmitFault
+        requires { node_issuing node.now op.now ≡ None }
+        ensures { submit_fault node.now op.now ≡ Some result }
+    {
+        // Read, so that the prover knows that the operands are words.
+        let _may = node.may_issue(op);
+        if op.line >= node.extent().lines {
+            return SubmitFault::NoSuchLine;
+        }
+        if usize::from(op.word) >= WORDS_PER_LINE {
+            return SubmitFault::NoSuchWord;
+        }
+        if node.pending(op.line).is_some() {
+            return SubmitFault::LineTaken;
+        }
+        SubmitFault::LogFull
     }
-    if usize::from(op.word) >= WORDS_PER_LINE {
-        return Err(SubmitFault::NoSuchWord);
-    }
-    if node.pending(op.line).is_some() {
-        return Err(SubmitFault::LineTaken);
-    }
-    if !node.may_issue(op) {
-        return Err(SubmitFault::LogFull);
-    }
-    Ok(())
 }

@@ -109,26 +109,19 @@ pub(crate) fn make(end: &mut LaneEnd, event: &Event) -> Result<(), &'static str>
 fn issue(end: &mut LaneEnd, op: Op) -> Result<(), &'static str>
     ensures { IsSameEnd end.old end.new }
 {
-    if !end.node().may_issue(&op) {
-        return Err("not to be issued");
+    match end.issue(op) {
+        Some(_serial) => Ok(()),
+        None => Err("not to be issued"),
     }
-    let event = Event::Issue { node: end.me(), op };
-    end.beat(&event);
-    Ok(())
 }
 
 fn perform(end: &mut LaneEnd, line: u8) -> Result<(), &'static str>
     ensures { IsSameEnd end.old end.new }
 {
-    if !end.node().may_perform(line) {
-        return Err("not to be performed");
+    match end.perform(line) {
+        Some(_entry) => Ok(()),
+        None => Err("not to be performed"),
     }
-    let event = Event::Perform {
-        node: end.me(),
-        line,
-    };
-    end.beat(&event);
-    Ok(())
 }
 
 fn ask(end: &mut LaneEnd, line: u8, kind: AskKind) -> Result<(), &'static str>

@@ -10,6 +10,7 @@ use Rattle.sci_lanes.specs.Gathering.{AreOf, IsOf}
 use Rattle.sci_lanes.proofs.Opening.{size_opened}
 use Rattle.sci_station.specs.Ends.{IsSameEnd}
 use Rattle.sci_station.specs.Station.{end_in, opening_station}
+use Rattle.sci_core.proofs.Options.{same_some}
 
 -- an end that is the same is one of the same lanes
 pub same_of : (f : LanesOf) (old new : EndOf) → IsSameEnd old new → IsOf f old → IsOf f new
@@ -39,10 +40,7 @@ module _ {S : Type 0} (end_of : S → EndOf) (f : LanesOf) where
   of_at xs k x lt is all = subst (λ (s : S). IsOf f (end_of s)) (sym is) (of_there xs k x lt all)
 
   pub of_more : (x : S) (xs : List S) → IsOf f (end_of x) → All xs → All (x ∷ xs)
-  of_more x xs is all zero end e = subst (IsOf f) (some_one (end_of x) end e) is
-    where
-      some_one : {A : Type 0} (a b : A) → Some a ≡ Some b → a ≡ b
-      some_one a b e = cc
+  of_more x xs is all zero end e = subst (IsOf f) (same_some (end_of x) end e) is
   of_more x xs is all (suc place) end e = all place end e
 
   pub of_put : (xs : List S) (k : ℕ) (x : S) → IsOf f (end_of x) → All xs → All (set xs k x)

@@ -1,7 +1,7 @@
 -- What an end knows of the next cell after a look and a read.
-use Rattle.std.proofs.Common.{◌≡◌, ◌≢◌, ℕ, ◌%◌, ◌<◌, Bool, true, false, eqb, List, [], ◌∷◌, length, set, refl, sym, ap, subst, ◌∙◌, get_or, arith}
-use Rattle.std.specs.Prelude.{◌&&◌, not, if◌then◌else◌, Option, Some, None, IfSome}
-use Rattle.std.proofs.lemmas.Bool.{and_from, eq-eqb, eqb-true, ne_eqb}
+use Rattle.std.proofs.Common.{◌≡◌, ◌≢◌, ℕ, ◌%◌, ◌<◌, Bool, true, false, List, [], ◌∷◌, length, set, refl, sym, ap, subst, ◌∙◌}
+use Rattle.std.specs.Prelude.{◌&&◌, not, if◌then◌else◌}
+use Rattle.std.proofs.lemmas.Bool.{and_from, eq-eqb, ne_eqb}
 use Rattle.std.proofs.lemmas.List.{get_or-set_same, length-set}
 use Rattle.sci_lanes.specs.declared.cell.CellId.{CellId}
 use Rattle.sci_lanes.specs.declared.view.Inbound.{Inbound}
@@ -13,16 +13,7 @@ use Rattle.sci_lanes.specs.Shown.{inbound_at, IsSeen, me_of, no_inbound, no_outb
 use Rattle.sci_lanes.specs.Knowing.{found_first, has_sent_more, is_receiving, is_sending, looked_in, looked_out, read_in, filled_out}
 use Rattle.sci_lanes.specs.Telling.{IsFront, IsShown}
 use Rattle.sci_lanes.specs.Ends.{EndOf, IsNextToSend, IsNextToTake, informed_at, lane_at_cell, looked_at, nodes_in, read_at, filled_at}
-use Rattle.sci_packets.specs.declared.packet.Packet.{Packet}
-use Rattle.sci_packets.specs.Spelling.{words_of}
-use Rattle.sci_packets.proofs.WordLaws.{first_word-above}
-use Rattle.sci_cache.specs.Cache.{Letter}
-use Rattle.sci_core.specs.declared.lane.LaneKind.{LaneKind}
-use Rattle.sci_core.specs.declared.lane.LaneKind.TheVariants.{Answers}
-use Rattle.sci_core.specs.Node.{NodeOf}
-use Rattle.sci_core.specs.Core.{lane_at, lane_place}
-use Rattle.sci_lanes.proofs.Events.{words_some}
-use Rattle.sci_station.specs.Ends.{IsStill}
+use Rattle.sci_core.specs.Core.{lane_at}
 use Rattle.sci_lanes.proofs.Seats.{sends_in, shown_nodes, takes_in}
 use Rattle.sci_station.proofs.Stills.{fill_still, look_still, still_sends, still_takes}
 

@@ -1,6 +1,6 @@
 -- What a station may do with what it has received, and what it has to send.
 use Rattle.std.proofs.Common.{◌≡◌, ◌≢◌, ◌<◌, ℕ, false, List, [], ◌∷◌, ◌++◌, get_or, length, Option, Some, None, refl, sym, ap, subst, ◌∙◌}
-use Rattle.std.specs.Prelude.{IsSome, slice_get}
+use Rattle.std.specs.Prelude.{IsSome}
 use Rattle.sci_words.specs.declared.event.AskKind.{AskKind}
 use Rattle.sci_words.specs.declared.event.Event.{Event}
 use Rattle.sci_words.specs.declared.event.Event.TheVariants as event
@@ -9,18 +9,9 @@ use Rattle.sci_packets.proofs.Whole.{one_by_words}
 use Rattle.sci_cache.specs.Cache.{Letter, letter_of}
 use Rattle.sci_core.specs.declared.lane.LaneKind.{LaneKind}
 use Rattle.sci_core.specs.declared.lane.LaneKind.TheVariants.{Answers, Requests}
-use Rattle.sci_core.specs.Core.{Core, Sends, Takes, run, stepping, lane_at, lane_of, lane_place, node_at, sends, side}
+use Rattle.sci_core.specs.Core.{Sends, Takes, run, stepping, lane_at, lane_of, lane_place, node_at, sends}
 use Rattle.sci_core.specs.Node.{NodeOf, is_setback, node_accepting, node_asking, node_refusing, node_replying, node_serving, replied_by}
-use Rattle.sci_core.specs.WellFormed.{IsInLane}
-use Rattle.sci_core.proofs.Applied.{front_holds}
-use Rattle.sci_core.proofs.Places.{place_from}
-use Rattle.sci_core.proofs.WellFormedSteps.{reached_well}
 use Rattle.sci_core.proofs.Enabled.{accept_enabled, request_enabled}
-use Rattle.sci_policy.specs.declared.decision.Decision.{Decision}
-use Rattle.sci_policy.specs.declared.decision.Decision.TheVariants as decision
-use Rattle.sci_policy.specs.Policy.{PolicyOf, decided}
-use Rattle.sci_policy.specs.Turn.{IsTurnEvent, decided_event}
-use Rattle.sci_policy.proofs.Deciding.{refuses_no_setback}
 use Rattle.sci_policy.proofs.Targets.{asked_target, waiting_target}
 use Rattle.sci_lanes.specs.declared.cell.CellId.{CellId}
 use Rattle.sci_lanes.specs.declared.view.Part.{Part}
@@ -29,13 +20,12 @@ use Rattle.sci_core.specs.Core.{node_of}
 use Rattle.sci_lanes.specs.Shown.{inbound_at, me_of, AreOfOthers}
 use Rattle.sci_lanes.proofs.Keeping.{all_join}
 use Rattle.sci_station.proofs.Stills.{same_of_still}
-use Rattle.sci_lanes.specs.Telling.{IsSameNode, IsShown}
-use Rattle.sci_lanes.specs.Ends.{EndOf, MayFree, freed_at, informed_at, lane_at_cell, nodes_in, taken_by}
+use Rattle.sci_lanes.specs.Telling.{IsShown}
+use Rattle.sci_lanes.specs.Ends.{EndOf, MayFree, lane_at_cell, nodes_in}
 use Rattle.sci_lanes.proofs.Seats.{shown_nodes}
 use Rattle.sci_lanes.proofs.Events.{words_some}
-use Rattle.sci_station.specs.Ends.{HasRead, IsSameEnd, IsStill}
-use Rattle.sci_lanes.specs.Telling.{IsMade, IsTaken, size_in}
-use Rattle.sci_lanes.proofs.Calls.{one_spelled}
+use Rattle.sci_station.specs.Ends.{HasRead, IsStill}
+use Rattle.sci_lanes.specs.Telling.{IsMade}
 use Rattle.sci_station.proofs.Cells.{front_found}
 
 -- ---- sending

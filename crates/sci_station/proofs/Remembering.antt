@@ -1,15 +1,18 @@
 -- What a station remembers stays so.
-use Rattle.std.proofs.Common.{◌≡◌, ◌≢◌, ◌<◌, ◌≤◌, ◌+◌, ◌*◌, ◌/◌, ◌%◌, ◌⊎◌, ℕ, Bool, true, false, List, [], ◌∷◌, length, get_or, mul_assoc, set, Option, Some, None, refl, sym, ap, subst, ◌∙◌, arith, inl, inr}
-use Rattle.std.specs.Prelude.{◌==◌, slice_index, slice_index_or, slice_set}
+use Rattle.std.proofs.Common.{◌≡◌, ◌≢◌, ◌<◌, ◌≤◌, ◌+◌, ◌/◌, ◌%◌, ◌⊎◌, ℕ, Bool, true, false, List, [], ◌∷◌, length, get_or, mul_assoc, set, Option, Some, None, refl, sym, ap, subst, ◌∙◌, arith, inl, inr}
+use Rattle.std.specs.Prelude.{IfSome, slice_index}
 use Rattle.std.proofs.lemmas.Bool.{cases_eq, cases_lt, ne_eqb}
 use Rattle.std.proofs.lemmas.List.{get_or-set_other, get_or-set_same, get_or_past, set_past}
 use Rattle.sci_words.specs.declared.event.Event.{Event}
-use Rattle.sci_cache.specs.Cache.{Letter, letter_of}
+use Rattle.sci_words.specs.declared.event.Event.TheVariants as event
+use Rattle.sci_words.specs.declared.operation.Op.{Op}
+use Rattle.sci_history.specs.declared.entry.Entry.{Entry}
+use Rattle.sci_cache.specs.Cache.{Letter}
 use Rattle.sci_packets.specs.declared.packet.Packet.{Packet}
 use Rattle.sci_packets.specs.Spelling.{SpellsInWords}
 use Rattle.sci_core.specs.declared.lane.LaneKind.{LaneKind}
 use Rattle.sci_core.specs.declared.lane.LaneKind.TheVariants.{Answers, Requests}
-use Rattle.sci_core.specs.Core.{Changes, Core, Sends, Takes, lane_at, lane_of, lane_place, node_at, node_of, opening, run, side, stepping}
+use Rattle.sci_core.specs.Core.{Changes, Core, Sends, Takes, changes, lane_at, lane_of, lane_place, node_at, node_of, opening, performs, run, side, stepping}
 use Rattle.sci_core.specs.Draining.{one_if}
 use Rattle.sci_core.specs.Node.{NodeOf}
 use Rattle.sci_core.specs.Size.{Size}
@@ -21,17 +24,17 @@ use Rattle.sci_lanes.specs.declared.cell.CellId.{CellId}
 use Rattle.sci_lanes.specs.declared.view.Inbound.{Inbound}
 use Rattle.sci_lanes.specs.declared.view.Part.{Part}
 use Rattle.sci_lanes.specs.Cells.{lane_count}
-use Rattle.sci_lanes.specs.Ends.{EndOf, lane_at_cell, nodes_in}
+use Rattle.sci_lanes.specs.Ends.{EndOf, HasIssued, HasPerformed, lane_at_cell, nodes_in}
 use Rattle.sci_lanes.proofs.Seats.{me_below, shown_nodes}
 use Rattle.sci_lanes.proofs.Opening.{lane_opened, node_opened}
 use Rattle.sci_lanes.specs.Shown.{inbound_at, me_of}
 use Rattle.sci_lanes.specs.Telling.{IsSameNode, IsShown, size_in, state_of}
-use Rattle.sci_turn.specs.Posts.{IsMade, IsPost, IsStill as IsStillPost, OthersLead, PostOf, node_in, nodes_in as nodes_at}
+use Rattle.sci_turn.specs.Posts.{IsMade, IsPost, IsStill as IsStillPost, OthersLead, PostOf, nodes_in as nodes_at}
 use Rattle.sci_station.specs.declared.receiving.Seen.{Seen}
 use Rattle.sci_station.specs.Ends.{HasRead, HasSeen, IsStill, LeavesOthers}
 use Rattle.sci_station.specs.Posts.{IsRead, KeptOf, Remembers, answers_to, is_kept, owed, packet_in, post_of}
 use Rattle.sci_station.proofs.Owing.{adds_one, changed_owes, others_owe, sent_owes, taken_owes, takes_one}
-use Rattle.sci_station.proofs.Posts.{is_post, lead_runs, node_there, post_nodes, still_post}
+use Rattle.sci_station.proofs.Posts.{is_post, made_post, node_there, post_nodes, still_post}
 use Rattle.sci_station.proofs.Stills.{same_of_still}
 
 -- ---- sizes
@@ -265,6 +268,19 @@ remembers_changed old new unanswered kept next e r t same made own is known = re
   no_more = none_on old.part new.part unanswered same r.no_more;
   keeps = keeps_on old new unanswered kept _ r t same (λ other apart. known other) (apart_sent kept old.part Requests (me_of old.part) r.shown (me_below old.part r.shown));
 }
+
+-- a node that has issued or performed something remembers as before
+pub remembers_issued : (old new : EndOf) (unanswered : List ℕ) (kept : KeptOf) (op : Op) (result : Option ℕ) → Remembers old unanswered kept → IsShown new.part → IsSameNode old.part new.part
+    → IfSome result (λ serial. HasIssued old op serial new) → (result ≡ None → new ≡ old) → Remembers new unanswered kept
+remembers_issued old new unanswered kept op None r t same done unchanged = subst (λ (end : EndOf). Remembers end unanswered kept) (sym (unchanged refl)) r
+remembers_issued old new unanswered kept op (Some serial) r t same done unchanged =
+    remembers_changed old new unanswered kept new.part.node (event.Issue (me_of old.part) op) r t same (made_post old new _ r.shown t same done.made) refl (ap changes done.issued) (λ lane. ap (λ (e : EndOf). inbound_at e.part lane) done.rest)
+
+pub remembers_performed : (old new : EndOf) (unanswered : List ℕ) (kept : KeptOf) (line : ℕ) (result : Option Entry) → Remembers old unanswered kept → IsShown new.part → IsSameNode old.part new.part
+    → IfSome result (λ entry. HasPerformed old line entry new) → (result ≡ None → new ≡ old) → Remembers new unanswered kept
+remembers_performed old new unanswered kept line None r t same done unchanged = subst (λ (end : EndOf). Remembers end unanswered kept) (sym (unchanged refl)) r
+remembers_performed old new unanswered kept line (Some entry) r t same done unchanged =
+    remembers_changed old new unanswered kept new.part.node (event.Perform (me_of old.part) line) r t same (made_post old new _ r.shown t same done.made) refl (ap performs done.performed) (λ lane. ap (λ (e : EndOf). inbound_at e.part lane) done.rest)
 
 -- a request that was taken is kept no more
 pub remembers_no_more : (end : EndOf) (unanswered : List ℕ) (kept : KeptOf) (from : ℕ) → Remembers end unanswered kept → Remembers end unanswered (record kept { marks = set kept.marks from false })

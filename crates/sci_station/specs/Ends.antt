@@ -5,7 +5,7 @@ use Rattle.sci_words.specs.declared.event.Event.{Event}
 use Rattle.sci_core.specs.declared.lane.LaneKind.{LaneKind}
 use Rattle.sci_core.specs.Core.{Sends, side}
 use Rattle.sci_core.specs.Node.{NodeOf}
-use Rattle.sci_lanes.specs.Shown.{inbound_at, IsSeen, me_of, outbound_at}
+use Rattle.sci_lanes.specs.Shown.{inbound_at, IsSeen, outbound_at}
 use Rattle.sci_lanes.specs.Telling.{IsSameNode, IsShown}
 use Rattle.sci_lanes.specs.declared.cell.CellId.{CellId}
 use Rattle.sci_lanes.specs.declared.view.Part.{Part}

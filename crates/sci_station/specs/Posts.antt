@@ -5,7 +5,6 @@ use Rattle.sci_core.specs.declared.lane.LaneKind.{LaneKind}
 use Rattle.sci_core.specs.declared.lane.LaneKind.TheVariants.{Answers, Requests}
 use Rattle.sci_core.specs.Core.{Core, lane_of, node_at}
 use Rattle.sci_core.specs.Draining.{one_if}
-use Rattle.sci_core.specs.Node.{NodeOf}
 use Rattle.sci_cache.specs.Cache.{Letter}
 use Rattle.sci_lanes.specs.declared.cell.CellId.{CellId}
 use Rattle.sci_lanes.specs.Ends.{EndOf, nodes_in}

@@ -6,10 +6,11 @@ use crate::receiving::{Seen, read_packet, see};
 use crate::sending::{send, target_of};
 use crate::unanswered::Unanswered;
 use sci_core::{LaneKind, Node};
+use sci_history::Entry;
 use sci_lanes::{HasEnd, LaneEnd};
 use sci_packets::Packet;
 use sci_turn::Post;
-use sci_words::Event;
+use sci_words::{Event, Op};
 use std::marker::Model;
 
 /// An end of the lanes, with what its node remembers of them, and how many more steps on words a turn may make. Contracts
@@ -51,11 +52,12 @@ impl HasEnd for StationPost {
 }
 
 impl StationPost {
-    ghost use Rattle.std.specs.Prelude.{◌≡◌, ◌≢◌, [], false, None, IsErr, IsOk};
+    ghost use Rattle.std.specs.Prelude.{◌≡◌, ◌≢◌, [], false, None, IfSome, IsErr, IsOk};
     ghost use Rattle.sci_station.specs.Budgets.{HasNoMore};
     ghost use Rattle.sci_station.specs.Ends.{HasSeen, IsStill};
-    ghost use Rattle.sci_lanes.specs.Ends.{MayBeat, after_event, beaten, informed_at};
-    ghost use Rattle.sci_lanes.specs.Telling.{IsMade, IsSameNode, IsShown};
+    ghost use Rattle.sci_core.specs.Node.{node_issuing, node_performing};
+    ghost use Rattle.sci_lanes.specs.Ends.{HasIssued, HasPerformed};
+    ghost use Rattle.sci_lanes.specs.Telling.{IsSameNode, IsShown};
     ghost use Rattle.sci_station.specs.Posts.{IsRead, is_kept};
 
     /// The post at an end in whose machine nothing was done yet.
@@ -89,18 +91,30 @@ impl StationPost {
         self.budget.left
     }
 
-    /// Makes an event of the node that concerns no lane: an Issue or a Perform. Requires that it is enabled.
+    /// Issues an operation at the node, and gives its serial. None, unchanged, if the node can't issue it.
     #[inline(always)]
-    pub(crate) fn beat(&mut self, event: &Event)
-        requires { MayBeat self.old.end.part event.now }
-        ensures post { self.new ≡ record self.old {
-          end = informed_at self.new.end.part.schedule (beaten (after_event self.old.end event.now) self.old.end);
-        } }
-        ensures made { IsMade self.old.end.part event.now self.new.end.part.schedule }
+    pub(crate) fn issue(&mut self, op: Op) -> Option<u32>
+        ensures issued { IfSome result (λ serial. HasIssued self.old.end op serial self.new.end) }
+        ensures none { result ≡ None → node_issuing self.old.end.part.node op ≡ None }
+        ensures unchanged { result ≡ None → self.new ≡ self.old }
+        ensures rest { self.new ≡ record self.old { end = self.new.end } }
         ensures same { IsSameNode self.old.end.part self.new.end.part }
-        ensures shown { IsShown self.new.end.part }
     {
-        self.end.beat(event);
+        self.end.issue(op)
+    }
+
+    /// Performs the operation that is pending on a line at the node, and gives its entry. None, unchanged, if the node can't
+    /// perform it.
+    #[inline(always)]
+    pub(crate) fn perform(&mut self, line: u8) -> Option<Entry>
+        ensures performed { IfSome result
+            (λ entry. HasPerformed self.old.end line entry self.new.end) }
+        ensures none { result ≡ None → node_performing self.old.end.part.node line ≡ None }
+        ensures unchanged { result ≡ None → self.new ≡ self.old }
+        ensures rest { self.new ≡ record self.old { end = self.new.end } }
+        ensures same { IsSameNode self.old.end.part self.new.end.part }
+    {
+        self.end.perform(line)
     }
 
     /// Reads the packet that was seen. A request of another node is kept from then on, until it is taken.

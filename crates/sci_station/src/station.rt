@@ -3,9 +3,9 @@
 use crate::post::StationPost;
 use sci_history::Entry;
 use sci_lanes::{HasEnd, LaneEnd};
-use sci_policy::{Policy, Progress, SubmitFault, check_submit};
+use sci_policy::{Policy, Progress, SubmitFault};
 use sci_turn::take_turn;
-use sci_words::{Event, Op};
+use sci_words::Op;
 use std::marker::Model;
 
 /// A node of a machine, with its end of the lanes and its policy. Its owner runs it, in any thread: no call waits for
@@ -83,15 +83,9 @@ impl Station {
         ensures same { IsErr result → self.new ≡ self.old }
         ensures end { IsSameEnd self.old.end self.new.end }
     {
-        check_submit(self.post.end().node(), &op)?;
-        let event = Event::Issue {
-            node: self.post.end().me(),
-            op,
-        };
-        self.post.beat(&event);
-        match self.post.end().node().pending(op.line) {
-            Some(pending) => Ok(pending.serial),
-            None => unreachable!(),
+        match self.post.issue(op) {
+            Some(serial) => Ok(serial),
+            None => Err(SubmitFault::of(self.post.end().node(), &op)),
         }
     }
 
@@ -109,18 +103,7 @@ impl Station {
         ensures same { result ≡ None → self.new ≡ self.old }
         ensures end { IsSameEnd self.old.end self.new.end }
     {
-        if !self.post.end().node().may_perform(line) {
-            return None;
-        }
-        let event = Event::Perform {
-            node: self.post.end().me(),
-            line,
-        };
-        self.post.beat(&event);
-        match self.post.end().node().log().last() {
-            Some(entry) => Some(*entry),
-            None => unreachable!(),
-        }
+        self.post.perform(line)
     }
 
     /// Takes a turn. It sends the answer that waits; accepts up to four answers from each node; serves or refuses up to

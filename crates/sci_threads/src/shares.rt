@@ -62,6 +62,8 @@ fn go_on_in_a_circle<G: Gate>(shares: &mut [Share<'_, G>], turns: u32)
 
 /// Drives each station in a thread of its own, for at most as many turns as it has left. If a thread can't be made, all go
 /// on in this one, a turn each in a circle.
+// Out of line, so that what the turns have on the stack is free again when it returns.
+#[inline(never)]
 pub(crate) fn run_all<R: Threads + Sync, G: Gate + Send>(
     rt: &R,
     shares: &mut [Share<'_, G>],

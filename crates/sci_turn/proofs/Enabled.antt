@@ -11,6 +11,7 @@ use Rattle.sci_core.specs.Core.{Core, IsEnabled, lane_of, node_at, sends, sent_b
 use Rattle.sci_core.specs.Node.{NodeOf, is_setback, node_accepting, node_asking, node_refusing, node_replying, node_serving, replied_by}
 use Rattle.sci_core.specs.Sides.{TakesFront, taken_to}
 use Rattle.sci_core.proofs.Enabled.{accept_enabled, request_enabled}
+use Rattle.sci_core.proofs.Options.{same_some}
 use Rattle.sci_core.proofs.Sides.{steps_by_sides}
 use Rattle.sci_policy.specs.declared.decision.Decision.{Decision}
 use Rattle.sci_policy.specs.declared.decision.Decision.TheVariants as decision
@@ -80,14 +81,8 @@ may_refuse post from letter here f front free other =
 pub may_take : (post : PostOf) (from : ℕ) (letter : Letter) (policy : PolicyOf) (d : Decision) (e : Event) → IsPost post → from < nodes_in post → IsFront post Requests from letter → (node_in post).waiting ≡ None → decided policy (node_in post) letter ≡ d
     → Some e ≡ decided_event d from post.me → MayTake post Requests from letter e
 may_take post from letter policy decision.Keep e here f front free decides takes = cc
-may_take post from letter policy decision.Refuse e here f front free decides takes = subst (MayTake post Requests from letter) (some_same takes) (may_refuse post from letter here f front free (refuses_no_setback policy (node_in post) letter decides))
-  where
-    some_same : Some e ≡ Some (event.Refuse from post.me) → event.Refuse from post.me ≡ e
-    some_same h = cc
-may_take post from letter policy decision.Serve e here f front free decides takes = subst (MayTake post Requests from letter) (some_same takes) (may_serve post from letter here f front free)
-  where
-    some_same : Some e ≡ Some (event.Serve from post.me) → event.Serve from post.me ≡ e
-    some_same h = cc
+may_take post from letter policy decision.Refuse e here f front free decides takes = subst (MayTake post Requests from letter) (sym (same_some _ _ takes)) (may_refuse post from letter here f front free (refuses_no_setback policy (node_in post) letter decides))
+may_take post from letter policy decision.Serve e here f front free decides takes = subst (MayTake post Requests from letter) (sym (same_some _ _ takes)) (may_serve post from letter here f front free)
 
 -- ---- sending
 

@@ -7,6 +7,7 @@ use Rattle.sci_cache.specs.Cache.{Letter}
 use Rattle.sci_core.specs.declared.lane.LaneKind.TheVariants.{Answers, Requests}
 use Rattle.sci_core.specs.Core.{Core, node_at}
 use Rattle.sci_core.specs.Node.{NodeOf}
+use Rattle.sci_core.proofs.Options.{same_some}
 use Rattle.sci_policy.specs.declared.decision.Decision.{Decision}
 use Rattle.sci_policy.specs.declared.decision.Decision.TheVariants as decision
 use Rattle.sci_policy.specs.declared.progress.Progress.{Progress}
@@ -28,25 +29,13 @@ goes_replied policy old new n told tells me made is counts = goes_made policy po
 
 pub take_is_own : (d : Decision) (from n : ℕ) (e : Event) → Some e ≡ decided_event d from n → IsTurnEvent n e
 take_is_own decision.Keep from n e is = cc
-take_is_own decision.Refuse from n e is = subst (IsTurnEvent n) (some_same is) (record { own = refl; kind = refl })
-  where
-    some_same : Some e ≡ Some (event.Refuse from n) → event.Refuse from n ≡ e
-    some_same h = cc
-take_is_own decision.Serve from n e is = subst (IsTurnEvent n) (some_same is) (record { own = refl; kind = refl })
-  where
-    some_same : Some e ≡ Some (event.Serve from n) → event.Serve from n ≡ e
-    some_same h = cc
+take_is_own decision.Refuse from n e is = subst (IsTurnEvent n) (sym (same_some _ _ is)) (record { own = refl; kind = refl })
+take_is_own decision.Serve from n e is = subst (IsTurnEvent n) (sym (same_some _ _ is)) (record { own = refl; kind = refl })
 
 decides_by : (before after : PolicyOf) (core : Core) (n from : ℕ) (d : Decision) (e : Event) → taken_next before core from n ≡ decided_event d from n → Some e ≡ decided_event d from n → after ≡ record before { served = Some from } → Decides before core n e after
 decides_by before after core n from decision.Keep e taken is noted = cc
-decides_by before after core n from decision.Refuse e taken is noted = subst (λ (v : Event). Decides before core n v after) (some_same is) (taken, noted)
-  where
-    some_same : Some e ≡ Some (event.Refuse from n) → event.Refuse from n ≡ e
-    some_same h = cc
-decides_by before after core n from decision.Serve e taken is noted = subst (λ (v : Event). Decides before core n v after) (some_same is) (taken, noted)
-  where
-    some_same : Some e ≡ Some (event.Serve from n) → event.Serve from n ≡ e
-    some_same h = cc
+decides_by before after core n from decision.Refuse e taken is noted = subst (λ (v : Event). Decides before core n v after) (sym (same_some _ _ is)) (taken, noted)
+decides_by before after core n from decision.Serve e taken is noted = subst (λ (v : Event). Decides before core n v after) (sym (same_some _ _ is)) (taken, noted)
 
 pub goes_taken : (before after : PolicyOf) (old new : PostOf) (n from : ℕ) (d : Decision) (e : Event) (letter : Letter) (told tells : Progress) → n ≡ old.me → (node_in old).waiting ≡ None → decided before (node_in old) letter ≡ d → Some e ≡ decided_event d from n
     → IsTaken old Requests from letter e new → after ≡ record before { served = Some from } → tells ≡ counted told e → ((events : List Event) → Counts events told → Counts (events ++ e ∷ []) tells) → GoesOn before old after new told tells

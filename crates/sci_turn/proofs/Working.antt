@@ -15,7 +15,7 @@ use Rattle.sci_core.specs.Reached.{IsReached}
 use Rattle.sci_core.specs.Size.{Size}
 use Rattle.sci_core.proofs.Drains.{some_node}
 use Rattle.sci_core.proofs.NodeSides.{serve_as}
-use Rattle.sci_core.proofs.Options.{of_some}
+use Rattle.sci_core.proofs.Options.{of_some, same_some}
 use Rattle.sci_core.proofs.Stepping.{stepping_side}
 use Rattle.sci_core.proofs.WellFormedSteps.{reached_stepping, reached_well, run_well}
 use Rattle.sci_core.proofs.Works.{SameWork, accept_work, ask_work, serve_work}
@@ -23,7 +23,6 @@ use Rattle.sci_policy.specs.declared.progress.Progress.{Progress}
 use Rattle.sci_policy.specs.Policy.{PolicyOf}
 use Rattle.sci_policy.specs.Turn.{IsTurnEvent, MayPerform}
 use Rattle.sci_policy.specs.Worker.{HasSameWork, IsNodeTurn, Makes, SidesLead}
-use Rattle.sci_policy.proofs.LogEnds.{same_some}
 use Rattle.sci_turn.specs.Posts.{IsPost, PostOf, node_in}
 use Rattle.sci_turn.specs.Moves.{IsTurn, Leads, own_of}
 

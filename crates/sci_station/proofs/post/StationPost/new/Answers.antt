@@ -1,4 +1,4 @@
-use Rattle.std.proofs.Common.{◌≡◌, ◌<◌, ℕ, sym, ◌∙◌}
+use Rattle.std.proofs.Common.{sym, ◌∙◌}
 use Rattle.sci_station.proofs.Remembering.{nothing_owed}
 use Rattle.sci_station.proofs.post.StationPost.new.Goals as goal
 

@@ -1,4 +1,4 @@
-use Rattle.std.proofs.Common.{◌≡◌, Option, Some, refl, sym, ap, subst, ◌∙◌}
+use Rattle.std.proofs.Common.{◌≡◌, Option, Some, sym, ap, subst, ◌∙◌}
 use Rattle.std.specs.Prelude.{option_copied}
 use Rattle.sci_cache.specs.Cache.{letter_of}
 use Rattle.sci_packets.specs.declared.packet.Packet.{Packet}

@@ -4,7 +4,7 @@ use Rattle.std.proofs.lemmas.Bool.{cases_eq, eq-eqb, ne_eqb}
 use Rattle.sci_words.specs.declared.event.Event.{Event}
 use Rattle.sci_cache.specs.Cache.{Letter, letter_of}
 use Rattle.sci_core.specs.declared.lane.LaneKind.{LaneKind}
-use Rattle.sci_core.specs.declared.lane.LaneKind.TheVariants.{Answers, Requests}
+use Rattle.sci_core.specs.declared.lane.LaneKind.TheVariants.{Requests}
 use Rattle.sci_core.specs.Core.{Sends, lane_place, node_of, side}
 use Rattle.sci_core.specs.Draining.{one_if}
 use Rattle.sci_core.specs.Node.{NodeOf}

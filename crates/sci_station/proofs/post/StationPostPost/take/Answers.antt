@@ -5,7 +5,6 @@ use Rattle.sci_words.specs.declared.event.Event.{Event}
 use Rattle.sci_cache.specs.Cache.{Letter}
 use Rattle.sci_core.specs.Node.{NodeOf}
 use Rattle.sci_core.specs.declared.lane.LaneKind.{LaneKind}
-use Rattle.sci_core.specs.declared.lane.LaneKind.TheVariants.{Answers, Requests}
 use Rattle.sci_core.specs.Core.{lane_place, side}
 use Rattle.sci_core.specs.Draining.{one_if}
 use Rattle.sci_lanes.specs.declared.cell.CellId.{CellId}
