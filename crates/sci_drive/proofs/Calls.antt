@@ -225,17 +225,6 @@ module _ {G : Type 0} (hears : G → List Call → G → Type 0) (hears_nothing 
   pub heard_nothing : (g : G) (a b : DriverOf) (x y : NodeOf) → b.next ≡ a.next → b.was_done ≡ a.was_done → y.log ≡ x.log → IsHeard hears g g a b x y
   heard_nothing g a b x y next done log = record { calls = []; heard = hears_nothing g; are = no_calls a b x y next done log }
 
-  -- two stretches, and then a turn
-  pub heard_round : (g h k : G) (a b c : DriverOf) (x y z w : NodeOf) → IsHeard hears g h a b x y → IsHeard hears h k b c y z → w.log ≡ z.log → IsHeard hears g k a c x w
-  heard_round g h k a b c x y z w first second log = heard_on g k k a c c x z w (heard_on g h k a b c x y z first second) (heard_nothing k c c z w refl refl log)
-
-  -- the gate is told that the whole script is answered
-  pub heard_done : (g h k : G) (a b c : DriverOf) (x y : NodeOf) → IsHeard hears g h a b x y → hears h (Done ∷ []) k → c.next ≡ b.next → b.was_done ≡ false → c.was_done ≡ true → IsHeard hears g k a c x y
-  heard_done g h k a b c x y was is next not_yet now = heard_on g h k a b c x y y was (record { calls = Done ∷ []; heard = is; are = done_call b c y y next not_yet now refl })
-
-  pub heard_one : (g h : G) (a b : DriverOf) (x y : NodeOf) (call : Call) → hears g (call ∷ []) h → entry_told call ≡ None → is_done call ≡ false → b.next ≡ a.next → b.was_done ≡ a.was_done → y.log ≡ x.log → IsHeard hears g h a b x y
-  heard_one g h a b x y call is silent other next done log = record { calls = call ∷ []; heard = is; are = one_call a b x y call silent other next done log }
-
   -- the last call asked whether all are done, and they are
   pub heard_end : (g h k : G) (a b : DriverOf) (x y : NodeOf) → IsHeard hears g h a b x y → hears h (AllDone true ∷ []) k → (calls : List Call) × hears g calls k × AreCalls a b x y calls × EndWithAllDone calls
   heard_end g h k a b x y was is = (

@@ -49,6 +49,7 @@ opens script issuing node none = record {
   submitted = λ serial lt. absurd (omega arith);
   later = λ serial le. ap (times_answered serial) none.log;
   pending = λ line p is. absurd (never_both (pending_on node line) p (none.pending line) is);
+  counted = ap (λ (l : List Entry). length l + 0) (sym none.log);
 }
 
 -- ---- an operation is submitted
@@ -107,6 +108,10 @@ module _ (driver : DriverOf) (old new : NodeOf) (op : Op) (d : IsDriven driver o
     submitted = submitted_now;
     later = λ serial le. times_stay serial ∙ d.later serial (omega arith);
     pending = awaited_now;
+    counted =
+        let all : driver.next ≡ length old.log + length driver.pending = d.counted in
+        let same : length new.log ≡ length old.log = ap (λ (l : List Entry). length l) i.log in
+        omega (arith, length_push driver.pending op.line);
   }
 
 -- ---- an operation is performed
@@ -186,6 +191,11 @@ module _ (driver : DriverOf) (old new : NodeOf) (place line : ℕ) (entry : Entr
     submitted = submitted_then;
     later = later_then;
     pending = awaited_then;
+    counted =
+        let all : driver.next ≡ length old.log + length driver.pending = d.counted in
+        let longer : length new.log ≡ length old.log + 1 = ap (λ (l : List Entry). length l) i.log ∙ length_push old.log entry in
+        let short = length-remove driver.pending place within in
+        omega arith;
   }
 
 -- ---- a turn
@@ -206,6 +216,7 @@ turns driver old new work d =
         unanswered = times p.serial ∙ was.unanswered;
         known = was.known;
       };
+      counted = d.counted ∙ ap (λ (l : List Entry). length l + length driver.pending) (sym work.log);
     }
 
 -- ---- the log
@@ -259,4 +270,5 @@ tells driver node d = record {
     unanswered = was.unanswered;
     known = was.known;
   };
+  counted = d.counted;
 }

@@ -29,7 +29,6 @@ opens_in_order script node none = record {
   ordered = rw none.log (λ i j d lt within. absurd (omega arith));
   before = rw none.log (All-nil (λ (e : Entry). e.serial < 0));
   behind = λ line p is. absurd (never_both (pending_on node line) p (none.pending line) is);
-  counted = ap (λ (l : List Entry). length l + 0) (sym none.log);
   next_one = λ line p is. absurd (never_both (pending_on node line) p (none.pending line) is);
   front = rw none.log refl;
 }
@@ -58,17 +57,11 @@ module _ (driver : DriverOf) (old new : NodeOf) (op : Op) (d : IsDriven driver o
     | inl here ↦
         let same : record { serial = old.issued; op = op } ≡ p = same_some (pending_on new line) (record { serial = old.issued; op = op }) p (ap (pending_on new) here ∙ i.pending) is in
         let serial : driver.next ≡ p.serial = sym d.issued ∙ ap (λ (q : Pending). q.serial) same in
-        let all : driver.next ≡ length old.log + length driver.pending = o.counted in
+        let all : driver.next ≡ length old.log + length driver.pending = d.counted in
         let free : length driver.pending ≡ 0 = ap (λ (l : List ℕ). length l) none in
         omega arith
     | inr other ↦ absurd (was_free line p (sym (i.others line other) ∙ is))
   ]
-
-  counted_now : driver.next + 1 ≡ length new.log + length (driver.pending ++ op.line ∷ [])
-  counted_now =
-      let all : driver.next ≡ length old.log + length driver.pending = o.counted in
-      let same : length new.log ≡ length old.log = ap (λ (l : List Entry). length l) i.log in
-      omega (arith, length_push driver.pending op.line)
 
   pub submits_in_order : IsInOrder (record driver { next = driver.next + 1; pending = driver.pending ++ op.line ∷ [] }) new
   submits_in_order = record {
@@ -77,7 +70,6 @@ module _ (driver : DriverOf) (old new : NodeOf) (op : Op) (d : IsDriven driver o
     ordered = subst IsInProgramOrder (sym i.log) o.ordered;
     before = subst (All (λ e. e.serial < driver.next + 1)) (sym i.log) (λ k e lt. let low = o.before k e lt in omega arith);
     behind = λ line p is. subst (All (λ e. e.serial < p.serial)) (sym i.log) (behind_now line p is);
-    counted = counted_now;
     next_one = λ line p is. next_now line p is ∙ ap (λ (l : List Entry). length l) (sym i.log);
     front = subst (IsFrontOf driver.script) (sym i.log) o.front;
   }
@@ -108,13 +100,6 @@ module _ (driver : DriverOf) (old new : NodeOf) (place line : ℕ) (entry : Entr
     | inr apart ↦ apart (only_one driver.pending place line other o.one within here (d.pending other p (sym (i.others other apart) ∙ is)).known)
   ]
 
-  counted_then : driver.next ≡ length new.log + length (remove driver.pending place)
-  counted_then =
-      let all : driver.next ≡ length old.log + length driver.pending = o.counted in
-      let longer : length new.log ≡ length old.log + 1 = ap (λ (l : List Entry). length l) i.log ∙ length_push old.log entry in
-      let short = length-remove driver.pending place within in
-      omega arith
-
   pub performs_in_order : IsInOrder (record driver { pending = remove driver.pending place }) new
   performs_in_order =
       let p : Pending = record { serial = entry.serial; op = entry.op } in
@@ -126,7 +111,6 @@ module _ (driver : DriverOf) (old new : NodeOf) (place line : ℕ) (entry : Entr
         ordered = subst IsInProgramOrder (sym i.log) (all_pairs_push (λ x y. x.serial < y.serial) old.log entry o.ordered (o.behind line p i.pending));
         before = subst (All (λ e. e.serial < driver.next)) (sym i.log) (All-push (λ (e : Entry). e.serial < driver.next) old.log entry o.before was.submitted);
         behind = λ other q is. absurd (is_free other q is);
-        counted = counted_then;
         next_one = λ other q is. absurd (is_free other q is);
         front = subst (IsFrontOf driver.script) (sym i.log) (front_more driver.script old.log entry (o.next_one line p i.pending) was.named o.front);
       }
@@ -141,7 +125,6 @@ turns_in_order driver old new work o =
       ordered = subst IsInProgramOrder (sym work.log) o.ordered;
       before = subst (All (λ e. e.serial < driver.next)) (sym work.log) o.before;
       behind = λ line p is. subst (All (λ e. e.serial < p.serial)) (sym work.log) (o.behind line p (sym (on line) ∙ is));
-      counted = o.counted ∙ ap (λ (l : List Entry). length l + length driver.pending) (sym work.log);
       next_one = λ line p is. o.next_one line p (sym (on line) ∙ is) ∙ ap (λ (l : List Entry). length l) (sym work.log);
       front = subst (IsFrontOf driver.script) (sym work.log) o.front;
     }
@@ -155,7 +138,6 @@ tells_in_order driver node o = record {
   ordered = o.ordered;
   before = o.before;
   behind = o.behind;
-  counted = o.counted;
   next_one = o.next_one;
   front = o.front;
 }

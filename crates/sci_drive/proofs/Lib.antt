@@ -1,3 +1,4 @@
 pub mod Calls
 pub mod Drives
 pub mod InOrder
+pub mod Rounds

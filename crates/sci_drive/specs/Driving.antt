@@ -40,7 +40,7 @@ abbrev pub IsAnsweredOrPending : NodeOf → ℕ → Type 0
 IsAnsweredOrPending node serial = (times_answered serial node.log ≡ 1) ⊎ ((op : Op) × (pending_on node op.line ≡ Some (record { serial = serial; op = op })))
 
 -- The worker's node has done the script as far as the driver has come: what was submitted is pending or has its one entry,
--- and nothing else is pending or logged.
+-- and nothing else is pending or logged. Of what was submitted, as many are pending at the driver as have no entry.
 pub record IsDriven (driver : DriverOf) (node : NodeOf) : Type 0 where
   pub issued : node.issued ≡ driver.next
   pub within : driver.next ≤ length driver.script
@@ -48,6 +48,7 @@ pub record IsDriven (driver : DriverOf) (node : NodeOf) : Type 0 where
   pub submitted : (serial : ℕ) → serial < driver.next → IsAnsweredOrPending node serial
   pub later : (serial : ℕ) → driver.next ≤ serial → times_answered serial node.log ≡ 0
   pub pending : (line : ℕ) (p : Pending) → pending_on node line ≡ Some p → IsAwaited driver node line p
+  pub counted : driver.next ≡ length node.log + length driver.pending
 
 -- A driver that issues in order: at most one operation is pending, and it comes next behind all that are logged; and the log
 -- stands in the order of the script, with its first operations.
@@ -57,6 +58,5 @@ pub record IsInOrder (driver : DriverOf) (node : NodeOf) : Type 0 where
   pub ordered : IsInProgramOrder node.log
   pub before : All (λ e. e.serial < driver.next) node.log
   pub behind : (line : ℕ) (p : Pending) → pending_on node line ≡ Some p → All (λ e. e.serial < p.serial) node.log
-  pub counted : driver.next ≡ length node.log + length driver.pending
   pub next_one : (line : ℕ) (p : Pending) → pending_on node line ≡ Some p → p.serial ≡ length node.log
   pub front : IsFrontOf driver.script node.log

@@ -1,4 +1,5 @@
 pub mod Calls
 pub mod Driving
 pub mod Resting
+pub mod Rounds
 pub mod Script

@@ -61,14 +61,15 @@ pub struct Round {
 }
 
 impl<'a> Driver<'a> {
-    ghost use Rattle.std.specs.Prelude.{◌≡◌, ◌<◌, ◌≤◌, ◌↔◌, true, false, [], IfOk, length};
-    ghost use Rattle.sci_core.specs.Node.{NodeOf};
+    ghost use Rattle.std.specs.Prelude.{◌≡◌, ◌<◌, ◌≤◌, ◌↔◌, ℕ, List, true, false, [], IfOk, length};
+    ghost use Rattle.std.specs.List.{Contains};
+    ghost use Rattle.sci_history.specs.declared.entry.Entry.{Entry};
     ghost use Rattle.sci_policy.specs.Rest.{MayIdle};
     ghost use Rattle.sci_policy.specs.Turn.{is_idle};
-    ghost use Rattle.sci_policy.specs.Worker.{IsNodeTurn};
     ghost use Rattle.sci_words.specs.declared.limits.TheConstants.{MAX_OPERATIONS};
     ghost use Rattle.sci_drive.specs.Calls.{IsHeard};
     ghost use Rattle.sci_drive.specs.Driving.{IsDriven, IsInOrder, opening_driver};
+    ghost use Rattle.sci_drive.specs.Rounds.{ArePerformed, GoesRound, IsTried, Submits, most_pending};
 
     /// A driver that has submitted nothing yet. Requires that the script has at most 65,536 operations.
     pub fn new(script: &'a [Op], issuing: Issuing) -> Driver<'a>
@@ -115,12 +116,10 @@ impl<'a> Driver<'a> {
             length (W.node worker.old).log < length (W.node worker.new).log) }
         ensures none { IfOk result (λ round. round.answered ≡ false →
             (W.node worker.new).log ≡ (W.node worker.old).log) }
-        ensures turn { IfOk result (λ round. (before : NodeOf)
-            × IsNodeTurn before (W.node worker.new) round.progress) }
+        ensures goes { GoesRound G.hears gate.old gate.new
+            self.old self.new (W.node worker.old) (W.node worker.new) result }
         ensures rest { IfOk result (λ round.
             is_idle round.progress ≡ true → MayIdle (W.node worker.new)) }
-        ensures calls { IsHeard G.hears gate.old gate.new
-            self.old self.new (W.node worker.old) (W.node worker.new) }
         ensures script { self.new.script ≡ self.old.script }
         ensures issuing { self.new.issuing ≡ self.old.issuing }
         ensures turned { IfOk result (λ round. W.turned worker.old 1 worker.new) }
@@ -138,6 +137,17 @@ impl<'a> Driver<'a> {
         Ok(Round { answered, progress })
     }
 
+    /// Whether one more operation may be pending.
+    fn has_room(&self) -> bool
+        ensures { (result ≡ true) ↔
+            (length self.now.pending < most_pending self.now.issuing) }
+    {
+        match self.issuing {
+            Issuing::Ahead => !self.pending.is_full(),
+            Issuing::InOrder => self.pending.is_empty(),
+        }
+    }
+
     /// Submits the next operation if it may be.
     fn submit<W: Worker, G: Gate>(&mut self, worker: &mut W, gate: &mut G)
         requires driven { IsDriven self.old (W.node worker.old) }
@@ -145,18 +155,15 @@ impl<'a> Driver<'a> {
         ensures order { IsInOrder self.old (W.node worker.old) →
             IsInOrder self.new (W.node worker.new) }
         ensures log { (W.node worker.new).log ≡ (W.node worker.old).log }
-        ensures calls { IsHeard G.hears gate.old gate.new
-            self.old self.new (W.node worker.old) (W.node worker.new) }
+        ensures submits { (heard : IsHeard G.hears gate.old gate.new
+            self.old self.new (W.node worker.old) (W.node worker.new))
+            × Submits self.old self.new (W.node worker.old) (W.node worker.new) heard.calls }
         ensures script { self.new.script ≡ self.old.script }
         ensures issuing { self.new.issuing ≡ self.old.issuing }
         ensures turned { W.turned worker.old 0 worker.new }
         ensures stays { W.stays worker.old worker.new }
     {
-        let is_free = match self.issuing {
-            Issuing::Ahead => !self.pending.is_full(),
-            Issuing::InOrder => self.pending.is_empty(),
-        };
-        if !is_free {
+        if !self.has_room() {
             return;
         }
         let Some(op) = self.script.get(self.next) else {
@@ -185,6 +192,10 @@ impl<'a> Driver<'a> {
         ensures none { result ≡ false → (W.node worker.new).log ≡ (W.node worker.old).log }
         ensures calls { IsHeard G.hears gate.old gate.new
             self.old self.new (W.node worker.old) (W.node worker.new) }
+        ensures performed { (entries : List Entry)
+            × ArePerformed (W.node worker.old) entries (W.node worker.new) }
+        ensures tried { (line : ℕ) → Contains self.new.pending line →
+            IsTried line (W.node worker.old) (W.node worker.new) }
         ensures script { self.new.script ≡ self.old.script }
         ensures issuing { self.new.issuing ≡ self.old.issuing }
         ensures turned { W.turned worker.old 0 worker.new }

@@ -23,7 +23,7 @@ returns-in_err-round-clause-calls g c =
     let start = g.W.Worker.node c.args.worker.now in
     let before = g.W.Worker.node c.loop-turn.worker in
     let node = g.W.Worker.node c.round.new.worker in
-    let all = heard_on g.G.Gate.hears g.met.G.Gate.hears_nothing g.met.G.Gate.hears_on c.args.gate.now c.loop-turn.gate c.round.new.gate c.args.self.now c.loop-turn.self c.round.new.self start before node c.loop-turn.invariant.heard c.round.ensures.calls in
+    let all = heard_on g.G.Gate.hears g.met.G.Gate.hears_nothing g.met.G.Gate.hears_on c.args.gate.now c.loop-turn.gate c.round.new.gate c.args.self.now c.loop-turn.self c.round.new.self start before node c.loop-turn.invariant.heard c.round.ensures.goes.heard in
     (all.calls, all.heard, all.are, search rules)
 
 pub returns-then-is_over-clause-calls : goal.returns-then-is_over-clause-calls
@@ -31,7 +31,7 @@ returns-then-is_over-clause-calls g c =
     let start = g.W.Worker.node c.args.worker.now in
     let before = g.W.Worker.node c.loop-turn.worker in
     let node = g.W.Worker.node c.round.new.worker in
-    let all = heard_on g.G.Gate.hears g.met.G.Gate.hears_nothing g.met.G.Gate.hears_on c.args.gate.now c.loop-turn.gate c.round.new.gate c.args.self.now c.loop-turn.self c.round.new.self start before node c.loop-turn.invariant.heard c.round.ensures.calls in
+    let all = heard_on g.G.Gate.hears g.met.G.Gate.hears_nothing g.met.G.Gate.hears_on c.args.gate.now c.loop-turn.gate c.round.new.gate c.args.self.now c.loop-turn.self c.round.new.self start before node c.loop-turn.invariant.heard c.round.ensures.goes.heard in
     let said = all_said g.G.Gate.hears g.met.G.Gate.hears_nothing g.met.G.Gate.hears_on c.round.new.gate c.is_over.new.gate c.is_over.result c.is_over.ensures.asked c.if-is_over.true in
     let whole = heard_end g.G.Gate.hears g.met.G.Gate.hears_nothing g.met.G.Gate.hears_on c.args.gate.now c.round.new.gate c.is_over.new.gate c.args.self.now c.round.new.self start node all said in
     (whole.0, whole.1, whole.2, λ _. whole.3)
@@ -46,7 +46,7 @@ loop-turn-preserved g c =
     let hears = g.G.Gate.hears in
     let nothing = g.met.G.Gate.hears_nothing in
     let on = g.met.G.Gate.hears_on in
-    let round = heard_on hears nothing on c.args.gate.now c.loop-turn.gate c.round.new.gate c.args.self.now c.loop-turn.self self start before node was.heard c.round.ensures.calls in
+    let round = heard_on hears nothing on c.args.gate.now c.loop-turn.gate c.round.new.gate c.args.self.now c.loop-turn.self self start before node was.heard c.round.ensures.goes.heard in
     let asked = heard_asked hears nothing on c.round.new.gate c.is_over.new.gate c.is_over.result self node c.is_over.ensures.asked in
     let rested = heard_rest hears nothing on c.is_over.new.gate c.rest_if_due-restless.new.gate (is_rest_due c.in_ok-round.round c.loop-turn.restless) _ _ self node c.rest_if_due-restless.ensures.rests c.rest_if_due-restless.ensures.goes_on in
     let few = c.rest_if_due-restless.ensures.few in

@@ -1,14 +1,19 @@
-use Rattle.std.proofs.Common.{arith, true, false, ◌≡◌, ◌<◌, ℕ, List, [], ◌∷◌, length, refl, sym, ap, subst, ◌∙◌}
+use Rattle.std.proofs.Common.{arith, true, false, ◌≡◌, ◌<◌, ℕ, List, [], ◌∷◌, ◌++◌, length, None, refl, sym, ap, subst, ◌∙◌, inl, inr}
 use Rattle.std.specs.List.{remove}
 use Rattle.std.specs.Prelude.{slice_index_or}
+use Rattle.std.proofs.lemmas.Bool.{cases_lt}
 use Rattle.std.proofs.lemmas.List.{get_or_default}
-use Rattle.sci_core.specs.Node.{NodeOf}
+use Rattle.std.proofs.lemmas.List.Edits.{get_or-remove_below}
+use Rattle.sci_history.specs.declared.entry.Entry.{Entry}
+use Rattle.sci_core.specs.Node.{NodeOf, node_performing}
 use Rattle.sci_core.specs.Work.{IsLogged}
 use Rattle.sci_drive.specs.Calls.{Answered, IsHeard}
 use Rattle.sci_drive.specs.Driving.{DriverOf, IsDriven, IsInOrder}
+use Rattle.sci_drive.specs.Rounds.{ArePerformed, IsTried}
 use Rattle.sci_drive.proofs.Calls.{answer_call, heard_nothing, heard_on}
 use Rattle.sci_drive.proofs.Drives.{grows, performs}
 use Rattle.sci_drive.proofs.InOrder.{performs_in_order}
+use Rattle.sci_drive.proofs.Rounds.{one_more_performed, tried_on}
 use Rattle.sci_drive.proofs.driver.Driver.perform.Goals as goal
 
 -- src/driver.rt:132:9
@@ -29,6 +34,12 @@ loop-place-preserved-in-Some g c =
     let made = performs driver old new at.place line c.in-Some.entry at.invariant.driven logged within here in
     let undone : driver.was_done ≡ true → ⊥ = λ was. (let free = (at.invariant.done was).1 in let short : length driver.pending ≡ 0 = ap (λ (l : List ℕ). length l) free in absurd (omega arith)) in
     let awaited = at.invariant.driven.pending line (record { serial = c.in-Some.entry.serial; op = c.in-Some.entry.op }) logged.pending in
+    let start = g.W.Worker.node c.args.worker.now in
+    let own : IsLogged old new c.in-Some.entry.op.line c.in-Some.entry = subst (λ (l : ℕ). IsLogged old new l c.in-Some.entry) (sym awaited.on) logged in
+    let tried_then : (k : ℕ) → k < at.place → k < length c.remove.new.self.items → IsTried (slice_index_or c.remove.new.self.items k 0) start new = λ k lt _.
+    (let was : IsTried (slice_index_or driver.pending k 0) start old = at.invariant.tried k lt (omega (arith, within)) in
+    let same : slice_index_or c.remove.new.self.items k 0 ≡ slice_index_or driver.pending k 0 = ap (λ (l : List ℕ). slice_index_or l k 0) c.remove.ensures.items ∙ get_or-remove_below driver.pending at.place 0 k lt within in
+    subst (λ (l : ℕ). IsTried l start new) (sym same) (tried_on (slice_index_or driver.pending k 0) start old new c.in-Some.entry was own)) in
     let heard : IsHeard g.G.Gate.hears at.gate c.answered.new.self driver later old new = record {
       calls = Answered c.in-Some.entry ∷ [];
       heard = c.answered.ensures;
@@ -43,6 +54,8 @@ loop-place-preserved-in-Some g c =
       same = λ no. absurd (apart no);
       order = λ was. subst (λ (lines : List ℕ). IsInOrder (record driver { pending = lines }) new) (sym c.remove.ensures.items) (performs_in_order driver old new at.place line c.in-Some.entry at.invariant.driven logged within here (at.invariant.order was));
       done = λ was. absurd (undone was);
+      performed = (at.invariant.performed.0 ++ c.in-Some.entry ∷ [], one_more_performed start old new at.invariant.performed.0 c.in-Some.entry at.invariant.performed.1 own);
+      tried = tried_then;
       heard = subst (λ (lines : List ℕ). IsHeard g.G.Gate.hears c.args.gate.now c.answered.new.self first (record driver { pending = lines }) (g.W.Worker.node c.args.worker.now) new) (sym c.remove.ensures.items)
           (heard_on g.G.Gate.hears g.met.G.Gate.hears_nothing g.met.G.Gate.hears_on c.args.gate.now at.gate c.answered.new.self first driver later (g.W.Worker.node c.args.worker.now) old new at.invariant.heard heard);
     }
@@ -64,6 +77,8 @@ loop-place-init g c =
       same = λ _. refl;
       order = λ was. was;
       done = c.self.invariant.1;
+      performed = ([], refl);
+      tried = λ k lt within. absurd (omega arith);
       heard = heard_nothing g.G.Gate.hears g.met.G.Gate.hears_nothing g.met.G.Gate.hears_on c.args.gate.now first first node node refl refl refl;
     }
   where
@@ -80,6 +95,17 @@ loop-place-preserved g c =
     let new = g.W.Worker.node c.perform.new.self in
     let same : new ≡ old = c.perform.ensures.same c.in-None.is in
     let log : new.log ≡ old.log = ap (λ (n : NodeOf). n.log) same in
+    let line : ℕ = slice_index_or c.deref.result.now at.place 0 in
+    let cannot : node_performing old line ≡ None = c.perform.ensures.none c.in-None.is in
+    let on : line ≡ slice_index_or driver.pending at.place 0 = ap (λ (l : List ℕ). slice_index_or l at.place 0) c.deref.ensures.0 in
+    let tried_here : IsTried (slice_index_or driver.pending at.place 0) start new = record {
+      node = old;
+      earlier = at.invariant.performed.0;
+      first = at.invariant.performed.1;
+      cannot = subst (λ (l : ℕ). node_performing old l ≡ None) on cannot;
+      later = [];
+      rest = sym same;
+    } in
     record {
       driven = subst (IsDriven driver) (sym same) at.invariant.driven;
       script = at.invariant.script;
@@ -90,5 +116,22 @@ loop-place-preserved g c =
       same = λ no. log ∙ at.invariant.same no;
       order = λ was. subst (IsInOrder driver) (sym same) (at.invariant.order was);
       done = at.invariant.done;
+      performed = subst (λ (n : NodeOf). (entries : List Entry) × ArePerformed start entries n) (sym same) at.invariant.performed;
+      tried = λ k lt within. elim (cases_lt k at.place) [
+        | inl low ↦ subst (IsTried (slice_index_or driver.pending k 0) start) (sym same) (at.invariant.tried k low within)
+        | inr high ↦
+            let here : at.place ≡ k = omega arith in
+            subst (λ (i : ℕ). IsTried (slice_index_or driver.pending i 0) start new) here tried_here
+      ];
       heard = subst (λ (n : NodeOf). IsHeard g.G.Gate.hears c.args.gate.now at.gate first driver start n) (sym same) at.invariant.heard;
     }
+
+pub returns-clause-tried : goal.returns-clause-tried
+returns-clause-tried g c = λ line there.
+    let at = c.loop-place in
+    let pending = at.self-inside.pending.items in
+    let long = c.len.ensures.value in
+    let past = c.loop-place-test.false in
+    let within = there.1 in
+    let here : slice_index_or pending there.0 0 ≡ line = get_or_default pending there.0 0 line within ∙ there.2 in
+    subst (λ (l : ℕ). IsTried l (g.W.Worker.node c.args.worker.now) (g.W.Worker.node at.worker)) here (at.invariant.tried there.0 (omega arith) within)

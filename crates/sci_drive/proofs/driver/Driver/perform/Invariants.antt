@@ -1,6 +1,9 @@
-use Rattle.std.proofs.Common.{◌≡◌, ◌<◌, [], length, ◌-◌, true, false}
+use Rattle.std.proofs.Common.{◌≡◌, ◌<◌, ℕ, List, [], length, ◌-◌, true, false}
+use Rattle.std.specs.Prelude.{slice_index_or}
+use Rattle.sci_history.specs.declared.entry.Entry.{Entry}
 use Rattle.sci_drive.specs.Calls.{IsHeard}
 use Rattle.sci_drive.specs.Driving.{DriverOf, IsDriven, IsInOrder}
+use Rattle.sci_drive.specs.Rounds.{ArePerformed, IsTried}
 use Rattle.sci_drive.proofs.driver.Driver.perform.Given as goal
 
 abbrev pub invariant-loop-place : goal.invariant-loop-place
@@ -17,6 +20,8 @@ invariant-loop-place g l =
       same : l.answered ≡ false → (g.W.Worker.node l.worker).log ≡ (g.W.Worker.node l.initial.worker).log;
       order : IsInOrder first (g.W.Worker.node l.initial.worker) → IsInOrder driver (g.W.Worker.node l.worker);
       done : driver.was_done ≡ true → (driver.next ≡ length driver.script) × (driver.pending ≡ []);
+      performed : (entries : List Entry) × ArePerformed (g.W.Worker.node l.initial.worker) entries (g.W.Worker.node l.worker);
+      tried : (k : ℕ) → k < l.place → k < length driver.pending → IsTried (slice_index_or driver.pending k 0) (g.W.Worker.node l.initial.worker) (g.W.Worker.node l.worker);
       heard : IsHeard g.G.Gate.hears l.initial.gate l.gate first driver (g.W.Worker.node l.initial.worker) (g.W.Worker.node l.worker);
     }
 

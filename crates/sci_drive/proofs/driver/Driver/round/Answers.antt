@@ -1,10 +1,13 @@
 -- A round submits, performs and takes a turn, and may tell the gate at its end.
-use Rattle.std.proofs.Common.{true, refl, subst, sym}
-use Rattle.sci_drive.specs.Calls.{IsHeard}
+use Rattle.std.proofs.Common.{rules, subst, sym}
+use Rattle.std.specs.Prelude.{Ok, Result}
+use Rattle.std.specs.declared.alloc.AllocError.{AllocError}
+use Rattle.sci_drive.specs.declared.driver.Round.{Round}
 use Rattle.sci_drive.specs.Driving.{DriverOf, IsDriven, IsInOrder}
-use Rattle.sci_drive.proofs.Calls.{heard_done, heard_round}
+use Rattle.sci_drive.specs.Rounds.{GoesRound}
 use Rattle.sci_drive.proofs.Drives.{tells, turns}
 use Rattle.sci_drive.proofs.InOrder.{tells_in_order, turns_in_order}
+use Rattle.sci_drive.proofs.Rounds.{goes, goes_done}
 use Rattle.sci_drive.proofs.driver.Driver.round.Goals as goal
 
 pub returns-in_err-progress-clause-driven : goal.returns-in_err-progress-clause-driven
@@ -14,9 +17,9 @@ pub returns-in_err-progress-clause-stays : goal.returns-in_err-progress-clause-s
 returns-in_err-progress-clause-stays g c =
     g.met.W.Worker.stays_through c.args.worker.now c.perform-answered.new.worker c.turn.new.self (g.met.W.Worker.stays_through c.args.worker.now c.submit.new.worker c.perform-answered.new.worker c.submit.ensures.stays c.perform-answered.ensures.stays) c.turn.ensures.stays
 
-pub returns-in_err-progress-clause-calls : goal.returns-in_err-progress-clause-calls
-returns-in_err-progress-clause-calls g c =
-    heard_round g.G.Gate.hears g.met.G.Gate.hears_nothing g.met.G.Gate.hears_on c.args.gate.now c.submit.new.gate c.perform-answered.new.gate c.args.self.now c.submit.new.self c.perform-answered.new.self (g.W.Worker.node c.args.worker.now) (g.W.Worker.node c.submit.new.worker) (g.W.Worker.node c.perform-answered.new.worker) (g.W.Worker.node c.turn.new.self) c.submit.ensures.calls c.perform-answered.ensures.calls c.turn.ensures.work.log
+pub returns-in_err-progress-clause-goes : goal.returns-in_err-progress-clause-goes
+returns-in_err-progress-clause-goes g c =
+    goes g.G.Gate.hears g.met.G.Gate.hears_nothing g.met.G.Gate.hears_on c.args.gate.now c.submit.new.gate c.perform-answered.new.gate c.args.self.now c.submit.new.self c.perform-answered.new.self (g.W.Worker.node c.args.worker.now) (g.W.Worker.node c.submit.new.worker) (g.W.Worker.node c.perform-answered.new.worker) (g.W.Worker.node c.turn.new.self) _ c.submit.ensures.submits c.perform-answered.ensures.calls c.perform-answered.ensures.performed c.perform-answered.ensures.tried c.turn.ensures.work (search rules)
 
 pub returns-then-not-self-clause-driven : goal.returns-then-not-self-clause-driven
 returns-then-not-self-clause-driven g c =
@@ -30,15 +33,17 @@ returns-then-not-self-clause-order g c = λ was.
     let here : IsInOrder c.perform-answered.new.self node = turns_in_order c.perform-answered.new.self (g.W.Worker.node c.perform-answered.new.worker) node c.turn.ensures.work (c.perform-answered.ensures.order (c.submit.ensures.order was)) in
     tells_in_order _ node (subst (λ (d : DriverOf). IsInOrder d node) (sym c.self.view_is) here)
 
-pub returns-then-not-self-clause-calls : goal.returns-then-not-self-clause-calls
-returns-then-not-self-clause-calls g c =
+pub returns-then-not-self-clause-goes : goal.returns-then-not-self-clause-goes
+returns-then-not-self-clause-goes g c =
     let driver : DriverOf = record { script = c.self.inside.script.now; issuing = c.self.inside.issuing; next = c.self.inside.next; pending = c.self.inside.pending.items; was_done = c.self.inside.was_done } in
     let start = g.W.Worker.node c.args.worker.now in
     let node = g.W.Worker.node c.turn.new.self in
-    let round : IsHeard g.G.Gate.hears c.args.gate.now c.perform-answered.new.gate c.args.self.now c.perform-answered.new.self start node =
-    heard_round g.G.Gate.hears g.met.G.Gate.hears_nothing g.met.G.Gate.hears_on c.args.gate.now c.submit.new.gate c.perform-answered.new.gate c.args.self.now c.submit.new.self c.perform-answered.new.self start (g.W.Worker.node c.submit.new.worker) (g.W.Worker.node c.perform-answered.new.worker) node c.submit.ensures.calls c.perform-answered.ensures.calls c.turn.ensures.work.log in
-    let here : IsHeard g.G.Gate.hears c.args.gate.now c.perform-answered.new.gate c.args.self.now driver start node = subst (λ (d : DriverOf). IsHeard g.G.Gate.hears c.args.gate.now c.perform-answered.new.gate c.args.self.now d start node) (sym c.self.view_is) round in
-    heard_done g.G.Gate.hears g.met.G.Gate.hears_nothing g.met.G.Gate.hears_on c.args.gate.now c.perform-answered.new.gate c.done.new.self c.args.self.now driver (record driver { was_done = true }) start node here c.done.ensures refl c.if-not-self.true refl
+    let result : Result Round AllocError = Ok (record { answered = c.perform-answered.result; progress = c.in_ok-progress.progress }) in
+    let round : GoesRound g.G.Gate.hears c.args.gate.now c.perform-answered.new.gate c.args.self.now c.perform-answered.new.self start node result =
+    goes g.G.Gate.hears g.met.G.Gate.hears_nothing g.met.G.Gate.hears_on c.args.gate.now c.submit.new.gate c.perform-answered.new.gate c.args.self.now c.submit.new.self c.perform-answered.new.self (g.W.Worker.node c.args.worker.now) (g.W.Worker.node c.submit.new.worker) (g.W.Worker.node c.perform-answered.new.worker) (g.W.Worker.node c.turn.new.self) _ c.submit.ensures.submits c.perform-answered.ensures.calls c.perform-answered.ensures.performed c.perform-answered.ensures.tried c.turn.ensures.work c.in_ok-progress.ensures.turn
+    in
+    let here : GoesRound g.G.Gate.hears c.args.gate.now c.perform-answered.new.gate c.args.self.now driver start node result = subst (λ (d : DriverOf). GoesRound g.G.Gate.hears c.args.gate.now c.perform-answered.new.gate c.args.self.now d start node result) (sym c.self.view_is) round in
+    goes_done g.G.Gate.hears g.met.G.Gate.hears_nothing g.met.G.Gate.hears_on c.args.gate.now c.perform-answered.new.gate c.done.new.self c.args.self.now driver start node result here c.done.ensures c.if-not-self.true
 
 pub returns-then-not-self-clause-turned : goal.returns-then-not-self-clause-turned
 returns-then-not-self-clause-turned g c =
@@ -51,9 +56,9 @@ pub returns-else-is_answered-clause-order : goal.returns-else-is_answered-clause
 returns-else-is_answered-clause-order g c = λ was.
     turns_in_order c.perform-answered.new.self (g.W.Worker.node c.perform-answered.new.worker) (g.W.Worker.node c.turn.new.self) c.turn.ensures.work (c.perform-answered.ensures.order (c.submit.ensures.order was))
 
-pub returns-else-is_answered-clause-calls : goal.returns-else-is_answered-clause-calls
-returns-else-is_answered-clause-calls g c =
-    heard_round g.G.Gate.hears g.met.G.Gate.hears_nothing g.met.G.Gate.hears_on c.args.gate.now c.submit.new.gate c.perform-answered.new.gate c.args.self.now c.submit.new.self c.perform-answered.new.self (g.W.Worker.node c.args.worker.now) (g.W.Worker.node c.submit.new.worker) (g.W.Worker.node c.perform-answered.new.worker) (g.W.Worker.node c.turn.new.self) c.submit.ensures.calls c.perform-answered.ensures.calls c.turn.ensures.work.log
+pub returns-else-is_answered-clause-goes : goal.returns-else-is_answered-clause-goes
+returns-else-is_answered-clause-goes g c =
+    goes g.G.Gate.hears g.met.G.Gate.hears_nothing g.met.G.Gate.hears_on c.args.gate.now c.submit.new.gate c.perform-answered.new.gate c.args.self.now c.submit.new.self c.perform-answered.new.self (g.W.Worker.node c.args.worker.now) (g.W.Worker.node c.submit.new.worker) (g.W.Worker.node c.perform-answered.new.worker) (g.W.Worker.node c.turn.new.self) _ c.submit.ensures.submits c.perform-answered.ensures.calls c.perform-answered.ensures.performed c.perform-answered.ensures.tried c.turn.ensures.work c.in_ok-progress.ensures.turn
 
 pub returns-else-is_answered-clause-turned : goal.returns-else-is_answered-clause-turned
 returns-else-is_answered-clause-turned g c =

@@ -1,13 +1,17 @@
-use Rattle.std.proofs.Common.{◌≡◌, ◌+◌, ℕ, Bool, true, List, [], ◌∷◌, length, Some, refl, sym, ap, subst}
-use Rattle.std.specs.Prelude.{slice_get, Result, Ok, Err, IsErr}
-use Rattle.std.proofs.lemmas.Bool.{ltb-true}
-use Rattle.std.proofs.lemmas.Option.{slice_get_read}
-use Rattle.sci_core.specs.Node.{NodeOf}
+use Rattle.std.proofs.Common.{arith, ◌≡◌, ◌+◌, ◌<◌, ◌≤◌, Option, inl, inr, ℕ, Bool, true, false, List, [], ◌∷◌, length, Some, None, refl, sym, subst, ◌∙◌}
+use Rattle.std.specs.Prelude.{nat_eq, nat_lt, slice_get, Result, Ok, Err, IfErr, IsErr, IsSome}
+use Rattle.std.specs.List.{Contains, list_any}
+use Rattle.std.proofs.lemmas.Bool.{cases_lt, eqb-true, ltb-false, ltb-true}
+use Rattle.std.proofs.lemmas.List.Folds.{Any-from_list_any}
+use Rattle.std.proofs.lemmas.Option.{slice_get_past, slice_get_read}
+use Rattle.sci_words.specs.declared.operation.Op.{Op}
 use Rattle.sci_core.specs.Work.{IsIssued}
+use Rattle.sci_policy.specs.Turn.{submit_fault}
 use Rattle.sci_drive.specs.Calls.{IsHeard, MayIssue}
 use Rattle.sci_drive.specs.Driving.{DriverOf, IsDriven}
-use Rattle.sci_drive.proofs.Calls.{heard_nothing, heard_one, submit_call}
+use Rattle.sci_drive.specs.Rounds.{AllSubmitted, IsHeldBack, LineIsTaken, NoRoom, NotAllowed, Refused, Submits, most_pending, next_op}
 use Rattle.sci_drive.proofs.Drives.{submits}
+use Rattle.sci_drive.proofs.Rounds.{asks, holds_back, submits_one}
 use Rattle.sci_drive.proofs.driver.Driver.submit.Goals as goal
 
 -- src/driver.rt:104:5
@@ -23,40 +27,93 @@ returns-in-Ok-clause-driven g c =
     let made = submits driver old new c.in-Some.op.now d issued at in
     subst (λ (lines : List ℕ). IsDriven (record driver { next = driver.next + 1; pending = lines }) new) (sym c.push.ensures.items) made
 
-pub returns-then-not-is_free-clause-calls : goal.returns-then-not-is_free-clause-calls
-returns-then-not-is_free-clause-calls g c = heard_nothing g.G.Gate.hears g.met.G.Gate.hears_nothing g.met.G.Gate.hears_on c.args.gate.now c.args.self.now c.args.self.now (g.W.Worker.node c.args.worker.now) (g.W.Worker.node c.args.worker.now) refl refl refl
+-- what a slice says that it contains
+is_contained : (line : ℕ) (lines : List ℕ) → list_any (λ y. nat_eq y line) lines ≡ true → Contains lines line
+is_contained line lines is = let any = Any-from_list_any (λ (y : ℕ). nat_eq y line) lines is in subst (Contains lines) (eqb-true any.1 line any.4) (any.0, any.2, any.3)
 
-pub returns-in_default-clause-calls : goal.returns-in_default-clause-calls
-returns-in_default-clause-calls g c = heard_nothing g.G.Gate.hears g.met.G.Gate.hears_nothing g.met.G.Gate.hears_on c.args.gate.now c.args.self.now c.args.self.now (g.W.Worker.node c.args.worker.now) (g.W.Worker.node c.args.worker.now) refl refl refl
+not_below : (a b : ℕ) (below : Bool) → (a < b → below ≡ true) → below ≡ false → b ≤ a
+not_below a b below is not = elim (cases_lt a b) [
+  | inl lt ↦ absurd (let yes : below ≡ true = is lt in cc)
+  | inr le ↦ le
+]
 
-pub returns-then-contains-clause-calls : goal.returns-then-contains-clause-calls
-returns-then-contains-clause-calls g c = heard_nothing g.G.Gate.hears g.met.G.Gate.hears_nothing g.met.G.Gate.hears_on c.args.gate.now c.args.self.now c.args.self.now (g.W.Worker.node c.args.worker.now) (g.W.Worker.node c.args.worker.now) refl refl refl
+past : (script : List Op) (next : ℕ) → false ≡ nat_lt next (length script) → slice_get script next ≡ None
+past script next not = slice_get_past script next (ltb-false next (length script) (sym not))
 
-pub returns-then-not-may_issue-clause-calls : goal.returns-then-not-may_issue-clause-calls
-returns-then-not-may_issue-clause-calls g c =
-    heard_one g.G.Gate.hears g.met.G.Gate.hears_nothing g.met.G.Gate.hears_on c.args.gate.now c.may_issue.new.self c.args.self.now c.args.self.now (g.W.Worker.node c.args.worker.now) (g.W.Worker.node c.args.worker.now) _ c.may_issue.ensures refl refl refl refl refl
+pub returns-then-not-has_room-clause-submits : goal.returns-then-not-has_room-clause-submits
+returns-then-not-has_room-clause-submits g c =
+    let self = c.args.self.now in
+    holds_back g.G.Gate.hears g.met.G.Gate.hears_nothing c.args.gate.now self (g.W.Worker.node c.args.worker.now)
+    (NoRoom (not_below (length self.pending) (most_pending self.issuing) c.has_room.result c.has_room.ensures.1 c.if-not-has_room.true))
 
-pub returns-in-Ok-clause-calls : goal.returns-in-Ok-clause-calls
-returns-in-Ok-clause-calls g c =
+pub returns-in_default-clause-submits : goal.returns-in_default-clause-submits
+returns-in_default-clause-submits g c =
     let driver : DriverOf = record { script = c.self.inside.script.now; issuing = c.self.inside.issuing; next = c.self.inside.next; pending = c.self.inside.pending.items; was_done = c.self.inside.was_done } in
-    let later : DriverOf = record driver { next = driver.next + 1; pending = c.push.new.self.items } in
+    let node = g.W.Worker.node c.args.worker.now in
+    let none : next_op driver ≡ None = past driver.script driver.next c.in_default.ensures.lookup.0 in
+    holds_back g.G.Gate.hears g.met.G.Gate.hears_nothing c.args.gate.now c.args.self.now node (AllSubmitted (subst (λ (d : DriverOf). next_op d ≡ None) c.self.view_is none))
+
+pub returns-then-contains-clause-submits : goal.returns-then-contains-clause-submits
+returns-then-contains-clause-submits g c =
+    let driver : DriverOf = record { script = c.self.inside.script.now; issuing = c.self.inside.issuing; next = c.self.inside.next; pending = c.self.inside.pending.items; was_done = c.self.inside.was_done } in
+    let node = g.W.Worker.node c.args.worker.now in
+    let op = c.in-Some.op.now in
+    let found = c.in-Some.ensures.lookup in
+    let at : next_op driver ≡ Some op = slice_get_read driver.script (length driver.script) driver.next op refl (ltb-true driver.next (length driver.script) (sym found.0)) found.1 in
+    let taken : Contains c.deref.result.now op.line = is_contained op.line c.deref.result.now (sym c.contains.ensures.value ∙ c.if-contains.true) in
+    let there : Contains driver.pending op.line = subst (λ (lines : List ℕ). Contains lines op.line) c.deref.ensures.0 taken in
+    holds_back g.G.Gate.hears g.met.G.Gate.hears_nothing c.args.gate.now c.args.self.now node (subst (λ (d : DriverOf). IsHeldBack d node []) c.self.view_is (LineIsTaken op at there))
+
+pub returns-then-not-may_issue-clause-submits : goal.returns-then-not-may_issue-clause-submits
+returns-then-not-may_issue-clause-submits g c =
+    let driver : DriverOf = record { script = c.self.inside.script.now; issuing = c.self.inside.issuing; next = c.self.inside.next; pending = c.self.inside.pending.items; was_done = c.self.inside.was_done } in
+    let node = g.W.Worker.node c.args.worker.now in
+    let hears = g.G.Gate.hears in
+    let gate = c.args.gate.now in
+    let asked : hears gate (MayIssue driver.next false ∷ []) c.may_issue.new.self = subst (λ (may : Bool). hears gate (MayIssue driver.next may ∷ []) c.may_issue.new.self) c.if-not-may_issue.true c.may_issue.ensures in
+    subst (λ (d : DriverOf). (heard : IsHeard hears gate c.may_issue.new.self d d node node) × Submits d d node node heard.calls) c.self.view_is
+    (asks hears g.met.G.Gate.hears_nothing gate c.may_issue.new.self false driver node node asked refl (NotAllowed (0, omega arith, refl)))
+
+pub returns-in-Ok-clause-submits : goal.returns-in-Ok-clause-submits
+returns-in-Ok-clause-submits g c =
+    let driver : DriverOf = record { script = c.self.inside.script.now; issuing = c.self.inside.issuing; next = c.self.inside.next; pending = c.self.inside.pending.items; was_done = c.self.inside.was_done } in
     let old = g.W.Worker.node c.args.worker.now in
     let new = g.W.Worker.node c.submit.new.self in
-    let issued : IsIssued old new c.in-Some.op.now = c.in-Ok.ensures.issued in
-    let heard : IsHeard g.G.Gate.hears c.args.gate.now c.may_issue.new.self driver later old new = record {
-      calls = MayIssue driver.next true ∷ [];
-      heard = subst (λ (may : Bool). g.G.Gate.hears c.args.gate.now (MayIssue driver.next may ∷ []) c.may_issue.new.self) c.if-not-may_issue.false c.may_issue.ensures;
-      are = submit_call driver later old new refl refl issued.log;
-    } in
-    subst (λ (d : DriverOf). IsHeard g.G.Gate.hears c.args.gate.now c.may_issue.new.self d later old new) c.self.view_is heard
+    let hears = g.G.Gate.hears in
+    let gate = c.args.gate.now in
+    let later = c.may_issue.new.self in
+    let op = c.in-Some.op.now in
+    let found = c.in-Some.ensures.lookup in
+    let at : next_op driver ≡ Some op = slice_get_read driver.script (length driver.script) driver.next op refl (ltb-true driver.next (length driver.script) (sym found.0)) found.1 in
+    let issued : IsIssued old new op = c.in-Ok.ensures.issued in
+    let asked : hears gate (MayIssue driver.next true ∷ []) later = subst (λ (may : Bool). hears gate (MayIssue driver.next may ∷ []) later) c.if-not-may_issue.false c.may_issue.ensures in
+    let made = submits_one hears g.met.G.Gate.hears_nothing gate later driver old new op asked at issued in
+    let pushed = subst (λ (lines : List ℕ). (heard : IsHeard hears gate later driver (record driver { next = driver.next + 1; pending = lines }) old new) × Submits driver (record driver { next = driver.next + 1; pending = lines }) old new heard.calls) (sym c.push.ensures.items) made in
+    subst (λ (d : DriverOf). (heard : IsHeard hears gate later d (record driver { next = driver.next + 1; pending = c.push.new.self.items }) old new) × Submits d (record driver { next = driver.next + 1; pending = c.push.new.self.items }) old new heard.calls) c.self.view_is pushed
 
 not_ok : {A E : Type 0} (r : Result A E) → ((x : A) → r ≡ Ok x → ⊥) → IsErr r
 not_ok (Ok x) isnt = absurd (isnt x refl)
 not_ok (Err e) isnt = refl
 
-pub returns-in_default-submit-clause-calls : goal.returns-in_default-submit-clause-calls
-returns-in_default-submit-clause-calls g c =
+-- a worker that gives a fault of its own refuses
+has_fault : {A E : Type 0} (r : Result A E) (fault : Option E) → IsErr r → IfErr r (λ e. fault ≡ Some e) → IsSome fault
+has_fault (Ok x) fault is told = absurd (cc)
+has_fault (Err e) None is told = absurd (cc)
+has_fault (Err e) (Some f) is told = refl
+
+pub returns-in_default-submit-clause-submits : goal.returns-in_default-submit-clause-submits
+returns-in_default-submit-clause-submits g c =
+    let driver : DriverOf = record { script = c.self.inside.script.now; issuing = c.self.inside.issuing; next = c.self.inside.next; pending = c.self.inside.pending.items; was_done = c.self.inside.was_done } in
     let old = g.W.Worker.node c.args.worker.now in
     let new = g.W.Worker.node c.submit.new.self in
-    let same : new ≡ old = c.submit.ensures.same (not_ok c.submit.result c.in_default-submit.not-Ok) in
-    heard_one g.G.Gate.hears g.met.G.Gate.hears_nothing g.met.G.Gate.hears_on c.args.gate.now c.may_issue.new.self c.args.self.now c.args.self.now old new _ c.may_issue.ensures refl refl refl refl (ap (λ (n : NodeOf). n.log) same)
+    let hears = g.G.Gate.hears in
+    let gate = c.args.gate.now in
+    let later = c.may_issue.new.self in
+    let op = c.in-Some.op.now in
+    let found = c.in-Some.ensures.lookup in
+    let at : next_op driver ≡ Some op = slice_get_read driver.script (length driver.script) driver.next op refl (ltb-true driver.next (length driver.script) (sym found.0)) found.1 in
+    let err = not_ok c.submit.result c.in_default-submit.not-Ok in
+    let same : new ≡ old = c.submit.ensures.same err in
+    let fault : IsSome (submit_fault old op) = has_fault c.submit.result (submit_fault old op) err c.submit.ensures.fault in
+    subst (λ (d : DriverOf). (heard : IsHeard hears gate later d d old new) × Submits d d old new heard.calls) c.self.view_is
+    (asks hears g.met.G.Gate.hears_nothing gate later c.may_issue.result driver old new c.may_issue.ensures same (Refused op at fault))

@@ -1,0 +1,79 @@
+-- What a driver does in a round: it submits and performs, and its worker takes a turn.
+use Rattle.std.specs.Prelude.{◌≡◌, ◌≤◌, ◌+◌, ℕ, false, List, [], ◌∷◌, ◌++◌, length, Option, Some, None, IsSome, Result, IfOk, slice_get}
+use Rattle.std.specs.List.{Contains}
+use Rattle.sci_words.specs.declared.operation.Op.{Op}
+use Rattle.sci_history.specs.declared.entry.Entry.{Entry}
+use Rattle.sci_core.specs.Node.{NodeOf, node_performing}
+use Rattle.sci_core.specs.Work.{IsIssued, IsLogged}
+use Rattle.sci_policy.specs.Turn.{submit_fault}
+use Rattle.sci_policy.specs.Worker.{HasSameWork, IsNodeTurn}
+use Rattle.sci_drive.specs.declared.driver.Issuing.{Issuing}
+use Rattle.sci_drive.specs.declared.driver.Issuing.TheVariants.{Ahead, InOrder}
+use Rattle.sci_drive.specs.declared.driver.Round.{Round}
+use Rattle.sci_drive.specs.Calls.{Call, IsHeard, MayIssue}
+use Rattle.sci_drive.specs.Driving.{DriverOf}
+
+-- ---- submitted
+
+-- how many operations are pending at most
+abbrev pub most_pending : Issuing → ℕ
+most_pending Ahead = 4
+most_pending InOrder = 1
+
+-- the operation that is submitted next, if one is left
+abbrev pub next_op : DriverOf → Option Op
+next_op driver = slice_get driver.script driver.next
+
+-- the driver after one more was submitted
+abbrev pub with_submitted : DriverOf → Op → DriverOf
+with_submitted driver op = record driver { next = driver.next + 1; pending = driver.pending ++ op.line ∷ [] }
+
+-- why nothing can be submitted: as many are pending as may be, all were submitted, one is pending on the line of the next, the
+-- gate was asked and doesn't allow it, or the worker refuses it
+pub data IsHeldBack (driver : DriverOf) (node : NodeOf) (calls : List Call) : Type 0 where
+  NoRoom : most_pending driver.issuing ≤ length driver.pending → IsHeldBack driver node calls
+  AllSubmitted : next_op driver ≡ None → IsHeldBack driver node calls
+  LineIsTaken : (op : Op) → next_op driver ≡ Some op → Contains driver.pending op.line → IsHeldBack driver node calls
+  NotAllowed : Contains calls (MayIssue driver.next false) → IsHeldBack driver node calls
+  Refused : (op : Op) → next_op driver ≡ Some op → IsSome (submit_fault node op) → IsHeldBack driver node calls
+
+-- the next operation is submitted, or nothing can be
+pub data Submits (old new : DriverOf) (before after : NodeOf) (calls : List Call) : Type 0 where
+  OneMore : (op : Op) → next_op old ≡ Some op → new ≡ with_submitted old op → IsIssued before after op → Submits old new before after calls
+  NoneNow : IsHeldBack old before calls → new ≡ old → after ≡ before → Submits old new before after calls
+
+-- ---- performed
+
+-- operations are performed one after another, with these entries
+abbrev pub ArePerformed : NodeOf → List Entry → NodeOf → Type 0
+ArePerformed before [] after = before ≡ after
+ArePerformed before (entry ∷ entries) after = (next : NodeOf) × IsLogged before next entry.op.line entry × ArePerformed next entries after
+
+-- at some moment while they were, nothing could be performed on this line
+pub record IsTried (line : ℕ) (before after : NodeOf) : Type 0 where
+  pub node : NodeOf
+  pub earlier : List Entry
+  pub first : ArePerformed before earlier node
+  pub cannot : node_performing node line ≡ None
+  pub later : List Entry
+  pub rest : ArePerformed node later after
+
+-- ---- a round
+
+-- What comes before the turn: the next operation is submitted if it can be, and then each that is pending is tried, and
+-- performed if it can be.
+pub record HasWorked (old new : DriverOf) (before after : NodeOf) (calls : List Call) : Type 0 where
+  pub driver : DriverOf
+  pub node : NodeOf
+  pub submits : Submits old driver before node calls
+  pub entries : List Entry
+  pub performs : ArePerformed node entries after
+  pub tried : (line : ℕ) → Contains new.pending line → IsTried line node after
+
+-- A round: what comes before the turn, and a turn from there. The gate has had its calls.
+pub record GoesRound {G E : Type 0} (hears : G → List Call → G → Type 0) (gate later : G) (old new : DriverOf) (before after : NodeOf) (result : Result Round E) : Type 0 where
+  pub heard : IsHeard hears gate later old new before after
+  pub node : NodeOf
+  pub worked : HasWorked old new before node heard.calls
+  pub same : HasSameWork node after
+  pub turn : IfOk result (λ round. IsNodeTurn node after round.progress)
