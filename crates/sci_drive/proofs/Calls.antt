@@ -9,7 +9,7 @@ use Rattle.sci_history.specs.declared.entry.Entry.{Entry}
 use Rattle.sci_core.specs.Node.{NodeOf}
 use Rattle.sci_words.specs.declared.operation.Op.{Op}
 use Rattle.sci_drive.specs.declared.driver.Issuing.{Issuing}
-use Rattle.sci_drive.specs.Calls.{AllDone, Answered, AreAllowed, AreCalls, AreCallsOf, Call, Done, EndWithAllDone, EndWithDone, IsHeard, MayIssue, Rest, entry_told, is_done, times_before, times_done, told}
+use Rattle.sci_drive.specs.Calls.{AllDone, Answered, AreAllowed, AreCalls, AreCallsOf, Call, Done, EndWithDone, IsHeard, MayIssue, Rest, entry_told, is_done, times_before, times_done, told}
 use Rattle.sci_drive.specs.Driving.{DriverOf, IsDriven, opening_driver}
 
 -- ---- where a call stands in two lists
@@ -224,31 +224,6 @@ module _ {G : Type 0} (hears : G → List Call → G → Type 0) (hears_nothing 
 
   pub heard_nothing : (g : G) (a b : DriverOf) (x y : NodeOf) → b.next ≡ a.next → b.was_done ≡ a.was_done → y.log ≡ x.log → IsHeard hears g g a b x y
   heard_nothing g a b x y next done log = record { calls = []; heard = hears_nothing g; are = no_calls a b x y next done log }
-
-  -- the last call asked whether all are done, and they are
-  pub heard_end : (g h k : G) (a b : DriverOf) (x y : NodeOf) → IsHeard hears g h a b x y → hears h (AllDone true ∷ []) k → (calls : List Call) × hears g calls k × AreCalls a b x y calls × EndWithAllDone calls
-  heard_end g h k a b x y was is = (
-    was.calls ++ AllDone true ∷ [],
-    hears_on g h k was.calls (AllDone true ∷ []) was.heard is,
-    calls_on a b b x y y was.calls (AllDone true ∷ []) was.are (one_call b b y y (AllDone true) refl refl refl refl refl),
-    (was.calls, refl),
-  )
-
-  -- the gate is asked whether all are done, or not asked
-  pub heard_asked : (g h : G) (all : Bool) (a : DriverOf) (x : NodeOf) → (hears g [] h × (all ≡ false)) ⊎ hears g (AllDone all ∷ []) h → IsHeard hears g h a a x x
-  heard_asked g h all a x (inl not) = record { calls = []; heard = not.0; are = no_calls a a x x refl refl refl }
-  heard_asked g h all a x (inr is) = record { calls = AllDone all ∷ []; heard = is; are = one_call a a x x (AllDone all) refl refl refl refl refl }
-
-  pub all_said : (g h : G) (all : Bool) → (hears g [] h × (all ≡ false)) ⊎ hears g (AllDone all ∷ []) h → all ≡ true → hears g (AllDone true ∷ []) h
-  all_said g h true (inl not) all_are = let no_ : true ≡ false = not.1 in absurd (cc)
-  all_said g h false (inl not) all_are = absurd (cc)
-  all_said g h true (inr is) all_are = is
-  all_said g h false (inr is) all_are = absurd (cc)
-
-  -- it rests, or not
-  pub heard_rest : (g h : G) (due : Bool) (P Q : Type 0) (a : DriverOf) (x : NodeOf) → (due ≡ true → hears g (Rest ∷ []) h × P) → (due ≡ false → hears g [] h × Q) → IsHeard hears g h a a x x
-  heard_rest g h true P Q a x rests on = record { calls = Rest ∷ []; heard = (rests refl).0; are = one_call a a x x Rest refl refl refl refl refl }
-  heard_rest g h false P Q a x rests on = record { calls = []; heard = (on refl).0; are = no_calls a a x x refl refl refl }
 
 -- ---- a whole run
 

@@ -1,4 +1,5 @@
 pub mod Calls
 pub mod Drives
 pub mod InOrder
+pub mod Resting
 pub mod Rounds

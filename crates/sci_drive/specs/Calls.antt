@@ -40,6 +40,17 @@ times_done calls = count_by is_done calls
 abbrev pub times_before : DriverOf → ℕ
 times_before driver = if driver.was_done then 1 else 0
 
+abbrev pub is_rest : Call → Bool
+is_rest (MayIssue index may) = false
+is_rest (Answered entry) = false
+is_rest Done = false
+is_rest (AllDone all) = false
+is_rest Rest = true
+
+-- how often the gate rests
+abbrev pub times_rested : List Call → ℕ
+times_rested calls = count_by is_rest calls
+
 -- an entry is told of only after its operation was allowed, by one of these calls or before them
 abbrev pub AreAllowed : ℕ → List Call → Type 0
 AreAllowed before calls = (front back : List Call) (entry : Entry) → calls ≡ front ++ Answered entry ∷ back → (entry.serial < before) ⊎ Contains front (MayIssue entry.serial true)

@@ -1,6 +1,7 @@
 -- When a gate rests.
-use Rattle.std.specs.Prelude.{ℕ, ◌+◌, nat_le, Bool, ◌&&◌, ◌||◌, not, if◌then◌else◌}
+use Rattle.std.specs.Prelude.{ℕ, ◌+◌, ◌*◌, ◌≤◌, nat_le, Bool, ◌&&◌, ◌||◌, not, if◌then◌else◌, List, length}
 use Rattle.sci_policy.specs.Turn.{is_idle}
+use Rattle.sci_drive.specs.Calls.{Call, times_rested, told}
 use Rattle.sci_drive.specs.declared.driver.Round.{Round}
 use Rattle.sci_drive.specs.declared.running.TheConstants.{RESTLESS_TURNS}
 
@@ -11,3 +12,7 @@ in_a_row round restless = if round.answered then 0 else restless + 1
 -- nothing moved, or there are too many in a row
 abbrev pub is_rest_due : Round → ℕ → Bool
 is_rest_due round restless = (not round.answered && is_idle round.progress) || nat_le RESTLESS_TURNS (in_a_row round restless)
+
+-- So many turns with these calls of the gate are at most 16 for each entry and each rest, and 16 more.
+abbrev pub RestsInTime : ℕ → List Call → Type 0
+RestsInTime turns calls = turns ≤ RESTLESS_TURNS * (times_rested calls + length (told calls) + 1)

@@ -7,7 +7,7 @@ ghost use Rattle.sci_drive.specs.Calls.{AreCallsOf, Call, EndWithAllDone, Rest, 
 ghost use Rattle.sci_drive.specs.declared.driver.Issuing.TheVariants.{InOrder};
 ghost use Rattle.sci_drive.specs.declared.running.TheConstants.{RESTLESS_TURNS};
 ghost use Rattle.sci_drive.specs.Driving.{HasSubmittedNothing};
-ghost use Rattle.sci_drive.specs.Resting.{in_a_row, is_rest_due};
+ghost use Rattle.sci_drive.specs.Resting.{RestsInTime, in_a_row, is_rest_due};
 ghost use Rattle.sci_drive.specs.Script.{IsFrontOf, IsLogOf, IsWholeLogOf};
 
 use crate::driver::{Driver, Issuing, Round};
@@ -43,6 +43,7 @@ pub struct Ran {
 /// - The gate was told of each entry once, in the order of the log.
 /// - An operation was submitted only if `may_issue` had answered true for it, and its entry was told after that.
 /// - `done` was called once at most, and no entry was told after it.
+/// - Unless a turn was refused, it took at most 16 turns for each entry and each rest, and 16 more.
 ///
 /// Finished, each operation of the script has just one entry, `done` was called, and the last call was an `all_done` that
 /// answered true. It took as many turns as it says.
@@ -61,8 +62,9 @@ pub fn drive<W: Worker, G: Gate>(
     ensures all { IfOk result (λ ran. ran.finished ≡ false → ran.turns ≡ turns) }
     ensures calls { (calls : List Call) × G.hears gate.old calls gate.new
         × AreCallsOf (W.node worker.new) calls
-        × IfOk result (λ ran. ran.finished ≡ true →
-        (times_done calls ≡ 1) × EndWithAllDone calls) }
+        × IfOk result (λ ran. (ran.finished ≡ true →
+        (times_done calls ≡ 1) × EndWithAllDone calls)
+        × RestsInTime ran.turns calls) }
     ensures turned { IfOk result (λ ran. W.turned worker.old ran.turns worker.new) }
     ensures stays { W.stays worker.old worker.new }
 {
@@ -89,8 +91,9 @@ pub fn drive_issuing<W: Worker, G: Gate>(
     ensures all { IfOk result (λ ran. ran.finished ≡ false → ran.turns ≡ turns) }
     ensures calls { (calls : List Call) × G.hears gate.old calls gate.new
         × AreCallsOf (W.node worker.new) calls
-        × IfOk result (λ ran. ran.finished ≡ true →
-        (times_done calls ≡ 1) × EndWithAllDone calls) }
+        × IfOk result (λ ran. (ran.finished ≡ true →
+        (times_done calls ≡ 1) × EndWithAllDone calls)
+        × RestsInTime ran.turns calls) }
     ensures turned { IfOk result (λ ran. W.turned worker.old ran.turns worker.new) }
     ensures stays { W.stays worker.old worker.new }
 {
@@ -155,7 +158,8 @@ impl<'a> Driver<'a> {
         ensures all { IfOk result (λ ran. ran.finished ≡ false → ran.turns ≡ turns) }
         ensures calls { (calls : List Call) × G.hears gate.old calls gate.new
             × AreCalls self.old self.new (W.node worker.old) (W.node worker.new) calls
-            × IfOk result (λ ran. ran.finished ≡ true → EndWithAllDone calls) }
+            × IfOk result (λ ran. (ran.finished ≡ true → EndWithAllDone calls)
+            × RestsInTime ran.turns calls) }
         ensures script { self.new.script ≡ self.old.script }
         ensures issuing { self.new.issuing ≡ self.old.issuing }
         ensures turned { IfOk result (λ ran. W.turned worker.old ran.turns worker.new) }

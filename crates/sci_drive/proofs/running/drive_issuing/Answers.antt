@@ -4,6 +4,7 @@ use Rattle.std.proofs.lemmas.Result.{IfOk-weaker}
 use Rattle.sci_words.specs.declared.operation.Op.{Op}
 use Rattle.sci_drive.specs.Calls.{AreCalls, EndWithAllDone, times_done}
 use Rattle.sci_drive.specs.Driving.{DriverOf, IsInOrder, opening_driver}
+use Rattle.sci_drive.specs.Resting.{RestsInTime}
 use Rattle.sci_drive.specs.Script.{IsFrontOf, IsLogOf, IsWholeLogOf}
 use Rattle.sci_drive.specs.declared.driver.Issuing.{Issuing}
 use Rattle.sci_drive.proofs.Calls.{calls_of, told_once}
@@ -34,10 +35,10 @@ returns-clause-front g c = λ in_order.
     let opened = subst (λ (d : DriverOf). IsInOrder d start) (sym c.new-driver.ensures) issued in
     subst (λ (ops : List Op). IsFrontOf ops node.log) script (c.go_on.ensures.order opened).front
 
--- what holds of a run that has finished, from two facts of one
-both : {A E : Type 0} (r : Result A E) (f : A → Type 0) (P D T : Type 0) → IfOk r (λ a. f a → P) → IfOk r (λ a. f a → D) → (D → T) → IfOk r (λ a. f a → T × P)
-both (Ok a) f P D T p d t = λ h. (t (d h), p h)
-both (Err e) f P D T p d t = tt
+-- what holds of a run, and of one that has finished from two facts of one
+both : {A E : Type 0} (r : Result A E) (f R : A → Type 0) (P D T : Type 0) → IfOk r (λ a. (f a → P) × R a) → IfOk r (λ a. f a → D) → (D → T) → IfOk r (λ a. (f a → T × P) × R a)
+both (Ok a) f R P D T p d t = (λ h. (t (d h), p.0 h), p.1)
+both (Err e) f R P D T p d t = tt
 
 pub returns-clause-calls : goal.returns-clause-calls
 returns-clause-calls g c =
@@ -48,7 +49,7 @@ returns-clause-calls g c =
       heard.0,
       heard.1,
       calls_of c.args.script.now c.args.issuing c.go_on.new.self start node heard.0 c.requires.fresh.log c.go_on.ensures.driven are,
-      both c.go_on.result (λ ran. ran.finished ≡ true) (EndWithAllDone heard.0) (c.go_on.new.self.was_done ≡ true) (times_done heard.0 ≡ 1) heard.3 c.go_on.ensures.told (λ done. told_once c.args.script.now c.args.issuing c.go_on.new.self start node heard.0 done are),
+      both c.go_on.result (λ ran. ran.finished ≡ true) (λ ran. RestsInTime ran.turns heard.0) (EndWithAllDone heard.0) (c.go_on.new.self.was_done ≡ true) (times_done heard.0 ≡ 1) heard.3 c.go_on.ensures.told (λ done. told_once c.args.script.now c.args.issuing c.go_on.new.self start node heard.0 done are),
     )
 
 pub returns-clause-turned : goal.returns-clause-turned

@@ -1,7 +1,7 @@
 -- Round after round, with what is asked and the rests between them.
-use Rattle.std.proofs.Common.{refl, arith, ◌∙◌, rules}
-use Rattle.sci_drive.specs.Resting.{is_rest_due}
-use Rattle.sci_drive.proofs.Calls.{all_said, heard_asked, heard_end, heard_nothing, heard_on, heard_rest}
+use Rattle.std.proofs.Common.{◌+◌, refl, arith, ◌∙◌, rules}
+use Rattle.sci_drive.specs.Resting.{in_a_row, is_rest_due}
+use Rattle.sci_drive.proofs.Resting.{after_asked, after_rest, after_round, ended, gone_on, has_not_gone, row_is_short}
 use Rattle.sci_drive.proofs.driver.Driver.go_on.Goals as goal
 
 pub loop-turn-init : goal.loop-turn-init
@@ -15,7 +15,7 @@ loop-turn-init g c =
       turned = g.met.W.Worker.turned_not c.args.worker.now;
       few = omega arith;
       order = λ was. was;
-      heard = heard_nothing g.G.Gate.hears g.met.G.Gate.hears_nothing g.met.G.Gate.hears_on c.args.gate.now c.args.self.now c.args.self.now node node refl refl refl;
+      gone = has_not_gone g.G.Gate.hears g.met.G.Gate.hears_nothing g.met.G.Gate.hears_on c.args.gate.now c.args.self.now node;
     }
 
 pub returns-in_err-round-clause-calls : goal.returns-in_err-round-clause-calls
@@ -23,7 +23,8 @@ returns-in_err-round-clause-calls g c =
     let start = g.W.Worker.node c.args.worker.now in
     let before = g.W.Worker.node c.loop-turn.worker in
     let node = g.W.Worker.node c.round.new.worker in
-    let all = heard_on g.G.Gate.hears g.met.G.Gate.hears_nothing g.met.G.Gate.hears_on c.args.gate.now c.loop-turn.gate c.round.new.gate c.args.self.now c.loop-turn.self c.round.new.self start before node c.loop-turn.invariant.heard c.round.ensures.goes.heard in
+    let heard = c.round.ensures.goes.heard in
+    let all = gone_on g.G.Gate.hears g.met.G.Gate.hears_nothing g.met.G.Gate.hears_on c.args.gate.now c.loop-turn.gate c.round.new.gate c.args.self.now c.loop-turn.self c.round.new.self start before node c.loop-turn.turn c.loop-turn.restless heard.calls c.loop-turn.invariant.gone heard.heard heard.are in
     (all.calls, all.heard, all.are, search rules)
 
 pub returns-then-is_over-clause-calls : goal.returns-then-is_over-clause-calls
@@ -31,10 +32,11 @@ returns-then-is_over-clause-calls g c =
     let start = g.W.Worker.node c.args.worker.now in
     let before = g.W.Worker.node c.loop-turn.worker in
     let node = g.W.Worker.node c.round.new.worker in
-    let all = heard_on g.G.Gate.hears g.met.G.Gate.hears_nothing g.met.G.Gate.hears_on c.args.gate.now c.loop-turn.gate c.round.new.gate c.args.self.now c.loop-turn.self c.round.new.self start before node c.loop-turn.invariant.heard c.round.ensures.goes.heard in
-    let said = all_said g.G.Gate.hears g.met.G.Gate.hears_nothing g.met.G.Gate.hears_on c.round.new.gate c.is_over.new.gate c.is_over.result c.is_over.ensures.asked c.if-is_over.true in
-    let whole = heard_end g.G.Gate.hears g.met.G.Gate.hears_nothing g.met.G.Gate.hears_on c.args.gate.now c.round.new.gate c.is_over.new.gate c.args.self.now c.round.new.self start node all said in
-    (whole.0, whole.1, whole.2, λ _. whole.3)
+    let round = c.in_ok-round.round in
+    let few = c.loop-turn.invariant.few in
+    let gone = after_round g.G.Gate.hears g.met.G.Gate.hears_nothing g.met.G.Gate.hears_on c.args.gate.now c.loop-turn.gate c.round.new.gate c.args.self.now c.loop-turn.self c.round.new.self start before node c.loop-turn.turn c.loop-turn.restless round few c.loop-turn.invariant.gone c.round.ensures.goes.heard c.in_ok-round.ensures.answered in
+    let whole = ended g.G.Gate.hears g.met.G.Gate.hears_nothing g.met.G.Gate.hears_on c.args.gate.now c.round.new.gate c.is_over.new.gate c.args.self.now c.round.new.self start node (c.loop-turn.turn + 1) (in_a_row round c.loop-turn.restless) c.is_over.result (row_is_short round c.loop-turn.restless few) gone c.is_over.ensures.asked c.if-is_over.true in
+    (whole.0, whole.1, whole.2, (λ _. whole.3, whole.4))
 
 pub loop-turn-preserved : goal.loop-turn-preserved
 loop-turn-preserved g c =
@@ -46,9 +48,11 @@ loop-turn-preserved g c =
     let hears = g.G.Gate.hears in
     let nothing = g.met.G.Gate.hears_nothing in
     let on = g.met.G.Gate.hears_on in
-    let round = heard_on hears nothing on c.args.gate.now c.loop-turn.gate c.round.new.gate c.args.self.now c.loop-turn.self self start before node was.heard c.round.ensures.goes.heard in
-    let asked = heard_asked hears nothing on c.round.new.gate c.is_over.new.gate c.is_over.result self node c.is_over.ensures.asked in
-    let rested = heard_rest hears nothing on c.is_over.new.gate c.rest_if_due-restless.new.gate (is_rest_due c.in_ok-round.round c.loop-turn.restless) _ _ self node c.rest_if_due-restless.ensures.rests c.rest_if_due-restless.ensures.goes_on in
+    let round = c.in_ok-round.round in
+    let first = c.args.gate.now in
+    let row = in_a_row round c.loop-turn.restless in
+    let gone = after_round hears nothing on first c.loop-turn.gate c.round.new.gate c.args.self.now c.loop-turn.self self start before node c.loop-turn.turn c.loop-turn.restless round was.few was.gone c.round.ensures.goes.heard c.in_ok-round.ensures.answered in
+    let asked = after_asked hears nothing on first c.round.new.gate c.is_over.new.gate c.args.self.now self start node (c.loop-turn.turn + 1) row c.is_over.result gone c.is_over.ensures.asked in
     let few = c.rest_if_due-restless.ensures.few in
     record {
       driven = c.round.ensures.driven;
@@ -58,5 +62,5 @@ loop-turn-preserved g c =
       turned = g.met.W.Worker.turned_on c.args.worker.now c.loop-turn.worker c.round.new.worker c.loop-turn.turn 1 was.turned c.in_ok-round.ensures.turned;
       few = omega arith;
       order = λ first. c.round.ensures.order (was.order first);
-      heard = heard_on hears nothing on c.args.gate.now c.is_over.new.gate c.rest_if_due-restless.new.gate c.args.self.now self self start node node (heard_on hears nothing on c.args.gate.now c.round.new.gate c.is_over.new.gate c.args.self.now self self start node node round asked) rested;
+      gone = after_rest hears nothing on first c.is_over.new.gate c.rest_if_due-restless.new.gate c.args.self.now self start node (c.loop-turn.turn + 1) row c.rest_if_due-restless.result (is_rest_due round c.loop-turn.restless) (row_is_short round c.loop-turn.restless was.few) asked c.rest_if_due-restless.ensures.rests c.rest_if_due-restless.ensures.goes_on;
     }

@@ -1,6 +1,6 @@
 use Rattle.std.proofs.Common.{◌≡◌, ◌≤◌}
-use Rattle.sci_drive.specs.Calls.{IsHeard}
 use Rattle.sci_drive.specs.Driving.{IsDriven, IsInOrder}
+use Rattle.sci_drive.proofs.Resting.{HasGone}
 use Rattle.sci_drive.proofs.driver.Driver.go_on.Given as goal
 
 abbrev pub invariant-loop-turn : goal.invariant-loop-turn
@@ -12,5 +12,5 @@ invariant-loop-turn g l = record {
   turned : g.W.Worker.turned l.initial.worker l.turn l.worker;
   few : l.restless ≤ 15;
   order : IsInOrder l.initial.self (g.W.Worker.node l.initial.worker) → IsInOrder l.self (g.W.Worker.node l.worker);
-  heard : IsHeard g.G.Gate.hears l.initial.gate l.gate l.initial.self l.self (g.W.Worker.node l.initial.worker) (g.W.Worker.node l.worker);
+  gone : HasGone g.G.Gate.hears l.initial.gate l.gate l.initial.self l.self (g.W.Worker.node l.initial.worker) (g.W.Worker.node l.worker) l.turn l.restless;
 }
