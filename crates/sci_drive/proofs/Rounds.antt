@@ -1,7 +1,8 @@
 -- What a driver does in a round, step by step.
-use Rattle.std.proofs.Common.{◌≡◌, ℕ, Bool, true, false, List, [], ◌∷◌, ◌++◌, Some, refl, sym, ap, subst}
-use Rattle.std.specs.Prelude.{Result, IfOk}
+use Rattle.std.proofs.Common.{◌≡◌, ◌+◌, ℕ, Bool, true, false, List, [], ◌∷◌, ◌++◌, Some, add-one, refl, sym, ap, subst, ◌∙◌, inl, inr}
+use Rattle.std.specs.Prelude.{◌⊎◌, Result, Ok, IfOk}
 use Rattle.std.specs.List.{Contains}
+use Rattle.std.specs.declared.alloc.AllocError.{AllocError}
 use Rattle.std.proofs.lemmas.List.Elements.{Contains-append_left}
 use Rattle.sci_words.specs.declared.operation.Op.{Op}
 use Rattle.sci_history.specs.declared.entry.Entry.{Entry}
@@ -9,10 +10,10 @@ use Rattle.sci_core.specs.Node.{NodeOf}
 use Rattle.sci_core.specs.Work.{IsIssued, IsLogged}
 use Rattle.sci_policy.specs.Worker.{HasSameWork, IsNodeTurn}
 use Rattle.sci_drive.specs.declared.driver.Round.{Round}
-use Rattle.sci_drive.specs.Calls.{Call, Done, IsHeard, MayIssue}
+use Rattle.sci_drive.specs.Calls.{AllDone, Call, Done, IsHeard, MayIssue, Rest, told}
 use Rattle.sci_drive.specs.Driving.{DriverOf}
-use Rattle.sci_drive.specs.Rounds.{AllSubmitted, ArePerformed, GoesRound, IsHeldBack, IsTried, LineIsTaken, NoRoom, NoneNow, NotAllowed, OneMore, Refused, Submits, next_op, with_submitted}
-use Rattle.sci_drive.proofs.Calls.{calls_on, done_call, no_calls, one_call, submit_call}
+use Rattle.sci_drive.specs.Rounds.{AllSubmitted, ArePerformed, GoRounds, GoesRound, IsHeldBack, IsTried, LineIsTaken, NoRoom, NoneNow, NotAllowed, OneMore, Refused, Submits, next_op, with_submitted}
+use Rattle.sci_drive.proofs.Calls.{calls_on, done_call, no_calls, one_call, submit_call, told_append}
 
 -- ---- submitted
 
@@ -117,3 +118,28 @@ module _ {G E : Type 0} (hears : G → List Call → G → Type 0) (hears_nothin
     same = was.same;
     turn = was.turn;
   }
+
+-- ---- many rounds
+
+-- the gate has had calls that tell of no entry
+abbrev pub IsQuiet : {G : Type 0} → (G → List Call → G → Type 0) → G → G → Type 0
+IsQuiet hears gate later = (calls : List Call) × hears gate calls later × (told calls ≡ [])
+
+module _ {G : Type 0} (hears : G → List Call → G → Type 0) (hears_nothing : (g : G) → hears g [] g) (hears_on : (g h k : G) (calls more : List Call) → hears g calls h → hears h more k → hears g (calls ++ more) k) where
+  pub quiet_asked : (g h : G) (all : Bool) → (hears g [] h × (all ≡ false)) ⊎ hears g (AllDone all ∷ []) h → IsQuiet hears g h
+  quiet_asked g h all (inl not) = ([], not.0, refl)
+  quiet_asked g h all (inr is) = (AllDone all ∷ [], is, refl)
+
+  pub quiet_rest : (g h : G) (due : Bool) (P Q : Type 0) → (due ≡ true → hears g (Rest ∷ []) h × P) → (due ≡ false → hears g [] h × Q) → IsQuiet hears g h
+  quiet_rest g h true P Q rests on = (Rest ∷ [], (rests refl).0, refl)
+  quiet_rest g h false P Q rests on = ([], (on refl).0, refl)
+
+  pub quiet_on : (g h k : G) → IsQuiet hears g h → IsQuiet hears h k → IsQuiet hears g k
+  quiet_on g h k first second = (
+    first.0 ++ second.0,
+    hears_on g h k first.0 second.0 first.1 second.1,
+    told_append first.0 second.0 ∙ (ap (λ (l : List Entry). l ++ told second.0) first.2 ∙ second.2),
+  )
+
+  pub one_round_more : (g h k l : G) (a b c : DriverOf) (x y z : NodeOf) (turns : ℕ) (round : Round) → GoRounds hears turns g h a b x y → GoesRound {E = AllocError} hears h k b c y z (Ok round) → IsQuiet hears k l → GoRounds hears (turns + 1) g l a c x z
+  one_round_more g h k l a b c x y z turns round was goes quiet = rw add-one (h, k, b, y, round, quiet.0, was, goes, quiet.1, quiet.2)

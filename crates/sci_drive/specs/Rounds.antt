@@ -1,6 +1,7 @@
 -- What a driver does in a round: it submits and performs, and its worker takes a turn.
-use Rattle.std.specs.Prelude.{◌≡◌, ◌≤◌, ◌+◌, ℕ, false, List, [], ◌∷◌, ◌++◌, length, Option, Some, None, IsSome, Result, IfOk, slice_get}
+use Rattle.std.specs.Prelude.{◌≡◌, ◌≤◌, ◌+◌, ℕ, zero, suc, false, List, [], ◌∷◌, ◌++◌, length, Option, Some, None, IsSome, Result, Ok, IfOk, slice_get}
 use Rattle.std.specs.List.{Contains}
+use Rattle.std.specs.declared.alloc.AllocError.{AllocError}
 use Rattle.sci_words.specs.declared.operation.Op.{Op}
 use Rattle.sci_history.specs.declared.entry.Entry.{Entry}
 use Rattle.sci_core.specs.Node.{NodeOf, node_performing}
@@ -10,7 +11,7 @@ use Rattle.sci_policy.specs.Worker.{HasSameWork, IsNodeTurn}
 use Rattle.sci_drive.specs.declared.driver.Issuing.{Issuing}
 use Rattle.sci_drive.specs.declared.driver.Issuing.TheVariants.{Ahead, InOrder}
 use Rattle.sci_drive.specs.declared.driver.Round.{Round}
-use Rattle.sci_drive.specs.Calls.{Call, IsHeard, MayIssue}
+use Rattle.sci_drive.specs.Calls.{Call, IsHeard, MayIssue, told}
 use Rattle.sci_drive.specs.Driving.{DriverOf}
 
 -- ---- submitted
@@ -77,3 +78,14 @@ pub record GoesRound {G E : Type 0} (hears : G → List Call → G → Type 0) (
   pub worked : HasWorked old new before node heard.calls
   pub same : HasSameWork node after
   pub turn : IfOk result (λ round. IsNodeTurn node after round.progress)
+
+-- ---- many rounds
+
+-- So many rounds, one after another. Behind each the gate may be asked or rest, and is told of no entry.
+abbrev pub GoRounds : {G : Type 0} → (G → List Call → G → Type 0) → ℕ → G → G → DriverOf → DriverOf → NodeOf → NodeOf → Type 0
+GoRounds hears zero gate later old new before after = (gate ≡ later) × (old ≡ new) × (before ≡ after)
+GoRounds hears (suc turns) gate later old new before after =
+    (mid heard : _) × (driver : DriverOf) × (node : NodeOf) × (round : Round) × (calls : List Call)
+    × GoRounds hears turns gate mid old driver before node
+    × GoesRound {E = AllocError} hears mid heard driver new node after (Ok round)
+    × hears heard calls later × (told calls ≡ [])

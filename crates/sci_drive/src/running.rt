@@ -4,10 +4,11 @@ ghost use Rattle.std.specs.Prelude.{◌≡◌, ◌≤◌, ◌<◌, [], ◌∷◌
 ghost use Rattle.sci_words.specs.declared.limits.TheConstants.{MAX_OPERATIONS};
 ghost use Rattle.sci_history.specs.Sequential.{IsInProgramOrder};
 ghost use Rattle.sci_drive.specs.Calls.{AreCallsOf, Call, EndWithAllDone, Rest, times_done};
-ghost use Rattle.sci_drive.specs.declared.driver.Issuing.TheVariants.{InOrder};
+ghost use Rattle.sci_drive.specs.declared.driver.Issuing.TheVariants.{Ahead, InOrder};
 ghost use Rattle.sci_drive.specs.declared.running.TheConstants.{RESTLESS_TURNS};
-ghost use Rattle.sci_drive.specs.Driving.{HasSubmittedNothing};
+ghost use Rattle.sci_drive.specs.Driving.{DriverOf, HasSubmittedNothing, opening_driver};
 ghost use Rattle.sci_drive.specs.Resting.{RestsInTime, in_a_row, is_rest_due};
+ghost use Rattle.sci_drive.specs.Rounds.{GoRounds};
 ghost use Rattle.sci_drive.specs.Script.{IsFrontOf, IsLogOf, IsWholeLogOf};
 
 use crate::driver::{Driver, Issuing, Round};
@@ -43,6 +44,7 @@ pub struct Ran {
 /// - The gate was told of each entry once, in the order of the log.
 /// - An operation was submitted only if `may_issue` had answered true for it, and its entry was told after that.
 /// - `done` was called once at most, and no entry was told after it.
+/// - Unless a turn was refused, it is as many rounds of a driver as it took turns, one after another (`Driver::round`).
 /// - Unless a turn was refused, it took at most 16 turns for each entry and each rest, and 16 more.
 ///
 /// Finished, each operation of the script has just one entry, `done` was called, and the last call was an `all_done` that
@@ -65,6 +67,9 @@ pub fn drive<W: Worker, G: Gate>(
         × IfOk result (λ ran. (ran.finished ≡ true →
         (times_done calls ≡ 1) × EndWithAllDone calls)
         × RestsInTime ran.turns calls) }
+    ensures rounds { IfOk result (λ ran. (driver : DriverOf)
+        × GoRounds G.hears ran.turns gate.old gate.new (opening_driver script.now Ahead) driver
+        (W.node worker.old) (W.node worker.new)) }
     ensures turned { IfOk result (λ ran. W.turned worker.old ran.turns worker.new) }
     ensures stays { W.stays worker.old worker.new }
 {
@@ -94,6 +99,9 @@ pub fn drive_issuing<W: Worker, G: Gate>(
         × IfOk result (λ ran. (ran.finished ≡ true →
         (times_done calls ≡ 1) × EndWithAllDone calls)
         × RestsInTime ran.turns calls) }
+    ensures rounds { IfOk result (λ ran. (driver : DriverOf)
+        × GoRounds G.hears ran.turns gate.old gate.new (opening_driver script.now issuing) driver
+        (W.node worker.old) (W.node worker.new)) }
     ensures turned { IfOk result (λ ran. W.turned worker.old ran.turns worker.new) }
     ensures stays { W.stays worker.old worker.new }
 {
@@ -160,6 +168,8 @@ impl<'a> Driver<'a> {
             × AreCalls self.old self.new (W.node worker.old) (W.node worker.new) calls
             × IfOk result (λ ran. (ran.finished ≡ true → EndWithAllDone calls)
             × RestsInTime ran.turns calls) }
+        ensures rounds { IfOk result (λ ran. GoRounds G.hears ran.turns gate.old gate.new
+            self.old self.new (W.node worker.old) (W.node worker.new)) }
         ensures script { self.new.script ≡ self.old.script }
         ensures issuing { self.new.issuing ≡ self.old.issuing }
         ensures turned { IfOk result (λ ran. W.turned worker.old ran.turns worker.new) }

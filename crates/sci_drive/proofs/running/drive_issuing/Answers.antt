@@ -5,6 +5,7 @@ use Rattle.sci_words.specs.declared.operation.Op.{Op}
 use Rattle.sci_drive.specs.Calls.{AreCalls, EndWithAllDone, times_done}
 use Rattle.sci_drive.specs.Driving.{DriverOf, IsInOrder, opening_driver}
 use Rattle.sci_drive.specs.Resting.{RestsInTime}
+use Rattle.sci_drive.specs.Rounds.{GoRounds}
 use Rattle.sci_drive.specs.Script.{IsFrontOf, IsLogOf, IsWholeLogOf}
 use Rattle.sci_drive.specs.declared.driver.Issuing.{Issuing}
 use Rattle.sci_drive.proofs.Calls.{calls_of, told_once}
@@ -54,3 +55,12 @@ returns-clause-calls g c =
 
 pub returns-clause-turned : goal.returns-clause-turned
 returns-clause-turned g c = c.go_on.ensures.turned
+
+pub returns-clause-rounds : goal.returns-clause-rounds
+returns-clause-rounds g c =
+    let start = g.W.Worker.node c.args.worker.now in
+    let node = g.W.Worker.node c.go_on.new.worker in
+    let gate = c.args.gate.now in
+    IfOk-weaker c.go_on.result _ _ (λ ran rounds.
+    (c.go_on.new.self, subst (λ (d : DriverOf). GoRounds g.G.Gate.hears ran.turns gate c.go_on.new.gate d c.go_on.new.self start node) c.new-driver.ensures rounds))
+    c.go_on.ensures.rounds

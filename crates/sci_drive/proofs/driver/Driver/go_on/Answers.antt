@@ -2,6 +2,7 @@
 use Rattle.std.proofs.Common.{◌+◌, refl, arith, ◌∙◌, rules}
 use Rattle.sci_drive.specs.Resting.{in_a_row, is_rest_due}
 use Rattle.sci_drive.proofs.Resting.{after_asked, after_rest, after_round, ended, gone_on, has_not_gone, row_is_short}
+use Rattle.sci_drive.proofs.Rounds.{one_round_more, quiet_asked, quiet_on, quiet_rest}
 use Rattle.sci_drive.proofs.driver.Driver.go_on.Goals as goal
 
 pub loop-turn-init : goal.loop-turn-init
@@ -16,6 +17,7 @@ loop-turn-init g c =
       few = omega arith;
       order = λ was. was;
       gone = has_not_gone g.G.Gate.hears g.met.G.Gate.hears_nothing g.met.G.Gate.hears_on c.args.gate.now c.args.self.now node;
+      rounds = (refl, refl, refl);
     }
 
 pub returns-in_err-round-clause-calls : goal.returns-in_err-round-clause-calls
@@ -54,6 +56,8 @@ loop-turn-preserved g c =
     let gone = after_round hears nothing on first c.loop-turn.gate c.round.new.gate c.args.self.now c.loop-turn.self self start before node c.loop-turn.turn c.loop-turn.restless round was.few was.gone c.round.ensures.goes.heard c.in_ok-round.ensures.answered in
     let asked = after_asked hears nothing on first c.round.new.gate c.is_over.new.gate c.args.self.now self start node (c.loop-turn.turn + 1) row c.is_over.result gone c.is_over.ensures.asked in
     let few = c.rest_if_due-restless.ensures.few in
+    let quiet = quiet_on hears nothing on c.round.new.gate c.is_over.new.gate c.rest_if_due-restless.new.gate (quiet_asked hears nothing on c.round.new.gate c.is_over.new.gate c.is_over.result c.is_over.ensures.asked)
+    (quiet_rest hears nothing on c.is_over.new.gate c.rest_if_due-restless.new.gate (is_rest_due round c.loop-turn.restless) _ _ c.rest_if_due-restless.ensures.rests c.rest_if_due-restless.ensures.goes_on) in
     record {
       driven = c.round.ensures.driven;
       script = c.round.ensures.script ∙ was.script;
@@ -63,4 +67,16 @@ loop-turn-preserved g c =
       few = omega arith;
       order = λ first. c.round.ensures.order (was.order first);
       gone = after_rest hears nothing on first c.is_over.new.gate c.rest_if_due-restless.new.gate c.args.self.now self start node (c.loop-turn.turn + 1) row c.rest_if_due-restless.result (is_rest_due round c.loop-turn.restless) (row_is_short round c.loop-turn.restless was.few) asked c.rest_if_due-restless.ensures.rests c.rest_if_due-restless.ensures.goes_on;
+      rounds = one_round_more hears nothing on first c.loop-turn.gate c.round.new.gate c.rest_if_due-restless.new.gate c.args.self.now c.loop-turn.self self start before node c.loop-turn.turn round was.rounds c.in_ok-round.ensures.goes quiet;
     }
+
+pub returns-then-is_over-clause-rounds : goal.returns-then-is_over-clause-rounds
+returns-then-is_over-clause-rounds g c =
+    let start = g.W.Worker.node c.args.worker.now in
+    let before = g.W.Worker.node c.loop-turn.worker in
+    let node = g.W.Worker.node c.round.new.worker in
+    let hears = g.G.Gate.hears in
+    let nothing = g.met.G.Gate.hears_nothing in
+    let on = g.met.G.Gate.hears_on in
+    one_round_more hears nothing on c.args.gate.now c.loop-turn.gate c.round.new.gate c.is_over.new.gate c.args.self.now c.loop-turn.self c.round.new.self start before node c.loop-turn.turn c.in_ok-round.round c.loop-turn.invariant.rounds c.in_ok-round.ensures.goes
+    (quiet_asked hears nothing on c.round.new.gate c.is_over.new.gate c.is_over.result c.is_over.ensures.asked)
