@@ -1,0 +1,6 @@
+pub mod Steps
+pub mod Sparing
+pub mod Issues
+pub mod Recording
+pub mod Finished
+pub mod Working

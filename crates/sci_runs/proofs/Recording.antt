@@ -1,0 +1,145 @@
+-- The schedule of a recorder, and an event more.
+use Rattle.std.proofs.Common.{◌≡◌, ℕ, ◌<◌, ◌^◌, Bool, true, false, if◌then◌else◌, arith, List, [], ◌∷◌, ◌++◌, Option, Some, None, refl, sym, ap, subst, ◌∙◌}
+use Rattle.std.specs.Prelude.{◌&&◌, nat_lt, IsSome, option_map}
+use Rattle.std.proofs.lemmas.Bool.{and_parts, ltb-true}
+use Rattle.std.proofs.lemmas.List.{append-nil}
+use Rattle.std.proofs.Common.{append_assoc}
+use Rattle.sci_words.specs.declared.event.AskKind.{AskKind}
+use Rattle.sci_words.specs.declared.extent.Extent.{Extent}
+use Rattle.sci_words.specs.declared.limits.TheConstants.{WORDS_PER_LINE}
+use Rattle.sci_cache.specs.Cache.{Letter}
+use Rattle.sci_words.specs.declared.event.Event.{Event}
+use Rattle.sci_words.specs.declared.event.Event.TheVariants as event
+use Rattle.sci_words.specs.declared.operation.Act.{Act}
+use Rattle.sci_words.specs.declared.operation.Act.TheVariants.{Load, Store, Lock}
+use Rattle.sci_words.specs.declared.operation.LockOp.{LockOp}
+use Rattle.sci_words.specs.declared.operation.LockOp.TheVariants.{MaskSwap, CompareSwap, FetchAdd, BoundedAdd, WrapAdd}
+use Rattle.sci_words.specs.declared.operation.Op.{Op}
+use Rattle.sci_words.specs.Operation.{are_words, has_words}
+use Rattle.sci_text.specs.Operation.{ActFits, LockFits}
+use Rattle.sci_text.specs.Script.{IsWithin}
+use Rattle.sci_text.specs.Schedule.{IsEventWithin, ScheduleValue, with_event}
+use Rattle.sci_core.specs.declared.lane.LaneKind.TheVariants.{Requests, Answers}
+use Rattle.sci_core.specs.Core.{Core, IsEnabled, node_at, opening, run, stepping, with_node, sent_by}
+use Rattle.sci_core.specs.Node.{NodeOf, is_in_range, lines_of, may_issue, node_accepting, node_issued, node_refusing, node_serving}
+use Rattle.sci_core.specs.Reached.{IsReached}
+use Rattle.sci_core.specs.Size.{Size, size_of}
+use Rattle.sci_core.proofs.Drains.{some_node, some_sender}
+use Rattle.sci_core.proofs.Nodes.{some_below}
+use Rattle.sci_core.proofs.Sides.{steps_by_sides}
+use Rattle.sci_core.proofs.WellFormedSteps.{reached_well}
+use Rattle.sci_lanes.specs.Shown.{AreEnabled}
+use Rattle.sci_lanes.proofs.Events.{run_further}
+use Rattle.sci_lanes.proofs.Opening.{node_opened}
+use Rattle.sci_runs.proofs.Steps.{perform_makes}
+use Rattle.sci_runs.specs.declared.fault.RunFault.{RunFault}
+use Rattle.sci_runs.specs.Recorded.{HasIssued, HasLed, IsOfSize, IsRecorder, IsSameSize}
+use Rattle.sci_runs.proofs.Issues.{issues_on}
+
+-- ---- an event that is enabled is one of the machine's
+
+lock_fits : (lock : LockOp) → are_words lock ≡ true → LockFits lock
+lock_fits (MaskSwap arg datum) e = let both = and_parts (nat_lt arg (2 ^ 64)) (nat_lt datum (2 ^ 64)) e in (ltb-true arg (2 ^ 64) both.0, ltb-true datum (2 ^ 64) both.1)
+lock_fits (CompareSwap arg datum) e = let both = and_parts (nat_lt arg (2 ^ 64)) (nat_lt datum (2 ^ 64)) e in (ltb-true arg (2 ^ 64) both.0, ltb-true datum (2 ^ 64) both.1)
+lock_fits (FetchAdd datum) e = ltb-true datum (2 ^ 64) e
+lock_fits (BoundedAdd arg datum) e = let both = and_parts (nat_lt arg (2 ^ 64)) (nat_lt datum (2 ^ 64)) e in (ltb-true arg (2 ^ 64) both.0, ltb-true datum (2 ^ 64) both.1)
+lock_fits (WrapAdd arg datum) e = let both = and_parts (nat_lt arg (2 ^ 64)) (nat_lt datum (2 ^ 64)) e in (ltb-true arg (2 ^ 64) both.0, ltb-true datum (2 ^ 64) both.1)
+
+act_fits : (act : Act) → has_words act ≡ true → ActFits act
+act_fits Load e = tt
+act_fits (Store word) e = ltb-true word (2 ^ 64) e
+act_fits (Lock lock) e = lock_fits lock e
+
+-- a choice that gives something chose so
+if_there : {A B : Type 0} (f : A → B) (b : Bool) (o : Option A) (y : B) → option_map f (if b then o else None) ≡ Some y → b ≡ true
+if_there f true o y e = refl
+if_there f false o y e = cc
+
+module _ (core new : Core) (n : ℕ) (reached : IsReached core) (some : n < core.size.nodes) where
+  lines_are : (line : ℕ) → line < lines_of (node_at core n) → line < core.size.lines
+  lines_are line lt = let each = ((reached_well core reached).each_part n some).each in omega (arith, lt, each)
+
+  issue_within : (op : Op) → stepping core (event.Issue n op) ≡ Some new → IsWithin core.size.nodes core.size.lines n op
+  issue_within op steps =
+      let node = node_at core n in
+      let may : may_issue node op ≡ true = if_there (with_node core n) (may_issue node op) (Some (node_issued node op)) new (sym ((steps_by_sides core n some).issue op) ∙ steps) in
+      let range = and_parts (is_in_range node op) _ may in
+      let fits = and_parts (nat_lt op.line (lines_of node) && nat_lt op.word WORDS_PER_LINE) (has_words op.act) range.0 in
+      let both = and_parts (nat_lt op.line (lines_of node)) (nat_lt op.word WORDS_PER_LINE) fits.0 in
+      record { known_node = some; known_line = lines_are op.line (ltb-true op.line (lines_of node) both.0); known_word = ltb-true op.word WORDS_PER_LINE both.1; words = act_fits op.act fits.1 }
+
+  perform_within : (line : ℕ) → stepping core (event.Perform n line) ≡ Some new → line < core.size.lines
+  perform_within line steps =
+      let made = perform_makes core new n line reached some steps in
+      let below = some_below (node_at core n).pending line _ made.2.pending in
+      let long = ((reached_well core reached).each_part n some).fits.pending in
+      lines_are line (omega (arith, below, long))
+
+  ask_within : (line : ℕ) (kind : AskKind) → stepping core (event.Ask n line kind) ≡ Some new → line < core.size.lines
+  ask_within line kind steps =
+      let node = node_at core n in
+      lines_are line (ltb-true line (lines_of node) (if_there (λ (sent : NodeOf × Letter). sent_by core n Requests sent.0 sent.1) (nat_lt line (lines_of node)) _ new (sym ((steps_by_sides core n some).ask line kind) ∙ steps)))
+
+pub enabled_within : (core new : Core) (e : Event) → IsReached core → stepping core e ≡ Some new → IsEventWithin core.size.nodes core.size.lines e
+enabled_within core new (event.Issue n op) reached steps = issue_within core new n reached (some_node core new (event.Issue n op) steps) op steps
+enabled_within core new (event.Perform n line) reached steps = let some = some_node core new (event.Perform n line) steps in (some, perform_within core new n reached some line steps)
+enabled_within core new (event.Ask n line kind) reached steps = let some = some_node core new (event.Ask n line kind) steps in (some, ask_within core new n reached some line kind steps)
+enabled_within core new (event.Serve from n) reached steps = let some = some_node core new (event.Serve from n) steps in (some_sender core new (event.Serve from n) Requests from (node_serving (node_at core n)) some refl steps, some)
+enabled_within core new (event.Refuse from n) reached steps = let some = some_node core new (event.Refuse from n) steps in (some_sender core new (event.Refuse from n) Requests from (node_refusing (node_at core n)) some refl steps, some)
+enabled_within core new (event.Reply n) reached steps = some_node core new (event.Reply n) steps
+enabled_within core new (event.Accept from n) reached steps = let some = some_node core new (event.Accept from n) steps in (some_sender core new (event.Accept from n) Answers from (node_accepting (node_at core n)) some refl steps, some)
+
+-- ---- the schedule goes on
+
+enabled_more : (size : Size) (known xs : List Event) (e : Event) → AreEnabled size known xs → IsEnabled (run size (known ++ xs)) e → AreEnabled size known (xs ++ e ∷ [])
+enabled_more size known [] e all one = (subst (λ (es : List Event). IsEnabled (run size es) e) (append-nil known) one, tt)
+enabled_more size known (x ∷ xs) e all one = (all.0, enabled_more size (known ++ x ∷ []) xs e all.1 (subst (λ (es : List Event). IsEnabled (run size es) e) (sym (append_assoc known (x ∷ []) xs)) one))
+
+pub led_more : (events : List Event) (core new : Core) (e : Event) → IsReached core → stepping core e ≡ Some new → new.size ≡ core.size → HasLed events core → HasLed (events ++ e ∷ []) new
+led_more events core new e reached steps size led =
+    let enabled : IsEnabled (run core.size events) e = subst (λ (o : Core). IsEnabled o e) (sym led.leads) (subst IsSome (sym steps) refl) in
+    record {
+      leads = subst (λ (z : Size). run z (events ++ e ∷ []) ≡ new) (sym size) (run_further core.size events core new e led.leads steps);
+      enabled = subst (λ (z : Size). AreEnabled z [] (events ++ e ∷ [])) (sym size) (enabled_more core.size [] events e led.enabled enabled);
+      issued = λ n lt.
+          let some : n < core.size.nodes = subst (λ (z : Size). n < z.nodes) size lt in
+          issues_on core new e n events reached some steps (led.issued n some);
+    }
+
+-- ---- a new machine
+
+none_issued : (node : NodeOf) → node.issued ≡ 0 → HasIssued [] node
+none_issued node zero_ = record { counted = sym zero_; each = λ serial op at. cc }
+
+pub led_opening : (size : Size) → HasLed [] (opening size)
+led_opening size = record {
+  leads = refl;
+  enabled = tt;
+  issued = λ n lt. none_issued (node_at (opening size) n) (ap (λ (node : NodeOf). node.issued) (node_opened size n lt));
+}
+
+-- ---- a recorder
+
+pub opened_recorder : (core : Core) (schedule : ScheduleValue) (extent : Extent) (limit : ℕ) → core ≡ opening (size_of extent limit) → schedule ≡ record { nodes = extent.nodes; lines = extent.lines; slots = extent.slots; events = [] }
+    → IsRecorder (record { core = core; schedule = schedule; lost = None })
+opened_recorder core schedule extent limit opens empty =
+    subst (λ (s : ScheduleValue). IsRecorder (record { core = core; schedule = s; lost = None })) (sym empty)
+    (subst (λ (c : Core). IsRecorder (record { core = c; schedule = record { nodes = extent.nodes; lines = extent.lines; slots = extent.slots; events = [] }; lost = None })) (sym opens)
+    (record { sized = record { nodes_are = refl; lines_are = refl; slots_are = refl }; led = λ none. led_opening (size_of extent limit) }))
+
+-- an event that happens is one of the schedule's machine
+pub event_within : (core new : Core) (schedule : ScheduleValue) (e : Event) → IsOfSize core.size schedule → IsReached core → stepping core e ≡ Some new → IsEventWithin schedule.nodes schedule.lines e
+event_within core new schedule e sized reached steps =
+    subst (λ (n : ℕ). IsEventWithin n schedule.lines e) (sym sized.nodes_are) (subst (λ (l : ℕ). IsEventWithin core.size.nodes l e) (sym sized.lines_are) (enabled_within core new e reached steps))
+
+-- it is recorded, or lost
+pub recorder_on : (core new : Core) (old now : ScheduleValue) (was lost : Option RunFault) (e : Event) → IsRecorder (record { core = core; schedule = old; lost = was }) → IsReached core → stepping core e ≡ Some new → new.size ≡ core.size → IsSameSize old now
+    → (lost ≡ None → was ≡ None) → (lost ≡ None → now ≡ with_event old e) → IsRecorder (record { core = new; schedule = now; lost = lost })
+recorder_on core new old now was lost e is reached steps size same before recorded = record {
+  sized = record {
+    nodes_are = same.nodes_are ∙ (is.sized.nodes_are ∙ ap (λ (z : Size). z.nodes) (sym size));
+    lines_are = same.lines_are ∙ (is.sized.lines_are ∙ ap (λ (z : Size). z.lines) (sym size));
+    slots_are = same.slots_are ∙ (is.sized.slots_are ∙ ap (λ (z : Size). z.slots) (sym size));
+  };
+  led = λ none. subst (λ (s : ScheduleValue). HasLed s.events new) (sym (recorded none)) (led_more old.events core new e reached steps size (is.led (before none)));
+}

@@ -1,0 +1,28 @@
+use Rattle.std.proofs.Common.{◌<◌, refl, sym, subst}
+use Rattle.sci_words.specs.declared.event.Event.TheVariants.{Issue}
+use Rattle.sci_core.specs.Core.{node_at}
+use Rattle.sci_core.specs.Work.{IsIssued}
+use Rattle.sci_runs.proofs.Steps.{issue_makes}
+use Rattle.sci_runs.specs.Recorded.{RecorderOf, SparesOthers}
+use Rattle.sci_runs.proofs.Recording.{event_within, recorder_on}
+use Rattle.sci_runs.proofs.Sparing.{spares_step}
+use Rattle.sci_runs.proofs.recorder.Recorder.submit.Goals as goal
+
+pub push-requires : goal.push-requires
+push-requires c = event_within c.self.inside.machine c.submit_on.new.machine c.self.inside.record.schedule (Issue c.args.node c.args.op) c.self.invariant.sized c.extent-extent.ensures.reached c.in_ok-serial.ensures.issued
+
+pub invariant_of-self-2 : goal.invariant_of-self-2
+invariant_of-self-2 c =
+    recorder_on c.self.inside.machine c.submit_on.new.machine c.self.inside.record.schedule c.push.new.self.schedule c.self.inside.record.lost c.push.new.self.lost (Issue c.args.node c.args.op) c.self.invariant
+    c.extent-extent.ensures.reached c.in_ok-serial.ensures.issued c.submit_on.ensures.size c.push.ensures.size c.push.ensures.before c.push.ensures.recorded
+
+pub returns-clause-issued : goal.returns-clause-issued
+returns-clause-issued c =
+    let some = subst (λ (r : RecorderOf). c.args.node < r.core.size.nodes) (sym c.self.view_is) c.requires in
+    subst (λ (r : RecorderOf). IsIssued (node_at r.core c.args.node) (node_at c.submit_on.new.machine c.args.node) c.args.op) c.self.view_is
+    (issue_makes c.self.inside.machine c.submit_on.new.machine c.args.node c.args.op c.extent-extent.ensures.reached some c.in_ok-serial.ensures.issued)
+
+pub returns-clause-spares : goal.returns-clause-spares
+returns-clause-spares c =
+    subst (λ (r : RecorderOf). SparesOthers c.args.node r.core c.submit_on.new.machine) c.self.view_is
+    (spares_step c.args.node c.self.inside.machine c.submit_on.new.machine (Issue c.args.node c.args.op) refl c.in_ok-serial.ensures.issued c.submit_on.ensures.size)

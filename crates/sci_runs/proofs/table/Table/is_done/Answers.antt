@@ -1,0 +1,10 @@
+use Rattle.std.proofs.Common.{All, subst}
+use Rattle.std.proofs.lemmas.List.Elements.{All-map}
+use Rattle.sci_runs.specs.declared.player.Player.{Player}
+use Rattle.sci_runs.specs.Players.{IsAnswered, TableOf}
+use Rattle.sci_runs.proofs.table.Table.is_done.Goals as goal
+
+pub returns : goal.returns
+returns c = λ is.
+    let answered = subst (All (λ (player : Player). IsAnswered player.driver)) c.deref.ensures.value (c.are_answered.ensures is) in
+    subst (λ (table : TableOf). All IsAnswered table.drivers) c.self.view_is (All-map IsAnswered (λ (player : Player). player.driver) c.self.inside.players.items answered)

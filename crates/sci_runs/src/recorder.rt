@@ -1,0 +1,178 @@
+//! A machine with the schedule that has led it where it stands.
+
+use crate::fault::RunFault;
+use sci_core::Machine;
+use sci_history::Entry;
+use sci_locked::{perform_on, submit_on};
+use sci_policy::SubmitFault;
+use sci_text::{PushFault, Schedule};
+use sci_words::{Event, Extent, MAX_OPERATIONS, Op};
+use std::alloc::{AllocError, Global};
+use std::marker::Model;
+
+/// The events that have happened, up to the first one that couldn't be recorded.
+#[derive(Drop)]
+struct Record {
+    schedule: Schedule,
+    /// Why an event couldn't be recorded.
+    lost: Option<RunFault>,
+}
+
+impl Record {
+    ghost use Rattle.std.specs.Prelude.{◌≡◌, None};
+    ghost use Rattle.sci_text.specs.Schedule.{IsEventWithin, with_event};
+    ghost use Rattle.sci_runs.specs.Recorded.{IsSameSize};
+
+    /// Records an event of the schedule's machine, unless one was lost before. It is lost if memory is refused, or if there
+    /// are 500,000 events already.
+    fn push(&mut self, event: Event)
+        requires { IsEventWithin self.old.schedule.nodes self.old.schedule.lines event }
+        ensures before { self.new.lost ≡ None → self.old.lost ≡ None }
+        ensures recorded { self.new.lost ≡ None →
+            self.new.schedule ≡ with_event self.old.schedule event }
+        ensures size { IsSameSize self.old.schedule self.new.schedule }
+    {
+        if self.lost.is_some() {
+            return;
+        }
+        match self.schedule.push(event) {
+            Ok(()) => {}
+            Err(PushFault::Range) => unreachable!(),
+            Err(PushFault::TooMany) => self.lost = Some(RunFault::TooMany),
+            Err(PushFault::Memory) => self.lost = Some(RunFault::Memory),
+        }
+    }
+}
+
+/// A machine, and the events that have led it where it stands, unless one was lost. Contracts see the machine's state, the
+/// schedule, and why an event was lost, if one was.
+#[derive(Drop)]
+pub(crate) struct Recorder {
+    machine: Machine,
+    record: Record,
+}
+
+impl Model for Recorder {
+    ghost use Rattle.sci_runs.specs.Recorded.{IsRecorder, RecorderOf};
+
+    ghost Value = { RecorderOf };
+
+    ghost view = { λ recorder. record {
+      core = recorder.machine;
+      schedule = recorder.record.schedule;
+      lost = recorder.record.lost;
+    } };
+
+    ghost invariant = { λ recorder. IsRecorder (record {
+      core = recorder.machine;
+      schedule = recorder.record.schedule;
+      lost = recorder.record.lost;
+    }) };
+}
+
+impl Recorder {
+    ghost use Rattle.std.specs.Prelude.{◌≡◌, ◌<◌, Some, None, IfOk, IfErr, IfSome, IsErr};
+    ghost use Rattle.sci_words.specs.declared.limits.TheConstants.{MAX_OPERATIONS};
+    ghost use Rattle.sci_core.specs.Core.{IsEnabled, node_at, opening, stepping};
+    ghost use Rattle.sci_core.specs.Node.{node_performing};
+    ghost use Rattle.sci_core.specs.Reached.{IsReached};
+    ghost use Rattle.sci_core.specs.Size.{size_of};
+    ghost use Rattle.sci_core.specs.Work.{IsIssued, IsLogged};
+    ghost use Rattle.sci_policy.specs.Turn.{submit_fault};
+    ghost use Rattle.sci_text.specs.Schedule.{IsSchedule};
+    ghost use Rattle.sci_runs.specs.Recorded.{HasLed, IsOfSize, SparesOthers};
+
+    /// A machine of this size in which nothing has happened. Refused if memory is.
+    pub(crate) fn new(alloc: Global, extent: Extent) -> Result<Recorder, AllocError>
+        ensures opening { IfOk result
+            (λ recorder. recorder.core ≡ opening (size_of extent MAX_OPERATIONS)) }
+        ensures none { IfOk result (λ recorder. recorder.lost ≡ None) }
+    {
+        let machine = Machine::new(alloc, extent, MAX_OPERATIONS)?;
+        let record = Record {
+            schedule: Schedule::new(alloc, extent),
+            lost: None,
+        };
+        Ok(Recorder { machine, record })
+    }
+
+    /// An event happens, and is recorded. Requires that it is enabled. Refused, with no event made, if memory is, for a
+    /// lane.
+    pub(crate) fn happen(&mut self, event: &Event) -> Result<(), AllocError>
+        requires { IsEnabled self.old.core event.now }
+        ensures done { IfOk result
+            (λ _. stepping self.old.core event.now ≡ Some self.new.core) }
+        ensures same { IsErr result → self.new.core ≡ self.old.core }
+        ensures size { self.new.core.size ≡ self.old.core.size }
+    {
+        // Read, so that the prover knows that the state is reached.
+        let _extent = self.machine.extent();
+        self.machine.make(event)?;
+        self.record.push(*event);
+        Ok(())
+    }
+
+    /// Submits an operation at a node, as `submit_on` does, and records its Issue.
+    pub(crate) fn submit(&mut self, node: u8, op: Op) -> Result<u32, SubmitFault>
+        requires { node < self.old.core.size.nodes }
+        ensures issued { IfOk result
+            (λ serial. IsIssued (node_at self.old.core node) (node_at self.new.core node) op) }
+        ensures serial { IfOk result
+            (λ serial. serial ≡ (node_at self.old.core node).issued) }
+        ensures fault { IfErr result
+            (λ fault. submit_fault (node_at self.old.core node) op ≡ Some fault) }
+        ensures same { IsErr result → self.new.core ≡ self.old.core }
+        ensures spares { SparesOthers node self.old.core self.new.core }
+    {
+        // Read, so that the prover knows that the state is reached.
+        let _extent = self.machine.extent();
+        let serial = submit_on(&mut self.machine, node, op)?;
+        self.record.push(Event::Issue { node, op });
+        Ok(serial)
+    }
+
+    /// Performs the operation that is pending on a line at a node, as `perform_on` does, and records the Perform.
+    pub(crate) fn perform(&mut self, node: u8, line: u8) -> Option<Entry>
+        requires { node < self.old.core.size.nodes }
+        ensures performed { IfSome result
+            (λ entry. IsLogged (node_at self.old.core node) (node_at self.new.core node) line entry) }
+        ensures none { result ≡ None → node_performing (node_at self.old.core node) line ≡ None }
+        ensures same { result ≡ None → self.new.core ≡ self.old.core }
+        ensures spares { SparesOthers node self.old.core self.new.core }
+    {
+        // Read, so that the prover knows that the state is reached.
+        let _extent = self.machine.extent();
+        let entry = perform_on(&mut self.machine, node, line)?;
+        self.record.push(Event::Perform { node, line });
+        Some(entry)
+    }
+
+    /// The machine.
+    pub(crate) fn machine(&self) -> &Machine
+        ensures { result.now ≡ self.now.core }
+    {
+        &self.machine
+    }
+
+    /// Why an event was lost, or None if none was.
+    pub(crate) fn lost(&self) -> Option<RunFault>
+        ensures { result ≡ self.now.lost }
+    {
+        self.record.lost
+    }
+
+    /// The schedule of all that has happened. Requires that no event was lost.
+    pub(crate) fn finish(self) -> Schedule
+        requires { self.lost ≡ None }
+        ensures schedule { result ≡ self.schedule }
+        ensures good { IsSchedule result }
+        ensures reached { IsReached self.core }
+        ensures led { HasLed result.events self.core }
+        ensures sized { IsOfSize self.core.size result }
+    {
+        // Read, so that the prover knows that the state is reached, and that the schedule is one.
+        let _extent = self.machine.extent();
+        let _events = self.record.schedule.events();
+        self.record.schedule
+    }
+}

@@ -1,0 +1,54 @@
+//! A script that is run by the policy, one turn after another.
+
+ghost use Rattle.std.specs.Prelude.{◌≡◌, ◌≤◌, false, IfOk};
+ghost use Rattle.sci_runs.specs.Runs.{IsRunOf};
+
+use crate::fault::RunFault;
+use crate::order::Order;
+use crate::table::Table;
+use sci_drive::Issuing;
+use sci_text::{Schedule, Script};
+use sci_threads::operations_by_node;
+use std::alloc::Global;
+
+/// How a script is run.
+#[derive(Clone, Copy)]
+pub struct Plan {
+    /// What the order of turns is drawn from. Without it the nodes take a turn each in a circle.
+    pub seed: Option<u64>,
+    /// When the operations of a node are submitted.
+    pub issuing: Issuing,
+    /// How many turns the nodes take at most, all together.
+    pub turns: u64,
+}
+
+/// A run of a script.
+#[derive(Drop)]
+pub struct Run {
+    /// All events of the run, in their order.
+    pub schedule: Schedule,
+    /// Whether each operation of the script was performed.
+    pub done: bool,
+    /// How many turns the nodes have taken, all together.
+    pub turns: u64,
+}
+
+/// Runs a script by the policy on a new machine, whose nodes take one turn after another. It ends as soon as each operation
+/// of the script is performed, or when the turns are used up. The same script and plan give the same run. Refused if memory
+/// is, or if there are more than 500,000 events.
+pub fn run_script(alloc: Global, script: &Script, plan: Plan) -> Result<Run, RunFault>
+    ensures run { IfOk result (λ run. IsRunOf script.now plan.issuing run.done run.schedule) }
+    ensures turns { IfOk result (λ run. run.turns ≤ plan.turns) }
+    ensures all { IfOk result (λ run. run.done ≡ false → run.turns ≡ plan.turns) }
+{
+    let operations = operations_by_node(alloc, script)?;
+    let mut table = Table::new(alloc, script, &operations, plan.issuing)?;
+    let mut order = Order::new(plan.seed);
+    let ran = table.go_on(&mut order, plan.turns)?;
+    let schedule = table.finish();
+    Ok(Run {
+        schedule,
+        done: ran.done,
+        turns: ran.turns,
+    })
+}

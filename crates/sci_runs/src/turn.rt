@@ -1,0 +1,35 @@
+//! A node's turn on a machine whose events are recorded.
+
+ghost use Rattle.std.specs.Prelude.{◌≡◌, ◌<◌, true, IfOk};
+ghost use Rattle.sci_core.specs.Core.{node_at};
+ghost use Rattle.sci_policy.specs.Rest.{MayIdle};
+ghost use Rattle.sci_policy.specs.Turn.{is_idle};
+ghost use Rattle.sci_policy.specs.Worker.{HasSameWork, IsNodeTurn};
+ghost use Rattle.sci_runs.specs.Recorded.{SparesOthers};
+
+use crate::post::Lent;
+use crate::recorder::Recorder;
+use sci_policy::{Policy, Progress};
+use sci_turn::take_turn;
+use std::alloc::AllocError;
+
+/// Takes a turn of a node. Requires that there is such a node. Refused if memory is, for a lane; what was done before is
+/// kept.
+pub(crate) fn turn_on(
+    recorder: &mut Recorder,
+    policy: &mut Policy,
+    node: u8,
+) -> Result<Progress, AllocError>
+    requires { node < recorder.old.core.size.nodes }
+    ensures turn { IfOk result
+        (IsNodeTurn (node_at recorder.old.core node) (node_at recorder.new.core node)) }
+    ensures rest { IfOk result (λ progress. is_idle progress ≡ true →
+        MayIdle (node_at recorder.new.core node)) }
+    ensures work { HasSameWork (node_at recorder.old.core node) (node_at recorder.new.core node) }
+    ensures spares { SparesOthers node recorder.old.core recorder.new.core }
+{
+    let mut progress = Progress::new();
+    let mut lent = Lent { recorder, node };
+    take_turn(&mut lent, policy, &mut progress)?;
+    Ok(progress)
+}
