@@ -42,7 +42,7 @@ none x (f ∷ front) back e = cc
 
 -- ---- what two lists tell
 
-pub told_append : (first second : List Call) → told (first ++ second) ≡ told first ++ told second
+told_append : (first second : List Call) → told (first ++ second) ≡ told first ++ told second
 told_append first second = filter_map-append entry_told first second
 
 times_append : (first second : List Call) → times_done (first ++ second) ≡ times_done first + times_done second

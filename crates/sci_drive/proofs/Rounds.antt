@@ -1,5 +1,5 @@
 -- What a driver does in a round, step by step.
-use Rattle.std.proofs.Common.{◌≡◌, ◌+◌, ℕ, Bool, true, false, List, [], ◌∷◌, ◌++◌, Some, add-one, refl, sym, ap, subst, ◌∙◌, inl, inr}
+use Rattle.std.proofs.Common.{◌≡◌, ◌+◌, ℕ, Bool, true, false, List, [], ◌∷◌, ◌++◌, Some, if◌then◌else◌, add-one, refl, sym, ap, subst, inl, inr}
 use Rattle.std.specs.Prelude.{◌⊎◌, Result, Ok, IfOk}
 use Rattle.std.specs.List.{Contains}
 use Rattle.std.specs.declared.alloc.AllocError.{AllocError}
@@ -10,10 +10,11 @@ use Rattle.sci_core.specs.Node.{NodeOf}
 use Rattle.sci_core.specs.Work.{IsIssued, IsLogged}
 use Rattle.sci_policy.specs.Worker.{HasSameWork, IsNodeTurn}
 use Rattle.sci_drive.specs.declared.driver.Round.{Round}
-use Rattle.sci_drive.specs.Calls.{AllDone, Call, Done, IsHeard, MayIssue, Rest, told}
+use Rattle.sci_drive.specs.Calls.{AllDone, Call, Done, IsHeard, MayIssue, Rest}
 use Rattle.sci_drive.specs.Driving.{DriverOf}
+use Rattle.sci_drive.specs.Resting.{AllAreDone, AreBehind, NotAsked, NotYet, in_a_row, is_rest_due, rests_if, row_after}
 use Rattle.sci_drive.specs.Rounds.{AllSubmitted, ArePerformed, GoRounds, GoesRound, IsHeldBack, IsTried, LineIsTaken, NoRoom, NoneNow, NotAllowed, OneMore, Refused, Submits, next_op, with_submitted}
-use Rattle.sci_drive.proofs.Calls.{calls_on, done_call, no_calls, one_call, submit_call, told_append}
+use Rattle.sci_drive.proofs.Calls.{calls_on, done_call, no_calls, one_call, submit_call}
 
 -- ---- submitted
 
@@ -121,25 +122,39 @@ module _ {G E : Type 0} (hears : G → List Call → G → Type 0) (hears_nothin
 
 -- ---- many rounds
 
--- the gate has had calls that tell of no entry
-abbrev pub IsQuiet : {G : Type 0} → (G → List Call → G → Type 0) → G → G → Type 0
-IsQuiet hears gate later = (calls : List Call) × hears gate calls later × (told calls ≡ [])
+-- the gate has had the calls behind a round
+abbrev pub IsBehind : {G : Type 0} → (G → List Call → G → Type 0) → G → G → Round → ℕ → ℕ → Type 0
+IsBehind hears gate later round row next = (calls : List Call) × hears gate calls later × AreBehind round row next calls
 
 module _ {G : Type 0} (hears : G → List Call → G → Type 0) (hears_nothing : (g : G) → hears g [] g) (hears_on : (g h k : G) (calls more : List Call) → hears g calls h → hears h more k → hears g (calls ++ more) k) where
-  pub quiet_asked : (g h : G) (all : Bool) → (hears g [] h × (all ≡ false)) ⊎ hears g (AllDone all ∷ []) h → IsQuiet hears g h
-  quiet_asked g h all (inl not) = ([], not.0, refl)
-  quiet_asked g h all (inr is) = (AllDone all ∷ [], is, refl)
-
-  pub quiet_rest : (g h : G) (due : Bool) (P Q : Type 0) → (due ≡ true → hears g (Rest ∷ []) h × P) → (due ≡ false → hears g [] h × Q) → IsQuiet hears g h
-  quiet_rest g h true P Q rests on = (Rest ∷ [], (rests refl).0, refl)
-  quiet_rest g h false P Q rests on = ([], (on refl).0, refl)
-
-  pub quiet_on : (g h k : G) → IsQuiet hears g h → IsQuiet hears h k → IsQuiet hears g k
-  quiet_on g h k first second = (
-    first.0 ++ second.0,
-    hears_on g h k first.0 second.0 first.1 second.1,
-    told_append first.0 second.0 ∙ (ap (λ (l : List Entry). l ++ told second.0) first.2 ∙ second.2),
+  -- it rests if that is due
+  behind : (g h : G) (due : Bool) (round : Round) (row next : ℕ) → is_rest_due round row ≡ due → (due ≡ true → hears g (Rest ∷ []) h × (next ≡ 0)) → (due ≡ false → hears g [] h × (next ≡ in_a_row round row))
+      → hears g (rests_if (is_rest_due round row)) h × (next ≡ row_after round row)
+  behind g h true round row next is rests on = (
+    subst (λ (d : Bool). hears g (rests_if d) h) (sym is) (rests refl).0,
+    subst (λ (d : Bool). next ≡ (if d then 0 else in_a_row round row)) (sym is) (rests refl).1,
+  )
+  behind g h false round row next is rests on = (
+    subst (λ (d : Bool). hears g (rests_if d) h) (sym is) (on refl).0,
+    subst (λ (d : Bool). next ≡ (if d then 0 else in_a_row round row)) (sym is) (on refl).1,
   )
 
-  pub one_round_more : (g h k l : G) (a b c : DriverOf) (x y z : NodeOf) (turns : ℕ) (round : Round) → GoRounds hears turns g h a b x y → GoesRound {E = AllocError} hears h k b c y z (Ok round) → IsQuiet hears k l → GoRounds hears (turns + 1) g l a c x z
-  one_round_more g h k l a b c x y z turns round was goes quiet = rw add-one (h, k, b, y, round, quiet.0, was, goes, quiet.1, quiet.2)
+  -- the gate is asked whether all are done, or not asked, and they aren't
+  pub behind_round : (g h k : G) (all : Bool) (round : Round) (row next : ℕ) → all ≡ false → (hears g [] h × (all ≡ false)) ⊎ hears g (AllDone all ∷ []) h
+      → (is_rest_due round row ≡ true → hears h (Rest ∷ []) k × (next ≡ 0)) → (is_rest_due round row ≡ false → hears h [] k × (next ≡ in_a_row round row)) → IsBehind hears g k round row next
+  behind_round g h k true round row next isnt asked rests on = absurd (cc)
+  behind_round g h k false round row next isnt (inl not) rests on =
+      let last = behind h k (is_rest_due round row) round row next refl rests on in
+      (rests_if (is_rest_due round row), hears_on g h k [] (rests_if (is_rest_due round row)) not.0 last.0, NotAsked refl last.1)
+  behind_round g h k false round row next isnt (inr is) rests on =
+      let last = behind h k (is_rest_due round row) round row next refl rests on in
+      (AllDone false ∷ rests_if (is_rest_due round row), hears_on g h k (AllDone false ∷ []) (rests_if (is_rest_due round row)) is last.0, NotYet refl last.1)
+
+  -- all are done
+  pub behind_last : (g h : G) (all : Bool) (round : Round) (row : ℕ) → all ≡ true → (hears g [] h × (all ≡ false)) ⊎ hears g (AllDone all ∷ []) h → IsBehind hears g h round row (in_a_row round row)
+  behind_last g h false round row done asked = absurd (cc)
+  behind_last g h true round row done (inl not) = absurd (let never : true ≡ false = not.1 in cc)
+  behind_last g h true round row done (inr is) = (AllDone true ∷ [], is, AllAreDone refl refl)
+
+  pub one_round_more : (g h k l : G) (a b c : DriverOf) (x y z : NodeOf) (turns row next : ℕ) (round : Round) → GoRounds hears turns row g h a b x y → GoesRound {E = AllocError} hears h k b c y z (Ok round) → IsBehind hears k l round row next → GoRounds hears (turns + 1) next g l a c x z
+  one_round_more g h k l a b c x y z turns row next round was goes last = rw add-one (h, k, b, y, round, row, last.0, was, goes, last.1, last.2)

@@ -11,8 +11,9 @@ use Rattle.sci_policy.specs.Worker.{HasSameWork, IsNodeTurn}
 use Rattle.sci_drive.specs.declared.driver.Issuing.{Issuing}
 use Rattle.sci_drive.specs.declared.driver.Issuing.TheVariants.{Ahead, InOrder}
 use Rattle.sci_drive.specs.declared.driver.Round.{Round}
-use Rattle.sci_drive.specs.Calls.{Call, IsHeard, MayIssue, told}
+use Rattle.sci_drive.specs.Calls.{Call, IsHeard, MayIssue}
 use Rattle.sci_drive.specs.Driving.{DriverOf}
+use Rattle.sci_drive.specs.Resting.{AreBehind}
 
 -- ---- submitted
 
@@ -81,11 +82,12 @@ pub record GoesRound {G E : Type 0} (hears : G → List Call → G → Type 0) (
 
 -- ---- many rounds
 
--- So many rounds, one after another. Behind each the gate may be asked or rest, and is told of no entry.
-abbrev pub GoRounds : {G : Type 0} → (G → List Call → G → Type 0) → ℕ → G → G → DriverOf → DriverOf → NodeOf → NodeOf → Type 0
-GoRounds hears zero gate later old new before after = (gate ≡ later) × (old ≡ new) × (before ≡ after)
-GoRounds hears (suc turns) gate later old new before after =
-    (mid heard : _) × (driver : DriverOf) × (node : NodeOf) × (round : Round) × (calls : List Call)
-    × GoRounds hears turns gate mid old driver before node
+-- So many rounds, one after another, with the gate's calls behind each, and so many turns in a row at their end without an entry
+-- or a rest.
+abbrev pub GoRounds : {G : Type 0} → (G → List Call → G → Type 0) → ℕ → ℕ → G → G → DriverOf → DriverOf → NodeOf → NodeOf → Type 0
+GoRounds hears zero restless gate later old new before after = (restless ≡ 0) × (gate ≡ later) × (old ≡ new) × (before ≡ after)
+GoRounds hears (suc turns) restless gate later old new before after =
+    (mid heard : _) × (driver : DriverOf) × (node : NodeOf) × (round : Round) × (row : ℕ) × (calls : List Call)
+    × GoRounds hears turns row gate mid old driver before node
     × GoesRound {E = AllocError} hears mid heard driver new node after (Ok round)
-    × hears heard calls later × (told calls ≡ [])
+    × hears heard calls later × AreBehind round row restless calls

@@ -1,6 +1,6 @@
 //! A worker that is driven through a whole script.
 
-ghost use Rattle.std.specs.Prelude.{◌≡◌, ◌≤◌, ◌<◌, [], ◌∷◌, List, true, false, length, IfOk};
+ghost use Rattle.std.specs.Prelude.{◌≡◌, ◌≤◌, ◌<◌, ℕ, [], ◌∷◌, List, true, false, length, IfOk};
 ghost use Rattle.sci_words.specs.declared.limits.TheConstants.{MAX_OPERATIONS};
 ghost use Rattle.sci_history.specs.Sequential.{IsInProgramOrder};
 ghost use Rattle.sci_drive.specs.Calls.{AreCallsOf, Call, EndWithAllDone, Rest, times_done};
@@ -44,7 +44,9 @@ pub struct Ran {
 /// - The gate was told of each entry once, in the order of the log.
 /// - An operation was submitted only if `may_issue` had answered true for it, and its entry was told after that.
 /// - `done` was called once at most, and no entry was told after it.
-/// - Unless a turn was refused, it is as many rounds of a driver as it took turns, one after another (`Driver::round`).
+/// - Unless a turn was refused, it is as many rounds of a driver as it took turns, one after another (`Driver::round`). Behind
+///   each the gate rests exactly if nothing moved, or it was the 16th in a row without an entry or a rest; but not behind the
+///   last of a run that has finished.
 /// - Unless a turn was refused, it took at most 16 turns for each entry and each rest, and 16 more.
 ///
 /// Finished, each operation of the script has just one entry, `done` was called, and the last call was an `all_done` that
@@ -67,9 +69,9 @@ pub fn drive<W: Worker, G: Gate>(
         × IfOk result (λ ran. (ran.finished ≡ true →
         (times_done calls ≡ 1) × EndWithAllDone calls)
         × RestsInTime ran.turns calls) }
-    ensures rounds { IfOk result (λ ran. (driver : DriverOf)
-        × GoRounds G.hears ran.turns gate.old gate.new (opening_driver script.now Ahead) driver
-        (W.node worker.old) (W.node worker.new)) }
+    ensures rounds { IfOk result (λ ran. (restless : ℕ) × (driver : DriverOf)
+        × GoRounds G.hears ran.turns restless gate.old gate.new
+        (opening_driver script.now Ahead) driver (W.node worker.old) (W.node worker.new)) }
     ensures turned { IfOk result (λ ran. W.turned worker.old ran.turns worker.new) }
     ensures stays { W.stays worker.old worker.new }
 {
@@ -99,9 +101,9 @@ pub fn drive_issuing<W: Worker, G: Gate>(
         × IfOk result (λ ran. (ran.finished ≡ true →
         (times_done calls ≡ 1) × EndWithAllDone calls)
         × RestsInTime ran.turns calls) }
-    ensures rounds { IfOk result (λ ran. (driver : DriverOf)
-        × GoRounds G.hears ran.turns gate.old gate.new (opening_driver script.now issuing) driver
-        (W.node worker.old) (W.node worker.new)) }
+    ensures rounds { IfOk result (λ ran. (restless : ℕ) × (driver : DriverOf)
+        × GoRounds G.hears ran.turns restless gate.old gate.new
+        (opening_driver script.now issuing) driver (W.node worker.old) (W.node worker.new)) }
     ensures turned { IfOk result (λ ran. W.turned worker.old ran.turns worker.new) }
     ensures stays { W.stays worker.old worker.new }
 {
@@ -129,7 +131,7 @@ fn rest_if_due<G: Gate>(gate: &mut G, round: &Round, restless: u32) -> u32
 }
 
 impl<'a> Driver<'a> {
-    ghost use Rattle.std.specs.Prelude.{◌≡◌, ◌≤◌, ◌⊎◌, [], ◌∷◌, List, true, false, length, IfOk};
+    ghost use Rattle.std.specs.Prelude.{◌≡◌, ◌≤◌, ◌⊎◌, ℕ, [], ◌∷◌, List, true, false, length, IfOk};
     ghost use Rattle.sci_drive.specs.Calls.{AllDone, AreCalls, Call, EndWithAllDone};
     ghost use Rattle.sci_drive.specs.Driving.{IsDriven, IsInOrder};
 
@@ -168,7 +170,8 @@ impl<'a> Driver<'a> {
             × AreCalls self.old self.new (W.node worker.old) (W.node worker.new) calls
             × IfOk result (λ ran. (ran.finished ≡ true → EndWithAllDone calls)
             × RestsInTime ran.turns calls) }
-        ensures rounds { IfOk result (λ ran. GoRounds G.hears ran.turns gate.old gate.new
+        ensures rounds { IfOk result (λ ran. (restless : ℕ)
+            × GoRounds G.hears ran.turns restless gate.old gate.new
             self.old self.new (W.node worker.old) (W.node worker.new)) }
         ensures script { self.new.script ≡ self.old.script }
         ensures issuing { self.new.issuing ≡ self.old.issuing }

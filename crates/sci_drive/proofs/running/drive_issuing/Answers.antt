@@ -62,5 +62,5 @@ returns-clause-rounds g c =
     let node = g.W.Worker.node c.go_on.new.worker in
     let gate = c.args.gate.now in
     IfOk-weaker c.go_on.result _ _ (λ ran rounds.
-    (c.go_on.new.self, subst (λ (d : DriverOf). GoRounds g.G.Gate.hears ran.turns gate c.go_on.new.gate d c.go_on.new.self start node) c.new-driver.ensures rounds))
+    (rounds.0, c.go_on.new.self, subst (λ (d : DriverOf). GoRounds g.G.Gate.hears ran.turns rounds.0 gate c.go_on.new.gate d c.go_on.new.self start node) c.new-driver.ensures rounds.1))
     c.go_on.ensures.rounds

@@ -2,7 +2,7 @@
 use Rattle.std.proofs.Common.{◌+◌, refl, arith, ◌∙◌, rules}
 use Rattle.sci_drive.specs.Resting.{in_a_row, is_rest_due}
 use Rattle.sci_drive.proofs.Resting.{after_asked, after_rest, after_round, ended, gone_on, has_not_gone, row_is_short}
-use Rattle.sci_drive.proofs.Rounds.{one_round_more, quiet_asked, quiet_on, quiet_rest}
+use Rattle.sci_drive.proofs.Rounds.{behind_last, behind_round, one_round_more}
 use Rattle.sci_drive.proofs.driver.Driver.go_on.Goals as goal
 
 pub loop-turn-init : goal.loop-turn-init
@@ -17,7 +17,7 @@ loop-turn-init g c =
       few = omega arith;
       order = λ was. was;
       gone = has_not_gone g.G.Gate.hears g.met.G.Gate.hears_nothing g.met.G.Gate.hears_on c.args.gate.now c.args.self.now node;
-      rounds = (refl, refl, refl);
+      rounds = (refl, refl, refl, refl);
     }
 
 pub returns-in_err-round-clause-calls : goal.returns-in_err-round-clause-calls
@@ -56,8 +56,7 @@ loop-turn-preserved g c =
     let gone = after_round hears nothing on first c.loop-turn.gate c.round.new.gate c.args.self.now c.loop-turn.self self start before node c.loop-turn.turn c.loop-turn.restless round was.few was.gone c.round.ensures.goes.heard c.in_ok-round.ensures.answered in
     let asked = after_asked hears nothing on first c.round.new.gate c.is_over.new.gate c.args.self.now self start node (c.loop-turn.turn + 1) row c.is_over.result gone c.is_over.ensures.asked in
     let few = c.rest_if_due-restless.ensures.few in
-    let quiet = quiet_on hears nothing on c.round.new.gate c.is_over.new.gate c.rest_if_due-restless.new.gate (quiet_asked hears nothing on c.round.new.gate c.is_over.new.gate c.is_over.result c.is_over.ensures.asked)
-    (quiet_rest hears nothing on c.is_over.new.gate c.rest_if_due-restless.new.gate (is_rest_due round c.loop-turn.restless) _ _ c.rest_if_due-restless.ensures.rests c.rest_if_due-restless.ensures.goes_on) in
+    let last = behind_round hears nothing on c.round.new.gate c.is_over.new.gate c.rest_if_due-restless.new.gate c.is_over.result round c.loop-turn.restless c.rest_if_due-restless.result c.if-is_over.false c.is_over.ensures.asked c.rest_if_due-restless.ensures.rests c.rest_if_due-restless.ensures.goes_on in
     record {
       driven = c.round.ensures.driven;
       script = c.round.ensures.script ∙ was.script;
@@ -67,7 +66,7 @@ loop-turn-preserved g c =
       few = omega arith;
       order = λ first. c.round.ensures.order (was.order first);
       gone = after_rest hears nothing on first c.is_over.new.gate c.rest_if_due-restless.new.gate c.args.self.now self start node (c.loop-turn.turn + 1) row c.rest_if_due-restless.result (is_rest_due round c.loop-turn.restless) (row_is_short round c.loop-turn.restless was.few) asked c.rest_if_due-restless.ensures.rests c.rest_if_due-restless.ensures.goes_on;
-      rounds = one_round_more hears nothing on first c.loop-turn.gate c.round.new.gate c.rest_if_due-restless.new.gate c.args.self.now c.loop-turn.self self start before node c.loop-turn.turn round was.rounds c.in_ok-round.ensures.goes quiet;
+      rounds = one_round_more hears nothing on first c.loop-turn.gate c.round.new.gate c.rest_if_due-restless.new.gate c.args.self.now c.loop-turn.self self start before node c.loop-turn.turn c.loop-turn.restless c.rest_if_due-restless.result round was.rounds c.in_ok-round.ensures.goes last;
     }
 
 pub returns-then-is_over-clause-rounds : goal.returns-then-is_over-clause-rounds
@@ -78,5 +77,9 @@ returns-then-is_over-clause-rounds g c =
     let hears = g.G.Gate.hears in
     let nothing = g.met.G.Gate.hears_nothing in
     let on = g.met.G.Gate.hears_on in
-    one_round_more hears nothing on c.args.gate.now c.loop-turn.gate c.round.new.gate c.is_over.new.gate c.args.self.now c.loop-turn.self c.round.new.self start before node c.loop-turn.turn c.in_ok-round.round c.loop-turn.invariant.rounds c.in_ok-round.ensures.goes
-    (quiet_asked hears nothing on c.round.new.gate c.is_over.new.gate c.is_over.result c.is_over.ensures.asked)
+    let round = c.in_ok-round.round in
+    let row = in_a_row round c.loop-turn.restless in (
+      row,
+      one_round_more hears nothing on c.args.gate.now c.loop-turn.gate c.round.new.gate c.is_over.new.gate c.args.self.now c.loop-turn.self c.round.new.self start before node c.loop-turn.turn c.loop-turn.restless row round c.loop-turn.invariant.rounds c.in_ok-round.ensures.goes
+          (behind_last hears nothing on c.round.new.gate c.is_over.new.gate c.is_over.result round c.loop-turn.restless c.if-is_over.true c.is_over.ensures.asked),
+    )

@@ -14,5 +14,5 @@ invariant-loop-turn g l = record {
   few : l.restless ≤ 15;
   order : IsInOrder l.initial.self (g.W.Worker.node l.initial.worker) → IsInOrder l.self (g.W.Worker.node l.worker);
   gone : HasGone g.G.Gate.hears l.initial.gate l.gate l.initial.self l.self (g.W.Worker.node l.initial.worker) (g.W.Worker.node l.worker) l.turn l.restless;
-  rounds : GoRounds g.G.Gate.hears l.turn l.initial.gate l.gate l.initial.self l.self (g.W.Worker.node l.initial.worker) (g.W.Worker.node l.worker);
+  rounds : GoRounds g.G.Gate.hears l.turn l.restless l.initial.gate l.gate l.initial.self l.self (g.W.Worker.node l.initial.worker) (g.W.Worker.node l.worker);
 }
