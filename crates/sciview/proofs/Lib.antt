@@ -7,3 +7,5 @@ pub mod Outcomes
 pub mod Listed
 pub mod Walks
 pub mod Words
+pub mod Ran
+pub mod RunWords

@@ -4,13 +4,16 @@ use Rattle.sci_words.specs.declared.limits.TheConstants.{MAX_LINES}
 use Rattle.sci_text.specs.Number.{number}
 use Rattle.sciview.specs.declared.chart.ChartRequest.{ChartRequest}
 use Rattle.sciview.specs.declared.chart.TextLines.{TextLines}
+use Rattle.sci_drive.specs.declared.driver.Issuing.{Issuing}
+use Rattle.sci_drive.specs.declared.driver.Issuing.TheVariants.{Ahead, InOrder}
 use Rattle.sci_reports.specs.declared.ordering.NodeOrder.{NodeOrder}
 use Rattle.sci_reports.specs.declared.ordering.NodeOrder.TheVariants.{Logged, BySerial}
 use Rattle.sci_reports.specs.declared.ordering.OrderRequest.{OrderRequest}
 use Rattle.sciview.specs.declared.random.Walk.{Walk}
+use Rattle.sciview.specs.declared.run.RunRequest.{RunRequest}
 use Rattle.sciview.specs.declared.trace.TraceRequest.{TraceRequest}
 use Rattle.sciview.specs.declared.choice.Command.{Command}
-use Rattle.sciview.specs.declared.choice.Command.TheVariants.{Order, Explain, Check, Packets, Trace, Lists, Chart, Random, Help, Version}
+use Rattle.sciview.specs.declared.choice.Command.TheVariants.{Order, Explain, Check, Packets, Trace, Lists, Chart, Random, Run, Help, Version}
 
 -- an option that is one word, if it is given
 abbrev pub flag : List ℕ → Bool → List (List ℕ)
@@ -87,6 +90,36 @@ FitsDead (Some share) = share < 2 ^ 64
 abbrev pub ChoosesWalk : List (List ℕ) → Walk → Option ℕ → Type 0
 ChoosesWalk words walk dead = (words ≡ walk_words walk ++ dead_words dead) × FitsWalk walk × FitsDead dead
 
+-- the words that say how many turns a run takes at most, if some do
+unfoldable pub turns_words : Option ℕ → List (List ℕ)
+turns_words None = []
+turns_words (Some turns) = codes "--turns" ∷ number turns ∷ []
+
+abbrev pub FitsTurns : Option ℕ → Type 0
+FitsTurns None = Unit {0}
+FitsTurns (Some turns) = turns < 2 ^ 64
+
+abbrev pub is_in_order : Issuing → Bool
+is_in_order Ahead = false
+is_in_order InOrder = true
+
+-- when operations are submitted, and how many turns there are at most
+abbrev pub ChoosesPace : List (List ℕ) → Issuing → Option ℕ → Type 0
+ChoosesPace words issuing turns = (words ≡ flag (codes "--in-order") (is_in_order issuing) ++ turns_words turns) × FitsTurns turns
+
+-- the words that say a seed, if one is given
+abbrev pub seed_words : Option ℕ → List (List ℕ)
+seed_words None = []
+seed_words (Some seed) = codes "--seed" ∷ number seed ∷ []
+
+abbrev pub FitsSeed : Option ℕ → Type 0
+FitsSeed None = Unit {0}
+FitsSeed (Some seed) = seed < 2 ^ 64
+
+-- what stands behind `run`
+abbrev pub ChoosesRun : List (List ℕ) → RunRequest → Type 0
+ChoosesRun words request = (words ≡ seed_words request.seed ++ (flag (codes "--in-order") (is_in_order request.issuing) ++ turns_words request.turns)) × FitsSeed request.seed × FitsTurns request.turns
+
 -- the first word chooses a command, and those behind it what it is asked for
 abbrev pub ChoosesBy : List ℕ → List (List ℕ) → Command → Type 0
 ChoosesBy word rest (Order request) = (word ≡ codes "order") × ChoosesOrder rest request
@@ -97,6 +130,7 @@ ChoosesBy word rest (Trace request) = (word ≡ codes "trace") × ChoosesTrace r
 ChoosesBy word rest (Lists line) = (word ≡ codes "lists") × ChoosesLine rest line
 ChoosesBy word rest (Chart request) = (word ≡ codes "chart") × ChoosesChart rest request
 ChoosesBy word rest (Random walk dead) = (word ≡ codes "random") × ChoosesWalk rest walk dead
+ChoosesBy word rest (Run request) = (word ≡ codes "run") × ChoosesRun rest request
 ChoosesBy word rest Help = ((word ≡ codes "--help") ⊎ (word ≡ codes "-h")) × (rest ≡ [])
 ChoosesBy word rest Version = (word ≡ codes "--version") × (rest ≡ [])
 

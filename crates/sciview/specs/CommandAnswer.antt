@@ -12,6 +12,7 @@ use Rattle.sciview.specs.ListsAnswer.{IsListsAnswer}
 use Rattle.sci_reports.specs.OrderAnswer.{IsOrderAnswer}
 use Rattle.sciview.specs.PacketsAnswer.{IsPacketsAnswer}
 use Rattle.sciview.specs.RandomAnswer.{IsRandomAnswer}
+use Rattle.sciview.specs.RunAnswer.{IsRunAnswer}
 use Rattle.sciview.specs.TraceAnswer.{IsTraceAnswer}
 
 -- the text that a command writes, and how it ends, for the bytes of a reader, which has failed or not
@@ -24,5 +25,6 @@ IsAnswerTo (commands.Trace request) input failed text outcome = IsTraceAnswer re
 IsAnswerTo (commands.Lists line) input failed text outcome = IsListsAnswer line input failed text outcome
 IsAnswerTo (commands.Chart request) input failed text outcome = IsChartAnswer request.line input failed text outcome
 IsAnswerTo (commands.Random walk dead) input failed text outcome = IsRandomAnswer walk dead text outcome
+IsAnswerTo (commands.Run request) input failed text outcome = IsRunAnswer request input failed text outcome
 IsAnswerTo commands.Help input failed text outcome = (text ≡ HELP.now) × (outcome ≡ Done)
 IsAnswerTo commands.Version input failed text outcome = (text ≡ VERSION.now) × (outcome ≡ Done)

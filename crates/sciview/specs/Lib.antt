@@ -8,3 +8,4 @@ pub mod ObstacleWords
 pub mod TraceAnswer
 pub mod ListsAnswer
 pub mod RandomAnswer
+pub mod RunAnswer

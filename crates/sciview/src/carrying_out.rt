@@ -14,6 +14,7 @@ use crate::help::{HELP, VERSION};
 use crate::lists::lists;
 use crate::packets::packets;
 use crate::random::random_schedule;
+use crate::run::run;
 use crate::trace::trace;
 use sci_command::{Outcome, finish, write_answer};
 use sci_reports::{check, explain, order};
@@ -48,6 +49,7 @@ fn outcome_of<R: Read, W: Write>(
         Command::Random { walk, dead } => {
             finish(alloc, writer, random_schedule(alloc, &walk, dead))
         }
+        Command::Run(request) => finish(alloc, writer, run(alloc, request, reader)),
         Command::Help => write_answer(writer, HELP.as_bytes(), Outcome::Done),
         Command::Version => write_answer(writer, VERSION.as_bytes(), Outcome::Done),
     }

@@ -8,13 +8,17 @@ ghost use Rattle.sciview.specs.declared.chart.TextLines.{TextLines};
 ghost use Rattle.sciview.specs.declared.choice.Command.{Command};
 ghost use Rattle.sci_reports.specs.declared.ordering.OrderRequest.{OrderRequest};
 ghost use Rattle.sciview.specs.declared.random.Walk.{Walk};
+ghost use Rattle.sci_drive.specs.declared.driver.Issuing.{Issuing};
+ghost use Rattle.sciview.specs.declared.run.RunRequest.{RunRequest};
 ghost use Rattle.sciview.specs.declared.trace.TraceRequest.{TraceRequest};
-ghost use Rattle.sciview.specs.Choice.{Chooses, ChoosesBy, ChoosesChart, ChoosesOrder, ChoosesTrace, ChoosesWalk, FitsDead, FitsEvents, FitsLine, FitsWalk, dead_words, events_words, line_words, walk_words};
+ghost use Rattle.sciview.specs.Choice.{Chooses, ChoosesBy, ChoosesChart, ChoosesOrder, ChoosesPace, ChoosesRun, ChoosesTrace, ChoosesWalk, FitsDead, FitsEvents, FitsLine, FitsTurns, FitsWalk, dead_words, events_words, line_words, turns_words, walk_words};
 
 use crate::chart::{ChartRequest, TextLines};
 use crate::random::Walk;
+use crate::run::RunRequest;
 use crate::trace::TraceRequest;
 use sci_command::texts_of;
+use sci_drive::Issuing;
 use sci_reports::{NodeOrder, OrderRequest};
 use sci_text::whole_number;
 use sci_words::MAX_LINES;
@@ -41,6 +45,8 @@ pub enum Command {
     Chart(ChartRequest),
     /// Write a schedule that is drawn by chance; `dead` in a hundred of its events may be any events.
     Random { walk: Walk, dead: Option<u64> },
+    /// Write the schedule of a script's run.
+    Run(RunRequest),
     /// Write what the program knows.
     Help,
     /// Write which version of the program it is.
@@ -206,6 +212,68 @@ fn chart_choice(words: &[&str]) -> Option<ChartRequest>
     })
 }
 
+/// How many turns a run takes at most, as words say: `--turns` with a number below 2^64, or no word. None if they say
+/// neither.
+#[tactic(auto, unfolding(crate::specs::Choice::turns_words))]
+fn turns_choice(words: &[&str]) -> Option<Option<u64>>
+    ensures { (turns : Option ℕ) → (result ≡ Some turns) ↔
+        ((map (λ word. word.now) words.now ≡ turns_words turns) × FitsTurns turns) }
+{
+    match words {
+        [] => Some(None),
+        ["--turns", turns] => {
+            let turns = whole_number(turns.as_bytes())?;
+            Some(Some(turns))
+        }
+        _ => None,
+    }
+}
+
+/// When operations are submitted, and how many turns a run takes at most, as words say: `--in-order`, then the turns, or one
+/// of them, or neither. None if they say something else.
+fn pace_choice(words: &[&str]) -> Option<(Issuing, Option<u64>)>
+    ensures { (issuing : Issuing) (turns : Option ℕ) → (result ≡ Some (issuing, turns)) ↔
+        ChoosesPace (map (λ word. word.now) words.now) issuing turns }
+{
+    if let Some(turns) = turns_choice(words) {
+        return Some((Issuing::Ahead, turns));
+    }
+    match words {
+        ["--in-order", rest @ ..] => {
+            let turns = turns_choice(rest)?;
+            Some((Issuing::InOrder, turns))
+        }
+        _ => None,
+    }
+}
+
+/// What the words behind `run` ask for: `--seed` with a number below 2^64 first, if there is one. None if they say something
+/// else.
+fn run_choice(words: &[&str]) -> Option<RunRequest>
+    ensures { (request : RunRequest) → (result ≡ Some request) ↔
+        ChoosesRun (map (λ word. word.now) words.now) request }
+{
+    if let Some((issuing, turns)) = pace_choice(words) {
+        return Some(RunRequest {
+            seed: None,
+            issuing,
+            turns,
+        });
+    }
+    match words {
+        ["--seed", seed, rest @ ..] => {
+            let seed = whole_number(seed.as_bytes())?;
+            let (issuing, turns) = pace_choice(rest)?;
+            Some(RunRequest {
+                seed: Some(seed),
+                issuing,
+                turns,
+            })
+        }
+        _ => None,
+    }
+}
+
 /// What a first word chooses, with those behind it. None if they choose nothing.
 fn chosen_by(word: &str, rest: &[&str]) -> Option<Command>
     ensures { (command : Command) → (result ≡ Some command) ↔
@@ -222,6 +290,7 @@ fn chosen_by(word: &str, rest: &[&str]) -> Option<Command>
             let (walk, dead) = random_of(rest)?;
             Some(Command::Random { walk, dead })
         }
+        "run" => Some(Command::Run(run_choice(rest)?)),
         "explain" if rest.is_empty() => Some(Command::Explain),
         "check" if rest.is_empty() => Some(Command::Check),
         "packets" if rest.is_empty() => Some(Command::Packets),

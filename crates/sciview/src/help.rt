@@ -2,7 +2,7 @@
 
 /// The words that the program knows.
 pub const USAGE: &str =
-    "usage: sciview order [--by-serial] [--show] | explain | check | packets | trace [--strict] [--line L] | lists [--line L] | chart [--line L] [--events FIRST LAST] | random N M C EVENTS SEED [--dead K] | --help | --version";
+    "usage: sciview order [--by-serial] [--show] | explain | check | packets | trace [--strict] [--line L] | lists [--line L] | chart [--line L] [--events FIRST LAST] | random N M C EVENTS SEED [--dead K] | run [--seed S] [--in-order] [--turns T] | --help | --version";
 
 /// What stands below the usage line on standard error.
 pub const MANUAL: &str =
@@ -13,7 +13,7 @@ pub const VERSION: &str = "sciview 0.1.0\n";
 
 /// What `--help` writes.
 pub const HELP: &str = "\
-usage: sciview order [--by-serial] [--show] | explain | check | packets | trace [--strict] [--line L] | lists [--line L] | chart [--line L] [--events FIRST LAST] | random N M C EVENTS SEED [--dead K] | --help | --version
+usage: sciview order [--by-serial] [--show] | explain | check | packets | trace [--strict] [--line L] | lists [--line L] | chart [--line L] [--events FIRST LAST] | random N M C EVENTS SEED [--dead K] | run [--seed S] [--in-order] [--turns T] | --help | --version
 
 Each command of a text reads it from standard input, to its end.
 Each command writes standard output.
@@ -27,6 +27,13 @@ of a log:
   explain           of each line of memory that has a fault: the entry at fault,
                     what one memory of one thread gives there, and the entries
                     around it
+
+of a script:
+  run [--seed S] [--in-order] [--turns T]
+                    the schedule of a run of it by the policy. The nodes take
+                    a turn each in a circle, or in an order that is drawn from
+                    the seed, at most T turns all together; a node has up to
+                    four operations pending, or one if they are in order
 
 of a script, a schedule or a log:
   check             which of these it is, and its size; or the refusal, and a
@@ -61,6 +68,7 @@ of the program:
   --version         the program's name and version
 
 The exit status is 0; or 1 if the log isn't lawful, or isn't sequentially
-consistent, or if a strict trace met an event that isn't enabled; or 2 if the
-input or a number was refused or the output couldn't be written.
+consistent, if a strict trace met an event that isn't enabled, or if a run used
+up its turns; or 2 if the input or a number was refused or the output couldn't
+be written.
 ";

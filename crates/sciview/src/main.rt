@@ -19,6 +19,7 @@ mod obstacle_words;
 mod packets;
 mod random;
 mod rows;
+mod run;
 mod state_words;
 mod trace;
 mod walking;

@@ -15,9 +15,11 @@ use Rattle.sciview.specs.ListsAnswer.{IsListsAnswer}
 use Rattle.sci_reports.specs.OrderAnswer.{IsOrderAnswer}
 use Rattle.sciview.specs.PacketsAnswer.{IsPacketsAnswer}
 use Rattle.sciview.specs.RandomAnswer.{IsRandomAnswer, IsWalkFault}
+use Rattle.sciview.specs.RunAnswer.{IsRunAnswer, IsRunRefusal}
 use Rattle.sciview.specs.TraceAnswer.{IsTraceAnswer}
 use Rattle.sciview.proofs.Asked.{refused_asked}
 use Rattle.sci_reports.proofs.Checked.{refused_whole}
+use Rattle.sciview.proofs.Ran.{run_refused}
 use Rattle.sciview.proofs.Walks.{walk_refused}
 use Rattle.sciview.proofs.carrying_out.outcome_of.Goals as goal
 
@@ -68,6 +70,12 @@ returns-in-Random-clause-written g c =
     let walk = c.in-Random.walk in
     let dead = c.in-Random.dead in
     rw c.in-Random.is (finished (IsRandomAnswer walk dead) (λ fault. IsWalkFault walk dead fault.kind fault.line) c.random_schedule.result (λ fault text. walk_refused walk dead fault text) c.random_schedule.ensures.answer c.random_schedule.ensures.fault _ _ _ _ c.finish-in-Random.ensures.written)
+
+pub returns-in-Run-clause-written : goal.returns-in-Run-clause-written
+returns-in-Run-clause-written g c =
+    let known = g.R.Read.remaining (tapped c.args.reader.now) in
+    let unread = has_failed c.run.new.reader in
+    rw c.in-Run.is (finished (IsRunAnswer c.in-Run.request known unread) (λ fault. IsRunRefusal fault.kind known unread fault.line) c.run.result (λ fault text. run_refused known unread fault text) c.run.ensures.answer c.run.ensures.fault _ _ _ _ c.finish-in-Run.ensures.written)
 
 pub returns-in-Help-clause-written : goal.returns-in-Help-clause-written
 returns-in-Help-clause-written g c =
