@@ -31,3 +31,4 @@ pub mod Waits
 pub mod Walks
 pub mod FoundOrders
 pub mod SerialOrder
+pub mod Shortening

@@ -1,5 +1,5 @@
 -- Cycles of entries, each of which comes after the next one in every order that makes logs sequentially consistent.
-use Rattle.std.specs.Prelude.{◌≡◌, ◌<◌, ◌≤◌, ◌*◌, true, false, List, [], ◌∷◌, Some, slice_get, length}
+use Rattle.std.specs.Prelude.{◌≡◌, ◌<◌, ◌≤◌, ◌+◌, ◌*◌, ◌⊎◌, ℕ, true, false, List, [], ◌∷◌, Some, slice_get, length}
 use Rattle.std.specs.List.{AllByRecursion}
 use Rattle.sci_words.specs.declared.limits.TheConstants.{MAX_NODES}
 use Rattle.sci_words.specs.declared.stamped.Stamped.{Stamped}
@@ -40,11 +40,20 @@ pub record IsCycle (logs : List (List Entry)) (steps : List Step) : Type 0 where
   pub entries : AllByRecursion (IsInLog logs) steps
   pub round : IsRound steps
 
--- What a look for an order finds: the audit's fault; else an order; else a cycle, of no more than two entries for each node.
+-- in a round of so many entries, the next one to this place
+abbrev pub IsNextIn : (many here there : ℕ) → Type 0
+IsNextIn many here there = (there ≡ here + 1) ⊎ ((here + 1 ≡ many) × (there ≡ 0))
+
+-- no entry comes after another than the next one, so that none can be left out
+abbrev pub HasNoShortcut : List Step → Type 0
+HasNoShortcut steps = (i j : ℕ) (x y : Step) (reason : Reason) → slice_get steps i ≡ Some x → slice_get steps j ≡ Some y → ComesAfter reason x y → IsNextIn (length steps) i j
+
+-- What a look for an order finds: the audit's fault; else an order; else a cycle without a
+-- shortcut, of no more than two entries for each node.
 abbrev pub IsOrderVerdict : List (List Entry) → List Stamped → OrderVerdict → Type 0
 IsOrderVerdict logs last (Fault line kind at) = IsFault logs last line kind at
 IsOrderVerdict logs last (Order order) = Lawful logs last × IsSequentialOrder logs last (entries_of order.items)
-IsOrderVerdict logs last (Cycle steps) = Lawful logs last × IsCycle logs steps.items × (length steps.items ≤ 2 * MAX_NODES)
+IsOrderVerdict logs last (Cycle steps) = Lawful logs last × IsCycle logs steps.items × HasNoShortcut steps.items × (length steps.items ≤ 2 * MAX_NODES)
 
 -- it found an order
 abbrev pub IsOrdered : OrderVerdict → Type 0

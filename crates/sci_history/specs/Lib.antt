@@ -9,3 +9,4 @@ pub mod Sequential
 pub mod Cycle
 pub mod Placing
 pub mod Judged
+pub mod Shortcuts

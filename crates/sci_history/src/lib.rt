@@ -13,6 +13,7 @@ mod oracle;
 mod order_verdict;
 mod ordering;
 mod placing;
+mod shortcuts;
 mod verdict;
 mod waiting;
 

@@ -1,5 +1,8 @@
 //! What a look for one order of all entries finds.
 
+ghost use Rattle.std.specs.Prelude.{◌≡◌};
+ghost use Rattle.sci_history.specs.Placing.{line_reason};
+
 use crate::entry::Entry;
 use crate::verdict::FaultKind;
 
@@ -14,6 +17,21 @@ pub enum Reason {
     FromRead,
     /// It made a version above the one that the other made (coherence order).
     Coherence,
+}
+
+/// Why an entry comes after another by what both are on their line, or None if it doesn't.
+pub(crate) fn reason_after(entry: &Entry, other: &Entry) -> Option<Reason>
+    ensures { result ≡ line_reason entry.now other.now }
+{
+    if other.op.line != entry.op.line {
+        return None;
+    }
+    match (entry.op.is_maker(), other.op.is_maker()) {
+        (true, true) if other.version < entry.version => Some(Reason::Coherence),
+        (true, false) if other.version < entry.version => Some(Reason::FromRead),
+        (false, true) if other.version == entry.version => Some(Reason::ReadsFrom),
+        _ => None,
+    }
 }
 
 /// An entry of a cycle, and why it comes after the next one; the first is next to the last.

@@ -17,10 +17,9 @@ use std::alloc::{AllocError, Global};
 
 /// Looks for one order of all entries that makes logs sequentially consistent with last contents. If the logs aren't
 /// lawful, the answer is the fault that an audit reports; else an order, if there is one; else a cycle, which shows
-/// that there is none. The cycle has at most 32 entries. It is found breadth first, among the entries that are left
-/// first in their logs, and goes through the first of them that waits for itself. Refused only if a growth was. It takes
-/// the time of an audit, and then time linear in the number of entries. Requires that each entry's line is
-/// one of `last`, and its word below 8.
+/// that there is none. The cycle has at most 32 entries, and none can be left out: none comes after another of the cycle
+/// than the next. Refused only if a growth was. It takes the time of an audit, and then time linear in the number of
+/// entries. Requires that each entry's line is one of `last`, and its word below 8.
 pub fn sequential_order<'a>(
     alloc: Global,
     logs: &'a Logs,

@@ -2,8 +2,6 @@
 #![tactic(auto)]
 
 #[cfg(test)]
-mod cycle_tests;
-#[cfg(test)]
 mod memory_and_log_tests;
 #[cfg(test)]
 mod operation_tests;

@@ -163,36 +163,37 @@ fn a_cycle_further_on(rt: HostRuntime) -> Result<(), Fail> {
     )
 }
 
-/// The first store waits for two loads. The way back from that of node 1 leads over node 3, and the one from that of
-/// node 2 is shorter, so that is the cycle that is found.
+/// The first store waits for two loads. The way goes on over that of node 1, and then over node 3. No entry of that cycle
+/// can be left out, though the one over node 2 has fewer.
 #[test]
-fn the_shorter_of_two_cycles(rt: HostRuntime) -> Result<(), Fail> {
+fn a_cycle_of_five_beside_one_of_four(rt: HostRuntime) -> Result<(), Fail> {
     expect_cycle(
         rt.alloc(),
         "log 2 4 2\nlast 0 @1 1 0 0 0 0 0 0 0\nlast 1 @2 2 0 0 0 0 0 0 0\n",
         "0 0 store 0 0 1 = - @1\n0 1 store 1 0 1 = - @1\n1 0 load 1 0 = 2 @2\n1 1 load 0 0 = 0 @0\n2 0 load 1 0 = 1 @1\n2 1 load 0 0 = 0 @0\n3 0 store 1 0 2 = - @2\n",
         &[
             (0, 0, Reason::FromRead),
-            (2, 1, Reason::Logged),
-            (2, 0, Reason::ReadsFrom),
+            (1, 1, Reason::Logged),
+            (1, 0, Reason::ReadsFrom),
+            (3, 0, Reason::Coherence),
             (0, 1, Reason::Logged),
         ],
     )
 }
 
 /// The first store waits for two loads. That of node 1 leads into a cycle of nodes 1 and 2, from which no way leads back, so
-/// the cycle that is found goes over node 3.
+/// that is the cycle that is found.
 #[test]
-fn a_cycle_beside_another(rt: HostRuntime) -> Result<(), Fail> {
+fn a_cycle_on_the_way(rt: HostRuntime) -> Result<(), Fail> {
     expect_cycle(
         rt.alloc(),
         "log 2 4 4\nlast 0 @1 1 0 0 0 0 0 0 0\nlast 1 @1 1 0 0 0 0 0 0 0\nlast 2 @1 1 0 0 0 0 0 0 0\nlast 3 @1 1 0 0 0 0 0 0 0\n",
         "0 0 store 0 0 1 = - @1\n0 1 load 3 0 = 0 @0\n1 0 store 1 0 1 = - @1\n1 1 load 2 0 = 0 @0\n1 2 load 0 0 = 0 @0\n2 0 store 2 0 1 = - @1\n2 1 load 1 0 = 0 @0\n3 0 store 3 0 1 = - @1\n3 1 load 0 0 = 0 @0\n",
         &[
-            (0, 0, Reason::FromRead),
-            (3, 1, Reason::Logged),
-            (3, 0, Reason::FromRead),
-            (0, 1, Reason::Logged),
+            (1, 0, Reason::FromRead),
+            (2, 1, Reason::Logged),
+            (2, 0, Reason::FromRead),
+            (1, 1, Reason::Logged),
         ],
     )
 }

@@ -11,7 +11,7 @@ pub loop-node-preserved : goal.loop-node-preserved
 loop-node-preserved c =
     let P = λ (other : Entry). line_reason c.args.entry.now other ≡ None in
     below_more (λ (m : ℕ). AllByRecursion P (log_of (rests_of c.args.logs.now c.args.next.now) m)) c.loop-node.node c.loop-node.invariant
-    (c.blocker_of-in-loop-node.ensures.none c.in_default-blocker_of-2.is)
+    (c.blocker_of.ensures.none c.in_default.is)
 
 pub returns-clause-none : goal.returns-clause-none
 returns-clause-none c e =
