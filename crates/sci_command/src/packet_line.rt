@@ -8,35 +8,35 @@ ghost use Rattle.sci_command.specs.PacketLine.{name_of, identifier_text, content
 
 use crate::printing::push_labelled;
 use sci_packets::{Body, NodeId, Packet};
-use sci_text::LineEnd;
+use sci_text::{LineEnd, push_text};
 use sci_words::{Line, Stamped, WORDS_PER_LINE};
 use std::alloc::AllocError;
 
 /// The name of a command, as `mread`.
 #[tactic(auto, unfolding(crate::specs::PacketLine::name_of))]
-pub fn command_name(body: &Body) -> &'static [u8]
+pub fn command_name(body: &Body) -> &'static str
     ensures { result.now ≡ name_of body.now }
 {
     match body {
-        Body::Mread => b"mread",
-        Body::Cread => b"cread",
-        Body::Purge => b"purge",
-        Body::Roll { .. } => b"roll",
-        Body::Wback(_) => b"wback",
-        Body::Setback { .. } => b"setback",
-        Body::Fread => b"fread",
-        Body::Claim => b"claim",
-        Body::Clear => b"clear",
-        Body::Mdata(_) => b"mdata",
-        Body::Mgone { .. } => b"mgone",
-        Body::Cdata(_) => b"cdata",
-        Body::Purged { .. } => b"purged",
-        Body::Rolled => b"rolled",
-        Body::Wbok => b"wbok",
-        Body::Wbno => b"wbno",
-        Body::Told => b"told",
-        Body::Busy => b"busy",
-        Body::Fdata { .. } => b"fdata",
+        Body::Mread => "mread",
+        Body::Cread => "cread",
+        Body::Purge => "purge",
+        Body::Roll { .. } => "roll",
+        Body::Wback(_) => "wback",
+        Body::Setback { .. } => "setback",
+        Body::Fread => "fread",
+        Body::Claim => "claim",
+        Body::Clear => "clear",
+        Body::Mdata(_) => "mdata",
+        Body::Mgone { .. } => "mgone",
+        Body::Cdata(_) => "cdata",
+        Body::Purged { .. } => "purged",
+        Body::Rolled => "rolled",
+        Body::Wbok => "wbok",
+        Body::Wbno => "wbno",
+        Body::Told => "told",
+        Body::Busy => "busy",
+        Body::Fdata { .. } => "fdata",
     }
 }
 
@@ -112,7 +112,7 @@ fn push_said(out: &mut Vec<u8>, body: &Body) -> Result<(), AllocError>
 pub fn push_packet(out: &mut Vec<u8>, packet: &Packet) -> Result<(), AllocError>
     ensures { OnOk result (out.new.items ≡ out.old.items ++ packet_line packet.now) }
 {
-    out.extend_from_slice(command_name(&packet.body))?;
+    push_text(out, command_name(&packet.body))?;
     push_labelled(out, b" to", u64::from(packet.target.get()))?;
     push_labelled(out, b" from", u64::from(packet.source.get()))?;
     push_labelled(out, b" control", u64::from(packet.control))?;

@@ -56,7 +56,8 @@ fn lock_word(lock: LockOp) -> &'static str
     }
 }
 
-fn act_word(act: Act) -> &'static str
+/// The word that names what an operation does, as it stands in scripts and logs: `load`, `store`, `mask-swap` and so on.
+pub fn act_word(act: Act) -> &'static str
     ensures word { result.now ≡ word_of act }
     ensures short { length result.now ≤ 12 }
 {

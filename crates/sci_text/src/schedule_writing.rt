@@ -37,7 +37,8 @@ pub fn kind_word(kind: AskKind) -> &'static str
     }
 }
 
-fn event_word(event: Event) -> &'static str
+/// The word of an event, as it stands in a schedule: `issue`, `perform` and so on.
+pub fn event_word(event: Event) -> &'static str
     ensures word { result.now ≡ word_of_event event }
     ensures short { length result.now ≤ 7 }
 {

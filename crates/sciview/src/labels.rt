@@ -146,7 +146,7 @@ fn push_named(out: &mut Vec<u8>, label: &str, node: Option<NodeId>) -> Result<()
 
 /// Appends the name of a packet, and the node that it names: `mgone 2`, `roll none`, `purged -> 0`. Refused if memory is.
 pub fn push_packet(out: &mut Vec<u8>, body: &Body) -> Result<(), AllocError> {
-    out.extend_from_slice(command_name(body))?;
+    push_text(out, command_name(body))?;
     match body {
         Body::Roll { forward } => push_named(out, "", *forward),
         Body::Setback { backward } => push_named(out, "", Some(*backward)),
