@@ -63,7 +63,7 @@ round_at (s ∷ steps) k x y round a b = chain_at (s ∷ steps) s k x y round a 
 
 -- the step at a place comes after the next one, for its reason
 pub next_comes : (steps : List Step) (place : ℕ) → IsRound steps → ComesAfterAt steps place (place + 1) (get_or steps place no_step).reason
-next_comes steps place round x y a b = 
+next_comes steps place round x y a b =
     let next : place + 1 ≡ suc place = omega arith in
     subst (λ (z : Step). ComesAfter z.reason x y) (sym (get_or_from_slice_get steps place x no_step a)) (round_at steps place x y round a (subst (λ (k : ℕ). slice_get steps k ≡ Some y) next b))
 
@@ -150,7 +150,7 @@ kept_more steps kept first last at next x z free is below here same onto in_part
     let long = length-append kept (z ∷ []) in
     let many = is.many in
     let z_behind : (there : ℕ) (y : Step) → (0 < length kept) ⊎ (there < last) → next ≤ there → there ≤ last → slice_get steps there ≡ Some y → IsFree y z =
-        λ there y near le inside b. free_same y x y z (same_itself y) same (free_behind steps first last at there x y free (omega arith) (elim near [ inl more ↦ inl (omega arith) | inr less ↦ inr less ]) (omega arith) inside here b) in
+    λ there y near le inside b. free_same y x y z (same_itself y) same (free_behind steps first last at there x y free (omega arith) (elim near [ inl more ↦ inl (omega arith) | inr less ↦ inr less ]) (omega arith) inside here b) in
     record {
       many = omega arith;
       before = in_part;

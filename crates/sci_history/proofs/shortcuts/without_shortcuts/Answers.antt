@@ -20,7 +20,7 @@ loop-place-preserved c =
           let z : Step = record { entry = x.entry; place = x.place; reason = onward.result.1 } in
           let kept = subst (IsKept steps c.loop-place.kept.items c.shortest_part-part.result.first c.shortest_part-part.result.last) (sym w.if-place-next.true) c.loop-place.invariant.kept in
           let more = kept_more steps c.loop-place.kept.items c.shortest_part-part.result.first c.shortest_part-part.result.last at onward.result.0 x z part.least kept c.loop-place-test.true (slice_get-get_or steps at no_step inside)
-              (record { entry = refl; place = refl }) onward.ensures.onward onward.ensures.last onward.ensures.comes onward.ensures.farthest in
+          (record { entry = refl; place = refl }) onward.ensures.onward onward.ensures.last onward.ensures.comes onward.ensures.farthest in
           record {
             reached = let more_on = onward.ensures.onward in let is = w.next-is in omega arith;
             kept = still_kept steps (c.loop-place.kept.items ++ z ∷ []) c.if-place-next.kept.items c.shortest_part-part.result.first c.shortest_part-part.result.last onward.result.0 c.if-place-next.next more
@@ -48,5 +48,5 @@ returns c =
     let within = part.within in
     let below : first < length steps = omega arith in
     let closes = kept_closes steps c.loop-place.kept.items first last x z (get_or steps first no_step) c.shortest_part-part.result.reason kept part.order (slice_get-get_or steps last no_step part.within) (record { entry = refl; place = refl }) refl
-        (slice_get-get_or steps first no_step below) part.round part.within in
+    (slice_get-get_or steps first no_step below) part.round part.within in
     subst (IsBareRoundOf steps) (sym c.in_ok-push-2.ensures.items) closes
