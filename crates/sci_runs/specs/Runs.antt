@@ -1,11 +1,13 @@
 -- The schedule of a run of a script.
 use Rattle.std.specs.Prelude.{◌≡◌, ◌<◌, ℕ, Bool, true, List, [], length, take}
+use Rattle.sci_words.specs.declared.stamped.Stamped.{Stamped}
 use Rattle.sci_history.specs.declared.entry.Entry.{Entry}
 use Rattle.sci_history.specs.Sequential.{AreInProgramOrder}
 use Rattle.sci_text.specs.Script.{ScriptValue}
 use Rattle.sci_text.specs.Schedule.{IsSchedule, ScheduleValue}
 use Rattle.sci_core.specs.Core.{run}
 use Rattle.sci_core.specs.Outcome.{logs_of}
+use Rattle.sci_core.specs.Sharing.{last_of}
 use Rattle.sci_lanes.specs.Shown.{AreEnabled}
 use Rattle.sci_drive.specs.declared.driver.Issuing.{Issuing}
 use Rattle.sci_drive.specs.declared.driver.Issuing.TheVariants.{InOrder}
@@ -15,6 +17,10 @@ use Rattle.sci_runs.specs.Recorded.{IsOfSize, issues_at}
 -- the logs of the script's machine behind a schedule
 abbrev pub logs_behind : ScriptValue → ScheduleValue → List (List Entry)
 logs_behind script schedule = logs_of (run (size_for script) schedule.events)
+
+-- and the last contents
+abbrev pub last_behind : ScriptValue → ScheduleValue → List Stamped
+last_behind script schedule = last_of (run (size_for script) schedule.events)
 
 -- A schedule of the script's machine, in which each event is enabled when it comes. Each node issues the first of its
 -- operations, in their order; each entry of its log has the operation that its serial names, and no serial stands twice. Done,

@@ -2,7 +2,7 @@
 
 use crate::fault::RunFault;
 use sci_core::Machine;
-use sci_history::Entry;
+use sci_history::{Entry, Last, Logs};
 use sci_locked::{perform_on, submit_on};
 use sci_policy::SubmitFault;
 use sci_text::{PushFault, Schedule};
@@ -44,6 +44,14 @@ impl Record {
     }
 }
 
+/// How a machine's run ended: the schedule of its events, and the logs and the last contents that they lead to.
+#[derive(Drop)]
+pub(crate) struct Ended {
+    pub(crate) schedule: Schedule,
+    pub(crate) logs: Logs,
+    pub(crate) last: Last,
+}
+
 /// A machine, and the events that have led it where it stands, unless one was lost. Contracts see the machine's state, the
 /// schedule, and why an event was lost, if one was.
 #[derive(Drop)]
@@ -71,11 +79,16 @@ impl Model for Recorder {
 }
 
 impl Recorder {
-    ghost use Rattle.std.specs.Prelude.{◌≡◌, ◌<◌, Some, None, IfOk, IfErr, IfSome, IsErr};
+    ghost use Rattle.std.specs.Prelude.{◌≡◌, ◌<◌, Some, None, IfOk, IfErr, IfSome, IsErr, length};
     ghost use Rattle.sci_words.specs.declared.limits.TheConstants.{MAX_OPERATIONS};
+    ghost use Rattle.sci_history.specs.Audit.{AreWithin};
+    ghost use Rattle.sci_history.specs.Lawful.{Lawful};
+    ghost use Rattle.sci_history.specs.Sequential.{IsSequentiallyConsistent};
     ghost use Rattle.sci_core.specs.Core.{IsEnabled, node_at, opening, stepping};
     ghost use Rattle.sci_core.specs.Node.{node_performing};
+    ghost use Rattle.sci_core.specs.Outcome.{logs_of};
     ghost use Rattle.sci_core.specs.Reached.{IsReached};
+    ghost use Rattle.sci_core.specs.Sharing.{last_of};
     ghost use Rattle.sci_core.specs.Size.{size_of};
     ghost use Rattle.sci_core.specs.Work.{IsIssued, IsLogged};
     ghost use Rattle.sci_policy.specs.Turn.{submit_fault};
@@ -161,18 +174,31 @@ impl Recorder {
         self.record.lost
     }
 
-    /// The schedule of all that has happened. Requires that no event was lost.
-    pub(crate) fn finish(self) -> Schedule
+    /// The schedule of all that has happened, with the logs and the last contents that it leads to. Requires that no event
+    /// was lost. Refused if memory is.
+    pub(crate) fn finish(self, alloc: Global) -> Result<Ended, AllocError>
         requires { self.lost ≡ None }
-        ensures schedule { result ≡ self.schedule }
-        ensures good { IsSchedule result }
+        ensures schedule { IfOk result (λ ended. ended.schedule ≡ self.schedule) }
+        ensures logs { IfOk result (λ ended. ended.logs ≡ logs_of self.core) }
+        ensures last { IfOk result (λ ended. ended.last ≡ last_of self.core) }
+        ensures good { IfOk result (λ ended. IsSchedule ended.schedule) }
         ensures reached { IsReached self.core }
-        ensures led { HasLed result.events self.core }
-        ensures sized { IsOfSize self.core.size result }
+        ensures led { IfOk result (λ ended. HasLed ended.schedule.events self.core) }
+        ensures sized { IfOk result (λ ended. IsOfSize self.core.size ended.schedule) }
+        ensures lines { IfOk result (λ ended. length ended.last ≡ self.core.size.lines) }
+        ensures within { IfOk result (λ ended. AreWithin self.core.size.lines ended.logs) }
+        ensures lawful { IfOk result (λ ended. Lawful ended.logs ended.last) }
+        ensures consistent { IfOk result
+            (λ ended. IsSequentiallyConsistent ended.logs ended.last) }
     {
-        // Read, so that the prover knows that the state is reached, and that the schedule is one.
-        let _extent = self.machine.extent();
+        // Read, so that the prover knows that the schedule is one.
         let _events = self.record.schedule.events();
-        self.record.schedule
+        let logs = self.machine.logs(alloc)?;
+        let last = self.machine.last();
+        Ok(Ended {
+            schedule: self.record.schedule,
+            logs,
+            last,
+        })
     }
 }

@@ -1,12 +1,16 @@
 //! A script that is run by the policy, one turn after another.
 
-ghost use Rattle.std.specs.Prelude.{◌≡◌, ◌≤◌, false, IfOk};
-ghost use Rattle.sci_runs.specs.Runs.{IsRunOf};
+ghost use Rattle.std.specs.Prelude.{◌≡◌, ◌≤◌, false, length, IfOk};
+ghost use Rattle.sci_history.specs.Audit.{AreWithin};
+ghost use Rattle.sci_history.specs.Lawful.{Lawful};
+ghost use Rattle.sci_history.specs.Sequential.{IsSequentiallyConsistent};
+ghost use Rattle.sci_runs.specs.Runs.{IsRunOf, last_behind, logs_behind};
 
 use crate::fault::RunFault;
 use crate::order::Order;
 use crate::table::Table;
 use sci_drive::Issuing;
+use sci_history::{Last, Logs};
 use sci_text::{Schedule, Script};
 use sci_threads::operations_by_node;
 use std::alloc::Global;
@@ -27,6 +31,10 @@ pub struct Plan {
 pub struct Run {
     /// All events of the run, in their order.
     pub schedule: Schedule,
+    /// The logs of all nodes.
+    pub logs: Logs,
+    /// The last contents of each line.
+    pub last: Last,
     /// Whether each operation of the script was performed.
     pub done: bool,
     /// How many turns the nodes have taken, all together.
@@ -40,14 +48,22 @@ pub fn run_script(alloc: Global, script: &Script, plan: Plan) -> Result<Run, Run
     ensures run { IfOk result (λ run. IsRunOf script.now plan.issuing run.done run.schedule) }
     ensures turns { IfOk result (λ run. run.turns ≤ plan.turns) }
     ensures all { IfOk result (λ run. run.done ≡ false → run.turns ≡ plan.turns) }
+    ensures logs { IfOk result (λ run. run.logs ≡ logs_behind script.now run.schedule) }
+    ensures last { IfOk result (λ run. run.last ≡ last_behind script.now run.schedule) }
+    ensures lines { IfOk result (λ run. length run.last ≡ script.now.lines) }
+    ensures within { IfOk result (λ run. AreWithin script.now.lines run.logs) }
+    ensures lawful { IfOk result (λ run. Lawful run.logs run.last) }
+    ensures consistent { IfOk result (λ run. IsSequentiallyConsistent run.logs run.last) }
 {
     let operations = operations_by_node(alloc, script)?;
     let mut table = Table::new(alloc, script, &operations, plan.issuing)?;
     let mut order = Order::new(plan.seed);
     let ran = table.go_on(&mut order, plan.turns)?;
-    let schedule = table.finish();
+    let ended = table.finish(alloc)?;
     Ok(Run {
-        schedule,
+        schedule: ended.schedule,
+        logs: ended.logs,
+        last: ended.last,
         done: ran.done,
         turns: ran.turns,
     })

@@ -3,9 +3,9 @@
 use crate::fault::RunFault;
 use crate::order::Order;
 use crate::player::{Player, are_answered, new_players};
-use crate::recorder::Recorder;
+use crate::recorder::{Ended, Recorder};
 use sci_drive::Issuing;
-use sci_text::{Schedule, Script};
+use sci_text::Script;
 use sci_words::Op;
 use std::alloc::Global;
 use std::marker::Model;
@@ -55,7 +55,10 @@ impl<'a> Table<'a> {
     ghost use Rattle.sci_words.specs.declared.limits.TheConstants.{MAX_OPERATIONS};
     ghost use Rattle.sci_threads.specs.Shares.{operations_of};
     ghost use Rattle.sci_runs.specs.Players.{IsAnswered};
-    ghost use Rattle.sci_runs.specs.Runs.{IsRunOf};
+    ghost use Rattle.sci_history.specs.Audit.{AreWithin};
+    ghost use Rattle.sci_history.specs.Lawful.{Lawful};
+    ghost use Rattle.sci_history.specs.Sequential.{IsSequentiallyConsistent};
+    ghost use Rattle.sci_runs.specs.Runs.{IsRunOf, last_behind, logs_behind};
 
     /// A new machine of the size that the script says, whose nodes have done nothing. Requires the operations of each node.
     /// Refused if memory is.
@@ -132,13 +135,24 @@ impl<'a> Table<'a> {
         })
     }
 
-    /// The schedule of the run so far. Requires that no event was lost.
-    pub(crate) fn finish(self) -> Schedule
+    /// The schedule of the run so far, with the logs and the last contents behind it. Requires that no event was lost. Refused
+    /// if memory is.
+    pub(crate) fn finish(self, alloc: Global) -> Result<Ended, RunFault>
         requires { self.recorder.lost ≡ None }
-        ensures run { IsRunOf self.entry.script self.entry.issuing false result }
-        ensures whole { All IsAnswered self.entry.drivers →
-            IsRunOf self.entry.script self.entry.issuing true result }
+        ensures run { IfOk result
+            (λ ended. IsRunOf self.entry.script self.entry.issuing false ended.schedule) }
+        ensures whole { All IsAnswered self.entry.drivers → IfOk result
+            (λ ended. IsRunOf self.entry.script self.entry.issuing true ended.schedule) }
+        ensures logs { IfOk result
+            (λ ended. ended.logs ≡ logs_behind self.entry.script ended.schedule) }
+        ensures last { IfOk result
+            (λ ended. ended.last ≡ last_behind self.entry.script ended.schedule) }
+        ensures lines { IfOk result (λ ended. length ended.last ≡ self.entry.script.lines) }
+        ensures within { IfOk result (λ ended. AreWithin self.entry.script.lines ended.logs) }
+        ensures lawful { IfOk result (λ ended. Lawful ended.logs ended.last) }
+        ensures consistent { IfOk result
+            (λ ended. IsSequentiallyConsistent ended.logs ended.last) }
     {
-        self.recorder.finish()
+        Ok(self.recorder.finish(alloc)?)
     }
 }
