@@ -1,0 +1,72 @@
+-- A histogram of what was seen, and its rows.
+use Rattle.std.proofs.Common.{◌≡◌, ℕ, ◌+◌, Bool, true, false, cond, arith, List, [], ◌∷◌, ◌++◌, Option, Some, None, length, length-append, refl, ap, ◌∙◌}
+use Rattle.std.specs.Prelude.{option_map, unwrap_or}
+use Rattle.std.specs.List.{sum_by}
+use Rattle.std.specs.BTreeMap.{BTreeMap, IsOrdered, Updates, get, insert_entry, values}
+use Rattle.std.specs.Map.{values_of}
+use Rattle.std.specs.Cmp.{IsTotalOrder}
+use Rattle.std.specs.Ordering.{eq_by_cmp}
+use Rattle.std.proofs.Math.Path.{fun_ext}
+use Rattle.std.proofs.lemmas.Cmp.{eq_by_cmp_equiv, lists_total, nat_cmp_total, on_total, then_total}
+use Rattle.std.proofs.lemmas.Map.Entries.{sum_by-insert_entry}
+use Rattle.sci_outcomes.specs.declared.histogram.Histogram.{Histogram}
+use Rattle.sci_outcomes.specs.declared.histogram.Tally.{Tally}
+use Rattle.sci_outcomes.specs.declared.outcome.Held.{Held}
+use Rattle.sci_outcomes.specs.declared.outcome.Outcome.{Outcome}
+use Rattle.sci_outcomes.specs.declared.outcome.Replied.{Replied}
+use Rattle.sci_outcomes.specs.declared.outcome.Sighting.{Sighting}
+use Rattle.sci_outcomes.specs.Rows.{HasCounted, has_outcome, held_cmp, outcome_cmp, replied_cmp, tally_by, with_run}
+use Rattle.sci_outcomes.proofs.Counts.{tally_more, tally_same}
+
+-- ---- the order of outcomes
+
+replied_total : IsTotalOrder replied_cmp
+replied_total = then_total (on_total (λ (r : Replied). r.node) nat_cmp_total) (then_total (on_total (λ (r : Replied). r.serial) nat_cmp_total) (on_total (λ (r : Replied). r.word) nat_cmp_total))
+
+held_total : IsTotalOrder held_cmp
+held_total = then_total (on_total (λ (h : Held). h.line) nat_cmp_total) (then_total (on_total (λ (h : Held). h.word) nat_cmp_total) (on_total (λ (h : Held). h.value) nat_cmp_total))
+
+pub outcome_total : IsTotalOrder outcome_cmp
+outcome_total = then_total (on_total (λ (o : Outcome). o.replies.items) (lists_total replied_total)) (on_total (λ (o : Outcome). o.last.items) (lists_total held_total))
+
+abbrev is_same : Outcome → Outcome → Bool
+is_same = eq_by_cmp outcome_cmp
+
+same_back : (a b : Outcome) → is_same a b ≡ is_same b a
+same_back = (eq_by_cmp_equiv outcome_total).symm
+
+-- outcomes that are the same are had by the same sightings
+same_sightings : (a b : Outcome) → is_same a b ≡ true → has_outcome a ≡ has_outcome b
+same_sightings a b is = fun_ext (λ (s : Sighting). (eq_by_cmp_equiv outcome_total).congr a b s.outcome is)
+
+-- ---- one more
+
+module _ (old : Histogram) (tallies : BTreeMap Outcome Tally) (seen : List Sighting) (x : Sighting) (tally : Tally) (counted : HasCounted old seen) (tally_is : tally ≡ with_run (get outcome_cmp old.tallies x.outcome) old.runs x.in_order) where
+  some_tally : (q : Outcome) → is_same x.outcome q ≡ true → Some tally ≡ tally_by (has_outcome q) (seen ++ x ∷ [])
+  some_tally q is =
+      ap Some tally_is
+      ∙ (ap (λ t. Some (with_run t old.runs x.in_order)) (counted.each x.outcome ∙ ap (λ p. tally_by p seen) (same_sightings x.outcome q is))
+      ∙ (ap (λ n. Some (with_run (tally_by (has_outcome q) seen) n x.in_order)) counted.many ∙ tally_more (has_outcome q) seen x (same_back q x.outcome ∙ is)))
+
+  each_tally : (q : Outcome) (b : Bool) → is_same x.outcome q ≡ b → get outcome_cmp tallies q ≡ cond b (Some tally) (get outcome_cmp old.tallies q) → get outcome_cmp tallies q ≡ tally_by (has_outcome q) (seen ++ x ∷ [])
+  each_tally q true is now = now ∙ some_tally q is
+  each_tally q false is now = now ∙ (counted.each q ∙ tally_same (has_outcome q) seen x (same_back q x.outcome ∙ is))
+
+  runs_of : (before : Option Tally) (n : ℕ) (b : Bool) → (with_run before n b).runs ≡ unwrap_or (option_map (λ t. t.runs) before) 0 + 1
+  runs_of None n b = refl
+  runs_of (Some t) n b = refl
+
+  pub counted_more : Updates outcome_cmp old.tallies tallies x.outcome (Some tally) → tallies.entries ≡ insert_entry outcome_cmp old.tallies.entries x.outcome tally → IsOrdered outcome_cmp old.tallies → HasCounted (record { tallies = tallies; runs = old.runs + 1 }) (seen ++ x ∷ [])
+  counted_more updates entries ordered =
+      let long : length (seen ++ x ∷ []) ≡ length seen + 1 = length-append seen (x ∷ []) in
+      let total : sum_by (λ (t : Tally). t.runs) (values_of (insert_entry outcome_cmp old.tallies.entries x.outcome tally)) + unwrap_or (option_map (λ (t : Tally). t.runs) (get outcome_cmp old.tallies x.outcome)) 0 ≡ sum_by (λ (t : Tally). t.runs) (values old.tallies) + tally.runs
+      = sum_by-insert_entry (λ (t : Tally). t.runs) outcome_total old.tallies.entries x.outcome tally ordered in
+      let runs : tally.runs ≡ unwrap_or (option_map (λ (t : Tally). t.runs) (get outcome_cmp old.tallies x.outcome)) 0 + 1 = ap (λ (t : Tally). t.runs) tally_is ∙ runs_of (get outcome_cmp old.tallies x.outcome) old.runs x.in_order in
+      let now : sum_by (λ (t : Tally). t.runs) (values tallies) ≡ sum_by (λ (t : Tally). t.runs) (values_of (insert_entry outcome_cmp old.tallies.entries x.outcome tally)) = ap (λ es. sum_by (λ (t : Tally). t.runs) (values_of es)) entries in
+      let many = counted.many in
+      let whole = counted.whole in
+      record {
+        many = omega (arith, long, many);
+        each = λ q. each_tally q (is_same x.outcome q) refl (updates.0 q);
+        whole = omega (arith, long, total, runs, now, whole);
+      }

@@ -1,0 +1,5 @@
+pub mod Counts
+pub mod Places
+pub mod Histograms
+pub mod Ranked
+pub mod Sightings

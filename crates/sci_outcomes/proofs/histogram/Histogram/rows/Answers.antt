@@ -1,0 +1,24 @@
+use Rattle.std.proofs.Common.{◌≡◌, map, sym, ap, subst, ◌∙◌, rules, List, ℕ}
+use Rattle.std.specs.List.Sorted.{IsPermutation, IsStableBy}
+use Rattle.std.proofs.lemmas.List.Sorted.{answers_always}
+use Rattle.std.proofs.lemmas.Map.Iter.{iter_end}
+use Rattle.std.specs.declared.cmp.Reverse.{Reverse}
+use Rattle.sci_outcomes.specs.declared.histogram.Row.{Row}
+use Rattle.sci_outcomes.specs.declared.histogram.Tally.{Tally}
+use Rattle.sci_outcomes.specs.declared.outcome.Outcome.{Outcome}
+use Rattle.sci_outcomes.specs.Rows.{row_of}
+use Rattle.sci_outcomes.proofs.Ranked.{are_rows, is_more, map_same}
+use Rattle.sci_outcomes.proofs.histogram.Histogram.rows.Goals as goal
+
+pub returns : goal.returns
+returns c = λ seen counted.
+    let entries = c.args.self.tallies.entries in
+    let all : map (λ (e : Outcome × Tally). e) c.loop-outcome.yielded ≡ entries
+    = (iter_end (λ (e : Outcome × Tally). e) entries c.loop-outcome.yielded c.into_iter-outcome-iterator.result c.loop-outcome.outcome-iterator c.next.new.self c.next.result c.into_iter-outcome-iterator.ensures.into_iter_gives.0 c.loop-outcome.yielded_by c.in-None.is c.next.ensures.steps).0 in
+    let is : c.loop-outcome.rows.items ≡ map row_of entries = c.loop-outcome.invariant ∙ ap (map row_of) (sym (map_same c.loop-outcome.yielded) ∙ all) in
+    let sorts = c.in_ok-sort_by_key.ensures in
+    let key = λ (row : Row). let k : Reverse ℕ = record { 0 = row.runs } in k in
+    let sorted = sorts.sorted key (answers_always _ _ _ (λ f a r g called. search rules)) in
+    let stable = sorts.stable key (answers_always _ _ _ (λ f a r g called. search rules)) in
+    are_rows c.args.self seen c.sort_by_key.new.self.items counted c.len.ensures.ordered (subst (λ (rows : List Row). IsPermutation rows c.sort_by_key.new.self.items) is sorts.permutation) sorted
+    (subst (λ (rows : List Row). IsStableBy is_more rows c.sort_by_key.new.self.items) is stable)

@@ -1,0 +1,7 @@
+use Rattle.std.proofs.Common.{◌≡◌, map}
+use Rattle.sci_outcomes.specs.Rows.{row_of}
+use Rattle.sci_outcomes.proofs.histogram.Histogram.rows.Given as goal
+
+-- the rows so far
+abbrev pub invariant-loop-outcome : goal.invariant-loop-outcome
+invariant-loop-outcome l = l.rows.items ≡ map row_of l.yielded

@@ -1,0 +1,75 @@
+-- How often each outcome was seen.
+use Rattle.std.specs.Prelude.{◌≡◌, ℕ, ◌+◌, ◌==◌, ◌&&◌, ◌||◌, Bool, List, length, map, sum, All, count_by, Option, Some, None, if◌then◌else◌}
+use Rattle.std.specs.List.{list_any, position_or_len, sum_by}
+use Rattle.std.specs.List.Sorted.{IsStrictlySortedBy}
+use Rattle.std.specs.BTreeMap.{get, values}
+use Rattle.std.specs.Cmp.Lexicographic.{slice_cmp}
+use Rattle.std.specs.Ordering.{is_eq, nat_cmp, ordering_then}
+use Rattle.std.specs.declared.cmp.Ordering.{Ordering}
+use Rattle.sci_outcomes.specs.declared.histogram.Histogram.{Histogram}
+use Rattle.sci_outcomes.specs.declared.histogram.Row.{Row}
+use Rattle.sci_outcomes.specs.declared.histogram.Tally.{Tally}
+use Rattle.sci_outcomes.specs.declared.outcome.Held.{Held}
+use Rattle.sci_outcomes.specs.declared.outcome.Outcome.{Outcome}
+use Rattle.sci_outcomes.specs.declared.outcome.Replied.{Replied}
+use Rattle.sci_outcomes.specs.declared.outcome.Sighting.{Sighting}
+
+-- ---- the order of outcomes: by their replies, then by their words, as numbers
+
+abbrev pub replied_cmp : Replied → Replied → Ordering
+replied_cmp a b = ordering_then (nat_cmp a.node b.node) (ordering_then (nat_cmp a.serial b.serial) (nat_cmp a.word b.word))
+
+abbrev pub held_cmp : Held → Held → Ordering
+held_cmp a b = ordering_then (nat_cmp a.line b.line) (ordering_then (nat_cmp a.word b.word) (nat_cmp a.value b.value))
+
+abbrev pub outcome_cmp : Outcome → Outcome → Ordering
+outcome_cmp a b = ordering_then (slice_cmp replied_cmp a.replies.items b.replies.items) (slice_cmp held_cmp a.last.items b.last.items)
+
+-- whether a run that was seen had this outcome
+abbrev pub has_outcome : Outcome → Sighting → Bool
+has_outcome outcome sighting = is_eq (outcome_cmp outcome sighting.outcome)
+
+abbrev pub has_outcome_in_order : Outcome → Sighting → Bool
+has_outcome_in_order outcome sighting = has_outcome outcome sighting && sighting.in_order
+
+-- ---- rows
+
+-- A row of what was seen: how many runs had its outcome, the number of the first of them, and whether one of them was in order.
+pub record IsRowOf (seen : List Sighting) (row : Row) : Type 0 where
+  pub runs : row.runs ≡ count_by (has_outcome row.outcome) seen
+  pub first : row.first ≡ position_or_len (has_outcome row.outcome) seen
+  pub in_order : row.in_order ≡ list_any (has_outcome_in_order row.outcome) seen
+
+-- the most frequent first, and those that are as frequent by outcome
+abbrev pub row_cmp : Row → Row → Ordering
+row_cmp a b = ordering_then (nat_cmp b.runs a.runs) (outcome_cmp a.outcome b.outcome)
+
+-- The rows of what was seen: each outcome that was seen has just one row, and their runs are all that were seen.
+pub record AreRowsOf (seen : List Sighting) (rows : List Row) : Type 0 where
+  pub each : All (IsRowOf seen) rows
+  pub once : All (λ sighting. count_by (λ row. has_outcome row.outcome sighting) rows ≡ 1) seen
+  pub whole : sum (map (λ row. row.runs) rows) ≡ length seen
+  pub sorted : IsStrictlySortedBy row_cmp rows
+
+-- ---- inside
+
+-- the runs of those that were seen which pass a test, if some do
+abbrev pub tally_by : (Sighting → Bool) → List Sighting → Option Tally
+tally_by test seen =
+    if count_by test seen == 0
+    then None
+    else Some record { runs = count_by test seen; first = position_or_len test seen; in_order = list_any (λ sighting. test sighting && sighting.in_order) seen }
+
+-- and one more run, with this number
+abbrev pub with_run : Option Tally → ℕ → Bool → Tally
+with_run None number in_order = record { runs = 1; first = number; in_order = in_order }
+with_run (Some tally) number in_order = record { runs = tally.runs + 1; first = tally.first; in_order = tally.in_order || in_order }
+
+-- a histogram of what was seen
+pub record HasCounted (histogram : Histogram) (seen : List Sighting) : Type 0 where
+  pub many : histogram.runs ≡ length seen
+  pub each : (outcome : Outcome) → get outcome_cmp histogram.tallies outcome ≡ tally_by (has_outcome outcome) seen
+  pub whole : sum_by (λ tally. tally.runs) (values histogram.tallies) ≡ length seen
+
+abbrev pub row_of : Outcome × Tally → Row
+row_of entry = record { outcome = entry.0; runs = entry.1.runs; first = entry.1.first; in_order = entry.1.in_order }

@@ -1,0 +1,110 @@
+//! How often each outcome was seen.
+
+ghost use Rattle.sci_outcomes.specs.Rows.{AreRowsOf, HasCounted};
+
+use crate::outcome::{Outcome, Sighting};
+use std::alloc::{AllocError, Global};
+use std::cmp::Reverse;
+use std::collections::BTreeMap;
+
+/// An outcome, and the runs that gave it.
+#[derive(Debug, Drop)]
+pub struct Row {
+    /// The outcome.
+    pub outcome: Outcome,
+    /// How many runs gave it.
+    pub runs: u64,
+    /// The number of the first of them, from 0.
+    pub first: u64,
+    /// Whether one memory of one thread explains the logs of one of them with each node's operations in the order of the
+    /// script.
+    pub in_order: bool,
+}
+
+/// The runs that gave an outcome.
+#[derive(Clone, Copy)]
+struct Tally {
+    runs: u64,
+    first: u64,
+    in_order: bool,
+}
+
+impl Tally {
+    ghost use Rattle.std.specs.Prelude.{◌≡◌, ◌<◌, IfSome};
+    ghost use Rattle.std.specs.Option.{option_copied};
+    ghost use Rattle.sci_outcomes.specs.Rows.{with_run as with_run_of};
+
+    /// The runs that gave an outcome, if some did before, and one more with this number. Requires that there were fewer than
+    /// 2^64 - 1.
+    fn with_run(before: Option<&Tally>, number: u64, in_order: bool) -> Tally
+        requires { IfSome before (λ tally. tally.now.runs < u64.MAX) }
+        ensures { result ≡ with_run_of (option_copied before.entry) number in_order }
+    {
+        match before {
+            None => Tally {
+                runs: 1,
+                first: number,
+                in_order,
+            },
+            Some(tally) => Tally {
+                runs: tally.runs + 1,
+                first: tally.first,
+                in_order: tally.in_order || in_order,
+            },
+        }
+    }
+}
+
+/// The outcomes of the runs so far.
+#[derive(Drop)]
+pub(crate) struct Histogram {
+    tallies: BTreeMap<Outcome, Tally>,
+    runs: u64,
+}
+
+impl Histogram {
+    ghost use Rattle.std.specs.Prelude.{◌≡◌, ◌<◌, ◌++◌, ◌∷◌, [], List, length, IfOk, OnOk};
+    ghost use Rattle.sci_outcomes.specs.declared.outcome.Sighting.{Sighting};
+    ghost use Rattle.sci_outcomes.specs.Rows.{AreRowsOf, HasCounted};
+
+    /// No run was seen.
+    pub(crate) fn new(alloc: Global) -> Histogram
+        ensures { HasCounted result [] }
+    {
+        Histogram {
+            tallies: BTreeMap::new(alloc),
+            runs: 0,
+        }
+    }
+
+    /// Counts one more run. Requires that fewer than 2^64 - 1 were seen. Refused if memory is.
+    pub(crate) fn add(&mut self, sighting: Sighting) -> Result<(), AllocError>
+        requires { (seen : List Sighting) × HasCounted self.old seen × (length seen < u64.MAX) }
+        ensures { OnOk result ((seen : List Sighting) → HasCounted self.old seen →
+            HasCounted self.new (seen ++ sighting ∷ [])) }
+    {
+        let Sighting { outcome, in_order } = sighting;
+        let tally = Tally::with_run(self.tallies.get(&outcome), self.runs, in_order);
+        self.tallies.insert(outcome, tally)?;
+        self.runs += 1;
+        Ok(())
+    }
+
+    /// The rows of all outcomes, the most frequent first, and those that are as frequent by outcome. Refused if memory is.
+    pub(crate) fn rows(self, alloc: Global) -> Result<Vec<Row>, AllocError>
+        ensures { IfOk result (λ rows. (seen : List Sighting) → HasCounted self seen →
+            AreRowsOf seen rows.items) }
+    {
+        let mut rows = Vec::with_capacity(alloc, self.tallies.len())?;
+        for (outcome, tally) in self.tallies {
+            rows.push(Row {
+                outcome,
+                runs: tally.runs,
+                first: tally.first,
+                in_order: tally.in_order,
+            })?;
+        }
+        rows.sort_by_key(|row| Reverse(row.runs))?;
+        Ok(rows)
+    }
+}

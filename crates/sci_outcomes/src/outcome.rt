@@ -1,0 +1,141 @@
+//! The outcome of a run: what its operations replied, and the words that they left.
+
+ghost use Rattle.std.specs.Prelude.{◌≡◌, ◌↔◌, ◌++◌, true, length, map, All, IfOk, OnOk};
+ghost use Rattle.std.specs.List.{filter_map};
+ghost use Rattle.sci_history.specs.Audit.{AreWithin};
+ghost use Rattle.sci_history.specs.Cycle.{IsOrdered};
+ghost use Rattle.sci_history.specs.Lawful.{Lawful};
+ghost use Rattle.sci_outcomes.specs.Outcomes.{IsPlaceWithin, IsSeen, held_at, replied, replies_in};
+
+use crate::place::Place;
+use sci_history::{Entry, Last, Logs, OrderVerdict, sequential_order, serial_order_is_lawful};
+use sci_words::{Reply, Word};
+use std::alloc::{AllocError, Global};
+
+/// What an operation replied.
+#[derive(Clone, Copy, Debug, PartialEq, Eq, PartialOrd, Ord)]
+pub struct Replied {
+    /// The operation's node, below 16.
+    pub node: u8,
+    /// Its serial at the node, from 0: its place among the node's operations in the script.
+    pub serial: u32,
+    /// The word that it replied.
+    pub word: Word,
+}
+
+/// What a word of memory holds.
+#[derive(Clone, Copy, Debug, PartialEq, Eq, PartialOrd, Ord)]
+pub struct Held {
+    /// The line, below 64.
+    pub line: u8,
+    /// The word's place in the line, below 8.
+    pub word: u8,
+    /// What it holds.
+    pub value: Word,
+}
+
+/// The outcome of a run.
+#[derive(Debug, Drop, PartialEq, Eq, PartialOrd, Ord)]
+pub struct Outcome {
+    /// What each load and each lock operation replied, by node, then by serial.
+    pub replies: Vec<Replied>,
+    /// What each word that the script may write holds at the end, by line, then by place.
+    pub last: Vec<Held>,
+}
+
+/// What was seen of a run.
+#[derive(Drop)]
+pub struct Sighting {
+    /// Its outcome.
+    pub outcome: Outcome,
+    /// Whether one memory of one thread explains its logs with each node's entries by serial.
+    pub in_order: bool,
+}
+
+/// What an entry replied. None if it is a store's.
+fn reply_of(entry: &Entry) -> Option<Replied>
+    ensures { result ≡ replied entry.now }
+{
+    match entry.reply {
+        Reply::Stored => None,
+        Reply::Got(word) => Some(Replied {
+            node: entry.node,
+            serial: entry.serial,
+            word,
+        }),
+    }
+}
+
+/// Appends what the entries of a log replied.
+fn push_replies(replies: &mut Vec<Replied>, log: &[Entry]) -> Result<(), AllocError>
+    ensures { OnOk result (replies.new.items ≡ replies.old.items ++ filter_map replied log.now) }
+{
+    for entry in log {
+        if let Some(reply) = reply_of(entry) {
+            replies.push(reply)?;
+        }
+    }
+    Ok(())
+}
+
+/// What the entries of all logs replied, by node.
+fn replies_of(alloc: Global, logs: &Logs) -> Result<Vec<Replied>, AllocError>
+    ensures { IfOk result (λ replies. replies.items ≡ replies_in logs.now) }
+{
+    let mut replies = Vec::new(alloc);
+    for node in 0..logs.nodes() {
+        push_replies(&mut replies, logs.of(node))?;
+    }
+    Ok(replies)
+}
+
+/// What the words at these places hold.
+fn words_of(alloc: Global, places: &[Place], last: &Last) -> Result<Vec<Held>, AllocError>
+    requires { All (IsPlaceWithin (length last.now)) places.now }
+    ensures { IfOk result (λ words. words.items ≡ map (held_at last.now) places.now) }
+{
+    let mut words = Vec::with_capacity(alloc, places.len())?;
+    for place in places {
+        words.push(Held {
+            line: place.line,
+            word: place.word,
+            value: last.get(place.line).line.word(place.word),
+        })?;
+    }
+    Ok(words)
+}
+
+/// Whether a look for an order found one.
+fn is_found(verdict: &OrderVerdict) -> bool
+    ensures { (result ≡ true) ↔ IsOrdered verdict.now }
+{
+    matches!(verdict, OrderVerdict::Order(_))
+}
+
+/// What is seen of a run by its logs and last contents: its outcome, with the words at these places, and whether it is in
+/// order. Refused if memory is.
+pub(crate) fn seen(
+    alloc: Global,
+    places: &[Place],
+    logs: &Logs,
+    last: &Last,
+) -> Result<Sighting, AllocError>
+    requires places { All (IsPlaceWithin (length last.now)) places.now }
+    requires within { AreWithin (length last.now) logs.now }
+    requires lawful { Lawful logs.now last.now }
+    ensures { IfOk result (IsSeen places.now logs.now last.now) }
+{
+    serial_order_is_lawful();
+    // Read, so that the prover knows that there are sixteen logs.
+    let _nodes = logs.nodes();
+    let by_serial = logs.by_serial(alloc)?;
+    let outcome = Outcome {
+        replies: replies_of(alloc, &by_serial)?,
+        last: words_of(alloc, places, last)?,
+    };
+    let verdict = sequential_order(alloc, &by_serial, last)?;
+    Ok(Sighting {
+        outcome,
+        in_order: is_found(&verdict),
+    })
+}
