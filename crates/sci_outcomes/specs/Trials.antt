@@ -1,28 +1,61 @@
 -- The outcomes of a script that is run many times.
-use Rattle.std.specs.Prelude.{◌≡◌, ℕ, true, All, List, length}
+use Rattle.std.specs.Prelude.{◌≡◌, ℕ, ◌+◌, ◌%◌, ◌^◌, true, All, List, length}
+use Rattle.sci_words.specs.declared.stamped.Stamped.{Stamped}
+use Rattle.sci_history.specs.declared.entry.Entry.{Entry}
 use Rattle.sci_history.specs.Lawful.{Lawful}
-use Rattle.sci_history.specs.Sequential.{IsSequentiallyConsistent}
+use Rattle.sci_history.specs.Sequential.{AreInProgramOrder, IsSequentiallyConsistent}
 use Rattle.sci_text.specs.Script.{ScriptValue}
 use Rattle.sci_text.specs.Schedule.{ScheduleValue}
 use Rattle.sci_drive.specs.declared.driver.Issuing.{Issuing}
+use Rattle.sci_drive.specs.declared.driver.Issuing.TheVariants.{InOrder}
 use Rattle.sci_runs.specs.Runs.{IsRunOf, last_behind, logs_behind}
+use Rattle.sci_threads.specs.Shares.{AreLedTo, HaveWholeLogsOf, size_for}
 use Rattle.sci_outcomes.specs.declared.histogram.Row.{Row}
 use Rattle.sci_outcomes.specs.declared.outcome.Sighting.{Sighting}
-use Rattle.sci_outcomes.specs.Outcomes.{IsSeen, written_places}
+use Rattle.sci_outcomes.specs.declared.place.Place.{Place}
+use Rattle.sci_outcomes.specs.declared.trials.Turns.{Turns}
+use Rattle.sci_outcomes.specs.declared.trials.Turns.TheVariants.{Drawn, Threads}
+use Rattle.sci_outcomes.specs.Outcomes.{IsPlaceWithin, IsSeen, written_places}
 use Rattle.sci_outcomes.specs.Rows.{AreRowsOf}
 
--- what is seen of a run of the script in which each operation was performed, of its words that may be written; its logs are
--- lawful
-pub record IsSightingOf (script : ScriptValue) (issuing : Issuing) (sighting : Sighting) : Type 0 where
+-- the places are those of the words that the script may write
+pub record AreWrittenBy (script : ScriptValue) (places : List Place) : Type 0 where
+  pub places_are : places ≡ written_places script.lines script.operations
+  pub within : All (IsPlaceWithin script.lines) places
+
+-- what is seen of a run in an order that was drawn, in which each operation was performed; its logs are lawful
+pub record IsDrawnSighting (script : ScriptValue) (issuing : Issuing) (sighting : Sighting) : Type 0 where
   pub schedule : ScheduleValue
   pub run : IsRunOf script issuing true schedule
   pub lawful : Lawful (logs_behind script schedule) (last_behind script schedule)
   pub consistent : IsSequentiallyConsistent (logs_behind script schedule) (last_behind script schedule)
   pub seen : IsSeen (written_places script.lines script.operations) (logs_behind script schedule) (last_behind script schedule) sighting
 
+-- what is seen of a run by threads in which each operation was performed; its logs are lawful, and in order if operations are
+-- issued so
+pub record IsThreadSighting (script : ScriptValue) (issuing : Issuing) (sighting : Sighting) : Type 0 where
+  pub logs : List (List Entry)
+  pub last : List Stamped
+  pub led : AreLedTo (size_for script) logs last
+  pub whole : HaveWholeLogsOf script logs
+  pub ordered : issuing ≡ InOrder → AreInProgramOrder logs
+  pub lawful : Lawful logs last
+  pub consistent : IsSequentiallyConsistent logs last
+  pub seen : IsSeen (written_places script.lines script.operations) logs last sighting
+
+-- in which order nodes take turns in the run with this number
+abbrev pub turns_of_run : Turns → ℕ → Turns
+turns_of_run (Drawn seed) number = Drawn ((seed + number) % 2 ^ 64)
+turns_of_run Threads number = Threads
+
+-- what is seen of a run in such an order
+abbrev pub IsSightingOf : ScriptValue → Turns → Issuing → Sighting → Type 0
+IsSightingOf script (Drawn seed) issuing sighting = IsDrawnSighting script issuing sighting
+IsSightingOf script Threads issuing sighting = IsThreadSighting script issuing sighting
+
 -- the rows of what was seen of so many runs of the script, in their order
-pub record AreOutcomes (script : ScriptValue) (issuing : Issuing) (runs : ℕ) (rows : List Row) : Type 0 where
+pub record AreOutcomes (script : ScriptValue) (turns : Turns) (issuing : Issuing) (runs : ℕ) (rows : List Row) : Type 0 where
   pub seen : List Sighting
   pub many : length seen ≡ runs
-  pub each : All (IsSightingOf script issuing) seen
+  pub each : All (IsSightingOf script turns issuing) seen
   pub rows_are : AreRowsOf seen rows

@@ -46,10 +46,10 @@ impl Tally {
                 first: number,
                 in_order,
             },
-            Some(tally) => Tally {
-                runs: tally.runs + 1,
-                first: tally.first,
-                in_order: tally.in_order || in_order,
+            Some(so_far) => Tally {
+                runs: so_far.runs + 1,
+                first: so_far.first,
+                in_order: so_far.in_order || in_order,
             },
         }
     }

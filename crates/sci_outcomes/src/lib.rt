@@ -8,4 +8,4 @@ mod trials;
 
 pub use histogram::Row;
 pub use outcome::{Held, Outcome, Replied, Sighting};
-pub use trials::{Trials, outcomes};
+pub use trials::{Trials, Turns, outcomes};

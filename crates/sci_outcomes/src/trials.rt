@@ -1,73 +1,167 @@
 //! A script that is run many times, and its outcomes.
 
-ghost use Rattle.std.specs.Prelude.{◌≡◌, All, IfOk};
-ghost use Rattle.sci_outcomes.specs.Outcomes.{IsPlaceWithin, written_places as written_places_of};
-ghost use Rattle.sci_outcomes.specs.Trials.{AreOutcomes, IsSightingOf};
+ghost use Rattle.std.specs.Prelude.{◌≡◌, true, All, IfOk};
+ghost use Rattle.sci_history.specs.Lawful.{Lawful};
+ghost use Rattle.sci_history.specs.Sequential.{AreInProgramOrder, IsSequentiallyConsistent};
+ghost use Rattle.sci_drive.specs.declared.driver.Issuing.TheVariants.{InOrder};
+ghost use Rattle.sci_threads.specs.Shares.{AreLedTo, HaveWholeLogsOf, size_for};
+ghost use Rattle.sci_outcomes.specs.Outcomes.{IsPlaceWithin};
+ghost use Rattle.sci_outcomes.specs.Trials.{AreOutcomes, AreWrittenBy, IsDrawnSighting, IsSightingOf, IsThreadSighting};
 
 use crate::histogram::{Histogram, Row};
 use crate::outcome::{Sighting, seen};
 use crate::place::{Place, written_places};
 use sci_drive::Issuing;
+use sci_history::{Last, Logs};
 use sci_runs::{Plan, RunFault, run_script};
 use sci_text::Script;
+use sci_threads::{YieldingGate, run_in_order, run_nodes};
 use sci_words::MAX_TURNS;
-use std::alloc::Global;
+use std::alloc::{AllocError, Global};
+use std::sync::atomic::AtomicU64;
+use std::thread::Threads;
+
+/// In which order the nodes of runs take turns.
+#[derive(Clone, Copy, Debug, PartialEq, Eq)]
+pub enum Turns {
+    /// In an order that is drawn: from this seed in the first run, and from the next number in each further run; 0 follows
+    /// 2^64 - 1.
+    Drawn { seed: u64 },
+    /// As it comes: each node has a thread of its own.
+    Threads,
+}
 
 /// How a script is run many times.
 #[derive(Clone, Copy)]
 pub struct Trials {
     /// How many runs there are.
     pub runs: u64,
-    /// What the order of turns of the first run is drawn from. Each further run has the next number, and 0 follows 2^64 - 1.
-    pub seed: u64,
+    /// In which order the nodes take turns.
+    pub turns: Turns,
     /// When the operations of a node are submitted.
     pub issuing: Issuing,
 }
 
-impl Trials {
-    /// How the run with this number is done: by its own seed, in at most 1,000,000,000 turns.
-    fn plan(&self, number: u64) -> Plan
-        ensures { result.issuing ≡ self.now.issuing }
+impl Turns {
+    ghost use Rattle.std.specs.Prelude.{◌≡◌};
+    ghost use Rattle.sci_outcomes.specs.Trials.{turns_of_run};
+
+    /// In which order the nodes take turns in the run with this number.
+    fn of_run(self, number: u64) -> Turns
+        ensures { result ≡ turns_of_run self number }
     {
-        Plan {
-            seed: Some(self.seed.wrapping_add(number)),
-            issuing: self.issuing,
-            turns: u64::from(MAX_TURNS),
+        match self {
+            Turns::Drawn { seed } => Turns::Drawn {
+                seed: seed.wrapping_add(number),
+            },
+            Turns::Threads => Turns::Threads,
         }
     }
 }
 
-/// Runs a script, and gives what is seen of the run, with the words at these places. Requires that they are those that the
-/// script may write. Refused if memory is, and as too many if there are more than 500,000 events, or if the turns are used up
-/// before each operation is performed.
-fn one_run(
-    alloc: Global,
-    script: &Script,
-    places: &[Place],
-    plan: Plan,
-) -> Result<Sighting, RunFault>
-    requires places { places.now ≡ written_places_of script.now.lines script.now.operations }
-    requires within { All (IsPlaceWithin script.now.lines) places.now }
-    ensures { IfOk result (IsSightingOf script.now plan.issuing) }
+/// A script, the words that it may write, and when the operations of a node are submitted.
+#[derive(Clone, Copy)]
+struct Litmus<'a> {
+    script: &'a Script,
+    places: &'a [Place],
+    issuing: Issuing,
+}
+
+/// Runs a script in an order that is drawn from a seed, and gives what is seen of the run. Refused if memory is, and as too
+/// many if there are more than 500,000 events, or if 1,000,000,000 turns are used up before each operation is performed.
+fn drawn_run(alloc: Global, litmus: Litmus<'_>, seed: u64) -> Result<Sighting, RunFault>
+    requires { AreWrittenBy litmus.script.now litmus.places.now }
+    ensures { IfOk result (IsDrawnSighting litmus.entry.script.now litmus.entry.issuing) }
 {
-    let run = run_script(alloc, script, plan)?;
+    let plan = Plan {
+        seed: Some(seed),
+        issuing: litmus.issuing,
+        turns: u64::from(MAX_TURNS),
+    };
+    let run = run_script(alloc, litmus.script, plan)?;
     if !run.done {
         return Err(RunFault::TooMany);
     }
-    Ok(seen(alloc, places, &run.logs, &run.last)?)
+    Ok(seen(alloc, litmus.places, &run.logs, &run.last)?)
+}
+
+/// Runs a script with one thread a node, each for at most 1,000,000,000 turns, and gives the logs, the last contents, and
+/// whether all nodes have finished. Refused if memory is.
+fn run_by_threads<R: Threads + Sync>(
+    rt: &R,
+    alloc: Global,
+    script: &Script,
+    issuing: Issuing,
+) -> Result<(Logs, Last, bool), AllocError>
+    ensures ordered { IfOk result (λ ran. issuing ≡ InOrder → AreInProgramOrder ran.0) }
+    ensures whole { IfOk result (λ ran. ran.2 ≡ true → HaveWholeLogsOf script.now ran.0) }
+    ensures led { IfOk result (λ ran. AreLedTo (size_for script.now) ran.0 ran.1) }
+    ensures lawful { IfOk result (λ ran. Lawful ran.0 ran.1) }
+    ensures consistent { IfOk result (λ ran. IsSequentiallyConsistent ran.0 ran.1) }
+{
+    let done = AtomicU64::new(0);
+    let gates = YieldingGate::for_nodes(alloc, script.extent().nodes, &done)?;
+    match issuing {
+        Issuing::Ahead => run_nodes(rt, alloc, script, gates, MAX_TURNS),
+        Issuing::InOrder => run_in_order(rt, alloc, script, gates, MAX_TURNS),
+    }
+}
+
+/// Runs a script by threads, and gives what is seen of the run. Refused if memory is, and as too many if a node's turns are
+/// used up before each operation is performed.
+fn threaded_run<R: Threads + Sync>(
+    rt: &R,
+    alloc: Global,
+    litmus: Litmus<'_>,
+) -> Result<Sighting, RunFault>
+    requires { AreWrittenBy litmus.script.now litmus.places.now }
+    ensures { IfOk result (IsThreadSighting litmus.entry.script.now litmus.entry.issuing) }
+{
+    let (logs, last, finished) = run_by_threads(rt, alloc, litmus.script, litmus.issuing)?;
+    if !finished {
+        return Err(RunFault::TooMany);
+    }
+    Ok(seen(alloc, litmus.places, &logs, &last)?)
+}
+
+/// Runs a script in such an order of turns, and gives what is seen of the run. Refused as `outcomes` is.
+fn one_run<R: Threads + Sync>(
+    rt: &R,
+    alloc: Global,
+    litmus: Litmus<'_>,
+    turns: Turns,
+) -> Result<Sighting, RunFault>
+    requires { AreWrittenBy litmus.script.now litmus.places.now }
+    ensures { IfOk result (IsSightingOf litmus.entry.script.now turns litmus.entry.issuing) }
+{
+    match turns {
+        Turns::Drawn { seed } => drawn_run(alloc, litmus, seed),
+        Turns::Threads => threaded_run(rt, alloc, litmus),
+    }
 }
 
 /// Runs a script many times, and gives a row for each outcome that a run had: the most frequent first, and those that are as
 /// frequent by what was replied and then by the words. Each run is whole: each operation of the script has just one entry.
-/// The logs of each run are lawful. Refused if memory is, and as too many if a run has more than 500,000 events, or isn't
-/// done after 1,000,000,000 turns.
-pub fn outcomes(alloc: Global, script: &Script, trials: Trials) -> Result<Vec<Row>, RunFault>
-    ensures { IfOk result (λ rows. AreOutcomes script.now trials.issuing trials.runs rows.items) }
+/// The logs of each run are lawful. Refused if memory is, and as too many if a run isn't done after 1,000,000,000 turns, by
+/// threads of one node and else of all together, or if a run in an order that is drawn has more than 500,000 events.
+pub fn outcomes<R: Threads + Sync>(
+    rt: &R,
+    alloc: Global,
+    script: &Script,
+    trials: Trials,
+) -> Result<Vec<Row>, RunFault>
+    ensures { IfOk result (λ rows.
+        AreOutcomes script.now trials.turns trials.issuing trials.runs rows.items) }
 {
     let places = written_places(alloc, script.extent().lines, script.operations())?;
+    let litmus = Litmus {
+        script,
+        places: &places,
+        issuing: trials.issuing,
+    };
     let mut histogram = Histogram::new(alloc);
     for number in 0..trials.runs {
-        let sighting = one_run(alloc, script, &places, trials.plan(number))?;
+        let sighting = one_run(rt, alloc, litmus, trials.turns.of_run(number))?;
         histogram.add(sighting)?;
     }
     Ok(histogram.rows(alloc)?)

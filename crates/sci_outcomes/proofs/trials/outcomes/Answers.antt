@@ -1,12 +1,14 @@
 use Rattle.std.proofs.Common.{subst}
-use Rattle.sci_drive.specs.declared.driver.Issuing.{Issuing}
+use Rattle.sci_outcomes.specs.declared.trials.Turns.{Turns}
 use Rattle.sci_outcomes.specs.Trials.{IsSightingOf}
-use Rattle.sci_outcomes.proofs.Sightings.{seen_more}
+use Rattle.sci_outcomes.proofs.Sightings.{of_any_run, seen_more}
 use Rattle.sci_outcomes.proofs.trials.outcomes.Goals as goal
 
 pub loop-number-preserved : goal.loop-number-preserved
-loop-number-preserved c =
+loop-number-preserved g c =
     let script = c.args.script.now in
+    let trials = c.args.trials in
+    let number = c.loop-number.number in
     let sighting = c.in_ok-sighting.sighting in
-    let is = subst (λ (issuing : Issuing). IsSightingOf script issuing sighting) c.plan.ensures c.in_ok-sighting.ensures in
-    seen_more (IsSightingOf script c.args.trials.issuing) c.loop-number.histogram c.add.new.self c.loop-number.number sighting c.loop-number.invariant is c.in_ok-add.ensures
+    let is = of_any_run script trials.turns number trials.issuing sighting (subst (λ (turns : Turns). IsSightingOf script turns trials.issuing sighting) c.of_run.ensures c.in_ok-sighting.ensures) in
+    seen_more (IsSightingOf script trials.turns trials.issuing) c.loop-number.histogram c.add.new.self number sighting c.loop-number.invariant is c.in_ok-add.ensures
