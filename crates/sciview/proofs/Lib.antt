@@ -3,9 +3,10 @@ pub mod Answered
 mod Sent
 mod Traced
 pub mod Joined
-pub mod Outcomes
+pub mod EventEffects
 pub mod Listed
 pub mod Walks
 pub mod Words
 pub mod Ran
 pub mod RunWords
+pub mod OutcomesWords

@@ -10,10 +10,14 @@ use Rattle.sci_reports.specs.declared.ordering.NodeOrder.{NodeOrder}
 use Rattle.sci_reports.specs.declared.ordering.NodeOrder.TheVariants.{Logged, BySerial}
 use Rattle.sci_reports.specs.declared.ordering.OrderRequest.{OrderRequest}
 use Rattle.sciview.specs.declared.random.Walk.{Walk}
+use Rattle.sci_outcomes.specs.declared.trials.Turns.{Turns}
+use Rattle.sci_outcomes.specs.declared.trials.Turns.TheVariants.{Drawn, Threads}
+use Rattle.sciview.specs.declared.outcomes.OutcomesRequest.{OutcomesRequest}
+use Rattle.sciview.specs.declared.outcomes.TheConstants.{MAX_RUNS}
 use Rattle.sciview.specs.declared.run.RunRequest.{RunRequest}
 use Rattle.sciview.specs.declared.trace.TraceRequest.{TraceRequest}
 use Rattle.sciview.specs.declared.choice.Command.{Command}
-use Rattle.sciview.specs.declared.choice.Command.TheVariants.{Order, Explain, Check, Packets, Trace, Lists, Chart, Random, Run, Help, Version}
+use Rattle.sciview.specs.declared.choice.Command.TheVariants.{Order, Explain, Check, Packets, Trace, Lists, Chart, Random, Run, Outcomes, Help, Version}
 
 -- an option that is one word, if it is given
 abbrev pub flag : List ℕ → Bool → List (List ℕ)
@@ -120,6 +124,34 @@ FitsSeed (Some seed) = seed < 2 ^ 64
 abbrev pub ChoosesRun : List (List ℕ) → RunRequest → Type 0
 ChoosesRun words request = (words ≡ seed_words request.seed ++ (flag (codes "--in-order") (is_in_order request.issuing) ++ turns_words request.turns)) × FitsSeed request.seed × FitsTurns request.turns
 
+-- the words that say how many runs there are, if some do
+abbrev pub runs_words : Option ℕ → List (List ℕ)
+runs_words None = []
+runs_words (Some runs) = codes "--runs" ∷ number runs ∷ []
+
+abbrev pub FitsRuns : Option ℕ → Type 0
+FitsRuns None = Unit {0}
+FitsRuns (Some runs) = (1 ≤ runs) × (runs ≤ MAX_RUNS)
+
+-- the words that say in which order nodes take turns, if some do
+abbrev pub turn_order_words : Option Turns → List (List ℕ)
+turn_order_words None = []
+turn_order_words (Some (Drawn seed)) = codes "--seed" ∷ number seed ∷ []
+turn_order_words (Some Threads) = codes "--threads" ∷ []
+
+abbrev pub FitsTurnOrder : Option Turns → Type 0
+FitsTurnOrder None = Unit {0}
+FitsTurnOrder (Some (Drawn seed)) = seed < 2 ^ 64
+FitsTurnOrder (Some Threads) = Unit {0}
+
+-- in which order nodes take turns, and when operations are submitted
+abbrev pub ChoosesTurnOrder : List (List ℕ) → Option Turns → Issuing → Type 0
+ChoosesTurnOrder words turns issuing = (words ≡ turn_order_words turns ++ flag (codes "--in-order") (is_in_order issuing)) × FitsTurnOrder turns
+
+-- what stands behind `outcomes`
+abbrev pub ChoosesOutcomes : List (List ℕ) → OutcomesRequest → Type 0
+ChoosesOutcomes words request = (words ≡ runs_words request.runs ++ (turn_order_words request.turns ++ flag (codes "--in-order") (is_in_order request.issuing))) × FitsRuns request.runs × FitsTurnOrder request.turns
+
 -- the first word chooses a command, and those behind it what it is asked for
 abbrev pub ChoosesBy : List ℕ → List (List ℕ) → Command → Type 0
 ChoosesBy word rest (Order request) = (word ≡ codes "order") × ChoosesOrder rest request
@@ -131,6 +163,7 @@ ChoosesBy word rest (Lists line) = (word ≡ codes "lists") × ChoosesLine rest 
 ChoosesBy word rest (Chart request) = (word ≡ codes "chart") × ChoosesChart rest request
 ChoosesBy word rest (Random walk dead) = (word ≡ codes "random") × ChoosesWalk rest walk dead
 ChoosesBy word rest (Run request) = (word ≡ codes "run") × ChoosesRun rest request
+ChoosesBy word rest (Outcomes request) = (word ≡ codes "outcomes") × ChoosesOutcomes rest request
 ChoosesBy word rest Help = ((word ≡ codes "--help") ⊎ (word ≡ codes "-h")) × (rest ≡ [])
 ChoosesBy word rest Version = (word ≡ codes "--version") × (rest ≡ [])
 

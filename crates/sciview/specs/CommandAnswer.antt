@@ -10,6 +10,7 @@ use Rattle.sci_reports.specs.CheckAnswer.{IsCheckAnswer}
 use Rattle.sci_reports.specs.ExplainAnswer.{IsExplainAnswer}
 use Rattle.sciview.specs.ListsAnswer.{IsListsAnswer}
 use Rattle.sci_reports.specs.OrderAnswer.{IsOrderAnswer}
+use Rattle.sciview.specs.OutcomesAnswer.{IsOutcomesAnswer}
 use Rattle.sciview.specs.PacketsAnswer.{IsPacketsAnswer}
 use Rattle.sciview.specs.RandomAnswer.{IsRandomAnswer}
 use Rattle.sciview.specs.RunAnswer.{IsRunAnswer}
@@ -26,5 +27,6 @@ IsAnswerTo (commands.Lists line) input failed text outcome = IsListsAnswer line 
 IsAnswerTo (commands.Chart request) input failed text outcome = IsChartAnswer request.line input failed text outcome
 IsAnswerTo (commands.Random walk dead) input failed text outcome = IsRandomAnswer walk dead text outcome
 IsAnswerTo (commands.Run request) input failed text outcome = IsRunAnswer request input failed text outcome
+IsAnswerTo (commands.Outcomes request) input failed text outcome = IsOutcomesAnswer request input failed text outcome
 IsAnswerTo commands.Help input failed text outcome = (text ≡ HELP.now) × (outcome ≡ Done)
 IsAnswerTo commands.Version input failed text outcome = (text ≡ VERSION.now) × (outcome ≡ Done)

@@ -9,3 +9,4 @@ pub mod TraceAnswer
 pub mod ListsAnswer
 pub mod RandomAnswer
 pub mod RunAnswer
+pub mod OutcomesAnswer

@@ -12,6 +12,7 @@ use crate::chart::chart;
 use crate::choice::Command;
 use crate::help::{HELP, VERSION};
 use crate::lists::lists;
+use crate::outcomes::outcomes_of;
 use crate::packets::packets;
 use crate::random::random_schedule;
 use crate::run::run;
@@ -22,9 +23,11 @@ use sci_text::Tap;
 use std::alloc::Global;
 use std::io::{Read, Write};
 use std::process::ExitCode;
+use std::thread::Threads;
 
 /// Carries out a command: reads its input to the end, if it has one, and writes its answer.
-fn outcome_of<R: Read, W: Write>(
+fn outcome_of<T: Threads + Sync, R: Read, W: Write>(
+    rt: &T,
     alloc: Global,
     command: Command,
     reader: &mut Tap<R>,
@@ -50,6 +53,9 @@ fn outcome_of<R: Read, W: Write>(
             finish(alloc, writer, random_schedule(alloc, &walk, dead))
         }
         Command::Run(request) => finish(alloc, writer, run(alloc, request, reader)),
+        Command::Outcomes(request) => {
+            finish(alloc, writer, outcomes_of(rt, alloc, request, reader))
+        }
         Command::Help => write_answer(writer, HELP.as_bytes(), Outcome::Done),
         Command::Version => write_answer(writer, VERSION.as_bytes(), Outcome::Done),
     }
@@ -57,7 +63,8 @@ fn outcome_of<R: Read, W: Write>(
 
 /// Carries out a command, and answers the exit status of the program: 0 for Done, 1 for Unlawful and 2 for Refused.
 /// After the first read or write that fails nothing more is read or written.
-pub fn carried_out<R: Read, W: Write>(
+pub fn carried_out<T: Threads + Sync, R: Read, W: Write>(
+    rt: &T,
     alloc: Global,
     command: Command,
     reader: &mut Tap<R>,
@@ -72,6 +79,6 @@ pub fn carried_out<R: Read, W: Write>(
     ensures read_no_more { is_called_again reader.new ≡ is_called_again reader.old }
     ensures wrote_no_more { is_called_again writer.new ≡ is_called_again writer.old }
 {
-    let outcome = outcome_of(alloc, command, reader, writer);
+    let outcome = outcome_of(rt, alloc, command, reader, writer);
     ExitCode::from(outcome.status())
 }

@@ -1,6 +1,6 @@
 //! The words of the command line.
 
-ghost use Rattle.std.specs.Prelude.{◌≡◌, ◌↔◌, ◌<◌, ◌≤◌, ◌+◌, ◌∷◌, length, [], ℕ, Option, IfOk, Some, map};
+ghost use Rattle.std.specs.Prelude.{◌≡◌, ◌↔◌, ◌<◌, ◌≤◌, ◌+◌, ◌∷◌, length, [], ℕ, Option, IfOk, Some, map, codes};
 ghost use Rattle.sci_words.specs.declared.limits.TheConstants.{MAX_LINES};
 ghost use Rattle.sci_text.specs.Number.{number};
 ghost use Rattle.sciview.specs.declared.chart.ChartRequest.{ChartRequest};
@@ -9,16 +9,20 @@ ghost use Rattle.sciview.specs.declared.choice.Command.{Command};
 ghost use Rattle.sci_reports.specs.declared.ordering.OrderRequest.{OrderRequest};
 ghost use Rattle.sciview.specs.declared.random.Walk.{Walk};
 ghost use Rattle.sci_drive.specs.declared.driver.Issuing.{Issuing};
+ghost use Rattle.sci_outcomes.specs.declared.trials.Turns.{Turns};
+ghost use Rattle.sciview.specs.declared.outcomes.OutcomesRequest.{OutcomesRequest};
 ghost use Rattle.sciview.specs.declared.run.RunRequest.{RunRequest};
 ghost use Rattle.sciview.specs.declared.trace.TraceRequest.{TraceRequest};
-ghost use Rattle.sciview.specs.Choice.{Chooses, ChoosesBy, ChoosesChart, ChoosesOrder, ChoosesPace, ChoosesRun, ChoosesTrace, ChoosesWalk, FitsDead, FitsEvents, FitsLine, FitsTurns, FitsWalk, dead_words, events_words, line_words, turns_words, walk_words};
+ghost use Rattle.sciview.specs.Choice.{Chooses, ChoosesBy, ChoosesChart, ChoosesOrder, ChoosesOutcomes, ChoosesPace, ChoosesRun, ChoosesTrace, ChoosesTurnOrder, ChoosesWalk, FitsDead, FitsEvents, FitsLine, FitsTurns, FitsWalk, dead_words, events_words, flag, is_in_order, line_words, turns_words, walk_words};
 
 use crate::chart::{ChartRequest, TextLines};
+use crate::outcomes::{MAX_RUNS, OutcomesRequest};
 use crate::random::Walk;
 use crate::run::RunRequest;
 use crate::trace::TraceRequest;
 use sci_command::texts_of;
 use sci_drive::Issuing;
+use sci_outcomes::Turns;
 use sci_reports::{NodeOrder, OrderRequest};
 use sci_text::whole_number;
 use sci_words::MAX_LINES;
@@ -47,6 +51,8 @@ pub enum Command {
     Random { walk: Walk, dead: Option<u64> },
     /// Write the schedule of a script's run.
     Run(RunRequest),
+    /// Write the outcomes of a script's runs.
+    Outcomes(OutcomesRequest),
     /// Write what the program knows.
     Help,
     /// Write which version of the program it is.
@@ -274,6 +280,80 @@ fn run_choice(words: &[&str]) -> Option<RunRequest>
     }
 }
 
+/// When operations are submitted, as words say: `--in-order`, or no word. None if they say neither.
+fn issuing_choice(words: &[&str]) -> Option<Issuing>
+    ensures { (issuing : Issuing) → (result ≡ Some issuing) ↔
+        (map (λ word. word.now) words.now ≡ flag (codes "--in-order") (is_in_order issuing)) }
+{
+    match words {
+        [] => Some(Issuing::Ahead),
+        ["--in-order"] => Some(Issuing::InOrder),
+        _ => None,
+    }
+}
+
+/// In which order the nodes of runs take turns, and when operations are submitted, as words say: `--seed` with a number below
+/// 2^64, or `--threads`, then `--in-order`, or one of them, or neither. None if they say something else.
+fn turns_and_issuing(words: &[&str]) -> Option<(Option<Turns>, Issuing)>
+    ensures { (turns : Option Turns) (issuing : Issuing) → (result ≡ Some (turns, issuing)) ↔
+        ChoosesTurnOrder (map (λ word. word.now) words.now) turns issuing }
+{
+    if let Some(issuing) = issuing_choice(words) {
+        return Some((None, issuing));
+    }
+    match words {
+        ["--seed", seed, rest @ ..] => {
+            let seed = whole_number(seed.as_bytes())?;
+            let issuing = issuing_choice(rest)?;
+            Some((Some(Turns::Drawn { seed }), issuing))
+        }
+        ["--threads", rest @ ..] => {
+            let issuing = issuing_choice(rest)?;
+            Some((Some(Turns::Threads), issuing))
+        }
+        _ => None,
+    }
+}
+
+/// How many runs a word says, 1 to 1,000,000. None if it says none.
+fn runs_of(word: &str) -> Option<u64>
+    ensures { (runs : ℕ) → (result ≡ Some runs) ↔
+        ((word.now ≡ number runs) × (1 ≤ runs) × (runs ≤ MAX_RUNS)) }
+{
+    let runs = whole_number(word.as_bytes())?;
+    if runs < 1 || runs > MAX_RUNS {
+        return None;
+    }
+    Some(runs)
+}
+
+/// What the words behind `outcomes` ask for: `--runs` with a number from 1 to 1,000,000 first, if there is one. None if they
+/// say something else.
+fn outcomes_choice(words: &[&str]) -> Option<OutcomesRequest>
+    ensures { (request : OutcomesRequest) → (result ≡ Some request) ↔
+        ChoosesOutcomes (map (λ word. word.now) words.now) request }
+{
+    if let Some((turns, issuing)) = turns_and_issuing(words) {
+        return Some(OutcomesRequest {
+            runs: None,
+            turns,
+            issuing,
+        });
+    }
+    match words {
+        ["--runs", runs, rest @ ..] => {
+            let runs = runs_of(runs)?;
+            let (turns, issuing) = turns_and_issuing(rest)?;
+            Some(OutcomesRequest {
+                runs: Some(runs),
+                turns,
+                issuing,
+            })
+        }
+        _ => None,
+    }
+}
+
 /// What a first word chooses, with those behind it. None if they choose nothing.
 fn chosen_by(word: &str, rest: &[&str]) -> Option<Command>
     ensures { (command : Command) → (result ≡ Some command) ↔
@@ -291,6 +371,7 @@ fn chosen_by(word: &str, rest: &[&str]) -> Option<Command>
             Some(Command::Random { walk, dead })
         }
         "run" => Some(Command::Run(run_choice(rest)?)),
+        "outcomes" => Some(Command::Outcomes(outcomes_choice(rest)?)),
         "explain" if rest.is_empty() => Some(Command::Explain),
         "check" if rest.is_empty() => Some(Command::Check),
         "packets" if rest.is_empty() => Some(Command::Packets),

@@ -2,7 +2,7 @@
 
 /// The words that the program knows.
 pub const USAGE: &str =
-    "usage: sciview order [--by-serial] [--show] | explain | check | packets | trace [--strict] [--line L] | lists [--line L] | chart [--line L] [--events FIRST LAST] | random N M C EVENTS SEED [--dead K] | run [--seed S] [--in-order] [--turns T] | --help | --version";
+    "usage: sciview order [--by-serial] [--show] | explain | check | packets | trace [--strict] [--line L] | lists [--line L] | chart [--line L] [--events FIRST LAST] | random N M C EVENTS SEED [--dead K] | run [--seed S] [--in-order] [--turns T] | outcomes [--runs R] [--seed S | --threads] [--in-order] | --help | --version";
 
 /// What stands below the usage line on standard error.
 pub const MANUAL: &str =
@@ -13,7 +13,7 @@ pub const VERSION: &str = "sciview 0.1.0\n";
 
 /// What `--help` writes.
 pub const HELP: &str = "\
-usage: sciview order [--by-serial] [--show] | explain | check | packets | trace [--strict] [--line L] | lists [--line L] | chart [--line L] [--events FIRST LAST] | random N M C EVENTS SEED [--dead K] | run [--seed S] [--in-order] [--turns T] | --help | --version
+usage: sciview order [--by-serial] [--show] | explain | check | packets | trace [--strict] [--line L] | lists [--line L] | chart [--line L] [--events FIRST LAST] | random N M C EVENTS SEED [--dead K] | run [--seed S] [--in-order] [--turns T] | outcomes [--runs R] [--seed S | --threads] [--in-order] | --help | --version
 
 Each command of a text reads it from standard input, to its end.
 Each command writes standard output.
@@ -34,6 +34,12 @@ of a script:
                     a turn each in a circle, or in an order that is drawn from
                     the seed, at most T turns all together; a node has up to
                     four operations pending, or one if they are in order
+  outcomes [--runs R] [--seed S | --threads] [--in-order]
+                    how often each outcome of it comes in R runs, 1 to 1,000,000
+                    or else 1,000, by the seeds from S, or 1, on, or by threads:
+                    what each load and lock operation replied, the words at the
+                    end, how many runs gave it, the seed of the first of them,
+                    and whether one memory explains it in the order of the script
 
 of a script, a schedule or a log:
   check             which of these it is, and its size; or the refusal, and a

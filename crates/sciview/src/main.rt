@@ -16,6 +16,7 @@ mod layout;
 mod legend;
 mod lists;
 mod obstacle_words;
+mod outcomes;
 mod packets;
 mod random;
 mod rows;
@@ -37,5 +38,5 @@ fn main(rt: HostRuntime) -> ExitCode {
     };
     let mut reader = Tap::new(rt.stdin());
     let mut writer = Tap::new(rt.stdout());
-    carried_out(rt.alloc(), command, &mut reader, &mut writer)
+    carried_out(&rt, rt.alloc(), command, &mut reader, &mut writer)
 }

@@ -38,7 +38,7 @@ fn outcome_of(done: bool) -> Outcome
 }
 
 /// Why a run is refused, as a fault of the whole input.
-fn fault_of(fault: RunFault) -> TextFault
+pub fn fault_of(fault: RunFault) -> TextFault
     ensures line { result.line ≡ 0 }
     ensures kind { (result.kind ≡ TooMany) ⊎ (result.kind ≡ Memory) }
 {

@@ -13,6 +13,7 @@ use Rattle.sci_reports.specs.CheckAnswer.{IsCheckAnswer, IsLastFault}
 use Rattle.sci_reports.specs.ExplainAnswer.{IsExplainAnswer}
 use Rattle.sciview.specs.ListsAnswer.{IsListsAnswer}
 use Rattle.sci_reports.specs.OrderAnswer.{IsOrderAnswer}
+use Rattle.sciview.specs.OutcomesAnswer.{IsOutcomesAnswer}
 use Rattle.sciview.specs.PacketsAnswer.{IsPacketsAnswer}
 use Rattle.sciview.specs.RandomAnswer.{IsRandomAnswer, IsWalkFault}
 use Rattle.sciview.specs.RunAnswer.{IsRunAnswer, IsRunRefusal}
@@ -76,6 +77,12 @@ returns-in-Run-clause-written g c =
     let known = g.R.Read.remaining (tapped c.args.reader.now) in
     let unread = has_failed c.run.new.reader in
     rw c.in-Run.is (finished (IsRunAnswer c.in-Run.request known unread) (λ fault. IsRunRefusal fault.kind known unread fault.line) c.run.result (λ fault text. run_refused known unread fault text) c.run.ensures.answer c.run.ensures.fault _ _ _ _ c.finish-in-Run.ensures.written)
+
+pub returns-in-Outcomes-clause-written : goal.returns-in-Outcomes-clause-written
+returns-in-Outcomes-clause-written g c =
+    let known = g.R.Read.remaining (tapped c.args.reader.now) in
+    let unread = has_failed c.outcomes_of.new.reader in
+    rw c.in-Outcomes.is (finished (IsOutcomesAnswer c.in-Outcomes.request known unread) (λ fault. IsRunRefusal fault.kind known unread fault.line) c.outcomes_of.result (λ fault text. run_refused known unread fault text) c.outcomes_of.ensures.answer c.outcomes_of.ensures.fault _ _ _ _ c.finish-in-Outcomes.ensures.written)
 
 pub returns-in-Help-clause-written : goal.returns-in-Help-clause-written
 returns-in-Help-clause-written g c =

@@ -1,4 +1,4 @@
-use Rattle.sciview.proofs.Outcomes.{reason_given, effect_given}
+use Rattle.sciview.proofs.EventEffects.{reason_given, effect_given}
 use Rattle.sciview.proofs.event_words.push_outcome.Goals as goal
 
 pub returns-in-Err-NotEnabled-clause-text : goal.returns-in-Err-NotEnabled-clause-text
