@@ -1,0 +1,42 @@
+-- The kinds of events and of operations.
+use Rattle.std.specs.Prelude.{ℕ, Bool, ◌==◌, if◌then◌else◌}
+use Rattle.sci_words.specs.declared.event.Event.{Event}
+use Rattle.sci_words.specs.declared.event.Event.TheVariants as event
+use Rattle.sci_words.specs.declared.operation.Op.{Op}
+use Rattle.sci_words.specs.Operation.{is_maker}
+use Rattle.sci_statistics.specs.declared.kind.Access.{Access}
+use Rattle.sci_statistics.specs.declared.kind.Access.TheVariants.{Load, Maker}
+use Rattle.sci_statistics.specs.declared.kind.EventKind.{EventKind}
+use Rattle.sci_statistics.specs.declared.kind.EventKind.TheVariants.{Issue, Perform, Ask, Serve, Refuse, Reply, Accept}
+
+abbrev pub kind_of : Event → EventKind
+kind_of (event.Issue n op) = Issue
+kind_of (event.Perform n line) = Perform
+kind_of (event.Ask n line kind) = Ask
+kind_of (event.Serve from n) = Serve
+kind_of (event.Refuse from n) = Refuse
+kind_of (event.Reply n) = Reply
+kind_of (event.Accept from n) = Accept
+
+-- where a kind stands among all
+abbrev pub kind_place : EventKind → ℕ
+kind_place Issue = 0
+kind_place Perform = 1
+kind_place Ask = 2
+kind_place Serve = 3
+kind_place Refuse = 4
+kind_place Reply = 5
+kind_place Accept = 6
+
+abbrev pub is_kind : EventKind → EventKind → Bool
+is_kind kind other = kind_place other == kind_place kind
+
+abbrev pub access_of : Op → Access
+access_of op = if is_maker op then Maker else Load
+
+abbrev pub access_place : Access → ℕ
+access_place Load = 0
+access_place Maker = 1
+
+abbrev pub is_access : Access → Access → Bool
+is_access access other = access_place other == access_place access

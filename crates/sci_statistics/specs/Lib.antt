@@ -1,0 +1,5 @@
+pub mod About
+pub mod Commands
+pub mod Kinds
+pub mod Passages
+pub mod Figures

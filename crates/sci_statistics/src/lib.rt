@@ -1,0 +1,22 @@
+//! Figures of a schedule: what each of its events did, and how often each of these things happened.
+#![tactic(auto)]
+
+mod about;
+mod command;
+mod event_figures;
+mod kind;
+mod line_figures;
+mod node_figures;
+mod packet_figures;
+mod passage;
+mod walk;
+
+pub use about::{line_about, line_changed, sent, taken};
+pub use command::Command;
+pub use event_figures::{EventFigures, Tally};
+pub use kind::{Access, EventKind};
+pub use line_figures::LineFigures;
+pub use node_figures::NodeFigures;
+pub use packet_figures::PacketFigures;
+pub use passage::Passage;
+pub use walk::passages_of;
