@@ -1,30 +1,21 @@
 -- The figures of a schedule: each is a count of passages that meet a test, or a sum over passages.
-use Rattle.std.specs.Prelude.{ℕ, ◌==◌, Bool, true, false, ◌&&◌, ◌||◌, not, List, filter, count_by, Option, Some, None, is_some, if◌then◌else◌}
+use Rattle.std.specs.Prelude.{ℕ, ◌-◌, true, false, not, List, filter, count_by, length}
 use Rattle.std.specs.List.{sum_by}
-use Rattle.sci_statistics.specs.declared.command.Command.{Command}
 use Rattle.sci_statistics.specs.declared.command.Command.TheVariants.{Mread, Cread, Purge, Roll, Wback, Setback, Fread, Claim, Clear, Mdata, Mgone, Cdata, Purged, Rolled, Wbok, Wbno, Told, Busy, Fdata}
-use Rattle.sci_statistics.specs.declared.kind.Access.{Access}
 use Rattle.sci_statistics.specs.declared.kind.Access.TheVariants.{Load, Maker}
 use Rattle.sci_statistics.specs.declared.kind.EventKind.{EventKind}
 use Rattle.sci_statistics.specs.declared.kind.EventKind.TheVariants.{Issue, Perform, Ask, Serve, Refuse, Reply, Accept}
+use Rattle.sci_statistics.specs.declared.levels.Level.TheVariants.{Packets, Members}
 use Rattle.sci_statistics.specs.declared.passage.Passage.{Passage}
 use Rattle.sci_statistics.specs.declared.event_figures.Tally.{Tally}
 use Rattle.sci_statistics.specs.declared.event_figures.EventFigures.{EventFigures}
 use Rattle.sci_statistics.specs.declared.packet_figures.PacketFigures.{PacketFigures}
 use Rattle.sci_statistics.specs.declared.line_figures.LineFigures.{LineFigures}
 use Rattle.sci_statistics.specs.declared.node_figures.NodeFigures.{NodeFigures}
-use Rattle.sci_statistics.specs.Commands.{has_command, packet_bytes}
-use Rattle.sci_statistics.specs.Kinds.{is_access, is_kind}
+use Rattle.sci_statistics.specs.Levels.{level_figures}
+use Rattle.sci_statistics.specs.Measures.{comes, enters, has_made, has_sent, is_at, is_on, sends, sent_bytes, serves}
 
 -- ---- events
-
--- whether two flags are the same
-abbrev pub is_flag : Bool → Bool → Bool
-is_flag flag other = if flag then other else not other
-
--- an event of a kind, enabled or not
-unfoldable pub comes : EventKind → Bool → Passage → Bool
-comes kind enabled p = is_kind kind p.event && is_flag enabled p.enabled
 
 -- how many events of a kind were enabled, and how many were not
 abbrev pub tally_of : EventKind → List Passage → Tally
@@ -43,21 +34,6 @@ event_figures passages = record {
 }
 
 -- ---- packets
-
--- a packet with this command was sent
-unfoldable pub sends : Command → Passage → Bool
-sends command p = has_command command p.sent
-
-unfoldable pub has_sent : Passage → Bool
-has_sent p = is_some p.sent
-
--- the bytes of a packet, if there is one
-abbrev pub bytes_in : Option Command → ℕ
-bytes_in None = 0
-bytes_in (Some command) = packet_bytes command
-
-unfoldable pub sent_bytes : Passage → ℕ
-sent_bytes p = bytes_in p.sent
 
 unfoldable pub packet_figures : List Passage → PacketFigures
 packet_figures passages = record {
@@ -82,12 +58,10 @@ packet_figures passages = record {
   busy = count_by (sends Busy) passages;
   all = count_by has_sent passages;
   bytes = sum_by sent_bytes passages;
+  most_under_way = (level_figures Packets passages).greatest;
 }
 
 -- ---- nodes
-
-unfoldable pub is_at : ℕ → Passage → Bool
-is_at n p = p.node == n
 
 -- the events of a node
 abbrev pub at_node : ℕ → List Passage → List Passage
@@ -98,50 +72,16 @@ unfoldable pub node_figures : List Passage → NodeFigures
 node_figures passages = record {
   issued = count_by (comes Issue true) passages;
   performed = count_by (comes Perform true) passages;
+  pending = count_by (comes Issue true) passages - count_by (comes Perform true) passages;
   sent = count_by has_sent passages;
   served = count_by (comes Serve true) passages;
 }
 
 -- ---- lines
 
-abbrev pub is_line : ℕ → Option ℕ → Bool
-is_line line None = false
-is_line line (Some other) = other == line
-
--- an enabled event about a line
-unfoldable pub is_on : ℕ → Passage → Bool
-is_on line p = p.enabled && is_line line p.line
-
 -- the enabled events about a line
 abbrev pub on_line : ℕ → List Passage → List Passage
 on_line line passages = filter (is_on line) passages
-
-abbrev pub has_access : Access → Option Access → Bool
-has_access access None = false
-has_access access (Some other) = is_access access other
-
--- an operation was performed that does this
-unfoldable pub has_made : Access → Passage → Bool
-has_made access p = has_access access p.made
-
--- a packet with this command was taken
-unfoldable pub takes : Command → Passage → Bool
-takes command p = has_command command p.taken
-
--- an answer with this command waits at the node
-unfoldable pub leaves : Command → Passage → Bool
-leaves command p = has_command command p.answer
-
-unfoldable pub is_serve : Passage → Bool
-is_serve p = is_kind Serve p.event
-
--- a request was served, and got this answer
-unfoldable pub serves : Command → Command → Passage → Bool
-serves request answer p = is_serve p && (takes request p && leaves answer p)
-
--- a home served a read, so that the reader is in the list from then on
-unfoldable pub enters : Passage → Bool
-enters p = is_serve p && (takes Mread p || takes Fread p)
 
 -- of the enabled events about one line
 unfoldable pub line_figures : List Passage → LineFigures
@@ -155,4 +95,6 @@ line_figures passages = record {
   clears = count_by (serves Clear Wbok) passages;
   claims = count_by (serves Claim Wbok) passages;
   hand_overs = count_by (serves Cread Cdata) passages;
+  members = level_figures Members passages;
+  events = length passages;
 }

@@ -2,4 +2,6 @@ pub mod About
 pub mod Commands
 pub mod Kinds
 pub mod Passages
+pub mod Measures
 pub mod Figures
+pub mod Levels

@@ -1,7 +1,8 @@
 //! How many events of each kind there were.
 
 ghost use Rattle.std.specs.Prelude.{◌≡◌, count_by, not};
-ghost use Rattle.sci_statistics.specs.Figures.{comes, event_figures, is_flag, tally_of};
+ghost use Rattle.sci_statistics.specs.Measures.{comes, is_flag};
+ghost use Rattle.sci_statistics.specs.Figures.{event_figures, tally_of};
 
 use crate::kind::EventKind;
 use crate::passage::Passage;

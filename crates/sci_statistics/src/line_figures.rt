@@ -1,10 +1,13 @@
 //! What happened to one line of memory.
 
-ghost use Rattle.std.specs.Prelude.{◌≡◌, count_by, IfOk};
-ghost use Rattle.sci_statistics.specs.Figures.{enters, has_made, line_figures, on_line as on_line_of, serves};
+ghost use Rattle.std.specs.Prelude.{◌≡◌, ◌≤◌, count_by, length, IfOk};
+ghost use Rattle.sci_words.specs.declared.limits.TheConstants.{MAX_EVENTS};
+ghost use Rattle.sci_statistics.specs.Measures.{enters, has_made, serves};
+ghost use Rattle.sci_statistics.specs.Figures.{line_figures, on_line as on_line_of};
 
 use crate::command::Command;
 use crate::kind::Access;
+use crate::levels::{Level, LevelFigures};
 use crate::passage::Passage;
 use std::alloc::{AllocError, Global};
 
@@ -29,11 +32,16 @@ pub struct LineFigures {
     pub claims: u64,
     /// Old heads that gave the contents to a new one, which has the authority then.
     pub hand_overs: u64,
+    /// How many members its list had behind each enabled event about it.
+    pub members: LevelFigures,
+    /// The enabled events about it.
+    pub events: u64,
 }
 
 /// The enabled events about a line. Refused if memory is.
 fn on_line(alloc: Global, passages: &[Passage], line: u8) -> Result<Vec<Passage>, AllocError>
-    ensures { IfOk result (λ found. found.items ≡ on_line_of line passages.now) }
+    ensures found { IfOk result (λ found. found.items ≡ on_line_of line passages.now) }
+    ensures few { IfOk result (λ found. length found.items ≤ length passages.now) }
 {
     let mut found = Vec::new(alloc);
     for it in passages {
@@ -66,9 +74,10 @@ fn served_count(passages: &[Passage], request: Command, answer: Command) -> u64
 }
 
 impl LineFigures {
-    /// What happened to a line. Refused if memory is.
+    /// What happened to a line. Requires that there are at most 500,000 events. Refused if memory is.
     #[tactic(auto, unfolding(crate::specs::Figures::line_figures))]
     pub fn of(alloc: Global, passages: &[Passage], line: u8) -> Result<LineFigures, AllocError>
+        requires { length passages.now ≤ MAX_EVENTS }
         ensures { IfOk result (λ figures. figures ≡ line_figures (on_line_of line passages.now)) }
     {
         let own = on_line(alloc, passages, line)?;
@@ -82,6 +91,8 @@ impl LineFigures {
             clears: served_count(&own, Command::Clear, Command::Wbok),
             claims: served_count(&own, Command::Claim, Command::Wbok),
             hand_overs: served_count(&own, Command::Cread, Command::Cdata),
+            members: LevelFigures::of(&own, Level::Members),
+            events: own.len() as u64,
         })
     }
 }

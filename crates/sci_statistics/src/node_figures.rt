@@ -1,6 +1,6 @@
 //! What one node did.
 
-ghost use Rattle.std.specs.Prelude.{◌≡◌, filter, IfOk};
+ghost use Rattle.std.specs.Prelude.{◌≡◌, IfOk};
 ghost use Rattle.sci_statistics.specs.Figures.{at_node as at_node_of, node_figures};
 
 use crate::event_figures::count_of;
@@ -16,6 +16,8 @@ pub struct NodeFigures {
     pub issued: u64,
     /// Operations that it performed.
     pub performed: u64,
+    /// Operations that it issued and didn't perform.
+    pub pending: u64,
     /// Packets that it sent.
     pub sent: u64,
     /// Requests that it served.
@@ -42,9 +44,12 @@ impl NodeFigures {
         ensures { IfOk result (λ figures. figures ≡ node_figures (at_node_of node passages.now)) }
     {
         let own = at_node(alloc, passages, node)?;
+        let issued = count_of(&own, EventKind::Issue, true);
+        let performed = count_of(&own, EventKind::Perform, true);
         Ok(NodeFigures {
-            issued: count_of(&own, EventKind::Issue, true),
-            performed: count_of(&own, EventKind::Perform, true),
+            issued,
+            performed,
+            pending: issued.saturating_sub(performed),
             sent: sent_count(&own),
             served: count_of(&own, EventKind::Serve, true),
         })

@@ -3,9 +3,11 @@
 ghost use Rattle.std.specs.Prelude.{◌≡◌, ◌≤◌, count_by, length};
 ghost use Rattle.std.specs.List.{sum_by};
 ghost use Rattle.sci_words.specs.declared.limits.TheConstants.{MAX_EVENTS};
-ghost use Rattle.sci_statistics.specs.Figures.{has_sent, packet_figures, sends, sent_bytes};
+ghost use Rattle.sci_statistics.specs.Measures.{has_sent, sends, sent_bytes};
+ghost use Rattle.sci_statistics.specs.Figures.{packet_figures};
 
 use crate::command::Command;
+use crate::levels::{Level, LevelFigures};
 use crate::passage::Passage;
 
 /// How many packets were sent: requests of each kind, answers of each kind, and all, with their bytes.
@@ -34,6 +36,8 @@ pub struct PacketFigures {
     pub all: u64,
     /// The bytes of all packets, as they are spelled.
     pub bytes: u64,
+    /// The most packets that were under way at once: sent, and not yet taken.
+    pub most_under_way: u64,
 }
 
 /// How many packets with this command were sent.
@@ -87,6 +91,7 @@ impl PacketFigures {
             busy: count_of(passages, Command::Busy),
             all: sent_count(passages),
             bytes: bytes_in(passages),
+            most_under_way: LevelFigures::of(passages, Level::Packets).greatest,
         }
     }
 }

@@ -1,7 +1,7 @@
 //! What came of one event of a schedule.
 
 ghost use Rattle.std.specs.Prelude.{◌≡◌, ◌≤◌};
-ghost use Rattle.sci_statistics.specs.Figures.{comes as comes_of, enters as enters_of, has_made as has_made_of, has_sent as has_sent_of, is_at as is_at_of, is_on as is_on_of, is_serve as is_serve_of, leaves as leaves_of, sends as sends_of, sent_bytes as sent_bytes_of, serves as serves_of, takes as takes_of};
+ghost use Rattle.sci_statistics.specs.Measures.{comes as comes_of, enters as enters_of, has_made as has_made_of, has_sent as has_sent_of, is_at as is_at_of, is_on as is_on_of, is_serve as is_serve_of, leaves as leaves_of, sends as sends_of, sent_bytes as sent_bytes_of, serves as serves_of, takes as takes_of};
 
 use crate::command::Command;
 use crate::kind::{Access, EventKind};
@@ -29,7 +29,7 @@ pub struct Passage {
 
 impl Passage {
     /// Whether it is an event of this kind, enabled or not as said.
-    #[tactic(auto, unfolding(crate::specs::Figures::comes))]
+    #[tactic(auto, unfolding(crate::specs::Measures::comes))]
     pub fn comes(&self, kind: EventKind, enabled: bool) -> bool
         ensures { result ≡ comes_of kind enabled self.now }
     {
@@ -37,7 +37,7 @@ impl Passage {
     }
 
     /// Whether it sent a packet with this command.
-    #[tactic(auto, unfolding(crate::specs::Figures::sends))]
+    #[tactic(auto, unfolding(crate::specs::Measures::sends))]
     pub fn sends(&self, command: Command) -> bool
         ensures { result ≡ sends_of command self.now }
     {
@@ -45,7 +45,7 @@ impl Passage {
     }
 
     /// Whether it sent a packet.
-    #[tactic(auto, unfolding(crate::specs::Figures::has_sent))]
+    #[tactic(auto, unfolding(crate::specs::Measures::has_sent))]
     pub fn has_sent(&self) -> bool
         ensures { result ≡ has_sent_of self.now }
     {
@@ -53,7 +53,7 @@ impl Passage {
     }
 
     /// The bytes of the packet that it sent, or 0 if it sent none.
-    #[tactic(auto, unfolding(crate::specs::Figures::sent_bytes))]
+    #[tactic(auto, unfolding(crate::specs::Measures::sent_bytes))]
     pub fn sent_bytes(&self) -> u64
         ensures bytes { result ≡ sent_bytes_of self.now }
         ensures few { result ≤ 88 }
@@ -65,7 +65,7 @@ impl Passage {
     }
 
     /// Whether it is enabled and about this line.
-    #[tactic(auto, unfolding(crate::specs::Figures::is_on))]
+    #[tactic(auto, unfolding(crate::specs::Measures::is_on))]
     pub fn is_on(&self, line: u8) -> bool
         ensures { result ≡ is_on_of line self.now }
     {
@@ -73,7 +73,7 @@ impl Passage {
     }
 
     /// Whether it is an event of this node.
-    #[tactic(auto, unfolding(crate::specs::Figures::is_at))]
+    #[tactic(auto, unfolding(crate::specs::Measures::is_at))]
     pub fn is_at(&self, node: u8) -> bool
         ensures { result ≡ is_at_of node self.now }
     {
@@ -81,7 +81,7 @@ impl Passage {
     }
 
     /// Whether it performed an operation that does this.
-    #[tactic(auto, unfolding(crate::specs::Figures::has_made))]
+    #[tactic(auto, unfolding(crate::specs::Measures::has_made))]
     pub fn has_made(&self, access: Access) -> bool
         ensures { result ≡ has_made_of access self.now }
     {
@@ -89,7 +89,7 @@ impl Passage {
     }
 
     /// Whether it took a packet with this command.
-    #[tactic(auto, unfolding(crate::specs::Figures::takes))]
+    #[tactic(auto, unfolding(crate::specs::Measures::takes))]
     fn takes(&self, command: Command) -> bool
         ensures { result ≡ takes_of command self.now }
     {
@@ -97,7 +97,7 @@ impl Passage {
     }
 
     /// Whether an answer with this command waits at its node.
-    #[tactic(auto, unfolding(crate::specs::Figures::leaves))]
+    #[tactic(auto, unfolding(crate::specs::Measures::leaves))]
     fn leaves(&self, command: Command) -> bool
         ensures { result ≡ leaves_of command self.now }
     {
@@ -105,7 +105,7 @@ impl Passage {
     }
 
     /// Whether it is a Serve.
-    #[tactic(auto, unfolding(crate::specs::Figures::is_serve))]
+    #[tactic(auto, unfolding(crate::specs::Measures::is_serve))]
     fn is_serve(&self) -> bool
         ensures { result ≡ is_serve_of self.now }
     {
@@ -113,7 +113,7 @@ impl Passage {
     }
 
     /// Whether it served a request with this command, and this answer to it waits.
-    #[tactic(auto, unfolding(crate::specs::Figures::serves))]
+    #[tactic(auto, unfolding(crate::specs::Measures::serves))]
     pub fn serves(&self, request: Command, answer: Command) -> bool
         ensures { result ≡ serves_of request answer self.now }
     {
@@ -121,7 +121,7 @@ impl Passage {
     }
 
     /// Whether it let a cache into a list: the home served its read.
-    #[tactic(auto, unfolding(crate::specs::Figures::enters))]
+    #[tactic(auto, unfolding(crate::specs::Measures::enters))]
     pub fn enters(&self) -> bool
         ensures { result ≡ enters_of self.now }
     {

@@ -1,6 +1,6 @@
 use Rattle.std.proofs.Common.{◌≡◌, take}
 use Rattle.std.specs.List.{filter}
-use Rattle.sci_statistics.specs.Figures.{is_at}
+use Rattle.sci_statistics.specs.Measures.{is_at}
 use Rattle.sci_statistics.proofs.node_figures.at_node.Given as goal
 
 -- those so far
