@@ -68,6 +68,7 @@ def larger_cases(faults, name, program, count):
             "packets": schedule,
             "trace": schedule,
             "lists": schedule,
+            "stats": schedule,
             "chart": schedule,
         },
     }

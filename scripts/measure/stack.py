@@ -28,6 +28,7 @@ COMMANDS = [
     (SCIVIEW, "packets", "schedule"),
     (SCIVIEW, "trace", "schedule"),
     (SCIVIEW, "lists", "schedule"),
+    (SCIVIEW, "stats", "schedule"),
     (SCIVIEW, "chart", "schedule"),
     (SCIVIEW, "random 16 64 8 4800 1", None),
 ]

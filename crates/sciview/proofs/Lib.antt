@@ -10,3 +10,5 @@ pub mod Words
 pub mod Ran
 pub mod RunWords
 pub mod OutcomesWords
+mod Counted
+pub mod StatsWords

@@ -10,7 +10,8 @@ use Rattle.sci_packets.specs.declared.packet.Packet.{Packet}
 use Rattle.sci_packets.specs.Spelling.{spelling}
 use Rattle.sci_cache.specs.Cache.{Letter, letter_of}
 use Rattle.sci_core.specs.Core.{Core, step}
-use Rattle.sciview.specs.PacketsAnswer.{letter_sent, letters_sent}
+use Rattle.sci_statistics.specs.About.{letter_sent}
+use Rattle.sciview.specs.PacketsAnswer.{letters_sent}
 
 -- what was sent is spelled, and what is left sends the rest
 pub record HasSent (all : List Letter) (core : Core) (left : List Event) (bytes : List ℕ) : Type 0 where

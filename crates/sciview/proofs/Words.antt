@@ -93,7 +93,7 @@ five_said f words d n0 n1 n2 n3 n4 s0 s1 s2 s3 s4 long i0 i1 i2 i3 i4 e0 e1 e2 e
 
 -- ---- the line that two words say
 
-two : {X : Type 0} (f : X → List ℕ) (words : List X) (d : X) → length words ≡ 2 → map f words ≡ f (get_or words 0 d) ∷ f (get_or words 1 d) ∷ []
+pub two : {X : Type 0} (f : X → List ℕ) (words : List X) (d : X) → length words ≡ 2 → map f words ≡ f (get_or words 0 d) ∷ f (get_or words 1 d) ∷ []
 two f [] d long = absurd (omega arith)
 two f (a ∷ []) d long = absurd (omega arith)
 two f (a ∷ b ∷ []) d long = refl

@@ -1,6 +1,6 @@
 -- The words of a command line.
 use Rattle.std.specs.Prelude.{◌≡◌, ◌<◌, ◌≤◌, ◌^◌, ◌++◌, ◌⊎◌, ℕ, Bool, List, [], ◌∷◌, codes, Option, Some, None, true, false}
-use Rattle.sci_words.specs.declared.limits.TheConstants.{MAX_LINES}
+use Rattle.sci_words.specs.declared.limits.TheConstants.{MAX_LINES, MAX_NODES}
 use Rattle.sci_text.specs.Number.{number}
 use Rattle.sciview.specs.declared.chart.ChartRequest.{ChartRequest}
 use Rattle.sciview.specs.declared.chart.TextLines.{TextLines}
@@ -15,9 +15,10 @@ use Rattle.sci_outcomes.specs.declared.trials.Turns.TheVariants.{Drawn, Threads}
 use Rattle.sciview.specs.declared.outcomes.OutcomesRequest.{OutcomesRequest}
 use Rattle.sciview.specs.declared.outcomes.TheConstants.{MAX_RUNS}
 use Rattle.sciview.specs.declared.run.RunRequest.{RunRequest}
+use Rattle.sciview.specs.declared.stats.StatsRequest.{StatsRequest}
 use Rattle.sciview.specs.declared.trace.TraceRequest.{TraceRequest}
 use Rattle.sciview.specs.declared.choice.Command.{Command}
-use Rattle.sciview.specs.declared.choice.Command.TheVariants.{Order, Explain, Check, Packets, Trace, Lists, Chart, Random, Run, Outcomes, Help, Version}
+use Rattle.sciview.specs.declared.choice.Command.TheVariants.{Order, Explain, Check, Packets, Trace, Lists, Stats, Chart, Random, Run, Outcomes, Help, Version}
 
 -- an option that is one word, if it is given
 abbrev pub flag : List ℕ → Bool → List (List ℕ)
@@ -67,6 +68,20 @@ ChoosesChart words request = (words ≡ line_words request.line ++ events_words 
 -- what stands behind `lists`
 abbrev pub ChoosesLine : List (List ℕ) → Option ℕ → Type 0
 ChoosesLine words line = (words ≡ line_words line) × FitsLine line
+
+-- the words that say a node, if one is asked for
+unfoldable pub node_words : Option ℕ → List (List ℕ)
+node_words None = []
+node_words (Some n) = codes "--node" ∷ number n ∷ []
+
+-- a node that some machine has
+abbrev pub FitsNode : Option ℕ → Type 0
+FitsNode None = Unit {0}
+FitsNode (Some n) = n < MAX_NODES
+
+-- what stands behind `stats`
+abbrev pub ChoosesStats : List (List ℕ) → StatsRequest → Type 0
+ChoosesStats words request = (words ≡ line_words request.line ++ node_words request.node) × FitsLine request.line × FitsNode request.node
 
 -- the words of a walk
 unfoldable pub walk_words : Walk → List (List ℕ)
@@ -160,6 +175,7 @@ ChoosesBy word rest Check = (word ≡ codes "check") × (rest ≡ [])
 ChoosesBy word rest Packets = (word ≡ codes "packets") × (rest ≡ [])
 ChoosesBy word rest (Trace request) = (word ≡ codes "trace") × ChoosesTrace rest request
 ChoosesBy word rest (Lists line) = (word ≡ codes "lists") × ChoosesLine rest line
+ChoosesBy word rest (Stats request) = (word ≡ codes "stats") × ChoosesStats rest request
 ChoosesBy word rest (Chart request) = (word ≡ codes "chart") × ChoosesChart rest request
 ChoosesBy word rest (Random walk dead) = (word ≡ codes "random") × ChoosesWalk rest walk dead
 ChoosesBy word rest (Run request) = (word ≡ codes "run") × ChoosesRun rest request

@@ -14,6 +14,7 @@ use Rattle.sciview.specs.OutcomesAnswer.{IsOutcomesAnswer}
 use Rattle.sciview.specs.PacketsAnswer.{IsPacketsAnswer}
 use Rattle.sciview.specs.RandomAnswer.{IsRandomAnswer}
 use Rattle.sciview.specs.RunAnswer.{IsRunAnswer}
+use Rattle.sciview.specs.StatsAnswer.{IsStatsAnswer}
 use Rattle.sciview.specs.TraceAnswer.{IsTraceAnswer}
 
 -- the text that a command writes, and how it ends, for the bytes of a reader, which has failed or not
@@ -24,6 +25,7 @@ IsAnswerTo commands.Check input failed text outcome = IsCheckAnswer input failed
 IsAnswerTo commands.Packets input failed text outcome = IsPacketsAnswer input failed text outcome
 IsAnswerTo (commands.Trace request) input failed text outcome = IsTraceAnswer request input failed text outcome
 IsAnswerTo (commands.Lists line) input failed text outcome = IsListsAnswer line input failed text outcome
+IsAnswerTo (commands.Stats request) input failed text outcome = IsStatsAnswer request input failed text outcome
 IsAnswerTo (commands.Chart request) input failed text outcome = IsChartAnswer request.line input failed text outcome
 IsAnswerTo (commands.Random walk dead) input failed text outcome = IsRandomAnswer walk dead text outcome
 IsAnswerTo (commands.Run request) input failed text outcome = IsRunAnswer request input failed text outcome

@@ -10,3 +10,4 @@ pub mod ListsAnswer
 pub mod RandomAnswer
 pub mod RunAnswer
 pub mod OutcomesAnswer
+pub mod StatsAnswer

@@ -9,6 +9,7 @@ use Rattle.sci_core.specs.Core.{Core, node_at, step, stepping}
 use Rattle.sci_core.specs.Shape.{IsAuthority}
 use Rattle.sci_core.specs.Sharing.{last_at}
 use Rattle.sci_core.specs.SharingList.{IsSharingList}
+use Rattle.sci_statistics.specs.About.{line_changed}
 use Rattle.sci_text.specs.Number.{number, field}
 use Rattle.sci_text.specs.Schedule.{ScheduleValue, IsSchedule, schedule_text}
 use Rattle.sci_command.specs.declared.outcome.Outcome.{Outcome}
@@ -19,7 +20,6 @@ use Rattle.sci_command.specs.Refusal.{IsRefusalBy}
 use Rattle.sciview.specs.AskedLine.{HasLine, IsAskedFault, is_asked}
 use Rattle.sciview.specs.PacketsAnswer.{before}
 use Rattle.sciview.specs.StateWords.{state_name, home_name}
-use Rattle.sciview.specs.TraceAnswer.{line_changed}
 
 -- the line that an event may change, if the machine has it
 abbrev pub line_within : Core → Option ℕ → Option ℕ

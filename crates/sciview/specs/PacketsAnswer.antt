@@ -1,5 +1,5 @@
 -- What `packets` writes for its input.
-use Rattle.std.specs.Prelude.{◌≡◌, ℕ, nat_lt, Bool, List, [], ◌∷◌, ◌++◌, map, Option, Some, None, if◌then◌else◌}
+use Rattle.std.specs.Prelude.{◌≡◌, ℕ, Bool, List, [], ◌∷◌, ◌++◌, map, Option}
 use Rattle.std.specs.List.{flat_map}
 use Rattle.std.specs.Option.{option_to_list}
 use Rattle.sci_words.specs.declared.limits.TheConstants.{MAX_OPERATIONS}
@@ -7,7 +7,8 @@ use Rattle.sci_words.specs.declared.event.Event.{Event}
 use Rattle.sci_packets.specs.declared.packet.Packet.{Packet}
 use Rattle.sci_packets.specs.Spelling.{spelling}
 use Rattle.sci_cache.specs.Cache.{Letter, letter_of}
-use Rattle.sci_core.specs.Core.{Core, Side, Idle, Changes, Sends, Takes, side, node_at, node_of, opening, step}
+use Rattle.sci_core.specs.Core.{Core, opening, step}
+use Rattle.sci_statistics.specs.About.{letter_sent}
 use Rattle.sci_text.specs.Schedule.{ScheduleValue, IsSchedule, schedule_text}
 use Rattle.sci_text.specs.FirstFault.{IsTold}
 use Rattle.sci_text.specs.ScheduleFault.{IsScheduleFault}
@@ -15,17 +16,6 @@ use Rattle.sci_command.specs.declared.outcome.Outcome.{Outcome}
 use Rattle.sci_command.specs.declared.outcome.Outcome.TheVariants.{Done, Unlawful, Refused}
 use Rattle.sci_command.specs.Input.{IsReadAs}
 use Rattle.sci_command.specs.Refusal.{IsRefusalBy}
-
--- the packet that a node's side of an event sends, if it sends one
-abbrev pub sent_in : Side → Option Letter
-sent_in (Sends kind next letter) = Some letter
-sent_in Idle = None
-sent_in (Changes next) = None
-sent_in (Takes kind from taking) = None
-
--- the packet that an event sends, if it is enabled and sends one
-abbrev pub letter_sent : Core → Event → Option Letter
-letter_sent core e = if nat_lt (node_of e) core.size.nodes then sent_in (side (node_at core (node_of e)) e) else None
 
 -- the packets that events send from a state on, one event after another
 abbrev pub letters_sent : Core → List Event → List Letter

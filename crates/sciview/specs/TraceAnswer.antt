@@ -4,12 +4,11 @@ use Rattle.sci_words.specs.declared.event.Event.{Event}
 use Rattle.sci_words.specs.declared.event.Event.TheVariants as event
 use Rattle.sci_history.specs.declared.entry.Entry.{Entry}
 use Rattle.sci_cache.specs.Cache.{Letter, line_of}
-use Rattle.sci_core.specs.declared.lane.LaneKind.{LaneKind}
-use Rattle.sci_core.specs.declared.lane.LaneKind.TheVariants.{Requests, Answers}
 use Rattle.sci_core.specs.declared.obstacle.Obstacle.{Obstacle}
 use Rattle.sci_core.specs.Node.{lines_of, home_of}
-use Rattle.sci_core.specs.Core.{Core, node_at, node_of, lane_of, step, stepping}
+use Rattle.sci_core.specs.Core.{Core, node_at, node_of, step, stepping}
 use Rattle.sci_core.specs.Obstacles.{obstacle_to}
+use Rattle.sci_statistics.specs.About.{letter_sent, letter_taken, line_about, line_changed}
 use Rattle.sci_text.specs.Number.{number, field}
 use Rattle.sci_text.specs.Log.{issue_text, outcome_text}
 use Rattle.sci_text.specs.Schedule.{ScheduleValue, IsSchedule, event_line, schedule_text}
@@ -20,25 +19,11 @@ use Rattle.sci_command.specs.PacketLine.{line_of_packet}
 use Rattle.sci_command.specs.Refusal.{IsRefusalBy}
 use Rattle.sciview.specs.declared.trace.TraceRequest.{TraceRequest}
 use Rattle.sciview.specs.AskedLine.{HasLine, IsAskedFault, is_asked}
-use Rattle.sciview.specs.PacketsAnswer.{before, letter_sent}
+use Rattle.sciview.specs.PacketsAnswer.{before}
 use Rattle.sciview.specs.StateWords.{state_text, home_text}
 use Rattle.sciview.specs.ObstacleWords.{line_named, obstacle_words}
 
 -- ---- packets
-
--- the oldest packet of a lane, if there are such nodes
-abbrev pub front_of : Core → LaneKind → ℕ → ℕ → Option Letter
-front_of core kind from n = if nat_lt from core.size.nodes && nat_lt n core.size.nodes then slice_get (lane_of core kind from n) 0 else None
-
--- the packet that an event takes, if it is enabled and takes one
-abbrev pub letter_taken : Core → Event → Option Letter
-letter_taken core (event.Serve from n) = front_of core Requests from n
-letter_taken core (event.Refuse from n) = front_of core Requests from n
-letter_taken core (event.Accept from n) = front_of core Answers from n
-letter_taken core (event.Issue n op) = None
-letter_taken core (event.Perform n line) = None
-letter_taken core (event.Ask n line kind) = None
-letter_taken core (event.Reply n) = None
 
 -- the line of a packet, as `decode` prints it
 unfoldable pub letter_line : Letter → List ℕ
@@ -49,21 +34,7 @@ unfoldable pub moved_text : List ℕ → Option Letter → List ℕ
 moved_text done None = []
 moved_text done (Some letter) = done ++ letter_line letter
 
--- ---- the line that an event is about
-
-abbrev pub line_in : Core → Option Letter → Option ℕ
-line_in core None = None
-line_in core (Some letter) = if nat_lt letter.line core.size.lines then Some letter.line else None
-
--- the line that a Perform or an Ask names, and that of a packet that is taken; an Issue and a Reply change none
-abbrev pub line_changed : Core → Event → Option ℕ
-line_changed core (event.Perform n line) = Some line
-line_changed core (event.Ask n line kind) = Some line
-line_changed core (event.Serve from n) = line_in core (front_of core Requests from n)
-line_changed core (event.Refuse from n) = line_in core (front_of core Requests from n)
-line_changed core (event.Accept from n) = line_in core (front_of core Answers from n)
-line_changed core (event.Issue n op) = None
-line_changed core (event.Reply n) = None
+-- ---- the states of a line
 
 -- the words for the state of a line in a node's cache; none if there is no such node or line
 unfoldable pub cache_text : Core → ℕ → ℕ → List ℕ
@@ -154,16 +125,6 @@ unfoldable pub event_text : Core → ℕ → Event → List ℕ
 event_text core k e = number k ++ (codes ": " ++ (event_line e ++ outcome_of core e (stepping core e)))
 
 -- ---- the events that are asked for
-
--- the line that an event is about: the one that it names, or else that of the packet which it takes or sends
-abbrev pub line_about : Core → Event → Option ℕ
-line_about core (event.Issue n op) = Some op.line
-line_about core (event.Reply n) = line_in core (letter_sent core (event.Reply n))
-line_about core (event.Perform n line) = Some line
-line_about core (event.Ask n line kind) = Some line
-line_about core (event.Serve from n) = line_in core (front_of core Requests from n)
-line_about core (event.Refuse from n) = line_in core (front_of core Requests from n)
-line_about core (event.Accept from n) = line_in core (front_of core Answers from n)
 
 -- whether an event is traced
 abbrev pub is_traced : TraceRequest → Core → Event → Bool

@@ -16,6 +16,7 @@ use crate::outcomes::outcomes_of;
 use crate::packets::packets;
 use crate::random::random_schedule;
 use crate::run::run;
+use crate::stats::stats;
 use crate::trace::trace;
 use sci_command::{Outcome, finish, write_answer};
 use sci_reports::{check, explain, order};
@@ -48,6 +49,7 @@ fn outcome_of<T: Threads + Sync, R: Read, W: Write>(
         Command::Packets => finish(alloc, writer, packets(alloc, reader)),
         Command::Trace(request) => finish(alloc, writer, trace(alloc, request, reader)),
         Command::Lists { line } => finish(alloc, writer, lists(alloc, line, reader)),
+        Command::Stats(request) => finish(alloc, writer, stats(alloc, request, reader)),
         Command::Chart(request) => finish(alloc, writer, chart(alloc, request, reader)),
         Command::Random { walk, dead } => {
             finish(alloc, writer, random_schedule(alloc, &walk, dead))

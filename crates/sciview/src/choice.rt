@@ -1,7 +1,7 @@
 //! The words of the command line.
 
 ghost use Rattle.std.specs.Prelude.{◌≡◌, ◌↔◌, ◌<◌, ◌≤◌, ◌+◌, ◌∷◌, length, [], ℕ, Option, IfOk, Some, map, codes};
-ghost use Rattle.sci_words.specs.declared.limits.TheConstants.{MAX_LINES};
+ghost use Rattle.sci_words.specs.declared.limits.TheConstants.{MAX_LINES, MAX_NODES};
 ghost use Rattle.sci_text.specs.Number.{number};
 ghost use Rattle.sciview.specs.declared.chart.ChartRequest.{ChartRequest};
 ghost use Rattle.sciview.specs.declared.chart.TextLines.{TextLines};
@@ -12,20 +12,22 @@ ghost use Rattle.sci_drive.specs.declared.driver.Issuing.{Issuing};
 ghost use Rattle.sci_outcomes.specs.declared.trials.Turns.{Turns};
 ghost use Rattle.sciview.specs.declared.outcomes.OutcomesRequest.{OutcomesRequest};
 ghost use Rattle.sciview.specs.declared.run.RunRequest.{RunRequest};
+ghost use Rattle.sciview.specs.declared.stats.StatsRequest.{StatsRequest};
 ghost use Rattle.sciview.specs.declared.trace.TraceRequest.{TraceRequest};
-ghost use Rattle.sciview.specs.Choice.{Chooses, ChoosesBy, ChoosesChart, ChoosesOrder, ChoosesOutcomes, ChoosesPace, ChoosesRun, ChoosesTrace, ChoosesTurnOrder, ChoosesWalk, FitsDead, FitsEvents, FitsLine, FitsTurns, FitsWalk, dead_words, events_words, flag, is_in_order, line_words, turns_words, walk_words};
+ghost use Rattle.sciview.specs.Choice.{Chooses, ChoosesBy, ChoosesChart, ChoosesOrder, ChoosesOutcomes, ChoosesPace, ChoosesRun, ChoosesStats, ChoosesTrace, ChoosesTurnOrder, ChoosesWalk, FitsDead, FitsEvents, FitsLine, FitsNode, FitsTurns, FitsWalk, dead_words, events_words, flag, is_in_order, line_words, node_words, turns_words, walk_words};
 
 use crate::chart::{ChartRequest, TextLines};
 use crate::outcomes::{MAX_RUNS, OutcomesRequest};
 use crate::random::Walk;
 use crate::run::RunRequest;
+use crate::stats::StatsRequest;
 use crate::trace::TraceRequest;
 use sci_command::texts_of;
 use sci_drive::Issuing;
 use sci_outcomes::Turns;
 use sci_reports::{NodeOrder, OrderRequest};
 use sci_text::whole_number;
-use sci_words::MAX_LINES;
+use sci_words::{MAX_LINES, MAX_NODES};
 use std::alloc::{AllocError, Global};
 use std::rt::Env;
 use std::{env, io};
@@ -45,6 +47,8 @@ pub enum Command {
     Trace(TraceRequest),
     /// Write the sharing list behind each event of a schedule that may have changed it: of one line, 0 to 63, or of all.
     Lists { line: Option<u8> },
+    /// Write figures of a schedule.
+    Stats(StatsRequest),
     /// Write a chart of a schedule.
     Chart(ChartRequest),
     /// Write a schedule that is drawn by chance; `dead` in a hundred of its events may be any events.
@@ -69,6 +73,18 @@ fn line_of(word: &str) -> Option<u8>
         return None;
     }
     Some(line as u8)
+}
+
+/// The node that a word says, from 0 to 15. None if it says none.
+fn node_of(word: &str) -> Option<u8>
+    ensures { (node : ℕ) → (result ≡ Some node) ↔
+        ((word.now ≡ number node) × (node < MAX_NODES)) }
+{
+    let node = whole_number(word.as_bytes())?;
+    if node >= u64::from(MAX_NODES) {
+        return None;
+    }
+    Some(node as u8)
 }
 
 /// The walk that five words say, each a number below 2^64. None if they say none.
@@ -129,6 +145,44 @@ fn line_choice(words: &[&str]) -> Option<Option<u8>>
         ["--line", line] => {
             let line = line_of(line)?;
             Some(Some(line))
+        }
+        _ => None,
+    }
+}
+
+/// The node that words say: `--node` with a number from 0 to 15, or no word. None if they say neither.
+#[tactic(auto, unfolding(crate::specs::Choice::node_words))]
+fn node_choice(words: &[&str]) -> Option<Option<u8>>
+    ensures { (node : Option ℕ) → (result ≡ Some node) ↔
+        ((map (λ word. word.now) words.now ≡ node_words node) × FitsNode node) }
+{
+    match words {
+        [] => Some(None),
+        ["--node", node] => {
+            let node = node_of(node)?;
+            Some(Some(node))
+        }
+        _ => None,
+    }
+}
+
+/// What the words behind `stats` ask for: a line, then a node, or one of them, or neither. None if they say something else.
+#[tactic(auto, unfolding(crate::specs::Choice::line_words))]
+fn stats_choice(words: &[&str]) -> Option<StatsRequest>
+    ensures { (request : StatsRequest) → (result ≡ Some request) ↔
+        ChoosesStats (map (λ word. word.now) words.now) request }
+{
+    if let Some(node) = node_choice(words) {
+        return Some(StatsRequest { line: None, node });
+    }
+    match words {
+        ["--line", line, rest @ ..] => {
+            let line = line_of(line)?;
+            let node = node_choice(rest)?;
+            Some(StatsRequest {
+                line: Some(line),
+                node,
+            })
         }
         _ => None,
     }
@@ -365,6 +419,7 @@ fn chosen_by(word: &str, rest: &[&str]) -> Option<Command>
         "lists" => Some(Command::Lists {
             line: line_choice(rest)?,
         }),
+        "stats" => Some(Command::Stats(stats_choice(rest)?)),
         "chart" => Some(Command::Chart(chart_choice(rest)?)),
         "random" => {
             let (walk, dead) = random_of(rest)?;

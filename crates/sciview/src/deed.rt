@@ -3,11 +3,11 @@
 ghost use Rattle.std.specs.Prelude.{◌≡◌, IfOk, OnOk, is_some};
 ghost use Rattle.sci_core.specs.Core.{step, stepping};
 
-use crate::event_words::{push_changes, standing, taken};
+use crate::event_words::{push_changes, standing};
 use crate::labels::{Change, Sight, push_change, push_packet, push_performed};
-use crate::packets::sent;
 use sci_core::{ApplyFault, Machine, node_of};
 use sci_packets::Packet;
+use sci_statistics::{sent, taken};
 use sci_words::Event;
 use std::alloc::{AllocError, Global};
 

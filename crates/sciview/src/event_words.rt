@@ -3,77 +3,18 @@
 ghost use Rattle.std.specs.Prelude.{◌≡◌, ◌++◌, IfOk, OnOk, is_some, option_map};
 ghost use Rattle.sci_cache.specs.Cache.{letter_of};
 ghost use Rattle.sci_core.specs.Core.{step, stepping};
-ghost use Rattle.sciview.specs.TraceAnswer.{arrow_text, cache_label, cache_on, cache_text, change_text, changes_text, entry_logged, entry_text, event_text, front_of, home_label, home_on, home_words as home_words_of, last_entry as last_entry_of, letter_taken, line_about as line_about_of, line_changed as line_changed_of, line_in as line_in_of, moved_text, outcome_of, reason_line, reason_text};
+ghost use Rattle.sciview.specs.TraceAnswer.{arrow_text, cache_label, cache_on, cache_text, change_text, changes_text, entry_logged, entry_text, event_text, home_label, home_on, home_words as home_words_of, last_entry as last_entry_of, moved_text, outcome_of, reason_line, reason_text};
 
 use crate::obstacle_words::{line_named, push_obstacle};
-use crate::packets::sent;
 use crate::state_words::{push_home, push_state};
 use sci_command::{push_labelled, push_packet};
-use sci_core::{ApplyFault, LaneKind, Machine, Obstacle, node_of};
+use sci_core::{ApplyFault, Machine, Obstacle, node_of};
 use sci_history::Entry;
 use sci_packets::Packet;
+use sci_statistics::{line_changed, sent, taken};
 use sci_text::{push_entry, push_event_line, push_number, push_text};
 use sci_words::Event;
 use std::alloc::{AllocError, Global};
-
-/// The oldest packet of a lane, or None if it has none or there are no such nodes.
-fn front(machine: &Machine, kind: LaneKind, from: u8, to: u8) -> Option<Packet>
-    ensures { option_map letter_of result ≡ front_of machine.now kind from to }
-{
-    let nodes = machine.extent().nodes;
-    if from < nodes && to < nodes {
-        machine.front(kind, from, to).copied()
-    } else {
-        None
-    }
-}
-
-/// The packet that an event takes now, or None if it takes none.
-pub fn taken(machine: &Machine, event: &Event) -> Option<Packet>
-    ensures { option_map letter_of result ≡ letter_taken machine.now event.now }
-{
-    match *event {
-        Event::Serve { from, node } | Event::Refuse { from, node } => {
-            front(machine, LaneKind::Requests, from, node)
-        }
-        Event::Accept { from, node } => front(machine, LaneKind::Answers, from, node),
-        _ => None,
-    }
-}
-
-/// The line of a packet.
-fn line_in(machine: &Machine, packet: Option<Packet>) -> Option<u8>
-    ensures { result ≡ line_in_of machine.now (option_map letter_of packet) }
-{
-    match packet {
-        Some(packet) if packet.line < u64::from(machine.extent().lines) => Some(packet.line as u8),
-        _ => None,
-    }
-}
-
-/// The line that an event may change.
-pub fn line_changed(machine: &Machine, event: &Event) -> Option<u8>
-    ensures { result ≡ line_changed_of machine.now event.now }
-{
-    match *event {
-        Event::Perform { line, .. } | Event::Ask { line, .. } => Some(line),
-        Event::Serve { .. } | Event::Refuse { .. } | Event::Accept { .. } => {
-            line_in(machine, taken(machine, event))
-        }
-        _ => None,
-    }
-}
-
-/// The line that an event is about: the one that it names, or else that of the packet which it takes or sends.
-pub fn line_about(machine: &Machine, event: &Event) -> Option<u8>
-    ensures { result ≡ line_about_of machine.now event.now }
-{
-    match *event {
-        Event::Issue { op, .. } => Some(op.line),
-        Event::Reply { .. } => line_in(machine, sent(machine, event)),
-        _ => line_changed(machine, event),
-    }
-}
 
 /// The words for the state of a line in a node's cache: none if there is no such node or line.
 #[tactic(auto, unfolding(crate::specs::TraceAnswer::cache_text))]

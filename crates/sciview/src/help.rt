@@ -2,7 +2,7 @@
 
 /// The words that the program knows.
 pub const USAGE: &str =
-    "usage: sciview order [--by-serial] [--show] | explain | check | packets | trace [--strict] [--line L] | lists [--line L] | chart [--line L] [--events FIRST LAST] | random N M C EVENTS SEED [--dead K] | run [--seed S] [--in-order] [--turns T] | outcomes [--runs R] [--seed S | --threads] [--in-order] | --help | --version";
+    "usage: sciview order [--by-serial] [--show] | explain | check | packets | trace [--json] [--strict] [--line L] | lists [--line L] | stats [--line L] [--node N] | chart [--line L] [--events FIRST LAST] | random N M C EVENTS SEED [--dead K] | run [--seed S] [--in-order] [--turns T] | outcomes [--runs R] [--seed S | --threads] [--in-order] | --help | --version";
 
 /// What stands below the usage line on standard error.
 pub const MANUAL: &str =
@@ -13,7 +13,7 @@ pub const VERSION: &str = "sciview 0.1.0\n";
 
 /// What `--help` writes.
 pub const HELP: &str = "\
-usage: sciview order [--by-serial] [--show] | explain | check | packets | trace [--strict] [--line L] | lists [--line L] | chart [--line L] [--events FIRST LAST] | random N M C EVENTS SEED [--dead K] | run [--seed S] [--in-order] [--turns T] | outcomes [--runs R] [--seed S | --threads] [--in-order] | --help | --version
+usage: sciview order [--by-serial] [--show] | explain | check | packets | trace [--json] [--strict] [--line L] | lists [--line L] | stats [--line L] [--node N] | chart [--line L] [--events FIRST LAST] | random N M C EVENTS SEED [--dead K] | run [--seed S] [--in-order] [--turns T] | outcomes [--runs R] [--seed S | --threads] [--in-order] | --help | --version
 
 Each command of a text reads it from standard input, to its end.
 Each command writes standard output.
@@ -57,6 +57,11 @@ of a schedule:
                     a line: the line's number, the list, the node that may
                     change the line, and the line's last contents; of all lines,
                     or of the line L alone
+  stats [--line L] [--node N]
+                    figures of it, one on each line: events of each kind,
+                    packets of each command, what happened to each line of
+                    memory, and what each node did; or, of these, to the line
+                    L alone, and what the node N did
   chart [--line L] [--events FIRST LAST]
                     a message sequence chart of its events in SVG: of all lines
                     of memory, or of the line L, 0 to 63, alone; of all events,

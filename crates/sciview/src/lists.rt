@@ -4,18 +4,18 @@ ghost use Rattle.std.specs.Prelude.{◌≡◌, ◌≤◌, ◌+◌, ◌++◌, ◌
 ghost use Rattle.std.specs.List.{flat_map};
 ghost use Rattle.sci_words.specs.declared.limits.TheConstants.{MAX_TEXT_LINE_BYTES};
 ghost use Rattle.sci_core.specs.Core.{step, stepping};
+ghost use Rattle.sci_statistics.specs.About.{line_changed as line_changed_of};
 ghost use Rattle.sci_text.specs.Tap.{has_failed, is_called_again, tapped};
 ghost use Rattle.sci_command.specs.declared.outcome.Outcome.{Outcome};
 ghost use Rattle.sciview.specs.AskedLine.{IsAskedFault};
 ghost use Rattle.sciview.specs.PacketsAnswer.{before};
-ghost use Rattle.sciview.specs.TraceAnswer.{line_changed as line_changed_of};
 ghost use Rattle.sciview.specs.ListsAnswer.{AreListed, IsListLine, IsListed, IsListsAnswer, authority_text, front_text, home_name_text, last_text, line_within, listed_line as listed_line_of, member_text, name_text, place_text};
 
 use crate::asked_line::{is_asked, read_asked};
-use crate::event_words::line_changed;
 use crate::state_words::{home_name, state_name};
 use sci_command::{Answer, Outcome, put_contents};
 use sci_core::{ApplyFault, Machine};
+use sci_statistics::line_changed;
 use sci_text::{LineEnd, Schedule, Tap, TextFault, push_number, push_text};
 use sci_words::{Event, MAX_OPERATIONS, Stamped};
 use std::alloc::{AllocError, Global};

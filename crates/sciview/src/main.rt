@@ -10,6 +10,7 @@ mod deed;
 mod drawing;
 mod elements;
 mod event_words;
+mod figures;
 mod help;
 mod labels;
 mod layout;
@@ -22,6 +23,7 @@ mod random;
 mod rows;
 mod run;
 mod state_words;
+mod stats;
 mod trace;
 mod walking;
 

@@ -5,31 +5,21 @@ ghost use Rattle.std.specs.List.{flat_map};
 ghost use Rattle.sci_packets.specs.Spelling.{spelling};
 ghost use Rattle.sci_cache.specs.Cache.{letter_of};
 ghost use Rattle.sci_core.specs.Core.{step};
+ghost use Rattle.sci_statistics.specs.About.{letter_sent};
 ghost use Rattle.sci_text.specs.FirstFault.{IsTold};
 ghost use Rattle.sci_text.specs.ScheduleFault.{IsScheduleFault};
 ghost use Rattle.sci_text.specs.Tap.{has_failed, is_called_again, tapped};
 ghost use Rattle.sci_command.specs.declared.outcome.Outcome.{Outcome};
-ghost use Rattle.sciview.specs.PacketsAnswer.{AreSpelled, IsPacketsAnswer, before, letter_sent, letters_sent};
+ghost use Rattle.sciview.specs.PacketsAnswer.{AreSpelled, IsPacketsAnswer, before, letters_sent};
 
 use sci_command::{Answer, Outcome};
 use sci_core::{ApplyFault, Machine};
 use sci_packets::{Packet, encode};
+use sci_statistics::sent;
 use sci_text::{Schedule, Tap, TextFault, read_schedule};
 use sci_words::{Event, MAX_OPERATIONS};
 use std::alloc::{AllocError, Global};
 use std::io::Read;
-
-/// The packet that an event sends now, or None if it sends none.
-pub fn sent(machine: &Machine, event: &Event) -> Option<Packet>
-    ensures { option_map letter_of result ≡ letter_sent machine.now event.now }
-{
-    let nodes = machine.extent().nodes;
-    match *event {
-        Event::Ask { node, line, kind } if node < nodes => machine.node(node).asked(line, kind),
-        Event::Reply { node } if node < nodes => machine.node(node).waiting().copied(),
-        _ => None,
-    }
-}
 
 /// Takes a step, and gives the packet that it sent. Refused if memory is.
 fn step_of(machine: &mut Machine, event: &Event) -> Result<Option<Packet>, AllocError>

@@ -8,9 +8,10 @@ ghost use Rattle.sciview.specs.TraceAnswer.{is_traced as is_traced_of, IsTrace, 
 
 use crate::asked_line::{is_asked, read_asked};
 use crate::deed::applied;
-use crate::event_words::{line_about, push_event};
+use crate::event_words::push_event;
 use sci_command::{Answer, Outcome};
 use sci_core::Machine;
+use sci_statistics::line_about;
 use sci_text::{Schedule, Tap, TextFault};
 use sci_words::{Event, MAX_OPERATIONS};
 use std::alloc::{AllocError, Global};

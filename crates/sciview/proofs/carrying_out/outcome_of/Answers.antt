@@ -17,8 +17,10 @@ use Rattle.sciview.specs.OutcomesAnswer.{IsOutcomesAnswer}
 use Rattle.sciview.specs.PacketsAnswer.{IsPacketsAnswer}
 use Rattle.sciview.specs.RandomAnswer.{IsRandomAnswer, IsWalkFault}
 use Rattle.sciview.specs.RunAnswer.{IsRunAnswer, IsRunRefusal}
+use Rattle.sciview.specs.StatsAnswer.{IsStatsAnswer, IsStatsFault}
 use Rattle.sciview.specs.TraceAnswer.{IsTraceAnswer}
 use Rattle.sciview.proofs.Asked.{refused_asked}
+use Rattle.sciview.proofs.Counted.{refused_stats}
 use Rattle.sci_reports.proofs.Checked.{refused_whole}
 use Rattle.sciview.proofs.Ran.{run_refused}
 use Rattle.sciview.proofs.Walks.{walk_refused}
@@ -59,6 +61,13 @@ returns-in-Lists-clause-written g c =
     let known = g.R.Read.remaining (tapped c.args.reader.now) in
     let unread = has_failed c.lists.new.reader in
     rw c.in-Lists.is (finished (IsListsAnswer c.in-Lists.line known unread) (λ fault. IsAskedFault c.in-Lists.line fault.kind known unread fault.line) c.lists.result (λ fault text. refused_asked c.in-Lists.line known unread fault text) c.lists.ensures.answer c.lists.ensures.fault _ _ _ _ c.finish-in-Lists.ensures.written)
+
+pub returns-in-Stats-clause-written : goal.returns-in-Stats-clause-written
+returns-in-Stats-clause-written g c =
+    let known = g.R.Read.remaining (tapped c.args.reader.now) in
+    let unread = has_failed c.stats.new.reader in
+    let request = c.in-Stats.request in
+    rw c.in-Stats.is (finished (IsStatsAnswer request known unread) (λ fault. IsStatsFault request fault.kind known unread fault.line) c.stats.result (λ fault text. refused_stats request known unread fault text) c.stats.ensures.answer c.stats.ensures.fault _ _ _ _ c.finish-in-Stats.ensures.written)
 
 pub returns-in-Chart-clause-written : goal.returns-in-Chart-clause-written
 returns-in-Chart-clause-written g c =
