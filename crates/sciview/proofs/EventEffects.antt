@@ -7,7 +7,8 @@ use Rattle.sci_core.specs.declared.obstacle.Obstacle.{Obstacle}
 use Rattle.sci_core.specs.Core.{Core, node_of, stepping}
 use Rattle.sci_core.specs.Obstacles.{obstacle_to}
 use Rattle.sci_statistics.specs.About.{letter_sent, letter_taken, line_changed}
-use Rattle.sciview.specs.TraceAnswer.{cache_on, home_on, moved_text, changes_text, entry_logged, entry_text, effect_text, reason_text, outcome_of}
+use Rattle.sciview.specs.Logged.{entry_logged}
+use Rattle.sciview.specs.TraceAnswer.{cache_on, home_on, moved_text, changes_text, entry_text, effect_text, reason_text, outcome_of}
 use Rattle.sciview.proofs.Joined.{joined4}
 
 -- of an event that isn't enabled

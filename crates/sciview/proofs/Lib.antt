@@ -12,3 +12,4 @@ pub mod RunWords
 pub mod OutcomesWords
 mod Counted
 pub mod StatsWords
+pub mod JsonOutcomes

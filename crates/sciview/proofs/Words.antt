@@ -1,6 +1,6 @@
 -- The words of a walk, from the words of its numbers and those of its share.
-use Rattle.std.proofs.Common.{◌≡◌, ◌↔◌, ◌<◌, ◌≤◌, ◌⊎◌, ◌+◌, ◌^◌, ℕ, inl, inr, arith, length, get_or, IfSome, List, [], ◌∷◌, ◌++◌, map, take, drop, Option, Some, None, sym, ap, ◌∙◌, refl, subst}
-use Rattle.std.proofs.lemmas.List.{length-map, take-map, drop-map, take-append-drop, map-append}
+use Rattle.std.proofs.Common.{◌-◌, ◌≡◌, ◌↔◌, ◌<◌, ◌≤◌, ◌⊎◌, ◌+◌, ◌^◌, ℕ, inl, inr, arith, length, get_or, IfSome, List, [], ◌∷◌, ◌++◌, map, take, drop, Option, Some, None, sym, ap, ◌∙◌, refl, subst}
+use Rattle.std.proofs.lemmas.List.{length-map, take_all, take-map, drop-map, take-append-drop, map-append}
 use Rattle.std.specs.Prelude.{codes, Bool, true, false, option_map}
 use Rattle.sciview.specs.declared.chart.ChartRequest.{ChartRequest}
 use Rattle.sciview.specs.declared.chart.TextLines.{TextLines}
@@ -8,7 +8,7 @@ use Rattle.sciview.specs.declared.trace.TraceRequest.{TraceRequest}
 use Rattle.sci_words.specs.declared.limits.TheConstants.{MAX_LINES}
 use Rattle.sci_text.specs.Number.{number}
 use Rattle.sciview.specs.declared.random.Walk.{Walk}
-use Rattle.sciview.specs.Choice.{ChoosesChart, ChoosesTrace, FitsDead, FitsEvents, FitsLine, FitsWalk, dead_words, events_words, flag, line_words, walk_words}
+use Rattle.sciview.specs.Choice.{ChoosesChart, ChoosesTrace, ChoosesWords, FitsDead, FitsEvents, FitsLine, FitsWalk, dead_words, events_words, flag, line_words, walk_words}
 
 -- the words are those of the first five and those of the rest
 parts : {X : Type 0} (f : X → List ℕ) (words : List X) → map f words ≡ map f (take 5 words) ++ map f (drop 5 words)
@@ -124,7 +124,7 @@ no_strict words None line a b = let long = ap (λ (ws : List (List ℕ)). length
 no_strict words (Some n) line a b = let same : codes "--line" ≡ codes "--strict" = ap first (sym a ∙ b) in absurd (cc)
 
 abbrev plain : Option ℕ → TraceRequest
-plain line = record { strict = false; line = line }
+plain line = record { json = false; strict = false; line = line }
 
 abbrev line_of : Option TraceRequest → Option (Option ℕ)
 line_of None = None
@@ -134,14 +134,88 @@ abbrev strict_of : Option TraceRequest → Option Bool
 strict_of None = None
 strict_of (Some request) = Some request.strict
 
-not_strict : (words : List (List ℕ)) (said : Option (Option ℕ)) (there : Option ℕ) → said ≡ Some there → ((line : Option ℕ) → (said ≡ Some line) ↔ ((words ≡ line_words line) × FitsLine line)) → (strict : Bool) (line : Option ℕ)
-    → (let one : Option TraceRequest = Some record { strict = false; line = there } in one ≡ Some record { strict = strict; line = line }) ↔ ((words ≡ flag (codes "--strict") strict ++ line_words line) × FitsLine line)
-not_strict words said there is says false line = (λ same. (says line).0 (is ∙ ap line_of same), λ h. ap (option_map plain) (sym is ∙ (says line).1 h))
-not_strict words said there is says true line = (λ same. let apart : Some false ≡ Some true = ap strict_of same in absurd (cc), λ h. absurd (no_strict words there line ((says there).0 is).0 h.0))
+abbrev json_of : Option TraceRequest → Option Bool
+json_of None = None
+json_of (Some request) = Some request.json
+
+not_strict : (words : List (List ℕ)) (said : Option (Option ℕ)) (there : Option ℕ) → said ≡ Some there → ((line : Option ℕ) → (said ≡ Some line) ↔ ((words ≡ line_words line) × FitsLine line)) → (json strict : Bool) (line : Option ℕ)
+    → (Some (plain there) ≡ Some record { json = json; strict = strict; line = line }) ↔ ((json ≡ false) × (words ≡ flag (codes "--strict") strict ++ line_words line) × FitsLine line)
+not_strict words said there is says true strict line = (λ same. let apart : Some false ≡ Some true = ap json_of same in absurd (cc), λ h. let apart = h.0 in absurd (cc))
+not_strict words said there is says false false line = (λ same. let h = (says line).0 (is ∙ ap line_of same) in (refl, h.0, h.1), λ h. ap (option_map plain) (sym is ∙ (says line).1 (h.1, h.2)))
+not_strict words said there is says false true line = (λ same. let apart : Some false ≡ Some true = ap strict_of same in absurd (cc), λ h. absurd (no_strict words there line ((says there).0 is).0 h.1))
 
 pub line_alone : (words : List (List ℕ)) (said : Option (Option ℕ)) (there : Option ℕ) → said ≡ Some there → ((line : Option ℕ) → (said ≡ Some line) ↔ ((words ≡ line_words line) × FitsLine line)) → (request : TraceRequest)
-    → (let one : Option TraceRequest = Some record { strict = false; line = there } in one ≡ Some request) ↔ ChoosesTrace words request
-line_alone words said there is says request = not_strict words said there is says request.strict request.line
+    → (Some (plain there) ≡ Some request) ↔ ChoosesWords words request
+line_alone words said there is says request = not_strict words said there is says request.json request.strict request.line
+
+-- ---- words with `--json`, and without
+
+different : (a b : ℕ) → a < b → a ≡ b → ⊥
+different a b lt is = omega arith
+
+json_strict : codes "--json" ≡ codes "--strict" → ⊥
+json_strict e = different 106 115 (omega arith) (ap (λ (word : List ℕ). get_or word 2 0) e)
+
+json_line : codes "--json" ≡ codes "--line" → ⊥
+json_line e = different 106 108 (omega arith) (ap (λ (word : List ℕ). get_or word 2 0) e)
+
+no_json : (tail : List (List ℕ)) (strict : Bool) (line : Option ℕ) → codes "--json" ∷ tail ≡ flag (codes "--strict") strict ++ line_words line → ⊥
+unfolding line_words
+no_json tail true line e = json_strict (ap first e)
+no_json tail false None e = let long = ap (λ (ws : List (List ℕ)). length ws) e in absurd (omega arith)
+no_json tail false (Some n) e = json_line (ap first e)
+
+abbrev rest_of : List (List ℕ) → List (List ℕ)
+rest_of [] = []
+rest_of (word ∷ rest) = rest
+
+abbrev as_json : TraceRequest → TraceRequest
+as_json request = record { json = true; strict = request.strict; line = request.line }
+
+json_choice : (tail : List (List ℕ)) (said : Option TraceRequest) (there : TraceRequest) → said ≡ Some there → ((request : TraceRequest) → (said ≡ Some request) ↔ ChoosesWords tail request) → (json strict : Bool) (line : Option ℕ)
+    → (Some (as_json there) ≡ Some record { json = json; strict = strict; line = line }) ↔ ChoosesTrace (codes "--json" ∷ tail) (record { json = json; strict = strict; line = line })
+json_choice tail said there is says false strict line = (λ same. let apart : Some true ≡ Some false = ap json_of same in absurd (cc), λ h. absurd (no_json tail strict line h.0))
+json_choice tail said there is says true strict line = (
+  λ same.
+      let h = (says there).0 is in
+      let strict_is : Some there.strict ≡ Some strict = ap strict_of same in
+      let line_is : Some there.line ≡ Some line = ap line_of same in
+      let s : there.strict ≡ strict = cc in
+      let l : there.line ≡ line = cc in
+      (ap (λ (ws : List (List ℕ)). codes "--json" ∷ ws) (h.1 ∙ rw (s, l) refl), subst FitsLine l h.2),
+  λ h. ap (option_map as_json) (sym is ∙ (says (record { json = false; strict = strict; line = line })).1 (refl, ap rest_of h.0, h.1)),
+)
+
+pub json_words : {X : Type 0} (f : X → List ℕ) (words : List X) (d : X) → 1 ≤ length words → f (get_or words 0 d) ≡ codes "--json" → map f words ≡ codes "--json" ∷ map f (take (length words - 1) (drop 1 words))
+json_words f [] d some is = absurd (omega arith)
+json_words f (w ∷ words) d some is = ap (λ (v : List ℕ). v ∷ map f words) is ∙ ap (λ ws. codes "--json" ∷ map f ws) (sym (take_all (length (w ∷ words) - 1) words (omega arith)))
+
+-- the first word is `--json`
+pub json_first : (words tail : List (List ℕ)) (said : Option TraceRequest) (there : TraceRequest) → words ≡ codes "--json" ∷ tail → said ≡ Some there → ((request : TraceRequest) → (said ≡ Some request) ↔ ChoosesWords tail request) → (request : TraceRequest)
+    → (Some (as_json there) ≡ Some request) ↔ ChoosesTrace words request
+json_first words tail said there are is says request = rw are (json_choice tail said there is says request.json request.strict request.line)
+
+json_first_none : (words tail : List (List ℕ)) (said : Option TraceRequest) → words ≡ codes "--json" ∷ tail → said ≡ None → ((request : TraceRequest) → (said ≡ Some request) ↔ ChoosesWords tail request) → (json strict : Bool) (line : Option ℕ)
+    → ChoosesTrace words (record { json = json; strict = strict; line = line }) → ⊥
+json_first_none words tail said are none says false strict line h = no_json tail strict line (sym are ∙ h.0)
+json_first_none words tail said are none says true strict line h = let e : said ≡ Some record { json = false; strict = strict; line = line } = (says (record { json = false; strict = strict; line = line })).1 (refl, ap rest_of (sym are ∙ h.0), h.1) in absurd (cc)
+
+-- the first word is `--json`, and the others say nothing
+pub json_alone : (words tail : List (List ℕ)) (said result : Option TraceRequest) → words ≡ codes "--json" ∷ tail → said ≡ None → result ≡ None → ((request : TraceRequest) → (said ≡ Some request) ↔ ChoosesWords tail request) → (request : TraceRequest) → (result ≡ Some request) ↔ ChoosesTrace words request
+json_alone words tail said result are none gives says request = (λ same. absurd (cc), λ h. absurd (json_first_none words tail said are none says request.json request.strict request.line h))
+
+words_without : (words : List (List ℕ)) (said : Option TraceRequest) (there : TraceRequest) → said ≡ Some there → ((request : TraceRequest) → (said ≡ Some request) ↔ ChoosesWords words request) → (json strict : Bool) (line : Option ℕ)
+    → (Some there ≡ Some record { json = json; strict = strict; line = line }) ↔ ChoosesTrace words (record { json = json; strict = strict; line = line })
+words_without words said there is says false strict line = let two = says (record { json = false; strict = strict; line = line }) in (λ same. let h = two.0 (is ∙ same) in (h.1, h.2), λ h. sym is ∙ two.1 (refl, h.0, h.1))
+words_without words said there is says true strict line =
+    let h = (says there).0 is in (
+      λ same. let apart : Some false ≡ Some true = ap (λ (b : Bool). Some b) (sym h.0) ∙ ap json_of same in absurd (cc),
+      λ g. absurd (no_json (flag (codes "--strict") strict ++ line_words line) there.strict there.line (sym g.0 ∙ h.1)),
+    )
+
+-- `--json` isn't first
+pub words_alone : (words : List (List ℕ)) (said : Option TraceRequest) (there : TraceRequest) → said ≡ Some there → ((request : TraceRequest) → (said ≡ Some request) ↔ ChoosesWords words request) → (request : TraceRequest) → (Some there ≡ Some request) ↔ ChoosesTrace words request
+words_alone words said there is says request = words_without words said there is says request.json request.strict request.line
 
 -- ---- the words of a chart
 

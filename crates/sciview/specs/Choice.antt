@@ -49,7 +49,11 @@ ChoosesOrder words request = AreOptions words (flag (codes "--by-serial") (asks_
 
 -- what stands behind `trace`
 abbrev pub ChoosesTrace : List (List ℕ) → TraceRequest → Type 0
-ChoosesTrace words request = (words ≡ flag (codes "--strict") request.strict ++ line_words request.line) × FitsLine request.line
+ChoosesTrace words request = (words ≡ flag (codes "--json") request.json ++ (flag (codes "--strict") request.strict ++ line_words request.line)) × FitsLine request.line
+
+-- the same without `--json`
+abbrev pub ChoosesWords : List (List ℕ) → TraceRequest → Type 0
+ChoosesWords words request = (request.json ≡ false) × (words ≡ flag (codes "--strict") request.strict ++ line_words request.line) × FitsLine request.line
 
 -- the words that say lines of a schedule, if some are asked for
 unfoldable pub events_words : Option TextLines → List (List ℕ)

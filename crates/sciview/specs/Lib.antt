@@ -11,3 +11,7 @@ pub mod RandomAnswer
 pub mod RunAnswer
 pub mod OutcomesAnswer
 pub mod StatsAnswer
+pub mod Logged
+pub mod JsonMembers
+pub mod JsonParts
+pub mod JsonEvent

@@ -19,6 +19,8 @@ use Rattle.sci_command.specs.PacketLine.{line_of_packet}
 use Rattle.sci_command.specs.Refusal.{IsRefusalBy}
 use Rattle.sciview.specs.declared.trace.TraceRequest.{TraceRequest}
 use Rattle.sciview.specs.AskedLine.{HasLine, IsAskedFault, is_asked}
+use Rattle.sciview.specs.JsonEvent.{json_line}
+use Rattle.sciview.specs.Logged.{entry_logged}
 use Rattle.sciview.specs.PacketsAnswer.{before}
 use Rattle.sciview.specs.StateWords.{state_text, home_text}
 use Rattle.sciview.specs.ObstacleWords.{line_named, obstacle_words}
@@ -81,20 +83,6 @@ unfoldable pub entry_text : Option Entry → List ℕ
 entry_text None = []
 entry_text (Some entry) = codes "  logged " ++ ((issue_text entry ++ outcome_text entry) ++ 10 ∷ [])
 
--- the last entry of a node's log
-abbrev pub last_entry : Core → ℕ → Option Entry
-last_entry core n = if nat_lt n core.size.nodes then slice_get (node_at core n).log (length (node_at core n).log - 1) else None
-
--- the entry that a Perform has put at the end of its node's log
-abbrev pub entry_logged : Core → Event → Option Entry
-entry_logged next (event.Perform n line) = last_entry next n
-entry_logged next (event.Issue n op) = None
-entry_logged next (event.Ask n line kind) = None
-entry_logged next (event.Serve from n) = None
-entry_logged next (event.Refuse from n) = None
-entry_logged next (event.Reply n) = None
-entry_logged next (event.Accept from n) = None
-
 -- ---- an event
 
 -- what changed of the line that an event is about, at the event's node
@@ -132,6 +120,10 @@ is_traced request core e = is_asked request.line (line_about core e)
 
 -- ---- events one after another
 
+-- an event and what it does, as one JSON object or in words
+abbrev pub shown_text : Bool → Core → ℕ → Event → List ℕ
+shown_text json core k e = if json then json_line core k e else event_text core k e
+
 -- whether nothing of a trace comes behind this event, which is traced
 abbrev pub is_end : Bool → Core → Event → Bool
 is_end strict core e = strict && is_none (stepping core e)
@@ -142,7 +134,7 @@ abbrev pub trace_text : TraceRequest → Core → ℕ → List Event → List �
 trace_text request core k [] = []
 trace_text request core k (e ∷ events) =
     if is_traced request core e
-    then event_text core k e ++ (if is_end request.strict core e then [] else trace_text request (step core e) (k + 1) events)
+    then shown_text request.json core k e ++ (if is_end request.strict core e then [] else trace_text request (step core e) (k + 1) events)
     else trace_text request (step core e) (k + 1) events
 
 -- a strict trace is Unlawful if one of its events isn't enabled

@@ -14,7 +14,7 @@ ghost use Rattle.sciview.specs.declared.outcomes.OutcomesRequest.{OutcomesReques
 ghost use Rattle.sciview.specs.declared.run.RunRequest.{RunRequest};
 ghost use Rattle.sciview.specs.declared.stats.StatsRequest.{StatsRequest};
 ghost use Rattle.sciview.specs.declared.trace.TraceRequest.{TraceRequest};
-ghost use Rattle.sciview.specs.Choice.{Chooses, ChoosesBy, ChoosesChart, ChoosesOrder, ChoosesOutcomes, ChoosesPace, ChoosesRun, ChoosesStats, ChoosesTrace, ChoosesTurnOrder, ChoosesWalk, FitsDead, FitsEvents, FitsLine, FitsNode, FitsTurns, FitsWalk, dead_words, events_words, flag, is_in_order, line_words, node_words, turns_words, walk_words};
+ghost use Rattle.sciview.specs.Choice.{Chooses, ChoosesBy, ChoosesChart, ChoosesOrder, ChoosesOutcomes, ChoosesPace, ChoosesRun, ChoosesStats, ChoosesTrace, ChoosesTurnOrder, ChoosesWalk, ChoosesWords, FitsDead, FitsEvents, FitsLine, FitsNode, FitsTurns, FitsWalk, dead_words, events_words, flag, is_in_order, line_words, node_words, turns_words, walk_words};
 
 use crate::chart::{ChartRequest, TextLines};
 use crate::outcomes::{MAX_RUNS, OutcomesRequest};
@@ -203,14 +203,14 @@ fn order_choice(words: &[&str]) -> Option<OrderRequest>
     Some(OrderRequest { keeps, shows })
 }
 
-/// What the words behind `trace` ask for: `--strict`, then a line, or one of them, or neither. None if they say something
-/// else.
-fn trace_choice(words: &[&str]) -> Option<TraceRequest>
+/// What words ask of a trace in words: `--strict`, then a line, or one of them, or neither. None if they say something else.
+fn words_choice(words: &[&str]) -> Option<TraceRequest>
     ensures { (request : TraceRequest) → (result ≡ Some request) ↔
-        ChoosesTrace (map (λ word. word.now) words.now) request }
+        ChoosesWords (map (λ word. word.now) words.now) request }
 {
     if let Some(line) = line_choice(words) {
         return Some(TraceRequest {
+            json: false,
             strict: false,
             line,
         });
@@ -218,7 +218,32 @@ fn trace_choice(words: &[&str]) -> Option<TraceRequest>
     match words {
         ["--strict", rest @ ..] => {
             let line = line_choice(rest)?;
-            Some(TraceRequest { strict: true, line })
+            Some(TraceRequest {
+                json: false,
+                strict: true,
+                line,
+            })
+        }
+        _ => None,
+    }
+}
+
+/// What the words behind `trace` ask for: `--json`, `--strict` and a line, in this order, or some of them. None if they say
+/// something else.
+fn trace_choice(words: &[&str]) -> Option<TraceRequest>
+    ensures { (request : TraceRequest) → (result ≡ Some request) ↔
+        ChoosesTrace (map (λ word. word.now) words.now) request }
+{
+    if let Some(request) = words_choice(words) {
+        return Some(request);
+    }
+    match words {
+        ["--json", rest @ ..] => {
+            let request = words_choice(rest)?;
+            Some(TraceRequest {
+                json: true,
+                ..request
+            })
         }
         _ => None,
     }

@@ -3,7 +3,8 @@
 ghost use Rattle.std.specs.Prelude.{◌≡◌, ◌++◌, IfOk, OnOk, is_some, option_map};
 ghost use Rattle.sci_cache.specs.Cache.{letter_of};
 ghost use Rattle.sci_core.specs.Core.{step, stepping};
-ghost use Rattle.sciview.specs.TraceAnswer.{arrow_text, cache_label, cache_on, cache_text, change_text, changes_text, entry_logged, entry_text, event_text, home_label, home_on, home_words as home_words_of, last_entry as last_entry_of, moved_text, outcome_of, reason_line, reason_text};
+ghost use Rattle.sciview.specs.Logged.{entry_logged, last_entry as last_entry_of};
+ghost use Rattle.sciview.specs.TraceAnswer.{arrow_text, cache_label, cache_on, cache_text, change_text, changes_text, entry_text, event_text, home_label, home_on, home_words as home_words_of, moved_text, outcome_of, reason_line, reason_text};
 
 use crate::obstacle_words::{line_named, push_obstacle};
 use crate::state_words::{push_home, push_state};
@@ -141,7 +142,7 @@ fn last_entry(machine: &Machine, n: u8) -> Option<Entry>
 }
 
 /// The entry that a Perform has put at the end of its node's log.
-fn entry_of(machine: &Machine, event: &Event) -> Option<Entry>
+pub fn entry_of(machine: &Machine, event: &Event) -> Option<Entry>
     ensures { result ≡ entry_logged machine.now event.now }
 {
     match *event {

@@ -71,7 +71,7 @@ pub fn backward(held: &Held) -> Option<NodeId>
 
 /// Whether the request was sent, of the states that come before and after it.
 #[tactic(auto, unfolding(crate::specs::StateWords::is_sent))]
-fn is_sent(held: &Held) -> bool
+pub fn is_sent(held: &Held) -> bool
     ensures { result ≡ is_sent_of (state_of held.now) }
 {
     match held {
@@ -83,7 +83,7 @@ fn is_sent(held: &Held) -> bool
 }
 
 /// The contents that a state has.
-fn contents(held: &Held) -> Option<Stamped>
+pub fn contents(held: &Held) -> Option<Stamped>
     ensures { result ≡ contents_of (state_of held.now) }
 {
     match held {

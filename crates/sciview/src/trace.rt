@@ -1,14 +1,16 @@
 //! The command `trace`: what each event of a schedule does.
 
-ghost use Rattle.std.specs.Prelude.{◌≡◌, ◌&&◌, not, false, IfOk, IfErr};
+ghost use Rattle.std.specs.Prelude.{◌≡◌, ◌++◌, ◌&&◌, not, false, is_some, IfOk, IfErr, OnOk};
 ghost use Rattle.sci_text.specs.Tap.{has_failed, is_called_again, tapped};
+ghost use Rattle.sci_core.specs.Core.{step, stepping};
 ghost use Rattle.sci_command.specs.declared.outcome.Outcome.{Outcome};
 ghost use Rattle.sciview.specs.AskedLine.{IsAskedFault};
-ghost use Rattle.sciview.specs.TraceAnswer.{is_traced as is_traced_of, IsTrace, IsTraceAnswer};
+ghost use Rattle.sciview.specs.TraceAnswer.{is_traced as is_traced_of, IsTrace, IsTraceAnswer, shown_text};
 
 use crate::asked_line::{is_asked, read_asked};
 use crate::deed::applied;
 use crate::event_words::push_event;
+use crate::json_event::push_json;
 use sci_command::{Answer, Outcome};
 use sci_core::Machine;
 use sci_statistics::line_about;
@@ -23,6 +25,8 @@ const FIRST_EVENT_LINE: u64 = 2;
 /// What is asked of a trace.
 #[derive(Clone, Copy)]
 pub struct TraceRequest {
+    /// Whether each event is a JSON object.
+    pub json: bool,
     /// Whether it ends behind the first event that isn't enabled.
     pub strict: bool,
     /// The line of memory that its events are about, or None for all events.
@@ -34,6 +38,28 @@ fn is_traced(machine: &Machine, request: TraceRequest, event: &Event) -> bool
     ensures { result ≡ is_traced_of request machine.now event.now }
 {
     is_asked(request.line, line_about(machine, event))
+}
+
+/// Takes a step, appends the event and what comes of it, as JSON or in words, and answers whether it was enabled. Refused if
+/// memory is.
+fn push_shown(
+    text: &mut Vec<u8>,
+    machine: &mut Machine,
+    json: bool,
+    number: u64,
+    event: &Event,
+) -> Result<bool, AllocError>
+    ensures text { OnOk result
+        (text.new.items ≡ text.old.items ++ shown_text json machine.old number event.now) }
+    ensures enabled { IfOk result
+        (λ enabled. enabled ≡ is_some (stepping machine.old event.now)) }
+    ensures step { OnOk result (machine.new ≡ step machine.old event.now) }
+{
+    if json {
+        push_json(text, machine, number, event)
+    } else {
+        push_event(*text.allocator(), text, machine, number, event)
+    }
 }
 
 /// Whether a trace ends behind an event that is enabled or not.
@@ -57,7 +83,7 @@ fn traced(alloc: Global, request: TraceRequest, schedule: &Schedule) -> Result<A
             number += 1;
             continue;
         }
-        let enabled = match push_event(alloc, &mut text, &mut machine, number, event) {
+        let enabled = match push_shown(&mut text, &mut machine, request.json, number, event) {
             Ok(enabled) => enabled,
             Err(refused) => return Err(refused),
         };
