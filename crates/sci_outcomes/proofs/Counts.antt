@@ -108,7 +108,11 @@ some_tally p seen k d lt is =
     let one : bit (p (get_or seen k d)) ≡ 1 = ap bit is in
     tally_there p seen (count_by p seen) (omega (arith, most, one))
 
--- ---- sums over what a function gives
+-- ---- what a function gives
+
+pub map_same : {A : Type 0} (xs : List A) → map (λ x. x) xs ≡ xs
+map_same [] = refl
+map_same (x ∷ xs) = ap (λ (ys : List _). x ∷ ys) (map_same xs)
 
 pub sum_by_map : {X Y : Type 0} (f : Y → ℕ) (g : X → Y) (xs : List X) → sum_by f (map g xs) ≡ sum_by (λ x. f (g x)) xs
 sum_by_map f g [] = refl

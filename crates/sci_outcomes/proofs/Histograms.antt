@@ -29,10 +29,10 @@ held_total = then_total (on_total (λ (h : Held). h.line) nat_cmp_total) (then_t
 pub outcome_total : IsTotalOrder outcome_cmp
 outcome_total = then_total (on_total (λ (o : Outcome). o.replies.items) (lists_total replied_total)) (on_total (λ (o : Outcome). o.last.items) (lists_total held_total))
 
-abbrev is_same : Outcome → Outcome → Bool
+abbrev pub is_same : Outcome → Outcome → Bool
 is_same = eq_by_cmp outcome_cmp
 
-same_back : (a b : Outcome) → is_same a b ≡ is_same b a
+pub same_back : (a b : Outcome) → is_same a b ≡ is_same b a
 same_back = (eq_by_cmp_equiv outcome_total).symm
 
 -- outcomes that are the same are had by the same sightings

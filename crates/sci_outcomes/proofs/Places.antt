@@ -2,12 +2,14 @@
 use Rattle.std.proofs.Common.{◌≡◌, ◌≤◌, ◌<◌, ℕ, zero, suc, ◌+◌, true, false, cond, arith, List, [], ◌∷◌, ◌++◌, map, All, refl, sym, ap, subst, ◌∙◌, append_assoc, add-one}
 use Rattle.std.specs.Prelude.{filter}
 use Rattle.std.specs.List.{flat_map, range_with_len}
+use Rattle.std.proofs.lemmas.List.{append-nil}
 use Rattle.std.proofs.lemmas.List.Concat.{flat_map-append}
 use Rattle.std.proofs.lemmas.List.FromFn.{filter_of_map_range_with_len_more, get_or-map-range_with_len, length-map-range_with_len, map-range_with_len_more}
 use Rattle.std.proofs.lemmas.List.Elements.{All-append, All-filter}
 use Rattle.sci_words.specs.declared.limits.TheConstants.{WORDS_PER_LINE}
 use Rattle.sci_words.specs.declared.operation.Op.{Op}
 use Rattle.sci_outcomes.specs.declared.place.Place.{Place}
+use Rattle.sci_outcomes.proofs.Counts.{map_same}
 use Rattle.sci_outcomes.specs.Outcomes.{IsPlaceWithin, is_written, written_on, written_places}
 
 -- ---- words
@@ -23,28 +25,20 @@ written_more operations line word before old so_far is =
     ap (λ (ps : List Place). ps ++ place word ∷ []) so_far ∙ (append_assoc before (first_written operations line word) (place word ∷ []) ∙ ap (λ (ps : List Place). before ++ ps)
     (sym (filter_of_map_range_with_len_more (is_written operations) place 0 word word (omega arith) ∙ ap (λ b. first_written operations line word ++ cond b (place word ∷ []) []) is)))
 
-append_nil : {A : Type 0} (xs : List A) → xs ++ [] ≡ xs
-append_nil [] = refl
-append_nil (x ∷ xs) = ap (λ (ys : List _). x ∷ ys) (append_nil xs)
-
 pub written_same : (operations : List (ℕ × Op)) (line word : ℕ) (before old : List Place) → old ≡ before ++ first_written operations line word → is_written operations (record { line = line; word = word }) ≡ false → old ≡ before ++ first_written operations line (word + 1)
 written_same operations line word before old so_far is =
     let place = λ (w : ℕ). let p : Place = record { line = line; word = w } in p in
     so_far ∙ ap (λ (ps : List Place). before ++ ps)
-    (sym (filter_of_map_range_with_len_more (is_written operations) place 0 word word (omega arith) ∙ (ap (λ b. first_written operations line word ++ cond b (place word ∷ []) []) is ∙ append_nil (first_written operations line word))))
+    (sym (filter_of_map_range_with_len_more (is_written operations) place 0 word word (omega arith) ∙ (ap (λ b. first_written operations line word ++ cond b (place word ∷ []) []) is ∙ append-nil (first_written operations line word))))
 
 -- ---- lines
 
-map_id : {A : Type 0} (xs : List A) → map (λ x. x) xs ≡ xs
-map_id [] = refl
-map_id (x ∷ xs) = ap (λ (ys : List _). x ∷ ys) (map_id xs)
-
 one_line : (operations : List (ℕ × Op)) (line : ℕ) → flat_map (written_on operations) (line ∷ []) ≡ written_on operations line
-one_line operations line = append_nil (written_on operations line)
+one_line operations line = append-nil (written_on operations line)
 
 pub places_more : (operations : List (ℕ × Op)) (line : ℕ) (old new : List Place) → old ≡ written_places line operations → new ≡ old ++ written_on operations line → new ≡ written_places (line + 1) operations
 places_more operations line old new before added =
-    let lines : range_with_len 0 (line + 1) ≡ range_with_len 0 line ++ line ∷ [] = sym (map_id _) ∙ (map-range_with_len_more (λ n. n) 0 line line (omega arith) ∙ ap (λ (ns : List ℕ). ns ++ line ∷ []) (map_id (range_with_len 0 line))) in
+    let lines : range_with_len 0 (line + 1) ≡ range_with_len 0 line ++ line ∷ [] = sym (map_same _) ∙ (map-range_with_len_more (λ n. n) 0 line line (omega arith) ∙ ap (λ (ns : List ℕ). ns ++ line ∷ []) (map_same (range_with_len 0 line))) in
     added ∙ (ap (λ (ps : List Place). ps ++ written_on operations line) before ∙ sym (ap (flat_map (written_on operations)) lines ∙ (flat_map-append (written_on operations) (range_with_len 0 line) (line ∷ []) ∙ ap (λ (ps : List Place). written_places line operations ++ ps) (one_line operations line))))
 
 -- the words of a line are within it

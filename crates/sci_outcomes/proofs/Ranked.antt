@@ -6,7 +6,7 @@ use Rattle.std.specs.List.Sorted.{IsPermutation, IsSortedBy, IsStableBy, IsStric
 use Rattle.std.specs.BTreeMap.{IsOrdered, get, is_at}
 use Rattle.std.specs.Map.{keys_of, lookup}
 use Rattle.std.specs.Cmp.{IsTotalOrder, IsStrictWeakOrder}
-use Rattle.std.specs.Ordering.{eq_by_cmp, is_eq, is_lt, nat_cmp, ordering_then, ordering_reverse}
+use Rattle.std.specs.Ordering.{is_eq, is_lt, nat_cmp, ordering_then, ordering_reverse}
 use Rattle.std.specs.declared.cmp.Ordering.{Ordering}
 use Rattle.std.specs.declared.cmp.Ordering.TheVariants.{Less, Equal, Greater}
 use Rattle.std.proofs.lemmas.Cmp.{back_total, by_ranked, eq_by_cmp_equiv, nat_cmp_total, on_total, ranked, tied_itself, then_total}
@@ -25,13 +25,7 @@ use Rattle.sci_outcomes.specs.declared.outcome.Outcome.{Outcome}
 use Rattle.sci_outcomes.specs.declared.outcome.Sighting.{Sighting}
 use Rattle.sci_outcomes.specs.Rows.{AreRowsOf, HasCounted, IsRowOf, has_outcome, outcome_cmp, row_cmp, row_of}
 use Rattle.sci_outcomes.proofs.Counts.{bit, some_tally, sum_by_map, tally_is}
-use Rattle.sci_outcomes.proofs.Histograms.{outcome_total}
-
-abbrev is_same : Outcome → Outcome → Bool
-is_same = eq_by_cmp outcome_cmp
-
-same_back : (a b : Outcome) → is_same a b ≡ is_same b a
-same_back = (eq_by_cmp_equiv outcome_total).symm
+use Rattle.sci_outcomes.proofs.Histograms.{is_same, outcome_total, same_back}
 
 -- whether two rows have one outcome
 abbrev row_same : Row → Row → Bool
@@ -39,10 +33,6 @@ row_same a b = is_same a.outcome b.outcome
 
 abbrev runs_of : Row → ℕ
 runs_of row = row.runs
-
-pub map_same : {A : Type 0} (xs : List A) → map (λ x. x) xs ≡ xs
-map_same [] = refl
-map_same (x ∷ xs) = ap (λ (ys : List _). x ∷ ys) (map_same xs)
 
 -- ---- each outcome has one entry
 

@@ -23,7 +23,7 @@ use Rattle.sci_outcomes.specs.Outcomes.{IsPlaceWithin, IsSeen, written_places}
 use Rattle.sci_outcomes.specs.Rows.{HasCounted}
 use Rattle.sci_outcomes.specs.declared.trials.Turns.{Turns}
 use Rattle.sci_outcomes.specs.declared.trials.Turns.TheVariants.{Drawn, Threads}
-use Rattle.sci_outcomes.specs.Trials.{IsDrawnSighting, IsSightingOf, IsThreadSighting, turns_of_run}
+use Rattle.sci_outcomes.specs.Trials.{IsDrawnSighting, IsSightingOf, turns_of_run}
 
 -- what is seen of logs and last contents is seen of the ones behind the schedule
 pub drawn_sighting : (script : ScriptValue) (issuing : Issuing) (done : Bool) (schedule : ScheduleValue) (places : List Place) (logs : List (List Entry)) (last : List Stamped) (sighting : Sighting) → done ≡ true → IsRunOf script issuing done schedule

@@ -1,11 +1,10 @@
 //! A script that is run many times, and its outcomes.
 
-ghost use Rattle.std.specs.Prelude.{◌≡◌, true, All, IfOk};
+ghost use Rattle.std.specs.Prelude.{◌≡◌, true, IfOk};
 ghost use Rattle.sci_history.specs.Lawful.{Lawful};
 ghost use Rattle.sci_history.specs.Sequential.{AreInProgramOrder, IsSequentiallyConsistent};
 ghost use Rattle.sci_drive.specs.declared.driver.Issuing.TheVariants.{InOrder};
 ghost use Rattle.sci_threads.specs.Shares.{AreLedTo, HaveWholeLogsOf, size_for};
-ghost use Rattle.sci_outcomes.specs.Outcomes.{IsPlaceWithin};
 ghost use Rattle.sci_outcomes.specs.Trials.{AreOutcomes, AreWrittenBy, IsDrawnSighting, IsSightingOf, IsThreadSighting};
 
 use crate::histogram::{Histogram, Row};
