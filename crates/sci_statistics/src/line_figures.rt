@@ -70,7 +70,10 @@ fn joined_count(passages: &[Passage]) -> u64
 fn served_count(passages: &[Passage], request: Command, answer: Command) -> u64
     ensures { result ≡ count_by (serves request answer) passages.now }
 {
-    passages.iter().filter(|it| it.serves(request, answer)).count() as u64
+    passages
+        .iter()
+        .filter(|it| it.serves(request, answer))
+        .count() as u64
 }
 
 impl LineFigures {

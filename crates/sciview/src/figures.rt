@@ -60,12 +60,7 @@ fn push_mean(out: &mut Vec<u8>, group: &[u8], name: &str, mean: Mean) -> Result<
     out.extend_from_slice(group)?;
     push_text(out, name)?;
     push_field(out, whole)?;
-    out.extend_from_slice(&[
-        b'.',
-        b'0' + hundredths / 10,
-        b'0' + hundredths % 10,
-        b'\n',
-    ])
+    out.extend_from_slice(&[b'.', b'0' + hundredths / 10, b'0' + hundredths % 10, b'\n'])
 }
 
 /// The name of the group of a line or a node, with its number.

@@ -9,9 +9,7 @@ ghost use Rattle.sciview.specs.StatsAnswer.{HasNode, IsStatsAnswer, IsStatsFault
 use crate::asked_line::read_asked;
 use crate::figures::{push_events, push_line, push_node, push_packets};
 use sci_command::{Answer, Outcome};
-use sci_statistics::{
-    EventFigures, LineFigures, NodeFigures, PacketFigures, Passage, passages_of,
-};
+use sci_statistics::{EventFigures, LineFigures, NodeFigures, PacketFigures, Passage, passages_of};
 use sci_text::{Schedule, Tap, TextFault, TextFaultKind};
 use std::alloc::{AllocError, Global};
 use std::io::Read;
