@@ -49,10 +49,11 @@ of a script, a schedule or a log:
 of a schedule:
   packets           the bytes of all packets that it sends, one after another:
                     what `scimem decode` reads
-  trace [--strict] [--line L]
-                    what each event does, or why it isn't enabled; if strict, up
-                    to the first that isn't; of all events, or of those about
-                    the line L alone
+  trace [--json] [--strict] [--line L]
+                    what each event does, or why it isn't enabled, in words or
+                    as a JSON object on each line; if strict, up to the first
+                    that isn't enabled; of all events, or of those about the
+                    line L alone
   lists [--line L]  behind each event that may have changed the sharing list of
                     a line: the line's number, the list, the node that may
                     change the line, and the line's last contents; of all lines,
