@@ -60,11 +60,9 @@ faults:
 	@$(NEED_RT)
 	@scripts/gate/try_faults.py --build $(CRATE)
 
-# Builds the program over what earlier checks kept, and runs seeded scripts of every shape by threads for some seconds:
-# make soak SECONDS=600 SEED=2. It isn't part of the gate.
-soak:
-	@$(NEED_RT)
-	@cd crates/scimem && rt run -- $$(cat args) < stdin > /dev/null
+# Builds both programs over what earlier checks kept, and runs seeded scripts of every shape by threads and in drawn turns for
+# some seconds: make soak SECONDS=600 SEED=2. It isn't part of the gate.
+soak: build
 	@scripts/measure/soak.py $(or $(SECONDS),60) $(or $(SEED),1)
 
 # Builds the program over what earlier checks kept, and gives it hostile inputs for some seconds:

@@ -1,12 +1,13 @@
 #!/usr/bin/env python3
-"""Runs seeded scripts of every shape through `scimem threads`, for a number of seconds:
+"""Runs seeded scripts of every shape through `scimem threads` and `sciview run`, for a number of seconds:
 
     scripts/measure/soak.py [SECONDS [SEED]]        60 seconds and seed 1, if it isn't said
 
 Each log is audited twice: by `scimem audit`, and by a reader written anew (plain_answers.py), which works out each reply.
-Each entry has to be of the operation of the script that its serial names, and each operation has to have one. It prints a
-line every five seconds, and at the end `N runs, M operations, F failed`. A script that failed stays in a file, which the
-line of the failure names."""
+Each entry has to be of the operation of the script that its serial names, and each operation has to have one. A run in
+turns that are drawn from a seed is replayed, and its log is judged in the same way and by `sciview order`; `sciview
+outcomes` has to find what that log's loads and locks replied. It prints a line every five seconds, and at the end `N runs,
+M operations, F failed`. A script that failed stays in a file, which the line of the failure names."""
 
 import os
 import random
@@ -20,7 +21,7 @@ sys.path.append(f"{TOP}/scripts/gate")
 
 from thread_logs import wrong_log  # noqa: E402
 
-PROGRAM = f"{TOP}/crates/scimem/out/scimem"
+SCIMEM, SCIVIEW = (f"{TOP}/crates/{it}/out/{it}" for it in ("scimem", "sciview"))
 MAKERS = ("store {} {} {a}", "fetch-add {} {} {a}", "mask-swap {} {} {a} {d}", "compare-swap {} {} {a} {d}")
 MAKERS += ("bounded-add {} {} {a} {d}", "wrap-add {} {} {a} {d}")
 
@@ -70,19 +71,52 @@ def script(chance):
     return "\n".join([f"machine {nodes} {lines} {slots}", *rows, ""]).encode()
 
 
-def ran(words, given):
-    done = subprocess.run([PROGRAM, *words], input=given, capture_output=True, timeout=600)
+def ran(program, words, given):
+    done = subprocess.run([program, *words], input=given, capture_output=True, timeout=600)
     return done.returncode, done.stdout
 
 
-def fault(given):
-    """What was wrong with a run of the script, if something was."""
-    status, log = ran(["threads"], given)
-    if status != 0:
-        return f"status {status}"
-    if ran(["audit"], log) != (0, b"lawful\n"):
+def judged(given, log):
+    """What is wrong with a log of a run of the script, if something is."""
+    if ran(SCIMEM, ["audit"], log) != (0, b"lawful\n"):
         return "a log that `audit` refuses"
     return wrong_log(given, log)
+
+
+def threads_fault(given):
+    """What was wrong with a run of the script by threads, if something was."""
+    status, log = ran(SCIMEM, ["threads"], given)
+    return f"threads: status {status}" if status else judged(given, log)
+
+
+def replies(log):
+    """What the loads and locks of a log replied, as `sciview outcomes` writes it."""
+    rows = (row.split() for row in log.decode().splitlines()[1:] if not row.startswith("last "))
+    found = sorted((int(row[0]), int(row[1]), row[-2]) for row in rows if row[-2] != "-")
+    return " ".join(f"{node}:{serial}={word}" for node, serial, word in found)
+
+
+def drawn_fault(given, seed, in_order):
+    """What was wrong with a run of the script in turns that are drawn from a seed, if something was."""
+    words = ["--seed", str(seed), *(["--in-order"] if in_order else [])]
+    status, schedule = ran(SCIVIEW, ["run", *words], given)
+    if status != 0:
+        return f"run: status {status}"
+    status, log = ran(SCIMEM, ["replay"], schedule)
+    if status != 0:
+        return f"replay: status {status}"
+    order = ["order", *(["--by-serial"] if in_order else [])]
+    if ran(SCIVIEW, order, log) != (0, b"sequentially consistent\n"):
+        return "a run that isn't sequentially consistent"
+    status, outcomes = ran(SCIVIEW, ["outcomes", "--runs", "1", *words], given)
+    if status != 0 or outcomes.decode().split(" |")[0] != replies(log):
+        return "another outcome than the log's"
+    return judged(given, log)
+
+
+def fault(given, seed):
+    """What was wrong with the runs of a script, if something was."""
+    return threads_fault(given) or drawn_fault(given, seed, False) or drawn_fault(given, seed, True)
 
 
 def main(words):
@@ -92,8 +126,8 @@ def main(words):
     while time.monotonic() - begun < seconds:
         chance = random.Random(f"{seed} {runs}")
         given = script(chance)
-        why = fault(given)
-        runs, operations = runs + 1, operations + given.count(b"\np ")
+        why = fault(given, runs)
+        runs, operations = runs + 3, operations + 3 * given.count(b"\np ")
         if why:
             failed += 1
             with tempfile.NamedTemporaryFile(suffix=".script", delete=False) as file:
