@@ -4,6 +4,10 @@ NEED_RT = command -v rt > /dev/null || { echo "rt is missing: put the bin folder
 
 NEED_CARGO = command -v cargo > /dev/null || { echo "cargo is missing: install Rust 1.88 or later (rustup.rs) to build the plain program of bench/"; exit 1; }
 
+# The programs, and what they are built of.
+PROGRAMS = crates/scimem/out/scimem crates/sciview/out/sciview crates/sci_circle/out/sci_circle
+SOURCES = crates.txt HANDLES $(shell find crates -name out -prune -o -path '*_tests' -prune -o \( -name '*.rt' -o -name '*.antt' \) -print)
+
 .PHONY: run test check fmt bench fuzz soak faults install build plants cases examples charts clean
 
 PREFIX = /usr/local
@@ -25,11 +29,13 @@ plants:
 	@$(NEED_RT)
 	@scripts/gate/try_plants.sh $(CRATE)
 
-# Builds both programs over what earlier checks kept.
-build:
+# Builds both programs, unless make test or an earlier make build has built them of the same sources.
+build: crates/scimem/out/scimem crates/sciview/out/sciview
+
+# Each program is built over what earlier checks kept, and runs its example, which ends with the status in its file status.
+$(PROGRAMS): $(SOURCES)
 	@$(NEED_RT)
-	@cd crates/scimem && rt run -- $$(cat args) < stdin > /dev/null
-	@cd crates/sciview && rt run -- $$(cat args) < stdin > /dev/null; [ $$? -eq 1 ]
+	@cd crates/$(@F) && { rt run -- $$(cat args) < stdin > /dev/null; [ $$? -eq $$(cat status 2> /dev/null || echo 0) ]; } && touch out/$(@F)
 
 # Runs the programs on the stored cases alone.
 cases: build
@@ -60,25 +66,20 @@ faults:
 	@$(NEED_RT)
 	@scripts/gate/try_faults.py --build $(CRATE)
 
-# Builds both programs over what earlier checks kept, and runs seeded scripts of every shape by threads and in drawn turns for
-# some seconds: make soak SECONDS=600 SEED=2. It isn't part of the gate.
+# Builds both programs, and runs seeded scripts of every shape by threads and in drawn turns for some seconds:
+# make soak SECONDS=600 SEED=2. It isn't part of the gate.
 soak: build
 	@scripts/measure/soak.py $(or $(SECONDS),60) $(or $(SEED),1)
 
-# Builds the program over what earlier checks kept, and gives it hostile inputs for some seconds:
-# make fuzz SECONDS=600 SEED=2. It isn't part of the gate.
-fuzz:
-	@$(NEED_RT)
-	@cd crates/scimem && rt run -- $$(cat args) < stdin > /dev/null
+# Builds both programs, and gives scimem hostile inputs for some seconds: make fuzz SECONDS=600 SEED=2. It isn't part of the
+# gate.
+fuzz: build
 	@scripts/measure/fuzz.py $(or $(SECONDS),60) $(or $(SEED),1)
 
-# Builds both programs over what earlier checks kept, and the plain program of bench/ by cargo; checks that they write the same
-# bytes, and prints what each takes: make bench RUNS=9 SUBJECTS="oracle replay". It isn't part of the gate.
-bench:
-	@$(NEED_RT)
+# Builds the programs, and the plain program of bench/ by cargo; checks that they write the same bytes, and prints what each
+# takes: make bench RUNS=9 SUBJECTS="oracle replay". It isn't part of the gate.
+bench: build crates/sci_circle/out/sci_circle
 	@$(NEED_CARGO)
-	@cd crates/scimem && rt run -- $$(cat args) < stdin > /dev/null
-	@cd crates/sci_circle && rt run -- $$(cat args) < stdin > /dev/null
 	@cd bench && cargo build --release --offline --quiet
 	@scripts/measure/bench.py $(or $(RUNS),9) $(SUBJECTS)
 
