@@ -106,8 +106,9 @@ def drawn_fault(given, seed, in_order):
     if status != 0:
         return f"replay: status {status}"
     order = ["order", *(["--by-serial"] if in_order else [])]
-    if ran(SCIVIEW, order, log) != (0, b"sequentially consistent\n"):
-        return "a run that isn't sequentially consistent"
+    status, _answer = ran(SCIVIEW, order, log)
+    if status != 0:
+        return "a run that isn't sequentially consistent, or not in order"
     status, outcomes = ran(SCIVIEW, ["outcomes", "--runs", "1", *words], given)
     if status != 0 or outcomes.decode().split(" |")[0] != replies(log):
         return "another outcome than the log's"
