@@ -110,7 +110,7 @@ def drawn_fault(given, seed, in_order):
     if status != 0:
         return "a run that isn't sequentially consistent, or not in order"
     status, outcomes = ran(SCIVIEW, ["outcomes", "--runs", "1", *words], given)
-    if status != 0 or outcomes.decode().split(" |")[0] != replies(log):
+    if status != 0 or outcomes.decode().split("|")[0].strip() != replies(log):
         return "another outcome than the log's"
     return judged(given, log)
 
