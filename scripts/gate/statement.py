@@ -145,9 +145,16 @@ def of_type(path, name):
 
 
 @cache
-def type_home(name):
-    """The file that declares a public type of the code, or None."""
-    for crate in crates():
+def used_by(crate):
+    """A crate and the crates that it uses, as crates.txt says."""
+    line = next(it for it in lines_of("crates.txt") if it.startswith(f"{crate}:"))
+    return [crate, *(it for it in crates() if it in line.split()[1:])]
+
+
+@cache
+def type_home(crate, name):
+    """The file that declares a public type which a crate's code names, or None."""
+    for crate in used_by(crate):
         folder = f"crates/{crate}/src"
         for file in sorted(os.listdir(f"{TOP}/{folder}")):
             if file.endswith(".rt") and re.search(rf"^pub (?:struct|enum) {name}\b", "\n".join(lines_of(f"{folder}/{file}")), re.MULTILINE):
@@ -198,7 +205,8 @@ def named_by(definition, text):
     if not definition.path.endswith(".rt") or "ghost Value" in text or "ensures" in text:
         return [it for name in set(NAME.findall(text)) for it in meant(definition.path, name)]
     types = sorted(set(re.findall(r"\b[A-Z]\w+", text)))
-    return [it for name in types if type_home(name) for it in of_type(type_home(name), name)]
+    homes = {name: type_home(definition.path.split("/")[1], name) for name in types}
+    return [it for name in types if homes[name] for it in of_type(homes[name], name)]
 
 
 def fields_read(text):
@@ -241,7 +249,7 @@ def start(name, parts):
     head, types = contract(*home, [it for it in parts if "." not in it])
     named = [it.split(".") for it in parts if "." in it]
     if not named:
-        return head, [one for it in types if type_home(it) for one in of_type(type_home(it), it)], {}
+        return head, [one for it in types if type_home(home[0], it) for one in of_type(type_home(home[0], it), it)], {}
     folder = f"crates/{home[0]}/specs"
     files = (f"{folder}/{it}.antt" for it in re.findall(r"pub mod (\w+)", "\n".join(lines_of(f"{folder}/Lib.antt"))))
     records = {it.name: it for file in files for it in spec(file).values()}
