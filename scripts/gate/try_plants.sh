@@ -4,7 +4,7 @@
 #     scripts/gate/try_plants.sh [CRATE]
 #
 # plants/CRATE/NAME.edit is written as an edit of crates/CRATE/must-fail. With a crate's name it tries that crate's plants
-# alone. It works on a copy, over what earlier checks kept. The last line is 'N passed, M failed', of plants.
+# alone. It works on a copy, over the libraries that earlier checks built. The last line is 'N passed, M failed', of plants.
 cd "$(dirname "$0")/../.." || exit 2
 top=$PWD
 room=$(mktemp -d) || exit 2
@@ -16,6 +16,10 @@ for crate in crates/*/; do
     name=$(basename "$crate")
     mkdir "$room/crates/$name"
     find "$crate" -mindepth 1 -maxdepth 1 ! -name out ! -name must-fail -exec cp -r {} "$room/crates/$name" \;
+    if [ -d "$crate/out/rlib" ]; then
+        mkdir "$room/crates/$name/out"
+        cp -rl "$crate/out/rlib" "$room/crates/$name/out" 2> /dev/null || cp -r "$crate/out/rlib" "$room/crates/$name/out"
+    fi
 done
 count=0
 for folder in plants/${1:-*}; do
