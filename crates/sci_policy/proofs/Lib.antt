@@ -11,3 +11,4 @@ pub mod Submitting
 pub mod Telling
 pub mod Alone
 pub mod Circles
+pub mod PolicyLaws

@@ -3,6 +3,7 @@
 #![tactic(auto)]
 
 mod decision;
+pub mod laws;
 mod line_marks;
 mod lines;
 mod policy;

@@ -1,0 +1,42 @@
+//! Laws of the policy, each the contract of a function that does nothing. They hold on every node, reached or not.
+
+ghost use Rattle.std.specs.Prelude.{◌≡◌, ◌≢◌, ◌<◌, ℕ, Some, false, true};
+ghost use Rattle.sci_words.specs.declared.event.AskKind.{AskKind};
+ghost use Rattle.sci_words.specs.declared.event.AskKind.TheVariants.{Claim, Clear, Wback};
+ghost use Rattle.sci_packets.specs.declared.body.Body.TheVariants.{Cread};
+ghost use Rattle.sci_cache.specs.Cache.{Letter};
+ghost use Rattle.sci_cache.specs.Kinds.{joins};
+ghost use Rattle.sci_core.specs.Node.{NodeOf, lines_of};
+ghost use Rattle.sci_policy.specs.declared.want.Want.TheVariants.{Ask};
+ghost use Rattle.sci_policy.specs.Lines.{can_drain, state_on};
+ghost use Rattle.sci_policy.specs.Policy.{PolicyOf, awaits_home, has, kept_by, next_policy, next_wanted};
+
+/// While a line joins a list, the node wants no Claim, Clear or Wback, of that line or another. So nothing that another node
+/// might wait for is sent behind its Cread.
+pub fn joins_come_first()
+    ensures { (policy : PolicyOf) (node : NodeOf) (joining line : ℕ) (kind : AskKind)
+        → joining < lines_of node → joins (state_on node joining) ≡ true
+        → next_wanted policy node ≡ Some (Ask line kind)
+        → (kind ≢ Claim) × (kind ≢ Clear) × (kind ≢ Wback) }
+{}
+
+/// A draining line purges its list, or is the head of a list with a next entry, which it can purge.
+pub fn draining_lines_can_purge()
+    ensures { (policy : PolicyOf) (node : NodeOf) (line : ℕ)
+        → has (next_policy policy node).draining line ≡ true
+        → can_drain (state_on node line) ≡ true }
+{}
+
+/// A request that is kept is a Cread of another node.
+pub fn only_creads_of_others_are_kept()
+    ensures { (policy : PolicyOf) (node : NodeOf) (request : Letter)
+        → kept_by policy node request ≡ true
+        → (request.body ≡ Cread) × (request.source ≢ node.cache.me) }
+{}
+
+/// In the turn of 64 in which the count of turns is 0, only requests about a line that awaits its home's word are kept.
+pub fn kept_requests_are_let_go()
+    ensures { (policy : PolicyOf) (node : NodeOf) (request : Letter)
+        → policy.turns ≡ 0 → kept_by policy node request ≡ true
+        → awaits_home (state_on node request.line) ≡ true }
+{}
