@@ -1,12 +1,27 @@
--- What is written of a command's answer.
-use Rattle.std.specs.Prelude.{◌≡◌, ℕ, List, Result, Ok, Err}
+-- A command's answer, and what is written of it.
+use Rattle.std.specs.Prelude.{◌≡◌, ℕ, Bool, List, Option, Result, Ok, Err}
 use Rattle.sci_text.specs.declared.fault.TextFault.{TextFault}
+use Rattle.sci_text.specs.declared.fault.TextFaultKind.{TextFaultKind}
 use Rattle.sci_command.specs.declared.answer.Answer.{Answer}
 use Rattle.sci_command.specs.declared.outcome.Outcome.{Outcome}
-use Rattle.sci_command.specs.declared.outcome.Outcome.TheVariants.{Refused}
-use Rattle.sci_command.specs.Refusal.{Refuses}
+use Rattle.sci_command.specs.declared.outcome.Outcome.TheVariants.{Done, Unlawful, Refused}
+use Rattle.sci_command.specs.Input.{IsReadAs}
+use Rattle.sci_command.specs.Refusal.{IsRefusalBy, Refuses}
 
 -- the text of the answer is written, and the command ends as it says; or the refusal of the fault
 abbrev pub IsWrittenOf : Result Answer TextFault → List ℕ → Outcome → Type 0
 IsWrittenOf (Ok answer) text outcome = (text ≡ answer.text.items) × (outcome ≡ answer.outcome)
 IsWrittenOf (Err fault) text outcome = Refuses fault text × (outcome ≡ Refused)
+
+-- What a command writes for the text that a reader gives, and how it ends: what is made of the bytes that were read, or the
+-- refusal of a fault that is told.
+abbrev pub IsAnswerBy : (List ℕ → List ℕ → Outcome → Type 0) → (TextFaultKind → ℕ → Type 0) → Option (List ℕ) → Bool → List ℕ → Outcome → Type 0
+IsAnswerBy is_made is_told known failed text Done = IsReadAs known failed (λ bytes. is_made bytes text Done)
+IsAnswerBy is_made is_told known failed text Unlawful = IsReadAs known failed (λ bytes. is_made bytes text Unlawful)
+IsAnswerBy is_made is_told known failed text Refused = IsRefusalBy is_told text
+
+-- the same of a command that ends Done whatever the text says
+abbrev pub IsDoneBy : (List ℕ → List ℕ → Type 0) → (TextFaultKind → ℕ → Type 0) → Option (List ℕ) → Bool → List ℕ → Outcome → Type 0
+IsDoneBy is_made is_told known failed text Done = IsReadAs known failed (λ bytes. is_made bytes text)
+IsDoneBy is_made is_told known failed text Unlawful = ⊥
+IsDoneBy is_made is_told known failed text Refused = IsRefusalBy is_told text

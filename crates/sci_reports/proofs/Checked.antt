@@ -1,6 +1,6 @@
 -- What reading a text as one kind after another comes to.
 use Rattle.std.proofs.Common.{◌≡◌, ℕ, suc, ◌+◌, ◌<◌, ◌≤◌, ◌⊎◌, List, [], ◌∷◌, ◌++◌, length, take, refl, sym, ap, ◌∙◌, subst, arith, inl, inr}
-use Rattle.std.specs.Prelude.{Bool, false, Option, Some, None, IfSome, Result, Ok, Err, IfOk}
+use Rattle.std.specs.Prelude.{Bool, false, Option, Result, Ok, Err, IfOk}
 use Rattle.std.specs.List.{flat_map}
 use Rattle.std.proofs.Math.Seq.{take-suc}
 use Rattle.std.proofs.lemmas.List.{append-nil, length-append, take_all}
@@ -10,9 +10,9 @@ use Rattle.sci_history.specs.Placed.{log_of}
 use Rattle.sci_text.specs.declared.fault.TextFault.{TextFault}
 use Rattle.sci_text.specs.declared.fault.TextFaultKind.{TextFaultKind}
 use Rattle.sci_text.specs.declared.fault.TextFaultKind.TheVariants.{Syntax, Range, TooMany, Read, Write, Memory}
-use Rattle.sci_text.specs.FirstFault.{HasNoFault, IsFaultyLine, IsFirstFault, IsRefusal, IsRefusalOf, IsTold, IsTooMany}
+use Rattle.sci_text.specs.FirstFault.{AreRead, HasNoFault, IsFirstFault, IsRefusal, IsRefusalOf, IsTold}
 use Rattle.sci_text.specs.LogFault.{BeginsFront, GoesOn, IsLogFault, LogLineFault, SizeFault, line_count}
-use Rattle.sci_words.specs.declared.limits.TheConstants.{MAX_INPUT_BYTES, MAX_OPERATIONS, FORMAT_1_ENTRIES}
+use Rattle.sci_words.specs.declared.limits.TheConstants.{MAX_OPERATIONS, FORMAT_1_ENTRIES}
 use Rattle.sci_words.specs.declared.stamped.Stamped.{Stamped}
 use Rattle.sci_text.specs.declared.log_form.Form.{Form}
 use Rattle.sci_text.specs.LogValue.{AreLogs, Front, IsForm, IsLogs, entry_count}
@@ -23,7 +23,6 @@ use Rattle.sci_text.specs.ScriptFault.{BeginsScript, IsScriptFault, MachineFault
 use Rattle.sci_command.specs.declared.outcome.Outcome.{Outcome}
 use Rattle.sci_command.specs.declared.outcome.Outcome.TheVariants.{Done, Unlawful, Refused}
 use Rattle.sci_command.specs.Refusal.{Refuses, line_refusal}
-use Rattle.sci_reports.proofs.Answered.{read_as}
 use Rattle.sci_reports.specs.declared.checking.Reading.{Reading}
 use Rattle.sci_reports.specs.declared.checking.Reading.TheVariants.{Size, Fault}
 use Rattle.sci_reports.specs.declared.checking.TextSize.{TextSize}
@@ -158,35 +157,31 @@ has_line input line kind last = elim last.reached [
   ]
 ]
 
-is_too_many : (known : Option (List ℕ)) (line : ℕ) → IfSome known (λ input. IsFaultyLine IsLastFault input line TooMany) → IfSome known (λ input. IsTooMany IsLastFault input line)
-is_too_many None line h = tt
-is_too_many (Some input) line h = inr h
-
-told : (known : Option (List ℕ)) (failed : Bool) (bytes : List ℕ) (line : ℕ) (kind : TextFaultKind) → failed ≡ false → IfSome known (λ input. bytes ≡ input) → length bytes ≤ MAX_INPUT_BYTES → IsLastFault bytes line kind → IsTold IsLastFault kind known failed line
-told known failed bytes line Syntax ok is few last = (ok, read_as (λ input. IsLastFault input line Syntax) known bytes is few last)
-told known failed bytes line Range ok is few last = (ok, read_as (λ input. IsLastFault input line Range) known bytes is few last)
-told known failed bytes line TooMany ok is few last = (ok, is_too_many known line (read_as (λ input. IsLastFault input line TooMany) known bytes is few last))
-told known failed bytes line Read ok is few last = absurd (of_line bytes line Read ((λ i f. f), (λ i f. f.1), (λ s r f. f), (λ s r f. f), (λ s r f. f)) last)
-told known failed bytes line Write ok is few last = absurd (of_line bytes line Write ((λ i f. f), (λ i f. f.1), (λ s r f. f), (λ s r f. f), (λ s r f. f)) last)
-told known failed bytes line Memory ok is few last = absurd (of_line bytes line Memory ((λ i f. f), (λ i f. f.1), (λ s r f. f), (λ s r f. f), (λ s r f. f)) last)
+told : (known : Option (List ℕ)) (failed : Bool) (bytes : List ℕ) (line : ℕ) (kind : TextFaultKind) → failed ≡ false → AreRead known bytes → IsLastFault bytes line kind → IsTold IsLastFault kind known failed line
+told known failed bytes line Syntax ok read last = (ok, record { bytes = bytes; read = read; first = last })
+told known failed bytes line Range ok read last = (ok, record { bytes = bytes; read = read; first = last })
+told known failed bytes line TooMany ok read last = (ok, inr (record { bytes = bytes; read = read; first = last }))
+told known failed bytes line Read ok read last = absurd (of_line bytes line Read ((λ i f. f), (λ i f. f.1), (λ s r f. f), (λ s r f. f), (λ s r f. f)) last)
+told known failed bytes line Write ok read last = absurd (of_line bytes line Write ((λ i f. f), (λ i f. f.1), (λ s r f. f), (λ s r f. f), (λ s r f. f)) last)
+told known failed bytes line Memory ok read last = absurd (of_line bytes line Memory ((λ i f. f), (λ i f. f.1), (λ s r f. f), (λ s r f. f), (λ s r f. f)) last)
 
 -- what was made of the bytes is the answer to the input
-checked_answer : (known : Option (List ℕ)) (failed : Bool) (bytes text : List ℕ) (outcome : Outcome) → failed ≡ false → IfSome known (λ input. bytes ≡ input) → length bytes ≤ MAX_INPUT_BYTES → IsChecked bytes text outcome → IsCheckAnswer known failed text outcome
-checked_answer known failed bytes text Done ok is few h = (ok, read_as (λ input. IsKnown input text) known bytes is few h)
-checked_answer known failed bytes text Unlawful ok is few h = absurd h
-checked_answer known failed bytes text Refused ok is few h = record {
+checked_answer : (known : Option (List ℕ)) (failed : Bool) (bytes text : List ℕ) (outcome : Outcome) → failed ≡ false → AreRead known bytes → IsChecked bytes text outcome → IsCheckAnswer known failed text outcome
+checked_answer known failed bytes text Done ok read h = (ok, (bytes, read, h))
+checked_answer known failed bytes text Unlawful ok read h = absurd h
+checked_answer known failed bytes text Refused ok read h = record {
   line = h.0;
   kind = h.1;
   note = h.2;
-  is_told = told known failed bytes h.0 h.1 ok is few h.3;
+  is_told = told known failed bytes h.0 h.1 ok read h.3;
   written = h.4;
   bare = λ e. (let some = has_line bytes h.0 h.1 h.3 in absurd (omega (arith, some, e)));
 }
 
-pub checked_answers : {A : Type 0} (known : Option (List ℕ)) (failed : Bool) (bytes slice : List ℕ) (text : A → List ℕ) (outcome : A → Outcome) (r : Result A TextFault) → failed ≡ false → IfSome known (λ input. bytes ≡ input) → length bytes ≤ MAX_INPUT_BYTES → slice ≡ bytes
+pub checked_answers : {A : Type 0} (known : Option (List ℕ)) (failed : Bool) (bytes slice : List ℕ) (text : A → List ℕ) (outcome : A → Outcome) (r : Result A TextFault) → failed ≡ false → AreRead known bytes → slice ≡ bytes
     → IfOk r (λ x. IsChecked slice (text x) (outcome x)) → IfOk r (λ x. IsCheckAnswer known failed (text x) (outcome x))
-checked_answers known failed bytes slice text outcome (Ok x) ok is few same h = checked_answer known failed bytes (text x) (outcome x) ok is few (subst (λ (i : List ℕ). IsChecked i (text x) (outcome x)) same h)
-checked_answers known failed bytes slice text outcome (Err e) ok is few same h = tt
+checked_answers known failed bytes slice text outcome (Ok x) ok read same h = checked_answer known failed bytes (text x) (outcome x) ok read (subst (λ (i : List ℕ). IsChecked i (text x) (outcome x)) same h)
+checked_answers known failed bytes slice text outcome (Err e) ok read same h = tt
 
 -- a refusal of the whole input
 pub refused_whole : (known : Option (List ℕ)) (failed : Bool) (fault : TextFault) (text : List ℕ) → IsTold IsLastFault fault.kind known failed fault.line → fault.line ≡ 0 → Refuses fault text → IsRefusedAt known failed text

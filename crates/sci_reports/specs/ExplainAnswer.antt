@@ -11,8 +11,7 @@ use Rattle.sci_text.specs.LogFault.{IsLogFault}
 use Rattle.sci_text.specs.LogValue.{IsLogs}
 use Rattle.sci_command.specs.declared.outcome.Outcome.{Outcome}
 use Rattle.sci_command.specs.declared.outcome.Outcome.TheVariants.{Done, Unlawful, Refused}
-use Rattle.sci_command.specs.Input.{IsReadAs}
-use Rattle.sci_command.specs.Refusal.{IsRefusalBy}
+use Rattle.sci_command.specs.Answer.{IsAnswerBy}
 use Rattle.sci_command.specs.VerdictLine.{verdict_text}
 
 -- of a line without a fault nothing is written; of another the line of an audit that tells the fault, and then a note
@@ -41,6 +40,4 @@ pub record IsExplanationOf (input text : List ℕ) (outcome : Outcome) : Type 0 
 
 -- what `explain` writes, and how it ends, for the bytes of a reader, which has failed or not
 abbrev pub IsExplainAnswer : Option (List ℕ) → Bool → List ℕ → Outcome → Type 0
-IsExplainAnswer input failed text Done = IsReadAs input failed (λ bytes. IsExplanationOf bytes text Done)
-IsExplainAnswer input failed text Unlawful = IsReadAs input failed (λ bytes. IsExplanationOf bytes text Unlawful)
-IsExplainAnswer input failed text Refused = IsRefusalBy (λ kind line. IsTold IsLogFault kind input failed line) text
+IsExplainAnswer input failed = IsAnswerBy IsExplanationOf (λ kind line. IsTold IsLogFault kind input failed line) input failed

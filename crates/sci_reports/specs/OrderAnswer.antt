@@ -20,8 +20,7 @@ use Rattle.sci_text.specs.LogFault.{IsLogFault}
 use Rattle.sci_text.specs.LogValue.{IsLogs}
 use Rattle.sci_command.specs.declared.outcome.Outcome.{Outcome}
 use Rattle.sci_command.specs.declared.outcome.Outcome.TheVariants.{Done, Unlawful, Refused}
-use Rattle.sci_command.specs.Input.{IsReadAs}
-use Rattle.sci_command.specs.Refusal.{IsRefusalBy}
+use Rattle.sci_command.specs.Answer.{IsAnswerBy}
 use Rattle.sci_command.specs.VerdictLine.{verdict_text}
 use Rattle.sci_reports.specs.declared.ordering.NodeOrder.{NodeOrder}
 use Rattle.sci_reports.specs.declared.ordering.NodeOrder.TheVariants.{Logged, BySerial}
@@ -116,6 +115,4 @@ pub record IsOrderOf (request : OrderRequest) (input text : List ℕ) (outcome :
 
 -- what `order` writes, and how it ends, for the bytes of a reader, which has failed or not
 abbrev pub IsOrderAnswer : OrderRequest → Option (List ℕ) → Bool → List ℕ → Outcome → Type 0
-IsOrderAnswer request input failed text Done = IsReadAs input failed (λ bytes. IsOrderOf request bytes text Done)
-IsOrderAnswer request input failed text Unlawful = IsReadAs input failed (λ bytes. IsOrderOf request bytes text Unlawful)
-IsOrderAnswer request input failed text Refused = IsRefusalBy (λ kind line. IsTold IsLogFault kind input failed line) text
+IsOrderAnswer request input failed = IsAnswerBy (IsOrderOf request) (λ kind line. IsTold IsLogFault kind input failed line) input failed

@@ -1,12 +1,12 @@
 -- Bytes have at most one first faulty line, with one fault, and a text without a fault has none: one proof for all
 -- kinds of text.
-use Rattle.std.proofs.Common.{◌≡◌, ℕ, ◌+◌, ◌<◌, List, [], ◌∷◌, ◌++◌, length, Result, Ok, Err, refl, sym, ap, subst, ◌∙◌, append_assoc, arith, inl, inr, ◌⊎◌}
+use Rattle.std.proofs.Common.{◌≡◌, ℕ, ◌+◌, ◌<◌, List, [], ◌∷◌, ◌++◌, length, Bool, false, Option, Result, Ok, Err, refl, sym, ap, subst, ◌∙◌, append_assoc, arith, inl, inr, ◌⊎◌}
 use Rattle.std.specs.Prelude.{IfOk, IfErr}
 use Rattle.std.specs.List.{flat_map, AllByRecursion}
 use Rattle.sci_text.specs.declared.fault.TextFault.{TextFault}
 use Rattle.sci_text.specs.declared.fault.TextFaultKind.{TextFaultKind}
 use Rattle.sci_text.specs.declared.fault.TextFaultKind.TheVariants.{Syntax, Range, TooMany, Read, Write, Memory}
-use Rattle.sci_text.specs.FirstFault.{LineFault, FaultAfter, IsFirstFault, told_line, IsToldAt, IsRefusalOf, IsRefusal, IsReadAs}
+use Rattle.sci_text.specs.FirstFault.{LineFault, FaultAfter, IsFirstFault, told_line, IsToldAt, IsRefusalOf, IsRefusal, AreRead, IsTold, GivesOnly}
 
 -- ---- one line
 
@@ -161,6 +161,21 @@ module _ (is_first : List ℕ → ℕ → TextFaultKind → Type 0) (input : Lis
   refused_only Memory line fault = inr refl
 
   -- a text without a fault is read as its value
-  pub read_as : {T : Type 0} (value : T) (result : Result T TextFault) → IfOk result (λ read. read ≡ value) → IfErr result (IsRefusal is_first input) → IsReadAs value result
+  pub read_as : {T : Type 0} (value : T) (result : Result T TextFault) → IfOk result (λ read. read ≡ value) → IfErr result (IsRefusal is_first input) → GivesOnly value result
   read_as value (Ok read) is fault = is
   read_as value (Err f) is fault = refused_only f.kind f.line fault
+
+-- ---- what comes of a reader's input
+
+-- a fault of bytes that were read is told of them
+told_of : (is_first : List ℕ → ℕ → TextFaultKind → Type 0) (kind : TextFaultKind) (known : Option (List ℕ)) (failed : Bool) (bytes : List ℕ) (line : ℕ) → failed ≡ false → AreRead known bytes → IsRefusalOf is_first kind bytes line → IsTold is_first kind known failed line
+told_of is_first Syntax known failed bytes line unfailed read fault = (unfailed, record { bytes = bytes; read = read; first = fault })
+told_of is_first Range known failed bytes line unfailed read fault = (unfailed, record { bytes = bytes; read = read; first = fault })
+told_of is_first TooMany known failed bytes line unfailed read fault = (unfailed, inr (record { bytes = bytes; read = read; first = fault }))
+told_of is_first Read known failed bytes line unfailed read fault = absurd fault
+told_of is_first Write known failed bytes line unfailed read fault = absurd fault
+told_of is_first Memory known failed bytes line unfailed read fault = (unfailed, fault)
+
+pub told_of_bytes : {T : Type 0} (is_first : List ℕ → ℕ → TextFaultKind → Type 0) (known : Option (List ℕ)) (failed : Bool) (bytes : List ℕ) (result : Result T TextFault) → failed ≡ false → AreRead known bytes → IfErr result (IsRefusal is_first bytes) → IfErr result (λ fault. IsTold is_first fault.kind known failed fault.line)
+told_of_bytes is_first known failed bytes (Ok value) unfailed read fault = tt
+told_of_bytes is_first known failed bytes (Err f) unfailed read fault = told_of is_first f.kind known failed bytes f.line unfailed read fault

@@ -7,7 +7,7 @@ use Rattle.sci_history.specs.declared.entry.Entry.{Entry}
 use Rattle.sci_text.specs.declared.log_form.Form.{Form}
 use Rattle.sci_text.specs.declared.fault.TextFault.{TextFault}
 use Rattle.sci_text.specs.declared.fault.TextFaultKind.{TextFaultKind}
-use Rattle.sci_text.specs.FirstFault.{IsRefusal, IsReadAs, HasNoFault}
+use Rattle.sci_text.specs.FirstFault.{IsRefusal, GivesOnly, HasNoFault}
 use Rattle.sci_text.specs.LogValue.{Front, front_of, front_text, IsFront, HasAllLines, IsLogs}
 use Rattle.sci_text.specs.LogFault.{BeginsFront, GoesOn, line_count, SaysNext, NextFits, HasNoRoomFor, LogLineFault, SizeFault, IsLogFault}
 use Rattle.sci_text.proofs.FirstFaults.{GoesRight, Meets, IsGrammar, one_line_fault, one_first_fault, no_first_fault, read_as}
@@ -89,7 +89,7 @@ abbrev NoLogFault : Type 0
 NoLogFault = (input : List ℕ) (nodes : ℕ) (logs : List (List Entry)) (last : List Stamped) → IsLogs input nodes logs last → HasNoFault IsLogFault input
 
 pub log_read_as : OneLog → NoLogFault → (input bytes : List ℕ) (nodes : ℕ) (logs : List (List Entry)) (last : List Stamped) (result : Result (ℕ × List (List Entry) × List Stamped) TextFault) → IsLogs input nodes logs last → bytes ≡ input
-    → IfOk result (λ x. IsLogs bytes x.0 x.1 x.2) → IfErr result (IsRefusal IsLogFault bytes) → IsReadAs {T = ℕ × List (List Entry) × List Stamped} (nodes, logs, last) result
+    → IfOk result (λ x. IsLogs bytes x.0 x.1 x.2) → IfErr result (IsRefusal IsLogFault bytes) → GivesOnly {T = ℕ × List (List Entry) × List Stamped} (nodes, logs, last) result
 log_read_as one none input bytes nodes logs last result is same text fault =
     read_as IsLogFault bytes (λ line kind f. none bytes nodes logs last here line kind f) (nodes, logs, last) result (read_is result text) fault
   where

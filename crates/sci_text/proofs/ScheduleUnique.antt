@@ -15,7 +15,7 @@ use Rattle.sci_text.specs.declared.fault.TextFault.{TextFault}
 use Rattle.sci_text.specs.declared.fault.TextFaultKind.{TextFaultKind}
 use Rattle.sci_text.specs.Number.{field}
 use Rattle.sci_text.specs.Operation.{operation}
-use Rattle.sci_text.specs.FirstFault.{IsShort, Says, IsRefusal, IsReadAs}
+use Rattle.sci_text.specs.FirstFault.{IsShort, Says, IsRefusal, GivesOnly}
 use Rattle.sci_text.specs.Script.{machine_line}
 use Rattle.sci_text.specs.Schedule.{ScheduleValue, IsSchedule, IsEventWithin, kind_word, event_line, event_lines, schedule_text}
 use Rattle.sci_text.specs.ScheduleReading.{event_line_read}
@@ -196,7 +196,7 @@ one_fault input l m k j f g = one_first_fault MachineFault BeginsSchedule (λ s 
 
 -- what comes of a schedule's text in memory
 pub schedule_read_as : (s : ScheduleValue) (input : List ℕ) (result : Result ScheduleValue TextFault) → IsSchedule s → input ≡ schedule_text s
-    → IfOk result (λ read. input ≡ schedule_text read) → IfOk result IsSchedule → IfErr result (IsRefusal IsScheduleFault input) → IsReadAs s result
+    → IfOk result (λ read. input ≡ schedule_text read) → IfOk result IsSchedule → IfErr result (IsRefusal IsScheduleFault input) → GivesOnly s result
 schedule_read_as s input result good is text other fault =
     read_as IsScheduleFault input (λ line kind f. no_fault s line kind good (subst (λ (bytes : List ℕ). IsScheduleFault bytes line kind) is f)) s result (read_is result text other) fault
   where

@@ -23,7 +23,7 @@ use Rattle.sci_words.specs.declared.operation.Act.{Act}
 use Rattle.sci_words.specs.declared.operation.Act.TheVariants.{Load, Store, Lock}
 use Rattle.sci_text.specs.Operation.{act_word, act_operands, ActFits, operation}
 use Rattle.sci_text.specs.Script.{ScriptValue, IsScript, IsWithin, count_of, machine_line, operation_line, script_text}
-use Rattle.sci_text.specs.FirstFault.{IsShort, Says, IsRefusal, IsReadAs}
+use Rattle.sci_text.specs.FirstFault.{IsShort, Says, IsRefusal, GivesOnly}
 use Rattle.sci_text.specs.ScriptFault.{MachineFault, OperationFault, BeginsScript, IsScriptFault}
 use Rattle.sci_text.proofs.FirstFaults.{SaysOne, one_line_fault, no_line_fault, GoesOnWith, meet_lists, GoesRight, Meets, IsGrammar, one_first_fault, no_first_fault, read_as}
 use Rattle.sci_text.proofs.Numbers.{fitting_below}
@@ -275,7 +275,7 @@ one_fault input l m k j f g = one_first_fault MachineFault BeginsScript (λ s re
 
 -- what comes of a script's text in memory
 pub script_read_as : (s : ScriptValue) (input : List ℕ) (result : Result ScriptValue TextFault) → IsScript s → input ≡ script_text s
-    → IfOk result (λ read. input ≡ script_text read) → IfOk result IsScript → IfErr result (IsRefusal IsScriptFault input) → IsReadAs s result
+    → IfOk result (λ read. input ≡ script_text read) → IfOk result IsScript → IfErr result (IsRefusal IsScriptFault input) → GivesOnly s result
 script_read_as s input result good is text other fault =
     read_as IsScriptFault input (λ line kind f. no_fault s line kind good (subst (λ (bytes : List ℕ). IsScriptFault bytes line kind) is f)) s result (read_is result text other) fault
   where

@@ -80,28 +80,35 @@ IsInputFault Syntax known failed = ⊥
 IsInputFault Range known failed = ⊥
 IsInputFault Write known failed = ⊥
 
--- the input isn't too long, and this is its first faulty line
-abbrev pub IsFaultyLine : (List ℕ → ℕ → TextFaultKind → Type 0) → List ℕ → ℕ → TextFaultKind → Type 0
-IsFaultyLine is_first input line kind = (length input ≤ MAX_INPUT_BYTES) × is_first input line kind
+-- These bytes were read: they are those that the reader has, if its contents are known, and not too many.
+pub record AreRead (known : Option (List ℕ)) (bytes : List ℕ) : Type 0 where
+  pub same : IfSome known (λ input. bytes ≡ input)
+  pub few : length bytes ≤ MAX_INPUT_BYTES
+
+-- this is the first faulty line of the bytes that were read
+pub record IsFaultyLine (is_first : List ℕ → ℕ → TextFaultKind → Type 0) (known : Option (List ℕ)) (line : ℕ) (kind : TextFaultKind) : Type 0 where
+  pub bytes : List ℕ
+  pub read : AreRead known bytes
+  pub first : is_first bytes line kind
 
 -- the input is too long, or a line has one too many
-abbrev pub IsTooMany : (List ℕ → ℕ → TextFaultKind → Type 0) → List ℕ → ℕ → Type 0
-IsTooMany is_first input line = ((MAX_INPUT_BYTES < length input) × (line ≡ 0)) ⊎ IsFaultyLine is_first input line TooMany
+abbrev pub IsTooMany : (List ℕ → ℕ → TextFaultKind → Type 0) → Option (List ℕ) → ℕ → Type 0
+IsTooMany is_first known line = ((line ≡ 0) × IfSome known (λ input. MAX_INPUT_BYTES < length input)) ⊎ IsFaultyLine is_first known line TooMany
 
 -- Which fault is told, and at which line. `known` is the input, if the reader's contents are known; `failed` says
 -- whether a read failed. The whole input comes first, then the first line with a fault.
 abbrev pub IsTold : (List ℕ → ℕ → TextFaultKind → Type 0) → TextFaultKind → Option (List ℕ) → Bool → ℕ → Type 0
 IsTold is_first Read known failed line = (failed ≡ true) × (line ≡ 0)
 IsTold is_first Memory known failed line = (failed ≡ false) × (line ≡ 0)
-IsTold is_first Syntax known failed line = (failed ≡ false) × IfSome known (λ input. IsFaultyLine is_first input line Syntax)
-IsTold is_first Range known failed line = (failed ≡ false) × IfSome known (λ input. IsFaultyLine is_first input line Range)
-IsTold is_first TooMany known failed line = (failed ≡ false) × IfSome known (λ input. IsTooMany is_first input line)
+IsTold is_first Syntax known failed line = (failed ≡ false) × IsFaultyLine is_first known line Syntax
+IsTold is_first Range known failed line = (failed ≡ false) × IsFaultyLine is_first known line Range
+IsTold is_first TooMany known failed line = (failed ≡ false) × IsTooMany is_first known line
 IsTold is_first Write known failed line = ⊥
 
--- the value is read, unless the reader failed or memory was refused
-abbrev pub IsReadAs : {T : Type 0} → T → Result T TextFault → Type 0
-IsReadAs value (Ok read) = read ≡ value
-IsReadAs value (Err fault) = (fault.kind ≡ Read) ⊎ (fault.kind ≡ Memory)
+-- the result is the value, unless the reader failed or memory was refused
+abbrev pub GivesOnly : {T : Type 0} → T → Result T TextFault → Type 0
+GivesOnly value (Ok read) = read ≡ value
+GivesOnly value (Err fault) = (fault.kind ≡ Read) ⊎ (fault.kind ≡ Memory)
 
 -- ---- laws
 

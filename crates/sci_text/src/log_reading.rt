@@ -1,6 +1,6 @@
 //! Reading a log to its end, and judging its text then.
 
-ghost use Rattle.std.specs.Prelude.{ℕ, List, ◌≡◌, ◌≤◌, false, length, IfOk, OnOk, IfErr, IfSome, Some};
+ghost use Rattle.std.specs.Prelude.{ℕ, List, ◌≡◌, ◌≤◌, false, length, IfOk, OnOk, IfErr, Some};
 ghost use Rattle.std.specs.Io.KnownBytes.{IsAtEnd};
 ghost use Rattle.sci_words.specs.declared.limits.TheConstants.{MAX_INPUT_BYTES};
 ghost use Rattle.sci_words.specs.declared.stamped.Stamped.{Stamped};
@@ -8,7 +8,7 @@ ghost use Rattle.sci_history.specs.declared.entry.Entry.{Entry};
 ghost use Rattle.sci_text.specs.Tap.{tapped, has_failed, is_called_again};
 ghost use Rattle.sci_text.specs.LogValue.{AreLogs, IsLogs};
 ghost use Rattle.sci_text.specs.LogFault.{IsLogFault};
-ghost use Rattle.sci_text.specs.FirstFault.{IsTold, IsReadAs};
+ghost use Rattle.sci_text.specs.FirstFault.{AreRead, GivesOnly, IsTold};
 
 use crate::fault::TextFault;
 use crate::log_laws::{no_log_fault, one_log};
@@ -26,8 +26,8 @@ pub fn read_logs<R: Read>(alloc: Global, reader: &mut Tap<R>) -> Result<(u8, Log
     requires { has_failed reader.old ≡ false }
 
     // The input is a text of the logs, and each number is within the limits.
-    ensures text { IfOk result (λ x. IfSome (R.remaining (tapped reader.old)) (λ input.
-        IsLogs input x.0 x.1 x.2 × (length input ≤ MAX_INPUT_BYTES))) }
+    ensures text { IfOk result (λ x. (input : List ℕ)
+        × AreRead (R.remaining (tapped reader.old)) input × IsLogs input x.0 x.1 x.2) }
     ensures good { IfOk result (λ x. AreLogs x.0 x.1 x.2) }
     ensures end { OnOk result (IsAtEnd (R.remaining (tapped reader.new))) }
     ensures unfailed { OnOk result (has_failed reader.new ≡ false) }
@@ -35,7 +35,7 @@ pub fn read_logs<R: Read>(alloc: Global, reader: &mut Tap<R>) -> Result<(u8, Log
     // If it is a text of logs, those are read.
     ensures only { (input : List ℕ) (nodes : ℕ) (logs : List (List Entry)) (last : List Stamped)
         → IsLogs input nodes logs last → length input ≤ MAX_INPUT_BYTES
-        → R.remaining (tapped reader.old) ≡ Some input → IsReadAs (nodes, logs, last) result }
+        → R.remaining (tapped reader.old) ≡ Some input → GivesOnly (nodes, logs, last) result }
 
     // Else the first fault is told.
     ensures fault { IfErr result (λ fault. IsTold IsLogFault fault.kind

@@ -1,10 +1,9 @@
 //! Reading an input to its end.
 
-ghost use Rattle.std.specs.Prelude.{◌≡◌, ◌<◌, ◌≤◌, false, length, IfOk, OnOk, IfErr, IfSome};
+ghost use Rattle.std.specs.Prelude.{◌≡◌, ◌<◌, false, length, IfOk, OnOk, IfErr};
 ghost use Rattle.std.specs.Io.KnownBytes.{IsAtEnd};
-ghost use Rattle.sci_words.specs.declared.limits.TheConstants.{MAX_INPUT_BYTES};
 ghost use Rattle.sci_text.specs.Tap.{tapped, has_failed, is_called_again};
-ghost use Rattle.sci_text.specs.FirstFault.{IsInputFault};
+ghost use Rattle.sci_text.specs.FirstFault.{AreRead, IsInputFault};
 
 use crate::fault::{TextFault, TextFaultKind};
 use crate::tap::Tap;
@@ -28,9 +27,7 @@ fn empty_block(alloc: Global) -> Result<Vec<u8>, AllocError>
 /// bytes, and Memory if an allocation failed; each has line 0.
 pub fn read_input<R: Read>(alloc: Global, reader: &mut Tap<R>) -> Result<Vec<u8>, TextFault>
     requires { has_failed reader.old ≡ false }
-    ensures bytes { IfOk result (λ bytes.
-        IfSome (R.remaining (tapped reader.old)) (λ input. bytes.items ≡ input)) }
-    ensures few { IfOk result (λ bytes. length bytes.items ≤ MAX_INPUT_BYTES) }
+    ensures read { IfOk result (λ bytes. AreRead (R.remaining (tapped reader.old)) bytes.items) }
     ensures end { OnOk result (IsAtEnd (R.remaining (tapped reader.new))) }
     ensures unfailed { OnOk result (has_failed reader.new ≡ false) }
     ensures line { IfErr result (λ fault. fault.line ≡ 0) }

@@ -1,11 +1,11 @@
 //! Reading a schedule to its end, and judging it then.
 
-ghost use Rattle.std.specs.Prelude.{◌≡◌, ◌≤◌, false, length, IfOk, OnOk, IfErr, IfSome, Some};
+ghost use Rattle.std.specs.Prelude.{◌≡◌, ◌≤◌, false, length, IfOk, OnOk, IfErr, Some};
 ghost use Rattle.std.specs.Io.KnownBytes.{IsAtEnd};
 ghost use Rattle.sci_words.specs.declared.limits.TheConstants.{MAX_INPUT_BYTES};
 ghost use Rattle.sci_text.specs.Tap.{tapped, has_failed, is_called_again};
 ghost use Rattle.sci_text.specs.Schedule.{ScheduleValue, IsSchedule, schedule_text};
-ghost use Rattle.sci_text.specs.FirstFault.{IsTold, IsReadAs};
+ghost use Rattle.sci_text.specs.FirstFault.{AreRead, GivesOnly, IsTold};
 ghost use Rattle.sci_text.specs.ScheduleFault.{IsScheduleFault};
 
 use crate::fault::TextFault;
@@ -23,9 +23,8 @@ pub fn read_schedule<R: Read>(alloc: Global, reader: &mut Tap<R>) -> Result<Sche
     requires { has_failed reader.old ≡ false }
 
     // The input is the text of the schedule.
-    ensures text { IfOk result (λ schedule. IfSome (R.remaining (tapped reader.old)) (λ input.
-        input ≡ schedule_text schedule)) }
-    ensures few { IfOk result (λ schedule. length (schedule_text schedule) ≤ MAX_INPUT_BYTES) }
+    ensures text { IfOk result (λ schedule.
+        AreRead (R.remaining (tapped reader.old)) (schedule_text schedule)) }
     ensures good { IfOk result IsSchedule }
     ensures end { OnOk result (IsAtEnd (R.remaining (tapped reader.new))) }
     ensures unfailed { OnOk result (has_failed reader.new ≡ false) }
@@ -34,7 +33,7 @@ pub fn read_schedule<R: Read>(alloc: Global, reader: &mut Tap<R>) -> Result<Sche
     ensures only { (schedule : ScheduleValue) → IsSchedule schedule
         → length (schedule_text schedule) ≤ MAX_INPUT_BYTES
         → R.remaining (tapped reader.old) ≡ Some (schedule_text schedule)
-        → IsReadAs schedule result }
+        → GivesOnly schedule result }
 
     // Else the first fault is told.
     ensures fault { IfErr result (λ fault. IsTold IsScheduleFault fault.kind

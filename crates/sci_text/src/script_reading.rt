@@ -1,11 +1,11 @@
 //! Reading a script to its end, and judging it then.
 
-ghost use Rattle.std.specs.Prelude.{◌≡◌, ◌≤◌, false, length, IfOk, OnOk, IfErr, IfSome, Some};
+ghost use Rattle.std.specs.Prelude.{◌≡◌, ◌≤◌, false, length, IfOk, OnOk, IfErr, Some};
 ghost use Rattle.std.specs.Io.KnownBytes.{IsAtEnd};
 ghost use Rattle.sci_words.specs.declared.limits.TheConstants.{MAX_INPUT_BYTES};
 ghost use Rattle.sci_text.specs.Tap.{tapped, has_failed, is_called_again};
 ghost use Rattle.sci_text.specs.Script.{ScriptValue, IsScript, script_text};
-ghost use Rattle.sci_text.specs.FirstFault.{IsTold, IsReadAs};
+ghost use Rattle.sci_text.specs.FirstFault.{AreRead, GivesOnly, IsTold};
 ghost use Rattle.sci_text.specs.ScriptFault.{IsScriptFault};
 
 use crate::fault::TextFault;
@@ -23,9 +23,8 @@ pub fn read_script<R: Read>(alloc: Global, reader: &mut Tap<R>) -> Result<Script
     requires { has_failed reader.old ≡ false }
 
     // The input is the text of the script.
-    ensures text { IfOk result (λ script. IfSome (R.remaining (tapped reader.old)) (λ input.
-        input ≡ script_text script)) }
-    ensures few { IfOk result (λ script. length (script_text script) ≤ MAX_INPUT_BYTES) }
+    ensures text { IfOk result (λ script.
+        AreRead (R.remaining (tapped reader.old)) (script_text script)) }
     ensures good { IfOk result IsScript }
     ensures end { OnOk result (IsAtEnd (R.remaining (tapped reader.new))) }
     ensures unfailed { OnOk result (has_failed reader.new ≡ false) }
@@ -33,7 +32,7 @@ pub fn read_script<R: Read>(alloc: Global, reader: &mut Tap<R>) -> Result<Script
     // If it is the text of a script, that script is read.
     ensures only { (script : ScriptValue) → IsScript script
         → length (script_text script) ≤ MAX_INPUT_BYTES
-        → R.remaining (tapped reader.old) ≡ Some (script_text script) → IsReadAs script result }
+        → R.remaining (tapped reader.old) ≡ Some (script_text script) → GivesOnly script result }
 
     // Else the first fault is told.
     ensures fault { IfErr result (λ fault. IsTold IsScriptFault fault.kind

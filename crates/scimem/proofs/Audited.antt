@@ -1,15 +1,14 @@
--- What an audit writes; and that an audit of lawful logs that were written as a text finds them lawful.
-use Rattle.std.proofs.Common.{◌≡◌, ℕ, List, Bool, Option, refl, sym, ap, subst, ◌∙◌}
+-- An audit of lawful logs that were written as a text finds them lawful.
+use Rattle.std.proofs.Common.{◌≡◌, ℕ, List, sym, ap, subst, ◌∙◌}
 use Rattle.sci_words.specs.declared.stamped.Stamped.{Stamped}
 use Rattle.sci_history.specs.declared.entry.Entry.{Entry}
 use Rattle.sci_history.specs.declared.verdict.Verdict.TheVariants as verdicts
 use Rattle.sci_history.specs.Lawful.{Lawful}
 use Rattle.sci_text.specs.LogValue.{IsLogs}
 use Rattle.sci_command.specs.declared.outcome.Outcome.{Outcome}
-use Rattle.sci_command.specs.declared.outcome.Outcome.TheVariants.{Done, Unlawful, Refused}
-use Rattle.sci_command.specs.Input.{IsReadAs}
+use Rattle.sci_command.specs.declared.outcome.Outcome.TheVariants.{Done}
 use Rattle.sci_command.specs.VerdictLine.{verdict_text}
-use Rattle.scimem.specs.LogAnswer.{outcome_of, IsAuditOf, IsAuditAnswer}
+use Rattle.scimem.specs.LogAnswer.{outcome_of, IsAuditOf}
 
 -- a text is of one log, as sci_text's law says
 abbrev pub OneLog : Type 0
@@ -21,9 +20,3 @@ audited_lawful one_log text said nodes logs last outcome says is_lawful audit =
     let lawful : Lawful audit.logs audit.last = subst (λ (l : List Stamped). Lawful audit.logs l) (sym one.2) (subst (λ (ls : List (List Entry)). Lawful ls last) (sym one.1) is_lawful) in
     let verdict : audit.verdict ≡ verdicts.Lawful = audit.lawful.1 lawful in
     (audit.written ∙ ap verdict_text verdict, audit.ends ∙ ap outcome_of verdict)
-
--- the answer of an audit, which is never Refused if the log was read
-pub audit_answer : (known : Option (List ℕ)) (failed : Bool) (text : List ℕ) (outcome : Outcome) → (outcome ≡ Refused → ⊥) → IsReadAs known failed (λ bytes. IsAuditOf bytes text outcome) → IsAuditAnswer known failed text outcome
-audit_answer known failed text Done other h = h
-audit_answer known failed text Unlawful other h = h
-audit_answer known failed text Refused other h = absurd (other refl)

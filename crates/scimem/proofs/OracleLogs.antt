@@ -1,7 +1,7 @@
 -- The logs and the last contents of an oracle can be written as a text, which says them alone.
 use Rattle.std.proofs.Common.{◌≡◌, ℕ, ◌+◌, ◌<◌, ◌≤◌, Bool, true, false, if◌then◌else◌, List, [], ◌∷◌, ◌++◌, length, filter, refl, sym, ap, subst, arith, length-append, inl, inr}
 use Rattle.std.proofs.lemmas.Bool.{cases_Bool}
-use Rattle.std.specs.Prelude.{Option, Some, None, IfSome, count_by}
+use Rattle.std.specs.Prelude.{count_by}
 use Rattle.std.specs.List.{AllByRecursion, flat_map}
 use Rattle.std.proofs.lemmas.List.Elements.{recursion_from_All}
 use Rattle.std.proofs.lemmas.List.Sums.{length-filter}
@@ -114,21 +114,15 @@ oracle_are_logs s good few =
 
 -- ---- what an oracle writes
 
-oracle_is : (input text : List ℕ) (s : ScriptValue) → IsScript s → length (script_text s) ≤ MAX_INPUT_BYTES → input ≡ script_text s → text ≡ oracle_text s → IsOracleOf input text
-oracle_is input text s good few read written =
+pub oracle_is : (text : List ℕ) (s : ScriptValue) → IsScript s → length (script_text s) ≤ MAX_INPUT_BYTES → text ≡ oracle_text s → IsOracleOf (script_text s) text
+oracle_is text s good few written =
     let logs = oracle_logs s.lines s.operations in
     let last = oracle_last s.lines s.operations in
     record {
       script = s;
       good = good;
-      read = read;
+      read = refl;
       written = written;
       says = subst (λ (bytes : List ℕ). IsLogs bytes s.nodes logs last) (sym written) (written_again s.nodes logs last (oracle_are_logs s good few));
       lawful = oracle-lawful s.lines s.operations (in_range s good);
     }
-
--- the same for an input that was read
-pub oracle_if : (known : Option (List ℕ)) (text : List ℕ) (s : ScriptValue) → IsScript s → length (script_text s) ≤ MAX_INPUT_BYTES → IfSome known (λ input. input ≡ script_text s) → text ≡ oracle_text s
-    → IfSome known (λ input. (length input ≤ MAX_INPUT_BYTES) × IsOracleOf input text)
-oracle_if None text s good few read written = tt
-oracle_if (Some input) text s good few read written = (omega (arith, few, ap length read), oracle_is input text s good few read written)

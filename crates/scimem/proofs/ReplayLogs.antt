@@ -1,7 +1,5 @@
 -- What a replay writes.
-use Rattle.std.proofs.Common.{◌≡◌, ℕ, ◌≤◌, List, length, ap, sym, subst, arith}
-use Rattle.std.specs.Prelude.{Option, Some, None, IfSome}
-use Rattle.sci_words.specs.declared.limits.TheConstants.{MAX_INPUT_BYTES}
+use Rattle.std.proofs.Common.{◌≡◌, ℕ, List, refl, sym, subst, arith}
 use Rattle.sci_core.specs.Size.{IsMachineSize}
 use Rattle.sci_core.specs.Outcome.{logs_of}
 use Rattle.sci_core.specs.Sharing.{last_of}
@@ -16,19 +14,13 @@ use Rattle.scimem.proofs.ReachedLogs.{run_logs}
 within_limits : (s : ScheduleValue) → IsSchedule s → IsMachineSize (replay_size s)
 within_limits s is = record { extent = is.size; some_operation = omega arith; few_operations = omega arith }
 
-pub replay_is : (input text : List ℕ) (s : ScheduleValue) → IsSchedule s → input ≡ schedule_text s → text ≡ replay_text s → IsReplayOf input text
-replay_is input text s is read written = record {
+pub replay_is : (text : List ℕ) (s : ScheduleValue) → IsSchedule s → text ≡ replay_text s → IsReplayOf (schedule_text s) text
+replay_is text s is written = record {
   schedule = s;
   good = is;
-  read = read;
+  read = refl;
   written = written;
   says = subst (λ (bytes : List ℕ). IsLogs bytes s.nodes (logs_of (replayed s)) (last_of (replayed s))) (sym written) (written_again s.nodes (logs_of (replayed s)) (last_of (replayed s)) (run_logs (replay_size s) s.events (within_limits s is)));
   lawful = reached_lawful (replayed s) (run_reached (replay_size s) s.events (within_limits s is));
   consistent = reached_consistent (replayed s) (run_reached (replay_size s) s.events (within_limits s is));
 }
-
--- the same for an input that was read
-pub replay_if : (known : Option (List ℕ)) (text : List ℕ) (s : ScheduleValue) → IsSchedule s → length (schedule_text s) ≤ MAX_INPUT_BYTES → IfSome known (λ input. input ≡ schedule_text s) → text ≡ replay_text s
-    → IfSome known (λ input. (length input ≤ MAX_INPUT_BYTES) × IsReplayOf input text)
-replay_if None text s is few read written = tt
-replay_if (Some input) text s is few read written = (omega (arith, ap length read), replay_is input text s is read written)

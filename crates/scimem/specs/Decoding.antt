@@ -1,7 +1,6 @@
 -- What is written for bytes that may be a run of packets.
-use Rattle.std.specs.Prelude.{◌≡◌, ℕ, ◌<◌, ◌≤◌, ◌⊎◌, Bool, false, List, [], ◌∷◌, ◌++◌, length, codes, All, Option, Some, IfSome}
+use Rattle.std.specs.Prelude.{◌≡◌, ℕ, ◌<◌, ◌⊎◌, Bool, List, [], ◌∷◌, ◌++◌, length, codes, All, Option, Some}
 use Rattle.std.specs.List.{flat_map}
-use Rattle.sci_words.specs.declared.limits.TheConstants.{MAX_INPUT_BYTES}
 use Rattle.sci_text.specs.declared.fault.TextFaultKind.{TextFaultKind}
 use Rattle.sci_text.specs.FirstFault.{IsInputFault}
 use Rattle.sci_text.specs.Number.{field}
@@ -12,6 +11,7 @@ use Rattle.sci_packets.specs.Fault.{fault_of}
 use Rattle.sci_packets.specs.Spelling.{IsPacket, NoneSpells, spelling}
 use Rattle.sci_command.specs.declared.outcome.Outcome.{Outcome}
 use Rattle.sci_command.specs.declared.outcome.Outcome.TheVariants.{Done, Refused}
+use Rattle.sci_command.specs.Input.{IsReadAs}
 use Rattle.sci_command.specs.PacketLine.{packet_line}
 use Rattle.sci_command.specs.Refusal.{kind_word}
 
@@ -67,15 +67,8 @@ pub record IsInputRefusal (known : Option (List ℕ)) (failed : Bool) (text : Li
   pub why : IsInputFault kind known failed
   pub line : text ≡ refusal 0 (kind_word kind)
 
--- the text is that of the input, which isn't too long, and the input is the one that is known, if it is
-pub record IsInputDecoded (known : Option (List ℕ)) (text : List ℕ) (outcome : Outcome) : Type 0 where
-  pub input : List ℕ
-  pub same : IfSome known (λ bytes. input ≡ bytes)
-  pub few : length input ≤ MAX_INPUT_BYTES
-  pub decoded : IsDecoded input text outcome
-
 -- The text that is written, and how the command ends, for an input that is known or not, by a reader that then
 -- has failed or not.
 abbrev pub IsAnswer : Option (List ℕ) → Bool → List ℕ → Outcome → Type 0
 IsAnswer known failed text outcome =
-    ((failed ≡ false) × IsInputDecoded known text outcome) ⊎ (IsInputRefusal known failed text × (outcome ≡ Refused))
+    IsReadAs known failed (λ bytes. IsDecoded bytes text outcome) ⊎ (IsInputRefusal known failed text × (outcome ≡ Refused))

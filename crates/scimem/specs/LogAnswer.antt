@@ -10,11 +10,10 @@ use Rattle.sci_text.specs.Log.{log_text}
 use Rattle.sci_text.specs.FirstFault.{IsTold}
 use Rattle.sci_text.specs.LogValue.{IsLogs}
 use Rattle.sci_text.specs.LogFault.{IsLogFault}
-use Rattle.sci_command.specs.Input.{IsReadAs}
-use Rattle.sci_command.specs.Refusal.{IsRefusalBy}
+use Rattle.sci_command.specs.Answer.{IsAnswerBy, IsDoneBy}
 use Rattle.sci_command.specs.VerdictLine.{verdict_text}
 use Rattle.sci_command.specs.declared.outcome.Outcome.{Outcome}
-use Rattle.sci_command.specs.declared.outcome.Outcome.TheVariants.{Done, Unlawful, Refused}
+use Rattle.sci_command.specs.declared.outcome.Outcome.TheVariants.{Done, Unlawful}
 
 -- how an audit ends
 abbrev pub outcome_of : Verdict → Outcome
@@ -35,9 +34,7 @@ pub record IsAuditOf (input text : List ℕ) (outcome : Outcome) : Type 0 where
 
 -- what `audit` writes, and how it ends, for the bytes of a reader, which has failed or not
 abbrev pub IsAuditAnswer : Option (List ℕ) → Bool → List ℕ → Outcome → Type 0
-IsAuditAnswer input failed text Done = IsReadAs input failed (λ bytes. IsAuditOf bytes text Done)
-IsAuditAnswer input failed text Unlawful = IsReadAs input failed (λ bytes. IsAuditOf bytes text Unlawful)
-IsAuditAnswer input failed text Refused = IsRefusalBy (λ kind line. IsTold IsLogFault kind input failed line) text
+IsAuditAnswer input failed = IsAnswerBy IsAuditOf (λ kind line. IsTold IsLogFault kind input failed line) input failed
 
 -- the input is the text of logs with last contents, whose text in format 2 is written: the same logs have that text too
 pub record IsUpgradeOf (input text : List ℕ) : Type 0 where
@@ -50,6 +47,4 @@ pub record IsUpgradeOf (input text : List ℕ) : Type 0 where
 
 -- what `upgrade` writes, and how it ends
 abbrev pub IsUpgradeAnswer : Option (List ℕ) → Bool → List ℕ → Outcome → Type 0
-IsUpgradeAnswer input failed text Done = IsReadAs input failed (λ bytes. IsUpgradeOf bytes text)
-IsUpgradeAnswer input failed text Unlawful = ⊥
-IsUpgradeAnswer input failed text Refused = IsRefusalBy (λ kind line. IsTold IsLogFault kind input failed line) text
+IsUpgradeAnswer input failed = IsDoneBy IsUpgradeOf (λ kind line. IsTold IsLogFault kind input failed line) input failed

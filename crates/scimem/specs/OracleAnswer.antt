@@ -7,10 +7,8 @@ use Rattle.sci_text.specs.FirstFault.{IsTold}
 use Rattle.sci_text.specs.ScriptFault.{IsScriptFault}
 use Rattle.sci_text.specs.Log.{log_text}
 use Rattle.sci_text.specs.LogValue.{IsLogs}
-use Rattle.sci_command.specs.Input.{IsReadAs}
-use Rattle.sci_command.specs.Refusal.{IsRefusalBy}
+use Rattle.sci_command.specs.Answer.{IsDoneBy}
 use Rattle.sci_command.specs.declared.outcome.Outcome.{Outcome}
-use Rattle.sci_command.specs.declared.outcome.Outcome.TheVariants.{Done, Unlawful, Refused}
 
 -- the text of the oracle's logs and last contents
 abbrev pub oracle_text : ScriptValue → List ℕ
@@ -27,6 +25,4 @@ pub record IsOracleOf (input text : List ℕ) : Type 0 where
 
 -- what is written, and how the command ends, for the bytes of a reader, which has failed or not
 abbrev pub IsOracleAnswer : Option (List ℕ) → Bool → List ℕ → Outcome → Type 0
-IsOracleAnswer input failed text Done = IsReadAs input failed (λ bytes. IsOracleOf bytes text)
-IsOracleAnswer input failed text Refused = IsRefusalBy (λ kind line. IsTold IsScriptFault kind input failed line) text
-IsOracleAnswer input failed text Unlawful = ⊥
+IsOracleAnswer input failed = IsDoneBy IsOracleOf (λ kind line. IsTold IsScriptFault kind input failed line) input failed

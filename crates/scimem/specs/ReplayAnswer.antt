@@ -12,10 +12,8 @@ use Rattle.sci_text.specs.FirstFault.{IsTold}
 use Rattle.sci_text.specs.ScheduleFault.{IsScheduleFault}
 use Rattle.sci_text.specs.Log.{log_text}
 use Rattle.sci_text.specs.LogValue.{IsLogs}
-use Rattle.sci_command.specs.Input.{IsReadAs}
-use Rattle.sci_command.specs.Refusal.{IsRefusalBy}
+use Rattle.sci_command.specs.Answer.{IsDoneBy}
 use Rattle.sci_command.specs.declared.outcome.Outcome.{Outcome}
-use Rattle.sci_command.specs.declared.outcome.Outcome.TheVariants.{Done, Unlawful, Refused}
 
 -- a machine of the schedule's size, whose nodes may each issue 65,536 operations
 abbrev pub replay_size : ScheduleValue → Size
@@ -42,6 +40,4 @@ pub record IsReplayOf (input text : List ℕ) : Type 0 where
 
 -- what is written, and how the command ends, for the bytes of a reader, which has failed or not
 abbrev pub IsReplayAnswer : Option (List ℕ) → Bool → List ℕ → Outcome → Type 0
-IsReplayAnswer input failed text Done = IsReadAs input failed (λ bytes. IsReplayOf bytes text)
-IsReplayAnswer input failed text Refused = IsRefusalBy (λ kind line. IsTold IsScheduleFault kind input failed line) text
-IsReplayAnswer input failed text Unlawful = ⊥
+IsReplayAnswer input failed = IsDoneBy IsReplayOf (λ kind line. IsTold IsScheduleFault kind input failed line) input failed

@@ -10,10 +10,9 @@ use Rattle.sci_text.specs.ScriptFault.{IsScriptFault}
 use Rattle.sci_text.specs.Log.{log_text}
 use Rattle.sci_text.specs.LogValue.{IsLogs}
 use Rattle.sci_threads.specs.Shares.{HaveLogsOf, HaveWholeLogsOf}
-use Rattle.sci_command.specs.Input.{IsReadAs}
-use Rattle.sci_command.specs.Refusal.{IsRefusalBy}
+use Rattle.sci_command.specs.Answer.{IsAnswerBy}
 use Rattle.sci_command.specs.declared.outcome.Outcome.{Outcome}
-use Rattle.sci_command.specs.declared.outcome.Outcome.TheVariants.{Done, Unlawful, Refused}
+use Rattle.sci_command.specs.declared.outcome.Outcome.TheVariants.{Done}
 
 -- The input is the text of a script, and the text of logs is written that are lawful and sequentially consistent, and of
 -- the script: in each node's log each entry has the operation that its serial names, and no serial stands twice. If it
@@ -33,6 +32,4 @@ pub record IsThreadsOf (input text : List ℕ) (outcome : Outcome) : Type 0 wher
 
 -- what is written, and how the command ends, for the bytes of a reader, which has failed or not
 abbrev pub IsThreadsAnswer : Option (List ℕ) → Bool → List ℕ → Outcome → Type 0
-IsThreadsAnswer input failed text Done = IsReadAs input failed (λ bytes. IsThreadsOf bytes text Done)
-IsThreadsAnswer input failed text Unlawful = IsReadAs input failed (λ bytes. IsThreadsOf bytes text Unlawful)
-IsThreadsAnswer input failed text Refused = IsRefusalBy (λ kind line. IsTold IsScriptFault kind input failed line) text
+IsThreadsAnswer input failed = IsAnswerBy IsThreadsOf (λ kind line. IsTold IsScriptFault kind input failed line) input failed

@@ -3,9 +3,10 @@
 ghost use Rattle.std.specs.Prelude.{◌≡◌, ◌++◌, false, OnOk, IfOk, IfErr};
 ghost use Rattle.sci_text.specs.Tap.{has_failed, is_called_again, tapped};
 ghost use Rattle.sci_command.specs.declared.outcome.Outcome.{Outcome};
+ghost use Rattle.sci_command.specs.Input.{IsReadAs};
 ghost use Rattle.sci_command.specs.Writing.{HasWritten};
 ghost use Rattle.sci_text.specs.FirstFault.{IsInputFault};
-ghost use Rattle.scimem.specs.Decoding.{IsDecoded, IsInputDecoded, IsAnswer, refusal, fault_word};
+ghost use Rattle.scimem.specs.Decoding.{IsDecoded, IsAnswer, refusal, fault_word};
 ghost use Rattle.sci_command.specs.Refusal.{kind_word};
 
 use sci_command::{Answer, Outcome, push_labelled, push_packet, write_answer};
@@ -84,9 +85,9 @@ fn answer_to(alloc: Global, input: &[u8]) -> Result<Answer, AllocError>
 /// The answer to the input that the reader gives, read to its end.
 fn answer<R: Read>(alloc: Global, reader: &mut Tap<R>) -> Result<Answer, TextFault>
     requires { has_failed reader.old ≡ false }
-    ensures text { IfOk result (λ answer.
-        IsInputDecoded (R.remaining (tapped reader.old)) answer.text.items answer.outcome) }
-    ensures unfailed { OnOk result (has_failed reader.new ≡ false) }
+    ensures answer { IfOk result (λ answer.
+        IsReadAs (R.remaining (tapped reader.old)) (has_failed reader.new)
+        (λ bytes. IsDecoded bytes answer.text.items answer.outcome)) }
     ensures fault { IfErr result (λ fault.
         IsInputFault fault.kind (R.remaining (tapped reader.old)) (has_failed reader.new)) }
     ensures again { is_called_again reader.new ≡ is_called_again reader.old }

@@ -1,5 +1,4 @@
 mod Asked
-pub mod Answered
 mod Sent
 mod Traced
 pub mod Joined

@@ -2,9 +2,7 @@
 use Rattle.std.specs.Prelude.{◌≡◌, ℕ, Bool, List, Option}
 use Rattle.sci_text.specs.Schedule.{ScheduleValue, IsSchedule, schedule_text}
 use Rattle.sci_command.specs.declared.outcome.Outcome.{Outcome}
-use Rattle.sci_command.specs.declared.outcome.Outcome.TheVariants.{Done, Unlawful, Refused}
-use Rattle.sci_command.specs.Input.{IsReadAs}
-use Rattle.sci_command.specs.Refusal.{IsRefusalBy}
+use Rattle.sci_command.specs.Answer.{IsDoneBy}
 use Rattle.sciview.specs.AskedLine.{HasLine, IsAskedFault}
 
 -- the input is the text of a schedule whose machine has the line that is asked for
@@ -16,6 +14,4 @@ pub record IsScheduleText (asked : Option ℕ) (input : List ℕ) : Type 0 where
 
 -- what `chart` writes, and how it ends, for the bytes of a reader, which has failed or not
 abbrev pub IsChartAnswer : Option ℕ → Option (List ℕ) → Bool → List ℕ → Outcome → Type 0
-IsChartAnswer asked input failed text Done = IsReadAs input failed (IsScheduleText asked)
-IsChartAnswer asked input failed text Refused = IsRefusalBy (λ kind line. IsAskedFault asked kind input failed line) text
-IsChartAnswer asked input failed text Unlawful = ⊥
+IsChartAnswer asked input failed = IsDoneBy (λ bytes text. IsScheduleText asked bytes) (λ kind line. IsAskedFault asked kind input failed line) input failed

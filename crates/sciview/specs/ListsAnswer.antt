@@ -13,10 +13,8 @@ use Rattle.sci_statistics.specs.About.{line_changed}
 use Rattle.sci_text.specs.Number.{number, field}
 use Rattle.sci_text.specs.Schedule.{ScheduleValue, IsSchedule, schedule_text}
 use Rattle.sci_command.specs.declared.outcome.Outcome.{Outcome}
-use Rattle.sci_command.specs.declared.outcome.Outcome.TheVariants.{Done, Unlawful, Refused}
-use Rattle.sci_command.specs.Input.{IsReadAs}
+use Rattle.sci_command.specs.Answer.{IsDoneBy}
 use Rattle.sci_command.specs.PacketLine.{contents_text}
-use Rattle.sci_command.specs.Refusal.{IsRefusalBy}
 use Rattle.sciview.specs.AskedLine.{HasLine, IsAskedFault, is_asked}
 use Rattle.sciview.specs.PacketsAnswer.{before}
 use Rattle.sciview.specs.StateWords.{state_name, home_name}
@@ -103,6 +101,4 @@ pub record IsListsOf (asked : Option ℕ) (input text : List ℕ) : Type 0 where
 
 -- what `lists` writes, and how it ends, for the bytes of a reader, which has failed or not
 abbrev pub IsListsAnswer : Option ℕ → Option (List ℕ) → Bool → List ℕ → Outcome → Type 0
-IsListsAnswer asked input failed text Done = IsReadAs input failed (λ bytes. IsListsOf asked bytes text)
-IsListsAnswer asked input failed text Refused = IsRefusalBy (λ kind line. IsAskedFault asked kind input failed line) text
-IsListsAnswer asked input failed text Unlawful = ⊥
+IsListsAnswer asked input failed = IsDoneBy (IsListsOf asked) (λ kind line. IsAskedFault asked kind input failed line) input failed

@@ -4,9 +4,7 @@ use Rattle.std.specs.List.{flat_map}
 use Rattle.sci_text.specs.Number.{number, field}
 use Rattle.sci_text.specs.Script.{IsScript, ScriptValue, script_text}
 use Rattle.sci_command.specs.declared.outcome.Outcome as ending
-use Rattle.sci_command.specs.declared.outcome.Outcome.TheVariants.{Done, Unlawful, Refused}
-use Rattle.sci_command.specs.Input.{IsReadAs}
-use Rattle.sci_command.specs.Refusal.{IsRefusalBy}
+use Rattle.sci_command.specs.Answer.{IsDoneBy}
 use Rattle.sci_outcomes.specs.declared.histogram.Row.{Row}
 use Rattle.sci_outcomes.specs.declared.outcome.Held.{Held}
 use Rattle.sci_outcomes.specs.declared.outcome.Outcome.{Outcome}
@@ -76,6 +74,4 @@ pub record IsOutcomesText (request : OutcomesRequest) (input text : List ℕ) : 
 
 -- what `outcomes` writes, and how it ends, for the bytes of a reader, which has failed or not
 abbrev pub IsOutcomesAnswer : OutcomesRequest → Option (List ℕ) → Bool → List ℕ → ending.Outcome → Type 0
-IsOutcomesAnswer request input failed text Done = IsReadAs input failed (λ bytes. IsOutcomesText request bytes text)
-IsOutcomesAnswer request input failed text Unlawful = ⊥
-IsOutcomesAnswer request input failed text Refused = IsRefusalBy (λ kind line. IsRunRefusal kind input failed line) text
+IsOutcomesAnswer request input failed = IsDoneBy (IsOutcomesText request) (λ kind line. IsRunRefusal kind input failed line) input failed

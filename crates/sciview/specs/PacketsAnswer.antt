@@ -13,9 +13,7 @@ use Rattle.sci_text.specs.Schedule.{ScheduleValue, IsSchedule, schedule_text}
 use Rattle.sci_text.specs.FirstFault.{IsTold}
 use Rattle.sci_text.specs.ScheduleFault.{IsScheduleFault}
 use Rattle.sci_command.specs.declared.outcome.Outcome.{Outcome}
-use Rattle.sci_command.specs.declared.outcome.Outcome.TheVariants.{Done, Unlawful, Refused}
-use Rattle.sci_command.specs.Input.{IsReadAs}
-use Rattle.sci_command.specs.Refusal.{IsRefusalBy}
+use Rattle.sci_command.specs.Answer.{IsDoneBy}
 
 -- the packets that events send from a state on, one event after another
 abbrev pub letters_sent : Core → List Event → List Letter
@@ -41,6 +39,4 @@ pub record IsPacketsOf (input bytes : List ℕ) : Type 0 where
 
 -- what `packets` writes, and how it ends, for the bytes of a reader, which has failed or not
 abbrev pub IsPacketsAnswer : Option (List ℕ) → Bool → List ℕ → Outcome → Type 0
-IsPacketsAnswer input failed text Done = IsReadAs input failed (λ bytes. IsPacketsOf bytes text)
-IsPacketsAnswer input failed text Refused = IsRefusalBy (λ kind line. IsTold IsScheduleFault kind input failed line) text
-IsPacketsAnswer input failed text Unlawful = ⊥
+IsPacketsAnswer input failed = IsDoneBy IsPacketsOf (λ kind line. IsTold IsScheduleFault kind input failed line) input failed

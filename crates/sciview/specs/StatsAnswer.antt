@@ -14,9 +14,8 @@ use Rattle.sci_text.specs.declared.fault.TextFaultKind.TheVariants.{Range}
 use Rattle.sci_text.specs.Number.{number, field}
 use Rattle.sci_text.specs.Schedule.{ScheduleValue, IsSchedule, schedule_text}
 use Rattle.sci_command.specs.declared.outcome.Outcome.{Outcome}
-use Rattle.sci_command.specs.declared.outcome.Outcome.TheVariants.{Done, Unlawful, Refused}
+use Rattle.sci_command.specs.Answer.{IsDoneBy}
 use Rattle.sci_command.specs.Input.{IsReadAs}
-use Rattle.sci_command.specs.Refusal.{IsRefusalBy}
 use Rattle.sciview.specs.declared.stats.StatsRequest.{StatsRequest}
 use Rattle.sciview.specs.AskedLine.{HasLine, IsAskedFault}
 use Rattle.sciview.specs.PacketsAnswer.{before}
@@ -170,6 +169,4 @@ IsStatsFault request kind input failed at = IsAskedFault request.line kind input
 
 -- what `stats` writes, and how it ends, for the bytes of a reader, which has failed or not
 abbrev pub IsStatsAnswer : StatsRequest → Option (List ℕ) → Bool → List ℕ → Outcome → Type 0
-IsStatsAnswer request input failed text Done = IsReadAs input failed (λ bytes. IsStatsOf request bytes text)
-IsStatsAnswer request input failed text Refused = IsRefusalBy (λ kind line. IsStatsFault request kind input failed line) text
-IsStatsAnswer request input failed text Unlawful = ⊥
+IsStatsAnswer request input failed = IsDoneBy (IsStatsOf request) (λ kind line. IsStatsFault request kind input failed line) input failed

@@ -13,10 +13,9 @@ use Rattle.sci_text.specs.Number.{number, field}
 use Rattle.sci_text.specs.Log.{issue_text, outcome_text}
 use Rattle.sci_text.specs.Schedule.{ScheduleValue, IsSchedule, event_line, schedule_text}
 use Rattle.sci_command.specs.declared.outcome.Outcome.{Outcome}
-use Rattle.sci_command.specs.declared.outcome.Outcome.TheVariants.{Done, Unlawful, Refused}
-use Rattle.sci_command.specs.Input.{IsReadAs}
+use Rattle.sci_command.specs.declared.outcome.Outcome.TheVariants.{Done, Unlawful}
+use Rattle.sci_command.specs.Answer.{IsAnswerBy}
 use Rattle.sci_command.specs.PacketLine.{line_of_packet}
-use Rattle.sci_command.specs.Refusal.{IsRefusalBy}
 use Rattle.sciview.specs.declared.trace.TraceRequest.{TraceRequest}
 use Rattle.sciview.specs.AskedLine.{HasLine, IsAskedFault, is_asked}
 use Rattle.sciview.specs.JsonEvent.{json_line}
@@ -162,6 +161,4 @@ pub record IsTraceOf (request : TraceRequest) (input text : List ℕ) (outcome :
 
 -- what `trace` writes, and how it ends, for the bytes of a reader, which has failed or not
 abbrev pub IsTraceAnswer : TraceRequest → Option (List ℕ) → Bool → List ℕ → Outcome → Type 0
-IsTraceAnswer request input failed text Done = IsReadAs input failed (λ bytes. IsTraceOf request bytes text Done)
-IsTraceAnswer request input failed text Unlawful = IsReadAs input failed (λ bytes. IsTraceOf request bytes text Unlawful)
-IsTraceAnswer request input failed text Refused = IsRefusalBy (λ kind line. IsAskedFault request.line kind input failed line) text
+IsTraceAnswer request input failed = IsAnswerBy (IsTraceOf request) (λ kind line. IsAskedFault request.line kind input failed line) input failed

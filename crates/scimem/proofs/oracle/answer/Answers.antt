@@ -3,9 +3,9 @@ use Rattle.std.proofs.Common.{List, ℕ, sym, subst, rules}
 use Rattle.std.specs.Prelude.{count_by, ◌≤◌, ◌==◌}
 use Rattle.sci_words.specs.declared.limits.TheConstants.{MAX_OPERATIONS}
 use Rattle.sci_words.specs.declared.operation.Op.{Op}
-use Rattle.sci_text.specs.Tap.{tapped}
+use Rattle.sci_text.specs.Script.{script_text}
 use Rattle.scimem.proofs.Counts.{few_of_each}
-use Rattle.scimem.proofs.OracleLogs.{oracle_if}
+use Rattle.scimem.proofs.OracleLogs.{oracle_is}
 use Rattle.scimem.proofs.oracle.answer.Goals as goal
 
 pub run_oracle-requires-clause-room : goal.run_oracle-requires-clause-room
@@ -15,4 +15,5 @@ run_oracle-requires-clause-room g c = λ node.
 pub returns-clause-answer : goal.returns-clause-answer
 returns-clause-answer g c =
     let script = c.in_ok-script.script in
-    (c.in_ok-script.ensures.unfailed, oracle_if (g.R.Read.remaining (tapped c.args.reader.now)) c.in_ok-text.text.items script c.in_ok-script.ensures.good c.in_ok-script.ensures.few c.in_ok-script.ensures.text (search rules))
+    let read = c.in_ok-script.ensures.text in
+    (c.in_ok-script.ensures.unfailed, (script_text script, read, oracle_is c.in_ok-text.text.items script c.in_ok-script.ensures.good read.few (search rules)))

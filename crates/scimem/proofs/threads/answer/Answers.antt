@@ -1,8 +1,13 @@
 -- What is written is the text of a run of the script that was read.
 use Rattle.std.proofs.Common.{◌≡◌, ℕ, true, sym, ap, ◌∙◌}
 use Rattle.sci_text.specs.Tap.{has_failed, tapped}
-use Rattle.scimem.proofs.ThreadLogs.{IsRunOf, threads_answer, threads_if}
+use Rattle.sci_text.specs.FirstFault.{IsTold}
 use Rattle.sci_text.specs.Log.{log_text}
+use Rattle.sci_text.specs.Script.{script_text}
+use Rattle.sci_text.specs.ScriptFault.{IsScriptFault}
+use Rattle.sci_command.proofs.Answers.{answer_made}
+use Rattle.scimem.specs.ThreadsAnswer.{IsThreadsOf}
+use Rattle.scimem.proofs.ThreadLogs.{IsRunOf, threads_is}
 use Rattle.sci_command.specs.declared.outcome.Outcome.TheVariants.{Done, Refused, Unlawful}
 use Rattle.scimem.proofs.threads.answer.Goals.{then-finished, else-finished}
 use Rattle.scimem.proofs.threads.answer.Goals as goal
@@ -17,9 +22,11 @@ returns-clause-answer g c =
     let known = g.R.Read.remaining (tapped c.args.reader.now) in
     let never : outcome ≡ Refused → ⊥ = λ refused. (elim c.if-finished.branch [ then-finished w ↦ done_apart (sym w.outcome-is ∙ refused) | else-finished w ↦ unlawful_apart (sym w.outcome-is ∙ refused) ]) in
     let ends : outcome ≡ Done → ran.finished ≡ true = λ done. (elim c.if-finished.branch [ then-finished w ↦ w.if-finished.true | else-finished w ↦ absurd (apart (sym w.outcome-is ∙ done)) ]) in
-    threads_answer known (has_failed c.read_script.new.reader) text outcome never (
+    let unread = has_failed c.read_script.new.reader in
+    let written = c.in_ok-text.ensures.text ∙ ap (λ (n : ℕ). log_text n ran.logs ran.last) c.extent-nodes.ensures.nodes in
+    answer_made IsThreadsOf (λ kind line. IsTold IsScriptFault kind known unread line) known unread text outcome never (
       c.in_ok-script.ensures.unfailed,
-      threads_if known text script ran.logs ran.last ran.finished outcome c.in_ok-script.ensures.good c.in_ok-script.ensures.few c.in_ok-script.ensures.text (c.in_ok-text.ensures.text ∙ ap (λ (n : ℕ). log_text n ran.logs ran.last) c.extent-nodes.ensures.nodes) run ends,
+      (script_text script, c.in_ok-script.ensures.text, threads_is text script ran.logs ran.last ran.finished outcome c.in_ok-script.ensures.good written run ends),
     )
   where
     apart : Unlawful ≡ Done → ⊥

@@ -1,10 +1,20 @@
-use Rattle.std.proofs.Common.{rules}
 use Rattle.sci_text.specs.Tap.{has_failed, tapped}
-use Rattle.sciview.proofs.Answered.{trace_answer}
+use Rattle.sci_command.proofs.Answers.{answer_made}
+use Rattle.sciview.specs.AskedLine.{IsAskedFault}
+use Rattle.sciview.specs.TraceAnswer.{IsTraceOf}
 use Rattle.sciview.proofs.trace.trace.Goals as goal
 
 pub returns-clause-answer : goal.returns-clause-answer
 returns-clause-answer g c =
     let known = g.R.Read.remaining (tapped c.args.reader.now) in
+    let unread = has_failed c.read_asked.new.reader in
+    let asked = c.in_ok-schedule.ensures in
     let found = c.in_ok-traced.field-0 in
-    trace_answer c.args.request known (has_failed c.read_asked.new.reader) found.text.items found.outcome c.in_ok-traced.ensures.judged (search rules)
+    answer_made (IsTraceOf c.args.request) (λ kind line. IsAskedFault c.args.request.line kind known unread line) known unread found.text.items found.outcome c.in_ok-traced.ensures.judged (
+      asked.read.0,
+      (
+        asked.read.1.0,
+        asked.read.1.1,
+        record { schedule = c.in_ok-schedule.schedule; good = asked.good; read = asked.read.1.2; has = asked.has; trace = c.in_ok-traced.ensures.trace },
+      ),
+    )
