@@ -1,6 +1,7 @@
 //! Lines, operations and kinds of asks that are drawn.
 
-ghost use Rattle.std.specs.Prelude.{◌≡◌, ◌<◌, true};
+ghost use Rattle.std.specs.Prelude.{◌≡◌, ◌<◌, ◌==◌, if◌then◌else◌, min, slice_get, true};
+ghost use Rattle.sci_chance.specs.Drawing.{IsActOf, after, drawn, kinds, word_of};
 ghost use Rattle.sci_words.specs.Operation.{has_words};
 ghost use Rattle.sci_words.specs.declared.limits.TheConstants.{WORDS_PER_LINE};
 
@@ -9,6 +10,9 @@ use sci_words::{Act, AskKind, LockOp, Op};
 
 /// A line, of so many: mostly one of the first two, so that many nodes share it. 0 if there is none.
 pub fn any_line(random: &mut Random, lines: u8) -> u8
+    ensures drawn { result
+        ≡ drawn (if drawn 3 random.old == 0 then lines else min lines 2) (after random.old) }
+    ensures after { random.new ≡ after (after random.old) }
     ensures within { 0 < lines → result < lines }
     ensures none { lines ≡ 0 → result ≡ 0 }
 {
@@ -19,7 +23,10 @@ pub fn any_line(random: &mut Random, lines: u8) -> u8
 }
 
 /// A small word, so that swaps and bounds often meet the word that they name.
-fn any_word(random: &mut Random) -> u64 {
+fn any_word(random: &mut Random) -> u64
+    ensures drawn { result ≡ word_of random.old }
+    ensures after { random.new ≡ after random.old }
+{
     match random.below(12) {
         0 => u64::MAX,
         small => u64::from(small % 4),
@@ -28,7 +35,9 @@ fn any_word(random: &mut Random) -> u64 {
 
 /// What an operation does: three times in ten a load, and twice a store.
 fn any_act(random: &mut Random) -> Act
-    ensures { has_words result ≡ true }
+    ensures drawn { IsActOf random.old result }
+    ensures words { has_words result ≡ true }
+    ensures after { random.new ≡ after (after (after random.old)) }
 {
     let (arg, datum) = (any_word(random), any_word(random));
     match random.below(10) {
@@ -45,8 +54,11 @@ fn any_act(random: &mut Random) -> Act
 /// An operation on a line, on any of its eight words.
 pub fn any_operation(random: &mut Random, line: u8) -> Op
     ensures line { result.line ≡ line }
+    ensures drawn { result.word ≡ min (drawn 9 random.old) 7 }
     ensures word { result.word < WORDS_PER_LINE }
+    ensures act { IsActOf (after random.old) result.act }
     ensures words { has_words result.act ≡ true }
+    ensures after { random.new ≡ after (after (after (after random.old))) }
 {
     let word = random.below(9).min(7);
     let act = any_act(random);
@@ -54,7 +66,10 @@ pub fn any_operation(random: &mut Random, line: u8) -> Op
 }
 
 /// A kind of ask, each as often as the others.
-pub fn any_kind(random: &mut Random) -> AskKind {
+pub fn any_kind(random: &mut Random) -> AskKind
+    ensures drawn { slice_get kinds (drawn 9 random.old) ≡ Some result }
+    ensures after { random.new ≡ after random.old }
+{
     match random.below(9) {
         0 => AskKind::Mread,
         1 => AskKind::Fread,
