@@ -5,7 +5,7 @@ use sci_words::AskKind;
 use std::test::*;
 
 /// The first numbers below 100 of the seed 1, worked out by another program.
-const FIRST: [u8; 8] = [71, 26, 69, 52, 8, 67, 70, 75];
+const FIRST: [u8; 8] = [81, 74, 10, 74, 18, 59, 98, 52];
 
 #[test]
 fn a_seed_has_its_numbers(rt: HostRuntime) {
