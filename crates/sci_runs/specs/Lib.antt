@@ -1,3 +1,4 @@
 pub mod Recorded
 pub mod Players
 pub mod Runs
+pub mod Turns

@@ -1,6 +1,7 @@
 //! In which order nodes take their turns.
 
-ghost use Rattle.std.specs.Prelude.{◌<◌};
+ghost use Rattle.std.specs.Prelude.{◌≡◌, ◌<◌};
+ghost use Rattle.sci_runs.specs.Turns.{first_order, next_node, next_order};
 
 use sci_chance::Random;
 
@@ -15,7 +16,9 @@ pub(crate) enum Order {
 
 impl Order {
     /// In a circle from node 0 on; or with a seed, drawn from it.
-    pub(crate) fn new(seed: Option<u64>) -> Order {
+    pub(crate) fn new(seed: Option<u64>) -> Order
+        ensures { result ≡ first_order seed }
+    {
         match seed {
             None => Order::Circle { next: 0 },
             Some(seed) => Order::Drawn(Random::new(seed)),
@@ -25,7 +28,9 @@ impl Order {
     /// The node whose turn comes next, of so many nodes. Requires that there is a node.
     pub(crate) fn next(&mut self, nodes: u8) -> u8
         requires { 0 < nodes }
-        ensures { result < nodes }
+        ensures node { result ≡ next_node nodes self.old }
+        ensures order { self.new ≡ next_order nodes self.old }
+        ensures within { result < nodes }
     {
         match self {
             Order::Circle { next } => {
