@@ -234,14 +234,14 @@ fn walks_of_seven_to_twelve_nodes(rt: HostRuntime) -> Result<(), Fail> {
 
 #[test]
 fn walks_of_sixteen_nodes(rt: HostRuntime) -> Result<(), Fail> {
-    let all = [of_size(16, 1, 1, 40, 800), of_size(16, 2, 1, 40, 800)];
+    let all = [of_size(16, 1, 1, 50, 800), of_size(16, 2, 1, 50, 800)];
     let counts = walk_all(&rt, rt.alloc(), &all)?;
     much_happened(&counts, 200, 2)
 }
 
 #[test]
 fn walks_of_many_nodes_and_lines(rt: HostRuntime) -> Result<(), Fail> {
-    let all = [of_size(15, 6, 8, 20, 800), of_size(16, 64, 8, 4, 800)];
+    let all = [of_size(15, 6, 8, 60, 800), of_size(16, 64, 8, 4, 800)];
     let counts = walk_all(&rt, rt.alloc(), &all)?;
     much_happened(&counts, 100, 4)
 }
