@@ -5,3 +5,4 @@ pub mod Passages
 pub mod Measures
 pub mod Figures
 pub mod Levels
+pub mod Waits

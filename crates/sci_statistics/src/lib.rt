@@ -10,6 +10,7 @@ mod line_figures;
 mod node_figures;
 mod packet_figures;
 mod passage;
+mod waits;
 mod walk;
 
 pub use about::{line_about, line_changed, sent, taken};
@@ -21,4 +22,5 @@ pub use line_figures::LineFigures;
 pub use node_figures::NodeFigures;
 pub use packet_figures::PacketFigures;
 pub use passage::Passage;
+pub use waits::{NodeWaits, WaitFigures};
 pub use walk::passages_of;
