@@ -7,8 +7,11 @@ use Rattle.sci_statistics.specs.declared.packet_figures.PacketFigures.{PacketFig
 use Rattle.sci_statistics.specs.declared.line_figures.LineFigures.{LineFigures}
 use Rattle.sci_statistics.specs.declared.node_figures.NodeFigures.{NodeFigures}
 use Rattle.sci_statistics.specs.declared.passage.Passage.{Passage}
+use Rattle.sci_statistics.specs.declared.waits.NodeWaits.{NodeWaits}
+use Rattle.sci_statistics.specs.declared.waits.WaitFigures.{WaitFigures}
 use Rattle.sci_statistics.specs.Figures.{at_node, event_figures, line_figures, node_figures, on_line, packet_figures}
 use Rattle.sci_statistics.specs.Passages.{passages}
+use Rattle.sci_statistics.specs.Waits.{node_waits}
 use Rattle.sci_text.specs.declared.fault.TextFaultKind.{TextFaultKind}
 use Rattle.sci_text.specs.declared.fault.TextFaultKind.TheVariants.{Range}
 use Rattle.sci_text.specs.Number.{number, field}
@@ -116,15 +119,30 @@ unfoldable pub line_text : ℕ → LineFigures → List ℕ
 line_text line figures =
     figures_text (group_of (codes "line.") line) (line_rows figures) ++ mean_text (group_of (codes "line.") line) (codes "mean_list") figures.members.total figures.events
 
+-- the least, the mean and the greatest of some waits
+unfoldable pub wait_text : List ℕ → WaitFigures → List ℕ
+wait_text group waits =
+    figure_text group (codes "least", waits.least) ++ (mean_text group (codes "mean") waits.total waits.count ++ figure_text group (codes "greatest", waits.greatest))
+
+-- the group of some waits of a node
+abbrev pub wait_group : ℕ → List ℕ → List ℕ
+wait_group n name = group_of (codes "node.") n ++ name
+
+-- how long the operations of a node waited: all of them, loads, and makers
+unfoldable pub waits_text : ℕ → NodeWaits → List ℕ
+waits_text n waits =
+    wait_text (wait_group n (codes "wait.")) waits.all
+    ++ (wait_text (wait_group n (codes "wait.loads.")) waits.loads ++ wait_text (wait_group n (codes "wait.makers.")) waits.makers)
+
 -- ---- the answer
 
 -- the same, from the passages
 unfoldable pub line_part : List Passage → ℕ → List ℕ
 line_part passages line = line_text line (line_figures (on_line line passages))
 
--- what a node did
+-- what a node did, and how long its operations waited
 unfoldable pub node_part : List Passage → ℕ → List ℕ
-node_part passages n = figures_text (group_of (codes "node.") n) (node_rows (node_figures (at_node n passages)))
+node_part passages n = figures_text (group_of (codes "node.") n) (node_rows (node_figures (at_node n passages))) ++ waits_text n (node_waits n passages)
 
 -- the one that is asked for, or all of so many
 abbrev pub shown : Option ℕ → ℕ → List ℕ

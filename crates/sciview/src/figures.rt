@@ -1,9 +1,11 @@
 //! Figures in text, one on each line.
 
 ghost use Rattle.std.specs.Prelude.{◌≡◌, ◌<◌, ◌/◌, ◌++◌, IfOk, OnOk, codes, map};
-ghost use Rattle.sciview.specs.StatsAnswer.{event_rows, figure_text, figures_text, group_of as group_text, hundredths_of, line_text, mean_text, named, node_rows, packet_rows};
+ghost use Rattle.sciview.specs.StatsAnswer.{event_rows, figure_text, figures_text, group_of as group_text, hundredths_of, line_text, mean_text, named, node_rows, packet_rows, wait_group as wait_group_text, wait_text, waits_text};
 
-use sci_statistics::{EventFigures, LineFigures, NodeFigures, PacketFigures};
+use sci_statistics::{
+    EventFigures, LineFigures, NodeFigures, NodeWaits, PacketFigures, WaitFigures,
+};
 use sci_text::{push_field, push_number, push_text};
 use std::alloc::{AllocError, Global};
 
@@ -186,4 +188,45 @@ pub fn push_node(
         ("served", figures.served),
     ];
     push_figures(out, &group, &rows)
+}
+
+/// Appends the least, the mean and the greatest of some waits.
+#[tactic(auto, unfolding(crate::specs::StatsAnswer::wait_text))]
+fn push_wait(out: &mut Vec<u8>, group: &[u8], waits: &WaitFigures) -> Result<(), AllocError>
+    ensures { OnOk result (out.new.items ≡ out.old.items ++ wait_text group.now waits.now) }
+{
+    push_figure(out, group, &("least", waits.least))?;
+    let mean = Mean {
+        total: waits.total,
+        count: waits.count,
+    };
+    push_mean(out, group, "mean", mean)?;
+    push_figure(out, group, &("greatest", waits.greatest))
+}
+
+/// The name of the group of some waits of a node.
+fn wait_group(alloc: Global, node: u8, name: &str) -> Result<Vec<u8>, AllocError>
+    ensures { IfOk result (λ group. group.items ≡ wait_group_text node name.now) }
+{
+    let mut group = group_of(alloc, "node.", node)?;
+    push_text(&mut group, name)?;
+    Ok(group)
+}
+
+/// Appends how long the operations of a node waited.
+#[tactic(auto, unfolding(crate::specs::StatsAnswer::waits_text))]
+pub fn push_waits(
+    alloc: Global,
+    out: &mut Vec<u8>,
+    node: u8,
+    waits: &NodeWaits,
+) -> Result<(), AllocError>
+    ensures { OnOk result (out.new.items ≡ out.old.items ++ waits_text node waits.now) }
+{
+    let all = wait_group(alloc, node, "wait.")?;
+    push_wait(out, &all, &waits.all)?;
+    let loads = wait_group(alloc, node, "wait.loads.")?;
+    push_wait(out, &loads, &waits.loads)?;
+    let makers = wait_group(alloc, node, "wait.makers.")?;
+    push_wait(out, &makers, &waits.makers)
 }

@@ -7,9 +7,11 @@ ghost use Rattle.sci_text.specs.Tap.{has_failed, is_called_again, tapped};
 ghost use Rattle.sciview.specs.StatsAnswer.{HasNode, IsStatsAnswer, IsStatsFault, line_part, node_part, shown, stats_text};
 
 use crate::asked_line::read_asked;
-use crate::figures::{push_events, push_line, push_node, push_packets};
+use crate::figures::{push_events, push_line, push_node, push_packets, push_waits};
 use sci_command::{Answer, Outcome};
-use sci_statistics::{EventFigures, LineFigures, NodeFigures, PacketFigures, Passage, passages_of};
+use sci_statistics::{
+    EventFigures, LineFigures, NodeFigures, NodeWaits, PacketFigures, Passage, passages_of,
+};
 use sci_text::{Schedule, Tap, TextFault, TextFaultKind};
 use std::alloc::{AllocError, Global};
 use std::io::Read;
@@ -56,7 +58,7 @@ fn push_line_part(
     push_line(alloc, out, line, &figures)
 }
 
-/// Appends what a node did.
+/// Appends what a node did, and how long its operations waited. Requires that there are at most 500,000 events.
 #[tactic(auto, unfolding(crate::specs::StatsAnswer::node_part))]
 fn push_node_part(
     alloc: Global,
@@ -64,10 +66,13 @@ fn push_node_part(
     passages: &[Passage],
     node: u8,
 ) -> Result<(), AllocError>
+    requires { length passages.now ≤ MAX_EVENTS }
     ensures { OnOk result (out.new.items ≡ out.old.items ++ node_part passages.now node) }
 {
     let figures = NodeFigures::of(alloc, passages, node)?;
-    push_node(alloc, out, node, &figures)
+    push_node(alloc, out, node, &figures)?;
+    let waits = NodeWaits::of(alloc, passages, node)?;
+    push_waits(alloc, out, node, &waits)
 }
 
 /// Appends what happened to each line that is shown. Requires that there are at most 500,000 events.
@@ -90,13 +95,14 @@ fn push_lines(
     Ok(())
 }
 
-/// Appends what each node did that is shown.
+/// Appends what each node did that is shown. Requires that there are at most 500,000 events.
 fn push_nodes(
     alloc: Global,
     out: &mut Vec<u8>,
     passages: &[Passage],
     nodes: Shown,
 ) -> Result<(), AllocError>
+    requires { length passages.now ≤ MAX_EVENTS }
     ensures { OnOk result (out.new.items ≡ out.old.items
         ++ flat_map (node_part passages.now) (shown nodes.asked nodes.count)) }
 {
