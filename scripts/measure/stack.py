@@ -27,10 +27,14 @@ COMMANDS = [
     (SCIVIEW, "check", "log"),
     (SCIVIEW, "packets", "schedule"),
     (SCIVIEW, "trace", "schedule"),
+    (SCIVIEW, "trace --json", "schedule"),
     (SCIVIEW, "lists", "schedule"),
     (SCIVIEW, "stats", "schedule"),
     (SCIVIEW, "chart", "schedule"),
     (SCIVIEW, "random 16 64 8 4800 1", None),
+    (SCIVIEW, "run", "script"),
+    (SCIVIEW, "outcomes --runs 2", "script"),
+    (SCIVIEW, "outcomes --runs 2 --threads", "script"),
 ]
 
 
