@@ -30,15 +30,15 @@ use Rattle.sci_core.specs.Shape.{HasShapes}
 use Rattle.sci_core.specs.Sharing.{last_at, last_of}
 use Rattle.sci_core.specs.Tidy.{AreAccepted}
 use Rattle.sci_core.specs.WellFormed.{IsWellFormed}
-use Rattle.sci_core.proofs.WellFormedSteps.{step_well, run_well, is_size, reachable, opened, any_well}
-use Rattle.sci_core.proofs.TidyRuns.{opening_tidy, any_tidy, reached_tidy}
-use Rattle.sci_core.proofs.Transactions.{runs_alternate}
-use Rattle.sci_core.proofs.ShapeSteps.{ShapedAt}
-use Rattle.sci_core.proofs.ShapeRuns.{each_mapped, opening_shaped, step_follows}
-use Rattle.sci_core.proofs.ShapeClauses.{last_is, shape_of}
-use Rattle.sci_core.proofs.StaleFronts.{any_stale}
-use Rattle.sci_core.proofs.Works.{HasSerials, opening_serials}
-use Rattle.sci_core.proofs.Histories.{run_follows, RunLogged, run_logged, IsKnown}
+use Rattle.sci_core.proofs.WellFormed.WellFormedSteps.{step_well, run_well, is_size, reachable, opened, any_well}
+use Rattle.sci_core.proofs.Tidy.TidyRuns.{opening_tidy, any_tidy, reached_tidy}
+use Rattle.sci_core.proofs.Tidy.Transactions.{runs_alternate}
+use Rattle.sci_core.proofs.Shape.ShapeSteps.{ShapedAt}
+use Rattle.sci_core.proofs.Shape.ShapeRuns.{each_mapped, opening_shaped, step_follows}
+use Rattle.sci_core.proofs.Shape.ShapeClauses.{last_is, shape_of}
+use Rattle.sci_core.proofs.Shape.StaleFronts.{any_stale}
+use Rattle.sci_core.proofs.History.Works.{HasSerials, opening_serials}
+use Rattle.sci_core.proofs.History.Histories.{run_follows, RunLogged, run_logged, IsKnown}
 use Rattle.sci_core.specs.Size.{Size}
 use Rattle.sci_core.specs.Size.{IsSize}
 

@@ -373,7 +373,7 @@ impl Node {
     }
 
     /// Whether no operation is pending and no line has an entry. It looks at no line.
-    #[tactic(auto, using(crate::proofs::Rest::at_rest, crate::proofs::Rest::rest_is_done, crate::proofs::Rest::rest_is_free))]
+    #[tactic(auto, using(crate::proofs::Settling::Rest::at_rest, crate::proofs::Settling::Rest::rest_is_done, crate::proofs::Settling::Rest::rest_is_free))]
     pub fn is_at_rest(&self) -> bool
         ensures rest { IsTrue result → IsAtRest self.now }
         ensures work { result ≡ false → IsAtRest self.now → ⊥ }

@@ -15,9 +15,9 @@ use Rattle.sci_words.specs.declared.operation.Op.{Op}
 use Rattle.sci_core.specs.Node.{NodeOf, IsForNode, IsServable, lines_of, node_issuing}
 use Rattle.sci_core.specs.Core.{Core, node_at, lane_at, lane_of, lane_place, Side, Takes, changes, side}
 use Rattle.sci_core.specs.Reached.{IsReached}
-use Rattle.sci_core.proofs.Applied.{servable, acceptable}
-use Rattle.sci_core.proofs.Enabled.{request_enabled}
-use Rattle.sci_core.proofs.WellFormedSteps.{reached_well}
+use Rattle.sci_core.proofs.Step.Applied.{servable, acceptable}
+use Rattle.sci_core.proofs.Tidy.Enabled.{request_enabled}
+use Rattle.sci_core.proofs.WellFormed.WellFormedSteps.{reached_well}
 use Rattle.sci_lanes.specs.declared.cell.CellId.{CellId}
 use Rattle.sci_lanes.specs.declared.view.Part.{Part}
 use Rattle.sci_lanes.specs.Cells.{lane_count, receiver_of}

@@ -16,9 +16,9 @@ use Rattle.sci_core.specs.declared.lane.LaneKind.{LaneKind}
 use Rattle.sci_core.specs.Node.{NodeOf, no_node}
 use Rattle.sci_core.specs.Core.{Core, node_at, with_node, with_lane, lane_at, lane_of, lane_place, side, node_of, sent_by, taken_as, taken_from, IsEnabled, stepping, step as machine_step, opening, run}
 use Rattle.sci_core.specs.Reached.{IsReached}
-use Rattle.sci_core.proofs.Places.{place_below, place_from, place_to}
-use Rattle.sci_core.proofs.Stepping.{stepping_changed, stepping_sent, stepping_takes}
-use Rattle.sci_core.proofs.WellFormedSteps.{reached_well, reached_stepping}
+use Rattle.sci_core.proofs.Step.Places.{place_below, place_from, place_to}
+use Rattle.sci_core.proofs.Step.Stepping.{stepping_changed, stepping_sent, stepping_takes}
+use Rattle.sci_core.proofs.WellFormed.WellFormedSteps.{reached_well, reached_stepping}
 use Rattle.sci_lanes.specs.declared.view.Outbound.{Outbound}
 use Rattle.sci_lanes.specs.declared.view.Inbound.{Inbound}
 use Rattle.sci_lanes.specs.declared.view.Part.{Part}

@@ -11,7 +11,7 @@ use Rattle.sci_lanes.specs.Shown.{me_of}
 use Rattle.sci_lanes.specs.Telling.{no_part}
 use Rattle.sci_lanes.specs.Ends.{EndOf, nodes_in}
 use Rattle.sci_lanes.specs.Gathering.{HasEndOf, HasTurns, IsJoinedAt, AreJoined, AreKept, AreAll}
-use Rattle.sci_core.proofs.Options.{same_some}
+use Rattle.sci_core.proofs.Basics.Options.{same_some}
 
 -- ---- a list with one element less
 

@@ -13,7 +13,7 @@ use Rattle.sci_lanes.specs.declared.view.Part.{Part}
 use Rattle.sci_lanes.specs.declared.view.View.{View}
 use Rattle.sci_lanes.specs.Cells.{lane_count, sender_of, receiver_of, word_count}
 use Rattle.sci_lanes.specs.Shown.{Whole, nodes_of, me_of, single, ShowsLane, IsKnown, IsSeen, HasRead, IsCovered, Shows}
-use Rattle.sci_core.proofs.Options.{same_some}
+use Rattle.sci_core.proofs.Basics.Options.{same_some}
 
 -- ---- lists
 

@@ -7,8 +7,8 @@ use Rattle.std.proofs.lemmas.List.{length-set, get_or-set_same, get_or-set_other
 use Rattle.sci_words.specs.declared.limits.TheConstants.{MAX_OPERATIONS}
 use Rattle.sci_history.specs.declared.entry.Entry.{Entry}
 use Rattle.sci_core.specs.Node.{NodeOf}
-use Rattle.sci_core.proofs.WellFormedSteps.{reached_well}
-use Rattle.sci_core.proofs.Logs.{own_log, short_log}
+use Rattle.sci_core.proofs.WellFormed.WellFormedSteps.{reached_well}
+use Rattle.sci_core.proofs.Basics.Logs.{own_log, short_log}
 use Rattle.sci_lanes.specs.declared.view.Part.{Part}
 use Rattle.sci_lanes.specs.Shown.{me_of}
 use Rattle.sci_lanes.specs.Ends.{EndOf}

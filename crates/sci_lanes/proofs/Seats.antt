@@ -7,7 +7,7 @@ use Rattle.atomic_table.specs.Seated.{TableId}
 use Rattle.sci_words.specs.declared.extent.Extent.{Extent}
 use Rattle.sci_core.specs.Size.{size_of}
 use Rattle.sci_core.specs.Node.{NodeOf}
-use Rattle.sci_core.proofs.WellFormedSteps.{reached_well}
+use Rattle.sci_core.proofs.WellFormed.WellFormedSteps.{reached_well}
 use Rattle.sci_lanes.specs.declared.cell.CellId.{CellId}
 use Rattle.sci_lanes.specs.declared.view.Part.{Part}
 use Rattle.sci_lanes.specs.declared.view.View.{View}

@@ -14,7 +14,7 @@ use Rattle.sci_lanes.specs.declared.view.View.{View}
 use Rattle.sci_lanes.specs.Shown.{Whole, nodes_of, me_of, single, IsKnown, HasRead, IsCovered, Shows, IsKept}
 use Rattle.sci_lanes.proofs.Keeping.{all_by, all_join, get_left, get_right, changed_at, changed_here, changed_else, read_none, read_nothing}
 use Rattle.sci_lanes.proofs.Allowed.{within}
-use Rattle.sci_core.proofs.Options.{same_some}
+use Rattle.sci_core.proofs.Basics.Options.{same_some}
 
 -- the last of a list, with its place
 last_at? : {A : Type 0} (xs : List A) (x : A) (k : ℕ) (y : A) → get_elem? (xs ++ x ∷ []) k ≡ some y → (get_elem? xs k ≡ some y) ⊎ ((k ≡ length xs) × (x ≡ y))

@@ -13,8 +13,8 @@ use Rattle.sci_core.specs.Node.{NodeOf, no_node}
 use Rattle.sci_core.specs.Reached.{IsReached}
 use Rattle.sci_core.specs.Sharing.{is_about, packets_of, under_way}
 use Rattle.sci_core.specs.Tidy.{HasItsPackets}
-use Rattle.sci_core.proofs.TidyRuns.{reached_tidy}
-use Rattle.sci_core.proofs.WellFormedSteps.{reached_well}
+use Rattle.sci_core.proofs.Tidy.TidyRuns.{reached_tidy}
+use Rattle.sci_core.proofs.WellFormed.WellFormedSteps.{reached_well}
 use Rattle.sci_policy.specs.Lines.{state_on}
 
 none_flat : {X : Type 0} (f : X → List Letter) (xs : List X) (d : X) → ((i : ℕ) → i < length xs → f (get_or xs i d) ≡ []) → flat_map f xs ≡ []

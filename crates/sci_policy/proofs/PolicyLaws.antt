@@ -15,7 +15,7 @@ use Rattle.sci_cache.specs.Cache.{CacheOf, Letter, cache_asked, has_slot, line_o
 use Rattle.sci_cache.specs.Kinds.{has_sharers, joins}
 use Rattle.sci_cache.specs.Line.{ask_or_fault}
 use Rattle.sci_core.specs.Node.{NodeOf, lines_of, node_asking}
-use Rattle.sci_core.proofs.Asks.{may_ask}
+use Rattle.sci_core.proofs.Step.Asks.{may_ask}
 use Rattle.sci_policy.specs.declared.policy.TheConstants.{PATIENCE}
 use Rattle.sci_policy.specs.declared.want.Want.{Want}
 use Rattle.sci_policy.specs.declared.want.Want.TheVariants.{Perform, Ask}

@@ -11,10 +11,10 @@ use Rattle.sci_cache.specs.Line.{LineState, untouched}
 use Rattle.sci_cache.specs.Cache.{has_slot, slots_taken}
 use Rattle.sci_core.specs.Node.{NodeOf, lines_of, node_performing, pending_on}
 use Rattle.sci_core.specs.Reached.{IsReachedNode}
-use Rattle.sci_core.proofs.Pendings.{sole_performs}
-use Rattle.sci_core.proofs.GoingOn.{any_can_go_on}
-use Rattle.sci_core.proofs.Rest.{counted_none}
-use Rattle.sci_core.proofs.WellFormedSteps.{any_part, reachable_node}
+use Rattle.sci_core.proofs.History.Pendings.{sole_performs}
+use Rattle.sci_core.proofs.Settling.GoingOn.{any_can_go_on}
+use Rattle.sci_core.proofs.Settling.Rest.{counted_none}
+use Rattle.sci_core.proofs.WellFormed.WellFormedSteps.{any_part, reachable_node}
 use Rattle.sci_policy.specs.declared.want.Want.{Want}
 use Rattle.sci_policy.specs.declared.want.Want.TheVariants.{Perform, Ask}
 use Rattle.sci_cache.specs.Kinds.{could_give_way, gives_way, joins, must_send}

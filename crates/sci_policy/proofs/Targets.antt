@@ -8,8 +8,8 @@ use Rattle.sci_core.specs.Core.{Core, node_at}
 use Rattle.sci_core.specs.Node.{NodeOf, node_asking}
 use Rattle.sci_core.specs.Reached.{IsReached}
 use Rattle.sci_core.specs.WellFormed.{IsAnswerLetter}
-use Rattle.sci_core.proofs.Parts.{SendsWell, part_asking}
-use Rattle.sci_core.proofs.WellFormedSteps.{reached_well}
+use Rattle.sci_core.proofs.WellFormed.Parts.{SendsWell, part_asking}
+use Rattle.sci_core.proofs.WellFormed.WellFormedSteps.{reached_well}
 
 pub few_nodes : (core : Core) → IsReached core → core.size.nodes ≤ MAX_NODES
 few_nodes core reached = reached.size.extent.few_nodes

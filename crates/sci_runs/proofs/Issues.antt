@@ -17,12 +17,12 @@ use Rattle.sci_core.specs.Node.{NodeOf, no_node, node_accepting, node_asking, no
 use Rattle.sci_core.specs.Reached.{IsReached}
 use Rattle.sci_core.specs.WellFormed.{IsWellFormed}
 use Rattle.sci_core.specs.Work.{IsIssued, IsLogged}
-use Rattle.sci_core.proofs.Lists.{at_place_set}
-use Rattle.sci_core.proofs.NodeSides.{ServedAs, RefusedAs, serve_as, refuse_as, reply_as}
-use Rattle.sci_core.proofs.Options.{of_some}
-use Rattle.sci_core.proofs.Steps.{Stepped, By_issue, By_perform, By_ask, By_serve, By_refuse, By_reply, By_accept, stepping_stepped}
-use Rattle.sci_core.proofs.WellFormedSteps.{reached_well}
-use Rattle.sci_core.proofs.Works.{SameWork, accept_work, ask_work, serve_work}
+use Rattle.sci_core.proofs.Basics.Lists.{at_place_set}
+use Rattle.sci_core.proofs.Step.NodeSides.{ServedAs, RefusedAs, serve_as, refuse_as, reply_as}
+use Rattle.sci_core.proofs.Basics.Options.{of_some}
+use Rattle.sci_core.proofs.Step.Steps.{Stepped, By_issue, By_perform, By_ask, By_serve, By_refuse, By_reply, By_accept, stepping_stepped}
+use Rattle.sci_core.proofs.WellFormed.WellFormedSteps.{reached_well}
+use Rattle.sci_core.proofs.History.Works.{SameWork, accept_work, ask_work, serve_work}
 use Rattle.sci_runs.proofs.Steps.{issue_makes, perform_makes}
 use Rattle.sci_turn.proofs.Working.{other_stays}
 use Rattle.sci_runs.specs.Recorded.{HasIssued, IsKnown, issued_at, issues_at}

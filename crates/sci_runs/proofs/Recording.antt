@@ -24,10 +24,10 @@ use Rattle.sci_core.specs.Core.{Core, IsEnabled, node_at, opening, run, stepping
 use Rattle.sci_core.specs.Node.{NodeOf, is_in_range, lines_of, may_issue, node_accepting, node_issued, node_refusing, node_serving}
 use Rattle.sci_core.specs.Reached.{IsReached}
 use Rattle.sci_core.specs.Size.{Size, size_of}
-use Rattle.sci_core.proofs.Drains.{some_node, some_sender}
-use Rattle.sci_core.proofs.Nodes.{some_below}
-use Rattle.sci_core.proofs.Sides.{steps_by_sides}
-use Rattle.sci_core.proofs.WellFormedSteps.{reached_well}
+use Rattle.sci_core.proofs.Settling.Drains.{some_node, some_sender}
+use Rattle.sci_core.proofs.Step.Nodes.{some_below}
+use Rattle.sci_core.proofs.Step.Sides.{steps_by_sides}
+use Rattle.sci_core.proofs.WellFormed.WellFormedSteps.{reached_well}
 use Rattle.sci_lanes.specs.Shown.{AreEnabled}
 use Rattle.sci_lanes.proofs.Events.{run_further}
 use Rattle.sci_lanes.proofs.Opening.{node_opened}

@@ -9,9 +9,9 @@ use Rattle.sci_core.specs.Core.{Core, node_at, stepping, with_node}
 use Rattle.sci_core.specs.Node.{IsNode, NodeOf, no_node, node_issuing, node_performing}
 use Rattle.sci_core.specs.Reached.{IsReached}
 use Rattle.sci_core.specs.Work.{IsIssued, IsLogged}
-use Rattle.sci_core.proofs.Pendings.{issue_puts, perform_puts}
-use Rattle.sci_core.proofs.Sides.{steps_by_sides}
-use Rattle.sci_core.proofs.WellFormedSteps.{reached_well}
+use Rattle.sci_core.proofs.History.Pendings.{issue_puts, perform_puts}
+use Rattle.sci_core.proofs.Step.Sides.{steps_by_sides}
+use Rattle.sci_core.proofs.WellFormed.WellFormedSteps.{reached_well}
 
 changed_node : (core : Core) (n : ℕ) (next : NodeOf) → IsReached core → n < core.size.nodes → node_at (with_node core n next) n ≡ next
 changed_node core n next reached some = get_or-set_same core.parts n next no_node (let long = (reached_well core reached).sizes.parts_long in omega arith)

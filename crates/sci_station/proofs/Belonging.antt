@@ -10,7 +10,7 @@ use Rattle.sci_lanes.specs.Gathering.{AreOf, IsOf}
 use Rattle.sci_lanes.proofs.Opening.{size_opened}
 use Rattle.sci_station.specs.Ends.{IsSameEnd}
 use Rattle.sci_station.specs.Station.{end_in, opening_station}
-use Rattle.sci_core.proofs.Options.{same_some}
+use Rattle.sci_core.proofs.Basics.Options.{same_some}
 
 -- an end that is the same is one of the same lanes
 pub same_of : (f : LanesOf) (old new : EndOf) → IsSameEnd old new → IsOf f old → IsOf f new

@@ -11,7 +11,7 @@ use Rattle.sci_core.specs.declared.lane.LaneKind.{LaneKind}
 use Rattle.sci_core.specs.declared.lane.LaneKind.TheVariants.{Answers, Requests}
 use Rattle.sci_core.specs.Core.{Sends, Takes, run, stepping, lane_at, lane_of, lane_place, node_at, sends}
 use Rattle.sci_core.specs.Node.{NodeOf, is_setback, node_accepting, node_asking, node_refusing, node_replying, node_serving, replied_by}
-use Rattle.sci_core.proofs.Enabled.{accept_enabled, request_enabled}
+use Rattle.sci_core.proofs.Tidy.Enabled.{accept_enabled, request_enabled}
 use Rattle.sci_policy.proofs.Targets.{asked_target, waiting_target}
 use Rattle.sci_lanes.specs.declared.cell.CellId.{CellId}
 use Rattle.sci_lanes.specs.declared.view.Part.{Part}

@@ -15,7 +15,7 @@ use Rattle.sci_core.specs.Node.{NodeOf}
 use Rattle.sci_core.specs.Core.{Core, node_at}
 use Rattle.sci_core.specs.Reached.{IsReached}
 use Rattle.sci_core.proofs.ReachedLaws.{has_history, log_at}
-use Rattle.sci_core.proofs.WellFormedSteps.{reachable}
+use Rattle.sci_core.proofs.WellFormed.WellFormedSteps.{reachable}
 use Rattle.sci_lanes.specs.declared.view.Part.{Part}
 use Rattle.sci_lanes.specs.Shown.{me_of}
 use Rattle.sci_lanes.specs.Telling.{IsShown}

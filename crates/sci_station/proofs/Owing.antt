@@ -15,19 +15,19 @@ use Rattle.sci_core.specs.Draining.{one_if}
 use Rattle.sci_core.specs.Node.{NodeOf, no_node, node_accepting, node_asking, node_issuing, node_performing, node_refusing, node_replying, node_serving}
 use Rattle.sci_core.specs.Size.{Size}
 use Rattle.sci_core.specs.WellFormed.{IsAnswerLetter, IsInLane, IsWellFormed}
-use Rattle.sci_core.proofs.Applied.{front_holds}
-use Rattle.sci_core.proofs.Drains.{Took, made_by, some_node, some_sender, took_along}
-use Rattle.sci_core.proofs.Options.{of_some}
-use Rattle.sci_core.proofs.Parts.{SendsWell, part_asking}
-use Rattle.sci_core.proofs.Places.{place_answers, place_from, place_requests, place_to}
-use Rattle.sci_core.proofs.Sides.{steps_by_sides}
-use Rattle.sci_core.proofs.Steps.{lane_below}
-use Rattle.sci_core.proofs.TidyRuns.{node_below}
-use Rattle.sci_core.proofs.WellFormedSteps.{StepsWell, stepping_well}
+use Rattle.sci_core.proofs.Step.Applied.{front_holds}
+use Rattle.sci_core.proofs.Settling.Drains.{Took, made_by, some_node, some_sender, took_along}
+use Rattle.sci_core.proofs.Basics.Options.{of_some}
+use Rattle.sci_core.proofs.WellFormed.Parts.{SendsWell, part_asking}
+use Rattle.sci_core.proofs.Step.Places.{place_answers, place_from, place_requests, place_to}
+use Rattle.sci_core.proofs.Step.Sides.{steps_by_sides}
+use Rattle.sci_core.proofs.Step.Steps.{lane_below}
+use Rattle.sci_core.proofs.Tidy.TidyRuns.{node_below}
+use Rattle.sci_core.proofs.WellFormed.WellFormedSteps.{StepsWell, stepping_well}
 use Rattle.sci_turn.specs.Posts.{OthersLead}
 use Rattle.sci_words.specs.declared.event.AskKind.{AskKind}
 use Rattle.sci_words.specs.declared.operation.Op.{Op}
-use Rattle.sci_core.proofs.WaitingNodes.{Accepts, Answers as AnswersTo, AsksOnce, Replies, Stays, accept_accepts, ask_once, issue_stays, perform_stays, refuse_answers, reply_replies, serve_answers}
+use Rattle.sci_core.proofs.Tidy.WaitingNodes.{Accepts, Answers as AnswersTo, AsksOnce, Replies, Stays, accept_accepts, ask_once, issue_stays, perform_stays, refuse_answers, reply_replies, serve_answers}
 use Rattle.sci_station.specs.Posts.{answers_to, owed}
 
 -- ---- a node and a lane change

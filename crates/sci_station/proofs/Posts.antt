@@ -14,7 +14,7 @@ use Rattle.sci_lanes.specs.Shown.{AreEnabled, AreOfOthers, IsSeen, me_of}
 use Rattle.sci_lanes.specs.Telling.{IsMade as WasMade, IsSameNode, IsShown, size_in, state_of}
 use Rattle.sci_lanes.specs.Ends.{EndOf}
 use Rattle.sci_lanes.proofs.Events.{run_further}
-use Rattle.sci_core.proofs.WellFormedSteps.{reached_well, run_well}
+use Rattle.sci_core.proofs.WellFormed.WellFormedSteps.{reached_well, run_well}
 use Rattle.sci_turn.specs.Posts.{IsMade, IsPost, IsStill, OthersLead, PostOf}
 use Rattle.sci_turn.specs.Posts.{IsFront, IsTaken, MayTakeFront}
 use Rattle.sci_words.specs.declared.event.Event.TheVariants as event

@@ -18,8 +18,8 @@ use Rattle.sci_core.specs.Node.{NodeOf}
 use Rattle.sci_core.specs.Size.{Size}
 use Rattle.sci_core.specs.Reached.{IsReached}
 use Rattle.sci_core.specs.WellFormed.{IsWellFormed}
-use Rattle.sci_core.proofs.Places.{place_answers, place_below, place_from, place_requests}
-use Rattle.sci_core.proofs.WellFormedSteps.{reached_stepping, reached_well}
+use Rattle.sci_core.proofs.Step.Places.{place_answers, place_below, place_from, place_requests}
+use Rattle.sci_core.proofs.WellFormed.WellFormedSteps.{reached_stepping, reached_well}
 use Rattle.sci_lanes.specs.declared.cell.CellId.{CellId}
 use Rattle.sci_lanes.specs.declared.view.Inbound.{Inbound}
 use Rattle.sci_lanes.specs.declared.view.Part.{Part}

@@ -1,7 +1,7 @@
 -- Ends that have made no event.
 use Rattle.std.proofs.Common.{◌≡◌, ◌≢◌, ◌++◌, List, ℕ, ◌%◌, ◌<◌, Bool, true, false, [], refl, sym, ap, subst, ◌∙◌}
 use Rattle.std.specs.Prelude.{if◌then◌else◌}
-use Rattle.sci_core.proofs.Lists.{at_place_set}
+use Rattle.sci_core.proofs.Basics.Lists.{at_place_set}
 use Rattle.sci_lanes.specs.declared.cell.CellId.{CellId}
 use Rattle.sci_lanes.specs.declared.view.Inbound.{Inbound}
 use Rattle.sci_lanes.specs.declared.view.Outbound.{Outbound}

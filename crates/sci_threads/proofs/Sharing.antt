@@ -24,7 +24,7 @@ use Rattle.sci_history.specs.Sequential.{AreInProgramOrder, IsInProgramOrder}
 use Rattle.sci_core.specs.Core.{Core}
 use Rattle.sci_core.specs.Outcome.{logs_of}
 use Rattle.sci_core.specs.Reached.{IsReached}
-use Rattle.sci_core.proofs.WellFormedSteps.{reached_well}
+use Rattle.sci_core.proofs.WellFormed.WellFormedSteps.{reached_well}
 use Rattle.sci_core.proofs.ReachedLaws.{log_at, log_beyond, beyond_log}
 use Rattle.sci_drive.specs.declared.driver.Issuing.{Issuing}
 use Rattle.sci_drive.specs.declared.driver.Issuing.TheVariants.{InOrder}

@@ -10,9 +10,9 @@ use Rattle.sci_core.specs.declared.lane.LaneKind.TheVariants.{Answers, Requests}
 use Rattle.sci_core.specs.Core.{Core, IsEnabled, lane_of, node_at, sends, sent_by}
 use Rattle.sci_core.specs.Node.{NodeOf, is_setback, node_accepting, node_asking, node_refusing, node_replying, node_serving, replied_by}
 use Rattle.sci_core.specs.Sides.{TakesFront, taken_to}
-use Rattle.sci_core.proofs.Enabled.{accept_enabled, request_enabled}
-use Rattle.sci_core.proofs.Options.{same_some}
-use Rattle.sci_core.proofs.Sides.{steps_by_sides}
+use Rattle.sci_core.proofs.Tidy.Enabled.{accept_enabled, request_enabled}
+use Rattle.sci_core.proofs.Basics.Options.{same_some}
+use Rattle.sci_core.proofs.Step.Sides.{steps_by_sides}
 use Rattle.sci_policy.specs.declared.decision.Decision.{Decision}
 use Rattle.sci_policy.specs.declared.decision.Decision.TheVariants as decision
 use Rattle.sci_policy.specs.Policy.{PolicyOf, decided}

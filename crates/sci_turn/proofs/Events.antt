@@ -7,7 +7,7 @@ use Rattle.sci_cache.specs.Cache.{Letter}
 use Rattle.sci_core.specs.declared.lane.LaneKind.TheVariants.{Answers, Requests}
 use Rattle.sci_core.specs.Core.{Core, node_at}
 use Rattle.sci_core.specs.Node.{NodeOf}
-use Rattle.sci_core.proofs.Options.{same_some}
+use Rattle.sci_core.proofs.Basics.Options.{same_some}
 use Rattle.sci_policy.specs.declared.decision.Decision.{Decision}
 use Rattle.sci_policy.specs.declared.decision.Decision.TheVariants as decision
 use Rattle.sci_policy.specs.declared.progress.Progress.{Progress}

@@ -12,12 +12,12 @@ use Rattle.sci_core.specs.Node.{NodeOf, node_asking}
 use Rattle.sci_core.specs.Reached.{IsReached}
 use Rattle.sci_core.specs.Size.{Size}
 use Rattle.sci_core.specs.WellFormed.{IsInLane}
-use Rattle.sci_core.proofs.Applied.{front_holds}
-use Rattle.sci_core.proofs.Drains.{some_node}
-use Rattle.sci_core.proofs.Enabled.{request_enabled}
-use Rattle.sci_core.proofs.Options.{of_some}
-use Rattle.sci_core.proofs.Places.{place_from}
-use Rattle.sci_core.proofs.WellFormedSteps.{reached_well}
+use Rattle.sci_core.proofs.Step.Applied.{front_holds}
+use Rattle.sci_core.proofs.Settling.Drains.{some_node}
+use Rattle.sci_core.proofs.Tidy.Enabled.{request_enabled}
+use Rattle.sci_core.proofs.Basics.Options.{of_some}
+use Rattle.sci_core.proofs.Step.Places.{place_from}
+use Rattle.sci_core.proofs.WellFormed.WellFormedSteps.{reached_well}
 use Rattle.sci_policy.specs.declared.progress.Progress.{Progress}
 use Rattle.sci_policy.specs.declared.want.Want.{Want}
 use Rattle.sci_policy.specs.declared.want.Want.TheVariants.{Perform, Ask}

@@ -13,12 +13,12 @@ use Rattle.sci_core.specs.Core.{Core, Side, Idle, Changes, Sends, Takes, lane_of
 use Rattle.sci_core.specs.Node.{NodeOf, is_setback, no_node, node_accepting, node_asking, node_serving, replied_by, with_answer}
 use Rattle.sci_core.specs.Reached.{IsReached}
 use Rattle.sci_core.specs.Size.{Size}
-use Rattle.sci_core.proofs.Drains.{some_node}
-use Rattle.sci_core.proofs.NodeSides.{serve_as}
-use Rattle.sci_core.proofs.Options.{of_some, same_some}
-use Rattle.sci_core.proofs.Stepping.{stepping_side}
-use Rattle.sci_core.proofs.WellFormedSteps.{reached_stepping, reached_well, run_well}
-use Rattle.sci_core.proofs.Works.{SameWork, accept_work, ask_work, serve_work}
+use Rattle.sci_core.proofs.Settling.Drains.{some_node}
+use Rattle.sci_core.proofs.Step.NodeSides.{serve_as}
+use Rattle.sci_core.proofs.Basics.Options.{of_some, same_some}
+use Rattle.sci_core.proofs.Step.Stepping.{stepping_side}
+use Rattle.sci_core.proofs.WellFormed.WellFormedSteps.{reached_stepping, reached_well, run_well}
+use Rattle.sci_core.proofs.History.Works.{SameWork, accept_work, ask_work, serve_work}
 use Rattle.sci_policy.specs.declared.progress.Progress.{Progress}
 use Rattle.sci_policy.specs.Policy.{PolicyOf}
 use Rattle.sci_policy.specs.Turn.{IsTurnEvent, MayPerform}

@@ -22,7 +22,7 @@ use Rattle.sci_history.specs.Placed.{log_of, is_of_node, is_on_line}
 use Rattle.sci_history.proofs.Histories.{versions-within}
 use Rattle.sci_history.proofs.Order.{all_weaker, all_both, all-filter, all-passes}
 use Rattle.sci_core.specs.InRange.{IsLine, IsReply}
-use Rattle.sci_core.proofs.Ranges.{HasWords, history_fits, zero_is_line, from_lines, all_mapped}
+use Rattle.sci_core.proofs.WellFormed.Ranges.{HasWords, history_fits, zero_is_line, from_lines, all_mapped}
 use Rattle.sci_text.specs.Operation.{LockFits, ActFits}
 use Rattle.sci_text.specs.Script.{IsWithin}
 use Rattle.sci_text.specs.LogValue.{IsSize, format_2, StampedFits, Answers, ReplyFits, EntryFits, AreLogs}

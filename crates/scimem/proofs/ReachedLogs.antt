@@ -13,11 +13,11 @@ use Rattle.sci_core.specs.InRange.{IsEntryOf}
 use Rattle.sci_core.specs.Outcome.{logs_of}
 use Rattle.sci_core.specs.Reached.{IsReached}
 use Rattle.sci_core.specs.Sharing.{last_at, last_of}
-use Rattle.sci_core.proofs.Histories.{IsKnown}
-use Rattle.sci_core.proofs.Ranges.{log_short, reached_contents, reached_entries}
+use Rattle.sci_core.proofs.History.Histories.{IsKnown}
+use Rattle.sci_core.proofs.WellFormed.Ranges.{log_short, reached_contents, reached_entries}
 use Rattle.sci_core.proofs.ReachedLaws.{schedule_history, schedule_logged, schedule_log, log_at}
-use Rattle.sci_core.proofs.TidyRuns.{run_size, run_reached}
-use Rattle.sci_core.proofs.WellFormedSteps.{is_size, reached_well}
+use Rattle.sci_core.proofs.Tidy.TidyRuns.{run_size, run_reached}
+use Rattle.sci_core.proofs.WellFormed.WellFormedSteps.{is_size, reached_well}
 use Rattle.sci_text.specs.Script.{IsWithin}
 use Rattle.sci_text.specs.LogValue.{AreLogs}
 use Rattle.scimem.proofs.DoneLogs.{AreDone, operands_fit, are_logs}

@@ -4,7 +4,7 @@ use Rattle.sci_core.specs.Size.{IsMachineSize}
 use Rattle.sci_core.specs.Outcome.{logs_of}
 use Rattle.sci_core.specs.Sharing.{last_of}
 use Rattle.sci_core.proofs.ReachedLaws.{reached_consistent, reached_lawful}
-use Rattle.sci_core.proofs.TidyRuns.{run_reached}
+use Rattle.sci_core.proofs.Tidy.TidyRuns.{run_reached}
 use Rattle.sci_text.specs.Schedule.{ScheduleValue, IsSchedule, schedule_text}
 use Rattle.sci_text.specs.LogValue.{IsLogs}
 use Rattle.sci_text.proofs.LogLaws.{written_again}

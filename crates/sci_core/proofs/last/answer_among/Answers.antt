@@ -2,7 +2,7 @@
 use Rattle.std.proofs.Common.{◌≡◌, ◌+◌, [], ◌∷◌, Some, None, sym, subst, ◌∙◌}
 use Rattle.sci_packets.specs.declared.packet.Packet.{Packet}
 use Rattle.sci_cache.specs.Cache.{letter_of}
-use Rattle.sci_core.proofs.Seeking.{seek, seek_more, seek_other, seek_this, seek_whole}
+use Rattle.sci_core.proofs.Tidy.Seeking.{seek, seek_more, seek_other, seek_this, seek_whole}
 use Rattle.sci_core.proofs.last.answer_among.Goals as goal
 
 pub returns-then-answers : goal.returns-then-answers

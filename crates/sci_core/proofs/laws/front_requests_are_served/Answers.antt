@@ -1,4 +1,4 @@
-use Rattle.sci_core.proofs.Enabled.{any_request_enabled}
+use Rattle.sci_core.proofs.Tidy.Enabled.{any_request_enabled}
 use Rattle.sci_core.proofs.laws.front_requests_are_served.Goals as goal
 
 pub returns : goal.returns

@@ -1,4 +1,4 @@
-use Rattle.sci_core.proofs.Pendings.{perform_puts}
+use Rattle.sci_core.proofs.History.Pendings.{perform_puts}
 use Rattle.sci_core.proofs.laws.performs_end_the_log.Goals as goal
 
 pub returns : goal.returns

@@ -1,4 +1,4 @@
-use Rattle.sci_core.proofs.WellFormedSteps.{any_part}
+use Rattle.sci_core.proofs.WellFormed.WellFormedSteps.{any_part}
 use Rattle.sci_core.proofs.laws.reached_nodes_are_parts.Goals as goal
 
 pub returns : goal.returns

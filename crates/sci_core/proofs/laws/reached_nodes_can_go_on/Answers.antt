@@ -1,4 +1,4 @@
-use Rattle.sci_core.proofs.GoingOn.{any_can_go_on}
+use Rattle.sci_core.proofs.Settling.GoingOn.{any_can_go_on}
 use Rattle.sci_core.proofs.laws.reached_nodes_can_go_on.Goals as goal
 
 pub returns : goal.returns

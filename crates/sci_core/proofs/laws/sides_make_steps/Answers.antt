@@ -1,4 +1,4 @@
-use Rattle.sci_core.proofs.Sides.{steps_by_sides}
+use Rattle.sci_core.proofs.Step.Sides.{steps_by_sides}
 use Rattle.sci_core.proofs.laws.sides_make_steps.Goals as goal
 
 pub returns : goal.returns

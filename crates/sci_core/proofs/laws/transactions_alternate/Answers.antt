@@ -1,4 +1,4 @@
-use Rattle.sci_core.proofs.Transactions.{runs_alternate}
+use Rattle.sci_core.proofs.Tidy.Transactions.{runs_alternate}
 use Rattle.sci_core.proofs.laws.transactions_alternate.Goals as goal
 
 pub returns : goal.returns

@@ -1,4 +1,4 @@
-use Rattle.sci_core.proofs.Ranges.{last_counts}
+use Rattle.sci_core.proofs.WellFormed.Ranges.{last_counts}
 use Rattle.sci_core.proofs.laws.versions_count_makers.Goals as goal
 
 pub returns : goal.returns

@@ -1,6 +1,6 @@
 -- One entry more ends the node's log.
 use Rattle.std.proofs.Common.{arith}
-use Rattle.sci_core.proofs.Logs.{pushed_more}
+use Rattle.sci_core.proofs.Basics.Logs.{pushed_more}
 use Rattle.sci_core.proofs.outcome.push_log.Goals as goal
 
 pub loop-entry-preserved : goal.loop-entry-preserved

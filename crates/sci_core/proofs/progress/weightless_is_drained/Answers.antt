@@ -1,4 +1,4 @@
-use Rattle.sci_core.proofs.Drains.{drained}
+use Rattle.sci_core.proofs.Settling.Drains.{drained}
 use Rattle.sci_core.proofs.progress.weightless_is_drained.Goals as goal
 
 pub returns : goal.returns

@@ -1,7 +1,7 @@
 use Rattle.std.proofs.Common.{◌≤◌, ◌≡◌, arith, None}
 use Rattle.sci_words.specs.declared.event.Event.TheVariants.{Perform}
 use Rattle.sci_core.specs.Core.{stepping}
-use Rattle.sci_core.proofs.Stepping.{stepping_nobody}
+use Rattle.sci_core.proofs.Step.Stepping.{stepping_nobody}
 use Rattle.sci_statistics.proofs.Walked.{nobody_made}
 use Rattle.sci_statistics.proofs.walk.performed.Goals as goal
 

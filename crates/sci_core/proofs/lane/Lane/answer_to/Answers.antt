@@ -1,6 +1,6 @@
 -- The older packets are looked at before the newer ones.
 use Rattle.std.proofs.Common.{ap, sym, ◌∙◌}
-use Rattle.sci_core.proofs.Seeking.{seek, seek_first, seek_second}
+use Rattle.sci_core.proofs.Tidy.Seeking.{seek, seek_first, seek_second}
 use Rattle.sci_core.proofs.lane.Lane.answer_to.Goals as goal
 
 pub returns-in-Some : goal.returns-in-Some

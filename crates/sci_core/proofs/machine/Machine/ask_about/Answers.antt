@@ -1,7 +1,7 @@
 -- If nobody tells and nobody leads, no node has an entry; else somebody's ask is next.
 use Rattle.std.proofs.Common.{refl}
 use Rattle.sci_core.specs.Rounds.{Joins}
-use Rattle.sci_core.proofs.Resting.{all_out}
+use Rattle.sci_core.proofs.Settling.Resting.{all_out}
 use Rattle.sci_core.proofs.machine.Machine.ask_about.Goals as goal
 
 pub returns-in_default-find-clause-none : goal.returns-in_default-find-clause-none

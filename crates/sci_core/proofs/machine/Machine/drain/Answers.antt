@@ -1,7 +1,7 @@
 -- Each move lowers the weight, and what is drained has none.
 use Rattle.std.proofs.Common.{◌<◌, refl, arith}
 use Rattle.sci_core.specs.Draining.{weight}
-use Rattle.sci_core.proofs.Moves.{drained_more, drained_weighs, few_moves, move_weighs}
+use Rattle.sci_core.proofs.Settling.Moves.{drained_more, drained_weighs, few_moves, move_weighs}
 use Rattle.sci_core.proofs.ReachedLaws.{reached_coherent}
 use Rattle.sci_core.proofs.machine.Machine.drain.Goals as goal
 

@@ -1,7 +1,7 @@
 -- Each round that is next can be asked, and lowers the number of rounds that are left.
 use Rattle.std.proofs.Common.{refl, arith}
-use Rattle.sci_core.proofs.Emptying.{next_lowers}
-use Rattle.sci_core.proofs.EmptyRuns.{all_out_beyond, emptied_more, few_events, refused_after}
+use Rattle.sci_core.proofs.Settling.Emptying.{next_lowers}
+use Rattle.sci_core.proofs.Settling.EmptyRuns.{all_out_beyond, emptied_more, few_events, refused_after}
 use Rattle.sci_core.proofs.ReachedLaws.{reached_coherent}
 use Rattle.sci_core.proofs.machine.Machine.empty_lines.Goals as goal
 

@@ -1,6 +1,6 @@
 -- A line of the machine is a line of each node.
 use Rattle.std.proofs.Common.{arith}
-use Rattle.sci_core.proofs.Resting.{line_known}
+use Rattle.sci_core.proofs.Settling.Resting.{line_known}
 use Rattle.sci_core.proofs.machine.Machine.find.Goals as goal
 
 pub held-requires : goal.held-requires

@@ -8,8 +8,8 @@ use Rattle.sci_history.specs.Sequential.{IsSequentiallyConsistent}
 use Rattle.sci_core.specs.Core.{Core}
 use Rattle.sci_core.specs.Outcome.{logs_of}
 use Rattle.sci_core.specs.Sharing.{last_at, last_of}
-use Rattle.sci_core.proofs.WellFormedSteps.{reached_well}
-use Rattle.sci_core.proofs.TidyRuns.{reached_tidy}
+use Rattle.sci_core.proofs.WellFormed.WellFormedSteps.{reached_well}
+use Rattle.sci_core.proofs.Tidy.TidyRuns.{reached_tidy}
 use Rattle.sci_core.proofs.ReachedLaws.{reached_consistent, reached_lawful}
 use Rattle.sci_core.proofs.machine.Machine.last.Goals as goal
 

@@ -10,9 +10,9 @@ use Rattle.sci_core.specs.Node.{NodeOf}
 use Rattle.sci_core.specs.Core.{Core}
 use Rattle.sci_core.specs.Outcome.{logs_of}
 use Rattle.sci_core.specs.Sharing.{last_of}
-use Rattle.sci_core.proofs.WellFormedSteps.{reached_well}
+use Rattle.sci_core.proofs.WellFormed.WellFormedSteps.{reached_well}
 use Rattle.sci_core.proofs.ReachedLaws.{reached_consistent, reached_lawful, reached_within}
-use Rattle.sci_core.proofs.Logs.{all_logs, own_log, short_log}
+use Rattle.sci_core.proofs.Basics.Logs.{all_logs, own_log, short_log}
 use Rattle.sci_core.proofs.machine.Machine.logs.Goals as goal
 
 pub push_log-requires-clause-own : goal.push_log-requires-clause-own

@@ -2,7 +2,7 @@
 use Rattle.std.proofs.Common.{[], sym, subst}
 use Rattle.sci_core.specs.Coherent.{IsCoherent}
 use Rattle.sci_core.specs.Core.{opening}
-use Rattle.sci_core.proofs.TidyRuns.{run_reached}
+use Rattle.sci_core.proofs.Tidy.TidyRuns.{run_reached}
 use Rattle.sci_core.proofs.ReachedLaws.{reached_coherent}
 use Rattle.sci_core.proofs.machine.Machine.new.Goals as goal
 use Rattle.sci_core.specs.Size.{IsMachineSize, size_of}

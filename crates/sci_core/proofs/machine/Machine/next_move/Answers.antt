@@ -1,6 +1,6 @@
 -- What is found can be brought on.
 use Rattle.std.proofs.Common.{refl}
-use Rattle.sci_core.proofs.Moves.{accept_found, nothing_found, reply_found, serve_found}
+use Rattle.sci_core.proofs.Settling.Moves.{accept_found, nothing_found, reply_found, serve_found}
 use Rattle.sci_core.proofs.machine.Machine.next_move.Goals as goal
 
 pub returns-in-Some-clause-enabled : goal.returns-in-Some-clause-enabled

@@ -1,8 +1,8 @@
 -- Each event is enabled exactly if nothing stands in its way.
 use Rattle.std.proofs.Common.{ap, sym, is_none, is_some, arith}
 use Rattle.sci_core.specs.declared.taking.Taking.TheVariants.{Serve, Refuse, Accept}
-use Rattle.sci_core.proofs.Obstacles.{issue_free, perform_free, ask_free, reply_free, take_free}
-use Rattle.sci_core.proofs.Stepping.{stepping_nobody}
+use Rattle.sci_core.proofs.Step.Obstacles.{issue_free, perform_free, ask_free, reply_free, take_free}
+use Rattle.sci_core.proofs.Step.Stepping.{stepping_nobody}
 use Rattle.sci_core.proofs.machine.Machine.obstacle_to.Goals as goal
 
 pub returns-then-node_of-extent-clause-enabled : goal.returns-then-node_of-extent-clause-enabled

@@ -2,8 +2,8 @@
 use Rattle.std.proofs.Common.{arith}
 use Rattle.sci_cache.specs.Cache.{letter_of}
 use Rattle.sci_core.specs.Settling.{settles}
-use Rattle.sci_core.proofs.Leading.{leads_none}
-use Rattle.sci_core.proofs.RoundSteps.{accept_enabled_next, after_four, after_one, after_three, after_two, ask_enabled, reply_enabled_next, round_drained, round_made, rounds_told, serve_enabled_next, small_told, stands}
+use Rattle.sci_core.proofs.Settling.Leading.{leads_none}
+use Rattle.sci_core.proofs.Settling.RoundSteps.{accept_enabled_next, after_four, after_one, after_three, after_two, ask_enabled, reply_enabled_next, round_drained, round_made, rounds_told, serve_enabled_next, small_told, stands}
 use Rattle.sci_core.proofs.machine.Machine.round.Goals as goal
 
 pub overflow_cast-target : goal.overflow_cast-target

@@ -3,7 +3,7 @@ use Rattle.std.proofs.Common.{ap, subst}
 use Rattle.sci_core.specs.Coherent.{IsCoherent}
 use Rattle.sci_core.proofs.ReachedLaws.{reached_coherent}
 use Rattle.std.specs.Prelude.{is_err}
-use Rattle.sci_core.proofs.Stops.{stopped}
+use Rattle.sci_core.proofs.Step.Stops.{stopped}
 use Rattle.sci_core.proofs.machine.Machine.run.Goals as goal
 
 pub returns-in-Err-Memory-clause-err : goal.returns-in-Err-Memory-clause-err

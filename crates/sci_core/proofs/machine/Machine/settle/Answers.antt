@@ -1,8 +1,8 @@
 -- Drained, emptied, and then one operation after another.
 use Rattle.std.proofs.Common.{◌+◌, ◌<◌, refl, arith}
 use Rattle.sci_core.specs.Settling.{pending_count}
-use Rattle.sci_core.proofs.EmptyRuns.{refused_after}
-use Rattle.sci_core.proofs.PendingRuns.{few_worked, moves_settle, moves_settle_on, settled_so, within_so, worked_first, worked_more}
+use Rattle.sci_core.proofs.Settling.EmptyRuns.{refused_after}
+use Rattle.sci_core.proofs.Settling.PendingRuns.{few_worked, moves_settle, moves_settle_on, settled_so, within_so, worked_first, worked_more}
 use Rattle.sci_core.proofs.ReachedLaws.{reached_coherent}
 use Rattle.sci_core.proofs.machine.Machine.settle.Goals as goal
 

@@ -1,6 +1,6 @@
 -- So many events were made, and each pending operation takes nine at most.
 use Rattle.sci_core.specs.Settling.{pending_count}
-use Rattle.sci_core.proofs.PendingRuns.{Worked}
+use Rattle.sci_core.proofs.Settling.PendingRuns.{Worked}
 use Rattle.sci_core.proofs.machine.Machine.settle.Given as goal
 
 abbrev pub invariant-operations : goal.invariant-operations

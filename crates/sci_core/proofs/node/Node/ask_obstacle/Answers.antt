@@ -1,6 +1,6 @@
 -- Nothing is in the way of an ask that is made.
 use Rattle.std.proofs.Common.{arith, sym, ◌∙◌}
-use Rattle.sci_core.proofs.Obstacles.{ask_found}
+use Rattle.sci_core.proofs.Step.Obstacles.{ask_found}
 use Rattle.sci_core.proofs.node.Node.ask_obstacle.Goals as goal
 
 pub returns-then-is_some-clause-obstacle : goal.returns-then-is_some-clause-obstacle

@@ -4,7 +4,7 @@ use Rattle.std.specs.Prelude.{IfSome}
 use Rattle.sci_cache.specs.Cache.{letter_of}
 use Rattle.sci_core.specs.Node.{NodeOf, node_asking, lines_of}
 use Rattle.sci_core.specs.contracts.node.Node.{the_view}
-use Rattle.sci_core.proofs.Asks.{asked_some}
+use Rattle.sci_core.proofs.Step.Asks.{asked_some}
 use Rattle.sci_core.proofs.node.Node.asked.Goals as goal
 
 pub returns-clause-asked : goal.returns-clause-asked

@@ -2,7 +2,7 @@
 use Rattle.std.proofs.Common.{◌≡◌, true, ap, sym, ◌∙◌}
 use Rattle.sci_core.specs.Node.{NodeOf, may_issue}
 use Rattle.sci_core.specs.contracts.node.Node.{the_view}
-use Rattle.sci_core.proofs.Nodes.{node_with_issue}
+use Rattle.sci_core.proofs.Step.Nodes.{node_with_issue}
 use Rattle.sci_core.proofs.node.Node.issue.Goals as goal
 
 pub invariant_of-self : goal.invariant_of-self

@@ -5,8 +5,8 @@ use Rattle.std.specs.declared.alloc.AllocFailed.{AllocFailed}
 use Rattle.sci_history.specs.declared.entry.Entry.{Entry}
 use Rattle.sci_core.specs.Node.{NodeOf, pending_on}
 use Rattle.sci_core.specs.contracts.node.Node.{the_view}
-use Rattle.sci_core.proofs.Caches.{same_performing}
-use Rattle.sci_core.proofs.Nodes.{fits_kept, node_with_entry}
+use Rattle.sci_core.proofs.Step.Caches.{same_performing}
+use Rattle.sci_core.proofs.Step.Nodes.{fits_kept, node_with_entry}
 use Rattle.sci_core.proofs.node.Node.perform.Goals as goal
 
 -- the log's room, and the entry at its end

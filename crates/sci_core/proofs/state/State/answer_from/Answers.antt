@@ -4,7 +4,7 @@ use Rattle.std.specs.Prelude.{option_to_list}
 use Rattle.sci_core.specs.declared.lane.LaneKind.TheVariants.{Answers}
 use Rattle.sci_core.specs.Core.{lane_of, node_at}
 use Rattle.sci_core.specs.Node.{NodeOf}
-use Rattle.sci_core.proofs.Seeking.{seek, seek_first, seek_second}
+use Rattle.sci_core.proofs.Tidy.Seeking.{seek, seek_first, seek_second}
 use Rattle.sci_core.proofs.state.State.answer_from.Goals as goal
 
 pub returns-in-Some : goal.returns-in-Some

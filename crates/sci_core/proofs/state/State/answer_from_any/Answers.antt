@@ -1,6 +1,6 @@
 -- The first that is found is the only one.
 use Rattle.std.proofs.Common.{sym, ◌∙◌, arith}
-use Rattle.sci_core.proofs.Answering.{found_from, none_from}
+use Rattle.sci_core.proofs.Tidy.Answering.{found_from, none_from}
 use Rattle.sci_core.proofs.state.State.answer_from_any.Goals as goal
 
 pub returns-in-Some : goal.returns-in-Some

@@ -3,7 +3,7 @@ use Rattle.std.proofs.Common.{◌≡◌, List, true, sym, ap, ◌∙◌, arith}
 use Rattle.std.specs.List.{list_any}
 use Rattle.sci_cache.specs.Cache.{Letter}
 use Rattle.sci_core.specs.Sharing.{asks_about}
-use Rattle.sci_core.proofs.Answering.{asked_at, found_from}
+use Rattle.sci_core.proofs.Tidy.Answering.{asked_at, found_from}
 use Rattle.sci_core.proofs.state.State.answer_where_asked.Goals as goal
 
 pub returns-in-Some : goal.returns-in-Some

@@ -1,5 +1,5 @@
 -- There is no such node.
-use Rattle.sci_core.proofs.Stepping.{stepping_nobody}
+use Rattle.sci_core.proofs.Step.Stepping.{stepping_nobody}
 use Rattle.std.proofs.Common.{arith}
 use Rattle.sci_core.proofs.state.State.apply.Goals as goal
 

@@ -7,8 +7,8 @@ use Rattle.sci_core.specs.declared.lane.LaneKind.TheVariants.{Requests}
 use Rattle.sci_core.specs.Node.{NodeOf, node_asking}
 use Rattle.sci_core.specs.Core.{Core, sends}
 use Rattle.sci_core.specs.contracts.state.State.{the_view}
-use Rattle.sci_core.proofs.Stepping.{stepping_idle}
-use Rattle.sci_core.proofs.Applied.{target_below, read_sent, sent_done, sent_enabled}
+use Rattle.sci_core.proofs.Step.Stepping.{stepping_idle}
+use Rattle.sci_core.proofs.Step.Applied.{target_below, read_sent, sent_done, sent_enabled}
 use Rattle.sci_core.proofs.state.State.ask.Goals as goal
 
 pub returns-in_default-clause-refused : goal.returns-in_default-clause-refused

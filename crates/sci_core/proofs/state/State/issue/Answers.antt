@@ -7,7 +7,7 @@ use Rattle.sci_core.specs.Node.{NodeOf, node_issuing}
 use Rattle.sci_core.specs.Core.{Core, changes, node_at, stepping}
 use Rattle.sci_core.specs.Work.{IsIssued}
 use Rattle.sci_core.specs.contracts.state.State.{the_view}
-use Rattle.sci_core.proofs.States.{both_nodes, changed_by, idle_by, read_node}
+use Rattle.sci_core.proofs.Step.States.{both_nodes, changed_by, idle_by, read_node}
 use Rattle.sci_core.proofs.state.State.issue.Goals as goal
 
 pub returns-clause-done : goal.returns-clause-done

@@ -1,7 +1,7 @@
 -- The home, then each node in turn.
 use Rattle.std.proofs.Common.{sym, ap, ◌∙◌, arith}
 use Rattle.sci_words.specs.declared.stamped.Stamped.{Stamped}
-use Rattle.sci_core.proofs.LastContents.{authority_more, last_authority, last_nowhere}
+use Rattle.sci_core.proofs.Shape.LastContents.{authority_more, last_authority, last_nowhere}
 use Rattle.sci_core.proofs.state.State.last_at.Goals as goal
 
 pub returns-in-Some-authority : goal.returns-in-Some-authority

@@ -2,8 +2,8 @@ use Rattle.std.proofs.Common.{◌≡◌, ◌<◌, List, ℕ, length, ap, subst, 
 use Rattle.sci_home.specs.Serving.{head_of}
 use Rattle.sci_core.specs.Sharing.{authority_contents, home_at, sharer_of}
 use Rattle.sci_core.specs.SharingList.{link_at}
-use Rattle.sci_core.proofs.Shared.{sought_first, sought_more}
-use Rattle.sci_core.proofs.Walking.{IsWalked, walk_begins, walk_ends, walk_goes_on, walks_more, walk_fits, walk_done, walked_at}
+use Rattle.sci_core.proofs.Shape.Shared.{sought_first, sought_more}
+use Rattle.sci_core.proofs.Shape.Walking.{IsWalked, walk_begins, walk_ends, walk_goes_on, walks_more, walk_fits, walk_done, walked_at}
 use Rattle.sci_core.proofs.state.State.members.Goals as goal
 
 pub loop-place-init : goal.loop-place-init

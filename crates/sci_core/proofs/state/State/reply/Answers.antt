@@ -8,8 +8,8 @@ use Rattle.sci_core.specs.declared.lane.LaneKind.TheVariants.{Answers}
 use Rattle.sci_core.specs.Node.{NodeOf, node_replying, replied_by}
 use Rattle.sci_core.specs.Core.{Core, sends, node_at}
 use Rattle.sci_core.specs.contracts.state.State.{the_view}
-use Rattle.sci_core.proofs.Stepping.{stepping_idle}
-use Rattle.sci_core.proofs.Applied.{read_sent, sent_done, sent_enabled, waits_replying}
+use Rattle.sci_core.proofs.Step.Stepping.{stepping_idle}
+use Rattle.sci_core.proofs.Step.Applied.{read_sent, sent_done, sent_enabled, waits_replying}
 use Rattle.sci_core.proofs.state.State.reply.Goals as goal
 
 gone : (old new : NodeOf) (result : Option Packet) → IfSome result (λ answer. node_replying old ≡ Some (new, letter_of answer)) → (result ≡ None → node_replying old ≡ None) → IfSome (node_replying old) (λ sent. new ≡ sent.0)

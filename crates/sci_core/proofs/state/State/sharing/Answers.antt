@@ -1,6 +1,6 @@
 -- If no authority stands in the list, the home has the contents, and there is none.
 use Rattle.std.proofs.Common.{sym, ◌∙◌}
-use Rattle.sci_core.proofs.Shared.{none_may_change}
+use Rattle.sci_core.proofs.Shape.Shared.{none_may_change}
 use Rattle.sci_core.proofs.state.State.sharing.Goals as goal
 
 pub unreachable-requires : goal.unreachable-requires

@@ -6,8 +6,8 @@ use Rattle.sci_core.specs.declared.lane.LaneKind.{LaneKind}
 use Rattle.sci_core.specs.Node.{NodeOf}
 use Rattle.sci_core.specs.Core.{Core, lane_place, lane_of, with_lane}
 use Rattle.sci_core.specs.Taking.{IsTakable}
-use Rattle.sci_core.proofs.States.{read_node}
-use Rattle.sci_core.proofs.Takings.{taking_from_nobody, taking_empty, takable, taking_untaken, taking_done}
+use Rattle.sci_core.proofs.Step.States.{read_node}
+use Rattle.sci_core.proofs.Step.Takings.{taking_from_nobody, taking_empty, takable, taking_untaken, taking_done}
 use Rattle.sci_core.proofs.state.State.take.Goals as goal
 
 pub returns-then-from-nodes-clause-not : goal.returns-then-from-nodes-clause-not

@@ -2,7 +2,7 @@ use Rattle.std.proofs.Common.{ℕ, [], sym, ap, subst, ◌∙◌, map}
 use Rattle.sci_core.specs.Core.{core_of, run}
 use Rattle.sci_core.specs.Sharing.{last_of}
 use Rattle.sci_core.specs.Size.{Size, IsSize}
-use Rattle.sci_core.proofs.WellFormedSteps.{is_size}
+use Rattle.sci_core.proofs.WellFormed.WellFormedSteps.{is_size}
 use Rattle.sci_lanes.specs.Shown.{AreEnabled}
 use Rattle.sci_lanes.specs.Cells.{lane_count}
 use Rattle.sci_lanes.specs.Ends.{LanesOf}

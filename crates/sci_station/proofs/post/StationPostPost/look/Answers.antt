@@ -5,7 +5,7 @@ use Rattle.sci_lanes.specs.Ends.{EndOf, nodes_in}
 use Rattle.sci_lanes.specs.Shown.{me_of}
 use Rattle.sci_lanes.specs.Telling.{IsShown, state_of}
 use Rattle.sci_turn.specs.Posts.{IsStill as IsStillPost}
-use Rattle.sci_core.proofs.Options.{of_some}
+use Rattle.sci_core.proofs.Basics.Options.{of_some}
 use Rattle.sci_station.specs.declared.receiving.Seen.{Seen}
 use Rattle.sci_station.proofs.Stills.{still_then as stills}
 use Rattle.sci_station.specs.Ends.{IsStill, LeavesOthers}

@@ -1,0 +1,67 @@
+-- Rounds that bring the lines to their homes, one after another.
+use Rattle.std.proofs.Common.{◌≡◌, ℕ, ◌+◌, ◌*◌, ◌<◌, ◌≤◌, List, Option, sym, ap, subst, ◌∙◌, arith, inl, inr}
+use Rattle.std.specs.Prelude.{count_by, is_some}
+use Rattle.std.proofs.Math.Nat.{mul-le-mul_left}
+use Rattle.std.proofs.lemmas.Bool.{cases_lt}
+use Rattle.std.proofs.lemmas.List.{get_or_past}
+use Rattle.sci_words.specs.declared.event.AskKind.{AskKind}
+use Rattle.sci_cache.specs.State.{Out}
+use Rattle.sci_cache.specs.Line.{LineState, untouched}
+use Rattle.sci_core.specs.declared.pending.Pending.{Pending}
+use Rattle.sci_core.specs.Core.{Core, node_at}
+use Rattle.sci_core.specs.Draining.{IsDrained}
+use Rattle.sci_core.specs.Reached.{IsReached}
+use Rattle.sci_core.specs.Rounds.{AreOut, IsNext, IsRound, rank}
+use Rattle.sci_core.specs.Settling.{Leads, LeadsOn, pending_count, settles}
+use Rattle.sci_core.specs.Shape.{state_at}
+use Rattle.sci_core.specs.Size.{Size}
+use Rattle.sci_core.proofs.Settling.Emptying.{next_lowers}
+use Rattle.sci_core.proofs.Settling.Leading.{leads_join, leads_on}
+use Rattle.sci_core.proofs.Settling.Ranks.{few_rounds, sum_over, sum_same}
+use Rattle.sci_core.proofs.Settling.Resting.{out_beyond}
+use Rattle.sci_core.proofs.WellFormed.WellFormedSteps.{reached_well}
+
+-- rounds so far
+pub record Emptied (old new : Core) (count : ℕ) : Type 0 where
+  pub leads : Leads settles old new count
+  pub drained : IsDrained new
+  pub few : count + 4 * rank new ≤ 4 * rank old
+  pub pending : pending_count new ≡ pending_count old
+
+-- what is pending stays
+pub pending_same : (core new : Core) → ((m : ℕ) → (node_at new m).pending ≡ (node_at core m).pending) → new.size ≡ core.size → pending_count new ≡ pending_count core
+pending_same core new same size =
+    let one = sum_same (λ n. count_by is_some (node_at core n).pending) (λ n. count_by is_some (node_at new n).pending) 0 core.size.nodes (λ n lo hi. ap (λ (ps : List (Option Pending)). count_by is_some ps) (same n)) in
+    subst (λ (s : Size). sum_over (λ n. count_by is_some (node_at new n).pending) 0 s.nodes ≡ pending_count core) (sym size) one
+
+pub emptied_more : (old mid new : Core) (n line : ℕ) (ask : AskKind) (count : ℕ) → Emptied old mid count → IsReached mid → n < mid.size.nodes → line < mid.size.lines → IsNext mid line n ask → IsRound mid new n line ask → Leads settles mid new 4 → IsDrained new → Emptied old new (count + 4)
+emptied_more old mid new n line ask count so reached lt inside next round leads drained =
+    let less = (next_lowers mid n line ask reached so.drained lt inside next).lowers new round in
+    let few = so.few in
+    record { leads = leads_join settles old mid new count 4 so.leads leads; drained = drained; few = omega arith; pending = pending_same mid new round.pending round.size ∙ so.pending }
+
+-- the rounds are few
+pub few_events : (core : Core) → IsReached core → rank core ≤ 2048
+few_events core reached =
+    let few = (few_rounds core reached).lines in
+    let nodes = reached.size.extent.few_nodes in
+    let lines = reached.size.extent.few_lines in
+    let less = mul-le-mul_left core.size.nodes lines in
+    omega arith
+
+-- a line beyond the machine's has no entry
+pub all_out_beyond : (core : Core) → IsReached core → ((line n : ℕ) → line < core.size.lines → state_at core line n ≡ Out) → AreOut core
+all_out_beyond core reached out line n =
+    elim (cases_lt line core.size.lines) [
+      | inl inside ↦ out line n inside
+      | inr past ↦ elim (cases_lt n core.size.nodes) [
+        | inl below ↦
+            let each = ((reached_well core reached).each_part n below).each in
+            ap (λ (l : LineState). l.state) (get_or_past (node_at core n).cache.lines line untouched (omega arith))
+        | inr beyond ↦ out_beyond core line n reached beyond
+      ]
+    ]
+
+-- memory was refused later
+pub refused_after : (old mid new : Core) (count : ℕ) → Leads settles old mid count → LeadsOn settles mid new → LeadsOn settles old new
+refused_after old mid new count leads on = leads_on settles old new (count + on.count) (leads_join settles old mid new count on.count leads on.leads)

@@ -1,0 +1,157 @@
+-- Each row of the tables, as far as it tells who waits and for which request.
+use Rattle.std.proofs.Common.{◌≡◌, ℕ, ◌+◌, ◌%◌, ◌<◌, Bool, true, false, if◌then◌else◌, List, [], ◌∷◌, Some, None, refl, ◌∙◌, inl, inr, arith}
+use Rattle.std.specs.Prelude.{◌==◌, IfSome}
+use Rattle.sci_words.specs.declared.limits.TheConstants.{CONTROLS}
+use Rattle.sci_words.specs.declared.event.AskKind.{AskKind}
+use Rattle.sci_words.specs.declared.event.AskKind.TheVariants as kind
+use Rattle.sci_words.specs.declared.operation.Op.{Op}
+use Rattle.sci_words.specs.Operation.{is_maker}
+use Rattle.sci_words.specs.Stamped.{reply_of}
+use Rattle.sci_packets.specs.declared.body.Body.{Body}
+use Rattle.sci_packets.specs.declared.body.Body.TheVariants as body
+use Rattle.sci_cache.specs.State.{CacheState, Out, Asking, Joining, FreshJoining, Head, FreshHead, Below, Purging, Claiming, Clearing, Returning, Rolling, Telling, Fading, waits}
+use Rattle.sci_cache.specs.Asking.{Asked, asking}
+use Rattle.sci_cache.specs.Serving.{serving, is_next}
+use Rattle.sci_cache.specs.Accepting.{accepting}
+use Rattle.sci_cache.specs.Performing.{Performed, performing}
+use Rattle.sci_cache.specs.Line.{LineState}
+use Rattle.sci_cache.specs.Cache.{Letter}
+use Rattle.sci_core.specs.Tidy.{IsSentIn, IsAwaited, HasItsPackets}
+use Rattle.sci_core.proofs.Basics.Lists.{if_either}
+
+-- ---- asking
+
+abbrev asks_letter : ℕ → Letter → Asked → Type 0
+asks_letter home letter asked = (asked.to ≡ None → letter.target ≡ home) × ((p : ℕ) → asked.to ≡ Some p → letter.target ≡ p) × (letter.body ≡ asked.request)
+
+pub record BeginsToWait (state : CacheState) (asked : Asked) : Type 0 where
+  pub idle : waits state ≡ false
+  pub waiting : waits asked.next ≡ true
+  pub sent : (home : ℕ) (letter : Letter) → asks_letter home letter asked → IsSentIn home asked.next letter
+
+pub asking_waits : (state : CacheState) (k : AskKind) → IfSome (asking state k) (BeginsToWait state)
+asking_waits Out kind.Mread = record { idle = refl; waiting = refl; sent = λ home letter h. (inl h.2, h.0 refl) }
+asking_waits Out kind.Fread = record { idle = refl; waiting = refl; sent = λ home letter h. (inr h.2, h.0 refl) }
+asking_waits (Joining p false) kind.Cread = record { idle = refl; waiting = refl; sent = λ home letter h. (h.2, h.1 p refl) }
+asking_waits (FreshJoining p false c) kind.Cread = record { idle = refl; waiting = refl; sent = λ home letter h. (h.2, h.1 p refl) }
+asking_waits (Head (Some q) c) kind.Purge = record { idle = refl; waiting = refl; sent = λ home letter h. (h.2, h.1 q refl) }
+asking_waits (Head None c) kind.Wback = record { idle = refl; waiting = refl; sent = λ home letter h. (h.2, h.0 refl) }
+asking_waits (FreshHead f c) kind.Claim = record { idle = refl; waiting = refl; sent = λ home letter h. (h.2, h.0 refl) }
+asking_waits (FreshHead None c) kind.Clear = record { idle = refl; waiting = refl; sent = λ home letter h. (h.2, h.0 refl) }
+asking_waits (Below f b c) kind.Roll = record { idle = refl; waiting = refl; sent = λ home letter h. h.2 }
+asking_waits (Telling r w false) kind.Setback = record { idle = refl; waiting = refl; sent = λ home letter h. (h.2, h.1 r refl) }
+asking_waits _ _ = tt
+
+-- ---- what leaves the wait as it was
+
+-- a line as it is awaited: who waits still does, with the same number, for a request that fits still
+pub record Keeps (home : ℕ) (old new : LineState) : Type 0 where
+  pub wait : waits new.state ≡ waits old.state
+  pub asks : new.asks ≡ old.asks
+  pub sent : (letter : Letter) → IsSentIn home old.state letter → IsSentIn home new.state letter
+
+pub keeps_itself : (home : ℕ) (line : LineState) → Keeps home line line
+keeps_itself home line = record { wait = refl; asks = refl; sent = λ letter h. h }
+
+pub record KeepsWait (old new : CacheState) : Type 0 where
+  pub wait : waits new ≡ waits old
+  pub sent : (home : ℕ) (letter : Letter) → IsSentIn home old letter → IsSentIn home new letter
+
+same_wait : (state : CacheState) → KeepsWait state state
+same_wait state = record { wait = refl; sent = λ home letter h. h }
+
+abbrev Waits : CacheState → CacheState × Body → Type 0
+Waits state served = KeepsWait state served.0
+
+pub serving_waits : (state : CacheState) (n : ℕ) (request : Body) → IfSome (serving state n request) (λ (served : CacheState × Body). KeepsWait state served.0)
+serving_waits (Head f c) n body.Cread = record { wait = refl; sent = λ home letter h. elim h [ ] }
+serving_waits (FreshHead f c) n body.Cread = record { wait = refl; sent = λ home letter h. elim h [ ] }
+serving_waits state n body.Cread = same_wait _
+serving_waits (Below f b c) n body.Purge = record { wait = refl; sent = λ home letter h. elim h [ ] }
+serving_waits (Rolling f b c) n body.Purge = record { wait = refl; sent = λ home letter h. (f, h) }
+serving_waits state n body.Purge = same_wait _
+serving_waits (Head f c) n (body.Roll m) = if_either (Waits (Head f c)) (is_next f n) (Head m c, body.Rolled) (Head f c, body.Busy) (record { wait = refl; sent = λ home letter h. elim h [ ] }) (same_wait (Head f c))
+serving_waits (FreshHead f c) n (body.Roll m) = if_either (Waits (FreshHead f c)) (is_next f n) (FreshHead m c, body.Rolled) (FreshHead f c, body.Busy) (record { wait = refl; sent = λ home letter h. elim h [ ] }) (same_wait (FreshHead f c))
+serving_waits (Below f b c) n (body.Roll m) = if_either (Waits (Below f b c)) (is_next f n) (Below m b c, body.Rolled) (Below f b c, body.Busy) (record { wait = refl; sent = λ home letter h. elim h [ ] }) (same_wait (Below f b c))
+serving_waits state n (body.Roll m) = same_wait _
+serving_waits (Below f b c) n (body.Setback w) = if_either (Waits (Below f b c)) (b == n) (Below f w c, body.Told) (Below f b c, body.Told) (record { wait = refl; sent = λ home letter h. elim h [ ] }) (same_wait (Below f b c))
+serving_waits (Rolling f b c) n (body.Setback w) = if_either (Waits (Rolling f b c)) (b == n) (Rolling f w c, body.Told) (Rolling f b c, body.Told) (record { wait = refl; sent = λ home letter h. h }) (same_wait (Rolling f b c))
+serving_waits state n (body.Setback w) = same_wait _
+serving_waits state n _ = tt
+
+loads : (state : CacheState) (makes : Bool) (done : Performed) → KeepsWait state done.next → IfSome (if makes then None else Some done) (λ (d : Performed). KeepsWait state d.next)
+loads state true done h = tt
+loads state false done h = h
+
+makes_or_loads : (state : CacheState) (makes room : Bool) (made read : Performed) → KeepsWait state made.next → KeepsWait state read.next
+    → IfSome (if makes then (if room then Some made else None) else Some read) (λ (d : Performed). KeepsWait state d.next)
+makes_or_loads state true true made read h k = h
+makes_or_loads state true false made read h k = tt
+makes_or_loads state false room made read h k = k
+
+pub performing_waits : (state : CacheState) (op : Op) → IfSome (performing state op) (λ (done : Performed). KeepsWait state done.next)
+performing_waits (Head None c) op = grind (arith, makes_or_loads, same_wait)
+performing_waits (Head (Some q) c) op = loads (Head (Some q) c) (is_maker op) (record { reply = reply_of c.line op; version = c.version; next = Head (Some q) c }) (same_wait (Head (Some q) c))
+performing_waits (FreshHead f c) op = loads (FreshHead f c) (is_maker op) (record { reply = reply_of c.line op; version = c.version; next = FreshHead f c }) (same_wait (FreshHead f c))
+performing_waits (Below f b c) op = loads (Below f b c) (is_maker op) (record { reply = reply_of c.line op; version = c.version; next = Below f b c }) (same_wait (Below f b c))
+performing_waits _ op = tt
+
+-- ---- accepting
+
+pub record EndsToWait (old new : CacheState) : Type 0 where
+  pub waiting : waits old ≡ true
+  pub idle : waits new ≡ false
+
+pub accepting_waits : (state : CacheState) (answer : Body) → IfSome (accepting state answer) (EndsToWait state)
+accepting_waits Asking (body.Mdata c) = record { waiting = refl; idle = refl }
+accepting_waits Asking (body.Mgone p) = record { waiting = refl; idle = refl }
+accepting_waits Asking (body.Fdata None c) = record { waiting = refl; idle = refl }
+accepting_waits Asking (body.Fdata (Some p) c) = record { waiting = refl; idle = refl }
+accepting_waits Asking body.Busy = record { waiting = refl; idle = refl }
+accepting_waits (Joining p true) (body.Cdata c) = record { waiting = refl; idle = refl }
+accepting_waits (Joining p true) body.Busy = record { waiting = refl; idle = refl }
+accepting_waits (FreshJoining p true c) (body.Cdata sent) = record { waiting = refl; idle = refl }
+accepting_waits (FreshJoining p true c) body.Busy = record { waiting = refl; idle = refl }
+accepting_waits (Purging q c) (body.Purged x) = record { waiting = refl; idle = refl }
+accepting_waits (Purging q c) body.Busy = record { waiting = refl; idle = refl }
+accepting_waits (Claiming f c) body.Wbok = record { waiting = refl; idle = refl }
+accepting_waits (Claiming f c) body.Wbno = record { waiting = refl; idle = refl }
+accepting_waits (Claiming f c) body.Busy = record { waiting = refl; idle = refl }
+accepting_waits (Clearing c) body.Wbok = record { waiting = refl; idle = refl }
+accepting_waits (Clearing c) body.Wbno = record { waiting = refl; idle = refl }
+accepting_waits (Clearing c) body.Busy = record { waiting = refl; idle = refl }
+accepting_waits (Returning c) body.Wbok = record { waiting = refl; idle = refl }
+accepting_waits (Returning c) body.Wbno = record { waiting = refl; idle = refl }
+accepting_waits (Returning c) body.Busy = record { waiting = refl; idle = refl }
+accepting_waits (Rolling None b c) body.Rolled = record { waiting = refl; idle = refl }
+accepting_waits (Rolling (Some r) b c) body.Rolled = record { waiting = refl; idle = refl }
+accepting_waits (Rolling f b c) body.Busy = record { waiting = refl; idle = refl }
+accepting_waits (Telling r w true) body.Told = record { waiting = refl; idle = refl }
+accepting_waits Fading body.Busy = record { waiting = refl; idle = refl }
+accepting_waits _ _ = tt
+
+-- ---- the packets of a line
+
+pub keeps_packets : (home : ℕ) (old new : LineState) (packets : List Letter) → Keeps home old new → HasItsPackets home old packets → HasItsPackets home new packets
+keeps_packets home old new [] keeps has = keeps.wait ∙ has
+keeps_packets home old new (letter ∷ []) keeps has = grind arith
+keeps_packets home old new (letter ∷ another ∷ letters) keeps has = has
+
+pub idle_has_none : (home : ℕ) (line : LineState) (packets : List Letter) → waits line.state ≡ false → HasItsPackets home line packets → packets ≡ []
+idle_has_none home line [] idle has = refl
+idle_has_none home line (letter ∷ []) idle has = let waiting = has.waiting in cc
+idle_has_none home line (letter ∷ another ∷ letters) idle has = elim has [ ]
+
+pub record HasOne (home : ℕ) (line : LineState) (packets : List Letter) : Type 0 where
+  pub letter : Letter
+  pub one : packets ≡ letter ∷ []
+  pub awaited : IsAwaited home line letter
+
+pub some_has_one : (home : ℕ) (line : LineState) (packets : List Letter) → (packets ≡ [] → ⊥) → HasItsPackets home line packets → HasOne home line packets
+some_has_one home line [] some has = absurd (some refl)
+some_has_one home line (letter ∷ []) some has = record { letter = letter; one = refl; awaited = has }
+some_has_one home line (letter ∷ another ∷ letters) some has = elim has [ ]
+
+-- the number of an ask is that of the last one, once it is made
+pub asked_number : (asks : ℕ) → asks < CONTROLS → asks ≡ ((asks + 1) % 65536 + 65535) % 65536
+asked_number asks small = omega arith
