@@ -6,6 +6,7 @@
 - each run of lines of Rust in a page stands in the sources, one line after another, whatever the indentation; a line `..`
   stands for lines that are left out;
 - each crate has a README of at most 60 lines;
+- no line of a definition or a proof is longer than 160 columns;
 - the version is the same everywhere (version.py).
 
 The last line is 'N passed, M failed', of pages."""
@@ -19,6 +20,7 @@ from version import wrong_versions
 
 TOP = os.path.dirname(os.path.dirname(os.path.dirname(os.path.abspath(__file__))))
 MOST_LINES = 60
+MOST_COLUMNS = 160
 BUILT = {".git", "out", "target", "__pycache__"}
 # The pages about code, beside those of crates, and names in them that aren't of this code but of the standard library.
 ABOUT_CODE = {"docs/PROOFS.md", "docs/DECISIONS.md", "docs/EMBEDDING.md"}
@@ -82,12 +84,20 @@ def wrong_names(path, words, files):
                 break
 
 
+def wide_lines(path):
+    """Lines of a file that are too long."""
+    for number, line in enumerate(read(path).splitlines(), 1):
+        if len(line) > MOST_COLUMNS:
+            yield f"line {number} has {len(line)} columns"
+
+
 def main():
     files = list(files_of_repository())
     sources = "\n" + "\n".join(it.strip() for path in files if path.endswith(".rt") for it in read(path).splitlines()) + "\n"
     code = [read(it) for it in files if it.startswith("crates/") and it.endswith((".rt", ".antt")) or it == "crates.txt"]
     words = set(re.findall(r"\w+", " ".join([*code, *files])))
     wrong = {"version": list(wrong_versions())}
+    wrong["width"] = [f"{path}: {it}" for path in files if path.endswith(".antt") for it in wide_lines(path)]
     for path in (it for it in files if it.endswith(".md")):
         wrong[path] = [*wrong_links(path), *wrong_code(path, sources)]
         if path.startswith("crates/") or path in ABOUT_CODE:

@@ -1,5 +1,6 @@
 -- What a cache keeps beside its lines, after one has changed.
-use Rattle.std.proofs.Common.{◌≡◌, ◌≢◌, ◌<◌, ◌⊎◌, ℕ, ◌+◌, ◌-◌, ◌^◌, not, cond, Bool, true, false, if◌then◌else◌, nat_lt, List, length, get_or, set, Option, Some, None, sym, subst, ap, ◌∙◌, arith, inl, inr, refl}
+use Rattle.std.proofs.Common.{◌≡◌, ◌≢◌, ◌<◌, ◌⊎◌, ℕ, ◌+◌, ◌-◌, ◌^◌, not, cond, Bool, true, false, if◌then◌else◌, nat_lt, List, length, get_or, set, Option}
+use Rattle.std.proofs.Common.{Some, None, sym, subst, ap, ◌∙◌, arith, inl, inr, refl}
 use Rattle.std.specs.Prelude.{IfSome}
 use Rattle.std.proofs.lemmas.Bool.{cases_eq}
 use Rattle.std.proofs.lemmas.List.{get_or-set_other, get_or-set_same, length-set}
@@ -32,14 +33,17 @@ no_kind kind.CouldGiveWay = refl
 abbrev weight : LineState → ℕ
 weight line = cond {A = ℕ} (not (is_out line.state)) 1 0
 
-pub with_changed : (taken new : ℕ) (chosen next : KindSets) (lines : List LineState) (line : ℕ) (was part : LineState) → line < length lines → was ≡ get_or lines line untouched → IsIndex taken chosen lines
+pub with_changed : (taken new : ℕ) (chosen next : KindSets) (lines : List LineState) (line : ℕ) (was part : LineState) → line < length lines
+    → was ≡ get_or lines line untouched → IsIndex taken chosen lines
     → new + cond {A = ℕ} (not (is_out was.state)) 1 0 ≡ taken + cond {A = ℕ} (not (is_out part.state)) 1 0
-    → ((of : LineKind) → is_in (set_of of next) line ≡ is_of of part.state) → ((of : LineKind) (other : ℕ) → other ≢ line → is_in (set_of of next) other ≡ is_in (set_of of chosen) other)
+    → ((of : LineKind) → is_in (set_of of next) line ≡ is_of of part.state)
+    → ((of : LineKind) (other : ℕ) → other ≢ line → is_in (set_of of next) other ≡ is_in (set_of of chosen) other)
     → IsIndex new next (set lines line part)
 with_changed taken new chosen next lines line was part lt at has count here others = record {
   taken_is =
       let before : weight was ≡ weight (get_or lines line untouched) = ap weight at in
-      let sums : slots_taken (set lines line part) + weight (get_or lines line untouched) ≡ slots_taken lines + weight part = sum_by-set weight lines line part untouched lt in
+      let sums : slots_taken (set lines line part) + weight (get_or lines line untouched) ≡ slots_taken lines + weight part =
+      sum_by-set weight lines line part untouched lt in
       let counted : new + weight was ≡ taken + weight part = count in
       let old = has.taken_is in
       omega arith;
@@ -47,9 +51,14 @@ with_changed taken new chosen next lines line was part lt at has count here othe
   each = λ of other below. each_of of other (let long = length-set lines line part in omega arith) (cases_eq other line);
 }
   where
-    each_of : (of : LineKind) (other : ℕ) → other < length lines → (other ≡ line) ⊎ (other ≢ line) → is_in (set_of of next) other ≡ is_of of (get_or (set lines line part) other untouched).state
-    each_of of other below (inl same) = ap (is_in (set_of of next)) same ∙ (here of ∙ (ap (λ (l : LineState). is_of of l.state) (sym (get_or-set_same lines line part untouched lt)) ∙ ap (λ (n : ℕ). is_of of (get_or (set lines line part) n untouched).state) (sym same)))
-    each_of of other below (inr ne) = others of other ne ∙ (has.each of other below ∙ ap (λ (l : LineState). is_of of l.state) (sym (get_or-set_other lines line other part untouched ne)))
+    each_of : (of : LineKind) (other : ℕ) → other < length lines → (other ≡ line) ⊎ (other ≢ line)
+        → is_in (set_of of next) other ≡ is_of of (get_or (set lines line part) other untouched).state
+    each_of of other below (inl same) =
+        ap (is_in (set_of of next)) same
+        ∙ (here of ∙ (ap (λ (l : LineState). is_of of l.state) (sym (get_or-set_same lines line part untouched lt))
+        ∙ ap (λ (n : ℕ). is_of of (get_or (set lines line part) n untouched).state) (sym same)))
+    each_of of other below (inr ne) =
+        others of other ne ∙ (has.each of other below ∙ ap (λ (l : LineState). is_of of l.state) (sym (get_or-set_other lines line other part untouched ne)))
 
 -- ---- performing
 
@@ -73,27 +82,35 @@ loading_alike : (maker : Bool) (done : Performed) → IfSome (if maker then None
 loading_alike true done = tt
 loading_alike false done = alike_itself done.next
 
-making_alike : (maker fits : Bool) (c : Stamped) (made read : Performed) → AreAlike (Head None c) made.next → AreAlike (Head None c) read.next → IfSome (if maker then (if fits then Some made else None) else Some read) (λ (d : Performed). AreAlike (Head None c) d.next)
+making_alike : (maker fits : Bool) (c : Stamped) (made read : Performed) → AreAlike (Head None c) made.next → AreAlike (Head None c) read.next
+    → IfSome (if maker then (if fits then Some made else None) else Some read) (λ (d : Performed). AreAlike (Head None c) d.next)
 making_alike true true c made read m r = m
 making_alike true false c made read m r = tt
 making_alike false fits c made read m r = r
 
 performing_alike : (state : CacheState) (op : Op) → IfSome (performing state op) (λ (d : Performed). AreAlike state d.next)
 performing_alike (Head None c) op =
-    making_alike (is_maker op) (nat_lt c.version (2 ^ 64 - 1)) c (record { reply = reply_of c.line op; version = (after c op).version; next = Head None (after c op) }) (record { reply = reply_of c.line op; version = c.version; next = Head None c })
+    making_alike (is_maker op) (nat_lt c.version (2 ^ 64 - 1)) c
+    (record { reply = reply_of c.line op; version = (after c op).version; next = Head None (after c op) })
+    (record { reply = reply_of c.line op; version = c.version; next = Head None c })
     (record { kinds = only_heads c (after c op); out = refl }) (alike_itself (Head None c))
 performing_alike (Head (Some q) c) op = loading_alike (is_maker op) (record { reply = reply_of c.line op; version = c.version; next = Head (Some q) c })
 performing_alike (FreshHead f c) op = loading_alike (is_maker op) (record { reply = reply_of c.line op; version = c.version; next = FreshHead f c })
 performing_alike (Below f b c) op = loading_alike (is_maker op) (record { reply = reply_of c.line op; version = c.version; next = Below f b c })
 performing_alike _ op = tt
 
-performed_alike : (was part : LineState) (op : Op) (answer : Option (Reply × ℕ)) → IfSome answer (λ (a : Reply × ℕ). performing was.state op ≡ Some (record { reply = a.0; version = a.1; next = part.state })) → (answer ≡ None → part ≡ was) → AreAlike was.state part.state
-performed_alike was part op (Some a) done same = subst (λ (o : Option Performed). IfSome o (λ (d : Performed). AreAlike was.state d.next)) done (performing_alike was.state op)
+performed_alike : (was part : LineState) (op : Op) (answer : Option (Reply × ℕ))
+    → IfSome answer (λ (a : Reply × ℕ). performing was.state op ≡ Some (record { reply = a.0; version = a.1; next = part.state }))
+    → (answer ≡ None → part ≡ was) → AreAlike was.state part.state
+performed_alike was part op (Some a) done same =
+    subst (λ (o : Option Performed). IfSome o (λ (d : Performed). AreAlike was.state d.next)) done (performing_alike was.state op)
 performed_alike was part op None done same = subst (λ (l : LineState). AreAlike was.state l.state) (sym (same refl)) (alike_itself was.state)
 
 -- an operation that is performed, or isn't, leaves the index as it was
-pub with_performed : (taken : ℕ) (kinds : KindSets) (lines : List LineState) (line : ℕ) (was part : LineState) (op : Op) (answer : Option (Reply × ℕ)) → line < length lines → was ≡ get_or lines line untouched → IsIndex taken kinds lines
-    → IfSome answer (λ (a : Reply × ℕ). performing was.state op ≡ Some (record { reply = a.0; version = a.1; next = part.state })) → (answer ≡ None → part ≡ was)
+pub with_performed : (taken : ℕ) (kinds : KindSets) (lines : List LineState) (line : ℕ) (was part : LineState) (op : Op) (answer : Option (Reply × ℕ))
+    → line < length lines → was ≡ get_or lines line untouched → IsIndex taken kinds lines
+    → IfSome answer (λ (a : Reply × ℕ). performing was.state op ≡ Some (record { reply = a.0; version = a.1; next = part.state }))
+    → (answer ≡ None → part ≡ was)
     → IsIndex taken kinds (set lines line part)
 with_performed taken kinds lines line was part op answer lt at has done same =
     let alike = performed_alike was part op answer done same in

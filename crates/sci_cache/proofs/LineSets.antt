@@ -4,7 +4,8 @@ use Rattle.std.specs.Prelude.{◌==◌, ◌^◌, ◌&&◌, min}
 use Rattle.std.specs.Int.{bit_at, trailing_zeros}
 use Rattle.std.proofs.lemmas.Bool.{cases_lt}
 use Rattle.std.proofs.lemmas.Nat.{shr-shr}
-use Rattle.std.proofs.lemmas.Nat.Bits.{bit_at_above, bit_at_and, bit_at-lt, bit_at_clear_other, bit_at_clear_same, bit_at_set_other, bit_at_set_same, bit_at-trailing_zeros, bit_at-zero}
+use Rattle.std.proofs.lemmas.Nat.Bits.{bit_at_above, bit_at_and, bit_at-lt, bit_at_clear_other, bit_at_clear_same, bit_at_set_other, bit_at_set_same}
+use Rattle.std.proofs.lemmas.Nat.Bits.{bit_at-trailing_zeros, bit_at-zero}
 use Rattle.sci_cache.specs.LineSet.{is_in}
 
 is_one : (a b : ℕ) → a ≡ b → (a == 1) ≡ (b == 1)
@@ -27,10 +28,12 @@ set_other set line other lt ne = is_one _ _ (bit_at_set_other w64 set line lt ot
 pub clear_here : (set line : ℕ) → line < 64 → is_in (bit_and set (18446744073709551615 - 1 * 2 ^ line % 18446744073709551616)) line ≡ false
 clear_here set line lt = is_one _ 0 (bit_at_clear_same w64 set line lt)
 
-pub clear_other : (set line other : ℕ) → set < 2 ^ 64 → line < 64 → other ≢ line → is_in (bit_and set (18446744073709551615 - 1 * 2 ^ line % 18446744073709551616)) other ≡ is_in set other
+pub clear_other : (set line other : ℕ) → set < 2 ^ 64 → line < 64 → other ≢ line
+    → is_in (bit_and set (18446744073709551615 - 1 * 2 ^ line % 18446744073709551616)) other ≡ is_in set other
 clear_other set line other small lt ne = elim (cases_lt other 64) [
   | inl below ↦ is_one _ _ (bit_at_clear_other w64 set line lt other below ne)
-  | inr above ↦ is_one _ _ (let both = bit_at_and set (18446744073709551615 - 1 * 2 ^ line % 18446744073709551616) other in let none = bit_at_above set 64 other small above in omega arith)
+  | inr above ↦ is_one _ _ (let both = bit_at_and set (18446744073709551615 - 1 * 2 ^ line % 18446744073709551616) other in
+      let none = bit_at_above set 64 other small above in omega arith)
 ]
 
 -- ---- the lines that two sets have
@@ -62,7 +65,9 @@ none_so_far set from line small far le = above_none set line small (omega arith)
 pub first_in : (set from : ℕ) → 0 < set / 2 ^ from → set / 2 ^ from < 2 ^ 64 → is_in set (from + trailing_zeros w64 (set / 2 ^ from)) ≡ true
 first_in set from some small = sym (shifted set from _) ∙ is_one _ 1 (bit_at-trailing_zeros w64 (set / 2 ^ from) some small).1
 
-pub none_between : (set from line : ℕ) → 0 < set / 2 ^ from → set / 2 ^ from < 2 ^ 64 → from ≤ line → line < from + trailing_zeros w64 (set / 2 ^ from) → is_in set line ≡ false
+pub none_between : (set from line : ℕ) → 0 < set / 2 ^ from → set / 2 ^ from < 2 ^ 64 → from ≤ line → line < from + trailing_zeros w64 (set / 2 ^ from)
+    → is_in set line ≡ false
 none_between set from line some small le before =
     let there : from + (line - from) ≡ line = omega arith in
-    ap (is_in set) (sym there) ∙ (sym (shifted set from (line - from)) ∙ is_one _ 0 ((bit_at-trailing_zeros w64 (set / 2 ^ from) some small).2 (line - from) (omega arith)))
+    ap (is_in set) (sym there) ∙ (sym (shifted set from (line - from))
+    ∙ is_one _ 0 ((bit_at-trailing_zeros w64 (set / 2 ^ from) some small).2 (line - from) (omega arith)))

@@ -4,7 +4,8 @@
 use Rattle.std.specs.Prelude.{true, false, Option, Some, None}
 use Rattle.sci_packets.specs.declared.body.Body.{Body}
 use Rattle.sci_packets.specs.declared.body.Body.TheVariants.{Mdata, Mgone, Cdata, Purged, Rolled, Wbok, Wbno, Told, Busy, Fdata}
-use Rattle.sci_cache.specs.State.{CacheState, Out, Asking, Joining, FreshJoining, Head, FreshHead, Below, Purging, Claiming, Clearing, Returning, Rolling, Telling, Fading}
+use Rattle.sci_cache.specs.State.{CacheState, Out, Asking, Joining, FreshJoining, Head, FreshHead, Below, Purging, Claiming, Clearing, Returning, Rolling}
+use Rattle.sci_cache.specs.State.{Telling, Fading}
 
 -- the next state of a cache that takes an answer; none if the state doesn't list the answer
 abbrev pub accepting : CacheState → Body → Option CacheState

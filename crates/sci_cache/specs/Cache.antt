@@ -83,4 +83,5 @@ cache_accepting cache line control answer =
 -- the cache after an operation, its reply and the version that it read or made, or none if it isn't allowed
 abbrev pub cache_performing : CacheOf → Op → Option (CacheOf × Reply × ℕ)
 cache_performing cache op =
-    option_map (λ done. (with_line cache op.line (line_in (line_of cache op.line) done.next), done.reply, done.version)) (performing (line_of cache op.line).state op)
+    option_map (λ done. (with_line cache op.line (line_in (line_of cache op.line) done.next), done.reply, done.version))
+    (performing (line_of cache op.line).state op)

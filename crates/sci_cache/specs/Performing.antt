@@ -22,7 +22,8 @@ loading state c op = if is_maker op then None else Some (record { reply = reply_
 abbrev pub making : Stamped → Op → Option Performed
 making c op =
     if is_maker op
-    then (if nat_lt c.version (2 ^ 64 - 1) then Some (record { reply = reply_of c.line op; version = (after c op).version; next = Head None (after c op) }) else None)
+    then (if nat_lt c.version (2 ^ 64 - 1) then Some (record { reply = reply_of c.line op; version = (after c op).version; next = Head None (after c op) })
+    else None)
     else Some (record { reply = reply_of c.line op; version = c.version; next = Head None c })
 
 -- what an operation does in a state; none if the state doesn't allow it

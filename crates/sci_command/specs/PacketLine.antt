@@ -3,7 +3,8 @@ use Rattle.std.specs.Prelude.{ℕ, List, [], ◌∷◌, ◌++◌, codes, Option,
 use Rattle.std.specs.List.{flat_map}
 use Rattle.sci_words.specs.declared.stamped.Stamped.{Stamped}
 use Rattle.sci_packets.specs.declared.body.Body.{Body}
-use Rattle.sci_packets.specs.declared.body.Body.TheVariants.{Mread, Cread, Purge, Roll, Wback, Setback, Fread, Claim, Clear, Mdata, Mgone, Cdata, Purged, Rolled, Wbok, Wbno, Told, Busy, Fdata}
+use Rattle.sci_packets.specs.declared.body.Body.TheVariants.{Mread, Cread, Purge, Roll, Wback, Setback, Fread, Claim, Clear, Mdata, Mgone, Cdata, Purged}
+use Rattle.sci_packets.specs.declared.body.Body.TheVariants.{Rolled, Wbok, Wbno, Told, Busy, Fdata}
 use Rattle.sci_packets.specs.declared.packet.Packet.{Packet}
 use Rattle.sci_text.specs.Number.{number, field}
 
@@ -63,7 +64,8 @@ said_text (Fdata old_head contents) = identifier_text old_head ++ contents_text 
 -- `NAME to T from S control K line L`, what the command says, and the line feed
 unfoldable pub line_of_packet : ℕ → ℕ → ℕ → ℕ → Body → List ℕ
 line_of_packet target source control line body =
-    name_of body ++ (codes " to" ++ (field target ++ (codes " from" ++ (field source ++ (codes " control" ++ (field control ++ (codes " line" ++ (field line ++ (said_text body ++ 10 ∷ [])))))))))
+    name_of body ++ (codes " to" ++ (field target
+    ++ (codes " from" ++ (field source ++ (codes " control" ++ (field control ++ (codes " line" ++ (field line ++ (said_text body ++ 10 ∷ [])))))))))
 
 unfoldable pub packet_line : Packet → List ℕ
 packet_line p = line_of_packet p.target p.source p.control p.line p.body

@@ -61,7 +61,8 @@ pub schedule_history : (size : Size) (schedule : List Event) (line : ℕ) → Is
 schedule_history size schedule line sizes inside =
     let trace = traced size schedule line sizes inside in
     let well = (run_well (opening size) schedule (opened size sizes)).well in
-    subst (IsHistory (filter (is_on_line line) (done size schedule)) zero_stamped) (sym (last_is (run size schedule) line trace.contents well trace.shaped)) trace.history
+    subst (IsHistory (filter (is_on_line line) (done size schedule)) zero_stamped) (sym (last_is (run size schedule) line trace.contents well trace.shaped))
+    trace.history
 
 -- ---- shape
 
@@ -97,7 +98,8 @@ any_effects core e reached line inside =
     let follows = step_follows core e well (any_tidy core reached) line inside shaped.0 shaped.1 in
     let was = last_is core line shaped.0 well shaped.1 in
     let now = last_is (step core e) line follows.0 (step_well core e well).well follows.1 in
-    subst (λ (c : Stamped). ChangesBy (made_by core e) line c (last_at (step core e) line)) (sym was) (subst (ChangesBy (made_by core e) line shaped.0) (sym now) follows.2)
+    subst (λ (c : Stamped). ChangesBy (made_by core e) line c (last_at (step core e) line)) (sym was)
+    (subst (ChangesBy (made_by core e) line shaped.0) (sym now) follows.2)
 
 pub reached_effects : (core : Core) (e : Event) → IsReached core → LastChanges core (step core e) (made_by core e)
 reached_effects core e reached = any_effects core e (reachable core reached)
@@ -111,11 +113,14 @@ opening_log size n = each_mapped (λ (part : NodeOf). part.log ≡ []) (λ (m : 
 pub schedule_logged : (size : Size) (schedule : List Event) → IsSize size → RunLogged (opening size) (done size schedule) (run size schedule)
 schedule_logged size schedule sizes =
     let first = opening size in
-    let serials : (n : ℕ) → HasSerials (node_at first n) = λ n. each_mapped HasSerials (λ (m : ℕ). opening_node m size) no_node 0 size.nodes n (λ m. opening_serials m size) (opening_serials 0 (record { nodes = 1; lines = 0; slots = 0; limit = 0 })) in
+    let serials : (n : ℕ) → HasSerials (node_at first n) =
+    λ n. each_mapped HasSerials (λ (m : ℕ). opening_node m size) no_node 0 size.nodes n (λ m. opening_serials m size)
+    (opening_serials 0 (record { nodes = 1; lines = 0; slots = 0; limit = 0 })) in
     run_logged first schedule (opened size sizes) serials
 
 -- each log has its own node's entries of the schedule
-pub schedule_log : (size : Size) (schedule : List Event) (node : ℕ) → IsSize size → (node_at (run size schedule) node).log ≡ filter (is_of_node node) (done size schedule)
+pub schedule_log : (size : Size) (schedule : List Event) (node : ℕ) → IsSize size
+    → (node_at (run size schedule) node).log ≡ filter (is_of_node node) (done size schedule)
 schedule_log size schedule node sizes = grind (arith, schedule_logged, opening_log)
 
 pub log_at : (core : Core) (node : ℕ) → node < MAX_NODES → log_of (logs_of core) node ≡ (node_at core node).log
@@ -125,21 +130,28 @@ pub log_beyond : (core : Core) (node : ℕ) → MAX_NODES ≤ node → log_of (l
 log_beyond core node past = get_or_past (logs_of core) node [] (omega arith)
 
 pub any_logged : (core : Core) (reached : IsReachable core) → RunLogged (opening core.size) (done core.size reached.schedule) core
-any_logged core reached = subst (RunLogged (opening core.size) (done core.size reached.schedule)) reached.leads (schedule_logged core.size reached.schedule reached.size)
+any_logged core reached = subst (RunLogged (opening core.size) (done core.size reached.schedule)) reached.leads
+    (schedule_logged core.size reached.schedule reached.size)
 
 pub reached_logged : (core : Core) (reached : IsReached core) → RunLogged (opening core.size) (done core.size reached.schedule) core
 reached_logged core reached = any_logged core (reachable core reached)
 
 -- each log of a reached state has its own node's entries of the schedule
 pub reached_log : (core : Core) (reached : IsReached core) (node : ℕ) → (node_at core node).log ≡ filter (is_of_node node) (done core.size reached.schedule)
-reached_log core reached node = subst (λ (x : Core). (node_at x node).log ≡ filter (is_of_node node) (done core.size reached.schedule)) reached.leads (schedule_log core.size reached.schedule node (is_size core.size reached.size))
+reached_log core reached node =
+    subst (λ (x : Core). (node_at x node).log ≡ filter (is_of_node node) (done core.size reached.schedule)) reached.leads
+    (schedule_log core.size reached.schedule node (is_size core.size reached.size))
 
 -- and its entries on a line are the line's history
-pub reached_history : (core : Core) (reached : IsReached core) (line : ℕ) → line < core.size.lines → IsHistory (filter (is_on_line line) (done core.size reached.schedule)) zero_stamped (last_at core line)
-reached_history core reached line inside = subst (λ (x : Core). IsHistory (filter (is_on_line line) (done core.size reached.schedule)) zero_stamped (last_at x line)) reached.leads (schedule_history core.size reached.schedule line (is_size core.size reached.size) inside)
+pub reached_history : (core : Core) (reached : IsReached core) (line : ℕ) → line < core.size.lines
+    → IsHistory (filter (is_on_line line) (done core.size reached.schedule)) zero_stamped (last_at core line)
+reached_history core reached line inside =
+    subst (λ (x : Core). IsHistory (filter (is_on_line line) (done core.size reached.schedule)) zero_stamped (last_at x line)) reached.leads
+    (schedule_history core.size reached.schedule line (is_size core.size reached.size) inside)
 
 -- no entry is on a line that the machine doesn't have
-beyond_none : (lines line : ℕ) (entries : List Entry) → lines ≤ line → AllByRecursion (λ entry. entry.op.line < lines) entries → filter (is_on_line line) entries ≡ []
+beyond_none : (lines line : ℕ) (entries : List Entry) → lines ≤ line → AllByRecursion (λ entry. entry.op.line < lines) entries
+    → filter (is_on_line line) entries ≡ []
 beyond_none lines line entries past all = grind (arith, filter_none, all_weaker, ne_eqb)
 
 pub last_within : (core : Core) (line : ℕ) → line < core.size.lines → stamped_at (last_of core) line ≡ last_at core line
@@ -160,28 +172,37 @@ schedule_line size schedule line sizes =
     let same : core.size ≡ size = (run_well (opening size) schedule (opened size sizes)).same in
     let lines : core.size.lines ≡ size.lines = ap (λ (s : Size). s.lines) same in
     elim (cases_lt line size.lines) [
-      | inl lt ↦ subst (IsHistory (filter (is_on_line line) entries) zero_stamped) (sym (last_within core line (omega arith))) (schedule_history size schedule line sizes lt)
+      | inl lt ↦ subst (IsHistory (filter (is_on_line line) entries) zero_stamped) (sym (last_within core line (omega arith)))
+          (schedule_history size schedule line sizes lt)
       | inr past ↦
-          let known = all_weaker (IsKnown size.lines) (λ entry. entry.op.line < size.lines) (λ entry h. h.0.0) entries (schedule_logged size schedule sizes).known in
+          let known = all_weaker (IsKnown size.lines) (λ entry. entry.op.line < size.lines) (λ entry h. h.0.0) entries
+          (schedule_logged size schedule sizes).known in
           let none : filter (is_on_line line) entries ≡ [] = beyond_none size.lines line entries past known in
           subst (λ (es : List Entry). IsHistory es zero_stamped (stamped_at (last_of core) line)) (sym none) (last_beyond core line (omega arith))
     ]
 
-line_history : (core : Core) (reached : IsReachable core) (line : ℕ) → IsHistory (filter (is_on_line line) (done core.size reached.schedule)) zero_stamped (stamped_at (last_of core) line)
-line_history core reached line = subst (λ (x : Core). IsHistory (filter (is_on_line line) (done core.size reached.schedule)) zero_stamped (stamped_at (last_of x) line)) reached.leads (schedule_line core.size reached.schedule line reached.size)
+line_history : (core : Core) (reached : IsReachable core) (line : ℕ)
+    → IsHistory (filter (is_on_line line) (done core.size reached.schedule)) zero_stamped (stamped_at (last_of core) line)
+line_history core reached line =
+    subst (λ (x : Core). IsHistory (filter (is_on_line line) (done core.size reached.schedule)) zero_stamped (stamped_at (last_of x) line)) reached.leads
+    (schedule_line core.size reached.schedule line reached.size)
 
 line_logged : (core : Core) (reached : IsReachable core) (line node : ℕ) → node < MAX_NODES
     → filter (is_on_line line) (log_of (logs_of core) node) ≡ filter (is_of_node node) (filter (is_on_line line) (done core.size reached.schedule))
 line_logged core reached line node lt = grind (arith, any_logged, opening_log, log_at, filter-filter)
 
-line_serials : (core : Core) (reached : IsReachable core) (line node : ℕ) → node < MAX_NODES → AllPairs (λ x y. x.serial < y.serial) (filter (is_on_line line) (log_of (logs_of core) node))
+line_serials : (core : Core) (reached : IsReachable core) (line node : ℕ) → node < MAX_NODES
+    → AllPairs (λ x y. x.serial < y.serial) (filter (is_on_line line) (log_of (logs_of core) node))
 line_serials core reached line node lt =
-    subst (λ (es : List Entry). AllPairs (λ x y. x.serial < y.serial) (filter (is_on_line line) es)) (sym (log_at core node lt)) (((any_logged core reached).serials node).rising line)
+    subst (λ (es : List Entry). AllPairs (λ x y. x.serial < y.serial) (filter (is_on_line line) es)) (sym (log_at core node lt))
+    (((any_logged core reached).serials node).rising line)
 
-pub has_history : (core : Core) (reached : IsReachable core) (line : ℕ) → core.size.nodes ≤ MAX_NODES → HasHistory (logs_of core) line (stamped_at (last_of core) line)
+pub has_history : (core : Core) (reached : IsReachable core) (line : ℕ) → core.size.nodes ≤ MAX_NODES
+    → HasHistory (logs_of core) line (stamped_at (last_of core) line)
 has_history core reached line few =
     let entries = done core.size reached.schedule in
-    let nodes = all_weaker (λ (entry : Entry). entry.node < core.size.nodes) (λ entry. entry.node < MAX_NODES) (λ entry lt. omega arith) entries (any_logged core reached).nodes in
+    let nodes = all_weaker (λ (entry : Entry). entry.node < core.size.nodes) (λ entry. entry.node < MAX_NODES) (λ entry lt. omega arith) entries
+    (any_logged core reached).nodes in
     record {
       entries = filter (is_on_line line) entries;
       history = line_history core reached line;
@@ -202,24 +223,31 @@ pub reached_within : (core : Core) → IsReached core → AreWithin core.size.li
 reached_within core reached node =
     let entries = done core.size reached.schedule in
     let logged = reached_logged core reached in
-    let log : (node_at core node).log ≡ filter (is_of_node node) entries = logged.logs node ∙ ap (λ (es : List Entry). es ++ filter (is_of_node node) entries) (opening_log core.size node) in
+    let log : (node_at core node).log ≡ filter (is_of_node node) entries =
+    logged.logs node ∙ ap (λ (es : List Entry). es ++ filter (is_of_node node) entries) (opening_log core.size node) in
     elim (cases_lt node MAX_NODES) [
-      | inl lt ↦ subst (All (IsWithin core.size.lines)) (sym (log_at core node lt ∙ log)) (All-from_recursion (IsWithin core.size.lines) (filter (is_of_node node) entries) (all-filter (IsWithin core.size.lines) (is_of_node node) entries (all_weaker (IsKnown core.size.lines) (IsWithin core.size.lines) (λ entry h. h.0) entries logged.known)))
+      | inl lt ↦ subst (All (IsWithin core.size.lines)) (sym (log_at core node lt ∙ log))
+          (All-from_recursion (IsWithin core.size.lines) (filter (is_of_node node) entries)
+          (all-filter (IsWithin core.size.lines) (is_of_node node) entries
+          (all_weaker (IsKnown core.size.lines) (IsWithin core.size.lines) (λ entry h. h.0) entries logged.known)))
       | inr past ↦ subst (All (IsWithin core.size.lines)) (sym (log_beyond core node past)) (All-from_recursion (IsWithin core.size.lines) [] tt)
     ]
 
 -- ---- all lines together
 
 -- the entries of a schedule are a run of the memory of all lines
-pub schedule_run : (size : Size) (schedule : List Event) → IsSize size → IsRun (map pair_of (done size schedule)) (zero_memory size.lines) (words_of_lines (last_of (run size schedule)))
+pub schedule_run : (size : Size) (schedule : List Event) → IsSize size
+    → IsRun (map pair_of (done size schedule)) (zero_memory size.lines) (words_of_lines (last_of (run size schedule)))
 schedule_run size schedule sizes =
     let core = run size schedule in
     let same : core.size ≡ size = (run_well (opening size) schedule (opened size sizes)).same in
     let long : length (last_of core) ≡ size.lines = length-map-range_with_len (last_at core) 0 core.size.lines ∙ ap (λ (s : Size). s.lines) same in
-    subst (λ (lines : ℕ). IsRun (map pair_of (done size schedule)) (zero_memory lines) (words_of_lines (last_of core))) long (histories_are_run (done size schedule) (last_of core) (λ line. schedule_line size schedule line sizes))
+    subst (λ (lines : ℕ). IsRun (map pair_of (done size schedule)) (zero_memory lines) (words_of_lines (last_of core))) long
+    (histories_are_run (done size schedule) (last_of core) (λ line. schedule_line size schedule line sizes))
 
 -- and make its logs sequentially consistent
-pub schedule_order : (size : Size) (schedule : List Event) → IsSize size → size.nodes ≤ MAX_NODES → IsSequentialOrder (logs_of (run size schedule)) (last_of (run size schedule)) (done size schedule)
+pub schedule_order : (size : Size) (schedule : List Event) → IsSize size → size.nodes ≤ MAX_NODES
+    → IsSequentialOrder (logs_of (run size schedule)) (last_of (run size schedule)) (done size schedule)
 schedule_order size schedule sizes few =
     let core = run size schedule in
     let steps = run_well (opening size) schedule (opened size sizes) in
@@ -233,7 +261,8 @@ schedule_order size schedule sizes few =
     }
 
 pub reached_order : (core : Core) (reached : IsReached core) → IsSequentialOrder (logs_of core) (last_of core) (done core.size reached.schedule)
-reached_order core reached = subst (λ (x : Core). IsSequentialOrder (logs_of x) (last_of x) (done core.size reached.schedule)) reached.leads (schedule_order core.size reached.schedule (is_size core.size reached.size) reached.size.extent.few_nodes)
+reached_order core reached = subst (λ (x : Core). IsSequentialOrder (logs_of x) (last_of x) (done core.size reached.schedule)) reached.leads
+    (schedule_order core.size reached.schedule (is_size core.size reached.size) reached.size.extent.few_nodes)
 
 pub reached_consistent : (core : Core) → IsReached core → IsSequentiallyConsistent (logs_of core) (last_of core)
 reached_consistent core reached = (done core.size reached.schedule, reached_order core reached)
@@ -255,6 +284,8 @@ reached_coherent core reached = record {
 }
 
 -- if an event was applied, or refused and nothing changed
-pub applied_effects : {T E : Type 0} (result : Result T E) (old new : Core) (e : Event) → IsReached old → IfOk result (λ _. stepping old e ≡ Some new) → IfOk result (λ _. LastChanges old new (made_by old e))
+pub applied_effects : {T E : Type 0} (result : Result T E) (old new : Core) (e : Event) → IsReached old → IfOk result (λ _. stepping old e ≡ Some new)
+    → IfOk result (λ _. LastChanges old new (made_by old e))
 applied_effects (Err fault) old new e reached done_ = tt
-applied_effects (Ok x) old new e reached done_ = subst (λ (o : Option Core). LastChanges old (unwrap_or o old) (made_by old e)) done_ (reached_effects old e reached)
+applied_effects (Ok x) old new e reached done_ =
+    subst (λ (o : Option Core). LastChanges old (unwrap_or o old) (made_by old e)) done_ (reached_effects old e reached)

@@ -1,6 +1,7 @@
 -- First come, first served: who waits before the authority of a line, whom the line's home lets in, and who becomes the
 -- authority.
-use Rattle.std.specs.Prelude.{◌≡◌, ℕ, Bool, true, false, not, ◌&&◌, ◌==◌, if◌then◌else◌, List, [], ◌∷◌, ◌++◌, filter, reverse, slice_get, Option, Some, None, is_some}
+use Rattle.std.specs.Prelude.{◌≡◌, ℕ, Bool, true, false, not, ◌&&◌, ◌==◌, if◌then◌else◌, List, [], ◌∷◌, ◌++◌, filter, reverse, slice_get, Option, Some, None}
+use Rattle.std.specs.Prelude.{is_some}
 use Rattle.std.specs.List.{range_with_len}
 use Rattle.sci_words.specs.declared.event.Event.{Event}
 use Rattle.sci_words.specs.declared.event.Event.TheVariants as event
@@ -18,7 +19,8 @@ use Rattle.sci_core.specs.SharingList.{IsSharingList}
 -- from the one directly before it to the front. Nobody waits if the line has no list.
 pub data AreWaiting (core : Core) (line : ℕ) (waiting : List ℕ) : Type 0 where
   Nobody : IsSharingList core line [] → waiting ≡ [] → AreWaiting core line waiting
-  Before : (authority : ℕ) (after : List ℕ) → IsSharingList core line (reverse waiting ++ authority ∷ after) → IsAuthority core line authority → AreWaiting core line waiting
+  Before : (authority : ℕ) (after : List ℕ) → IsSharingList core line (reverse waiting ++ authority ∷ after) → IsAuthority core line authority
+      → AreWaiting core line waiting
 
 -- ---- who comes
 
@@ -35,7 +37,8 @@ entrant_by line (Some request) = if (request.line == line) && enters request.bod
 
 -- the node that the line's home serves so by an event: none if the event isn't an enabled Serve of such a request
 abbrev pub entrants : Core → Event → ℕ → List ℕ
-entrants core (event.Serve from n) line = elim (stepping core (event.Serve from n)) as (λ _. List ℕ) [ None ↦ [] | Some new ↦ entrant_by line (slice_get (lane_of core Requests from n) 0) ]
+entrants core (event.Serve from n) line =
+    elim (stepping core (event.Serve from n)) as (λ _. List ℕ) [ None ↦ [] | Some new ↦ entrant_by line (slice_get (lane_of core Requests from n) 0) ]
 entrants core _ line = []
 
 -- the nodes that the home serves so, in its order

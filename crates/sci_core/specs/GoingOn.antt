@@ -19,4 +19,5 @@ goes_on _ = false
 pub record CanGoOn (node : NodeOf) : Type 0 where
   pub some_slot : 1 ≤ node.cache.slots
   pub few : slots_taken node.cache.lines ≤ node.cache.slots
-  pub entries : (line : ℕ) → is_out (line_of node.cache line).state ≡ false → waits (line_of node.cache line).state ≡ false → goes_on (line_of node.cache line).state ≡ true
+  pub entries : (line : ℕ) → is_out (line_of node.cache line).state ≡ false → waits (line_of node.cache line).state ≡ false
+      → goes_on (line_of node.cache line).state ≡ true

@@ -89,7 +89,8 @@ parting _ = kind.Wback
 pub data IsNext (core : Core) (line n : ℕ) (ask : AskKind) : Type 0 where
   Tells : is_telling (state_at core line n) ≡ true → ask ≡ kind.Setback → IsNext core line n ask
   Joins : (a : ℕ) → is_head (state_at core line a) ≡ true → joins_before (state_at core line n) a ≡ true → ask ≡ kind.Cread → IsNext core line n ask
-  Parts : is_head (state_at core line n) ≡ true → ((m : ℕ) → m < core.size.nodes → joins_before (state_at core line m) n ≡ false) → ask ≡ parting (state_at core line n) → IsNext core line n ask
+  Parts : is_head (state_at core line n) ≡ true → ((m : ℕ) → m < core.size.nodes → joins_before (state_at core line m) n ≡ false)
+      → ask ≡ parting (state_at core line n) → IsNext core line n ask
 
 -- ---- how many rounds are left
 

@@ -72,7 +72,8 @@ pub record StandInOrder (core : Core) (line : ℕ) (nodes : List ℕ) : Type 0 w
 -- way, of every node that joins with contents, and of a Wback under way.
 pub record HaveContents (core : Core) (line : ℕ) (nodes : List ℕ) (c : Stamped) : Type 0 where
   pub authority : (n : ℕ) → IfSome (authority_contents (sharer_of core line n)) (λ d. d ≡ c)
-  pub following : (before after : List ℕ) (a : ℕ) → IsSplit core line nodes before a after → AllByRecursion (λ n. contents_of (state_at core line n) ≡ Some c) after
+  pub following : (before after : List ℕ) (a : ℕ) → IsSplit core line nodes before a after
+      → AllByRecursion (λ n. contents_of (state_at core line n) ≡ Some c) after
   pub home : IfSome (current_of (home_at core line)) (λ d. d ≡ c)
   pub told : (n : ℕ) (p : Option ℕ) (d : Stamped) → (sharer_of core line n).answer ≡ Some (Fdata p d) → d ≡ c
   pub joining : (n p : ℕ) (sent : Bool) (d : Stamped) → state_at core line n ≡ FreshJoining p sent d → d ≡ c
@@ -85,8 +86,10 @@ is_home_fresh _ = false
 -- if the home is fresh, and below any fresh member that stands before the authority, every member down to the
 -- authority is fresh
 pub record IsFreshDown (core : Core) (line : ℕ) (nodes : List ℕ) : Type 0 where
-  pub home : (before after : List ℕ) (a : ℕ) → IsSplit core line nodes before a after → is_home_fresh (home_at core line) ≡ true → AreFresh core line (before ++ a ∷ [])
-  pub below : (before middle after : List ℕ) (m a : ℕ) → IsSplit core line nodes (before ++ m ∷ middle) a after → is_fresh_at core line m ≡ true → AreFresh core line (middle ++ a ∷ [])
+  pub home : (before after : List ℕ) (a : ℕ) → IsSplit core line nodes before a after → is_home_fresh (home_at core line) ≡ true
+      → AreFresh core line (before ++ a ∷ [])
+  pub below : (before middle after : List ℕ) (m a : ℕ) → IsSplit core line nodes (before ++ m ∷ middle) a after → is_fresh_at core line m ≡ true
+      → AreFresh core line (middle ++ a ∷ [])
 
 -- if the home's contents are gone, the head of the list isn't fresh
 abbrev pub IsGoneStale : Core → ℕ → HomeState → Type 0

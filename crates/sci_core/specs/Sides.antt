@@ -17,14 +17,16 @@ taken_to core n kind from rest next = with_lane (with_node core n next) (lane_pl
 
 -- An event that takes a packet is what the node does with the front of the lane: enabled exactly if it takes it.
 pub record TakesFront (core : Core) (n : ℕ) (kind : LaneKind) (taking : NodeOf → Letter → Option NodeOf) (from : ℕ) (e : Event) : Type 0 where
-  pub front : (letter : Letter) (rest : List Letter) → lane_of core kind from n ≡ letter ∷ rest → stepping core e ≡ option_map (taken_to core n kind from rest) (taking (node_at core n) letter)
+  pub front : (letter : Letter) (rest : List Letter) → lane_of core kind from n ≡ letter ∷ rest
+      → stepping core e ≡ option_map (taken_to core n kind from rest) (taking (node_at core n) letter)
   pub empty : lane_of core kind from n ≡ [] → stepping core e ≡ None
 
 -- the seven events of node n
 pub record StepsBySides (core : Core) (n : ℕ) : Type 0 where
   pub issue : (op : Op) → stepping core (event.Issue n op) ≡ option_map (with_node core n) (node_issuing (node_at core n) op)
   pub perform : (line : ℕ) → stepping core (event.Perform n line) ≡ option_map (λ done. with_node core n done.0) (node_performing (node_at core n) line)
-  pub ask : (line : ℕ) (kind : AskKind) → stepping core (event.Ask n line kind) ≡ option_map (λ sent. sent_by core n Requests sent.0 sent.1) (node_asking (node_at core n) line kind)
+  pub ask : (line : ℕ) (kind : AskKind)
+      → stepping core (event.Ask n line kind) ≡ option_map (λ sent. sent_by core n Requests sent.0 sent.1) (node_asking (node_at core n) line kind)
   pub reply : stepping core (event.Reply n) ≡ option_map (λ sent. sent_by core n Answers sent.0 sent.1) (node_replying (node_at core n))
   pub serve : (from : ℕ) → from < core.size.nodes → TakesFront core n Requests node_serving from (event.Serve from n)
   pub refuse : (from : ℕ) → from < core.size.nodes → TakesFront core n Requests node_refusing from (event.Refuse from n)

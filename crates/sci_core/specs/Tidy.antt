@@ -39,7 +39,8 @@ HasItsPackets home line (letter ∷ another ∷ letters) = ⊥
 
 -- for each node and line: exactly one packet of its asks is under way if it waits, and none if it doesn't
 abbrev pub IsTidy : Core → Type 0
-IsTidy core = (n line : ℕ) → n < core.size.nodes → line < core.size.lines → HasItsPackets (line % core.size.nodes) (line_of (node_at core n).cache line) (packets_of core n line)
+IsTidy core = (n line : ℕ) → n < core.size.nodes → line < core.size.lines
+    → HasItsPackets (line % core.size.nodes) (line_of (node_at core n).cache line) (packets_of core n line)
 
 -- an answer that is under way is one that the state accepts
 abbrev pub IsAccepted : CacheState → Option Body → Type 0

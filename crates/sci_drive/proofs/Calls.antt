@@ -1,5 +1,6 @@
 -- How the calls of a gate come one after another.
-use Rattle.std.proofs.Common.{◌≡◌, ◌≤◌, ◌<◌, ◌+◌, ℕ, arith, true, false, Bool, List, [], ◌∷◌, ◌++◌, Some, None, cond, if◌then◌else◌, append-nil, append_assoc, refl, sym, ap, subst, ◌∙◌, inl, inr}
+use Rattle.std.proofs.Common.{◌≡◌, ◌≤◌, ◌<◌, ◌+◌, ℕ, arith, true, false, Bool, List, [], ◌∷◌, ◌++◌, Some, None, cond, if◌then◌else◌, append-nil, append_assoc}
+use Rattle.std.proofs.Common.{refl, sym, ap, subst, ◌∙◌, inl, inr}
 use Rattle.std.specs.Prelude.{◌⊎◌}
 use Rattle.std.specs.List.{Contains}
 use Rattle.std.proofs.lemmas.Bool.{cases_lt}
@@ -9,7 +10,8 @@ use Rattle.sci_history.specs.declared.entry.Entry.{Entry}
 use Rattle.sci_core.specs.Node.{NodeOf}
 use Rattle.sci_words.specs.declared.operation.Op.{Op}
 use Rattle.sci_drive.specs.declared.driver.Issuing.{Issuing}
-use Rattle.sci_drive.specs.Calls.{AllDone, Answered, AreAllowed, AreCalls, AreCallsOf, Call, Done, EndWithDone, IsHeard, MayIssue, Rest, entry_told, is_done, times_before, times_done, told}
+use Rattle.sci_drive.specs.Calls.{AllDone, Answered, AreAllowed, AreCalls, AreCallsOf, Call, Done, EndWithDone, IsHeard, MayIssue, Rest, entry_told, is_done}
+use Rattle.sci_drive.specs.Calls.{times_before, times_done, told}
 use Rattle.sci_drive.specs.Driving.{DriverOf, IsDriven, opening_driver}
 
 -- ---- where a call stands in two lists
@@ -69,7 +71,8 @@ still_told a b calls once was =
 
 module _ (a b c : DriverOf) (x y z : NodeOf) (first second : List Call) (f : AreCalls a b x y first) (s : AreCalls b c y z second) where
   told_on : z.log ≡ x.log ++ told (first ++ second)
-  told_on = s.told_all ∙ (ap (λ (l : List Entry). l ++ told second) f.told_all ∙ (append_assoc x.log (told first) (told second) ∙ ap (λ (l : List Entry). x.log ++ l) (sym (told_append first second))))
+  told_on = s.told_all ∙ (ap (λ (l : List Entry). l ++ told second) f.told_all
+      ∙ (append_assoc x.log (told first) (told second) ∙ ap (λ (l : List Entry). x.log ++ l) (sym (told_append first second))))
 
   submitted_on : (index : ℕ) → a.next ≤ index → index < c.next → Contains (first ++ second) (MayIssue index true)
   submitted_on index low high = elim (cases_lt index b.next) [
@@ -87,10 +90,11 @@ module _ (a b c : DriverOf) (x y z : NodeOf) (first second : List Call) (f : Are
   allowed_on : AreAllowed a.next (first ++ second)
   allowed_on front back entry e = elim (split first second front back (Answered entry) e) [
     | inl here ↦ f.allowed front here.0 entry here.1
-    | inr there ↦ subst (λ (l : List Call). (entry.serial < a.next) ⊎ Contains l (MayIssue entry.serial true)) (sym there.1) (elim (s.allowed there.0 back entry there.2) [
-      | inl low ↦ earlier entry.serial there.0 low
-      | inr among ↦ inr (Contains-append_right first there.0 (MayIssue entry.serial true) among)
-    ])
+    | inr there ↦ subst (λ (l : List Call). (entry.serial < a.next) ⊎ Contains l (MayIssue entry.serial true)) (sym there.1)
+        (elim (s.allowed there.0 back entry there.2) [
+          | inl low ↦ earlier entry.serial there.0 low
+          | inr among ↦ inr (Contains-append_right first there.0 (MayIssue entry.serial true) among)
+        ])
   ]
 
   once_on : times_done (first ++ second) + times_before a ≡ times_before c
@@ -138,7 +142,8 @@ no_calls a b x y next done log = record {
 }
 
 -- a question or a rest
-pub one_call : (a b : DriverOf) (x y : NodeOf) (call : Call) → entry_told call ≡ None → is_done call ≡ false → b.next ≡ a.next → b.was_done ≡ a.was_done → y.log ≡ x.log → AreCalls a b x y (call ∷ [])
+pub one_call : (a b : DriverOf) (x y : NodeOf) (call : Call) → entry_told call ≡ None → is_done call ≡ false → b.next ≡ a.next → b.was_done ≡ a.was_done
+    → y.log ≡ x.log → AreCalls a b x y (call ∷ [])
 one_call a b x y call silent other next done log = record {
   told_all = log ∙ (sym (append-nil x.log) ∙ ap (λ (l : List Entry). x.log ++ l) (sym (told_none call silent)));
   submitted = λ index low high. absurd (omega arith);
@@ -169,7 +174,8 @@ one_call a b x y call silent other next done log = record {
 pub submit_call : (a b : DriverOf) (x y : NodeOf) → b.next ≡ a.next + 1 → b.was_done ≡ a.was_done → y.log ≡ x.log → AreCalls a b x y (MayIssue a.next true ∷ [])
 submit_call a b x y next done log = record {
   told_all = log ∙ sym (append-nil x.log);
-  submitted = λ index low high. (let here : index ≡ a.next = omega arith in subst (λ (k : ℕ). Contains (MayIssue a.next true ∷ []) (MayIssue k true)) (sym here) (0, omega arith, refl));
+  submitted = λ index low high. (let here : index ≡ a.next = omega arith in
+      subst (λ (k : ℕ). Contains (MayIssue a.next true ∷ []) (MayIssue k true)) (sym here) (0, omega arith, refl));
   allowed = λ front back entry e. absurd (not_asked entry ((alone (MayIssue a.next true) (Answered entry) front back e).1));
   once = omega (arith, same_before a b done);
   last = λ front back e. ap told ((alone (MayIssue a.next true) Done front back e).2);
@@ -180,11 +186,13 @@ submit_call a b x y next done log = record {
     not_asked entry e = cc
 
 -- an operation is performed
-pub answer_call : (a b : DriverOf) (x y : NodeOf) (entry : Entry) → b.next ≡ a.next → b.was_done ≡ a.was_done → (a.was_done ≡ true → ⊥) → entry.serial < a.next → y.log ≡ x.log ++ entry ∷ [] → AreCalls a b x y (Answered entry ∷ [])
+pub answer_call : (a b : DriverOf) (x y : NodeOf) (entry : Entry) → b.next ≡ a.next → b.was_done ≡ a.was_done → (a.was_done ≡ true → ⊥) → entry.serial < a.next
+    → y.log ≡ x.log ++ entry ∷ [] → AreCalls a b x y (Answered entry ∷ [])
 answer_call a b x y entry next done undone low log = record {
   told_all = log;
   submitted = λ index le lt. absurd (omega arith);
-  allowed = λ front back other e. (let same : entry ≡ other = same_entry other ((alone (Answered entry) (Answered other) front back e).1) in inl (subst (λ (o : Entry). o.serial < a.next) same low));
+  allowed = λ front back other e. (let same : entry ≡ other = same_entry other ((alone (Answered entry) (Answered other) front back e).1) in
+      inl (subst (λ (o : Entry). o.serial < a.next) same low));
   once = omega (arith, same_before a b done);
   last = λ front back e. ap told ((alone (Answered entry) Done front back e).2);
   quiet = λ was. absurd (undone was);
@@ -214,7 +222,8 @@ done_call a b x y next not_yet now log = record {
 
 -- ---- what a gate has heard
 
-module _ {G : Type 0} (hears : G → List Call → G → Type 0) (hears_nothing : (g : G) → hears g [] g) (hears_on : (g h k : G) (calls more : List Call) → hears g calls h → hears h more k → hears g (calls ++ more) k) where
+module _ {G : Type 0} (hears : G → List Call → G → Type 0) (hears_nothing : (g : G) → hears g [] g) (hears_on : (g h k : G) (calls more : List Call)
+    → hears g calls h → hears h more k → hears g (calls ++ more) k) where
   pub heard_on : (g h k : G) (a b c : DriverOf) (x y z : NodeOf) → IsHeard hears g h a b x y → IsHeard hears h k b c y z → IsHeard hears g k a c x z
   heard_on g h k a b c x y z first second = record {
     calls = first.calls ++ second.calls;
@@ -227,7 +236,8 @@ module _ {G : Type 0} (hears : G → List Call → G → Type 0) (hears_nothing 
 
 -- ---- a whole run
 
-pub calls_of : (script : List Op) (issuing : Issuing) (new : DriverOf) (x y : NodeOf) (calls : List Call) → x.log ≡ [] → IsDriven new y → AreCalls (opening_driver script issuing) new x y calls → AreCallsOf y calls
+pub calls_of : (script : List Op) (issuing : Issuing) (new : DriverOf) (x y : NodeOf) (calls : List Call) → x.log ≡ [] → IsDriven new y
+    → AreCalls (opening_driver script issuing) new x y calls → AreCallsOf y calls
 calls_of script issuing new x y calls empty driven are = record {
   told_all = are.told_all ∙ ap (λ (l : List Entry). l ++ told calls) empty;
   submitted = λ index lt. are.submitted index (omega arith) (subst (λ (k : ℕ). index < k) driven.issued lt);
@@ -240,7 +250,8 @@ calls_of script issuing new x y calls empty driven are = record {
     few true k e = omega arith
     few false k e = omega arith
 
-pub told_once : (script : List Op) (issuing : Issuing) (new : DriverOf) (x y : NodeOf) (calls : List Call) → new.was_done ≡ true → AreCalls (opening_driver script issuing) new x y calls → times_done calls ≡ 1
+pub told_once : (script : List Op) (issuing : Issuing) (new : DriverOf) (x y : NodeOf) (calls : List Call) → new.was_done ≡ true
+    → AreCalls (opening_driver script issuing) new x y calls → times_done calls ≡ 1
 told_once script issuing new x y calls done are =
     let one : times_before new ≡ 1 = ap (λ (b : Bool). if b then 1 else 0) done in
     let sum : times_done calls + 0 ≡ times_before new = are.once in

@@ -1,5 +1,6 @@
 -- What the calls of a worker make of a driver and its node.
-use Rattle.std.proofs.Common.{◌≡◌, ◌≢◌, ◌≤◌, ◌<◌, ◌+◌, ◌-◌, ℕ, arith, true, false, Bool, List, [], ◌∷◌, ◌++◌, length, All, Option, Some, None, cond, ◌==◌, refl, sym, ap, subst, ◌∙◌, inl, inr}
+use Rattle.std.proofs.Common.{◌≡◌, ◌≢◌, ◌≤◌, ◌<◌, ◌+◌, ◌-◌, ℕ, arith, true, false, Bool, List, [], ◌∷◌, ◌++◌, length, All, Option, Some, None, cond, ◌==◌, refl}
+use Rattle.std.proofs.Common.{sym, ap, subst, ◌∙◌, inl, inr}
 use Rattle.std.specs.Prelude.{slice_get, slice_index_or}
 use Rattle.std.specs.List.{Contains, remove}
 use Rattle.std.proofs.lemmas.Bool.{cases_eq, cases_lt, eq-eqb, ne_eqb}
@@ -54,7 +55,8 @@ opens script issuing node none = record {
 
 -- ---- an operation is submitted
 
-module _ (driver : DriverOf) (old new : NodeOf) (op : Op) (d : IsDriven driver old) (i : IsIssued old new op) (at : slice_get driver.script driver.next ≡ Some op) where
+module _ (driver : DriverOf) (old new : NodeOf) (op : Op) (d : IsDriven driver old) (i : IsIssued old new op)
+    (at : slice_get driver.script driver.next ≡ Some op) where
   abbrev after : DriverOf
   after = record driver { next = driver.next + 1; pending = driver.pending ++ op.line ∷ [] }
 
@@ -67,7 +69,8 @@ module _ (driver : DriverOf) (old new : NodeOf) (op : Op) (d : IsDriven driver o
   answered_or_pending : (serial : ℕ) → IsAnsweredOrPending old serial → IsAnsweredOrPending new serial
   answered_or_pending serial (inl one) = inl (times_stay serial ∙ one)
   answered_or_pending serial (inr waits) =
-      let other : waits.0.line ≢ op.line = λ same. never_both (pending_on old op.line) (record { serial = serial; op = waits.0 }) i.free (ap (pending_on old) (sym same) ∙ waits.1) in
+      let other : waits.0.line ≢ op.line =
+      λ same. never_both (pending_on old op.line) (record { serial = serial; op = waits.0 }) i.free (ap (pending_on old) (sym same) ∙ waits.1) in
       inr (waits.0, i.others waits.0.line other ∙ waits.1)
 
   submitted_now : (serial : ℕ) → serial < driver.next + 1 → IsAnsweredOrPending new serial
@@ -81,7 +84,8 @@ module _ (driver : DriverOf) (old new : NodeOf) (op : Op) (d : IsDriven driver o
   awaited_now : (line : ℕ) (p : Pending) → pending_on new line ≡ Some p → IsAwaited after new line p
   awaited_now line p is = elim (cases_eq line op.line) [
     | inl here ↦
-        let same : record { serial = driver.next; op = op } ≡ p = same_some (pending_on new line) (record { serial = driver.next; op = op }) p (ap (pending_on new) here ∙ pending_here) is in
+        let same : record { serial = driver.next; op = op } ≡ p =
+        same_some (pending_on new line) (record { serial = driver.next; op = op }) p (ap (pending_on new) here ∙ pending_here) is in
         subst (λ (q : Pending). IsAwaited after new line q) same (record {
           on = sym here;
           named = at;
@@ -117,7 +121,8 @@ module _ (driver : DriverOf) (old new : NodeOf) (op : Op) (d : IsDriven driver o
 -- ---- an operation is performed
 
 -- what stood elsewhere in a list is still there when one element is taken out
-still_there : (items : List ℕ) (place line d : ℕ) → place < length items → slice_index_or items place d ≢ line → Contains items line → Contains (remove items place) line
+still_there : (items : List ℕ) (place line d : ℕ) → place < length items → slice_index_or items place d ≢ line → Contains items line
+    → Contains (remove items place) line
 still_there items place line d within other there =
     let short = length-remove items place within in
     let lt = there.1 in
@@ -126,12 +131,17 @@ still_there items place line d within other there =
       | inr high ↦ elim (cases_eq there.0 place) [
         | inl same ↦ absurd (other (get_or_default items place d line within ∙ (ap (λ (k : ℕ). slice_index_or items k line) (sym same) ∙ there.2)))
         | inr apart ↦
-            let above : place < there.0 = omega (arith, apart) in
-            (there.0 - 1, omega arith, get_or-remove_above items place line (there.0 - 1) (omega arith) within ∙ (ap (λ (k : ℕ). slice_index_or items k line) (omega arith) ∙ there.2))
+            let above : place < there.0 = omega (arith, apart) in (
+              there.0 - 1,
+              omega arith,
+              get_or-remove_above items place line (there.0 - 1) (omega arith) within
+                  ∙ (ap (λ (k : ℕ). slice_index_or items k line) (omega arith) ∙ there.2),
+            )
       ]
     ]
 
-module _ (driver : DriverOf) (old new : NodeOf) (place line : ℕ) (entry : Entry) (d : IsDriven driver old) (i : IsLogged old new line entry) (within : place < length driver.pending) (here : slice_index_or driver.pending place line ≡ line) where
+module _ (driver : DriverOf) (old new : NodeOf) (place line : ℕ) (entry : Entry) (d : IsDriven driver old) (i : IsLogged old new line entry)
+    (within : place < length driver.pending) (here : slice_index_or driver.pending place line ≡ line) where
   was : IsAwaited driver old line (record { serial = entry.serial; op = entry.op })
   was = d.pending line (record { serial = entry.serial; op = entry.op }) i.pending
 
@@ -154,7 +164,10 @@ module _ (driver : DriverOf) (old new : NodeOf) (place line : ℕ) (entry : Entr
   answered_or_pending' : (serial : ℕ) → entry.serial ≢ serial → IsAnsweredOrPending old serial → IsAnsweredOrPending new serial
   answered_or_pending' serial other (inl one) = inl (other_times serial other ∙ one)
   answered_or_pending' serial other (inr waits) =
-      let apart : waits.0.line ≢ line = λ same. other (ap (λ (p : Pending). p.serial) (same_some (pending_on old line) (record { serial = entry.serial; op = entry.op }) (record { serial = serial; op = waits.0 }) i.pending (ap (pending_on old) (sym same) ∙ waits.1))) in
+      let apart : waits.0.line ≢ line =
+      λ same. other (ap (λ (p : Pending). p.serial)
+      (same_some (pending_on old line) (record { serial = entry.serial; op = entry.op }) (record { serial = serial; op = waits.0 }) i.pending
+      (ap (pending_on old) (sym same) ∙ waits.1))) in
       inr (waits.0, i.others waits.0.line apart ∙ waits.1)
 
   submitted_then : (serial : ℕ) → serial < driver.next → IsAnsweredOrPending new serial
@@ -234,7 +247,8 @@ pub log_of : (driver : DriverOf) (node : NodeOf) → IsDriven driver node → Is
 log_of driver node d = record { named = d.named; once = at_most_once driver node d }
 
 -- when everything was submitted and nothing is pending, each operation has its entry
-pub whole_of : (driver : DriverOf) (node : NodeOf) → driver.next ≡ length driver.script → driver.pending ≡ [] → IsDriven driver node → IsWholeLogOf driver.script node.log
+pub whole_of : (driver : DriverOf) (node : NodeOf) → driver.next ≡ length driver.script → driver.pending ≡ [] → IsDriven driver node
+    → IsWholeLogOf driver.script node.log
 whole_of driver node all none d = record {
   named = d.named;
   each = λ serial lt. elim (d.submitted serial (omega (arith, all))) [
@@ -249,7 +263,8 @@ whole_of driver node all none d = record {
 -- ---- how the log grows
 
 -- the log is longer than it was, or the same, and one entry comes: it is longer
-pub grows : (first old new : List Entry) (e : Entry) (answered : Bool) → (answered ≡ true → length first < length old) → (answered ≡ false → old ≡ first) → new ≡ old ++ e ∷ [] → length first < length new
+pub grows : (first old new : List Entry) (e : Entry) (answered : Bool) → (answered ≡ true → length first < length old) → (answered ≡ false → old ≡ first)
+    → new ≡ old ++ e ∷ [] → length first < length new
 grows first old new e true longer same is = let long = length_push old e in let more = longer refl in omega (arith, ap length is)
 grows first old new e false longer same is = let long = length_push old e in let equal = ap length (same refl) in omega (arith, ap length is)
 

@@ -1,5 +1,6 @@
 -- What the calls of a worker make of a driver that issues in order, and its node.
-use Rattle.std.proofs.Common.{true, ◌≡◌, ◌≤◌, ◌<◌, ◌+◌, ℕ, arith, List, [], ◌∷◌, ◌++◌, length, take, All, Option, Some, None, refl, sym, ap, subst, ◌∙◌, inl, inr}
+use Rattle.std.proofs.Common.{true, ◌≡◌, ◌≤◌, ◌<◌, ◌+◌, ℕ, arith, List, [], ◌∷◌, ◌++◌, length, take, All, Option, Some, None, refl, sym, ap, subst, ◌∙◌, inl}
+use Rattle.std.proofs.Common.{inr}
 use Rattle.std.specs.Prelude.{slice_get, slice_index_or}
 use Rattle.std.specs.List.{Contains, remove}
 use Rattle.std.proofs.lemmas.Bool.{cases_eq}
@@ -35,7 +36,8 @@ opens_in_order script node none = record {
 
 -- ---- an operation is submitted
 
-module _ (driver : DriverOf) (old new : NodeOf) (op : Op) (d : IsDriven driver old) (i : IsIssued old new op) (none : driver.pending ≡ []) (o : IsInOrder driver old) where
+module _ (driver : DriverOf) (old new : NodeOf) (op : Op) (d : IsDriven driver old) (i : IsIssued old new op) (none : driver.pending ≡ [])
+    (o : IsInOrder driver old) where
   -- nothing was pending
   was_free : (line : ℕ) (p : Pending) → pending_on old line ≡ Some p → ⊥
   was_free line p is =
@@ -46,7 +48,8 @@ module _ (driver : DriverOf) (old new : NodeOf) (op : Op) (d : IsDriven driver o
   behind_now : (line : ℕ) (p : Pending) → pending_on new line ≡ Some p → All (λ e. e.serial < p.serial) old.log
   behind_now line p is = elim (cases_eq line op.line) [
     | inl here ↦
-        let same : record { serial = old.issued; op = op } ≡ p = same_some (pending_on new line) (record { serial = old.issued; op = op }) p (ap (pending_on new) here ∙ i.pending) is in
+        let same : record { serial = old.issued; op = op } ≡ p =
+        same_some (pending_on new line) (record { serial = old.issued; op = op }) p (ap (pending_on new) here ∙ i.pending) is in
         let serial : driver.next ≡ p.serial = sym d.issued ∙ ap (λ (q : Pending). q.serial) same in
         subst (λ (n : ℕ). All (λ e. e.serial < n) old.log) serial o.before
     | inr other ↦ absurd (was_free line p (sym (i.others line other) ∙ is))
@@ -55,7 +58,8 @@ module _ (driver : DriverOf) (old new : NodeOf) (op : Op) (d : IsDriven driver o
   next_now : (line : ℕ) (p : Pending) → pending_on new line ≡ Some p → p.serial ≡ length old.log
   next_now line p is = elim (cases_eq line op.line) [
     | inl here ↦
-        let same : record { serial = old.issued; op = op } ≡ p = same_some (pending_on new line) (record { serial = old.issued; op = op }) p (ap (pending_on new) here ∙ i.pending) is in
+        let same : record { serial = old.issued; op = op } ≡ p =
+        same_some (pending_on new line) (record { serial = old.issued; op = op }) p (ap (pending_on new) here ∙ i.pending) is in
         let serial : driver.next ≡ p.serial = sym d.issued ∙ ap (λ (q : Pending). q.serial) same in
         let all : driver.next ≡ length old.log + length driver.pending = d.counted in
         let free : length driver.pending ≡ 0 = ap (λ (l : List ℕ). length l) none in
@@ -77,22 +81,27 @@ module _ (driver : DriverOf) (old new : NodeOf) (op : Op) (d : IsDriven driver o
 -- ---- an operation is performed
 
 -- the next operation of the script joins the log
-front_more : (script : List Op) (log : List Entry) (e : Entry) → e.serial ≡ length log → slice_get script e.serial ≡ Some e.op → IsFrontOf script log → IsFrontOf script (log ++ e ∷ [])
+front_more : (script : List Op) (log : List Entry) (e : Entry) → e.serial ≡ length log → slice_get script e.serial ≡ Some e.op → IsFrontOf script log
+    → IsFrontOf script (log ++ e ∷ [])
 front_more script log e next named front =
     let at : slice_get script (length log) ≡ Some e.op = ap (slice_get script) (sym next) ∙ named in
     let within = slice_get_within script (length log) e.op at in
     let here = get_or_from_slice_get script (length log) e.op e.op at in
     let more = take_more script (length log) e.op within in
-    map-append (λ (x : Entry). x.op) log (e ∷ []) ∙ (ap (λ (l : List Op). l ++ e.op ∷ []) front ∙ (ap (λ (o : Op). take (length log) script ++ o ∷ []) (sym here) ∙ (sym more ∙ ap (λ (k : ℕ). take k script) (sym (length_push log e)))))
+    map-append (λ (x : Entry). x.op) log (e ∷ [])
+    ∙ (ap (λ (l : List Op). l ++ e.op ∷ []) front
+    ∙ (ap (λ (o : Op). take (length log) script ++ o ∷ []) (sym here) ∙ (sym more ∙ ap (λ (k : ℕ). take k script) (sym (length_push log e)))))
 
 -- in a list of one, what stands at a place is all that it contains
-only_one : (items : List ℕ) (place line other : ℕ) → length items ≤ 1 → place < length items → slice_index_or items place line ≡ line → Contains items other → other ≡ line
+only_one : (items : List ℕ) (place line other : ℕ) → length items ≤ 1 → place < length items → slice_index_or items place line ≡ line → Contains items other
+    → other ≡ line
 only_one items place line other one within here there =
     let lt = there.1 in
     let same : there.0 ≡ place = omega arith in
     sym there.2 ∙ (ap (λ (k : ℕ). slice_index_or items k other) same ∙ (get_or_default items place other line within ∙ here))
 
-module _ (driver : DriverOf) (old new : NodeOf) (place line : ℕ) (entry : Entry) (d : IsDriven driver old) (i : IsLogged old new line entry) (within : place < length driver.pending) (here : slice_index_or driver.pending place line ≡ line) (o : IsInOrder driver old) where
+module _ (driver : DriverOf) (old new : NodeOf) (place line : ℕ) (entry : Entry) (d : IsDriven driver old) (i : IsLogged old new line entry)
+    (within : place < length driver.pending) (here : slice_index_or driver.pending place line ≡ line) (o : IsInOrder driver old) where
   -- nothing is pending now
   is_free : (other : ℕ) (p : Pending) → pending_on new other ≡ Some p → ⊥
   is_free other p is = elim (cases_eq other line) [
@@ -119,7 +128,8 @@ module _ (driver : DriverOf) (old new : NodeOf) (place line : ℕ) (entry : Entr
 
 pub turns_in_order : (driver : DriverOf) (old new : NodeOf) → HasSameWork old new → IsInOrder driver old → IsInOrder driver new
 turns_in_order driver old new work o =
-    let on : (line : ℕ) → pending_on new line ≡ pending_on old line = λ line. ap (λ (l : List (Option Pending)). slice_index_or l line None) work.pending in record {
+    let on : (line : ℕ) → pending_on new line ≡ pending_on old line = λ line. ap (λ (l : List (Option Pending)). slice_index_or l line None) work.pending in
+    record {
       issues = o.issues;
       one = o.one;
       ordered = subst IsInProgramOrder (sym work.log) o.ordered;

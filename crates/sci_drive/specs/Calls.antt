@@ -53,7 +53,8 @@ times_rested calls = count_by is_rest calls
 
 -- an entry is told of only after its operation was allowed, by one of these calls or before them
 abbrev pub AreAllowed : ℕ → List Call → Type 0
-AreAllowed before calls = (front back : List Call) (entry : Entry) → calls ≡ front ++ Answered entry ∷ back → (entry.serial < before) ⊎ Contains front (MayIssue entry.serial true)
+AreAllowed before calls = (front back : List Call) (entry : Entry) → calls ≡ front ++ Answered entry ∷ back
+    → (entry.serial < before) ⊎ Contains front (MayIssue entry.serial true)
 
 -- no entry is told of after the gate was told that the whole script is answered
 abbrev pub EndWithDone : List Call → Type 0

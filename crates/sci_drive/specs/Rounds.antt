@@ -73,7 +73,8 @@ pub record HasWorked (old new : DriverOf) (before after : NodeOf) (calls : List 
   pub tried : (line : ℕ) → Contains new.pending line → IsTried line node after
 
 -- A round: what comes before the turn, and a turn from there. The gate has had its calls.
-pub record GoesRound {G E : Type 0} (hears : G → List Call → G → Type 0) (gate later : G) (old new : DriverOf) (before after : NodeOf) (result : Result Round E) : Type 0 where
+pub record GoesRound {G E : Type 0} (hears : G → List Call → G → Type 0) (gate later : G) (old new : DriverOf) (before after : NodeOf)
+    (result : Result Round E) : Type 0 where
   pub heard : IsHeard hears gate later old new before after
   pub node : NodeOf
   pub worked : HasWorked old new before node heard.calls

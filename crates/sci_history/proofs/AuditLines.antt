@@ -1,5 +1,6 @@
 -- What the audit of a line needs of its entries, and what lines that are found lawful say of all.
-use Rattle.std.proofs.Common.{◌≡◌, ◌↔◌, ℕ, suc, ◌+◌, ◌<◌, ◌≤◌, false, List, [], ◌∷◌, ◌++◌, length, get_or, Option, None, refl, sym, ap, ◌∙◌, subst, arith, inl, inr, below_more}
+use Rattle.std.proofs.Common.{◌≡◌, ◌↔◌, ℕ, suc, ◌+◌, ◌<◌, ◌≤◌, false, List, [], ◌∷◌, ◌++◌, length, get_or, Option, None, refl, sym, ap, ◌∙◌, subst, arith, inl}
+use Rattle.std.proofs.Common.{inr, below_more}
 use Rattle.std.specs.Prelude.{All}
 use Rattle.std.specs.List.{flat_map, AllByRecursion}
 use Rattle.std.proofs.lemmas.Bool.{cases_lt, ne_eqb}
@@ -29,7 +30,8 @@ versions_low entries e =
 
 pub all_placed : (P : Entry → Type 0) (entries placed : List Entry) → placed ≡ placed_entries entries → All P entries → All P placed
 all_placed P entries placed e h =
-    subst (All P) (sym e) (All-from_recursion P (placed_entries entries) (all-by_version P (suc (maker_count entries)) entries (recursion_from_All P entries h)))
+    subst (All P) (sym e) (All-from_recursion P (placed_entries entries)
+    (all-by_version P (suc (maker_count entries)) entries (recursion_from_All P entries h)))
 
 -- ---- the entries on a line
 
@@ -45,14 +47,17 @@ within_on_line lines line logs h = all-filter (IsWithin lines) (is_on_line line)
 
 pub words_on_line : (lines line : ℕ) (logs : List (List Entry)) → AreWithin lines logs → All (λ e. e.op.word < WORDS_PER_LINE) (on_line line logs)
 words_on_line lines line logs h =
-    All-from_recursion (λ e. e.op.word < WORDS_PER_LINE) (on_line line logs) (all_weaker (IsWithin lines) (λ e. e.op.word < WORDS_PER_LINE) (λ e w. w.1) (on_line line logs) (within_on_line lines line logs h))
+    All-from_recursion (λ e. e.op.word < WORDS_PER_LINE) (on_line line logs)
+    (all_weaker (IsWithin lines) (λ e. e.op.word < WORDS_PER_LINE) (λ e w. w.1) (on_line line logs) (within_on_line lines line logs h))
 
 pub all_nodes_on_line : (line : ℕ) (logs : List (List Entry)) → AreOwn logs → length logs ≡ MAX_NODES → All (λ e. e.node < MAX_NODES) (on_line line logs)
 all_nodes_on_line line logs own sixteen = All-from_recursion (λ e. e.node < MAX_NODES) (on_line line logs) (nodes_on_line logs line own sixteen)
 
 pub none_past : (lines line : ℕ) (logs : List (List Entry)) → AreWithin lines logs → lines ≤ line → on_line line logs ≡ []
 none_past lines line logs h le =
-    filter_none (is_on_line line) (flat_map same_log logs) (all_weaker (IsWithin lines) (λ e. is_on_line line e ≡ false) (λ e w. let low = w.0 in ne_eqb e.op.line line (λ is. absurd (omega arith))) (flat_map same_log logs) (all_logs (IsWithin lines) logs h))
+    filter_none (is_on_line line) (flat_map same_log logs)
+    (all_weaker (IsWithin lines) (λ e. is_on_line line e ≡ false) (λ e w. let low = w.0 in
+    ne_eqb e.op.line line (λ is. absurd (omega arith))) (flat_map same_log logs) (all_logs (IsWithin lines) logs h))
 
 placed_none : placed_entries [] ≡ []
 unfolding by_version
@@ -60,49 +65,60 @@ placed_none = rw by_node_and_serial-none refl
 
 -- ---- lawful lines
 
-pub lawful_from_found : (logs : List (List Entry)) (line : ℕ) (entries : List Entry) (last : Stamped) → AreOwn logs → length logs ≡ MAX_NODES → entries ≡ on_line line logs → HasNoFault entries last → IsLawfulLine logs line last
+pub lawful_from_found : (logs : List (List Entry)) (line : ℕ) (entries : List Entry) (last : Stamped) → AreOwn logs → length logs ≡ MAX_NODES
+    → entries ≡ on_line line logs → HasNoFault entries last → IsLawfulLine logs line last
 lawful_from_found logs line entries last own sixteen is found =
     let h : HasNoFault (on_line line logs) last = subst (λ (es : List Entry). HasNoFault es last) is found in
     lawful_found logs line last own sixteen h.twice h.missing h.wrong h.disordered h.words h.version
 
 -- a line beyond the last contents has no entries, and is lawful at zero
-lawful_past : (logs : List (List Entry)) (last : List Stamped) (line : ℕ) → AreOwn logs → length logs ≡ MAX_NODES → AreWithin (length last) logs → length last ≤ line → IsLawfulLine logs line (stamped_at last line)
+lawful_past : (logs : List (List Entry)) (last : List Stamped) (line : ℕ) → AreOwn logs → length logs ≡ MAX_NODES → AreWithin (length last) logs
+    → length last ≤ line → IsLawfulLine logs line (stamped_at last line)
 lawful_past logs last line own sixteen within le =
     let none = none_past (length last) line logs within le in
     let zero_there : stamped_at last line ≡ zero_stamped = get_or_past last line zero_stamped le in
-    let h : HasNoFault [] zero_stamped = record { twice = refl; missing = refl; wrong = rw placed_none refl; disordered = refl; words = rw placed_none refl; version = refl } in
+    let h : HasNoFault [] zero_stamped =
+    record { twice = refl; missing = refl; wrong = rw placed_none refl; disordered = refl; words = rw placed_none refl; version = refl } in
     subst (IsLawfulLine logs line) (sym zero_there) (lawful_from_found logs line [] zero_stamped own sixteen (sym none) h)
 
 -- if the lines of the last contents are lawful, all are
-pub lawful_all : (logs : List (List Entry)) (last : List Stamped) → AreOwn logs → length logs ≡ MAX_NODES → AreWithin (length last) logs → ((line : ℕ) → line < length last → IsLawfulLine logs line (stamped_at last line)) → Lawful logs last
+pub lawful_all : (logs : List (List Entry)) (last : List Stamped) → AreOwn logs → length logs ≡ MAX_NODES → AreWithin (length last) logs
+    → ((line : ℕ) → line < length last → IsLawfulLine logs line (stamped_at last line)) → Lawful logs last
 lawful_all logs last own sixteen within below line =
     elim (cases_lt line (length last)) [ inl lt ↦ below line lt | inr past ↦ lawful_past logs last line own sixteen within past ]
 
-pub lawful_more : (logs : List (List Entry)) (last : List Stamped) (line : ℕ) → ((other : ℕ) → other < line → IsLawfulLine logs other (stamped_at last other)) → IsLawfulLine logs line (stamped_at last line) → (other : ℕ) → other < line + 1 → IsLawfulLine logs other (stamped_at last other)
+pub lawful_more : (logs : List (List Entry)) (last : List Stamped) (line : ℕ) → ((other : ℕ) → other < line → IsLawfulLine logs other (stamped_at last other))
+    → IsLawfulLine logs line (stamped_at last line) → (other : ℕ) → other < line + 1 → IsLawfulLine logs other (stamped_at last other)
 lawful_more logs last line below here = below_more (λ (other : ℕ). IsLawfulLine logs other (stamped_at last other)) line below here
 
 -- one line's fault more
-pub faults_more : (logs : List (List Entry)) (last : List Stamped) (faults : List (Option LineFault)) (line : ℕ) (fault : Option LineFault) → AreFound logs last line faults → IsFound (on_line line logs) (stamped_at last line) fault → AreFound logs last (line + 1) (faults ++ fault ∷ [])
+pub faults_more : (logs : List (List Entry)) (last : List Stamped) (faults : List (Option LineFault)) (line : ℕ) (fault : Option LineFault)
+    → AreFound logs last line faults → IsFound (on_line line logs) (stamped_at last line) fault → AreFound logs last (line + 1) (faults ++ fault ∷ [])
 faults_more logs last faults line fault below here = record {
   many = length-append faults (fault ∷ []) ∙ ap (λ n. n + 1) below.many;
   each = below_more (λ (other : ℕ). IsFound (on_line other logs) (stamped_at last other) (get_or (faults ++ fault ∷ []) other None)) line
-      (λ other lt. subst (IsFound (on_line other logs) (stamped_at last other)) (sym (get_or_append_left faults (fault ∷ []) None other (rw below.many lt))) (below.each other lt))
+      (λ other lt. subst (IsFound (on_line other logs) (stamped_at last other)) (sym (get_or_append_left faults (fault ∷ []) None other (rw below.many lt)))
+      (below.each other lt))
       (subst (IsFound (on_line line logs) (stamped_at last line)) (sym (get_or_push faults fault None line below.many)) here);
 }
 
 -- ---- the verdict
 
-pub fault_found : (logs : List (List Entry)) (last : List Stamped) (line : ℕ) (entries : List Entry) (fault : LineFault) → line < length last → ((other : ℕ) → other < line → IsLawfulLine logs other (stamped_at last other)) → entries ≡ on_line line logs → IsLineFault entries (stamped_at last line) fault.kind fault.at → IsFault logs last line fault.kind fault.at
+pub fault_found : (logs : List (List Entry)) (last : List Stamped) (line : ℕ) (entries : List Entry) (fault : LineFault) → line < length last
+    → ((other : ℕ) → other < line → IsLawfulLine logs other (stamped_at last other)) → entries ≡ on_line line logs
+    → IsLineFault entries (stamped_at last line) fault.kind fault.at → IsFault logs last line fault.kind fault.at
 fault_found logs last line entries fault lt below is found = grind arith
 
-faulty_not : (logs : List (List Entry)) (last : List Stamped) (line : ℕ) (kind : FaultKind) (at : Option (ℕ × ℕ)) → AreOwn logs → length logs ≡ MAX_NODES → IsFault logs last line kind at → Lawful logs last → ⊥
+faulty_not : (logs : List (List Entry)) (last : List Stamped) (line : ℕ) (kind : FaultKind) (at : Option (ℕ × ℕ)) → AreOwn logs → length logs ≡ MAX_NODES
+    → IsFault logs last line kind at → Lawful logs last → ⊥
 faulty_not logs last line kind at own sixteen h lawful =
     fault_or_none (on_line line logs) (stamped_at last line) kind at h.fault (no_fault logs line (stamped_at last line) own sixteen (lawful line))
 
 verdict_faulty : (line : ℕ) (kind : FaultKind) (at : Option (ℕ × ℕ)) → verdicts.Fault line kind at ≡ verdicts.Lawful → ⊥
 verdict_faulty line kind at e = absurd cc
 
-pub verdict_is : (logs : List (List Entry)) (last : List Stamped) (verdict : Verdict) → AreOwn logs → length logs ≡ MAX_NODES → IsVerdict logs last verdict → (verdict ≡ verdicts.Lawful) ↔ Lawful logs last
+pub verdict_is : (logs : List (List Entry)) (last : List Stamped) (verdict : Verdict) → AreOwn logs → length logs ≡ MAX_NODES → IsVerdict logs last verdict
+    → (verdict ≡ verdicts.Lawful) ↔ Lawful logs last
 verdict_is logs last verdicts.Lawful own sixteen h = (λ e. h, λ lawful. refl)
 verdict_is logs last (verdicts.Fault line kind at) own sixteen h = grind (arith, verdict_faulty, faulty_not)
 

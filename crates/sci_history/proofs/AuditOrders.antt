@@ -1,8 +1,10 @@
 -- What an audit's fourth kind says: each node's entries stand in order.
-use Rattle.std.proofs.Common.{◌≡◌, ℕ, zero, suc, ◌<◌, ◌≤◌, true, false, ltb, not, List, [], ◌∷◌, ◌++◌, length, get_or, Option, Some, None, refl, sym, ap, ◌∙◌, subst, append_assoc, arith}
+use Rattle.std.proofs.Common.{◌≡◌, ℕ, zero, suc, ◌<◌, ◌≤◌, true, false, ltb, not, List, [], ◌∷◌, ◌++◌, length, get_or, Option, Some, None, refl, sym, ap, ◌∙◌}
+use Rattle.std.proofs.Common.{subst, append_assoc, arith}
 use Rattle.std.specs.Prelude.{AllPairs, IfSome}
 use Rattle.std.specs.List.{filter, AllByRecursion}
-use Rattle.std.proofs.lemmas.Bool.{cases_Bool, cases_eq, cases_order, eq-eqb, ne_eqb, ltb-true, lt-ltb, le-ltb, le-leb, and_parts, and_from, not-false, both_ways}
+use Rattle.std.proofs.lemmas.Bool.{cases_Bool, cases_eq, cases_order, eq-eqb, ne_eqb, ltb-true, lt-ltb, le-ltb, le-leb, and_parts, and_from, not-false}
+use Rattle.std.proofs.lemmas.Bool.{both_ways}
 use Rattle.std.proofs.lemmas.List.{append-nil}
 use Rattle.std.proofs.lemmas.List.Elements.{filter-append, All-from_recursion}
 use Rattle.sci_history.specs.declared.entry.Entry.{Entry}
@@ -41,9 +43,11 @@ pub last_of-push : (found : Option Entry) (before : List Entry) (entry : Entry) 
 last_of-push found [] entry = refl
 last_of-push found (first ∷ before) entry = last_of-push (Some first) before entry
 
-linked : (node : ℕ) (before entries : List Entry) → NoneFail is_out_of_order before entries → Linked (last_entry None (filter (is_of_node node) before)) (filter (is_of_node node) entries)
+linked : (node : ℕ) (before entries : List Entry) → NoneFail is_out_of_order before entries
+    → Linked (last_entry None (filter (is_of_node node) before)) (filter (is_of_node node) entries)
 linked node before [] h = tt
-linked node before (entry ∷ entries) h = grind (arith, filter-append, cases_eq, eq-eqb, filter_yes, last_of-push, ne_eqb, filter_no, append-nil, linked node (before ++ entry ∷ []) entries h.1)
+linked node before (entry ∷ entries) h =
+    grind (arith, filter-append, cases_eq, eq-eqb, filter_yes, last_of-push, ne_eqb, filter_no, append-nil, linked node (before ++ entry ∷ []) entries h.1)
 
 abbrev pub RisesFrom : Entry → List Entry → Type 0
 RisesFrom previous entries = AllByRecursion (λ e. Follows previous e) entries
@@ -74,7 +78,8 @@ serials_from_rises [] h = tt
 serials_from_rises (entry ∷ entries) h =
     (all_weaker (λ e. Follows entry e) (λ e. entry.serial ≤ e.serial) (λ e f. let lt = f.0 in omega arith) entries h.0, serials_from_rises entries h.1)
 
-pairs-cons : (entry : Entry) (entries : List Entry) → AllByRecursion (λ e. entry.serial < e.serial) entries → AllPairs (λ x y. x.serial < y.serial) entries → (i j : ℕ) (d : Entry) → i < j → j < length (entry ∷ entries) → (get_or (entry ∷ entries) i d).serial < (get_or (entry ∷ entries) j d).serial
+pairs-cons : (entry : Entry) (entries : List Entry) → AllByRecursion (λ e. entry.serial < e.serial) entries → AllPairs (λ x y. x.serial < y.serial) entries
+    → (i j : ℕ) (d : Entry) → i < j → j < length (entry ∷ entries) → (get_or (entry ∷ entries) i d).serial < (get_or (entry ∷ entries) j d).serial
 pairs-cons entry entries h k i zero d lt long = absurd (omega arith)
 pairs-cons entry entries h k zero (suc j) d lt long = All-from_recursion (λ e. entry.serial < e.serial) entries h j d (omega arith)
 pairs-cons entry entries h k (suc i) (suc j) d lt long = k i j d (omega arith) (omega arith)
@@ -85,7 +90,8 @@ pairs_from_rises (entry ∷ entries) h = grind (arith, pairs-cons, all_weaker, p
 
 -- ---- and back
 
-both_follow : (entry : Entry) (entries : List Entry) → AllByRecursion (λ e. entry.serial < e.serial) entries → AllByRecursion (λ e. place entry ≤ place e) entries → RisesFrom entry entries
+both_follow : (entry : Entry) (entries : List Entry) → AllByRecursion (λ e. entry.serial < e.serial) entries
+    → AllByRecursion (λ e. place entry ≤ place e) entries → RisesFrom entry entries
 both_follow entry [] h k = tt
 both_follow entry (first ∷ entries) h k = ((h.0, k.0), both_follow entry entries h.1 k.1)
 
@@ -95,10 +101,13 @@ at_entry (other ∷ before) after first entry h = at_entry before after first en
 
 pub rises_from_pairs : (entries : List Entry) → AllPairs (λ x y. x.serial < y.serial) entries → IsInOrder place entries → Rises entries
 rises_from_pairs [] h k = tt
-rises_from_pairs (entry ∷ entries) h k =
-    (both_follow entry entries (pairs-head (λ x y. x.serial < y.serial) entry entries h) k.0, rises_from_pairs entries (pairs-tail (λ x y. x.serial < y.serial) entry entries h) k.1)
+rises_from_pairs (entry ∷ entries) h k = (
+  both_follow entry entries (pairs-head (λ x y. x.serial < y.serial) entry entries h) k.0,
+  rises_from_pairs entries (pairs-tail (λ x y. x.serial < y.serial) entry entries h) k.1,
+)
 
-last_follows : (found : Option Entry) (before after : List Entry) (entry : Entry) → IfSome found (λ p. Follows p entry) → Rises (before ++ entry ∷ after) → IfSome (last_entry found before) (λ p. Follows p entry)
+last_follows : (found : Option Entry) (before after : List Entry) (entry : Entry) → IfSome found (λ p. Follows p entry) → Rises (before ++ entry ∷ after)
+    → IfSome (last_entry found before) (λ p. Follows p entry)
 last_follows found [] after entry h k = h
 last_follows found (first ∷ before) after entry h k = last_follows (Some first) before after entry (at_entry before after first entry k.0) k.1
 
@@ -111,8 +120,11 @@ from_rises before [] h = tt
 from_rises before (entry ∷ entries) h =
     let p = is_of_node entry.node in
     let own : filter p (before ++ entry ∷ entries) ≡ filter p before ++ entry ∷ filter p entries =
-    filter-append p before (entry ∷ entries) ∙ ap (λ es. filter p before ++ es) (filter_yes p entry entries (eq-eqb entry.node entry.node refl)) in
-    (unbroken (last_entry None (filter p before)) entry (last_follows None (filter p before) (filter p entries) entry tt (subst Rises own (h entry))), from_rises (before ++ entry ∷ []) entries (λ e. subst (λ (es : List Entry). Rises (filter (is_of_node e.node) es)) (sym (append_assoc before (entry ∷ []) entries)) (h e)))
+    filter-append p before (entry ∷ entries) ∙ ap (λ es. filter p before ++ es) (filter_yes p entry entries (eq-eqb entry.node entry.node refl)) in (
+      unbroken (last_entry None (filter p before)) entry (last_follows None (filter p before) (filter p entries) entry tt (subst Rises own (h entry))),
+      from_rises (before ++ entry ∷ []) entries
+          (λ e. subst (λ (es : List Entry). Rises (filter (is_of_node e.node) es)) (sym (append_assoc before (entry ∷ []) entries)) (h e)),
+    )
 
 pub ordered_from_rises : (entries : List Entry) → ((node : ℕ) → Rises (filter (is_of_node node) entries)) → first_disordered entries ≡ None
 ordered_from_rises entries h = from_none_fail is_out_of_order [] entries (from_rises [] entries (λ e. h e.node))

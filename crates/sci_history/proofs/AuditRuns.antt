@@ -54,8 +54,10 @@ replied before (entry ∷ entries) h = grind (arith, not-false, reply_is, words_
 
 from_run : (before entries : List Entry) (new : List ℕ) → IsLineRun (map pair_of entries) (words_after before) new → NoneFail is_reply_wrong before entries
 from_run before [] new h = tt
-from_run before (entry ∷ entries) new h =
-    (ap not (ap (λ r. same_reply r (reply_of (words_after before) entry.op)) h.0 ∙ reply_same (reply_of (words_after before) entry.op)), from_run (before ++ entry ∷ []) entries new (rw (words_after-push before entry) h.1))
+from_run before (entry ∷ entries) new h = (
+  ap not (ap (λ r. same_reply r (reply_of (words_after before) entry.op)) h.0 ∙ reply_same (reply_of (words_after before) entry.op)),
+  from_run (before ++ entry ∷ []) entries new (rw (words_after-push before entry) h.1),
+)
 
 run_end : (words : List ℕ) (entries : List Entry) (new : List ℕ) → IsLineRun (map pair_of entries) words new → new ≡ line_after_all words (ops_of entries)
 run_end words [] new h = h
@@ -87,41 +89,54 @@ single (entry ∷ other ∷ entries) e = absurd (omega arith)
 no_maker_of_zero : (entries : List Entry) → HasWholeVersions entries → filter (makes 0) entries ≡ []
 no_maker_of_zero entries h = grind (arith, filter_none, all_weaker, cases_Bool, and_parts, eqb-true)
 
-versioned_maker : (version : ℕ) (entries : List Entry) → HasWholeVersions entries → AllByRecursion (λ e. e.node < MAX_NODES) entries → suc version ≤ maker_count entries → Versioned version (by_node_and_serial (filter (makes (suc version)) entries)) (suc version)
+versioned_maker : (version : ℕ) (entries : List Entry) → HasWholeVersions entries → AllByRecursion (λ e. e.node < MAX_NODES) entries
+    → suc version ≤ maker_count entries → Versioned version (by_node_and_serial (filter (makes (suc version)) entries)) (suc version)
 versioned_maker version entries h nodes le =
     let own = filter (makes (suc version)) entries in
     let one = single own (length-filter (makes (suc version)) entries ∙ h.once (suc version) (omega arith) le) in
     let maker = one.0 in
-    let node : AllByRecursion (λ e. e.node < MAX_NODES) (maker ∷ []) = subst (λ (es : List Entry). AllByRecursion (λ e. e.node < MAX_NODES) es) one.1 (all-filter (λ e. e.node < MAX_NODES) (makes (suc version)) entries nodes) in
-    let passes : AllByRecursion (λ e. makes (suc version) e ≡ true) (maker ∷ []) = subst (λ (es : List Entry). AllByRecursion (λ e. makes (suc version) e ≡ true) es) one.1 (all-passes (makes (suc version)) entries) in
+    let node : AllByRecursion (λ e. e.node < MAX_NODES) (maker ∷ []) =
+    subst (λ (es : List Entry). AllByRecursion (λ e. e.node < MAX_NODES) es) one.1
+    (all-filter (λ e. e.node < MAX_NODES) (makes (suc version)) entries nodes) in
+    let passes : AllByRecursion (λ e. makes (suc version) e ≡ true) (maker ∷ []) =
+    subst (λ (es : List Entry). AllByRecursion (λ e. makes (suc version) e ≡ true) es) one.1 (all-passes (makes (suc version)) entries) in
     let parts = and_parts (is_making maker) (eqb maker.version (suc version)) passes.0 in
     let at : maker.version ≡ suc version = eqb-true maker.version (suc version) parts.1 in
     rw (one.1, by_node_and_serial-one maker node.0) (at ∙ rw parts.0 (omega arith), sym at)
 
-versioned : (version : ℕ) (entries : List Entry) → HasWholeVersions entries → AllByRecursion (λ e. e.node < MAX_NODES) entries → version ≤ maker_count entries → Versioned 0 (by_version (suc version) entries) version
+versioned : (version : ℕ) (entries : List Entry) → HasWholeVersions entries → AllByRecursion (λ e. e.node < MAX_NODES) entries → version ≤ maker_count entries
+    → Versioned 0 (by_version (suc version) entries) version
 unfolding by_version
 versioned zero entries h nodes le =
     rw (no_maker_of_zero entries h, by_node_and_serial-none) (versioned_loads 0 (by_node_and_serial (filter (reads 0) entries)) (reads_group 0 entries))
 versioned (suc version) entries h nodes le =
     let makers = by_node_and_serial (filter (makes (suc version)) entries) in
     let loads = by_node_and_serial (filter (reads (suc version)) entries) in
-    versioned-append (by_version (suc version) entries) (makers ++ loads) 0 version (suc version) (versioned version entries h nodes (omega arith)) (versioned-append makers loads version (suc version) (suc version) (versioned_maker version entries h nodes le) (versioned_loads (suc version) loads (reads_group (suc version) entries)))
+    versioned-append (by_version (suc version) entries) (makers ++ loads) 0 version (suc version) (versioned version entries h nodes (omega arith))
+    (versioned-append makers loads version (suc version) (suc version) (versioned_maker version entries h nodes le)
+    (versioned_loads (suc version) loads (reads_group (suc version) entries)))
 
 -- ---- both together are a history
 
-history_of : (entries : List Entry) (words : List ℕ) (old new : ℕ) → Replied words entries → Versioned old entries new → IsHistory entries (record { line = words; version = old }) (record { line = line_after_all words (ops_of entries); version = new })
+history_of : (entries : List Entry) (words : List ℕ) (old new : ℕ) → Replied words entries → Versioned old entries new
+    → IsHistory entries (record { line = words; version = old }) (record { line = line_after_all words (ops_of entries); version = new })
 history_of [] words old new replies versions = same_stamped (record { line = words; version = new }) (record { line = words; version = old }) refl versions
-history_of (entry ∷ entries) words old new replies versions = grind (arith, cases_Bool, history_of entries (line_after words entry.op) entry.version new replies.1 versions.1)
+history_of (entry ∷ entries) words old new replies versions =
+    grind (arith, cases_Bool, history_of entries (line_after words entry.op) entry.version new replies.1 versions.1)
 
-pub history_found : (entries : List Entry) (last : Stamped) → HasWholeVersions entries → AllByRecursion (λ e. e.node < MAX_NODES) entries → first_wrong entries ≡ None → last.line ≡ words_after (placed_entries entries) → last.version ≡ maker_count entries → IsHistory (placed_entries entries) zero_stamped last
+pub history_found : (entries : List Entry) (last : Stamped) → HasWholeVersions entries → AllByRecursion (λ e. e.node < MAX_NODES) entries
+    → first_wrong entries ≡ None → last.line ≡ words_after (placed_entries entries) → last.version ≡ maker_count entries
+    → IsHistory (placed_entries entries) zero_stamped last
 history_found entries last h nodes right line version =
     let placed = placed_entries entries in
     let replies : Replied zero_line placed = replied [] placed (none_fail is_reply_wrong [] placed right) in
     let end : Stamped = record { line = words_after placed; version = maker_count entries } in
-    subst (λ (s : Stamped). IsHistory placed zero_stamped s) (sym (same_stamped last end line version)) (history_of placed zero_line 0 (maker_count entries) replies (versioned (maker_count entries) entries h nodes (omega arith)))
+    subst (λ (s : Stamped). IsHistory placed zero_stamped s) (sym (same_stamped last end line version))
+    (history_of placed zero_line 0 (maker_count entries) replies (versioned (maker_count entries) entries h nodes (omega arith)))
 
 pub right_from_run : (entries : List Entry) (last : List ℕ) → IsLineRun (map pair_of (placed_entries entries)) zero_line last → first_wrong entries ≡ None
 right_from_run entries last h = from_none_fail is_reply_wrong [] (placed_entries entries) (from_run [] (placed_entries entries) last h)
 
-pub end_from_run : (entries : List Entry) (last : List ℕ) → IsLineRun (map pair_of (placed_entries entries)) zero_line last → last ≡ words_after (placed_entries entries)
+pub end_from_run : (entries : List Entry) (last : List ℕ) → IsLineRun (map pair_of (placed_entries entries)) zero_line last
+    → last ≡ words_after (placed_entries entries)
 end_from_run entries last h = run_end zero_line (placed_entries entries) last h

@@ -1,8 +1,10 @@
 -- What an audit's first two kinds say: the makers' versions are 1 to their number, each once.
-use Rattle.std.proofs.Common.{◌≡◌, ℕ, zero, suc, ◌+◌, ◌-◌, ◌<◌, ◌≤◌, ◌⊎◌, Bool, true, false, eqb, ltb, ◌&&◌, List, [], ◌∷◌, ◌++◌, length, Some, None, refl, sym, ap, ◌∙◌, subst, append_assoc, arith, inl, inr}
+use Rattle.std.proofs.Common.{◌≡◌, ℕ, zero, suc, ◌+◌, ◌-◌, ◌<◌, ◌≤◌, ◌⊎◌, Bool, true, false, eqb, ltb, ◌&&◌, List, [], ◌∷◌, ◌++◌, length, Some, None, refl, sym}
+use Rattle.std.proofs.Common.{ap, ◌∙◌, subst, append_assoc, arith, inl, inr}
 use Rattle.std.specs.Prelude.{IsTrue}
 use Rattle.std.specs.List.{filter, list_any, AllByRecursion}
-use Rattle.std.proofs.lemmas.Bool.{cases_Bool, cases_eq, cases_lt, eq-eqb, eqb-true, ne_eqb, ltb-false, le-ltb, and_from, and_left, and_right, and_parts, or_parts, or_from, both_ways}
+use Rattle.std.proofs.lemmas.Bool.{cases_Bool, cases_eq, cases_lt, eq-eqb, eqb-true, ne_eqb, ltb-false, le-ltb, and_from, and_left, and_right, and_parts}
+use Rattle.std.proofs.lemmas.Bool.{or_parts, or_from, both_ways}
 use Rattle.std.proofs.lemmas.List.{append-nil, length-append}
 use Rattle.std.proofs.lemmas.List.Elements.{filter-append}
 use Rattle.std.proofs.lemmas.List.Sums.{length-filter}
@@ -29,7 +31,8 @@ none_fail fails before (entry ∷ entries) e =
       | inr fails_not ↦ (fails_not, none_fail fails (before ++ entry ∷ []) entries (rw fails_not at e))
     ]
 
-pub from_none_fail : (fails : List Entry → Entry → Bool) (before entries : List Entry) → NoneFail fails before entries → first_failing fails before entries ≡ None
+pub from_none_fail : (fails : List Entry → Entry → Bool) (before entries : List Entry) → NoneFail fails before entries
+    → first_failing fails before entries ≡ None
 from_none_fail fails before [] h = refl
 from_none_fail fails before (entry ∷ entries) h = rw h.0 (from_none_fail fails (before ++ entry ∷ []) entries h.1)
 
@@ -69,9 +72,11 @@ from_one_each before (entry ∷ entries) one = (
     | inl maker ↦
         elim (cases_Bool (list_any (makes entry.version) before)) [
           | inl twice ↦
-              let own : makes entry.version entry ≡ true = and_from (is_making entry) (eqb entry.version entry.version) maker (eq-eqb entry.version entry.version refl) in
+              let own : makes entry.version entry ≡ true =
+              and_from (is_making entry) (eqb entry.version entry.version) maker (eq-eqb entry.version entry.version refl) in
               let first = any_some (makes entry.version) before twice in
-              let all : length (filter (makes entry.version) before ++ filter (makes entry.version) (entry ∷ entries)) ≤ 1 = rw (← filter-append (makes entry.version) before (entry ∷ entries)) (one entry.version) in
+              let all : length (filter (makes entry.version) before ++ filter (makes entry.version) (entry ∷ entries)) ≤ 1 =
+              rw (← filter-append (makes entry.version) before (entry ∷ entries)) (one entry.version) in
               let both = length-append (filter (makes entry.version) before) (filter (makes entry.version) (entry ∷ entries)) in
               let longer = ap length (filter_yes (makes entry.version) entry entries own) in
               absurd (omega arith)
@@ -87,11 +92,14 @@ from_one_each before (entry ∷ entries) one = (
 above_zero : (n : ℕ) → (n ≡ 0 → ⊥) → 1 ≤ n
 above_zero n ne = elim (cases_lt n 1) [ inl lt ↦ absurd (ne (omega arith)) | inr le ↦ le ]
 
-pub versions_within : (count : ℕ) (before entries : List Entry) → NoneFail (is_version_missing count) before entries → AllByRecursion (λ e. e.version ≤ count) entries × AllByRecursion (λ e. IsTrue (is_making e) → 1 ≤ e.version) entries
+pub versions_within : (count : ℕ) (before entries : List Entry) → NoneFail (is_version_missing count) before entries
+    → AllByRecursion (λ e. e.version ≤ count) entries × AllByRecursion (λ e. IsTrue (is_making e) → 1 ≤ e.version) entries
 versions_within count before [] h = (tt, tt)
-versions_within count before (entry ∷ entries) h = grind (arith, or_parts, ltb-false, cases_eq, both_ways, and_from, eq-eqb, above_zero, versions_within count (before ++ entry ∷ []) entries h.1)
+versions_within count before (entry ∷ entries) h =
+    grind (arith, or_parts, ltb-false, cases_eq, both_ways, and_from, eq-eqb, above_zero, versions_within count (before ++ entry ∷ []) entries h.1)
 
-pub from_versions_within : (count : ℕ) (before entries : List Entry) → AllByRecursion (λ e. e.version ≤ count) entries → AllByRecursion (λ e. IsTrue (is_making e) → 1 ≤ e.version) entries → NoneFail (is_version_missing count) before entries
+pub from_versions_within : (count : ℕ) (before entries : List Entry) → AllByRecursion (λ e. e.version ≤ count) entries
+    → AllByRecursion (λ e. IsTrue (is_making e) → 1 ≤ e.version) entries → NoneFail (is_version_missing count) before entries
 from_versions_within count before [] within makers = tt
 from_versions_within count before (entry ∷ entries) within makers = (
   or_from (ltb count entry.version) (is_making entry && eqb entry.version 0) (le-ltb count entry.version within.0) (
@@ -110,8 +118,18 @@ filter_both p q (entry ∷ entries) =
     elim (cases_Bool (q entry)) [
       | inl qy ↦
           elim (cases_Bool (p entry)) [
-            | inl py ↦ rw (filter_yes q entry entries qy, filter_yes p entry (filter q entries) py, filter_both p q entries, filter_yes (λ e. q e && p e) entry entries (and_from (q entry) (p entry) qy py)) refl
-            | inr pn ↦ rw (filter_yes q entry entries qy, filter_no p entry (filter q entries) pn, filter_both p q entries, filter_no (λ e. q e && p e) entry entries (and_right (q entry) (p entry) pn)) refl
+            | inl py ↦ rw (
+              filter_yes q entry entries qy,
+              filter_yes p entry (filter q entries) py,
+              filter_both p q entries,
+              filter_yes (λ e. q e && p e) entry entries (and_from (q entry) (p entry) qy py),
+            ) refl
+            | inr pn ↦ rw (
+              filter_yes q entry entries qy,
+              filter_no p entry (filter q entries) pn,
+              filter_both p q entries,
+              filter_no (λ e. q e && p e) entry entries (and_right (q entry) (p entry) pn),
+            ) refl
           ]
       | inr qn ↦ rw (filter_no q entry entries qn, filter_both p q entries, filter_no (λ e. q e && p e) entry entries (and_left (q entry) (p entry) qn)) refl
     ]
@@ -120,11 +138,13 @@ filter_both p q (entry ∷ entries) =
 abbrev makers_below : List Entry → ℕ → ℕ
 makers_below makers bound = length (in_order (λ e. e.version) bound makers)
 
-one_version_more : (makers : List Entry) (bound : ℕ) → makers_below makers (suc bound) ≡ makers_below makers bound + length (filter (λ e. eqb e.version bound) makers)
+one_version_more : (makers : List Entry) (bound : ℕ)
+    → makers_below makers (suc bound) ≡ makers_below makers bound + length (filter (λ e. eqb e.version bound) makers)
 unfolding in_order
 one_version_more makers bound = length-append (in_order (λ e. e.version) bound makers) (filter (λ e. eqb e.version bound) makers)
 
-few_below : (makers : List Entry) → ((version : ℕ) → length (filter (λ e. eqb e.version version) makers) ≤ 1) → filter (λ e. eqb e.version 0) makers ≡ [] → (bound : ℕ) → makers_below makers (suc bound) ≤ bound
+few_below : (makers : List Entry) → ((version : ℕ) → length (filter (λ e. eqb e.version version) makers) ≤ 1) → filter (λ e. eqb e.version 0) makers ≡ []
+    → (bound : ℕ) → makers_below makers (suc bound) ≤ bound
 unfolding in_order
 few_below makers one none zero = rw none (omega arith)
 few_below makers one none (suc bound) =
@@ -133,11 +153,16 @@ few_below makers one none (suc bound) =
     let here = one (suc bound) in
     omega arith
 
-full_below : (makers : List Entry) (count : ℕ) → ((version : ℕ) → length (filter (λ e. eqb e.version version) makers) ≤ 1) → filter (λ e. eqb e.version 0) makers ≡ [] → makers_below makers (suc count) ≡ count → (left bound : ℕ) → bound + left ≡ count → makers_below makers (suc bound) ≡ bound
+full_below : (makers : List Entry) (count : ℕ) → ((version : ℕ) → length (filter (λ e. eqb e.version version) makers) ≤ 1)
+    → filter (λ e. eqb e.version 0) makers ≡ [] → makers_below makers (suc count) ≡ count → (left bound : ℕ) → bound + left ≡ count
+    → makers_below makers (suc bound) ≡ bound
 full_below makers count one none whole zero bound e = let same : bound ≡ count = omega arith in ap (λ b. makers_below makers (suc b)) same ∙ whole ∙ sym same
-full_below makers count one none whole (suc left) bound e = grind (arith, one_version_more, few_below, full_below makers count one none whole left (suc bound) (omega arith))
+full_below makers count one none whole (suc left) bound e =
+    grind (arith, one_version_more, few_below, full_below makers count one none whole left (suc bound) (omega arith))
 
-each_once : (makers : List Entry) (count version : ℕ) → ((v : ℕ) → length (filter (λ e. eqb e.version v) makers) ≤ 1) → filter (λ e. eqb e.version 0) makers ≡ [] → makers_below makers (suc count) ≡ count → 1 ≤ version → version ≤ count → length (filter (λ e. eqb e.version version) makers) ≡ 1
+each_once : (makers : List Entry) (count version : ℕ) → ((v : ℕ) → length (filter (λ e. eqb e.version v) makers) ≤ 1)
+    → filter (λ e. eqb e.version 0) makers ≡ [] → makers_below makers (suc count) ≡ count → 1 ≤ version → version ≤ count
+    → length (filter (λ e. eqb e.version version) makers) ≡ 1
 each_once makers count zero one none whole low high = absurd (omega arith)
 each_once makers count (suc version) one none whole low high =
     let here = full_below makers count one none whole (count - suc version) (suc version) (omega arith) in
@@ -152,20 +177,29 @@ whole_versions_found entries twice missing =
     let makers = filter is_making entries in
     let one = one_each [] entries (λ v. omega arith) (none_fail is_version_twice [] entries twice) in
     let within = versions_within count [] entries (none_fail (is_version_missing count) [] entries missing) in
-    let same : (version : ℕ) → filter (λ e. eqb e.version version) makers ≡ filter (makes version) entries = λ version. filter_both (λ e. eqb e.version version) is_making entries in
+    let same : (version : ℕ) → filter (λ e. eqb e.version version) makers ≡ filter (makes version) entries =
+    λ version. filter_both (λ e. eqb e.version version) is_making entries in
     let each : (version : ℕ) → length (filter (λ e. eqb e.version version) makers) ≤ 1 = λ version. rw (same version) (one version) in
-    let positive : AllByRecursion (λ e. (IsTrue (is_making e) → 1 ≤ e.version) × IsTrue (is_making e)) makers = all_both (λ e. IsTrue (is_making e) → 1 ≤ e.version) (λ e. IsTrue (is_making e)) makers (all-filter (λ e. IsTrue (is_making e) → 1 ≤ e.version) is_making entries within.1) (all-passes is_making entries) in
+    let positive : AllByRecursion (λ e. (IsTrue (is_making e) → 1 ≤ e.version) × IsTrue (is_making e)) makers =
+    all_both (λ e. IsTrue (is_making e) → 1 ≤ e.version) (λ e. IsTrue (is_making e)) makers
+    (all-filter (λ e. IsTrue (is_making e) → 1 ≤ e.version) is_making entries within.1) (all-passes is_making entries) in
     let none : filter (λ e. eqb e.version 0) makers ≡ [] =
-    filter_none (λ e. eqb e.version 0) makers (all_weaker (λ e. (IsTrue (is_making e) → 1 ≤ e.version) × IsTrue (is_making e)) (λ e. eqb e.version 0 ≡ false) (λ e h. let low = h.0 h.1 in ne_eqb e.version 0 (λ is. absurd (omega arith))) makers positive) in
-    let below : HasKeysBelow (λ e. e.version) (suc count) makers = all-filter (λ e. e.version < suc count) is_making entries (all_weaker (λ e. e.version ≤ count) (λ e. e.version < suc count) (λ e le. omega arith) entries within.0) in
+    filter_none (λ e. eqb e.version 0) makers
+    (all_weaker (λ e. (IsTrue (is_making e) → 1 ≤ e.version) × IsTrue (is_making e)) (λ e. eqb e.version 0 ≡ false) (λ e h. let low = h.0 h.1 in
+    ne_eqb e.version 0 (λ is. absurd (omega arith))) makers positive) in
+    let below : HasKeysBelow (λ e. e.version) (suc count) makers =
+    all-filter (λ e. e.version < suc count) is_making entries
+    (all_weaker (λ e. e.version ≤ count) (λ e. e.version < suc count) (λ e le. omega arith) entries within.0) in
     let whole : makers_below makers (suc count) ≡ count = length-in_order (λ e. e.version) (suc count) makers below ∙ length-filter is_making entries in
     record {
-      once = λ version low high. sym (length-filter (makes version) entries) ∙ ap length (sym (same version)) ∙ each_once makers count version each none whole low high;
+      once = λ version low high. sym (length-filter (makes version) entries) ∙ ap length (sym (same version))
+          ∙ each_once makers count version each none whole low high;
       makers = within.1;
       within = within.0;
     }
 
-no_such_maker : (entries : List Entry) (version : ℕ) → HasWholeVersions entries → (version ≡ 0) ⊎ (maker_count entries < version) → filter (makes version) entries ≡ []
+no_such_maker : (entries : List Entry) (version : ℕ) → HasWholeVersions entries → (version ≡ 0) ⊎ (maker_count entries < version)
+    → filter (makes version) entries ≡ []
 no_such_maker entries version h outside = grind (arith, filter_none, all_weaker, cases_Bool, and_right, ne_eqb, and_left, all_both)
 
 one_from_whole : (entries : List Entry) → HasWholeVersions entries → HasOneEach entries

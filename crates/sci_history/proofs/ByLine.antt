@@ -16,13 +16,16 @@ abbrev same_log : List Entry → List Entry
 same_log log = log
 
 -- the front of a log is one entry longer
-front_more : (log : List Entry) (i line : ℕ) → i < length log → filter (is_on_line line) (take (i + 1) log) ≡ filter (is_on_line line) (take i log) ++ filter (is_on_line line) (get_or log i no_entry ∷ [])
+front_more : (log : List Entry) (i line : ℕ) → i < length log
+    → filter (is_on_line line) (take (i + 1) log) ≡ filter (is_on_line line) (take i log) ++ filter (is_on_line line) (get_or log i no_entry ∷ [])
 front_more log i line lt =
     ap (filter (is_on_line line)) (take_more log i no_entry lt) ∙ filter-append (is_on_line line) (take i log) (get_or log i no_entry ∷ [])
 
 -- the list of the entry's line ends with it, and every other list stays
-pub list_more : (lists : List (Vec (Bor Entry))) (log base : List Entry) (i line : ℕ) (old new : Vec (Bor Entry)) (ref : Bor Entry) → i < length log → ref.now ≡ get_or log i no_entry → ref.now.op.line < length lists
-    → old ≡ get_or lists ref.now.op.line old → new.items ≡ old.items ++ ref ∷ [] → get_or (lists_of lists) line [] ≡ base ++ filter (is_on_line line) (take i log)
+pub list_more : (lists : List (Vec (Bor Entry))) (log base : List Entry) (i line : ℕ) (old new : Vec (Bor Entry)) (ref : Bor Entry) → i < length log
+    → ref.now ≡ get_or log i no_entry → ref.now.op.line < length lists
+    → old ≡ get_or lists ref.now.op.line old → new.items ≡ old.items ++ ref ∷ []
+    → get_or (lists_of lists) line [] ≡ base ++ filter (is_on_line line) (take i log)
     → get_or (lists_of (set lists ref.now.op.line new)) line [] ≡ base ++ filter (is_on_line line) (take (i + 1) log)
 list_more lists log base i line old new ref lt at below was pushed h =
     let entry = ref.now in
@@ -35,13 +38,18 @@ list_more lists log base i line old new ref lt at below was pushed h =
       | inl own ↦
           let grown : f new ≡ get_or (lists_of lists) line [] ++ entry ∷ [] =
           ap entries_of pushed ∙ map-append (λ (r : Bor Entry). r.now) old.items (ref ∷ [])
-          ∙ ap (λ (es : List Entry). es ++ entry ∷ []) (ap f was ∙ sym (get_or-map f lists at_line old [] below) ∙ ap (λ (n : ℕ). get_or (lists_of lists) n []) own) in
-          let here : get_or (set (lists_of lists) at_line (f new)) line [] ≡ f new = ap (λ (n : ℕ). get_or (set (lists_of lists) at_line (f new)) n []) (sym own) ∙ get_or-set_same (lists_of lists) at_line (f new) [] there in
+          ∙ ap (λ (es : List Entry). es ++ entry ∷ [])
+          (ap f was ∙ sym (get_or-map f lists at_line old [] below) ∙ ap (λ (n : ℕ). get_or (lists_of lists) n []) own) in
+          let here : get_or (set (lists_of lists) at_line (f new)) line [] ≡ f new =
+          ap (λ (n : ℕ). get_or (set (lists_of lists) at_line (f new)) n []) (sym own) ∙ get_or-set_same (lists_of lists) at_line (f new) [] there in
           let one : filter (is_on_line line) (entry ∷ []) ≡ entry ∷ [] = filter_yes (is_on_line line) entry [] (eq-eqb at_line line own) in
-          here ∙ grown ∙ ap (λ (es : List Entry). es ++ entry ∷ []) h ∙ append_assoc base (filter (is_on_line line) (take i log)) (entry ∷ []) ∙ ap (λ (es : List Entry). base ++ (filter (is_on_line line) (take i log) ++ es)) (sym one)
+          here ∙ grown ∙ ap (λ (es : List Entry). es ++ entry ∷ []) h ∙ append_assoc base (filter (is_on_line line) (take i log)) (entry ∷ [])
+          ∙ ap (λ (es : List Entry). base ++ (filter (is_on_line line) (take i log) ++ es)) (sym one)
       | inr other ↦
           let none : filter (is_on_line line) (entry ∷ []) ≡ [] = filter_no (is_on_line line) entry [] (ne_eqb at_line line other) in
-          get_or-set_other (lists_of lists) at_line line (f new) [] (λ is. other (sym is)) ∙ h ∙ ap (λ (es : List Entry). base ++ es) (sym (append-nil (filter (is_on_line line) (take i log)))) ∙ ap (λ (es : List Entry). base ++ (filter (is_on_line line) (take i log) ++ es)) (sym none)
+          get_or-set_other (lists_of lists) at_line line (f new) [] (λ is. other (sym is)) ∙ h
+          ∙ ap (λ (es : List Entry). base ++ es) (sym (append-nil (filter (is_on_line line) (take i log))))
+          ∙ ap (λ (es : List Entry). base ++ (filter (is_on_line line) (take i log) ++ es)) (sym none)
     ])
 
 -- ---- all logs
@@ -50,7 +58,8 @@ list_more lists log base i line old new ref lt at below was pushed h =
 abbrev pub front_on_line : ℕ → ℕ → List (List Entry) → List Entry
 front_on_line line nodes logs = filter (is_on_line line) (flat_map same_log (take nodes logs))
 
-pub list_at : (lists : List (Vec (Bor Entry))) (line : ℕ) (list : Vec (Bor Entry)) (refs : List (Bor Entry)) → line < length lists → list ≡ get_or lists line list → refs ≡ list.items → entries_of refs ≡ get_or (lists_of lists) line []
+pub list_at : (lists : List (Vec (Bor Entry))) (line : ℕ) (list : Vec (Bor Entry)) (refs : List (Bor Entry)) → line < length lists
+    → list ≡ get_or lists line list → refs ≡ list.items → entries_of refs ≡ get_or (lists_of lists) line []
 list_at lists line list refs lt at is =
     let f : Vec (Bor Entry) → List Entry = λ list. entries_of list.items in
     ap entries_of is ∙ ap f at ∙ sym (get_or-map f lists line list [] lt)

@@ -74,7 +74,8 @@ later p (e ∷ es) (suc j) (suc k) lt inside = elim (cases_Bool (p e)) [
 
 -- ---- entries of a line in their order
 
-at_of_all : (P : Entry → Type 0) (p : Entry → Bool) (es : List Entry) (i : ℕ) → AllByRecursion P (filter p es) → i < length es → p (get_or es i no_entry) ≡ true → P (get_or es i no_entry)
+at_of_all : (P : Entry → Type 0) (p : Entry → Bool) (es : List Entry) (i : ℕ) → AllByRecursion P (filter p es) → i < length es → p (get_or es i no_entry) ≡ true
+    → P (get_or es i no_entry)
 at_of_all P p [] i all lt passes = absurd (omega arith)
 at_of_all P p (e ∷ es) zero all lt passes = (subst (AllByRecursion P) (filter_yes p e es passes) all).0
 at_of_all P p (e ∷ es) (suc i) all lt passes = elim (cases_Bool (p e)) [
@@ -82,7 +83,8 @@ at_of_all P p (e ∷ es) (suc i) all lt passes = elim (cases_Bool (p e)) [
   | inr fails ↦ at_of_all P p es i (subst (AllByRecursion P) (filter_no p e es fails) all) (omega arith) passes
 ]
 
-in_order_at : (key : Entry → ℕ) (p : Entry → Bool) (es : List Entry) (i j : ℕ) → IsInOrder key (filter p es) → i < j → j < length es → p (get_or es i no_entry) ≡ true → p (get_or es j no_entry) ≡ true
+in_order_at : (key : Entry → ℕ) (p : Entry → Bool) (es : List Entry) (i j : ℕ) → IsInOrder key (filter p es) → i < j → j < length es
+    → p (get_or es i no_entry) ≡ true → p (get_or es j no_entry) ≡ true
     → key (get_or es i no_entry) ≤ key (get_or es j no_entry)
 in_order_at key p [] i j ordered lt inside here there = absurd (omega arith)
 in_order_at key p (e ∷ es) i zero ordered lt inside here there = absurd (omega arith)
@@ -94,7 +96,8 @@ in_order_at key p (e ∷ es) (suc i) (suc j) ordered lt inside here there = elim
 ]
 
 -- what has the lesser key stands before
-before_by_key : (key : Entry → ℕ) (p : Entry → Bool) (es : List Entry) (i j : ℕ) → IsInOrder key (filter p es) → i < length es → j < length es → p (get_or es i no_entry) ≡ true → p (get_or es j no_entry) ≡ true
+before_by_key : (key : Entry → ℕ) (p : Entry → Bool) (es : List Entry) (i j : ℕ) → IsInOrder key (filter p es) → i < length es → j < length es
+    → p (get_or es i no_entry) ≡ true → p (get_or es j no_entry) ≡ true
     → key (get_or es i no_entry) < key (get_or es j no_entry) → i < j
 before_by_key key p es i j ordered low high here there less = elim (cases_lt i j) [
   | inl lt ↦ lt
@@ -119,13 +122,16 @@ record IsPlacedAt (order : List Entry) (x : Step) : Type 0 where
   pub below : stands_at order x < length order
   pub same : get_or order (stands_at order x) no_entry ≡ x.entry
 
-placed_at : (logs : List (List Entry)) (last : List Stamped) (order : List Entry) (x : Step) → IsSequentialOrder logs last order → IsInLog logs x → IsPlacedAt order x
+placed_at : (logs : List (List Entry)) (last : List Stamped) (order : List Entry) (x : Step) → IsSequentialOrder logs last order → IsInLog logs x
+    → IsPlacedAt order x
 placed_at logs last order x is logged =
-    let found = got (filter (is_of_node x.entry.node) order) x.place x.entry (ap (λ (log : List Entry). slice_get log x.place) (is.logged x.entry.node) ∙ logged) in
+    let found = got (filter (is_of_node x.entry.node) order) x.place x.entry
+    (ap (λ (log : List Entry). slice_get log x.place) (is.logged x.entry.node) ∙ logged) in
     let at = stands (is_of_node x.entry.node) order x.place found.0 in
     record { below = at.below; same = at.same ∙ found.1 }
 
-after_by_place : (logs : List (List Entry)) (last : List Stamped) (order : List Entry) (x y : Step) → IsSequentialOrder logs last order → IsInLog logs x → IsInLog logs y → y.entry.op.line ≡ x.entry.op.line → place y.entry < place x.entry → stands_at order y < stands_at order x
+after_by_place : (logs : List (List Entry)) (last : List Stamped) (order : List Entry) (x y : Step) → IsSequentialOrder logs last order → IsInLog logs x
+    → IsInLog logs y → y.entry.op.line ≡ x.entry.op.line → place y.entry < place x.entry → stands_at order y < stands_at order x
 after_by_place logs last order x y is in_x in_y line less =
     let a = placed_at logs last order x is in_x in
     let b = placed_at logs last order y is in_y in
@@ -135,12 +141,16 @@ after_by_place logs last order x y is in_x in_y line less =
     let rising = places-rise (filter (is_on_line on) order) zero_stamped (stamped_at last on) (is.histories on) in
     let key_x = ap place a.same in
     let key_y = ap place b.same in
-    before_by_key place (is_on_line on) order (stands_at order y) (stands_at order x) rising b.below a.below there here (subst (λ (k : ℕ). k < place (get_or order (stands_at order x) no_entry)) (sym key_y) (subst (λ (k : ℕ). place y.entry < k) (sym key_x) less))
+    before_by_key place (is_on_line on) order (stands_at order y) (stands_at order x) rising b.below a.below there here
+    (subst (λ (k : ℕ). k < place (get_or order (stands_at order x) no_entry)) (sym key_y) (subst (λ (k : ℕ). place y.entry < k) (sym key_x) less))
 
-after_stands : (logs : List (List Entry)) (last : List Stamped) (order : List Entry) (reason : Reason) (x y : Step) → IsSequentialOrder logs last order → IsInLog logs x → IsInLog logs y → ComesAfter reason x y → stands_at order y < stands_at order x
+after_stands : (logs : List (List Entry)) (last : List Stamped) (order : List Entry) (reason : Reason) (x y : Step) → IsSequentialOrder logs last order
+    → IsInLog logs x → IsInLog logs y → ComesAfter reason x y → stands_at order y < stands_at order x
 after_stands logs last order Logged x y is in_x in_y after =
-    let found = got (filter (is_of_node x.entry.node) order) x.place x.entry (ap (λ (log : List Entry). slice_get log x.place) (is.logged x.entry.node) ∙ in_x) in
-    subst (λ (n : ℕ). place_in (is_of_node n) order y.place < stands_at order x) (sym after.0) (later (is_of_node x.entry.node) order y.place x.place after.1 found.0)
+    let found = got (filter (is_of_node x.entry.node) order) x.place x.entry
+    (ap (λ (log : List Entry). slice_get log x.place) (is.logged x.entry.node) ∙ in_x) in
+    subst (λ (n : ℕ). place_in (is_of_node n) order y.place < stands_at order x) (sym after.0)
+    (later (is_of_node x.entry.node) order y.place x.place after.1 found.0)
 after_stands logs last order ReadsFrom x y is in_x in_y after =
     let version = after.3 in
     after_by_place logs last order x y is in_x in_y after.0 (rw (after.1, after.2) (omega arith))
@@ -153,16 +163,21 @@ after_stands logs last order Coherence x y is in_x in_y after =
 
 -- ---- a chain, and a cycle
 
-chain_stands : (logs : List (List Entry)) (last : List Stamped) (order : List Entry) (x : Step) (steps : List Step) (end : Step) → IsSequentialOrder logs last order → AllByRecursion (IsInLog logs) (x ∷ steps) → IsInLog logs end → IsChain (x ∷ steps) end → stands_at order end < stands_at order x
+chain_stands : (logs : List (List Entry)) (last : List Stamped) (order : List Entry) (x : Step) (steps : List Step) (end : Step)
+    → IsSequentialOrder logs last order → AllByRecursion (IsInLog logs) (x ∷ steps) → IsInLog logs end → IsChain (x ∷ steps) end
+    → stands_at order end < stands_at order x
 chain_stands logs last order x [] end is all in_end chain = after_stands logs last order x.reason x end is all.0 in_end chain
 chain_stands logs last order x (y ∷ steps) end is all in_end chain =
     let first = after_stands logs last order x.reason x y is all.0 all.1.0 chain.0 in
     let rest = chain_stands logs last order y steps end is all.1 in_end chain.1 in
     omega arith
 
-cycle_refuted : (logs : List (List Entry)) (last : List Stamped) (order : List Entry) (steps : List Step) → IsSequentialOrder logs last order → IsCycle logs steps → ⊥
+cycle_refuted : (logs : List (List Entry)) (last : List Stamped) (order : List Entry) (steps : List Step) → IsSequentialOrder logs last order
+    → IsCycle logs steps → ⊥
 cycle_refuted logs last order [] is cycle = cycle.round
-cycle_refuted logs last order (x ∷ steps) is cycle = let less = chain_stands logs last order x steps x is cycle.entries cycle.entries.0 cycle.round in omega arith
+cycle_refuted logs last order (x ∷ steps) is cycle = let less = chain_stands logs last order x steps x is cycle.entries cycle.entries.0 cycle.round in
+    omega arith
 
-pub no_order_with_cycle : (logs : List (List Entry)) (last : List Stamped) (steps : List Step) → IsCycle logs steps → (order : List Entry) → IsSequentialOrder logs last order → ⊥
+pub no_order_with_cycle : (logs : List (List Entry)) (last : List Stamped) (steps : List Step) → IsCycle logs steps → (order : List Entry)
+    → IsSequentialOrder logs last order → ⊥
 no_order_with_cycle logs last steps cycle order is = cycle_refuted logs last order steps is cycle

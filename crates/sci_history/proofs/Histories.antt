@@ -54,14 +54,16 @@ versions-within (entry ∷ entries) old new h =
     (omega arith, versions-within entries (after old entry.op) new h.2)
 
 -- each maker's version is above the version before it
-pub makers-after : (entries : List Entry) (old new : Stamped) → IsHistory entries old new → AllByRecursion (λ entry. IsTrue (is_making entry) → old.version < entry.version) entries
+pub makers-after : (entries : List Entry) (old new : Stamped) → IsHistory entries old new
+    → AllByRecursion (λ entry. IsTrue (is_making entry) → old.version < entry.version) entries
 makers-after [] old new h = tt
 makers-after (entry ∷ entries) old new h = grind (arith, version-grows, version-maker, all_weaker, makers-after entries (after old entry.op) new h.2)
 
 -- how many makers there are
 pub makers-counted : (entries : List Entry) (old new : Stamped) → IsHistory entries old new → length (filter is_making entries) + old.version ≡ new.version
 makers-counted [] old new h = let e : new.version ≡ old.version = ap (λ (s : Stamped). s.version) h in omega arith
-makers-counted (entry ∷ entries) old new h = grind (arith, cases_Bool, version-maker, filter_yes, version-load, filter_no, makers-counted entries (after old entry.op) new h.2)
+makers-counted (entry ∷ entries) old new h =
+    grind (arith, cases_Bool, version-maker, filter_yes, version-load, filter_no, makers-counted entries (after old entry.op) new h.2)
 
 place-next : (entry other : Entry) → entry.version ≤ other.version → (IsTrue (is_making other) → entry.version < other.version) → place entry ≤ place other
 place-next entry other le above = grind (arith, cases_Bool)
@@ -71,16 +73,25 @@ pub places-rise : (entries : List Entry) (old new : Stamped) → IsHistory entri
 places-rise [] old new h = tt
 places-rise (entry ∷ entries) old new h =
     let mid = after old entry.op in
-    let is = h.1 in
-    (all_weaker (λ e. (mid.version ≤ e.version) × (IsTrue (is_making e) → mid.version < e.version)) (λ e. place entry ≤ place e) (λ e facts. let le = facts.0 in place-next entry e (omega arith) (λ maker. let lt = facts.1 maker in omega arith)) entries (all_both (λ e. mid.version ≤ e.version) (λ e. IsTrue (is_making e) → mid.version < e.version) entries (versions-after entries mid new h.2) (makers-after entries mid new h.2)), places-rise entries mid new h.2)
+    let is = h.1 in (
+      all_weaker (λ e. (mid.version ≤ e.version) × (IsTrue (is_making e) → mid.version < e.version)) (λ e. place entry ≤ place e)
+          (λ e facts. let le = facts.0 in
+          place-next entry e (omega arith) (λ maker. let lt = facts.1 maker in omega arith)) entries
+          (all_both (λ e. mid.version ≤ e.version) (λ e. IsTrue (is_making e) → mid.version < e.version) entries (versions-after entries mid new h.2)
+          (makers-after entries mid new h.2)),
+      places-rise entries mid new h.2,
+    )
 
 -- ---- the one maker of a version
 
 -- a maker's version is no later maker's
-only_maker : (entry : Entry) (entries : List Entry) (old new : Stamped) (version : ℕ) → IsHistory (entry ∷ entries) old new → old.version < version → version ≤ (after old entry.op).version → filter (makes version) (entry ∷ entries) ≡ entry ∷ []
-only_maker entry entries old new version h above here = grind (arith, all_weaker, cases_Bool, and_right, ne_eqb, and_left, makers-after, version-maker, filter_yes, and_from, eq-eqb, filter_none, version-load)
+only_maker : (entry : Entry) (entries : List Entry) (old new : Stamped) (version : ℕ) → IsHistory (entry ∷ entries) old new → old.version < version
+    → version ≤ (after old entry.op).version → filter (makes version) (entry ∷ entries) ≡ entry ∷ []
+only_maker entry entries old new version h above here =
+    grind (arith, all_weaker, cases_Bool, and_right, ne_eqb, and_left, makers-after, version-maker, filter_yes, and_from, eq-eqb, filter_none, version-load)
 
-pub maker_of : (entries : List Entry) (old new : Stamped) (version : ℕ) → IsHistory entries old new → old.version < version → version ≤ new.version → (maker : Entry) × (filter (makes version) entries ≡ maker ∷ [])
+pub maker_of : (entries : List Entry) (old new : Stamped) (version : ℕ) → IsHistory entries old new → old.version < version → version ≤ new.version
+    → (maker : Entry) × (filter (makes version) entries ≡ maker ∷ [])
 maker_of [] old new version h above below = let e : new.version ≡ old.version = ap (λ (s : Stamped). s.version) h in absurd (omega arith)
 maker_of (entry ∷ entries) old new version h above below =
     let mid = after old entry.op in
@@ -88,7 +99,8 @@ maker_of (entry ∷ entries) old new version h above below =
     elim (cases_lt mid.version version) [
       | inl later ↦
           let rest = maker_of entries mid new version h.2 later below in
-          let other : makes version entry ≡ false = and_right (is_making entry) (eqb entry.version version) (ne_eqb entry.version version (λ e. absurd (omega arith))) in
+          let other : makes version entry ≡ false =
+          and_right (is_making entry) (eqb entry.version version) (ne_eqb entry.version version (λ e. absurd (omega arith))) in
           (rest.0, filter_no (makes version) entry entries other ∙ rest.1)
       | inr here ↦ (entry, only_maker entry entries old new version h above here)
     ]
@@ -97,10 +109,12 @@ maker_of (entry ∷ entries) old new version h above below =
 
 -- an entry agrees with the words at each version
 pub record Agrees (words : ℕ → List ℕ) (entry : Entry) : Type 0 where
-  pub made : (version : ℕ) → is_making entry ≡ true → entry.version ≡ suc version → (entry.reply ≡ reply_of (words version) entry.op) × (words (suc version) ≡ line_after (words version) entry.op)
+  pub made : (version : ℕ) → is_making entry ≡ true → entry.version ≡ suc version
+      → (entry.reply ≡ reply_of (words version) entry.op) × (words (suc version) ≡ line_after (words version) entry.op)
   pub read : is_making entry ≡ false → entry.reply ≡ reply_of (words entry.version) entry.op
 
-pub words_at-end : (entries : List Entry) (old new : Stamped) (version : ℕ) → IsHistory entries old new → new.version ≤ version → words_at old.line entries version ≡ new.line
+pub words_at-end : (entries : List Entry) (old new : Stamped) (version : ℕ) → IsHistory entries old new → new.version ≤ version
+    → words_at old.line entries version ≡ new.line
 words_at-end [] old new version h le = sym (ap (λ (s : Stamped). s.line) h)
 words_at-end (entry ∷ entries) old new version h le =
     let mid = after old entry.op in
@@ -117,10 +131,12 @@ words_at-start (entry ∷ entries) old new h =
       | inl maker ↦ let more = version-maker old entry.op maker in rw (lt-leb entry.version old.version (omega arith)) refl
       | inr load ↦
           let same = version-load old entry.op load in
-          rw (le-leb entry.version old.version (omega arith)) (ap (words_at mid.line entries) (sym same) ∙ words_at-start entries mid new h.2 ∙ line_after-load old.line entry.op load)
+          rw (le-leb entry.version old.version (omega arith))
+          (ap (words_at mid.line entries) (sym same) ∙ words_at-start entries mid new h.2 ∙ line_after-load old.line entry.op load)
     ]
 
-pub history-agrees : (entries : List Entry) (old new : Stamped) (words : ℕ → List ℕ) → IsHistory entries old new → ((version : ℕ) → old.version ≤ version → words version ≡ words_at old.line entries version) → AllByRecursion (Agrees words) entries
+pub history-agrees : (entries : List Entry) (old new : Stamped) (words : ℕ → List ℕ) → IsHistory entries old new
+    → ((version : ℕ) → old.version ≤ version → words version ≡ words_at old.line entries version) → AllByRecursion (Agrees words) entries
 history-agrees [] old new words h same = tt
 history-agrees (entry ∷ entries) old new words h same =
     let mid = after old entry.op in

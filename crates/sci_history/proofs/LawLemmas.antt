@@ -41,7 +41,8 @@ run-then (x ∷ xs) ys old mid new h k = (h.0, run-then xs ys (memory_after old 
 same_pair : (x y : Op × Reply) → x.0 ≡ y.0 → x.1 ≡ y.1 → x ≡ y
 same_pair x y e f = grind arith
 
-pub run-function : (xs ys : List (Op × Reply)) (old new other : List (List ℕ)) → map (λ x. x.0) xs ≡ map (λ y. y.0) ys → IsRun xs old new → IsRun ys old other → (xs ≡ ys) × (new ≡ other)
+pub run-function : (xs ys : List (Op × Reply)) (old new other : List (List ℕ)) → map (λ x. x.0) xs ≡ map (λ y. y.0) ys → IsRun xs old new → IsRun ys old other
+    → (xs ≡ ys) × (new ≡ other)
 run-function [] [] old new other e h k = (refl, h ∙ sym k)
 run-function [] (y ∷ ys) old new other e h k = absurd cc
 run-function (x ∷ xs) [] old new other e h k = absurd cc
@@ -54,13 +55,17 @@ run-function (x ∷ xs) (y ∷ ys) old new other e h k =
 
 -- ---- no stale read
 
-pub IsInOrder-append : {X : Type 0} (key : X → ℕ) (bound : ℕ) (xs ys : List X) → IsInOrder key xs → IsInOrder key ys → AllByRecursion (λ x. key x < bound) xs → AllByRecursion (λ y. bound ≤ key y) ys → IsInOrder key (xs ++ ys)
+pub IsInOrder-append : {X : Type 0} (key : X → ℕ) (bound : ℕ) (xs ys : List X) → IsInOrder key xs → IsInOrder key ys → AllByRecursion (λ x. key x < bound) xs
+    → AllByRecursion (λ y. bound ≤ key y) ys → IsInOrder key (xs ++ ys)
 IsInOrder-append key bound [] ys h k low high = k
 IsInOrder-append key bound (x ∷ xs) ys h k low high =
-    let lt : key x < bound = low.0 in
-    (all-append (λ y. key x ≤ key y) xs ys h.0 (all_weaker (λ y. bound ≤ key y) (λ y. key x ≤ key y) (λ y le. omega arith) ys high), IsInOrder-append key bound xs ys h.1 k low.1 high)
+    let lt : key x < bound = low.0 in (
+      all-append (λ y. key x ≤ key y) xs ys h.0 (all_weaker (λ y. bound ≤ key y) (λ y. key x ≤ key y) (λ y le. omega arith) ys high),
+      IsInOrder-append key bound xs ys h.1 k low.1 high,
+    )
 
-group_at : (version : ℕ) (entries : List Entry) → AllByRecursion (λ e. e.version ≡ version) (by_node_and_serial (filter (makes version) entries) ++ by_node_and_serial (filter (reads version) entries))
+group_at : (version : ℕ) (entries : List Entry)
+    → AllByRecursion (λ e. e.version ≡ version) (by_node_and_serial (filter (makes version) entries) ++ by_node_and_serial (filter (reads version) entries))
 group_at version entries = grind (arith, all-append, all-by_node_and_serial, all_weaker, eqb-true, and_parts, all-passes)
 
 by_version-below : (bound : ℕ) (entries : List Entry) → AllByRecursion (λ e. e.version < bound) (by_version bound entries)
@@ -73,18 +78,24 @@ unfolding by_version
 by_version-in_order zero entries = tt
 by_version-in_order (suc version) entries =
     let group = by_node_and_serial (filter (makes version) entries) ++ by_node_and_serial (filter (reads version) entries) in
-    IsInOrder-append (λ e. e.version) version (by_version version entries) group (by_version-in_order version entries) (IsInOrder-same (λ e. e.version) version group (group_at version entries)) (by_version-below version entries) (all_weaker (λ e. e.version ≡ version) (λ e. version ≤ e.version) (λ e is. omega arith) group (group_at version entries))
+    IsInOrder-append (λ e. e.version) version (by_version version entries) group (by_version-in_order version entries)
+    (IsInOrder-same (λ e. e.version) version group (group_at version entries)) (by_version-below version entries)
+    (all_weaker (λ e. e.version ≡ version) (λ e. version ≤ e.version) (λ e is. omega arith) group (group_at version entries))
 
 all-at : (P : Entry → Type 0) (before after : List Entry) (entry : Entry) → AllByRecursion P (before ++ entry ∷ after) → P entry
 all-at P [] after entry h = h.0
 all-at P (first ∷ before) after entry h = all-at P before after entry h.1
 
-before_in_order : (before after : List Entry) (entry : Entry) → IsInOrder (λ e. e.version) (before ++ entry ∷ after) → AllByRecursion (λ e. e.version ≤ entry.version) before
+before_in_order : (before after : List Entry) (entry : Entry) → IsInOrder (λ e. e.version) (before ++ entry ∷ after)
+    → AllByRecursion (λ e. e.version ≤ entry.version) before
 before_in_order [] after entry h = tt
 before_in_order (first ∷ before) after entry h = (all-at (λ e. first.version ≤ e.version) before after entry h.0, before_in_order before after entry h.1)
 
-pub not_stale : (logs : List (List Entry)) (line node : ℕ) (last : Stamped) (before after : List Entry) (entry : Entry) → node < MAX_NODES → IsLawfulLine logs line last → filter (is_on_line line) (log_of logs node) ≡ before ++ entry ∷ after → AllByRecursion (λ e. e.version ≤ entry.version) before
+pub not_stale : (logs : List (List Entry)) (line node : ℕ) (last : Stamped) (before after : List Entry) (entry : Entry) → node < MAX_NODES
+    → IsLawfulLine logs line last → filter (is_on_line line) (log_of logs node) ≡ before ++ entry ∷ after
+    → AllByRecursion (λ e. e.version ≤ entry.version) before
 not_stale logs line node last before after entry lt h is =
     let kept = (h.order node lt).order in
-    let ordered : IsInOrder (λ e. e.version) (filter (is_of_node node) (placed logs line)) = IsInOrder-filter (λ e. e.version) (is_of_node node) (placed logs line) (by_version-in_order _ (on_line line logs)) in
+    let ordered : IsInOrder (λ e. e.version) (filter (is_of_node node) (placed logs line)) =
+    IsInOrder-filter (λ e. e.version) (is_of_node node) (placed logs line) (by_version-in_order _ (on_line line logs)) in
     before_in_order before after entry (subst (λ (es : List Entry). IsInOrder (λ e. e.version) es) (kept ∙ is) ordered)

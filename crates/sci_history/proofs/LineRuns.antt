@@ -25,7 +25,8 @@ line_run-end [] old new other h k = h ∙ sym k
 line_run-end (x ∷ xs) old new other h k = line_run-end xs (line_after old x.0) new other h.1 k.1
 
 -- loads at one version leave the line
-loads_run : (words : ℕ → List ℕ) (version : ℕ) (entries : List Entry) → AllByRecursion (λ e. Agrees words e × (reads version e ≡ true)) entries → IsLineRun (map pair_of entries) (words version) (words version)
+loads_run : (words : ℕ → List ℕ) (version : ℕ) (entries : List Entry) → AllByRecursion (λ e. Agrees words e × (reads version e ≡ true)) entries
+    → IsLineRun (map pair_of entries) (words version) (words version)
 loads_run words version [] h = refl
 loads_run words version (entry ∷ entries) h = grind (arith, and_parts, not-true, eqb-true, line_after-load, loads_run words version entries h.1)
 
@@ -36,15 +37,22 @@ pub record Explains (words : ℕ → List ℕ) (count : ℕ) (entries : List Ent
   pub none : filter (makes 0) entries ≡ []
   pub one : (version : ℕ) → version < count → (maker : Entry) × (filter (makes (suc version)) entries ≡ maker ∷ [])
 
-group_of : (words : ℕ → List ℕ) (count version : ℕ) (entries : List Entry) → Explains words count entries → IsLineRun (map pair_of (by_node_and_serial (filter (reads version) entries))) (words version) (words version)
+group_of : (words : ℕ → List ℕ) (count version : ℕ) (entries : List Entry) → Explains words count entries
+    → IsLineRun (map pair_of (by_node_and_serial (filter (reads version) entries))) (words version) (words version)
 group_of words count version entries h =
     let own = filter (reads version) entries in
-    loads_run words version (by_node_and_serial own) (all-by_node_and_serial (λ e. Agrees words e × (reads version e ≡ true)) own (all_both (Agrees words) (λ e. reads version e ≡ true) own (all-filter (Agrees words) (reads version) entries h.agree) (all-passes (reads version) entries)))
+    loads_run words version (by_node_and_serial own)
+    (all-by_node_and_serial (λ e. Agrees words e × (reads version e ≡ true)) own
+    (all_both (Agrees words) (λ e. reads version e ≡ true) own (all-filter (Agrees words) (reads version) entries h.agree)
+    (all-passes (reads version) entries)))
 
-maker_run : (words : ℕ → List ℕ) (version : ℕ) (entries : List Entry) (maker : Entry) → AllByRecursion (Agrees words) entries → AllByRecursion (λ entry. entry.node < MAX_NODES) entries → filter (makes (suc version)) entries ≡ maker ∷ [] → IsLineRun (map pair_of (by_node_and_serial (filter (makes (suc version)) entries))) (words version) (words (suc version))
+maker_run : (words : ℕ → List ℕ) (version : ℕ) (entries : List Entry) (maker : Entry) → AllByRecursion (Agrees words) entries
+    → AllByRecursion (λ entry. entry.node < MAX_NODES) entries → filter (makes (suc version)) entries ≡ maker ∷ []
+    → IsLineRun (map pair_of (by_node_and_serial (filter (makes (suc version)) entries))) (words version) (words (suc version))
 maker_run words version entries maker agree nodes is = grind (arith, all-filter, all-passes, and_parts, eqb-true, by_node_and_serial-one)
 
-pub versions_run : (words : ℕ → List ℕ) (count version : ℕ) (entries : List Entry) → Explains words count entries → version ≤ count → IsLineRun (map pair_of (by_version (suc version) entries)) (words 0) (words version)
+pub versions_run : (words : ℕ → List ℕ) (count version : ℕ) (entries : List Entry) → Explains words count entries → version ≤ count
+    → IsLineRun (map pair_of (by_version (suc version) entries)) (words 0) (words version)
 unfolding by_version
 versions_run words count zero entries h le =
     let loads = group_of words count 0 entries h in
@@ -55,7 +63,9 @@ versions_run words count (suc version) entries h le =
     let loads = by_node_and_serial (filter (reads (suc version)) entries) in
     let one = h.one version (omega arith) in
     let group : IsLineRun (map pair_of makers ++ map pair_of loads) (words version) (words (suc version)) =
-    line_run-append (map pair_of makers) (map pair_of loads) (words version) (words (suc version)) (words (suc version)) (maker_run words version entries one.0 h.agree h.nodes one.1) (group_of words count (suc version) entries h) in
+    line_run-append (map pair_of makers) (map pair_of loads) (words version) (words (suc version)) (words (suc version))
+    (maker_run words version entries one.0 h.agree h.nodes one.1) (group_of words count (suc version) entries h) in
     let whole : IsLineRun (map pair_of before ++ (map pair_of makers ++ map pair_of loads)) (words 0) (words (suc version)) =
-    line_run-append (map pair_of before) (map pair_of makers ++ map pair_of loads) (words 0) (words version) (words (suc version)) (versions_run words count version entries h (omega arith)) group in
+    line_run-append (map pair_of before) (map pair_of makers ++ map pair_of loads) (words 0) (words version) (words (suc version))
+    (versions_run words count version entries h (omega arith)) group in
     rw (map-append pair_of before (makers ++ loads), map-append pair_of makers loads) whole

@@ -1,5 +1,6 @@
 -- The number of loads at each version among the first entries.
-use Rattle.std.proofs.Common.{◌≡◌, ℕ, ◌+◌, ◌<◌, ◌≤◌, true, false, List, [], ◌∷◌, ◌++◌, length, map, get_or, set, take, refl, sym, ap, subst, ◌∙◌, arith, inl, inr}
+use Rattle.std.proofs.Common.{◌≡◌, ℕ, ◌+◌, ◌<◌, ◌≤◌, true, false, List, [], ◌∷◌, ◌++◌, length, map, get_or, set, take, refl, sym, ap, subst, ◌∙◌, arith, inl}
+use Rattle.std.proofs.Common.{inr}
 use Rattle.std.specs.Global.{Vec}
 use Rattle.std.specs.Prelude.{count_by}
 use Rattle.std.proofs.Math.Seq.{get_or-append_seam}
@@ -20,10 +21,13 @@ pub record HasCounted (counts : List ℕ) (refs : List (Bor Entry)) (n makers : 
   pub long : length counts ≡ makers + 1
   pub each : (version : ℕ) → version ≤ makers → get_or counts version 0 ≡ count_by (reads version) (take n (entries_of refs))
 
-one_more : (refs : List (Bor Entry)) (n version : ℕ) → n < length refs → count_by (reads version) (take (n + 1) (entries_of refs)) ≡ count_by (reads version) (take n (entries_of refs)) + once (reads version (entry_at refs n))
-one_more refs n version lt = ap (count_by (reads version)) (take_entries_more refs n lt) ∙ count_push (reads version) (take n (entries_of refs)) (entry_at refs n)
+one_more : (refs : List (Bor Entry)) (n version : ℕ) → n < length refs
+    → count_by (reads version) (take (n + 1) (entries_of refs)) ≡ count_by (reads version) (take n (entries_of refs)) + once (reads version (entry_at refs n))
+one_more refs n version lt = ap (count_by (reads version)) (take_entries_more refs n lt)
+    ∙ count_push (reads version) (take n (entries_of refs)) (entry_at refs n)
 
-pub counted_maker : (counts : List ℕ) (refs : List (Bor Entry)) (n makers : ℕ) → n < length refs → is_making (entry_at refs n) ≡ true → HasCounted counts refs n makers → HasCounted counts refs (n + 1) makers
+pub counted_maker : (counts : List ℕ) (refs : List (Bor Entry)) (n makers : ℕ) → n < length refs → is_making (entry_at refs n) ≡ true
+    → HasCounted counts refs n makers → HasCounted counts refs (n + 1) makers
 counted_maker counts refs n makers lt maker has = record {
   long = has.long;
   each = λ version le.
@@ -33,7 +37,8 @@ counted_maker counts refs n makers lt maker has = record {
       omega arith;
 }
 
-pub counted_load : (counts : List ℕ) (refs : List (Bor Entry)) (n makers : ℕ) → n < length refs → is_making (entry_at refs n) ≡ false → (entry_at refs n).version ≤ makers → HasCounted counts refs n makers
+pub counted_load : (counts : List ℕ) (refs : List (Bor Entry)) (n makers : ℕ) → n < length refs → is_making (entry_at refs n) ≡ false
+    → (entry_at refs n).version ≤ makers → HasCounted counts refs n makers
     → HasCounted (set counts (entry_at refs n).version (get_or counts (entry_at refs n).version 0 + 1)) refs (n + 1) makers
 counted_load counts refs n makers lt load within has =
     let at = (entry_at refs n).version in
@@ -45,7 +50,8 @@ counted_load counts refs n makers lt load within has =
             let single : once (reads version (entry_at refs n)) ≡ 1 = rw load (ap once (eq-eqb at version (sym same))) in
             let more = one_more refs n version lt in
             let was = has.each version le in
-            let now : get_or (set counts at (get_or counts at 0 + 1)) version 0 ≡ get_or counts at 0 + 1 = ap (λ (k : ℕ). get_or (set counts at (get_or counts at 0 + 1)) k 0) same ∙ get_or-set_same counts at (get_or counts at 0 + 1) 0 (omega arith) in
+            let now : get_or (set counts at (get_or counts at 0 + 1)) version 0 ≡ get_or counts at 0 + 1 =
+            ap (λ (k : ℕ). get_or (set counts at (get_or counts at 0 + 1)) k 0) same ∙ get_or-set_same counts at (get_or counts at 0 + 1) 0 (omega arith) in
             let here = ap (λ (k : ℕ). get_or counts k 0) same in
             omega arith
         | inr ne ↦
@@ -58,7 +64,8 @@ counted_load counts refs n makers lt load within has =
     }
 
 -- no count is above the number of entries
-pub few_counted : (counts : List ℕ) (refs : List (Bor Entry)) (n makers version : ℕ) → version ≤ makers → HasCounted counts refs n makers → get_or counts version 0 ≤ n
+pub few_counted : (counts : List ℕ) (refs : List (Bor Entry)) (n makers version : ℕ) → version ≤ makers → HasCounted counts refs n makers
+    → get_or counts version 0 ≤ n
 few_counted counts refs n makers version le has =
     let was = has.each version le in
     let few = count_by-le-length (reads version) (take n (entries_of refs)) in
@@ -67,12 +74,18 @@ few_counted counts refs n makers version le has =
 
 -- ---- one line more
 
-pub counts_more : (loads new : List (Vec ℕ)) (list : Vec ℕ) (n : ℕ) (logs : List (List Entry)) → length loads ≡ n → new ≡ loads ++ list ∷ [] → ((line : ℕ) → line < n → HasCounts (get_or (lists_of_counts loads) line []) (on_line line logs))
+pub counts_more : (loads new : List (Vec ℕ)) (list : Vec ℕ) (n : ℕ) (logs : List (List Entry)) → length loads ≡ n → new ≡ loads ++ list ∷ []
+    → ((line : ℕ) → line < n → HasCounts (get_or (lists_of_counts loads) line []) (on_line line logs))
     → HasCounts list.items (on_line n logs) → (line : ℕ) → line < n + 1 → HasCounts (get_or (lists_of_counts new) line []) (on_line line logs)
 counts_more loads new list n logs long is before here =
     let f = λ (l : Vec ℕ). l.items in
     let joined : lists_of_counts new ≡ lists_of_counts loads ++ list.items ∷ [] = ap (λ (ls : List (Vec ℕ)). map f ls) is ∙ map-append f loads (list ∷ []) in
     let size : length (lists_of_counts loads) ≡ n = length-map loads f ∙ long in
     below_more (λ (line : ℕ). HasCounts (get_or (lists_of_counts new) line []) (on_line line logs)) n
-    (λ line lt. subst (λ (cs : List ℕ). HasCounts cs (on_line line logs)) (sym (ap (λ (ls : List (List ℕ)). get_or ls line []) joined ∙ get_or_append_left (lists_of_counts loads) (list.items ∷ []) [] line (omega arith))) (before line lt))
-    (subst (λ (cs : List ℕ). HasCounts cs (on_line n logs)) (sym (ap (λ (ls : List (List ℕ)). get_or ls n []) joined ∙ (ap (λ (k : ℕ). get_or (lists_of_counts loads ++ list.items ∷ []) k []) (sym size) ∙ get_or-append_seam (lists_of_counts loads) list.items [] []))) here)
+    (λ line lt. subst (λ (cs : List ℕ). HasCounts cs (on_line line logs))
+    (sym (ap (λ (ls : List (List ℕ)). get_or ls line []) joined ∙ get_or_append_left (lists_of_counts loads) (list.items ∷ []) [] line (omega arith)))
+    (before line lt))
+    (subst (λ (cs : List ℕ). HasCounts cs (on_line n logs))
+    (sym (ap (λ (ls : List (List ℕ)). get_or ls n []) joined
+    ∙ (ap (λ (k : ℕ). get_or (lists_of_counts loads ++ list.items ∷ []) k []) (sym size) ∙ get_or-append_seam (lists_of_counts loads) list.items [] [])))
+    here)

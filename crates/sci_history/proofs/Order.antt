@@ -78,14 +78,31 @@ abbrev pub HasKeysBelow : {X : Type 0} → (X → ℕ) → ℕ → List X → Ty
 HasKeysBelow key bound xs = AllByRecursion (λ x. key x < bound) xs
 
 -- those below the bound stand before those at it
-split_at : {X : Type 0} (key : X → ℕ) (bound : ℕ) (xs : List X) → IsInOrder key xs → HasKeysBelow key (suc bound) xs → filter (λ x. ltb (key x) bound) xs ++ filter (λ x. eqb (key x) bound) xs ≡ xs
+split_at : {X : Type 0} (key : X → ℕ) (bound : ℕ) (xs : List X) → IsInOrder key xs → HasKeysBelow key (suc bound) xs
+    → filter (λ x. ltb (key x) bound) xs ++ filter (λ x. eqb (key x) bound) xs ≡ xs
 split_at key bound [] ordered below = refl
-split_at {X} key bound (x ∷ xs) ordered below = grind (arith, cases_lt, ne_eqb, filter_yes, lt-ltb, filter_no, all_both, filter_none, le-ltb, all_weaker, filter_all, eq-eqb, split_at key bound xs ordered.1 below.1)
+split_at {X} key bound (x ∷ xs) ordered below =
+    grind (
+      arith,
+      cases_lt,
+      ne_eqb,
+      filter_yes,
+      lt-ltb,
+      filter_no,
+      all_both,
+      filter_none,
+      le-ltb,
+      all_weaker,
+      filter_all,
+      eq-eqb,
+      split_at key bound xs ordered.1 below.1,
+    )
 
 -- ---- in_order
 
 -- it depends on what stands at each key alone
-pub in_order_same : {X : Type 0} (key : X → ℕ) (bound : ℕ) (xs ys : List X) → ((k : ℕ) → k < bound → filter (λ x. eqb (key x) k) xs ≡ filter (λ x. eqb (key x) k) ys) → in_order key bound xs ≡ in_order key bound ys
+pub in_order_same : {X : Type 0} (key : X → ℕ) (bound : ℕ) (xs ys : List X)
+    → ((k : ℕ) → k < bound → filter (λ x. eqb (key x) k) xs ≡ filter (λ x. eqb (key x) k) ys) → in_order key bound xs ≡ in_order key bound ys
 unfolding in_order
 in_order_same key zero xs ys same = refl
 in_order_same key (suc bound) xs ys same = grind (arith, in_order_same key bound xs ys (λ k lt. same k (omega arith)), same bound (omega arith))
@@ -111,9 +128,12 @@ in_order-ordered key zero xs ordered below = none_below_zero key xs below
 in_order-ordered key (suc bound) xs ordered below =
     let low = filter (λ x. ltb (key x) bound) xs in
     let at_key : (k : ℕ) → k < bound → filter (λ x. eqb (key x) k) xs ≡ filter (λ x. eqb (key x) k) low =
-    λ k lt. sym (filter-implied (λ x. eqb (key x) k) (λ x. ltb (key x) bound) (λ x e. lt-ltb (key x) bound (let is : key x ≡ k = eqb-true (key x) k e in omega arith)) xs) in
-    let low_below : HasKeysBelow key bound low = all_weaker (λ x. ltb (key x) bound ≡ true) (λ x. key x < bound) (λ x e. ltb-true (key x) bound e) low (all-passes (λ x. ltb (key x) bound) xs) in
-    rw (in_order_same key bound xs low at_key, in_order-ordered key bound low (IsInOrder-filter key (λ x. ltb (key x) bound) xs ordered) low_below) (split_at key bound xs ordered below)
+    λ k lt. sym (filter-implied (λ x. eqb (key x) k) (λ x. ltb (key x) bound)
+    (λ x e. lt-ltb (key x) bound (let is : key x ≡ k = eqb-true (key x) k e in omega arith)) xs) in
+    let low_below : HasKeysBelow key bound low =
+    all_weaker (λ x. ltb (key x) bound ≡ true) (λ x. key x < bound) (λ x e. ltb-true (key x) bound e) low (all-passes (λ x. ltb (key x) bound) xs) in
+    rw (in_order_same key bound xs low at_key, in_order-ordered key bound low (IsInOrder-filter key (λ x. ltb (key x) bound) xs ordered) low_below)
+    (split_at key bound xs ordered below)
 
 -- elements of one key stay
 pub IsInOrder-same : {X : Type 0} (key : X → ℕ) (k : ℕ) (xs : List X) → AllByRecursion (λ x. key x ≡ k) xs → IsInOrder key xs
@@ -127,7 +147,8 @@ in_order_same_key key bound k xs lt h =
     in_order-ordered key bound xs (IsInOrder-same key k xs h) (all_weaker (λ x. key x ≡ k) (λ x. key x < bound) (λ x e. omega arith) xs h)
 
 -- nothing is lost
-front_longer : {X : Type 0} (key : X → ℕ) (bound : ℕ) (x : X) (xs : List X) → key x < bound → length (in_order key bound (x ∷ xs)) ≡ suc (length (in_order key bound xs))
+front_longer : {X : Type 0} (key : X → ℕ) (bound : ℕ) (x : X) (xs : List X) → key x < bound
+    → length (in_order key bound (x ∷ xs)) ≡ suc (length (in_order key bound xs))
 unfolding in_order
 front_longer key zero x xs lt = absurd (omega arith)
 front_longer key (suc bound) x xs lt =
@@ -135,13 +156,22 @@ front_longer key (suc bound) x xs lt =
       | inl below ↦
           let no : filter (λ y. eqb (key y) bound) (x ∷ xs) ≡ filter (λ y. eqb (key y) bound) xs =
           filter_no (λ y. eqb (key y) bound) x xs (ne_eqb (key x) bound (λ e. absurd (omega arith))) in
-          rw no (omega (arith, front_longer key bound x xs below, length-append (in_order key bound (x ∷ xs)) (filter (λ y. eqb (key y) bound) xs), length-append (in_order key bound xs) (filter (λ y. eqb (key y) bound) xs)))
+          rw no (omega (
+            arith,
+            front_longer key bound x xs below,
+            length-append (in_order key bound (x ∷ xs)) (filter (λ y. eqb (key y) bound) xs),
+            length-append (in_order key bound xs) (filter (λ y. eqb (key y) bound) xs),
+          ))
       | inr le ↦
           let yes : filter (λ y. eqb (key y) bound) (x ∷ xs) ≡ x ∷ filter (λ y. eqb (key y) bound) xs =
           filter_yes (λ y. eqb (key y) bound) x xs (eq-eqb (key x) bound (omega arith)) in
           let same : in_order key bound (x ∷ xs) ≡ in_order key bound xs =
           in_order_same key bound (x ∷ xs) xs (λ k under. filter_no (λ y. eqb (key y) k) x xs (ne_eqb (key x) k (λ e. absurd (omega arith)))) in
-          rw (yes, same) (omega (arith, length-append (in_order key bound xs) (x ∷ filter (λ y. eqb (key y) bound) xs), length-append (in_order key bound xs) (filter (λ y. eqb (key y) bound) xs)))
+          rw (yes, same) (omega (
+            arith,
+            length-append (in_order key bound xs) (x ∷ filter (λ y. eqb (key y) bound) xs),
+            length-append (in_order key bound xs) (filter (λ y. eqb (key y) bound) xs),
+          ))
     ]
 
 pub length-in_order : {X : Type 0} (key : X → ℕ) (bound : ℕ) (xs : List X) → HasKeysBelow key bound xs → length (in_order key bound xs) ≡ length xs

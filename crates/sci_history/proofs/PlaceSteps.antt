@@ -1,5 +1,6 @@
 -- The first entry of a log that is left, as the code reads it.
-use Rattle.std.proofs.Common.{◌≡◌, ℕ, zero, suc, ◌+◌, ◌<◌, ◌≤◌, true, false, List, [], ◌∷◌, ◌++◌, length, get_or, set, drop, replicate, refl, sym, ap, subst, ◌∙◌, arith, inl, inr}
+use Rattle.std.proofs.Common.{◌≡◌, ℕ, zero, suc, ◌+◌, ◌<◌, ◌≤◌, true, false, List, [], ◌∷◌, ◌++◌, length, get_or, set, drop, replicate, refl, sym, ap, subst}
+use Rattle.std.proofs.Common.{◌∙◌, arith, inl, inr}
 use Rattle.std.specs.Global.{Vec}
 use denote.Ref.{Bor}
 use Rattle.std.proofs.lemmas.List.{map-append, get_or-map, length-map, get_or-set_same, get_or-set_other}
@@ -20,7 +21,8 @@ pub counts_long : (loads : List (Vec ℕ)) → length (lists_of_counts loads) �
 counts_long loads = length-map loads (λ (list : Vec ℕ). list.items)
 
 -- the counts of a line, as the code reads them
-pub counts_read : (loads : List (Vec ℕ)) (line : ℕ) (d list : Vec ℕ) (counts : List ℕ) → line < length loads → list ≡ get_or loads line d → counts ≡ list.items → get_or (lists_of_counts loads) line [] ≡ counts
+pub counts_read : (loads : List (Vec ℕ)) (line : ℕ) (d list : Vec ℕ) (counts : List ℕ) → line < length loads → list ≡ get_or loads line d → counts ≡ list.items
+    → get_or (lists_of_counts loads) line [] ≡ counts
 counts_read loads line d list counts lt is items = get_or-map (λ (l : Vec ℕ). l.items) loads line d [] lt ∙ (ap (λ (l : Vec ℕ). l.items) (sym is) ∙ sym items)
 
 -- what is left first in a log
@@ -29,18 +31,24 @@ pub record IsFrontAt (logs : List (List Entry)) (loads : List (List ℕ)) (rests
   pub own : entry.node ≡ n
   pub left : log_of rests n ≡ entry ∷ rest
 
-pub front_read : (logs : List (List Entry)) (loads : List (Vec ℕ)) (lines : List LineState) (next : List ℕ) (order : List Entry) (n : ℕ) (log : List Entry) → AreOrderable logs (lists_of_counts loads) → IsPlacing logs (length loads) lines (rests_of logs next) order
-    → n < MAX_NODES → log ≡ log_of logs n → get_or next n 0 < length log → IsFrontAt logs (lists_of_counts loads) (rests_of logs next) n (get_or log (get_or next n 0) no_entry) (drop (get_or next n 0 + 1) (log_of logs n))
+pub front_read : (logs : List (List Entry)) (loads : List (Vec ℕ)) (lines : List LineState) (next : List ℕ) (order : List Entry) (n : ℕ) (log : List Entry)
+    → AreOrderable logs (lists_of_counts loads) → IsPlacing logs (length loads) lines (rests_of logs next) order
+    → n < MAX_NODES → log ≡ log_of logs n → get_or next n 0 < length log
+    → IsFrontAt logs (lists_of_counts loads) (rests_of logs next) n (get_or log (get_or next n 0) no_entry) (drop (get_or next n 0 + 1) (log_of logs n))
 front_read logs loads lines next order n log able placing lt is below =
     let place = get_or next n 0 in
     let front : log_of (rests_of logs next) n ≡ get_or log place no_entry ∷ drop (place + 1) (log_of logs n) =
-    front_at logs next n place lt refl (subst (λ (xs : List Entry). place < length xs) is below) ∙ ap (λ (xs : List Entry). get_or xs place no_entry ∷ drop (place + 1) (log_of logs n)) (sym is) in
-    let both = front_is logs (rests_of logs next) (lists_of_counts loads) order n (get_or log place no_entry) (drop (place + 1) (log_of logs n)) able lt (placing.logged n) front in
+    front_at logs next n place lt refl (subst (λ (xs : List Entry). place < length xs) is below)
+    ∙ ap (λ (xs : List Entry). get_or xs place no_entry ∷ drop (place + 1) (log_of logs n)) (sym is) in
+    let both = front_is logs (rests_of logs next) (lists_of_counts loads) order n (get_or log place no_entry) (drop (place + 1) (log_of logs n)) able lt
+    (placing.logged n) front in
     record { is = both.0; own = both.1; left = front }
 
 -- a load that is left at its line's version is counted
-pub load_counted : (logs : List (List Entry)) (loads : List (Vec ℕ)) (lines : List LineState) (rests : List (List Entry)) (order : List Entry) (n : ℕ) (entry : Entry) (rest : List Entry) → IsPlacing logs (length loads) lines rests order → n < MAX_NODES
-    → IsFrontAt logs (lists_of_counts loads) rests n entry rest → CanFollow (state_of lines entry.op.line) entry → is_making entry ≡ false → 1 ≤ (state_of lines entry.op.line).left
+pub load_counted : (logs : List (List Entry)) (loads : List (Vec ℕ)) (lines : List LineState) (rests : List (List Entry)) (order : List Entry) (n : ℕ)
+    (entry : Entry) (rest : List Entry) → IsPlacing logs (length loads) lines rests order → n < MAX_NODES
+    → IsFrontAt logs (lists_of_counts loads) rests n entry rest → CanFollow (state_of lines entry.op.line) entry → is_making entry ≡ false
+    → 1 ≤ (state_of lines entry.op.line).left
 load_counted logs loads lines rests order n entry rest placing lt front can load =
     let state = state_of lines entry.op.line in
     let long = counts_long loads in
@@ -52,19 +60,29 @@ load_counted logs loads lines rests order n entry rest placing lt front can load
     omega arith
 
 -- it is placed
-pub front_placed : (logs : List (List Entry)) (loads : List (Vec ℕ)) (lines : List LineState) (next : List ℕ) (order : List Entry) (n : ℕ) (entry : Entry) → length lines ≡ MAX_LINES → length next ≡ MAX_NODES → length loads ≤ MAX_LINES → n < MAX_NODES
-    → IsPlacing logs (length loads) lines (rests_of logs next) order → IsFrontAt logs (lists_of_counts loads) (rests_of logs next) n entry (drop (get_or next n 0 + 1) (log_of logs n)) → CanFollow (state_of lines entry.op.line) entry → (counts : List ℕ)
-    → get_or (lists_of_counts loads) entry.op.line [] ≡ counts → IsPlacing logs (length loads) (set lines entry.op.line (state_after counts (state_of lines entry.op.line) entry)) (rests_of logs (set next n (get_or next n 0 + 1))) (order ++ entry ∷ [])
+pub front_placed : (logs : List (List Entry)) (loads : List (Vec ℕ)) (lines : List LineState) (next : List ℕ) (order : List Entry) (n : ℕ) (entry : Entry)
+    → length lines ≡ MAX_LINES → length next ≡ MAX_NODES → length loads ≤ MAX_LINES → n < MAX_NODES
+    → IsPlacing logs (length loads) lines (rests_of logs next) order
+    → IsFrontAt logs (lists_of_counts loads) (rests_of logs next) n entry (drop (get_or next n 0 + 1) (log_of logs n))
+    → CanFollow (state_of lines entry.op.line) entry → (counts : List ℕ)
+    → get_or (lists_of_counts loads) entry.op.line [] ≡ counts
+    → IsPlacing logs (length loads) (set lines entry.op.line (state_after counts (state_of lines entry.op.line) entry))
+    (rests_of logs (set next n (get_or next n 0 + 1))) (order ++ entry ∷ [])
 front_placed logs loads lines next order n entry long_lines long_next few lt placing front can counts is =
     let place = get_or next n 0 in
     let long = counts_long loads in
     let sixteen = rests_long logs next in
     let rests = rests_of logs next in
     let same : IsPlacing logs (length (lists_of_counts loads)) lines rests order = subst (λ (k : ℕ). IsPlacing logs k lines rests order) (sym long) placing in
-    let more = placing_more logs (lists_of_counts loads) lines rests order n entry (drop (place + 1) (log_of logs n)) (omega arith) front.left front.own (omega arith) front.is can same in
-    subst (λ (k : ℕ). IsPlacing logs k (set lines entry.op.line (state_after counts (state_of lines entry.op.line) entry)) (rests_of logs (set next n (place + 1))) (order ++ entry ∷ [])) long
-    (subst (λ (rs : List (List Entry)). IsPlacing logs (length (lists_of_counts loads)) (set lines entry.op.line (state_after counts (state_of lines entry.op.line) entry)) rs (order ++ entry ∷ [])) (sym (rests_set logs next n (place + 1) long_next lt))
-    (subst (λ (cs : List ℕ). IsPlacing logs (length (lists_of_counts loads)) (set lines entry.op.line (state_after cs (state_of lines entry.op.line) entry)) (set rests n (drop (place + 1) (log_of logs n))) (order ++ entry ∷ [])) is more))
+    let more = placing_more logs (lists_of_counts loads) lines rests order n entry (drop (place + 1) (log_of logs n)) (omega arith) front.left front.own
+    (omega arith) front.is can same in
+    subst (λ (k : ℕ). IsPlacing logs k (set lines entry.op.line (state_after counts (state_of lines entry.op.line) entry))
+    (rests_of logs (set next n (place + 1))) (order ++ entry ∷ [])) long
+    (subst (λ (rs : List (List Entry)).
+    IsPlacing logs (length (lists_of_counts loads)) (set lines entry.op.line (state_after counts (state_of lines entry.op.line) entry)) rs
+    (order ++ entry ∷ [])) (sym (rests_set logs next n (place + 1) long_next lt))
+    (subst (λ (cs : List ℕ). IsPlacing logs (length (lists_of_counts loads)) (set lines entry.op.line (state_after cs (state_of lines entry.op.line) entry))
+    (set rests n (drop (place + 1) (log_of logs n))) (order ++ entry ∷ [])) is more))
 
 -- ---- the beginning, and how many
 
@@ -76,19 +94,23 @@ zeros zero n = refl
 zeros (suc count) zero = refl
 zeros (suc count) (suc n) = zeros count n
 
-pub nothing_placed : (logs : List (List Entry)) (loads : List (Vec ℕ)) (lines : List LineState) (order : List Entry) → AreOrderable logs (lists_of_counts loads) → order ≡ []
-    → ((k : ℕ) → k < length loads → state_of lines k ≡ record { version = 0; left = get_or (get_or (lists_of_counts loads) k []) 0 0 }) → IsPlacing logs (length loads) lines (rests_of logs (no_places 16)) order
+pub nothing_placed : (logs : List (List Entry)) (loads : List (Vec ℕ)) (lines : List LineState) (order : List Entry) → AreOrderable logs (lists_of_counts loads)
+    → order ≡ []
+    → ((k : ℕ) → k < length loads → state_of lines k ≡ record { version = 0; left = get_or (get_or (lists_of_counts loads) k []) 0 0 })
+    → IsPlacing logs (length loads) lines (rests_of logs (no_places 16)) order
 nothing_placed logs loads lines order able none states =
     let long = counts_long loads in
     let whole = rests_whole logs (no_places 16) able.sixteen (zeros 16) in
     let start = placing_none logs (lists_of_counts loads) lines (rests_of logs (no_places 16)) able whole (λ line below. states line (omega arith)) in
-    subst (λ (es : List Entry). IsPlacing logs (length loads) lines (rests_of logs (no_places 16)) es) (sym none) (subst (λ (k : ℕ). IsPlacing logs k lines (rests_of logs (no_places 16)) []) long start)
+    subst (λ (es : List Entry). IsPlacing logs (length loads) lines (rests_of logs (no_places 16)) es) (sym none)
+    (subst (λ (k : ℕ). IsPlacing logs k lines (rests_of logs (no_places 16)) []) long start)
 
 not_last : (k line : ℕ) → (k ≡ line → ⊥) → k < line + 1 → k < line
 not_last k line ne below = elim (cases_lt k line) [ inl lt ↦ lt | inr past ↦ absurd (ne (omega arith)) ]
 
 -- a line's state at the beginning
-pub state_more : (lines : List LineState) (loads : List (Vec ℕ)) (line left : ℕ) → line < length lines → get_or (get_or (lists_of_counts loads) line []) 0 0 ≡ left
+pub state_more : (lines : List LineState) (loads : List (Vec ℕ)) (line left : ℕ) → line < length lines
+    → get_or (get_or (lists_of_counts loads) line []) 0 0 ≡ left
     → ((k : ℕ) → k < line → state_of lines k ≡ record { version = 0; left = get_or (get_or (lists_of_counts loads) k []) 0 0 }) → (k : ℕ) → k < line + 1
     → state_of (set lines line (record { version = 0; left = left })) k ≡ record { version = 0; left = get_or (get_or (lists_of_counts loads) k []) 0 0 }
 state_more lines loads line left lt is before k below =
@@ -96,7 +118,9 @@ state_more lines loads line left lt is before k below =
     let state = λ (n : ℕ). let s : LineState = record { version = 0; left = n } in s in
     elim (cases_eq k line) [
       | inl same ↦
-          ap (λ (j : ℕ). state_of new j) same ∙ (get_or-set_same lines line (state left) (state 0) lt ∙ (ap state (sym is) ∙ ap (λ (j : ℕ). state (get_or (get_or (lists_of_counts loads) j []) 0 0)) (sym same)))
+          ap (λ (j : ℕ). state_of new j) same
+          ∙ (get_or-set_same lines line (state left) (state 0) lt
+          ∙ (ap state (sym is) ∙ ap (λ (j : ℕ). state (get_or (get_or (lists_of_counts loads) j []) 0 0)) (sym same)))
       | inr ne ↦ get_or-set_other lines line k (state left) (state 0) ne ∙ before k (not_last k line ne below)
     ]
 
@@ -105,7 +129,8 @@ all_counted [] = refl
 all_counted (e ∷ entries) = count-cons (λ (x : Entry). true) e entries ∙ omega (arith, all_counted entries)
 
 -- no more entries are placed than there are
-pub order_within : (logs : List (List Entry)) (count : ℕ) (lines : List LineState) (rests : List (List Entry)) (order : List Entry) → IsPlacing logs count lines rests order → length order ≤ length (all_of logs)
+pub order_within : (logs : List (List Entry)) (count : ℕ) (lines : List LineState) (rests : List (List Entry)) (order : List Entry)
+    → IsPlacing logs count lines rests order → length order ≤ length (all_of logs)
 order_within logs count lines rests order is =
     let all = is.counts (λ (e : Entry). true) in
     let a = all_counted order in
@@ -117,6 +142,7 @@ order_within logs count lines rests order is =
 pub entries_long : (refs : List (Bor Entry)) → length (entries_of refs) ≡ length refs
 entries_long refs = length-map refs (λ (ref : Bor Entry). ref.now)
 
-pub entries_pushed : (refs new : List (Bor Entry)) (ref : Bor Entry) (entry : Entry) → new ≡ refs ++ ref ∷ [] → ref.now ≡ entry → entries_of new ≡ entries_of refs ++ entry ∷ []
+pub entries_pushed : (refs new : List (Bor Entry)) (ref : Bor Entry) (entry : Entry) → new ≡ refs ++ ref ∷ [] → ref.now ≡ entry
+    → entries_of new ≡ entries_of refs ++ entry ∷ []
 entries_pushed refs new ref entry is here =
     ap entries_of is ∙ (map-append (λ (r : Bor Entry). r.now) refs (ref ∷ []) ∙ ap (λ (e : Entry). entries_of refs ++ e ∷ []) here)

@@ -1,5 +1,6 @@
 -- What stands where among placed entries.
-use Rattle.std.proofs.Common.{◌≡◌, ℕ, zero, suc, ◌+◌, ◌<◌, ◌≤◌, Bool, true, cond, eqb, List, [], ◌∷◌, ◌++◌, length, take, refl, sym, ap, ◌∙◌, append_assoc, arith}
+use Rattle.std.proofs.Common.{◌≡◌, ℕ, zero, suc, ◌+◌, ◌<◌, ◌≤◌, Bool, true, cond, eqb, List, [], ◌∷◌, ◌++◌, length, take, refl, sym, ap, ◌∙◌, append_assoc}
+use Rattle.std.proofs.Common.{arith}
 use Rattle.std.specs.Prelude.{AllPairs}
 use Rattle.std.specs.List.{filter, flat_map, AllByRecursion}
 use Rattle.std.proofs.lemmas.Bool.{cases_Bool, cases_eq, eq-eqb, ne_eqb, eqb-true}
@@ -11,7 +12,8 @@ use Rattle.sci_words.specs.declared.limits.TheConstants.{MAX_NODES}
 use Rattle.sci_history.specs.declared.entry.Entry.{Entry}
 use Rattle.sci_history.specs.Placed.{log_of, is_of_node, is_on_line, is_making, makes, reads, on_line, in_order, above_serials, by_node_and_serial, by_version}
 use Rattle.sci_history.proofs.Sorting.{in_order-bound}
-use Rattle.sci_history.proofs.Order.{IsInOrder, HasKeysBelow, filter-filter, filter-in_order, in_order-ordered, in_order_same_key, IsInOrder-filter, all-filter, all-passes, all_weaker, all-in_order}
+use Rattle.sci_history.proofs.Order.{IsInOrder, HasKeysBelow, filter-filter, filter-in_order, in_order-ordered, in_order_same_key, IsInOrder-filter, all-filter}
+use Rattle.sci_history.proofs.Order.{all-passes, all_weaker, all-in_order}
 
 -- ---- pairs
 
@@ -24,24 +26,35 @@ pairs-tail R x xs h = λ i j d lt long. h (suc i) (suc j) d (omega arith) (omega
 -- rising serials don't fall
 pub in_order_from_rising : {X : Type 0} (key : X → ℕ) (xs : List X) → AllPairs (λ x y. key x < key y) xs → IsInOrder key xs
 in_order_from_rising key [] h = tt
-in_order_from_rising key (x ∷ xs) h =
-    (all_weaker (λ y. key x < key y) (λ y. key x ≤ key y) (λ y lt. omega arith) xs (pairs-head (λ x y. key x < key y) x xs h), in_order_from_rising key xs (pairs-tail (λ x y. key x < key y) x xs h))
+in_order_from_rising key (x ∷ xs) h = (
+  all_weaker (λ y. key x < key y) (λ y. key x ≤ key y) (λ y lt. omega arith) xs (pairs-head (λ x y. key x < key y) x xs h),
+  in_order_from_rising key xs (pairs-tail (λ x y. key x < key y) x xs h),
+)
 
 -- ---- the entries of a line, node by node
 
 abbrev same_log : List Entry → List Entry
 same_log log = log
 
-on_line-front : (logs : List (List Entry)) (line : ℕ) (entries : List Entry) → ((node : ℕ) → node < MAX_NODES → filter (is_on_line line) (log_of logs node) ≡ filter (is_of_node node) entries) → (nodes : ℕ) → nodes ≤ length logs → nodes ≤ MAX_NODES → filter (is_on_line line) (flat_map same_log (take nodes logs)) ≡ in_order (λ entry. entry.node) nodes entries
+on_line-front : (logs : List (List Entry)) (line : ℕ) (entries : List Entry)
+    → ((node : ℕ) → node < MAX_NODES → filter (is_on_line line) (log_of logs node) ≡ filter (is_of_node node) entries) → (nodes : ℕ) → nodes ≤ length logs
+    → nodes ≤ MAX_NODES → filter (is_on_line line) (flat_map same_log (take nodes logs)) ≡ in_order (λ entry. entry.node) nodes entries
 unfolding in_order
 on_line-front logs line entries logged zero there few = refl
 on_line-front logs line entries logged (suc node) there few =
     let p = is_on_line line in
     let joined : flat_map same_log (take (suc node) logs) ≡ flat_map same_log (take node logs) ++ log_of logs node =
     rw (take-suc logs node [] (omega arith), flat_map-append same_log (take node logs) (log_of logs node ∷ []), append-nil (log_of logs node)) refl in
-    rw (joined, filter-append p (flat_map same_log (take node logs)) (log_of logs node), on_line-front logs line entries logged node (omega arith) (omega arith), logged node (omega arith)) refl
+    rw (
+      joined,
+      filter-append p (flat_map same_log (take node logs)) (log_of logs node),
+      on_line-front logs line entries logged node (omega arith) (omega arith),
+      logged node (omega arith),
+    ) refl
 
-pub on_line-logs : (logs : List (List Entry)) (line : ℕ) (entries : List Entry) → length logs ≡ MAX_NODES → ((node : ℕ) → node < MAX_NODES → filter (is_on_line line) (log_of logs node) ≡ filter (is_of_node node) entries) → on_line line logs ≡ in_order (λ entry. entry.node) MAX_NODES entries
+pub on_line-logs : (logs : List (List Entry)) (line : ℕ) (entries : List Entry) → length logs ≡ MAX_NODES
+    → ((node : ℕ) → node < MAX_NODES → filter (is_on_line line) (log_of logs node) ≡ filter (is_of_node node) entries)
+    → on_line line logs ≡ in_order (λ entry. entry.node) MAX_NODES entries
 on_line-logs logs line entries sixteen logged =
     ap (λ (whole : List (List Entry)). filter (is_on_line line) (flat_map same_log whole)) (sym (take_all MAX_NODES logs (omega arith)))
     ∙ on_line-front logs line entries logged MAX_NODES (omega arith) (omega arith)
@@ -62,14 +75,18 @@ pub by_node_and_serial-none : by_node_and_serial [] ≡ []
 by_node_and_serial-none = grind (arith, in_order-ordered)
 
 -- the entries of one node stay in order, if their serials don't fall
-pub filter-by_node_and_serial : (node : ℕ) (entries : List Entry) → node < MAX_NODES → IsInOrder (λ entry. entry.serial) (filter (is_of_node node) entries) → filter (is_of_node node) (by_node_and_serial entries) ≡ filter (is_of_node node) entries
+pub filter-by_node_and_serial : (node : ℕ) (entries : List Entry) → node < MAX_NODES → IsInOrder (λ entry. entry.serial) (filter (is_of_node node) entries)
+    → filter (is_of_node node) (by_node_and_serial entries) ≡ filter (is_of_node node) entries
 filter-by_node_and_serial node entries lt ordered =
     let own = filter (is_of_node node) entries in
     let bound = above_serials entries in
     let serials : in_order (λ entry. entry.serial) bound own ≡ own =
-    in_order-ordered (λ entry. entry.serial) bound own ordered (all-filter (λ entry. entry.serial < bound) (is_of_node node) entries (above_serials-above entries bound (omega arith))) in
+    in_order-ordered (λ entry. entry.serial) bound own ordered
+    (all-filter (λ entry. entry.serial < bound) (is_of_node node) entries (above_serials-above entries bound (omega arith))) in
     let nodes : in_order (λ entry. entry.node) MAX_NODES own ≡ own =
-    in_order_same_key (λ entry. entry.node) MAX_NODES node own lt (all_weaker (λ entry. is_of_node node entry ≡ true) (λ entry. entry.node ≡ node) (λ entry e. eqb-true entry.node node e) own (all-passes (is_of_node node) entries)) in
+    in_order_same_key (λ entry. entry.node) MAX_NODES node own lt
+    (all_weaker (λ entry. is_of_node node entry ≡ true) (λ entry. entry.node ≡ node) (λ entry e. eqb-true entry.node node e) own
+    (all-passes (is_of_node node) entries)) in
     filter-in_order (is_of_node node) (λ entry. entry.node) MAX_NODES (in_order (λ entry. entry.serial) bound entries)
     ∙ rw (filter-in_order (is_of_node node) (λ entry. entry.serial) bound entries, serials) nodes
 
@@ -84,15 +101,22 @@ unfoldable by_place : ℕ → List Entry → List Entry
 by_place zero entries = []
 by_place (suc version) entries = by_place version entries ++ (filter (makes version) entries ++ filter (reads version) entries)
 
-filter-by_version : (node bound : ℕ) (entries : List Entry) → node < MAX_NODES → IsInOrder (λ entry. entry.serial) (filter (is_of_node node) entries) → filter (is_of_node node) (by_version bound entries) ≡ by_place bound (filter (is_of_node node) entries)
+filter-by_version : (node bound : ℕ) (entries : List Entry) → node < MAX_NODES → IsInOrder (λ entry. entry.serial) (filter (is_of_node node) entries)
+    → filter (is_of_node node) (by_version bound entries) ≡ by_place bound (filter (is_of_node node) entries)
 unfolding by_version by_place
 filter-by_version node zero entries lt ordered = refl
 filter-by_version node (suc version) entries lt ordered =
     let p = is_of_node node in
     let group : (q : Entry → Bool) → filter p (by_node_and_serial (filter q entries)) ≡ filter q (filter p entries) =
-    λ q. filter-by_node_and_serial node (filter q entries) lt (rw (filter-filter p q entries) (IsInOrder-filter (λ entry. entry.serial) q (filter p entries) ordered)) ∙ filter-filter p q entries in
+    λ q. filter-by_node_and_serial node (filter q entries) lt
+    (rw (filter-filter p q entries) (IsInOrder-filter (λ entry. entry.serial) q (filter p entries) ordered)) ∙ filter-filter p q entries in
     filter-append p (by_version version entries) (by_node_and_serial (filter (makes version) entries) ++ by_node_and_serial (filter (reads version) entries))
-    ∙ rw (filter-append p (by_node_and_serial (filter (makes version) entries)) (by_node_and_serial (filter (reads version) entries)), filter-by_version node version entries lt ordered, group (makes version), group (reads version)) refl
+    ∙ rw (
+      filter-append p (by_node_and_serial (filter (makes version) entries)) (by_node_and_serial (filter (reads version) entries)),
+      filter-by_version node version entries lt ordered,
+      group (makes version),
+      group (reads version),
+    ) refl
 
 makes-place : (version : ℕ) (entry : Entry) → makes version entry ≡ eqb (place entry) (version + version)
 makes-place version entry = grind (arith, cases_Bool, cases_eq, eq-eqb, ne_eqb)
@@ -106,20 +130,29 @@ by_place-in_order zero entries = refl
 by_place-in_order (suc version) entries =
     let twice : suc version + suc version ≡ suc (suc (version + version)) = omega arith in
     let before = in_order place (version + version) entries in
-    rw (twice, by_place-in_order version entries, filter_agree (makes version) (λ entry. eqb (place entry) (version + version)) (makes-place version) entries, filter_agree (reads version) (λ entry. eqb (place entry) (suc (version + version))) (reads-place version) entries)
-    (sym (append_assoc before (filter (λ entry. eqb (place entry) (version + version)) entries) (filter (λ entry. eqb (place entry) (suc (version + version))) entries)))
+    rw (
+      twice,
+      by_place-in_order version entries,
+      filter_agree (makes version) (λ entry. eqb (place entry) (version + version)) (makes-place version) entries,
+      filter_agree (reads version) (λ entry. eqb (place entry) (suc (version + version))) (reads-place version) entries,
+    )
+    (sym (append_assoc before (filter (λ entry. eqb (place entry) (version + version)) entries)
+    (filter (λ entry. eqb (place entry) (suc (version + version))) entries)))
 
 pub place-below : (entry : Entry) (version : ℕ) → entry.version ≤ version → place entry < suc version + suc version
 place-below entry version le = grind (arith, cases_Bool)
 
 -- a node's entries stand in order, if they did so by version and by serial
-pub filter-placed : (node version : ℕ) (entries : List Entry) → node < MAX_NODES → IsInOrder (λ entry. entry.serial) (filter (is_of_node node) entries) → IsInOrder place (filter (is_of_node node) entries) → AllByRecursion (λ entry. entry.version ≤ version) (filter (is_of_node node) entries) → filter (is_of_node node) (by_version (suc version) entries) ≡ filter (is_of_node node) entries
+pub filter-placed : (node version : ℕ) (entries : List Entry) → node < MAX_NODES → IsInOrder (λ entry. entry.serial) (filter (is_of_node node) entries)
+    → IsInOrder place (filter (is_of_node node) entries) → AllByRecursion (λ entry. entry.version ≤ version) (filter (is_of_node node) entries)
+    → filter (is_of_node node) (by_version (suc version) entries) ≡ filter (is_of_node node) entries
 filter-placed node version entries lt serials places below = grind (arith, all_weaker, place-below, filter-by_version, by_place-in_order, in_order-ordered)
 
 -- ---- all entries by place
 
 below_filter : (p : Entry → Bool) (entries : List Entry) → HasKeysBelow (λ entry. entry.serial) (above_serials entries) (filter p entries)
-below_filter p entries = all-filter (λ entry. entry.serial < above_serials entries) p entries (above_serials-above entries (above_serials entries) (omega arith))
+below_filter p entries = all-filter (λ entry. entry.serial < above_serials entries) p entries
+    (above_serials-above entries (above_serials entries) (omega arith))
 
 -- a test's entries among those by node and serial
 by_node_and_serial-filter : (p : Entry → Bool) (entries : List Entry) → by_node_and_serial (filter p entries) ≡ filter p (by_node_and_serial entries)
@@ -128,7 +161,14 @@ by_node_and_serial-filter p entries = grind (arith, filter-in_order, in_order-bo
 by_version-place : (bound : ℕ) (entries : List Entry) → by_version bound entries ≡ by_place bound (by_node_and_serial entries)
 unfolding by_version by_place
 by_version-place zero entries = refl
-by_version-place (suc version) entries = grind (arith, by_node_and_serial-filter, by_version-place version entries, by_node_and_serial-filter (makes version) entries, by_node_and_serial-filter (reads version) entries)
+by_version-place (suc version) entries =
+    grind (
+      arith,
+      by_node_and_serial-filter,
+      by_version-place version entries,
+      by_node_and_serial-filter (makes version) entries,
+      by_node_and_serial-filter (reads version) entries,
+    )
 
 -- placed entries are those by node and serial, by place
 pub by_version-in_order : (bound : ℕ) (entries : List Entry) → by_version bound entries ≡ in_order place (bound + bound) (by_node_and_serial entries)

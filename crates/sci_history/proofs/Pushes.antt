@@ -7,20 +7,24 @@ use Rattle.std.proofs.lemmas.List.Elements.{All-same, All-push, All-weaker}
 use Rattle.sci_history.specs.declared.entry.Entry.{Entry}
 use Rattle.sci_history.specs.Placed.{log_of, AreOwn}
 
-pub pushed : {X Y : Type 0} (f : X → List Y) (xs : List X) (i : ℕ) (d : X) (new : List Y) (y : Y) → i < length xs → new ≡ f (get_or xs i d) ++ y ∷ [] → set (map f xs) i new ≡ set (map f xs) i (get_or (map f xs) i [] ++ y ∷ [])
+pub pushed : {X Y : Type 0} (f : X → List Y) (xs : List X) (i : ℕ) (d : X) (new : List Y) (y : Y) → i < length xs → new ≡ f (get_or xs i d) ++ y ∷ []
+    → set (map f xs) i new ≡ set (map f xs) i (get_or (map f xs) i [] ++ y ∷ [])
 pushed f xs i d new y below e = ap (set (map f xs) i) (rw (get_or-map f xs i d [] below) e)
 
-pub unpushed : {X Y : Type 0} (f : X → List Y) (xs : List X) (i : ℕ) (d : X) (new : List Y) → i < length xs → new ≡ f (get_or xs i d) → set (map f xs) i new ≡ map f xs
+pub unpushed : {X Y : Type 0} (f : X → List Y) (xs : List X) (i : ℕ) (d : X) (new : List Y) → i < length xs → new ≡ f (get_or xs i d)
+    → set (map f xs) i new ≡ map f xs
 unpushed f xs i d new below e =
     rw (e, ← get_or-map f xs i d [] below) (set-get_or (map f xs) i [])
 
 -- what was pushed or not pushed, keeps what holds of each element
-pub all_pushed : {X T E : Type 0} (P : X → Type 0) (r : Result T E) (old new : List X) (x : X) → OnOk r (new ≡ old ++ x ∷ []) → OnErr r (new ≡ old) → All P old → P x → All P new
+pub all_pushed : {X T E : Type 0} (P : X → Type 0) (r : Result T E) (old new : List X) (x : X) → OnOk r (new ≡ old ++ x ∷ []) → OnErr r (new ≡ old) → All P old
+    → P x → All P new
 all_pushed P (Ok t) old new x ok err h k = All-same P new (old ++ x ∷ []) ok (All-push P old x h k)
 all_pushed P (Err e) old new x ok err h k = All-same P new old err h
 
 -- one log is another, and each still has its own node's entries
-pub own_set : (logs : List (List Entry)) (node : ℕ) (log : List Entry) → AreOwn logs → node < length logs → All (λ e. e.node ≡ node) log → AreOwn (set logs node log)
+pub own_set : (logs : List (List Entry)) (node : ℕ) (log : List Entry) → AreOwn logs → node < length logs → All (λ e. e.node ≡ node) log
+    → AreOwn (set logs node log)
 own_set logs node log own lt h n =
     elim (cases_eq n node) [
       | inl is ↦

@@ -12,7 +12,8 @@ use Rattle.sci_words.specs.declared.limits.TheConstants.{MAX_NODES}
 use Rattle.sci_history.specs.declared.entry.Entry.{Entry}
 use Rattle.sci_history.specs.Placed.{is_of_node, in_order, above_serials, by_node_and_serial}
 use Rattle.sci_history.specs.Audit.{entries_of}
-use Rattle.sci_history.proofs.Order.{IsInOrder, HasKeysBelow, all_weaker, all-filter, all-passes, all_both, filter_yes, filter_no, filter-in_order, in_order_same, in_order-ordered}
+use Rattle.sci_history.proofs.Order.{IsInOrder, HasKeysBelow, all_weaker, all-filter, all-passes, all_both, filter_yes, filter_no, filter-in_order}
+use Rattle.sci_history.proofs.Order.{in_order_same, in_order-ordered}
 use Rattle.sci_history.proofs.Placement.{above_serials-above}
 use Rattle.sci_history.proofs.AuditFinds.{entry_at, entries_at, no_entry, no_ref}
 
@@ -39,7 +40,9 @@ are_read [] h = tt
 are_read (entry ∷ []) h = (tt, tt)
 are_read (entry ∷ second ∷ entries) h =
     let next : (k : ℕ) → suc k + 1 ≡ suc (k + 1) = λ k. omega arith in
-    let rest = are_read (second ∷ entries) (λ k lt. subst (λ (n : ℕ). Stands (get_or (second ∷ entries) k no_entry) (get_or (entry ∷ second ∷ entries) n no_entry)) (next k) (h (suc k) (omega arith))) in
+    let rest = are_read (second ∷ entries)
+    (λ k lt. subst (λ (n : ℕ). Stands (get_or (second ∷ entries) k no_entry) (get_or (entry ∷ second ∷ entries) n no_entry)) (next k)
+    (h (suc k) (omega arith))) in
     let step : Stands entry second = h 0 (omega arith) in
     ((step, all_weaker (Stands second) (Stands entry) (λ third high. stands_over entry second third step high) entries rest.0), rest)
 
@@ -56,7 +59,8 @@ serials_rise node (entry ∷ entries) h =
     elim (cases_eq entry.node node) [
       | inl own ↦
           let passed = all_both (Stands entry) (λ other. p other ≡ true) (filter p entries) (all-filter (Stands entry) p entries h.0) (all-passes p entries) in
-          let above = all_weaker (λ other. Stands entry other × (p other ≡ true)) (λ other. entry.serial ≤ other.serial) (λ other s. s.0.1 (own ∙ sym (eqb-true other.node node s.1))) (filter p entries) passed in
+          let above = all_weaker (λ other. Stands entry other × (p other ≡ true)) (λ other. entry.serial ≤ other.serial)
+          (λ other s. s.0.1 (own ∙ sym (eqb-true other.node node s.1))) (filter p entries) passed in
           rw (filter_yes p entry entries (eq-eqb entry.node node own)) (above, rest)
       | inr other ↦ rw (filter_no p entry entries (ne_eqb entry.node node other)) rest
     ]
@@ -67,10 +71,12 @@ in_read_order entries nodes read =
     let low = above_serials-above entries bound (omega arith) in
     let same : (node : ℕ) → node < MAX_NODES → filter (is_of_node node) (in_order (λ entry. entry.serial) bound entries) ≡ filter (is_of_node node) entries =
     λ node lt. filter-in_order (is_of_node node) (λ entry. entry.serial) bound entries
-    ∙ in_order-ordered (λ entry. entry.serial) bound (filter (is_of_node node) entries) (serials_rise node entries read) (all-filter (λ entry. entry.serial < bound) (is_of_node node) entries low) in
+    ∙ in_order-ordered (λ entry. entry.serial) bound (filter (is_of_node node) entries) (serials_rise node entries read)
+    (all-filter (λ entry. entry.serial < bound) (is_of_node node) entries low) in
     in_order_same (λ entry. entry.node) MAX_NODES (in_order (λ entry. entry.serial) bound entries) entries same
     ∙ in_order-ordered (λ entry. entry.node) MAX_NODES entries (nodes_rise entries read) nodes
 
 -- what a look at each entry and the next finds
-pub read_in_order : (refs : List (Bor Entry)) → All (λ entry. entry.node < MAX_NODES) (entries_of refs) → IsAllAdjacentAnswer (λ x y b. b ≡ is_read_before x.now y.now) refs true → by_node_and_serial (entries_of refs) ≡ entries_of refs
+pub read_in_order : (refs : List (Bor Entry)) → All (λ entry. entry.node < MAX_NODES) (entries_of refs)
+    → IsAllAdjacentAnswer (λ x y b. b ≡ is_read_before x.now y.now) refs true → by_node_and_serial (entries_of refs) ≡ entries_of refs
 read_in_order refs nodes answer = grind (arith, length-map, no_entry, entries_at, stands, entry_at, no_ref, in_read_order, recursion_from_All, are_read)

@@ -28,27 +28,34 @@ next_is : (k : ℕ) → suc k ≡ k + 1
 next_is k = omega arith
 
 -- nothing is left at a log's end
-pub none_at : (logs : List (List Entry)) (next : List ℕ) (n : ℕ) (log : List Entry) → n < MAX_NODES → log ≡ log_of logs n → length log ≤ get_or next n 0 → log_of (rests_of logs next) n ≡ []
+pub none_at : (logs : List (List Entry)) (next : List ℕ) (n : ℕ) (log : List Entry) → n < MAX_NODES → log ≡ log_of logs n → length log ≤ get_or next n 0
+    → log_of (rests_of logs next) n ≡ []
 none_at logs next n log lt is past = rest_at logs next n lt ∙ (ap (drop (get_or next n 0)) (sym is) ∙ drop_all (get_or next n 0) log past)
 
 -- the first that is left, and what is behind it
-pub front_at : (logs : List (List Entry)) (next : List ℕ) (n place : ℕ) → n < MAX_NODES → get_or next n 0 ≡ place → place < length (log_of logs n) → log_of (rests_of logs next) n ≡ get_or (log_of logs n) place no_entry ∷ drop (place + 1) (log_of logs n)
+pub front_at : (logs : List (List Entry)) (next : List ℕ) (n place : ℕ) → n < MAX_NODES → get_or next n 0 ≡ place → place < length (log_of logs n)
+    → log_of (rests_of logs next) n ≡ get_or (log_of logs n) place no_entry ∷ drop (place + 1) (log_of logs n)
 front_at logs next n place lt at below =
-    rest_at logs next n lt ∙ (ap (λ (k : ℕ). drop k (log_of logs n)) at ∙ (drop-cons (log_of logs n) place no_entry below ∙ ap (λ (k : ℕ). get_or (log_of logs n) place no_entry ∷ drop k (log_of logs n)) (next_is place)))
+    rest_at logs next n lt ∙ (ap (λ (k : ℕ). drop k (log_of logs n)) at
+    ∙ (drop-cons (log_of logs n) place no_entry below ∙ ap (λ (k : ℕ). get_or (log_of logs n) place no_entry ∷ drop k (log_of logs n)) (next_is place)))
 
 -- one log's place moves
-pub rests_set : (logs : List (List Entry)) (next : List ℕ) (n k : ℕ) → length next ≡ MAX_NODES → n < MAX_NODES → rests_of logs (set next n k) ≡ set (rests_of logs next) n (drop k (log_of logs n))
+pub rests_set : (logs : List (List Entry)) (next : List ℕ) (n k : ℕ) → length next ≡ MAX_NODES → n < MAX_NODES
+    → rests_of logs (set next n k) ≡ set (rests_of logs next) n (drop k (log_of logs n))
 rests_set logs next n k long lt =
     let before = rests_long logs next in
     let after = rests_long logs (set next n k) in
-    ext_get_or [] (rests_of logs (set next n k)) (set (rests_of logs next) n (drop k (log_of logs n))) (after ∙ sym (length-set (rests_of logs next) n (drop k (log_of logs n)) ∙ before)) (λ m low. elim (cases_eq m n) [
+    ext_get_or [] (rests_of logs (set next n k)) (set (rests_of logs next) n (drop k (log_of logs n)))
+    (after ∙ sym (length-set (rests_of logs next) n (drop k (log_of logs n)) ∙ before)) (λ m low. elim (cases_eq m n) [
       | inl same ↦
           ap (λ (j : ℕ). log_of (rests_of logs (set next n k)) j) same
           ∙ (rest_at logs (set next n k) n lt ∙ (ap (λ (j : ℕ). drop j (log_of logs n)) (get_or-set_same next n k 0 (omega arith))
-          ∙ (sym (get_or-set_same (rests_of logs next) n (drop k (log_of logs n)) [] (omega arith)) ∙ ap (λ (j : ℕ). log_of (set (rests_of logs next) n (drop k (log_of logs n))) j) (sym same))))
+          ∙ (sym (get_or-set_same (rests_of logs next) n (drop k (log_of logs n)) [] (omega arith))
+          ∙ ap (λ (j : ℕ). log_of (set (rests_of logs next) n (drop k (log_of logs n))) j) (sym same))))
       | inr ne ↦
           rest_at logs (set next n k) m (omega arith)
-          ∙ (ap (λ (j : ℕ). drop j (log_of logs m)) (get_or-set_other next n m k 0 ne) ∙ (sym (rest_at logs next m (omega arith)) ∙ sym (get_or-set_other (rests_of logs next) n m (drop k (log_of logs n)) [] ne)))
+          ∙ (ap (λ (j : ℕ). drop j (log_of logs m)) (get_or-set_other next n m k 0 ne)
+          ∙ (sym (rest_at logs next m (omega arith)) ∙ sym (get_or-set_other (rests_of logs next) n m (drop k (log_of logs n)) [] ne)))
     ])
 
 -- nothing is placed yet

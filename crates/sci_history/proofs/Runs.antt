@@ -10,7 +10,8 @@ line_at-words_of_lines [] line = refl
 line_at-words_of_lines (s ∷ contents) zero = refl
 line_at-words_of_lines (s ∷ contents) (suc line) = line_at-words_of_lines contents line
 
-pub words_of_lines-contents_after : (contents : List Stamped) (op : Op) → words_of_lines (contents_after contents op) ≡ memory_after (words_of_lines contents) op
+pub words_of_lines-contents_after : (contents : List Stamped) (op : Op)
+    → words_of_lines (contents_after contents op) ≡ memory_after (words_of_lines contents) op
 words_of_lines-contents_after contents op = rw (map-set, line_at-words_of_lines contents op.line) refl
 
 pub same_stamped : (a b : Stamped) → a.line ≡ b.line → a.version ≡ b.version → a ≡ b

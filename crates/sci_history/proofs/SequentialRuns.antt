@@ -1,5 +1,6 @@
 -- An order that is each line's history is a run of the whole memory, and makes the logs lawful.
-use Rattle.std.proofs.Common.{◌≡◌, ℕ, zero, suc, ◌<◌, ◌≤◌, true, false, List, [], ◌∷◌, length, map, replicate, length-set, refl, sym, ap, subst, ◌∙◌, arith, inl, inr}
+use Rattle.std.proofs.Common.{◌≡◌, ℕ, zero, suc, ◌<◌, ◌≤◌, true, false, List, [], ◌∷◌, length, map, replicate, length-set, refl, sym, ap, subst, ◌∙◌, arith}
+use Rattle.std.proofs.Common.{inl, inr}
 use Rattle.std.specs.List.{filter, AllByRecursion, AllPairs}
 use Rattle.std.proofs.lemmas.Bool.{cases_Bool, cases_lt, cases_eq, eq-eqb, ne_eqb, eqb-true}
 use Rattle.std.proofs.lemmas.List.{ext_get_or, set_past, get_or-set_same, get_or-set_other, get_or_past, length-replicate}
@@ -26,7 +27,8 @@ pub after-load : (old : Stamped) (op : Op) → is_maker op ≡ false → after o
 after-load old op load = same_stamped (after old op) old (line_after-load old.line op load) (version-load old op load)
 
 -- what has a history to version 0 leaves no trace
-after-zero : (op : Op) (entries : List Entry) (new : Stamped) → new ≡ zero_stamped → IsHistory entries (after zero_stamped op) new → after zero_stamped op ≡ zero_stamped
+after-zero : (op : Op) (entries : List Entry) (new : Stamped) → new ≡ zero_stamped → IsHistory entries (after zero_stamped op) new
+    → after zero_stamped op ≡ zero_stamped
 after-zero op entries new gone h =
     let end = version-end entries (after zero_stamped op) new h in
     let none : new.version ≡ 0 = ap (λ (s : Stamped). s.version) gone in
@@ -36,30 +38,40 @@ after-zero op entries new gone h =
     ]
 
 -- the line of an operation afterwards, whether there is such a line or not
-here_after : (old new : List Stamped) (op : Op) (entries : List Entry) → length old ≡ length new → IsHistory entries (after (stamped_at old op.line) op) (stamped_at new op.line) → stamped_at (contents_after old op) op.line ≡ after (stamped_at old op.line) op
+here_after : (old new : List Stamped) (op : Op) (entries : List Entry) → length old ≡ length new
+    → IsHistory entries (after (stamped_at old op.line) op) (stamped_at new op.line)
+    → stamped_at (contents_after old op) op.line ≡ after (stamped_at old op.line) op
 here_after old new op entries long h = elim (cases_lt op.line (length old)) [
   | inl lt ↦ get_or-set_same old op.line (after (stamped_at old op.line) op) zero_stamped lt
   | inr past ↦
       let none : stamped_at old op.line ≡ zero_stamped = get_or_past old op.line zero_stamped past in
       let gone : stamped_at new op.line ≡ zero_stamped = get_or_past new op.line zero_stamped (omega arith) in
-      let same : after zero_stamped op ≡ zero_stamped = after-zero op entries (stamped_at new op.line) gone (subst (λ (s : Stamped). IsHistory entries (after s op) (stamped_at new op.line)) none h) in
-      ap (λ (contents : List Stamped). stamped_at contents op.line) (set_past old op.line (after (stamped_at old op.line) op) past) ∙ (none ∙ (sym same ∙ ap (λ (s : Stamped). after s op) (sym none)))
+      let same : after zero_stamped op ≡ zero_stamped =
+      after-zero op entries (stamped_at new op.line) gone (subst (λ (s : Stamped). IsHistory entries (after s op) (stamped_at new op.line)) none h) in
+      ap (λ (contents : List Stamped). stamped_at contents op.line) (set_past old op.line (after (stamped_at old op.line) op) past)
+      ∙ (none ∙ (sym same ∙ ap (λ (s : Stamped). after s op) (sym none)))
 ]
 
 rest_of : (entry : Entry) (entries : List Entry) (old new : List Stamped) → length old ≡ length new
     → ((line : ℕ) → IsHistory (filter (is_on_line line) (entry ∷ entries)) (stamped_at old line) (stamped_at new line))
-    → (entry.reply ≡ reply_of (stamped_at old entry.op.line).line entry.op) × ((line : ℕ) → IsHistory (filter (is_on_line line) entries) (stamped_at (contents_after old entry.op) line) (stamped_at new line))
+    → (entry.reply ≡ reply_of (stamped_at old entry.op.line).line entry.op)
+    × ((line : ℕ) → IsHistory (filter (is_on_line line) entries) (stamped_at (contents_after old entry.op) line) (stamped_at new line))
 rest_of entry entries old new long each =
     let on = entry.op.line in
     let first : IsHistory (entry ∷ filter (is_on_line on) entries) (stamped_at old on) (stamped_at new on) =
-    subst (λ (es : List Entry). IsHistory es (stamped_at old on) (stamped_at new on)) (filter_yes (is_on_line on) entry entries (eq-eqb on on refl)) (each on) in
+    subst (λ (es : List Entry). IsHistory es (stamped_at old on) (stamped_at new on)) (filter_yes (is_on_line on) entry entries (eq-eqb on on refl))
+    (each on) in
     let here = here_after old new entry.op (filter (is_on_line on) entries) long first.2 in (
       first.0,
       λ line. elim (cases_eq line on) [
-        | inl same ↦ subst (λ (k : ℕ). IsHistory (filter (is_on_line k) entries) (stamped_at (contents_after old entry.op) k) (stamped_at new k)) (sym same) (subst (λ (s : Stamped). IsHistory (filter (is_on_line on) entries) s (stamped_at new on)) (sym here) first.2)
+        | inl same ↦ subst (λ (k : ℕ). IsHistory (filter (is_on_line k) entries) (stamped_at (contents_after old entry.op) k) (stamped_at new k)) (sym same)
+            (subst (λ (s : Stamped). IsHistory (filter (is_on_line on) entries) s (stamped_at new on)) (sym here) first.2)
         | inr other ↦
-            let stays : stamped_at (contents_after old entry.op) line ≡ stamped_at old line = get_or-set_other old on line (after (stamped_at old on) entry.op) zero_stamped other in
-            subst (λ (s : Stamped). IsHistory (filter (is_on_line line) entries) s (stamped_at new line)) (sym stays) (subst (λ (es : List Entry). IsHistory es (stamped_at old line) (stamped_at new line)) (filter_no (is_on_line line) entry entries (ne_eqb on line (λ e. other (sym e)))) (each line))
+            let stays : stamped_at (contents_after old entry.op) line ≡ stamped_at old line =
+            get_or-set_other old on line (after (stamped_at old on) entry.op) zero_stamped other in
+            subst (λ (s : Stamped). IsHistory (filter (is_on_line line) entries) s (stamped_at new line)) (sym stays)
+            (subst (λ (es : List Entry). IsHistory es (stamped_at old line) (stamped_at new line))
+            (filter_no (is_on_line line) entry entries (ne_eqb on line (λ e. other (sym e)))) (each line))
       ],
     )
 
@@ -70,7 +82,8 @@ pub histories_run : (entries : List Entry) (old new : List Stamped) → length o
 histories_run [] old new long each = ap words_of_lines (ext_get_or zero_stamped new old (sym long) (λ k lt. each k))
 histories_run (entry ∷ entries) old new long each =
     let rest = rest_of entry entries old new long each in
-    let run = histories_run entries (contents_after old entry.op) new (length-set old entry.op.line (after (stamped_at old entry.op.line) entry.op) ∙ long) rest.1 in (
+    let run = histories_run entries (contents_after old entry.op) new (length-set old entry.op.line (after (stamped_at old entry.op.line) entry.op) ∙ long)
+    rest.1 in (
       rest.0 ∙ ap (λ (words : List ℕ). reply_of words entry.op) (sym (line_at-words_of_lines old entry.op.line)),
       subst (λ (memory : List (List ℕ)). IsRun (map pair_of entries) memory (words_of_lines new)) (words_of_lines-contents_after old entry.op) run,
     )
@@ -85,22 +98,29 @@ zero_lines (suc lines) zero = refl
 zero_lines (suc lines) (suc line) = zero_lines lines line
 
 -- from zero words on
-pub histories_are_run : (entries : List Entry) (last : List Stamped) → ((line : ℕ) → IsHistory (filter (is_on_line line) entries) zero_stamped (stamped_at last line))
+pub histories_are_run : (entries : List Entry) (last : List Stamped)
+    → ((line : ℕ) → IsHistory (filter (is_on_line line) entries) zero_stamped (stamped_at last line))
     → IsRun (map pair_of entries) (zero_memory (length last)) (words_of_lines last)
 histories_are_run entries last each =
     let start = replicate (length last) zero_stamped in
-    let run = histories_run entries start last (length-replicate (length last) zero_stamped) (λ line. subst (λ (s : Stamped). IsHistory (filter (is_on_line line) entries) s (stamped_at last line)) (sym (zero_lines (length last) line)) (each line)) in
+    let run = histories_run entries start last (length-replicate (length last) zero_stamped)
+    (λ line. subst (λ (s : Stamped). IsHistory (filter (is_on_line line) entries) s (stamped_at last line)) (sym (zero_lines (length last) line))
+    (each line)) in
     subst (λ (memory : List (List ℕ)). IsRun (map pair_of entries) memory (words_of_lines last)) (zero_words (length last)) run
 
-pub order_is_run : (logs : List (List Entry)) (last : List Stamped) (order : List Entry) → IsSequentialOrder logs last order → IsRun (map pair_of order) (zero_memory (length last)) (words_of_lines last)
+pub order_is_run : (logs : List (List Entry)) (last : List Stamped) (order : List Entry) → IsSequentialOrder logs last order
+    → IsRun (map pair_of order) (zero_memory (length last)) (words_of_lines last)
 order_is_run logs last order is = histories_are_run order last is.histories
 
 -- ---- lawfulness
 
 -- each log has its own node's entries
-pub order_owns : (logs : List (List Entry)) (last : List Stamped) (order : List Entry) (node : ℕ) → IsSequentialOrder logs last order → AllByRecursion (λ entry. entry.node ≡ node) (log_of logs node)
+pub order_owns : (logs : List (List Entry)) (last : List Stamped) (order : List Entry) (node : ℕ) → IsSequentialOrder logs last order
+    → AllByRecursion (λ entry. entry.node ≡ node) (log_of logs node)
 order_owns logs last order node is =
-    subst (AllByRecursion (λ (entry : Entry). entry.node ≡ node)) (is.logged node) (all_weaker (λ (entry : Entry). is_of_node node entry ≡ true) (λ entry. entry.node ≡ node) (λ entry own. eqb-true entry.node node own) (filter (is_of_node node) order) (all-passes (is_of_node node) order))
+    subst (AllByRecursion (λ (entry : Entry). entry.node ≡ node)) (is.logged node)
+    (all_weaker (λ (entry : Entry). is_of_node node entry ≡ true) (λ entry. entry.node ≡ node) (λ entry own. eqb-true entry.node node own)
+    (filter (is_of_node node) order) (all-passes (is_of_node node) order))
 
 not_none : {X : Type 0} {x : X} {xs : List X} → x ∷ xs ≡ [] → ⊥
 not_none e = absurd cc
@@ -111,7 +131,8 @@ tail_none node entry entries none = elim (cases_Bool (is_of_node node entry)) [
   | inr other ↦ sym (filter_no (is_of_node node) entry entries other) ∙ none
 ]
 
-none_beyond : (entries : List Entry) (bound : ℕ) → ((node : ℕ) → bound ≤ node → filter (is_of_node node) entries ≡ []) → AllByRecursion (λ entry. entry.node < bound) entries
+none_beyond : (entries : List Entry) (bound : ℕ) → ((node : ℕ) → bound ≤ node → filter (is_of_node node) entries ≡ [])
+    → AllByRecursion (λ entry. entry.node < bound) entries
 none_beyond [] bound none = tt
 none_beyond (entry ∷ entries) bound none = (
   elim (cases_lt entry.node bound) [
@@ -121,7 +142,8 @@ none_beyond (entry ∷ entries) bound none = (
   none_beyond entries bound (λ node past. tail_none node entry entries (none node past)),
 )
 
-order_nodes : (logs : List (List Entry)) (last : List Stamped) (order : List Entry) → IsSequentialOrder logs last order → AllByRecursion (λ entry. entry.node < length logs) order
+order_nodes : (logs : List (List Entry)) (last : List Stamped) (order : List Entry) → IsSequentialOrder logs last order
+    → AllByRecursion (λ entry. entry.node < length logs) order
 order_nodes logs last order is = none_beyond order (length logs) (λ node past. is.logged node ∙ get_or_past logs node [] past)
 
 order_history : (logs : List (List Entry)) (last : List Stamped) (order : List Entry) (line : ℕ) → length logs ≡ MAX_NODES → IsSequentialOrder logs last order
@@ -129,7 +151,8 @@ order_history : (logs : List (List Entry)) (last : List Stamped) (order : List E
 order_history logs last order line sixteen is serials = record {
   entries = filter (is_on_line line) order;
   history = is.histories line;
-  nodes = all-filter (λ (entry : Entry). entry.node < MAX_NODES) (is_on_line line) order (subst (λ (k : ℕ). AllByRecursion (λ (entry : Entry). entry.node < k) order) sixteen (order_nodes logs last order is));
+  nodes = all-filter (λ (entry : Entry). entry.node < MAX_NODES) (is_on_line line) order
+      (subst (λ (k : ℕ). AllByRecursion (λ (entry : Entry). entry.node < k) order) sixteen (order_nodes logs last order is));
   logged = λ node lt. ap (filter (is_on_line line)) (sym (is.logged node)) ∙ filter-filter (is_on_line line) (is_of_node node) order;
   serials = λ node lt. serials node;
 }
@@ -137,4 +160,5 @@ order_history logs last order line sixteen is serials = record {
 -- logs with such an order are lawful, if along each log the serials rise on each line
 pub order_is_lawful : (logs : List (List Entry)) (last : List Stamped) (order : List Entry) → length logs ≡ MAX_NODES → IsSequentialOrder logs last order
     → ((line node : ℕ) → AllPairs (λ x y. x.serial < y.serial) (filter (is_on_line line) (log_of logs node))) → Lawful logs last
-order_is_lawful logs last order sixteen is serials line = lawful_line logs line (stamped_at last line) sixteen (order_history logs last order line sixteen is (serials line))
+order_is_lawful logs last order sixteen is serials line =
+    lawful_line logs line (stamped_at last line) sixteen (order_history logs last order line sixteen is (serials line))

@@ -23,9 +23,11 @@ all_sorted P log h = All-from_recursion P (in_serial_order log) (all-in_order P 
 pub filter-sorted : (p : Entry → Bool) (log : List Entry) → filter p (in_serial_order log) ≡ in_serial_order (filter p log)
 filter-sorted p log =
     let serial = λ (e : Entry). e.serial in
-    let below : HasKeysBelow serial (above_serials log) (filter p log) = all-filter (λ e. e.serial < above_serials log) p log (above_serials-above log (above_serials log) (omega arith)) in
+    let below : HasKeysBelow serial (above_serials log) (filter p log) =
+    all-filter (λ e. e.serial < above_serials log) p log (above_serials-above log (above_serials log) (omega arith)) in
     filter-in_order p serial (above_serials log) log
-    ∙ in_order-bound serial (above_serials log) (above_serials (filter p log)) (filter p log) below (above_serials-above (filter p log) (above_serials (filter p log)) (omega arith))
+    ∙ in_order-bound serial (above_serials log) (above_serials (filter p log)) (filter p log) below
+    (above_serials-above (filter p log) (above_serials (filter p log)) (omega arith))
 
 -- entries whose serials don't fall stay
 pub sorted_stays : (log : List Entry) → IsInOrder (λ e. e.serial) log → in_serial_order log ≡ log
@@ -49,7 +51,8 @@ pub within_sorted : (lines : ℕ) (logs : List (List Entry)) → AreWithin lines
 within_sorted lines logs within node = rw (log_sorted logs node) (all_sorted (IsWithin lines) (log_of logs node) (within node))
 
 -- logs that are sorted one by one
-pub all_logs_sorted : (logs sorted : List (List Entry)) → length sorted ≡ length logs → ((node : ℕ) → node < length logs → log_of sorted node ≡ in_serial_order (log_of logs node)) → sorted ≡ by_serial logs
+pub all_logs_sorted : (logs sorted : List (List Entry)) → length sorted ≡ length logs
+    → ((node : ℕ) → node < length logs → log_of sorted node ≡ in_serial_order (log_of logs node)) → sorted ≡ by_serial logs
 all_logs_sorted logs sorted long each =
     ext_get_or [] sorted (by_serial logs) (long ∙ sym (length-map logs in_serial_order))
     (λ node below. each node (omega arith) ∙ sym (log_sorted logs node))
@@ -57,7 +60,8 @@ all_logs_sorted logs sorted long each =
 -- logs in program order stay
 pub issued_stay : (logs : List (List Entry)) → AreInProgramOrder logs → by_serial logs ≡ logs
 issued_stay logs issued =
-    sym (all_logs_sorted logs logs refl (λ node below. sym (sorted_stays (log_of logs node) (in_order_from_rising (λ e. e.serial) (log_of logs node) (issued node)))))
+    sym (all_logs_sorted logs logs refl
+    (λ node below. sym (sorted_stays (log_of logs node) (in_order_from_rising (λ e. e.serial) (log_of logs node) (issued node)))))
 
 -- lawful logs stay lawful, since on each line the serials of a node rise
 pub lawful_sorted : (logs : List (List Entry)) (last : List Stamped) → length logs ≡ MAX_NODES → Lawful logs last → Lawful (by_serial logs) last
@@ -66,12 +70,16 @@ lawful_sorted logs last sixteen lawful line =
     let sorted = by_serial logs in
     let same : (node : ℕ) → node < MAX_NODES → filter (is_on_line line) (log_of sorted node) ≡ filter (is_on_line line) (log_of logs node) =
     λ node below. ap (filter (is_on_line line)) (log_sorted logs node) ∙ filter-sorted (is_on_line line) (log_of logs node)
-    ∙ sorted_stays (filter (is_on_line line) (log_of logs node)) (in_order_from_rising (λ e. e.serial) (filter (is_on_line line) (log_of logs node)) (was.order node below).serials) in
+    ∙ sorted_stays (filter (is_on_line line) (log_of logs node))
+    (in_order_from_rising (λ e. e.serial) (filter (is_on_line line) (log_of logs node)) (was.order node below).serials) in
     let whole : on_line line sorted ≡ on_line line logs =
     on_line-logs sorted line (placed logs line) (length-map logs in_serial_order ∙ sixteen) (λ node below. same node below ∙ sym (was.order node below).order)
     ∙ sym (on_line-logs logs line (placed logs line) sixteen (λ node below. sym (was.order node below).order)) in
     record {
       versions = rw whole was.versions;
       contents = record { run = rw whole was.contents.run; version = rw whole was.contents.version };
-      order = λ node below. record { order = rw (whole, same node below) (was.order node below).order; serials = rw (same node below) (was.order node below).serials };
+      order = λ node below. record {
+        order = rw (whole, same node below) (was.order node below).order;
+        serials = rw (same node below) (was.order node below).serials;
+      };
     }

@@ -27,7 +27,8 @@ pub record IsSame (x y : Step) : Type 0 where
   pub place : x.place ≡ y.place
 
 comes_same : (r : Reason) (x y x' y' : Step) → IsSame x x' → IsSame y y' → ComesAfter r x y → ComesAfter r x' y'
-comes_same Logged x y x' y' a b c = (sym (ap (λ e. e.node) b.entry) ∙ (c.0 ∙ ap (λ e. e.node) a.entry), let p = a.place in let q = b.place in let lt = c.1 in omega arith)
+comes_same Logged x y x' y' a b c =
+    (sym (ap (λ e. e.node) b.entry) ∙ (c.0 ∙ ap (λ e. e.node) a.entry), let p = a.place in let q = b.place in let lt = c.1 in omega arith)
 comes_same ReadsFrom x y x' y' a b c = rw (sym a.entry) (rw (sym b.entry) c)
 comes_same FromRead x y x' y' a b c = rw (sym a.entry) (rw (sym b.entry) c)
 comes_same Coherence x y x' y' a b c = rw (sym a.entry) (rw (sym b.entry) c)
@@ -43,21 +44,25 @@ free_itself x Coherence c = not_below x.entry.version c.3
 
 -- ---- steps of a chain by their places
 
-chain_at : (steps : List Step) (end : Step) (k : ℕ) (x y : Step) → IsChain steps end → slice_get steps k ≡ Some x → slice_get steps (suc k) ≡ Some y → ComesAfter x.reason x y
+chain_at : (steps : List Step) (end : Step) (k : ℕ) (x y : Step) → IsChain steps end → slice_get steps k ≡ Some x → slice_get steps (suc k) ≡ Some y
+    → ComesAfter x.reason x y
 chain_at [] end k x y chain a b = cc
 chain_at (s ∷ []) end zero x y chain a b = cc
 chain_at (s ∷ []) end (suc k) x y chain a b = cc
-chain_at (s ∷ t ∷ steps) end zero x y chain a b = let is : s ≡ x = cc in let next : t ≡ y = cc in subst (λ z. ComesAfter z.reason z y) is (subst (λ z. ComesAfter s.reason s z) next chain.0)
+chain_at (s ∷ t ∷ steps) end zero x y chain a b = let is : s ≡ x = cc in let next : t ≡ y = cc in
+    subst (λ z. ComesAfter z.reason z y) is (subst (λ z. ComesAfter s.reason s z) next chain.0)
 chain_at (s ∷ t ∷ steps) end (suc k) x y chain a b = chain_at (t ∷ steps) end k x y chain.1 a b
 
-chain_last : (steps : List Step) (end : Step) (k : ℕ) (x : Step) → IsChain steps end → slice_get steps k ≡ Some x → k + 1 ≡ length steps → ComesAfter x.reason x end
+chain_last : (steps : List Step) (end : Step) (k : ℕ) (x : Step) → IsChain steps end → slice_get steps k ≡ Some x → k + 1 ≡ length steps
+    → ComesAfter x.reason x end
 chain_last [] end k x chain a long = cc
 chain_last (s ∷ []) end zero x chain a long = let is : s ≡ x = cc in subst (λ z. ComesAfter z.reason z end) is chain
 chain_last (s ∷ []) end (suc k) x chain a long = cc
 chain_last (s ∷ t ∷ steps) end zero x chain a long = absurd (omega arith)
 chain_last (s ∷ t ∷ steps) end (suc k) x chain a long = chain_last (t ∷ steps) end k x chain.1 a (omega arith)
 
-pub round_at : (steps : List Step) (k : ℕ) (x y : Step) → IsRound steps → slice_get steps k ≡ Some x → slice_get steps (suc k) ≡ Some y → ComesAfter x.reason x y
+pub round_at : (steps : List Step) (k : ℕ) (x y : Step) → IsRound steps → slice_get steps k ≡ Some x → slice_get steps (suc k) ≡ Some y
+    → ComesAfter x.reason x y
 round_at [] k x y round a b = absurd round
 round_at (s ∷ steps) k x y round a b = chain_at (s ∷ steps) s k x y round a b
 
@@ -65,7 +70,8 @@ round_at (s ∷ steps) k x y round a b = chain_at (s ∷ steps) s k x y round a 
 pub next_comes : (steps : List Step) (place : ℕ) → IsRound steps → ComesAfterAt steps place (place + 1) (get_or steps place no_step).reason
 next_comes steps place round x y a b =
     let next : place + 1 ≡ suc place = omega arith in
-    subst (λ (z : Step). ComesAfter z.reason x y) (sym (get_or_from_slice_get steps place x no_step a)) (round_at steps place x y round a (subst (λ (k : ℕ). slice_get steps k ≡ Some y) next b))
+    subst (λ (z : Step). ComesAfter z.reason x y) (sym (get_or_from_slice_get steps place x no_step a))
+    (round_at steps place x y round a (subst (λ (k : ℕ). slice_get steps k ≡ Some y) next b))
 
 last_at : (s : Step) (steps : List Step) → (x : Step) × (slice_get (s ∷ steps) (length steps) ≡ Some x)
 last_at s [] = (s, refl)
@@ -77,11 +83,13 @@ some_part [] span one le round free = round
 some_part (s ∷ []) span one le round free = free_itself s s.reason round
 some_part (s ∷ t ∷ steps) span one le round free =
     let end = last_at s (t ∷ steps) in
-    free (length (t ∷ steps)) 0 end.0 s (omega arith) (omega arith) end.1 refl end.0.reason (chain_last (s ∷ t ∷ steps) s (length (t ∷ steps)) end.0 round end.1 (omega arith))
+    free (length (t ∷ steps)) 0 end.0 s (omega arith) (omega arith) end.1 refl end.0.reason
+    (chain_last (s ∷ t ∷ steps) s (length (t ∷ steps)) end.0 round end.1 (omega arith))
 
 -- nearer, or at this distance
 pub free_further : (steps : List Step) (span first : ℕ) → IsFreeWithin steps span → length steps - span ≤ first
-    → ((there : ℕ) (x y : Step) → there < first → slice_get steps (there + span) ≡ Some x → slice_get steps there ≡ Some y → IsFree x y) → IsFreeWithin steps (span + 1)
+    → ((there : ℕ) (x y : Step) → there < first → slice_get steps (there + span) ≡ Some x → slice_get steps there ≡ Some y → IsFree x y)
+    → IsFreeWithin steps (span + 1)
 free_further steps span first nearer all here_free here there x y lt near a b = elim (cases_lt here (there + span)) [
   | inl less ↦ nearer here there x y lt less a b
   | inr past ↦
@@ -92,11 +100,13 @@ free_further steps span first nearer all here_free here there x y lt near a b = 
 
 -- ---- what is kept
 
-pushed_at : (kept : List Step) (z : Step) (j : ℕ) (y : Step) → slice_get (kept ++ z ∷ []) j ≡ Some y → ((j < length kept) × (slice_get kept j ≡ Some y)) ⊎ ((j ≡ length kept) × (z ≡ y))
+pushed_at : (kept : List Step) (z : Step) (j : ℕ) (y : Step) → slice_get (kept ++ z ∷ []) j ≡ Some y
+    → ((j < length kept) × (slice_get kept j ≡ Some y)) ⊎ ((j ≡ length kept) × (z ≡ y))
 pushed_at [] z zero y a = inr (refl, cc)
 pushed_at [] z (suc j) y a = cc
 pushed_at (k ∷ kept) z zero y a = inl (omega arith, a)
-pushed_at (k ∷ kept) z (suc j) y a = elim (pushed_at kept z j y a) [ inl old ↦ let lt = old.0 in inl (omega arith, old.1) | inr new ↦ inr (ap suc new.0, new.1) ]
+pushed_at (k ∷ kept) z (suc j) y a =
+    elim (pushed_at kept z j y a) [ inl old ↦ let lt = old.0 in inl (omega arith, old.1) | inr new ↦ inr (ap suc new.0, new.1) ]
 
 -- the steps that are kept of the part from a first place to a last one, when the next one that is kept stands at this place
 pub record IsKept (steps kept : List Step) (first last next : ℕ) : Type 0 where
@@ -108,9 +118,12 @@ pub record IsKept (steps kept : List Step) (first last next : ℕ) : Type 0 wher
   pub chain : (y end : Step) → slice_get steps next ≡ Some y → IsSame y end → IsChain kept end
   pub apart : (i j : ℕ) (x y : Step) → i + 1 < j → slice_get kept i ≡ Some x → slice_get kept j ≡ Some y → IsFree x y
   pub back : (i j : ℕ) (x y : Step) → i < j → slice_get kept i ≡ Some x → slice_get kept j ≡ Some y → IsFree y x
-  pub onward : (i there : ℕ) (x y : Step) → i + 1 < length kept → next ≤ there → there ≤ last → slice_get kept i ≡ Some x → slice_get steps there ≡ Some y → IsFree x y
-  pub beyond : (i there : ℕ) (x y : Step) → i + 1 ≡ length kept → next < there → there ≤ last → slice_get kept i ≡ Some x → slice_get steps there ≡ Some y → IsFree x y
-  pub behind : (i there : ℕ) (x y : Step) → (0 < i) ⊎ (there < last) → next ≤ there → there ≤ last → slice_get kept i ≡ Some x → slice_get steps there ≡ Some y → IsFree y x
+  pub onward : (i there : ℕ) (x y : Step) → i + 1 < length kept → next ≤ there → there ≤ last → slice_get kept i ≡ Some x → slice_get steps there ≡ Some y
+      → IsFree x y
+  pub beyond : (i there : ℕ) (x y : Step) → i + 1 ≡ length kept → next < there → there ≤ last → slice_get kept i ≡ Some x → slice_get steps there ≡ Some y
+      → IsFree x y
+  pub behind : (i there : ℕ) (x y : Step) → (0 < i) ⊎ (there < last) → next ≤ there → there ≤ last → slice_get kept i ≡ Some x → slice_get steps there ≡ Some y
+      → IsFree y x
 
 pub none_kept : (steps kept : List Step) (first last : ℕ) → kept ≡ [] → first < last → IsKept steps kept first last first
 none_kept steps kept first last none lt = subst (λ ks. IsKept steps ks first last first) (sym none) (record {
@@ -130,27 +143,33 @@ none_kept steps kept first last none lt = subst (λ ks. IsKept steps ks first la
 -- ---- one step more
 
 free_same : (x y x' y' : Step) → IsSame x x' → IsSame y y' → IsFree x y → IsFree x' y'
-free_same x y x' y' a b free reason c = free reason (comes_same reason x' y' x y (record { entry = sym a.entry; place = sym a.place }) (record { entry = sym b.entry; place = sym b.place }) c)
+free_same x y x' y' a b free reason c =
+    free reason (comes_same reason x' y' x y (record { entry = sym a.entry; place = sym a.place }) (record { entry = sym b.entry; place = sym b.place }) c)
 
 same_itself : (x : Step) → IsSame x x
 same_itself x = record { entry = refl; place = refl }
 
 -- an entry of the part isn't followed by one that is nearer to it than the last is to the first
-free_behind : (steps : List Step) (first last at there : ℕ) (x y : Step) → IsFreeWithin steps (last - first) → first ≤ at → (first < at) ⊎ (there < last) → at < there → there ≤ last → slice_get steps at ≡ Some x → slice_get steps there ≡ Some y → IsFree y x
+free_behind : (steps : List Step) (first last at there : ℕ) (x y : Step) → IsFreeWithin steps (last - first) → first ≤ at → (first < at) ⊎ (there < last)
+    → at < there → there ≤ last → slice_get steps at ≡ Some x → slice_get steps there ≡ Some y → IsFree y x
 free_behind steps first last at there x y free le near lt in_part a b = free there at y x lt (elim near [ inl more ↦ omega arith | inr less ↦ omega arith ]) b a
 
 -- the entries of a place are the same
 one_at : (steps : List Step) (k : ℕ) (x y : Step) → slice_get steps k ≡ Some x → slice_get steps k ≡ Some y → x ≡ y
 one_at steps k x y a b = cc
 
-pub kept_more : (steps kept : List Step) (first last at next : ℕ) (x z : Step) → IsFreeWithin steps (last - first) → IsKept steps kept first last at → at < last → slice_get steps at ≡ Some x → IsSame x z
-    → at < next → next ≤ last → ComesAfterAt steps at next z.reason → ((there : ℕ) (u v : Step) → next < there → there ≤ last → slice_get steps at ≡ Some u → slice_get steps there ≡ Some v → IsFree u v)
+pub kept_more : (steps kept : List Step) (first last at next : ℕ) (x z : Step) → IsFreeWithin steps (last - first) → IsKept steps kept first last at → at < last
+    → slice_get steps at ≡ Some x → IsSame x z
+    → at < next → next ≤ last → ComesAfterAt steps at next z.reason
+    → ((there : ℕ) (u v : Step) → next < there → there ≤ last → slice_get steps at ≡ Some u → slice_get steps there ≡ Some v → IsFree u v)
     → IsKept steps (kept ++ z ∷ []) first last next
 kept_more steps kept first last at next x z free is below here same onto in_part comes farthest =
     let long = length-append kept (z ∷ []) in
     let many = is.many in
     let z_behind : (there : ℕ) (y : Step) → (0 < length kept) ⊎ (there < last) → next ≤ there → there ≤ last → slice_get steps there ≡ Some y → IsFree y z =
-    λ there y near le inside b. free_same y x y z (same_itself y) same (free_behind steps first last at there x y free (omega arith) (elim near [ inl more ↦ inl (omega arith) | inr less ↦ inr less ]) (omega arith) inside here b) in
+    λ there y near le inside b. free_same y x y z (same_itself y) same
+    (free_behind steps first last at there x y free (omega arith) (elim near [ inl more ↦ inl (omega arith) | inr less ↦ inr less ]) (omega arith) inside
+    here b) in
     record {
       many = omega arith;
       before = in_part;
@@ -174,7 +193,8 @@ kept_more steps kept first last at next x z free is below here same onto in_part
           | inr new ↦ absurd (let lt = old.0 in let e = new.0 in omega arith)
         ]
         | inr last_one ↦ elim (pushed_at kept z i u a) [
-          | inl older ↦ subst (IsFree u) last_one.1 (free_same u x u z (same_itself u) same (is.onward i at u x (let e = last_one.0 in omega arith) (omega arith) (omega arith) older.1 here))
+          | inl older ↦ subst (IsFree u) last_one.1
+              (free_same u x u z (same_itself u) same (is.onward i at u x (let e = last_one.0 in omega arith) (omega arith) (omega arith) older.1 here))
           | inr new ↦ absurd (let e = new.0 in let f = last_one.0 in omega arith)
         ]
       ];
@@ -184,7 +204,8 @@ kept_more steps kept first last at next x z free is below here same onto in_part
           | inr new ↦ absurd (let lt = old.0 in let e = new.0 in omega arith)
         ]
         | inr last_one ↦ elim (pushed_at kept z i u a) [
-          | inl older ↦ subst (λ (w : Step). IsFree w u) last_one.1 (free_same x u z u same (same_itself u) (is.behind i at u x (inr below) (omega arith) (omega arith) older.1 here))
+          | inl older ↦ subst (λ (w : Step). IsFree w u) last_one.1
+              (free_same x u z u same (same_itself u) (is.behind i at u x (inr below) (omega arith) (omega arith) older.1 here))
           | inr new ↦ absurd (let e = new.0 in let f = last_one.0 in omega arith)
         ]
       ];
@@ -207,17 +228,21 @@ kept_more steps kept first last at next x z free is below here same onto in_part
 
 -- ---- the end
 
-round_of : (kept : List Step) (z x : Step) (reason : Reason) → (length kept ≡ 0 → ⊥) → ((y : Step) → slice_get kept 0 ≡ Some y → IsSame x y) → IsChain kept z → z.reason ≡ reason → ((y : Step) → IsSame x y → ComesAfter reason z y) → IsRound (kept ++ z ∷ [])
+round_of : (kept : List Step) (z x : Step) (reason : Reason) → (length kept ≡ 0 → ⊥) → ((y : Step) → slice_get kept 0 ≡ Some y → IsSame x y) → IsChain kept z
+    → z.reason ≡ reason → ((y : Step) → IsSame x y → ComesAfter reason z y) → IsRound (kept ++ z ∷ [])
 round_of [] z x reason some begins chain by closes = absurd (some refl)
-round_of (k ∷ kept) z x reason some begins chain by closes = chain_joined (k ∷ kept) z [] k chain (subst (λ (r : Reason). ComesAfter r z k) (sym by) (closes k (begins k refl)))
+round_of (k ∷ kept) z x reason some begins chain by closes =
+    chain_joined (k ∷ kept) z [] k chain (subst (λ (r : Reason). ComesAfter r z k) (sym by) (closes k (begins k refl)))
 
-pub kept_closes : (steps kept : List Step) (first last : ℕ) (x z y : Step) (reason : Reason) → IsKept steps kept first last last → first < last → slice_get steps last ≡ Some x → IsSame x z → z.reason ≡ reason
+pub kept_closes : (steps kept : List Step) (first last : ℕ) (x z y : Step) (reason : Reason) → IsKept steps kept first last last → first < last
+    → slice_get steps last ≡ Some x → IsSame x z → z.reason ≡ reason
     → slice_get steps first ≡ Some y → ComesAfterAt steps last first reason → last < length steps → IsBareRoundOf steps (kept ++ z ∷ [])
 kept_closes steps kept first last x z y reason is apart here same by there closes inside =
     let long = length-append kept (z ∷ []) in
     let some : length kept ≡ 0 → ⊥ = λ none. let at = is.empty none in omega arith in
     record {
-      round = round_of kept z y reason some (λ w a. is.begins w y a there) (is.chain x z here same) by (λ w to. comes_same reason x y z w same to (closes x y here there));
+      round = round_of kept z y reason some (λ w a. is.begins w y a there) (is.chain x z here same) by
+          (λ w to. comes_same reason x y z w same to (closes x y here there));
       bare = λ i j u v r a b comes. elim (pushed_at kept z i u a) [
         | inl old ↦ elim (pushed_at kept z j v b) [
           | inl older ↦ elim (cases_lt i j) [
@@ -226,21 +251,27 @@ kept_closes steps kept first last x z y reason is apart here same by there close
               | inr more ↦ absurd (is.apart i j u v (omega (arith, more, lt)) old.1 older.1 r comes)
             ]
             | inr past ↦ elim (cases_eq i j) [
-              | inl one ↦ absurd (free_itself v r (subst (λ (w : Step). ComesAfter r w v) (one_at kept j u v (subst (λ (k : ℕ). slice_get kept k ≡ Some u) one old.1) older.1) comes))
+              | inl one ↦ absurd (free_itself v r
+                  (subst (λ (w : Step). ComesAfter r w v) (one_at kept j u v (subst (λ (k : ℕ). slice_get kept k ≡ Some u) one old.1) older.1) comes))
               | inr ne ↦ absurd (is.back j i v u (omega (arith, past, ne)) older.1 old.1 r comes)
             ]
           ]
           | inr new ↦ elim (cases_eq (i + 1) (length kept)) [
             | inl one ↦ inl (new.0 ∙ sym one)
-            | inr more ↦ let lt = old.0 in absurd (free_same u x u z (same_itself u) same (is.onward i last u x (omega (arith, more, lt)) (omega arith) (omega arith) old.1 here) r (subst (ComesAfter r u) (sym new.1) comes))
+            | inr more ↦ let lt = old.0 in
+                absurd (free_same u x u z (same_itself u) same (is.onward i last u x (omega (arith, more, lt)) (omega arith) (omega arith) old.1 here) r
+                (subst (ComesAfter r u) (sym new.1) comes))
           ]
         ]
         | inr new ↦ elim (pushed_at kept z j v b) [
           | inl older ↦ elim (cases_eq j 0) [
             | inl first_one ↦ inr (let e = new.0 in omega arith, first_one)
-            | inr more ↦ absurd (free_same x v z v same (same_itself v) (is.behind j last v x (inl (omega (arith, more))) (omega arith) (omega arith) older.1 here) r (subst (λ (w : Step). ComesAfter r w v) (sym new.1) comes))
+            | inr more ↦ absurd (free_same x v z v same (same_itself v)
+                (is.behind j last v x (inl (omega (arith, more))) (omega arith) (omega arith) older.1 here) r
+                (subst (λ (w : Step). ComesAfter r w v) (sym new.1) comes))
           ]
-          | inr newer ↦ absurd (free_itself z r (subst (λ (w : Step). ComesAfter r z w) (sym newer.1) (subst (λ (w : Step). ComesAfter r w v) (sym new.1) comes)))
+          | inr newer ↦ absurd (free_itself z r
+              (subst (λ (w : Step). ComesAfter r z w) (sym newer.1) (subst (λ (w : Step). ComesAfter r w v) (sym new.1) comes)))
         ]
       ];
       own = λ k w a. elim (pushed_at kept z k w a) [
@@ -256,7 +287,8 @@ in_log logs [] k x all a = cc
 in_log logs (s ∷ steps) zero x all a = let is : s ≡ x = cc in subst (IsInLog logs) is all.0
 in_log logs (s ∷ steps) (suc k) x all a = in_log logs steps k x all.1 a
 
-all_in_log : (logs : List (List Entry)) (kept : List Step) → ((k : ℕ) (x : Step) → slice_get kept k ≡ Some x → IsInLog logs x) → AllByRecursion (IsInLog logs) kept
+all_in_log : (logs : List (List Entry)) (kept : List Step) → ((k : ℕ) (x : Step) → slice_get kept k ≡ Some x → IsInLog logs x)
+    → AllByRecursion (IsInLog logs) kept
 all_in_log logs [] each = tt
 all_in_log logs (x ∷ kept) each = (each zero x refl, all_in_log logs kept (λ k y a. each (suc k) y a))
 
@@ -265,9 +297,12 @@ cycle_kept logs steps kept cycle own round = record {
   entries = all_in_log logs kept (λ k x a.
       let from = own k x a in
       let here = in_log logs steps from.0 from.1 cycle.entries from.2 in
-      subst (λ (e : Entry). slice_get (log_of logs e.node) x.place ≡ Some e) from.3 (subst (λ (p : ℕ). slice_get (log_of logs from.1.entry.node) p ≡ Some from.1.entry) from.4 here));
+      subst (λ (e : Entry). slice_get (log_of logs e.node) x.place ≡ Some e) from.3
+      (subst (λ (p : ℕ). slice_get (log_of logs from.1.entry.node) p ≡ Some from.1.entry) from.4 here));
   round = round;
 }
 
-pub still_kept : (steps kept kept' : List Step) (first last next next' : ℕ) → IsKept steps kept first last next → kept' ≡ kept → next' ≡ next → IsKept steps kept' first last next'
-still_kept steps kept kept' first last next next' is same there = subst (λ (ks : List Step). IsKept steps ks first last next') (sym same) (subst (IsKept steps kept first last) (sym there) is)
+pub still_kept : (steps kept kept' : List Step) (first last next next' : ℕ) → IsKept steps kept first last next → kept' ≡ kept → next' ≡ next
+    → IsKept steps kept' first last next'
+still_kept steps kept kept' first last next next' is same there =
+    subst (λ (ks : List Step). IsKept steps ks first last next') (sym same) (subst (IsKept steps kept first last) (sym there) is)

@@ -1,5 +1,6 @@
 -- What an audit reports: the first rule that logs and last contents break, and where.
-use Rattle.std.specs.Prelude.{◌≡◌, ℕ, ◌<◌, ◌==◌, ◌&&◌, ◌||◌, not, nat_lt, nat_le, Bool, true, false, List, [], ◌∷◌, ◌++◌, length, filter, map, Option, Some, None, if◌then◌else◌, slice_index_or}
+use Rattle.std.specs.Prelude.{◌≡◌, ℕ, ◌<◌, ◌==◌, ◌&&◌, ◌||◌, not, nat_lt, nat_le, Bool, true, false, List, [], ◌∷◌, ◌++◌, length, filter, map, Option, Some}
+use Rattle.std.specs.Prelude.{None, if◌then◌else◌, slice_index_or}
 use Rattle.std.specs.List.{All, list_any}
 use denote.Ref.{Bor}
 use Rattle.std.specs.Global.{Vec}
@@ -71,7 +72,8 @@ last_entry found (entry ∷ entries) = last_entry (Some entry) entries
 abbrev pub is_placed_before : Entry → Entry → Bool
 is_placed_before first second =
     nat_lt first.version second.version
-    || ((first.version == second.version) && ((is_making first && not (is_making second)) || ((is_making first || not (is_making second)) && nat_le first.serial second.serial)))
+    || ((first.version == second.version)
+    && ((is_making first && not (is_making second)) || ((is_making first || not (is_making second)) && nat_le first.serial second.serial)))
 
 -- whether a serial or a placed position isn't greater than that of the node's entry before
 abbrev pub breaks_order : Option Entry → Entry → Bool

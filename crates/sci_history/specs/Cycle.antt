@@ -46,7 +46,8 @@ IsNextIn many here there = (there ≡ here + 1) ⊎ ((here + 1 ≡ many) × (the
 
 -- no entry comes after another than the next one, so that none can be left out
 abbrev pub HasNoShortcut : List Step → Type 0
-HasNoShortcut steps = (i j : ℕ) (x y : Step) (reason : Reason) → slice_get steps i ≡ Some x → slice_get steps j ≡ Some y → ComesAfter reason x y → IsNextIn (length steps) i j
+HasNoShortcut steps = (i j : ℕ) (x y : Step) (reason : Reason) → slice_get steps i ≡ Some x → slice_get steps j ≡ Some y → ComesAfter reason x y
+    → IsNextIn (length steps) i j
 
 -- What a look for an order finds: the audit's fault; else an order; else a cycle without a
 -- shortcut, of no more than two entries for each node.

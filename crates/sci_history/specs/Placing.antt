@@ -1,5 +1,6 @@
 -- Entries that are placed one after another, each when all that has to come before it on its line is placed.
-use Rattle.std.specs.Prelude.{◌≡◌, ◌+◌, ◌-◌, ◌<◌, ◌≤◌, ℕ, true, false, Bool, if◌then◌else◌, List, [], ◌∷◌, ◌++◌, length, filter, count_by, map, drop, slice_index_or, slice_get, Option, Some, None, nat_lt, ◌==◌}
+use Rattle.std.specs.Prelude.{◌≡◌, ◌+◌, ◌-◌, ◌<◌, ◌≤◌, ℕ, true, false, Bool, if◌then◌else◌, List, [], ◌∷◌, ◌++◌, length, filter, count_by, map, drop}
+use Rattle.std.specs.Prelude.{slice_index_or, slice_get, Option, Some, None, nat_lt, ◌==◌}
 use Rattle.std.specs.Global.{Vec}
 use Rattle.std.specs.List.{AllByRecursion, flat_map, range_with_len}
 use Rattle.sci_words.specs.declared.limits.TheConstants.{MAX_NODES}
@@ -57,7 +58,8 @@ all_of logs = flat_map (λ log. log) logs
 -- The entries placed on a line are its history up to the line's state; as many loads at its version are left as it says,
 -- and none at a version before.
 pub record IsPlacedOn (logs rests : List (List Entry)) (order : List Entry) (line : ℕ) (state : LineState) : Type 0 where
-  pub history : IsHistory (filter (is_on_line line) order) zero_stamped (record { line = words_at zero_line (placed logs line) state.version; version = state.version })
+  pub history : IsHistory (filter (is_on_line line) order) zero_stamped
+      (record { line = words_at zero_line (placed logs line) state.version; version = state.version })
   pub left : state.left ≡ count_by (reads state.version) (on_line line rests)
   pub past : (version : ℕ) → version < state.version → count_by (reads version) (on_line line rests) ≡ 0
 

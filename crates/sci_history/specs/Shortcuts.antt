@@ -14,11 +14,13 @@ ComesAfterAt steps here there reason = (x y : Step) → slice_get steps here ≡
 
 -- no entry comes after one before it that is less than a span before it
 abbrev pub IsFreeWithin : List Step → (span : ℕ) → Type 0
-IsFreeWithin steps span = (here there : ℕ) (x y : Step) → there < here → here < there + span → slice_get steps here ≡ Some x → slice_get steps there ≡ Some y → IsFree x y
+IsFreeWithin steps span = (here there : ℕ) (x y : Step) → there < here → here < there + span → slice_get steps here ≡ Some x → slice_get steps there ≡ Some y
+    → IsFree x y
 
 -- each entry is one of some others, at the same place of its log
 abbrev pub AreOf : (steps kept : List Step) → Type 0
-AreOf steps kept = (k : ℕ) (x : Step) → slice_get kept k ≡ Some x → (place : ℕ) × (y : Step) × (slice_get steps place ≡ Some y) × (y.entry ≡ x.entry) × (y.place ≡ x.place)
+AreOf steps kept = (k : ℕ) (x : Step) → slice_get kept k ≡ Some x
+    → (place : ℕ) × (y : Step) × (slice_get steps place ≡ Some y) × (y.entry ≡ x.entry) × (y.place ≡ x.place)
 
 -- a round of entries of another one, without a shortcut
 pub record IsBareRoundOf (steps kept : List Step) : Type 0 where

@@ -1,5 +1,6 @@
 -- Each kind of step keeps the rule, and tells its seat what it should.
-use Rattle.std.proofs.Common.{◌≡◌, ◌≢◌, ℕ, zero, suc, ◌+◌, ◌%◌, ◌<◌, inl, inr, Bool, true, false, if◌then◌else◌, eqb, List, [], ◌∷◌, length, get_or, set, refl, sym, ap, subst, ◌∙◌, arith}
+use Rattle.std.proofs.Common.{◌≡◌, ◌≢◌, ℕ, zero, suc, ◌+◌, ◌%◌, ◌<◌, inl, inr, Bool, true, false, if◌then◌else◌, eqb, List, [], ◌∷◌, length, get_or, set, refl}
+use Rattle.std.proofs.Common.{sym, ap, subst, ◌∙◌, arith}
 use Rattle.std.specs.Prelude.{map, not}
 use Rattle.std.proofs.lemmas.Bool.{and_parts, and_left, eq-eqb, eqb-true, ne_eqb, cases_lt}
 use Rattle.std.proofs.lemmas.List.{set-get_or}
@@ -63,18 +64,27 @@ size_known x seat part size reached sized k = let p = known_part x seat part rea
     sizes a b n l s m = λ i. record { nodes = n i; lines = l i; slots = s i; limit = m i }
 
 -- the schedule of the whole leads a part's machine to its state
-pub leads_here : (x : Whole) (seat : ℕ) (part : Part) (size : Size) (schedule : List Event) → IsReached x.core → x.core.size ≡ size → run size x.schedule ≡ x.core → IsKnown x seat part → schedule ≡ x.schedule → run (size_in part) schedule ≡ x.core
+pub leads_here : (x : Whole) (seat : ℕ) (part : Part) (size : Size) (schedule : List Event) → IsReached x.core → x.core.size ≡ size
+    → run size x.schedule ≡ x.core → IsKnown x seat part → schedule ≡ x.schedule → run (size_in part) schedule ≡ x.core
 leads_here x seat part size schedule reached sized leads k same = (λ i. run (size_known x seat part size reached sized k i) (same i)) ∙ leads
 
-pub goes : (size : Size) (s : State (Unit {0}) View) (kept : IsKept size s) (id place value : ℕ) (part next : Part) (y : Whole) → IsReached y.core → y.core.size ≡ size → run size y.schedule ≡ y.core → AreEnabled size [] y.schedule → next.schedule ≡ y.schedule → get_elem? s.views id ≡ some (single part) → me_of next ≡ me_of part
+pub goes : (size : Size) (s : State (Unit {0}) View) (kept : IsKept size s) (id place value : ℕ) (part next : Part) (y : Whole) → IsReached y.core
+    → y.core.size ≡ size → run size y.schedule ≡ y.core → AreEnabled size [] y.schedule → next.schedule ≡ y.schedule → get_elem? s.views id ≡ some (single part)
+    → me_of next ≡ me_of part
     → Shows y (set s.words place value) (set s.views id (single next)) → Goes size s id place value part next
 goes size s kept id place value part next y reached sized leads enabled all here same_me shows =
     let there = set_here s.views id (single next) (within s.views id (single part) here) in
     record {
       kept = record { whole = y; reached = reached; sized = sized; leads = leads; enabled = enabled; shown = shows };
-      shown = shown y (set s.words place value) (set s.views id (single next)) id next reached (leads_here y id next size next.schedule reached sized leads (shows.known id (single next) there).0 all)
-          (subst (λ (z : Size). AreEnabled z [] next.schedule) (sym (size_known y id next size reached sized (shows.known id (single next) there).0)) (subst (λ (es : List Event). AreEnabled size [] es) (sym all) enabled)) shows there;
-      same = record { me = same_me; sized = size_known y id next size reached sized (shows.known id (single next) there).0 ∙ sym (size_known kept.whole id part size kept.reached kept.sized (kept.shown.known id (single part) here).0) };
+      shown = shown y (set s.words place value) (set s.views id (single next)) id next reached
+          (leads_here y id next size next.schedule reached sized leads (shows.known id (single next) there).0 all)
+          (subst (λ (z : Size). AreEnabled z [] next.schedule) (sym (size_known y id next size reached sized (shows.known id (single next) there).0))
+          (subst (λ (es : List Event). AreEnabled size [] es) (sym all) enabled)) shows there;
+      same = record {
+        me = same_me;
+        sized = size_known y id next size reached sized (shows.known id (single next) there).0
+            ∙ sym (size_known kept.whole id part size kept.reached kept.sized (kept.shown.known id (single part) here).0);
+      };
     }
 
 -- what a step owes, and what it tells
@@ -82,7 +92,8 @@ abbrev pub Owes : Size → ℕ → ℕ → Part → (ℕ → ℕ) → (ℕ → M
 Owes size id place part f told = (s : State (Unit {0}) View) → IsKept size s → get_elem? s.views id ≡ some (single part)
     → (next : Part) × Goes size s id place (f (get_or s.words place 0)) part next × told (get_or s.words place 0) (single next, [])
 
-pub allows : (size : Size) (slots id place : ℕ) (part : Part) (f : ℕ → ℕ) (told : ℕ → Me (Unit {0}) View → Type 0) → Owes size id place part f told → Allows (IsKept size) slots id (single part, []) place f told
+pub allows : (size : Size) (slots id place : ℕ) (part : Part) (f : ℕ → ℕ) (told : ℕ → Me (Unit {0}) View → Type 0) → Owes size id place part f told
+    → Allows (IsKept size) slots id (single part, []) place f told
 allows size slots id place part f told owes s kept long here fits = let o = owes s kept here in (single o.0, keeps, tt, o.1.kept, o.2)
 
 -- ---- steps that are no event
@@ -107,19 +118,24 @@ still x seat part lane o o' i i' k lt sender not_sender receiver not_receiver = 
 }
 
 -- a cell that is next for this end
-next_cell : (words : List ℕ) (lane turn number count : ℕ) → eqb number (count % 4) ≡ true → turn % 4 ≡ number % 4 → get_or words (cell_place lane turn + 0) 0 ≡ word_at words lane count 0
+next_cell : (words : List ℕ) (lane turn number count : ℕ) → eqb number (count % 4) ≡ true → turn % 4 ≡ number % 4
+    → get_or words (cell_place lane turn + 0) 0 ≡ word_at words lane count 0
 next_cell words lane turn number count is same =
     let e = eqb-true number (count % 4) is in
     ap (λ (place : ℕ). get_or words (place + 0) 0) (same_cell lane turn count (omega arith))
 
-maybe_out : (b : Bool) (words : List ℕ) (lane word : ℕ) (packets : List Packet) (o : Outbound) (i : Inbound) → (b ≡ true → word ≡ word_at words lane o.sent 0) → Fits words lane packets o i
+maybe_out : (b : Bool) (words : List ℕ) (lane word : ℕ) (packets : List Packet) (o : Outbound) (i : Inbound) → (b ≡ true → word ≡ word_at words lane o.sent 0)
+    → Fits words lane packets o i
     → Fits words lane packets (if b then looked_out word o else o) i
-maybe_out true words lane word packets o i is f = subst (λ (w : ℕ). Fits words lane packets (looked_out w o) i) (sym (is refl)) (out_looked words lane packets o i f)
+maybe_out true words lane word packets o i is f =
+    subst (λ (w : ℕ). Fits words lane packets (looked_out w o) i) (sym (is refl)) (out_looked words lane packets o i f)
 maybe_out false words lane word packets o i is f = f
 
-maybe_in : (b sure : Bool) (words : List ℕ) (lane word : ℕ) (packets : List Packet) (o : Outbound) (i : Inbound) → (b ≡ true → word ≡ word_at words lane i.taken 0) → (b ≡ true → sure ≡ true → 0 < length packets) → Fits words lane packets o i
+maybe_in : (b sure : Bool) (words : List ℕ) (lane word : ℕ) (packets : List Packet) (o : Outbound) (i : Inbound)
+    → (b ≡ true → word ≡ word_at words lane i.taken 0) → (b ≡ true → sure ≡ true → 0 < length packets) → Fits words lane packets o i
     → Fits words lane packets o (if b then looked_in sure word i else i)
-maybe_in true sure words lane word packets o i is there f = subst (λ (w : ℕ). Fits words lane packets o (looked_in sure w i)) (sym (is refl)) (in_looked words lane packets o i sure (there refl) f)
+maybe_in true sure words lane word packets o i is there f =
+    subst (λ (w : ℕ). Fits words lane packets o (looked_in sure w i)) (sym (is refl)) (in_looked words lane packets o i sure (there refl) f)
 maybe_in false sure words lane word packets o i is there f = f
 
 if_false : {X : Type 0} (b : Bool) (x y : X) → b ≡ false → (if b then x else y) ≡ y
@@ -131,7 +147,8 @@ not_true true e f = cc
 not_true false e f = cc
 
 -- no packet is in a lane whose next cell to take from is empty
-emptied : (words : List ℕ) (place : ℕ) (lane : List Letter) (o : Outbound) (i : Inbound) → ShowsLane words place lane o i → word_at words place i.taken 0 ≡ 0 → lane ≡ []
+emptied : (words : List ℕ) (place : ℕ) (lane : List Letter) (o : Outbound) (i : Inbound) → ShowsLane words place lane o i → word_at words place i.taken 0 ≡ 0
+    → lane ≡ []
 emptied words place lane o i shows none_ = by_packets shows.packets shows.letters shows.fits
   where
     by_packets : (packets : List Packet) → map letter_of packets ≡ lane → Fits words place packets o i → lane ≡ []
@@ -139,7 +156,8 @@ emptied words place lane o i shows none_ = by_packets shows.packets shows.letter
     by_packets (p ∷ packets) letters fits = let some_ = first_full words place (p ∷ packets) o i fits (omega arith) in absurd (omega arith)
 
 pub looks : (size : Size) (slots id lane number : ℕ) (part : Part) → lane < lane_count size.nodes → number < 4
-    → Allows (IsKept size) slots id (single part, []) (cell_place lane number + 0) (λ n. n) (Looks (step slots (cell_place lane number + 0) 0 0 none) (single part, []))
+    → Allows (IsKept size) slots id (single part, []) (cell_place lane number + 0) (λ n. n)
+    (Looks (step slots (cell_place lane number + 0) 0 0 none) (single part, []))
 looks size slots id lane number part lt few = allows size slots id place part (λ n. n) (Looks (step slots place 0 0 none) (single part, [])) owes
   where
     place : ℕ
@@ -159,7 +177,9 @@ looks size slots id lane number part lt few = allows size slots id place part (�
           here = k.node;
           four = four (sends_here sends) some;
         };
-        empty = λ receives zero_. subst (λ (c : Core). lane_at c lane ≡ []) (sym (leads_here x id part size x.schedule kept.reached kept.sized kept.leads k refl)) (emptied s.words lane (lane_at x.core lane) (x.outbound lane) (x.inbound lane) old (sym (receives_here receives) ∙ zero_));
+        empty = λ receives zero_. subst (λ (c : Core). lane_at c lane ≡ [])
+            (sym (leads_here x id part size x.schedule kept.reached kept.sized kept.leads k refl))
+            (emptied s.words lane (lane_at x.core lane) (x.outbound lane) (x.inbound lane) old (sym (receives_here receives) ∙ zero_));
       }),
     )
       where
@@ -208,14 +228,18 @@ looks size slots id lane number part lt few = allows size slots id place part (�
         sends_here : b ≡ true → word ≡ word_at s.words lane (x.outbound lane).sent 0
         sends_here is =
             let both = and_parts (eqb (sender_of part.node.cache.nodes lane) (me_of part)) (eqb number ((outbound_at part lane).sent % 4)) is in
-            let sender : sender_of (nodes_of x) lane ≡ me_of part = subst (λ (n : ℕ). sender_of n lane ≡ me_of part) nodes (eqb-true (sender_of part.node.cache.nodes lane) (me_of part) both.0) in
-            subst (λ (o : Outbound). word ≡ word_at s.words lane o.sent 0) (out_is sender) (next_cell s.words lane number number (outbound_at part lane).sent both.1 refl)
+            let sender : sender_of (nodes_of x) lane ≡ me_of part =
+            subst (λ (n : ℕ). sender_of n lane ≡ me_of part) nodes (eqb-true (sender_of part.node.cache.nodes lane) (me_of part) both.0) in
+            subst (λ (o : Outbound). word ≡ word_at s.words lane o.sent 0) (out_is sender)
+            (next_cell s.words lane number number (outbound_at part lane).sent both.1 refl)
 
         receives_here : c ≡ true → word ≡ word_at s.words lane (x.inbound lane).taken 0
         receives_here is =
             let both = and_parts (eqb (receiver_of part.node.cache.nodes lane) (me_of part)) (eqb number ((inbound_at part lane).taken % 4)) is in
-            let receiver : receiver_of (nodes_of x) lane ≡ me_of part = subst (λ (n : ℕ). receiver_of n lane ≡ me_of part) nodes (eqb-true (receiver_of part.node.cache.nodes lane) (me_of part) both.0) in
-            subst (λ (i : Inbound). word ≡ word_at s.words lane i.taken 0) (in_is receiver) (next_cell s.words lane number number (inbound_at part lane).taken both.1 refl)
+            let receiver : receiver_of (nodes_of x) lane ≡ me_of part =
+            subst (λ (n : ℕ). receiver_of n lane ≡ me_of part) nodes (eqb-true (receiver_of part.node.cache.nodes lane) (me_of part) both.0) in
+            subst (λ (i : Inbound). word ≡ word_at s.words lane i.taken 0) (in_is receiver)
+            (next_cell s.words lane number number (inbound_at part lane).taken both.1 refl)
 
         old : ShowsLane s.words lane (lane_at x.core lane) (x.outbound lane) (x.inbound lane)
         old = kept.shown.lanes lane lane_ok
@@ -224,9 +248,12 @@ looks size slots id lane number part lt few = allows size slots id place part (�
         surely : c ≡ true → sure ≡ true → 0 < length old.packets
         surely takes more =
             let both = and_parts (eqb (receiver_of part.node.cache.nodes lane) (me_of part)) (eqb number ((inbound_at part lane).taken % 4)) takes in
-            let receiver : receiver_of (nodes_of x) lane ≡ me_of part = subst (λ (n : ℕ). receiver_of n lane ≡ me_of part) nodes (eqb-true (receiver_of part.node.cache.nodes lane) (me_of part) both.0) in
-            let sends = and_parts (eqb (sender_of part.node.cache.nodes lane) (me_of part)) (not (eqb (outbound_at part lane).sent (inbound_at part lane).taken)) more in
-            let sender : sender_of (nodes_of x) lane ≡ me_of part = subst (λ (n : ℕ). sender_of n lane ≡ me_of part) nodes (eqb-true (sender_of part.node.cache.nodes lane) (me_of part) sends.0) in
+            let receiver : receiver_of (nodes_of x) lane ≡ me_of part =
+            subst (λ (n : ℕ). receiver_of n lane ≡ me_of part) nodes (eqb-true (receiver_of part.node.cache.nodes lane) (me_of part) both.0) in
+            let sends = and_parts (eqb (sender_of part.node.cache.nodes lane) (me_of part))
+            (not (eqb (outbound_at part lane).sent (inbound_at part lane).taken)) more in
+            let sender : sender_of (nodes_of x) lane ≡ me_of part =
+            subst (λ (n : ℕ). sender_of n lane ≡ me_of part) nodes (eqb-true (sender_of part.node.cache.nodes lane) (me_of part) sends.0) in
             let sent = ap (λ (o : Outbound). o.sent) (out_is sender) in
             let taken = ap (λ (i : Inbound). i.taken) (in_is receiver) in
             let counted = old.fits.counted in
@@ -243,7 +270,8 @@ looks size slots id lane number part lt few = allows size slots id place part (�
           packets = old.packets;
           letters = old.letters;
           fits = subst (λ (ws : List ℕ). Fits ws lane old.packets o' i') (sym (set-get_or s.words place 0))
-              (maybe_in c sure s.words lane word old.packets o' (x.inbound lane) receives_here surely (maybe_out b s.words lane word old.packets (x.outbound lane) (x.inbound lane) sends_here old.fits));
+              (maybe_in c sure s.words lane word old.packets o' (x.inbound lane) receives_here surely
+              (maybe_out b s.words lane word old.packets (x.outbound lane) (x.inbound lane) sends_here old.fits));
         }
 
         shows : Shows y (set s.words place word) (set s.views id (single (informed x.schedule (looked lane number word part))))
@@ -253,13 +281,18 @@ looks size slots id lane number part lt few = allows size slots id place part (�
             kept.shown here (omega arith)
             (still x id part lane _ o' _ i' k lane_ok
             (λ is. ap (λ (o : Outbound). if b then looked_out word o else o) (out_is is))
-            (λ apart. if_false b _ (x.outbound lane) (and_left (eqb (sender_of part.node.cache.nodes lane) (me_of part)) _ (ne_eqb (sender_of part.node.cache.nodes lane) (me_of part) (λ e. apart (subst (λ (n : ℕ). sender_of n lane ≡ me_of part) nodes e)))))
+            (λ apart. if_false b _ (x.outbound lane)
+            (and_left (eqb (sender_of part.node.cache.nodes lane) (me_of part)) _
+            (ne_eqb (sender_of part.node.cache.nodes lane) (me_of part) (λ e. apart (subst (λ (n : ℕ). sender_of n lane ≡ me_of part) nodes e)))))
             (λ is. ap (λ (i : Inbound). if c then looked_in sure word i else i) (in_is is))
-            (λ apart. if_false c _ (x.inbound lane) (and_left (eqb (receiver_of part.node.cache.nodes lane) (me_of part)) _ (ne_eqb (receiver_of part.node.cache.nodes lane) (me_of part) (λ e. apart (subst (λ (n : ℕ). receiver_of n lane ≡ me_of part) nodes e))))))
+            (λ apart. if_false c _ (x.inbound lane)
+            (and_left (eqb (receiver_of part.node.cache.nodes lane) (me_of part)) _
+            (ne_eqb (receiver_of part.node.cache.nodes lane) (me_of part) (λ e. apart (subst (λ (n : ℕ). receiver_of n lane ≡ me_of part) nodes e))))))
             shows_lane
 
         went : Goes size s id place word part (informed x.schedule (looked lane number word part))
-        went = goes size s kept id place word part (informed x.schedule (looked lane number word part)) y kept.reached kept.sized kept.leads kept.enabled refl here refl shows
+        went = goes size s kept id place word part (informed x.schedule (looked lane number word part)) y kept.reached kept.sized kept.leads kept.enabled refl
+            here refl shows
 
         four : word ≡ word_at s.words lane (x.outbound lane).sent 0 → word ≢ 0 → length (lane_at x.core lane) ≡ 4
         four is some_word =

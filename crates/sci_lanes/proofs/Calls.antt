@@ -30,50 +30,60 @@ use Rattle.sci_lanes.proofs.Inside.{inbox_within}
 
 -- ---- the next cells
 
-pub next_send : (part : Part) (node : NodeOf) (me nodes : ℕ) (turns inbox_turns : List ℕ) → FitsInside part node me nodes turns inbox_turns → (kind : LaneKind) (to number : ℕ) → to < nodes_in part
+pub next_send : (part : Part) (node : NodeOf) (me nodes : ℕ) (turns inbox_turns : List ℕ) → FitsInside part node me nodes turns inbox_turns
+    → (kind : LaneKind) (to number : ℕ) → to < nodes_in part
     → number ≡ get_or turns (lane_place nodes kind me to) number → IsNextToSend part (record { kind = kind; sender = me; receiver = to; number = number })
 next_send part node me nodes turns inbox_turns f kind to number lt read =
     let some_node = f.some_node in
     let nodes_are = f.nodes_is in
     let at = sent_place nodes kind me to some_node (omega arith) in
-    let found : number ≡ get_or turns (lane_place nodes kind me to) 0 = get_or_read turns (lane_place nodes kind me to) number (subst (λ (n : ℕ). lane_place nodes kind me to < n) (sym f.turns_long) at.0) read 0 in
+    let found : number ≡ get_or turns (lane_place nodes kind me to) 0 =
+    get_or_read turns (lane_place nodes kind me to) number (subst (λ (n : ℕ). lane_place nodes kind me to < n) (sym f.turns_long) at.0) read 0 in
     record {
       mine = f.me_is;
       other = lt;
       next = found ∙ (f.turns_are (lane_place nodes kind me to) at.0 ∙ ap (λ (n : ℕ). (outbound_at part (lane_place n kind me to)).sent % 4) nodes_are);
     }
 
-pub next_take : (part : Part) (node : NodeOf) (me nodes : ℕ) (turns inbox_turns : List ℕ) → FitsInside part node me nodes turns inbox_turns → (kind : LaneKind) (from number : ℕ) → from < nodes_in part
-    → number ≡ get_or inbox_turns (lane_place nodes kind from me / nodes) number → IsNextToTake part (record { kind = kind; sender = from; receiver = me; number = number })
+pub next_take : (part : Part) (node : NodeOf) (me nodes : ℕ) (turns inbox_turns : List ℕ) → FitsInside part node me nodes turns inbox_turns
+    → (kind : LaneKind) (from number : ℕ) → from < nodes_in part
+    → number ≡ get_or inbox_turns (lane_place nodes kind from me / nodes) number
+    → IsNextToTake part (record { kind = kind; sender = from; receiver = me; number = number })
 next_take part node me nodes turns inbox_turns f kind from number lt read =
     let some_node = f.some_node in
     let nodes_are = f.nodes_is in
     let at = sent_place nodes kind from me (omega arith) some_node in
     let place = lane_place nodes kind from me / nodes in
-    let within : place < length inbox_turns = subst (λ (n : ℕ). place < n) (sym f.inbox_turns_long) (inbox_within nodes (lane_place nodes kind from me) (omega arith) at.0) in
+    let within : place < length inbox_turns =
+    subst (λ (n : ℕ). place < n) (sym f.inbox_turns_long) (inbox_within nodes (lane_place nodes kind from me) (omega arith) at.0) in
     let found : number ≡ get_or inbox_turns place 0 = get_or_read inbox_turns place number within read 0 in
     record {
       mine = f.me_is;
       other = lt;
-      next = found ∙ (f.taken_are (lane_place nodes kind from me) at.0 at.2 ∙ ap (λ (n : ℕ). (inbound_at part (lane_place n kind from me)).taken % 4) nodes_are);
+      next = found ∙ (f.taken_are (lane_place nodes kind from me) at.0 at.2
+          ∙ ap (λ (n : ℕ). (inbound_at part (lane_place n kind from me)).taken % 4) nodes_are);
     }
 
 -- ---- a full lane of requests
 
-fronted : (core : Core) (from n : ℕ) (letters : List Letter) → IsReached core → from < core.size.nodes → n < core.size.nodes → lane_of core Requests from n ≡ letters → length letters ≡ 4
+fronted : (core : Core) (from n : ℕ) (letters : List Letter) → IsReached core → from < core.size.nodes → n < core.size.nodes
+    → lane_of core Requests from n ≡ letters → length letters ≡ 4
     → (letter : Letter) × (letter.line < core.size.lines) × (waits (line_of (node_at core from).cache letter.line).state ≡ true)
 fronted core from n [] reached f t is four = absurd (omega arith)
 fronted core from n (letter ∷ rest) reached f t is four = let w = (request_enabled core from n reached f t).waited letter rest is in (letter, w.0, w.1)
 
-pub full_waits : (part : Part) (cell : CellId) (schedule : List Event) → IsShown part → IsNextToSend part cell → cell.kind ≡ Requests → IsFull (informed schedule part) (lane_at_cell part cell) → SomeLineWaits part.node
+pub full_waits : (part : Part) (cell : CellId) (schedule : List Event) → IsShown part → IsNextToSend part cell → cell.kind ≡ Requests
+    → IsFull (informed schedule part) (lane_at_cell part cell) → SomeLineWaits part.node
 full_waits part cell schedule s next kind full =
     let core = full.core in
     let me = me_of part in
     let well = (reached_well core full.reached).each_part me full.some_node in
     let nodes_are : nodes_in part ≡ core.size.nodes = ap (λ node. node.cache.nodes) (sym full.here) ∙ well.all in
-    let lane_is : lane_at_cell part cell ≡ lane_place core.size.nodes Requests me cell.receiver = (λ i. lane_place (nodes_are i) (kind i) (next.mine i) cell.receiver) in
+    let lane_is : lane_at_cell part cell ≡ lane_place core.size.nodes Requests me cell.receiver =
+    (λ i. lane_place (nodes_are i) (kind i) (next.mine i) cell.receiver) in
     let four : length (lane_of core Requests me cell.receiver) ≡ 4 = ap (λ (l : ℕ). length (lane_at core l)) (sym lane_is) ∙ full.four in
-    let w = fronted core me cell.receiver (lane_of core Requests me cell.receiver) full.reached full.some_node (subst (λ (n : ℕ). cell.receiver < n) nodes_are next.other) refl four in
+    let w = fronted core me cell.receiver (lane_of core Requests me cell.receiver) full.reached full.some_node
+    (subst (λ (n : ℕ). cell.receiver < n) nodes_are next.other) refl four in
     record {
       line = w.0.line;
       here = subst (λ (node : NodeOf). w.0.line < lines_of node) full.here (subst (λ (n : ℕ). w.0.line < n) (sym well.each) w.1);
@@ -82,7 +92,8 @@ full_waits part cell schedule s next kind full =
 
 -- ---- events
 
-pub publishing : (part : Part) (cell : CellId) (first : ℕ) (e : Event) → MayPublish part cell first e → IsSending part (lane_at_cell part cell) first e (node_after part.node (side part.node e))
+pub publishing : (part : Part) (cell : CellId) (first : ℕ) (e : Event) → MayPublish part cell first e
+    → IsSending part (lane_at_cell part cell) first e (node_after part.node (side part.node e))
 publishing part cell first e may =
     let after_is : node_after part.node (side part.node e) ≡ may.after = ap (node_after part.node) may.side_is in
     subst (λ (node : NodeOf). IsSending part (lane_at_cell part cell) first e node) (sym after_is)
@@ -97,7 +108,8 @@ publishing part cell first e may =
       spelled = may.spelled;
     })
 
-pub freeing : (part : Part) (cell : CellId) (e : Event) (packet : Packet) (next : NodeOf) → (may : MayFree part cell e) → packet ≡ may.packet → taken_by (side part.node e) (letter_of packet) ≡ Some next → IsTaking part (lane_at_cell part cell) e next
+pub freeing : (part : Part) (cell : CellId) (e : Event) (packet : Packet) (next : NodeOf) → (may : MayFree part cell e) → packet ≡ may.packet
+    → taken_by (side part.node e) (letter_of packet) ≡ Some next → IsTaking part (lane_at_cell part cell) e next
 freeing part cell e packet next may is takes = record {
   kind = cell.kind;
   from = cell.sender;
@@ -134,27 +146,32 @@ given part cell e s may = by_event e may.side_is
         above p = words_some_of p
 
     front : IsFront (lane_at s.core lane) (inbound_at part lane).found
-    front = s.found lane (subst (λ (n : ℕ). lane < lane_count n) nodes at.lane) (subst (λ (n : ℕ). receiver_of n lane ≡ me) nodes (at.receiver ∙ may.next.mine)) words_some
+    front = s.found lane (subst (λ (n : ℕ). lane < lane_count n) nodes at.lane) (subst (λ (n : ℕ). receiver_of n lane ≡ me) nodes (at.receiver ∙ may.next.mine))
+        words_some
 
     same : front.packet ≡ may.packet
     same = sym (one_by_words may.packet front.packet may.spelled.packet front.good (λ k a b.
-        ap (λ (ws : List ℕ). get_or ws k 0) (sym may.spelled.spelled_so) ∙ front.agrees k (subst (λ (ws : List ℕ). k < length ws) (sym may.spelled.spelled_so) a) b))
+        ap (λ (ws : List ℕ). get_or ws k 0) (sym may.spelled.spelled_so)
+        ∙ front.agrees k (subst (λ (ws : List ℕ). k < length ws) (sym may.spelled.spelled_so) a) b))
 
     begins : (kind : LaneKind) (from : ℕ) → cell.kind ≡ kind → cell.sender ≡ from → slice_get (lane_of s.core kind from me) 0 ≡ Some (letter_of may.packet)
     begins kind from k f =
         let place : lane ≡ lane_place s.core.size.nodes kind from me = (λ i. lane_place (nodes i) (k i) (f i) (may.next.mine i)) in
-        ap (λ (l : ℕ). slice_get (lane_at s.core l) 0) (sym place) ∙ (ap (λ (ls : List Letter). slice_get ls 0) front.front ∙ ap (λ (p : Packet). Some (letter_of p)) same)
+        ap (λ (l : ℕ). slice_get (lane_at s.core l) 0) (sym place)
+        ∙ (ap (λ (ls : List Letter). slice_get ls 0) front.front ∙ ap (λ (p : Packet). Some (letter_of p)) same)
 
     sender : cell.sender < s.core.size.nodes
     sender = subst (λ (n : ℕ). cell.sender < n) nodes may.next.other
 
     serves : (from : ℕ) → cell.kind ≡ Requests → cell.sender ≡ from → IsServable part.node (letter_of may.packet)
     serves from k f = subst (λ (node : NodeOf). IsServable node (letter_of may.packet)) s.here
-        (servable s.core from me (letter_of may.packet) (reached_well s.core s.reached) (subst (λ (j : ℕ). j < s.core.size.nodes) f sender) s.some_node (begins Requests from k f))
+        (servable s.core from me (letter_of may.packet) (reached_well s.core s.reached) (subst (λ (j : ℕ). j < s.core.size.nodes) f sender) s.some_node
+        (begins Requests from k f))
 
     accepts : (from : ℕ) → cell.kind ≡ Answers → cell.sender ≡ from → IsForNode part.node (letter_of may.packet)
     accepts from k f = subst (λ (node : NodeOf). IsForNode node (letter_of may.packet)) s.here
-        (acceptable s.core from me (letter_of may.packet) (reached_well s.core s.reached) (subst (λ (j : ℕ). j < s.core.size.nodes) f sender) s.some_node (begins Answers from k f))
+        (acceptable s.core from me (letter_of may.packet) (reached_well s.core s.reached) (subst (λ (j : ℕ). j < s.core.size.nodes) f sender) s.some_node
+        (begins Answers from k f))
 
     takes_as : (kind k : LaneKind) (from f : ℕ) (t u : Letter → Option NodeOf) → Takes kind from t ≡ Takes k f u → (k ≡ kind) × (f ≡ from)
     takes_as kind k from f t u e = (ap kind_of (sym e), ap from_of (sym e))

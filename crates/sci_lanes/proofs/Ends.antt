@@ -37,8 +37,10 @@ pub record MayRead (size : Size) (part : Part) (lane number index : ℕ) : Type 
   pub order : index ≤ length (inbound_at part lane).found
 
 pub fills : (size : Size) (slots id lane number index word : ℕ) (part : Part) → MayFill size part lane number index
-    → Allows (IsKept size) slots id (single part, []) (cell_place lane number + index) (λ n. word) (λ n. Fills (step slots (cell_place lane number + index) word 0 none) (single part, []) word)
-fills size slots id lane number index word part may = allows size slots id place part (λ n. word) (λ n. Fills (step slots place word 0 none) (single part, []) word) owes
+    → Allows (IsKept size) slots id (single part, []) (cell_place lane number + index) (λ n. word)
+    (λ n. Fills (step slots (cell_place lane number + index) word 0 none) (single part, []) word)
+fills size slots id lane number index word part may =
+    allows size slots id place part (λ n. word) (λ n. Fills (step slots place word 0 none) (single part, []) word) owes
   where
     place : ℕ
     place = cell_place lane number + index
@@ -47,7 +49,8 @@ fills size slots id lane number index word part may = allows size slots id place
     owes s kept here = (
       informed x.schedule (filled lane index word part),
       went,
-      rw (lane_found lane number index may.within, index_found lane number index may.within) (record { schedule = x.schedule; view = refl; shown = went.shown; same = went.same; went = k.seen }),
+      rw (lane_found lane number index may.within, index_found lane number index may.within)
+          (record { schedule = x.schedule; view = refl; shown = went.shown; same = went.same; went = k.seen }),
     )
       where
         x : Whole
@@ -81,21 +84,27 @@ fills size slots id lane number index word part may = allows size slots id place
         y = turned_whole x lane x.core x.schedule (filled_out index word o) (x.inbound lane)
 
         fits : Fits (set s.words (cell_place lane o.sent + index) word) lane old.packets (filled_out index word o) (x.inbound lane)
-        fits = out_filled s.words lane index word old.packets o (x.inbound lane) (ap (λ (u : Outbound). u.vacant) (sym out_is) ∙ may.vacant) may.further may.within (subst (λ (u : Outbound). index ≤ length u.filled + 1) out_is may.order)
-            (subst (λ (n : ℕ). cell_place lane o.sent + index < n) (sym kept.shown.long) (place_within (nodes_of x) lane o.sent index lane_ok may.within)) old.fits
+        fits = out_filled s.words lane index word old.packets o (x.inbound lane) (ap (λ (u : Outbound). u.vacant) (sym out_is) ∙ may.vacant) may.further
+            may.within (subst (λ (u : Outbound). index ≤ length u.filled + 1) out_is may.order)
+            (subst (λ (n : ℕ). cell_place lane o.sent + index < n) (sym kept.shown.long) (place_within (nodes_of x) lane o.sent index lane_ok may.within))
+            old.fits
 
         shows : Shows y (set s.words (cell_place lane o.sent + index) word) (set s.views id (single (informed x.schedule (filled lane index word part))))
-        shows = lane_step x s.words s.views id lane o.sent index word part x.core x.schedule part.node (filled_out index word (outbound_at part lane)) (filled_out index word o) (inbound_at part lane) (x.inbound lane)
+        shows = lane_step x s.words s.views id lane o.sent index word part x.core x.schedule part.node (filled_out index word (outbound_at part lane))
+            (filled_out index word o) (inbound_at part lane) (x.inbound lane)
             kept.shown here may.within
-            (still x id part lane _ (filled_out index word o) _ (x.inbound lane) k lane_ok (λ is. ap (filled_out index word) out_is) (λ apart. absurd (apart sends)) (k.inbound lane lane_ok) (λ apart. refl))
+            (still x id part lane _ (filled_out index word o) _ (x.inbound lane) k lane_ok (λ is. ap (filled_out index word) out_is)
+            (λ apart. absurd (apart sends)) (k.inbound lane lane_ok) (λ apart. refl))
             (record { packets = old.packets; letters = old.letters; fits = fits })
 
         went : Goes size s id place word part (informed x.schedule (filled lane index word part))
-        went = goes size s kept id place word part (informed x.schedule (filled lane index word part)) y kept.reached kept.sized kept.leads kept.enabled refl here refl
+        went = goes size s kept id place word part (informed x.schedule (filled lane index word part)) y kept.reached kept.sized kept.leads kept.enabled refl
+            here refl
             (subst (λ (p : ℕ). Shows y (set s.words p word) (set s.views id (single (informed x.schedule (filled lane index word part))))) (sym turn) shows)
 
 pub reads : (size : Size) (slots id lane number index : ℕ) (part : Part) → MayRead size part lane number index
-    → Allows (IsKept size) slots id (single part, []) (cell_place lane number + index) (λ n. n) (Reads (step slots (cell_place lane number + index) 0 0 none) (single part, []))
+    → Allows (IsKept size) slots id (single part, []) (cell_place lane number + index) (λ n. n)
+    (Reads (step slots (cell_place lane number + index) 0 0 none) (single part, []))
 reads size slots id lane number index part may = allows size slots id place part (λ n. n) (Reads (step slots place 0 0 none) (single part, [])) owes
   where
     place : ℕ
@@ -105,7 +114,8 @@ reads size slots id lane number index part may = allows size slots id place part
     owes s kept here = (
       informed x.schedule (read lane index word part),
       went,
-      rw (lane_found lane number index may.within, index_found lane number index may.within) (record { schedule = x.schedule; view = refl; shown = went.shown; same = went.same; went = k.seen }),
+      rw (lane_found lane number index may.within, index_found lane number index may.within)
+          (record { schedule = x.schedule; view = refl; shown = went.shown; same = went.same; went = k.seen }),
     )
       where
         x : Whole
@@ -143,13 +153,21 @@ reads size slots id lane number index part may = allows size slots id place part
 
         fits : Fits s.words lane old.packets (x.outbound lane) (read_in index word i)
         fits = subst (λ (p : ℕ). Fits s.words lane old.packets (x.outbound lane) (read_in index (get_or s.words p 0) i)) (sym turn)
-            (in_read s.words lane index old.packets (x.outbound lane) i may.further may.within (subst (λ (u : Inbound). index ≤ length u.found) in_is may.order) old.fits)
+            (in_read s.words lane index old.packets (x.outbound lane) i may.further may.within (subst (λ (u : Inbound). index ≤ length u.found) in_is may.order)
+            old.fits)
 
         shows : Shows y (set s.words place word) (set s.views id (single (informed x.schedule (read lane index word part))))
-        shows = lane_step x s.words s.views id lane number index word part x.core x.schedule part.node (outbound_at part lane) (x.outbound lane) (read_in index word (inbound_at part lane)) (read_in index word i)
+        shows = lane_step x s.words s.views id lane number index word part x.core x.schedule part.node (outbound_at part lane) (x.outbound lane)
+            (read_in index word (inbound_at part lane)) (read_in index word i)
             kept.shown here may.within
-            (still x id part lane _ (x.outbound lane) _ (read_in index word i) k lane_ok (k.outbound lane lane_ok) (λ apart. refl) (λ is. ap (read_in index word) in_is) (λ apart. absurd (apart receives)))
-            (record { packets = old.packets; letters = old.letters; fits = subst (λ (ws : List ℕ). Fits ws lane old.packets (x.outbound lane) (read_in index word i)) (sym (set-get_or s.words place 0)) fits })
+            (still x id part lane _ (x.outbound lane) _ (read_in index word i) k lane_ok (k.outbound lane lane_ok) (λ apart. refl)
+            (λ is. ap (read_in index word) in_is) (λ apart. absurd (apart receives)))
+            (record {
+              packets = old.packets;
+              letters = old.letters;
+              fits = subst (λ (ws : List ℕ). Fits ws lane old.packets (x.outbound lane) (read_in index word i)) (sym (set-get_or s.words place 0)) fits;
+            })
 
         went : Goes size s id place word part (informed x.schedule (read lane index word part))
-        went = goes size s kept id place word part (informed x.schedule (read lane index word part)) y kept.reached kept.sized kept.leads kept.enabled refl here refl shows
+        went = goes size s kept id place word part (informed x.schedule (read lane index word part)) y kept.reached kept.sized kept.leads kept.enabled refl here
+            refl shows

@@ -1,5 +1,6 @@
 -- Publishing, freeing and beating are events of the machine, and keep the rule.
-use Rattle.std.proofs.Common.{◌≡◌, ◌≢◌, ℕ, suc, ◌+◌, ◌*◌, ◌%◌, ◌^◌, ◌<◌, List, [], ◌∷◌, ◌++◌, length, get_or, set, map, Option, None, Some, refl, sym, ap, subst, ◌∙◌, arith, mul_assoc}
+use Rattle.std.proofs.Common.{◌≡◌, ◌≢◌, ℕ, suc, ◌+◌, ◌*◌, ◌%◌, ◌^◌, ◌<◌, List, [], ◌∷◌, ◌++◌, length, get_or, set, map, Option, None, Some, refl, sym, ap}
+use Rattle.std.proofs.Common.{subst, ◌∙◌, arith, mul_assoc}
 use Rattle.std.specs.Prelude.{IsSome, unwrap_or}
 use Rattle.std.proofs.lemmas.List.{append-nil, append_assoc}
 use Rattle.std.proofs.lemmas.List.{get_or-set_same, get_or-set_other, map_push}
@@ -14,7 +15,8 @@ use Rattle.sci_cache.specs.Cache.{Letter, letter_of}
 use Rattle.sci_core.specs.Size.{Size}
 use Rattle.sci_core.specs.declared.lane.LaneKind.{LaneKind}
 use Rattle.sci_core.specs.Node.{NodeOf, no_node}
-use Rattle.sci_core.specs.Core.{Core, node_at, with_node, with_lane, lane_at, lane_of, lane_place, side, node_of, sent_by, taken_as, taken_from, IsEnabled, stepping, step as machine_step, opening, run}
+use Rattle.sci_core.specs.Core.{Core, node_at, with_node, with_lane, lane_at, lane_of, lane_place, side, node_of, sent_by, taken_as, taken_from, IsEnabled}
+use Rattle.sci_core.specs.Core.{stepping, step as machine_step, opening, run}
 use Rattle.sci_core.specs.Reached.{IsReached}
 use Rattle.sci_core.proofs.Step.Places.{place_below, place_from, place_to}
 use Rattle.sci_core.proofs.Step.Stepping.{stepping_changed, stepping_sent, stepping_takes}
@@ -44,8 +46,14 @@ pub count_is : (nodes : ℕ) → 2 * nodes * nodes ≡ lane_count nodes
 count_is nodes = mul_assoc 2 nodes nodes
 
 -- a lane of this node, by its kind and its other end
-pub sent_place : (nodes : ℕ) (kind : LaneKind) (from to : ℕ) → from < nodes → to < nodes → (lane_place nodes kind from to < lane_count nodes) × (sender_of nodes (lane_place nodes kind from to) ≡ from) × (receiver_of nodes (lane_place nodes kind from to) ≡ to)
-sent_place nodes kind from to f t = (subst (λ (c : ℕ). lane_place nodes kind from to < c) (count_is nodes) (place_below nodes kind from to f t), place_from nodes kind from to f t, place_to nodes kind from to t)
+pub sent_place : (nodes : ℕ) (kind : LaneKind) (from to : ℕ) → from < nodes → to < nodes
+    → (lane_place nodes kind from to < lane_count nodes) × (sender_of nodes (lane_place nodes kind from to) ≡ from)
+    × (receiver_of nodes (lane_place nodes kind from to) ≡ to)
+sent_place nodes kind from to f t = (
+  subst (λ (c : ℕ). lane_place nodes kind from to < c) (count_is nodes) (place_below nodes kind from to f t),
+  place_from nodes kind from to f t,
+  place_to nodes kind from to t,
+)
 
 -- ---- states
 
@@ -60,38 +68,50 @@ lanes_within : (core : Core) (lane : ℕ) → IsReached core → lane < lane_cou
 lanes_within core lane reached lt = subst (λ (k : ℕ). lane < k) (sym ((reached_well core reached).sizes.lanes_long ∙ count_is core.size.nodes)) lt
 
 -- the event's side at the part's node
-side_here : (x : Whole) (seat : ℕ) (part : Part) (event : Event) → IsKnown x seat part → node_of event ≡ me_of part → side (node_at x.core (node_of event)) event ≡ side part.node event
+side_here : (x : Whole) (seat : ℕ) (part : Part) (event : Event) → IsKnown x seat part → node_of event ≡ me_of part
+    → side (node_at x.core (node_of event)) event ≡ side part.node event
 side_here x seat part event k own = ap (λ (n : ℕ). side (node_at x.core n) event) own ∙ ap (λ (node : NodeOf). side node event) k.node
 
 -- ---- schedules
 
 -- a schedule goes on by an event that is enabled
-pub run_further : (size : Size) (schedule : List Event) (old new : Core) (e : Event) → run size schedule ≡ old → stepping old e ≡ Some new → run size (schedule ++ e ∷ []) ≡ new
+pub run_further : (size : Size) (schedule : List Event) (old new : Core) (e : Event) → run size schedule ≡ old → stepping old e ≡ Some new
+    → run size (schedule ++ e ∷ []) ≡ new
 run_further size schedule old new e leads steps =
     fold_push machine_step (opening size) schedule e ∙ (ap (λ (k : Core). machine_step k e) leads ∙ ap (λ (o : Option Core). unwrap_or o old) steps)
 
-enabled_more : (size : Size) (known xs : List Event) (e : Event) → AreEnabled size known xs → IsEnabled (run size (known ++ xs)) e → AreEnabled size known (xs ++ e ∷ [])
+enabled_more : (size : Size) (known xs : List Event) (e : Event) → AreEnabled size known xs → IsEnabled (run size (known ++ xs)) e
+    → AreEnabled size known (xs ++ e ∷ [])
 enabled_more size known [] e all one = (subst (λ (es : List Event). IsEnabled (run size es) e) (append-nil known) one, tt)
-enabled_more size known (x ∷ xs) e all one = (all.0, enabled_more size (known ++ x ∷ []) xs e all.1 (subst (λ (es : List Event). IsEnabled (run size es) e) (sym (append_assoc known (x ∷ []) xs)) one))
+enabled_more size known (x ∷ xs) e all one =
+    (all.0, enabled_more size (known ++ x ∷ []) xs e all.1 (subst (λ (es : List Event). IsEnabled (run size es) e) (sym (append_assoc known (x ∷ []) xs)) one))
 
-one_enabled : (size : Size) (schedule : List Event) (old new : Core) (e : Event) → AreEnabled size [] schedule → run size schedule ≡ old → stepping old e ≡ Some new → AreEnabled size [] (schedule ++ e ∷ [])
-one_enabled size schedule old new e all leads steps = enabled_more size [] schedule e all (subst (λ (o : Core). IsEnabled o e) (sym leads) (subst IsSome (sym steps) refl))
+one_enabled : (size : Size) (schedule : List Event) (old new : Core) (e : Event) → AreEnabled size [] schedule → run size schedule ≡ old
+    → stepping old e ≡ Some new → AreEnabled size [] (schedule ++ e ∷ [])
+one_enabled size schedule old new e all leads steps =
+    enabled_more size [] schedule e all (subst (λ (o : Core). IsEnabled o e) (sym leads) (subst IsSome (sym steps) refl))
 
 -- an event of the part's node that is enabled in the state of the whole is made
-abbrev pub made : (x : Whole) (seat : ℕ) (part : Part) (size : Size) (core : Core) (e : Event) → IsReached x.core → x.core.size ≡ size → run size x.schedule ≡ x.core → IsKnown x seat part → stepping x.core e ≡ Some core → IsMade part e (x.schedule ++ e ∷ [])
+abbrev pub made : (x : Whole) (seat : ℕ) (part : Part) (size : Size) (core : Core) (e : Event) → IsReached x.core → x.core.size ≡ size
+    → run size x.schedule ≡ x.core → IsKnown x seat part → stepping x.core e ≡ Some core → IsMade part e (x.schedule ++ e ∷ [])
 made x seat part size core e reached sized leads k steps = record {
   others = k.seen.others;
   further = ap (λ (es : List Event). es ++ e ∷ []) k.seen.further;
   apart = k.seen.apart;
   stepped = ap (λ (o : Core). stepping o e) (leads_here x seat part size (part.schedule ++ k.seen.others) reached sized leads k (sym k.seen.further))
-      ∙ (steps ∙ ap (λ (o : Core). Some o) (sym (ap (λ (z : Size). run z (x.schedule ++ e ∷ [])) (size_known x seat part size reached sized k) ∙ run_further size x.schedule x.core core e leads steps)));
+      ∙ (steps ∙ ap (λ (o : Core). Some o)
+      (sym (ap (λ (z : Size). run z (x.schedule ++ e ∷ [])) (size_known x seat part size reached sized k)
+      ∙ run_further size x.schedule x.core core e leads steps)));
 }
 
 -- ---- publish
 
-pub publishes : (size : Size) (slots id lane number first : ℕ) (part : Part) (event : Event) (next : NodeOf) → number ≡ (outbound_at part lane).sent % 4 → IsSending part lane first event next
-    → Allows (IsKept size) slots id (single part, []) (cell_place lane number + 0) (λ n. first) (λ n. Publishes event next (step slots (cell_place lane number + 0) first 0 none) (single part, []) first)
-publishes size slots id lane number first part event next number_is may = allows size slots id place part (λ n. first) (λ n. Publishes event next (step slots place first 0 none) (single part, []) first) owes
+pub publishes : (size : Size) (slots id lane number first : ℕ) (part : Part) (event : Event) (next : NodeOf) → number ≡ (outbound_at part lane).sent % 4
+    → IsSending part lane first event next
+    → Allows (IsKept size) slots id (single part, []) (cell_place lane number + 0) (λ n. first)
+    (λ n. Publishes event next (step slots (cell_place lane number + 0) first 0 none) (single part, []) first)
+publishes size slots id lane number first part event next number_is may =
+    allows size slots id place part (λ n. first) (λ n. Publishes event next (step slots place first 0 none) (single part, []) first) owes
   where
     place : ℕ
     place = cell_place lane number + 0
@@ -100,7 +120,14 @@ publishes size slots id lane number first part event next number_is may = allows
     owes s kept here = (
       informed (x.schedule ++ event ∷ []) (published lane next part),
       went,
-      rw (lane_found lane number 0 (omega arith)) (record { schedule = x.schedule ++ event ∷ []; view = refl; shown = went.shown; same = went.same; went = made x id part size core event kept.reached kept.sized kept.leads k stepped }),
+      rw (lane_found lane number 0 (omega arith))
+          (record {
+            schedule = x.schedule ++ event ∷ [];
+            view = refl;
+            shown = went.shown;
+            same = went.same;
+            went = made x id part size core event kept.reached kept.sized kept.leads k stepped;
+          }),
     )
       where
         x : Whole
@@ -122,7 +149,8 @@ publishes size slots id lane number first part event next number_is may = allows
         lane_is = may.lane_is ∙ ap (λ (n : ℕ). lane_place n may.kind me may.packet.target) nodes
 
         at : (lane < lane_count (nodes_of x)) × (sender_of (nodes_of x) lane ≡ me) × (receiver_of (nodes_of x) lane ≡ may.packet.target)
-        at = subst (λ (l : ℕ). (l < lane_count (nodes_of x)) × (sender_of (nodes_of x) l ≡ me) × (receiver_of (nodes_of x) l ≡ may.packet.target)) (sym lane_is) (sent_place (nodes_of x) may.kind me may.packet.target k.some_node target)
+        at = subst (λ (l : ℕ). (l < lane_count (nodes_of x)) × (sender_of (nodes_of x) l ≡ me) × (receiver_of (nodes_of x) l ≡ may.packet.target)) (sym lane_is)
+            (sent_place (nodes_of x) may.kind me may.packet.target k.some_node target)
 
         out_is : outbound_at part lane ≡ x.outbound lane
         out_is = k.outbound lane at.0 at.1
@@ -137,7 +165,8 @@ publishes size slots id lane number first part event next number_is may = allows
         core = sent_by x.core me may.kind next letter
 
         stepped : stepping x.core event ≡ Some core
-        stepped = stepping_sent x.core core event may.kind next letter (subst (λ (n : ℕ). n < nodes_of x) (sym may.own) k.some_node) (side_here x id part event k may.own ∙ may.side_is) (ap (λ (n : ℕ). sent_by x.core n may.kind next letter) (sym may.own))
+        stepped = stepping_sent x.core core event may.kind next letter (subst (λ (n : ℕ). n < nodes_of x) (sym may.own) k.some_node)
+            (side_here x id part event k may.own ∙ may.side_is) (ap (λ (n : ℕ). sent_by x.core n may.kind next letter) (sym may.own))
 
         reached : IsReached core
         reached = reached_stepping x.core core event kept.reached stepped
@@ -147,7 +176,9 @@ publishes size slots id lane number first part event next number_is may = allows
 
         lane_now : lane_at core lane ≡ lane_at x.core lane ++ letter ∷ []
         lane_now = subst (λ (l : ℕ). lane_at core l ≡ lane_at x.core l ++ letter ∷ []) (sym lane_is)
-            (get_or-set_same x.core.lanes (lane_place (nodes_of x) may.kind me may.packet.target) (lane_of x.core may.kind me may.packet.target ++ letter ∷ []) [] (lanes_within x.core (lane_place (nodes_of x) may.kind me may.packet.target) kept.reached (subst (λ (l : ℕ). l < lane_count (nodes_of x)) lane_is at.0)))
+            (get_or-set_same x.core.lanes (lane_place (nodes_of x) may.kind me may.packet.target) (lane_of x.core may.kind me may.packet.target ++ letter ∷ [])
+            [] (lanes_within x.core (lane_place (nodes_of x) may.kind me may.packet.target) kept.reached
+            (subst (λ (l : ℕ). l < lane_count (nodes_of x)) lane_is at.0)))
 
         old : ShowsLane s.words lane (lane_at x.core lane) o (x.inbound lane)
         old = kept.shown.lanes lane at.0
@@ -159,11 +190,14 @@ publishes size slots id lane number first part event next number_is may = allows
         y = turned_whole x lane core (x.schedule ++ event ∷ []) (published_out o) (x.inbound lane)
 
         fits : Fits (set s.words (cell_place lane o.sent + 0) first) lane (old.packets ++ may.packet ∷ []) (published_out o) (x.inbound lane)
-        fits = out_published s.words lane first may.packet old.packets o (x.inbound lane) (ap (λ (u : Outbound). u.vacant) (sym out_is) ∙ may.vacant) may.spelled.packet (sym may.spelled.spelled_so ∙ ap (λ (u : Outbound). first ∷ u.filled) out_is)
+        fits = out_published s.words lane first may.packet old.packets o (x.inbound lane) (ap (λ (u : Outbound). u.vacant) (sym out_is) ∙ may.vacant)
+            may.spelled.packet (sym may.spelled.spelled_so ∙ ap (λ (u : Outbound). first ∷ u.filled) out_is)
             (subst (λ (n : ℕ). cell_place lane o.sent + 0 < n) (sym kept.shown.long) (place_within (nodes_of x) lane o.sent 0 at.0 (omega arith))) old.fits
 
-        shows : Shows y (set s.words (cell_place lane o.sent + 0) first) (set s.views id (single (informed (x.schedule ++ event ∷ []) (published lane next part))))
-        shows = lane_step x s.words s.views id lane o.sent 0 first part core (x.schedule ++ event ∷ []) next (published_out (outbound_at part lane)) (published_out o) (inbound_at part lane) (x.inbound lane) kept.shown here (omega arith)
+        shows : Shows y (set s.words (cell_place lane o.sent + 0) first)
+            (set s.views id (single (informed (x.schedule ++ event ∷ []) (published lane next part))))
+        shows = lane_step x s.words s.views id lane o.sent 0 first part core (x.schedule ++ event ∷ []) next (published_out (outbound_at part lane))
+            (published_out o) (inbound_at part lane) (x.inbound lane) kept.shown here (omega arith)
             (record {
               lane_ok = at.0;
               size = refl;
@@ -171,17 +205,25 @@ publishes size slots id lane number first part event next number_is may = allows
               others = λ n apart. get_or-set_other x.core.parts me n next no_node apart;
               mine = mine;
               me = me_stays core me next reached k.some_node mine;
-              lanes = λ other apart. get_or-set_other x.core.lanes (lane_place (nodes_of x) may.kind me may.packet.target) other (lane_of x.core may.kind me may.packet.target ++ letter ∷ []) [] (λ e. apart (e ∙ sym lane_is));
+              lanes = λ other apart. get_or-set_other x.core.lanes (lane_place (nodes_of x) may.kind me may.packet.target) other
+                  (lane_of x.core may.kind me may.packet.target ++ letter ∷ []) [] (λ e. apart (e ∙ sym lane_is));
               sender = λ is. ap published_out out_is;
               not_sender = λ apart. absurd (apart at.1);
               receiver = k.inbound lane at.0;
               not_receiver = λ apart. refl;
             })
-            (record { packets = old.packets ++ may.packet ∷ []; letters = map_push letter_of old.packets may.packet ∙ (ap (λ (ls : List Letter). ls ++ letter ∷ []) old.letters ∙ sym lane_now); fits = fits })
+            (record {
+              packets = old.packets ++ may.packet ∷ [];
+              letters = map_push letter_of old.packets may.packet ∙ (ap (λ (ls : List Letter). ls ++ letter ∷ []) old.letters ∙ sym lane_now);
+              fits = fits;
+            })
 
         went : Goes size s id place first part (informed (x.schedule ++ event ∷ []) (published lane next part))
-        went = goes size s kept id place first part (informed (x.schedule ++ event ∷ []) (published lane next part)) y reached kept.sized (run_further size x.schedule x.core core event kept.leads stepped) (one_enabled size x.schedule x.core core event kept.enabled kept.leads stepped) refl here (me_stays core me next reached k.some_node mine)
-            (subst (λ (p : ℕ). Shows y (set s.words p first) (set s.views id (single (informed (x.schedule ++ event ∷ []) (published lane next part))))) (sym turn) shows)
+        went = goes size s kept id place first part (informed (x.schedule ++ event ∷ []) (published lane next part)) y reached kept.sized
+            (run_further size x.schedule x.core core event kept.leads stepped) (one_enabled size x.schedule x.core core event kept.enabled kept.leads stepped)
+            refl here (me_stays core me next reached k.some_node mine)
+            (subst (λ (p : ℕ). Shows y (set s.words p first) (set s.views id (single (informed (x.schedule ++ event ∷ []) (published lane next part)))))
+            (sym turn) shows)
 
 -- ---- free
 
@@ -197,7 +239,8 @@ takes_as e = (ap kind_of e, ap from_of e)
     from_of _ = 0
 
 -- the lane from which an event takes, by its side at its node
-taken_lane : (core : Core) (node : NodeOf) (e : Event) (kind : LaneKind) (from : ℕ) (taking : Letter → Option NodeOf) → side node e ≡ Takes kind from taking → lane_taken core e ≡ lane_of core kind from (node_of e)
+taken_lane : (core : Core) (node : NodeOf) (e : Event) (kind : LaneKind) (from : ℕ) (taking : Letter → Option NodeOf) → side node e ≡ Takes kind from taking
+    → lane_taken core e ≡ lane_of core kind from (node_of e)
 taken_lane core node (event_is.Issue n op) kind from taking is = absurd (none _ is)
   where
     none : (o : Option NodeOf) → changes o ≡ Takes kind from taking → ⊥
@@ -223,7 +266,8 @@ taken_lane core node (event_is.Reply n) kind from taking is = absurd (none _ is)
 taken_lane core node (event_is.Accept f n) kind from taking is = let e = takes_as is in (λ i. lane_of core (e.0 i) (e.1 i) n)
 
 -- the lane begins with a packet that the node takes
-takes_front : (core : Core) (me place : ℕ) (taking : Letter → Option NodeOf) (lane : List Letter) (letter : Letter) (rest : List Letter) (next : NodeOf) → lane ≡ letter ∷ rest → taking letter ≡ Some next
+takes_front : (core : Core) (me place : ℕ) (taking : Letter → Option NodeOf) (lane : List Letter) (letter : Letter) (rest : List Letter) (next : NodeOf)
+    → lane ≡ letter ∷ rest → taking letter ≡ Some next
     → taken_from core me place taking lane ≡ Some (with_lane (with_node core me next) place rest)
 takes_front core me place taking lane letter rest next is gives = ap (taken_from core me place taking) is ∙ took (taking letter) gives
   where
@@ -240,19 +284,28 @@ pub words_some : (p : Packet) → 0 < length (words_of p)
 unfolding words_of
 words_some p = omega arith
 
-oldest : (words : List ℕ) (lane : ℕ) (letters : List Letter) (o : Outbound) (i : Inbound) (p : Packet) (packets : List Packet) → map letter_of packets ≡ letters → Fits words lane packets o i → IsPacket p → i.found ≡ words_of p
+oldest : (words : List ℕ) (lane : ℕ) (letters : List Letter) (o : Outbound) (i : Inbound) (p : Packet) (packets : List Packet) → map letter_of packets ≡ letters
+    → Fits words lane packets o i → IsPacket p → i.found ≡ words_of p
     → IsOldest words lane letters o i p
 oldest words lane letters o i p [] is f good found =
     let there = f.there (subst (λ (ws : List ℕ). 0 < length ws) (sym found) (words_some p)) in absurd (omega arith)
 oldest words lane letters o i p (q ∷ packets) is f good found =
     let turn : i.taken + 0 ≡ i.taken = omega arith in
     let same : q ≡ p = one_by_words q p (f.good 0 q refl) good (λ k a b.
-    sym (f.full 0 k q refl a) ∙ (ap (λ (t : ℕ). word_at words lane t k) turn ∙ (f.found k (subst (λ (ws : List ℕ). k < length ws) (sym found) b) ∙ ap (λ (ws : List ℕ). get_or ws k 0) found))) in
-    record { packets = packets; letters_are = sym is ∙ ap (λ (r : Packet). letter_of r ∷ map letter_of packets) same; fits = subst (λ (r : Packet). Fits words lane (r ∷ packets) o i) same f }
+    sym (f.full 0 k q refl a) ∙ (ap (λ (t : ℕ). word_at words lane t k) turn
+    ∙ (f.found k (subst (λ (ws : List ℕ). k < length ws) (sym found) b) ∙ ap (λ (ws : List ℕ). get_or ws k 0) found))) in
+    record {
+      packets = packets;
+      letters_are = sym is ∙ ap (λ (r : Packet). letter_of r ∷ map letter_of packets) same;
+      fits = subst (λ (r : Packet). Fits words lane (r ∷ packets) o i) same f;
+    }
 
-pub frees : (size : Size) (slots id lane number : ℕ) (part : Part) (event : Event) (next : NodeOf) → number ≡ (inbound_at part lane).taken % 4 → IsTaking part lane event next
-    → Allows (IsKept size) slots id (single part, []) (cell_place lane number + 0) (λ n. 0) (λ n. Frees event next (step slots (cell_place lane number + 0) 0 0 none) (single part, []) 0)
-frees size slots id lane number part event next number_is may = allows size slots id place part (λ n. 0) (λ n. Frees event next (step slots place 0 0 none) (single part, []) 0) owes
+pub frees : (size : Size) (slots id lane number : ℕ) (part : Part) (event : Event) (next : NodeOf) → number ≡ (inbound_at part lane).taken % 4
+    → IsTaking part lane event next
+    → Allows (IsKept size) slots id (single part, []) (cell_place lane number + 0) (λ n. 0)
+    (λ n. Frees event next (step slots (cell_place lane number + 0) 0 0 none) (single part, []) 0)
+frees size slots id lane number part event next number_is may =
+    allows size slots id place part (λ n. 0) (λ n. Frees event next (step slots place 0 0 none) (single part, []) 0) owes
   where
     place : ℕ
     place = cell_place lane number + 0
@@ -261,7 +314,8 @@ frees size slots id lane number part event next number_is may = allows size slot
     owes s kept here = (
       informed (x.schedule ++ event ∷ []) (freed lane next part),
       went,
-      rw (lane_found lane number 0 (omega arith)) (record { schedule = x.schedule ++ event ∷ []; view = refl; shown = went.shown; same = went.same; went = went_as }),
+      rw (lane_found lane number 0 (omega arith))
+          (record { schedule = x.schedule ++ event ∷ []; view = refl; shown = went.shown; same = went.same; went = went_as }),
     )
       where
         x : Whole
@@ -283,7 +337,8 @@ frees size slots id lane number part event next number_is may = allows size slot
         lane_is = may.lane_is ∙ ap (λ (n : ℕ). lane_place n may.kind may.from me) nodes
 
         at : (lane < lane_count (nodes_of x)) × (sender_of (nodes_of x) lane ≡ may.from) × (receiver_of (nodes_of x) lane ≡ me)
-        at = subst (λ (l : ℕ). (l < lane_count (nodes_of x)) × (sender_of (nodes_of x) l ≡ may.from) × (receiver_of (nodes_of x) l ≡ me)) (sym lane_is) (sent_place (nodes_of x) may.kind may.from me from k.some_node)
+        at = subst (λ (l : ℕ). (l < lane_count (nodes_of x)) × (sender_of (nodes_of x) l ≡ may.from) × (receiver_of (nodes_of x) l ≡ me)) (sym lane_is)
+            (sent_place (nodes_of x) may.kind may.from me from k.some_node)
 
         in_is : inbound_at part lane ≡ x.inbound lane
         in_is = k.inbound lane at.0 at.2
@@ -295,7 +350,8 @@ frees size slots id lane number part event next number_is may = allows size slot
         shown_lane = kept.shown.lanes lane at.0
 
         old : IsOldest s.words lane (lane_at x.core lane) (x.outbound lane) i may.packet
-        old = oldest s.words lane (lane_at x.core lane) (x.outbound lane) i may.packet shown_lane.packets shown_lane.letters shown_lane.fits may.spelled.packet (ap (λ (u : Inbound). u.found) (sym in_is) ∙ may.spelled.spelled_so)
+        old = oldest s.words lane (lane_at x.core lane) (x.outbound lane) i may.packet shown_lane.packets shown_lane.letters shown_lane.fits may.spelled.packet
+            (ap (λ (u : Inbound). u.found) (sym in_is) ∙ may.spelled.spelled_so)
 
         rest : List Letter
         rest = map letter_of old.packets
@@ -308,9 +364,11 @@ frees size slots id lane number part event next number_is may = allows size slot
 
         stepped : stepping x.core event ≡ Some core
         stepped =
-            stepping_takes x.core event may.kind may.from may.taking (subst (λ (n : ℕ). n < nodes_of x) (sym may.own) k.some_node) from (side_here x id part event k may.own ∙ may.side_is)
+            stepping_takes x.core event may.kind may.from may.taking (subst (λ (n : ℕ). n < nodes_of x) (sym may.own) k.some_node) from
+            (side_here x id part event k may.own ∙ may.side_is)
             ∙ (ap (λ (n : ℕ). taken_from x.core n (lane_place (nodes_of x) may.kind may.from n) may.taking (lane_of x.core may.kind may.from n)) may.own
-            ∙ (takes_front x.core me (lane_place (nodes_of x) may.kind may.from me) may.taking (lane_of x.core may.kind may.from me) (letter_of may.packet) rest next front may.gives
+            ∙ (takes_front x.core me (lane_place (nodes_of x) may.kind may.from me) may.taking (lane_of x.core may.kind may.from me) (letter_of may.packet) rest
+            next front may.gives
             ∙ ap (λ (l : ℕ). Some (with_lane (with_node x.core me next) l rest)) (sym lane_is)))
 
         reached : IsReached core
@@ -320,7 +378,8 @@ frees size slots id lane number part event next number_is may = allows size slot
         event_made = made x id part size core event kept.reached kept.sized kept.leads k stepped
 
         taken_from_lane : lane_taken x.core event ≡ letter_of may.packet ∷ rest
-        taken_from_lane = taken_lane x.core part.node event may.kind may.from may.taking may.side_is ∙ (ap (λ (n : ℕ). lane_of x.core may.kind may.from n) may.own ∙ front)
+        taken_from_lane = taken_lane x.core part.node event may.kind may.from may.taking may.side_is
+            ∙ (ap (λ (n : ℕ). lane_of x.core may.kind may.from n) may.own ∙ front)
 
         went_as : IsTaken part lane event (x.schedule ++ event ∷ [])
         went_as = record {
@@ -328,7 +387,8 @@ frees size slots id lane number part event next number_is may = allows size slot
           packet = may.packet;
           spelled = may.spelled;
           rest = rest;
-          front = ap (λ (o : Core). lane_taken o event) (leads_here x id part size (part.schedule ++ k.seen.others) kept.reached kept.sized kept.leads k (sym k.seen.further)) ∙ taken_from_lane;
+          front = ap (λ (o : Core). lane_taken o event)
+              (leads_here x id part size (part.schedule ++ k.seen.others) kept.reached kept.sized kept.leads k (sym k.seen.further)) ∙ taken_from_lane;
         }
 
         mine : node_at core me ≡ next
@@ -344,7 +404,8 @@ frees size slots id lane number part event next number_is may = allows size slot
         y = turned_whole x lane core (x.schedule ++ event ∷ []) (x.outbound lane) (freed_in i)
 
         shows : Shows y (set s.words (cell_place lane i.taken + 0) 0) (set s.views id (single (informed (x.schedule ++ event ∷ []) (freed lane next part))))
-        shows = lane_step x s.words s.views id lane i.taken 0 0 part core (x.schedule ++ event ∷ []) next (outbound_at part lane) (x.outbound lane) (freed_in (inbound_at part lane)) (freed_in i) kept.shown here (omega arith)
+        shows = lane_step x s.words s.views id lane i.taken 0 0 part core (x.schedule ++ event ∷ []) next (outbound_at part lane) (x.outbound lane)
+            (freed_in (inbound_at part lane)) (freed_in i) kept.shown here (omega arith)
             (record {
               lane_ok = at.0;
               size = refl;
@@ -361,18 +422,25 @@ frees size slots id lane number part event next number_is may = allows size slot
             (record {
               packets = old.packets;
               letters = sym lane_now;
-              fits = in_freed s.words lane may.packet old.packets (x.outbound lane) i (subst (λ (n : ℕ). cell_place lane i.taken + 0 < n) (sym kept.shown.long) (place_within (nodes_of x) lane i.taken 0 at.0 (omega arith))) old.fits;
+              fits = in_freed s.words lane may.packet old.packets (x.outbound lane) i
+                  (subst (λ (n : ℕ). cell_place lane i.taken + 0 < n) (sym kept.shown.long) (place_within (nodes_of x) lane i.taken 0 at.0 (omega arith)))
+                  old.fits;
             })
 
         went : Goes size s id place 0 part (informed (x.schedule ++ event ∷ []) (freed lane next part))
-        went = goes size s kept id place 0 part (informed (x.schedule ++ event ∷ []) (freed lane next part)) y reached kept.sized (run_further size x.schedule x.core core event kept.leads stepped) (one_enabled size x.schedule x.core core event kept.enabled kept.leads stepped) refl here (me_stays core me next reached k.some_node mine)
-            (subst (λ (p : ℕ). Shows y (set s.words p 0) (set s.views id (single (informed (x.schedule ++ event ∷ []) (freed lane next part))))) (sym turn) shows)
+        went = goes size s kept id place 0 part (informed (x.schedule ++ event ∷ []) (freed lane next part)) y reached kept.sized
+            (run_further size x.schedule x.core core event kept.leads stepped) (one_enabled size x.schedule x.core core event kept.enabled kept.leads stepped)
+            refl here (me_stays core me next reached k.some_node mine)
+            (subst (λ (p : ℕ). Shows y (set s.words p 0) (set s.views id (single (informed (x.schedule ++ event ∷ []) (freed lane next part))))) (sym turn)
+            shows)
 
 -- ---- beat
 
 pub beats : (size : Size) (slots id : ℕ) (part : Part) (event : Event) (next : NodeOf) → IsBeating part event next
-    → Allows (IsKept size) slots id (single part, []) (own_place size.nodes (me_of part)) (λ n. (n + 1) % 2 ^ 64) (Beats event next (step slots (own_place size.nodes (me_of part)) 1 0 none) (single part, []))
-beats size slots id part event next may = allows size slots id place part (λ n. (n + 1) % 2 ^ 64) (Beats event next (step slots place 1 0 none) (single part, [])) owes
+    → Allows (IsKept size) slots id (single part, []) (own_place size.nodes (me_of part)) (λ n. (n + 1) % 2 ^ 64)
+    (Beats event next (step slots (own_place size.nodes (me_of part)) 1 0 none) (single part, []))
+beats size slots id part event next may =
+    allows size slots id place part (λ n. (n + 1) % 2 ^ 64) (Beats event next (step slots place 1 0 none) (single part, [])) owes
   where
     me : ℕ
     me = me_of part
@@ -384,7 +452,13 @@ beats size slots id part event next may = allows size slots id place part (λ n.
     owes s kept here = (
       informed (x.schedule ++ event ∷ []) (with_node_known next part),
       went,
-      record { schedule = x.schedule ++ event ∷ []; view = refl; shown = went.shown; same = went.same; went = made x id part size core event kept.reached kept.sized kept.leads k stepped },
+      record {
+        schedule = x.schedule ++ event ∷ [];
+        view = refl;
+        shown = went.shown;
+        same = went.same;
+        went = made x id part size core event kept.reached kept.sized kept.leads k stepped;
+      },
     )
       where
         x : Whole
@@ -400,7 +474,8 @@ beats size slots id part event next may = allows size slots id place part (λ n.
         core = with_node x.core me next
 
         stepped : stepping x.core event ≡ Some core
-        stepped = stepping_changed x.core core event next (subst (λ (n : ℕ). n < nodes_of x) (sym may.own) k.some_node) (side_here x id part event k may.own ∙ may.side_is) (ap (λ (n : ℕ). with_node x.core n next) (sym may.own))
+        stepped = stepping_changed x.core core event next (subst (λ (n : ℕ). n < nodes_of x) (sym may.own) k.some_node)
+            (side_here x id part event k may.own ∙ may.side_is) (ap (λ (n : ℕ). with_node x.core n next) (sym may.own))
 
         reached : IsReached core
         reached = reached_stepping x.core core event kept.reached stepped
@@ -429,14 +504,18 @@ beats size slots id part event next may = allows size slots id place part (λ n.
                   (record {
                     full = λ j n a b. stored_else s.words place (cell_place lane (i.taken + j) + n) value (apart lane (i.taken + j) n lt b);
                     empty = λ j a b. stored_else s.words place (cell_place lane (i.taken + j) + 0) value (apart lane (i.taken + j) 0 lt (omega arith));
-                    filled = λ j a. let most = old.fits.few_filled in stored_else s.words place (cell_place lane o.sent + suc j) value (apart lane o.sent (suc j) lt (omega arith));
-                    found = λ j a. let most = old.fits.few_found in stored_else s.words place (cell_place lane i.taken + j) value (apart lane i.taken j lt (omega arith));
+                    filled = λ j a. let most = old.fits.few_filled in
+                        stored_else s.words place (cell_place lane o.sent + suc j) value (apart lane o.sent (suc j) lt (omega arith));
+                    found = λ j a. let most = old.fits.few_found in
+                        stored_else s.words place (cell_place lane i.taken + j) value (apart lane i.taken j lt (omega arith));
                   })
                   old.fits;
             }
 
         went : Goes size s id place value part (informed (x.schedule ++ event ∷ []) (with_node_known next part))
-        went = goes size s kept id place value part (informed (x.schedule ++ event ∷ []) (with_node_known next part)) y reached kept.sized (run_further size x.schedule x.core core event kept.leads stepped) (one_enabled size x.schedule x.core core event kept.enabled kept.leads stepped) refl here same_me
+        went = goes size s kept id place value part (informed (x.schedule ++ event ∷ []) (with_node_known next part)) y reached kept.sized
+            (run_further size x.schedule x.core core event kept.leads stepped) (one_enabled size x.schedule x.core core event kept.enabled kept.leads stepped)
+            refl here same_me
             (step_shows x y s.words s.views id place value part (informed (x.schedule ++ event ∷ []) (with_node_known next part)) kept.shown here
             (record {
               size = refl;

@@ -18,11 +18,13 @@ use Rattle.sci_lanes.specs.Shown.{AreEnabled, Fits, ShowsLane, Whole, me_of, sin
 use Rattle.sci_lanes.specs.Telling.{IsFront, IsShown, size_in, state_of}
 
 -- a lane has as many packets as its cells show
-pub lane_length : {words : List ℕ} {place : ℕ} {lane : List Letter} {o : Outbound} {i : Inbound} (s : ShowsLane words place lane o i) → length lane ≡ length s.packets
+pub lane_length : {words : List ℕ} {place : ℕ} {lane : List Letter} {o : Outbound} {i : Inbound} (s : ShowsLane words place lane o i)
+    → length lane ≡ length s.packets
 lane_length s = ap (λ (ls : List Letter). length ls) (sym s.letters) ∙ length-map s.packets letter_of
 
 -- the words that were found are those of the oldest packet
-pub front_shown : (words : List ℕ) (place : ℕ) (lane : List Letter) (o : Outbound) (i : Inbound) (packets : List Packet) → map letter_of packets ≡ lane → Fits words place packets o i → 0 < length i.found → IsFront lane i.found
+pub front_shown : (words : List ℕ) (place : ℕ) (lane : List Letter) (o : Outbound) (i : Inbound) (packets : List Packet) → map letter_of packets ≡ lane
+    → Fits words place packets o i → 0 < length i.found → IsFront lane i.found
 front_shown words place lane o i [] letters f found = absurd (let there = f.there found in omega arith)
 front_shown words place lane o i (p ∷ packets) letters f found = record {
   packet = p;
@@ -38,7 +40,8 @@ front_shown words place lane o i (p ∷ packets) letters f found = record {
 pub known_part : (x : Whole) (seat : ℕ) (part : Part) → IsReached x.core → IsKnown x seat part → IsPart x.core.size (me_of part) part.node
 known_part x seat part reached k = subst (λ n. IsPart x.core.size (me_of part) n) k.node ((reached_well x.core reached).each_part (me_of part) k.some_node)
 
-pub shown : (x : Whole) (words : List ℕ) (views : List View) (seat : ℕ) (part : Part) → IsReached x.core → state_of part ≡ x.core → AreEnabled (size_in part) [] part.schedule → Shows x words views → get_elem? views seat ≡ some (single part) → IsShown part
+pub shown : (x : Whole) (words : List ℕ) (views : List View) (seat : ℕ) (part : Part) → IsReached x.core → state_of part ≡ x.core
+    → AreEnabled (size_in part) [] part.schedule → Shows x words views → get_elem? views seat ≡ some (single part) → IsShown part
 shown x words views seat part reached leads enabled s here =
     let k : IsKnown x seat part = (s.known seat (single part) here).0 in
     record {
@@ -54,7 +57,8 @@ shown x words views seat part reached leads enabled s here =
           let l = s.lanes lane lt in
           let same : x.inbound lane ≡ inbound_at part lane = sym (k.inbound lane lt is) in
           subst (λ (i : Inbound). IsFront (lane_at x.core lane) i.found) same
-          (front_shown words lane (lane_at x.core lane) (x.outbound lane) (x.inbound lane) l.packets l.letters l.fits (subst (λ (i : Inbound). 0 < length i.found) (sym same) above));
+          (front_shown words lane (lane_at x.core lane) (x.outbound lane) (x.inbound lane) l.packets l.letters l.fits
+          (subst (λ (i : Inbound). 0 < length i.found) (sym same) above));
       vacant = λ lane lt is empty.
           let l = s.lanes lane lt in
           let room = l.fits.vacant (ap (λ (o : Outbound). o.vacant) (sym (k.outbound lane lt is)) ∙ empty) in

@@ -25,7 +25,8 @@ use Rattle.sci_lanes.specs.Cells.{lane_count, receiver_of, word_count}
 use Rattle.sci_lanes.specs.Shown.{AreEnabled, Fits, nodes_of, me_of, IsKnown, IsSeen}
 use Rattle.sci_lanes.specs.Telling.{no_part, size_in}
 use Rattle.sci_lanes.specs.Ends.{EndOf, LanesOf}
-use Rattle.sci_lanes.specs.Gathering.{IsOf, AreAll, AreGathered, AreJoined, AreKept, AreLanes, AreLogged, AreMadeBy, HasNodes, HaveInboxTurns, HaveLogs, IsReadOff, TakesFrom}
+use Rattle.sci_lanes.specs.Gathering.{IsOf, AreAll, AreGathered, AreJoined, AreKept, AreLanes, AreLogged, AreMadeBy, HasNodes, HaveInboxTurns, HaveLogs}
+use Rattle.sci_lanes.specs.Gathering.{IsReadOff, TakesFrom}
 use Rattle.sci_lanes.proofs.Keeping.{all_at}
 use Rattle.sci_lanes.proofs.Events.{count_is}
 use Rattle.sci_lanes.proofs.Allowed.{size_known}
@@ -33,24 +34,34 @@ use Rattle.sci_lanes.proofs.Allowed.{size_known}
 module _ {Z : Type 0} where
   -- every node is among the parts that were joined
   pub every_node : (n : ℕ) (parts : List Part) (nodes : List NodeOf) (inbox_turns : List (Vec ℕ Z)) → AreJoined n n parts nodes inbox_turns → HasNodes n parts
-  every_node n parts nodes inbox_turns j k lt = (k, get_or parts k no_part, slice_get-get_or parts k no_part (let long = j.parts_long in omega arith), (j.each k lt).numbered)
+  every_node n parts nodes inbox_turns j k lt =
+      (k, get_or parts k no_part, slice_get-get_or parts k no_part (let long = j.parts_long in omega arith), (j.each k lt).numbered)
 
   -- and each has such a number for every lane to it
-  pub every_turn : (n : ℕ) (parts : List Part) (nodes : List NodeOf) (inbox_turns : List (Vec ℕ Z)) → AreJoined n n parts nodes inbox_turns → HaveInboxTurns n inbox_turns
+  pub every_turn : (n : ℕ) (parts : List Part) (nodes : List NodeOf) (inbox_turns : List (Vec ℕ Z)) → AreJoined n n parts nodes inbox_turns
+      → HaveInboxTurns n inbox_turns
   every_turn n parts nodes inbox_turns j k v lt is = ((j.each k lt).turns v is).long
 
-  module _ (table : LanesOf) (extent : Extent) (limit : ℕ) (ends : List EndOf) (parts : List Part) (nodes : List NodeOf) (inbox_turns : List (Vec ℕ Z)) (words : List ℕ) (lanes : List (List Letter))
-      (some : 0 < extent.nodes) (size_is : table.size ≡ size_of extent limit) (own : (place : ℕ) (end : EndOf) → slice_get ends place ≡ Some end → IsOf table end) (all : AreAll extent.nodes ends) (j : AreJoined extent.nodes extent.nodes parts nodes inbox_turns)
-      (kept : AreKept ends [] parts) (r : IsReadOff (record { parts = parts; words = words })) (long : length words ≡ word_count extent.nodes) (read : AreLanes extent.nodes words inbox_turns (lane_count extent.nodes) lanes) where
+  module _ (table : LanesOf) (extent : Extent) (limit : ℕ) (ends : List EndOf) (parts : List Part) (nodes : List NodeOf) (inbox_turns : List (Vec ℕ Z))
+      (words : List ℕ) (lanes : List (List Letter))
+      (some : 0 < extent.nodes) (size_is : table.size ≡ size_of extent limit) (own : (place : ℕ) (end : EndOf) → slice_get ends place ≡ Some end
+      → IsOf table end) (all : AreAll extent.nodes ends) (j : AreJoined extent.nodes extent.nodes parts nodes inbox_turns)
+      (kept : AreKept ends [] parts) (r : IsReadOff (record { parts = parts; words = words })) (long : length words ≡ word_count extent.nodes)
+      (read : AreLanes extent.nodes words inbox_turns (lane_count extent.nodes) lanes) where
     n : ℕ
     n = extent.nodes
 
     part_at : (k : ℕ) → k < extent.nodes → IsKnown r.whole r.seat (get_or parts k no_part)
-    part_at k lt = all_at (IsKnown r.whole r.seat) parts k (get_or parts k no_part) (slice_get-get_or parts k no_part (let count = j.parts_long in omega arith)) r.known
+    part_at k lt = all_at (IsKnown r.whole r.seat) parts k (get_or parts k no_part) (slice_get-get_or parts k no_part (let count = j.parts_long in omega arith))
+        r.known
 
     -- what each end knows is there
-    end_part : (place : ℕ) (end : EndOf) → slice_get ends place ≡ Some end → (me_of end.part < extent.nodes) × (get_or parts (me_of end.part) no_part ≡ end.part)
-    end_part place end is = elim (kept place end is) [ inl none ↦ absurd (nothing none.0 end none.1) | inr there ↦ (subst (λ (m : ℕ). me_of end.part < m) j.parts_long there.0, there.1) ]
+    end_part : (place : ℕ) (end : EndOf) → slice_get ends place ≡ Some end
+        → (me_of end.part < extent.nodes) × (get_or parts (me_of end.part) no_part ≡ end.part)
+    end_part place end is = elim (kept place end is) [
+      | inl none ↦ absurd (nothing none.0 end none.1)
+      | inr there ↦ (subst (λ (m : ℕ). me_of end.part < m) j.parts_long there.0, there.1)
+    ]
       where
         nothing : (k : ℕ) (e : EndOf) → slice_get [] k ≡ Some e → ⊥
         nothing k e h = cc
@@ -68,8 +79,11 @@ module _ {Z : Type 0} where
         let e = all.every 0 some in
         let k = part_at 0 some in
         let first = j.each 0 some in
-        let node : (get_or parts 0 no_part).node ≡ e.end.part.node = sym first.node ∙ (ap (λ (m : ℕ). get_or nodes m no_node) (sym e.numbered) ∙ end_node e.place e.end e.there) in
-        sym (size_known r.whole r.seat (get_or parts 0 no_part) r.whole.core.size r.reached refl k) ∙ (ap (λ (x : NodeOf). size_in (record { node = x; schedule = []; outbound = []; inbound = [] })) node ∙ ((own e.place e.end e.there).sized ∙ size_is))
+        let node : (get_or parts 0 no_part).node ≡ e.end.part.node =
+        sym first.node ∙ (ap (λ (m : ℕ). get_or nodes m no_node) (sym e.numbered) ∙ end_node e.place e.end e.there) in
+        sym (size_known r.whole r.seat (get_or parts 0 no_part) r.whole.core.size r.reached refl k)
+        ∙ (ap (λ (x : NodeOf). size_in (record { node = x; schedule = []; outbound = []; inbound = [] })) node
+        ∙ ((own e.place e.end e.there).sized ∙ size_is))
 
     count : nodes_of r.whole ≡ extent.nodes
     count = ap (λ z. z.nodes) sized
@@ -92,16 +106,20 @@ module _ {Z : Type 0} where
         let i = part_at (l % extent.nodes) to in
         let at = j.each (l % extent.nodes) to in
         let inbound = i.inbound l (subst (λ (m : ℕ). l < lane_count m) (sym count) lt) (ap (λ (m : ℕ). receiver_of m l) count ∙ sym at.numbered) in
-        let takes : TakesFrom extent.nodes inbox_turns l ((r.whole.inbound l).taken % 4) = (λ v is. (at.turns v is).turns l lt (sym at.numbered) ∙ ap (λ b. b.taken % 4) inbound) in
-        sym s.letters ∙ sym (read.each l s.packets (r.whole.outbound l) (r.whole.inbound l) lt (subst (λ (ws : List ℕ). Fits ws l s.packets (r.whole.outbound l) (r.whole.inbound l)) words_are s.fits) takes)
+        let takes : TakesFrom extent.nodes inbox_turns l ((r.whole.inbound l).taken % 4) =
+        (λ v is. (at.turns v is).turns l lt (sym at.numbered) ∙ ap (λ b. b.taken % 4) inbound) in
+        sym s.letters ∙ sym (read.each l s.packets (r.whole.outbound l) (r.whole.inbound l) lt
+        (subst (λ (ws : List ℕ). Fits ws l s.packets (r.whole.outbound l) (r.whole.inbound l)) words_are s.fits) takes)
 
     core_is : r.whole.core ≡ core_of extent limit nodes lanes
     core_is =
         let well = (reached_well r.whole.core r.reached).sizes in
         let parts_long : length r.whole.core.parts ≡ length nodes = well.parts_long ∙ (count ∙ sym j.nodes_long) in
         let lanes_long : length r.whole.core.lanes ≡ length lanes = well.lanes_long ∙ (count_is (nodes_of r.whole) ∙ (ap lane_count count ∙ sym read.long)) in
-        let parts_are : r.whole.core.parts ≡ nodes = ext_get_or no_node r.whole.core.parts nodes parts_long (λ k lt. node_there k (subst (λ (m : ℕ). k < m) (well.parts_long ∙ count) lt)) in
-        let lanes_are : r.whole.core.lanes ≡ lanes = ext_get_or [] r.whole.core.lanes lanes lanes_long (λ l lt. lane_there l (subst (λ (m : ℕ). l < m) (lanes_long ∙ read.long) lt)) in
+        let parts_are : r.whole.core.parts ≡ nodes =
+        ext_get_or no_node r.whole.core.parts nodes parts_long (λ k lt. node_there k (subst (λ (m : ℕ). k < m) (well.parts_long ∙ count) lt)) in
+        let lanes_are : r.whole.core.lanes ≡ lanes =
+        ext_get_or [] r.whole.core.lanes lanes lanes_long (λ l lt. lane_there l (subst (λ (m : ℕ). l < m) (lanes_long ∙ read.long) lt)) in
         λ k. record { size = sized k; parts = parts_are k; lanes = lanes_are k }
 
     pub reached_core : IsReached (core_of extent limit nodes lanes)
@@ -120,17 +138,21 @@ module _ {Z : Type 0} where
       where
         each : (k : ℕ) → log_of logs k ≡ if nat_lt k extent.nodes then (get_or nodes k no_node).log else []
         each k = elim (cases_lt k extent.nodes) [
-          | inl lt ↦ rw (lt-ltb k extent.nodes lt) (let h = a.here k lt in h.4 ∙ ap (λ (x : NodeOf). x.log) (sym (ap (λ (m : ℕ). get_or nodes m no_node) (sym h.3) ∙ end_node h.0 h.1 h.2)))
+          | inl lt ↦ rw (lt-ltb k extent.nodes lt) (let h = a.here k lt in
+              h.4 ∙ ap (λ (x : NodeOf). x.log) (sym (ap (λ (m : ℕ). get_or nodes m no_node) (sym h.3) ∙ end_node h.0 h.1 h.2)))
           | inr le ↦ rw (le-ltb k extent.nodes le) (a.none k le)
         ]
 
 -- logs of the state where a schedule leads are what it makes
-pub logs_made : (size : Size) (schedule : List Event) (core : Core) (logs : List (List Entry)) → IsSize size → run size schedule ≡ core → logs ≡ logs_of core → AreMadeBy size schedule logs
-logs_made size schedule core logs sizes leads is n lt = ap (λ ls. log_of ls n) is ∙ (log_at core n lt ∙ (ap (λ (x : Core). (node_at x n).log) (sym leads) ∙ schedule_log size schedule n sizes))
+pub logs_made : (size : Size) (schedule : List Event) (core : Core) (logs : List (List Entry)) → IsSize size → run size schedule ≡ core → logs ≡ logs_of core
+    → AreMadeBy size schedule logs
+logs_made size schedule core logs sizes leads is n lt =
+    ap (λ ls. log_of ls n) is ∙ (log_at core n lt ∙ (ap (λ (x : Core). (node_at x n).log) (sym leads) ∙ schedule_log size schedule n sizes))
 
 -- the log of each end is its node's
 pub node_log : (size : Size) (ends : List EndOf) (logs : List (List Entry)) (last : List Stamped) → AreGathered size ends logs last → HaveLogs ends logs
-node_log size ends logs last g place end is = ap (λ ls. log_of ls (me_of end.part)) g.logs_are ∙ (log_here (me_of end.part) ∙ ap (λ (x : NodeOf). x.log) (g.nodes place end is))
+node_log size ends logs last g place end is =
+    ap (λ ls. log_of ls (me_of end.part)) g.logs_are ∙ (log_here (me_of end.part) ∙ ap (λ (x : NodeOf). x.log) (g.nodes place end is))
   where
     log_here : (n : ℕ) → log_of (logs_of g.core) n ≡ (node_at g.core n).log
     log_here n = elim (cases_lt n MAX_NODES) [

@@ -24,12 +24,14 @@ use Rattle.sci_lanes.proofs.Sharing.{joins}
 pub joining : (size : Size) (id other : ℕ) (v w : View) → v.words ≡ [] → w.words ≡ [] → Joins (IsKept size) id v other w (both_views v w) no_view
 joining size id other v w unread none_read =
     subst (λ (a : View). Joins (IsKept size) id a other w (both_views v w) no_view) (λ i. record { parts = v.parts; words = sym unread i })
-    (subst (λ (b : View). Joins (IsKept size) id (record { parts = v.parts; words = [] }) other b (both_views v w) no_view) (λ i. record { parts = w.parts; words = sym none_read i })
+    (subst (λ (b : View). Joins (IsKept size) id (record { parts = v.parts; words = [] }) other b (both_views v w) no_view)
+    (λ i. record { parts = w.parts; words = sym none_read i })
     (joins size id other v.parts w.parts))
 
 -- ---- reading
 
-module _ (size : Size) (slots id place : ℕ) (view : View) (every : HasNodes size.nodes view.parts) (is : place ≡ length view.words) (few : place < word_count size.nodes) where
+module _ (size : Size) (slots id place : ℕ) (view : View) (every : HasNodes size.nodes view.parts) (is : place ≡ length view.words)
+    (few : place < word_count size.nodes) where
   module _ (s : State (Unit {0}) View) (kept : IsKept size s) (here : get_elem? s.views id ≡ some view) where
     abbrev x : Whole
     x = kept.whole
@@ -94,7 +96,8 @@ module _ (size : Size) (slots id place : ℕ) (view : View) (every : HasNodes si
 
     read : (seat : ℕ) (v : View) → get_elem? (set s.views id after) seat ≡ some v → HasRead x seat s.words v.words
     read seat v e = elim (at_set s.views id seat after v e) [
-      | inl k ↦ subst (λ (j : ℕ). HasRead x j s.words v.words) (sym k.0) (subst (λ (u : View). HasRead x id s.words u.words) k.1 (read_here (kept.shown.read id view here)))
+      | inl k ↦ subst (λ (j : ℕ). HasRead x j s.words v.words) (sym k.0)
+          (subst (λ (u : View). HasRead x id s.words u.words) k.1 (read_here (kept.shown.read id view here)))
       | inr k ↦ kept.shown.read seat v k.1
     ]
 

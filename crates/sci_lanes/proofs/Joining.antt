@@ -24,7 +24,8 @@ from_left (x ∷ xs) (suc p) zero y e = (zero, e)
 from_left (x ∷ xs) (suc p) (suc j) y e = let h = from_left xs p j y e in (suc h.0, h.1)
 
 -- an element of the list is the one that was taken out, or is left
-is_left : {A : Type 0} (xs : List A) (p k : ℕ) (x y : A) → slice_get xs p ≡ Some x → slice_get xs k ≡ Some y → (x ≡ y) ⊎ ((j : ℕ) × (slice_get (remove xs p) j ≡ Some y))
+is_left : {A : Type 0} (xs : List A) (p k : ℕ) (x y : A) → slice_get xs p ≡ Some x → slice_get xs k ≡ Some y
+    → (x ≡ y) ⊎ ((j : ℕ) × (slice_get (remove xs p) j ≡ Some y))
 is_left [] p k x y e f = cc
 is_left (z ∷ xs) zero zero x y e f = inl (same_some x y (sym e ∙ f))
 is_left (z ∷ xs) zero (suc k) x y e f = inr (k, f)
@@ -54,35 +55,48 @@ mapped_less f (x ∷ xs) (suc p) = ap (λ ys. f x ∷ ys) (mapped_less f xs p)
 
 module _ {Z : Type 0} where
   -- the first nodes are joined, and the ends of the others are left
-  pub record AreJoining (table : TableId) (all count : ℕ) (ends left : List EndOf) (parts : List Part) (nodes : List NodeOf) (inbox_turns : List (Vec ℕ Z)) : Type 0 where
+  pub record AreJoining (table : TableId) (all count : ℕ) (ends left : List EndOf) (parts : List Part) (nodes : List NodeOf)
+      (inbox_turns : List (Vec ℕ Z)) : Type 0 where
     pub joined : AreJoined all count parts nodes inbox_turns
     pub kept : AreKept ends left parts
     pub rest : length left + count ≡ all
     pub every : (n : ℕ) → count ≤ n → n < all → HasEndOf left n
     pub own : (place : ℕ) (end : EndOf) → slice_get left place ≡ Some end → (end.table ≡ table) × (nodes_in end.part ≡ all)
 
-  pub none_joined : (table : TableId) (all : ℕ) (ends : List EndOf) (parts : List Part) (nodes : List NodeOf) (inbox_turns : List (Vec ℕ Z)) → parts ≡ [] → nodes ≡ [] → inbox_turns ≡ [] → AreAll all ends
-      → ((place : ℕ) (end : EndOf) → slice_get ends place ≡ Some end → (end.table ≡ table) × (nodes_in end.part ≡ all)) → AreJoining table all 0 ends ends parts nodes inbox_turns
+  pub none_joined : (table : TableId) (all : ℕ) (ends : List EndOf) (parts : List Part) (nodes : List NodeOf) (inbox_turns : List (Vec ℕ Z)) → parts ≡ []
+      → nodes ≡ [] → inbox_turns ≡ [] → AreAll all ends
+      → ((place : ℕ) (end : EndOf) → slice_get ends place ≡ Some end → (end.table ≡ table) × (nodes_in end.part ≡ all))
+      → AreJoining table all 0 ends ends parts nodes inbox_turns
   none_joined table all ends parts nodes inbox_turns no_parts no_nodes no_turns a own = record {
-    joined = record { parts_long = ap length no_parts; nodes_long = ap length no_nodes; inbox_turns_long = ap length no_turns; each = λ n lt. absurd (omega arith) };
+    joined = record {
+      parts_long = ap length no_parts;
+      nodes_long = ap length no_nodes;
+      inbox_turns_long = ap length no_turns;
+      each = λ n lt. absurd (omega arith);
+    };
     kept = λ place end is. inl (place, is);
     rest = (let count = a.count in omega arith);
     every = λ n le lt. a.every n lt;
     own = own;
   }
 
-  module _ (table : TableId) (all count : ℕ) (ends left : List EndOf) (parts : List Part) (nodes : List NodeOf) (inbox_turns : List (Vec ℕ Z)) (place : ℕ) (end : EndOf) (node : NodeOf) (turns : Vec ℕ Z)
-      (j : AreJoining table all count ends left parts nodes inbox_turns) (there : slice_get left place ≡ Some end) (numbered : me_of end.part ≡ count) (node_is : node ≡ end.part.node) (takes : HasTurns (nodes_in end.part) end.part turns.items) where
+  module _ (table : TableId) (all count : ℕ) (ends left : List EndOf) (parts : List Part) (nodes : List NodeOf) (inbox_turns : List (Vec ℕ Z)) (place : ℕ)
+      (end : EndOf) (node : NodeOf) (turns : Vec ℕ Z)
+      (j : AreJoining table all count ends left parts nodes inbox_turns) (there : slice_get left place ≡ Some end) (numbered : me_of end.part ≡ count)
+      (node_is : node ≡ end.part.node) (takes : HasTurns (nodes_in end.part) end.part turns.items) where
     at_new : (n : ℕ) → n < count + 1 → IsJoinedAt all (parts ++ end.part ∷ []) (nodes ++ node ∷ []) (inbox_turns ++ turns ∷ []) n
     at_new n lt = elim (cases_lt n count) [
       | inl less ↦ (
           let was = j.joined.each n less in
-          let p : get_or (parts ++ end.part ∷ []) n no_part ≡ get_or parts n no_part = get_or_append_left parts (end.part ∷ []) no_part n (let long = j.joined.parts_long in omega arith) in
-          let q : get_or (nodes ++ node ∷ []) n no_node ≡ get_or nodes n no_node = get_or_append_left nodes (node ∷ []) no_node n (let long = j.joined.nodes_long in omega arith) in
+          let p : get_or (parts ++ end.part ∷ []) n no_part ≡ get_or parts n no_part =
+          get_or_append_left parts (end.part ∷ []) no_part n (let long = j.joined.parts_long in omega arith) in
+          let q : get_or (nodes ++ node ∷ []) n no_node ≡ get_or nodes n no_node =
+          get_or_append_left nodes (node ∷ []) no_node n (let long = j.joined.nodes_long in omega arith) in
           record {
             numbered = ap me_of p ∙ was.numbered;
             node = q ∙ (was.node ∙ ap (λ (x : Part). x.node) (sym p));
-            turns = λ v is. subst (λ (x : Part). HasTurns all x v.items) (sym p) (was.turns v (is ∙ get_or_append_left inbox_turns (turns ∷ []) v n (let long = j.joined.inbox_turns_long in omega arith)));
+            turns = λ v is. subst (λ (x : Part). HasTurns all x v.items) (sym p)
+                (was.turns v (is ∙ get_or_append_left inbox_turns (turns ∷ []) v n (let long = j.joined.inbox_turns_long in omega arith)));
           })
       | inr le ↦ (
           let same : n ≡ count = omega arith in

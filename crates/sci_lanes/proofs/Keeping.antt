@@ -1,5 +1,6 @@
 -- What keeps words and views showing a state.
-use Rattle.std.proofs.Common.{◌≡◌, ◌≢◌, ℕ, zero, suc, ◌<◌, inl, inr, eqb, if◌then◌else◌, List, [], ◌∷◌, ◌++◌, length, set, Some, refl, sym, ap, subst, ◌∙◌, arith, eq-eqb, ne_eqb}
+use Rattle.std.proofs.Common.{◌≡◌, ◌≢◌, ℕ, zero, suc, ◌<◌, inl, inr, eqb, if◌then◌else◌, List, [], ◌∷◌, ◌++◌, length, set, Some, refl, sym, ap, subst, ◌∙◌}
+use Rattle.std.proofs.Common.{arith, eq-eqb, ne_eqb}
 use Rattle.std.specs.Prelude.{slice_get}
 use Rattle.std.specs.List.{AllByRecursion}
 use Rattle.std.proofs.lemmas.Bool.{cases_eq}
@@ -56,7 +57,8 @@ pub read_none : (x : Whole) (seat : ℕ) (words : List ℕ) → HasRead x seat w
 read_none x seat words = record { no_more = omega arith; same = λ k lt. absurd (omega arith); every = λ lt n few. absurd (omega arith) }
 
 -- a seat that hasn't every node has read nothing
-pub read_nothing : (x y : Whole) (seat n : ℕ) (words others read : List ℕ) → n < nodes_of x → x.owner n ≢ seat → HasRead x seat words read → HasRead y seat others read
+pub read_nothing : (x y : Whole) (seat n : ℕ) (words others read : List ℕ) → n < nodes_of x → x.owner n ≢ seat → HasRead x seat words read
+    → HasRead y seat others read
 read_nothing x y seat n words others [] few apart h = read_none y seat others
 read_nothing x y seat n words others (w ∷ read) few apart h = absurd (apart (h.every (omega arith) n few))
 
@@ -83,7 +85,8 @@ pub seen_further : (p : Part) (n : ℕ) (old new : List Event) → me_of p ≢ n
 seen_further p n old new not f s = record {
   others = s.others ++ f.events;
   further = f.more ∙ (ap (λ (es : List Event). es ++ f.events) s.further ∙ append_assoc p.schedule s.others f.events);
-  apart = all_join (λ e. node_of e ≢ me_of p) s.others f.events s.apart (all_by (λ e. node_of e ≡ n) (λ e. node_of e ≢ me_of p) (λ e own is. not (sym is ∙ own)) f.events f.own);
+  apart = all_join (λ e. node_of e ≢ me_of p) s.others f.events s.apart
+      (all_by (λ e. node_of e ≡ n) (λ e. node_of e ≢ me_of p) (λ e own is. not (sym is ∙ own)) f.events f.own);
 }
 
 -- ---- one step of a seat that has one node
@@ -100,7 +103,8 @@ pub record Turned (x y : Whole) (seat : ℕ) (part next : Part) : Type 0 where
   pub known : IsKnown y seat next
 
 -- what another seat knows of its nodes stays so
-other_known : (x y : Whole) (seat other : ℕ) (part next p : Part) → other ≢ seat → IsKnown x seat part → Turned x y seat part next → IsKnown x other p → IsKnown y other p
+other_known : (x y : Whole) (seat other : ℕ) (part next p : Part) → other ≢ seat → IsKnown x seat part → Turned x y seat part next → IsKnown x other p
+    → IsKnown y other p
 other_known x y seat other part next p apart mine t k =
     let n = nodes_of x in
     let size : nodes_of y ≡ n = t.size in
@@ -120,7 +124,8 @@ other_known x y seat other part next p apart mine t k =
           k.inbound lane (subst (λ (m : ℕ). lane < lane_count m) size lt) is' ∙ sym (t.inbound lane (λ e. not_me (sym is' ∙ e)));
     }
 
-pub step_shows : (x y : Whole) (words : List ℕ) (views : List View) (seat place value : ℕ) (part next : Part) → Shows x words views → get_elem? views seat ≡ some (single part) → Turned x y seat part next
+pub step_shows : (x y : Whole) (words : List ℕ) (views : List View) (seat place value : ℕ) (part next : Part) → Shows x words views
+    → get_elem? views seat ≡ some (single part) → Turned x y seat part next
     → ((lane : ℕ) → lane < lane_count (nodes_of x) → ShowsLane (set words place value) lane (lane_at y.core lane) (y.outbound lane) (y.inbound lane))
     → Shows y (set words place value) (set views seat (single next))
 step_shows x y words views seat place value part next s here t lanes = record {
@@ -144,7 +149,8 @@ step_shows x y words views seat place value part next s here t lanes = record {
 
     known : (other : ℕ) (view : View) → get_elem? (set views seat (single next)) other ≡ some view → AllByRecursion (IsKnown y other) view.parts
     known other view e = elim (at_set views seat other (single next) view e) [
-      | inl h ↦ subst (λ (k : ℕ). AllByRecursion (IsKnown y k) view.parts) (sym h.0) (subst (λ (v : View). AllByRecursion (IsKnown y seat) v.parts) h.1 (t.known, tt))
+      | inl h ↦ subst (λ (k : ℕ). AllByRecursion (IsKnown y k) view.parts) (sym h.0)
+          (subst (λ (v : View). AllByRecursion (IsKnown y seat) v.parts) h.1 (t.known, tt))
       | inr h ↦ all_by (IsKnown x other) (IsKnown y other) (λ p k. other_known x y seat other part next p h.0 mine t k) view.parts (s.known other view h.1)
     ]
 
@@ -153,10 +159,27 @@ step_shows x y words views seat place value part next s here t lanes = record {
         let old = s.covered n (subst (λ (m : ℕ). n < m) t.size lt) in
         elim (cases_eq (x.owner n) seat) [
           | inl is ↦ (
-              let view_is : single part ≡ old.view = some-injective (single part) old.view (sym here ∙ (ap (λ (k : ℕ). get_elem? views k) (sym is) ∙ old.seated)) in
+              let view_is : single part ≡ old.view =
+              some-injective (single part) old.view (sym here ∙ (ap (λ (k : ℕ). get_elem? views k) (sym is) ∙ old.seated)) in
               let part_is : part ≡ old.part = only part old.part old.place (ap (λ (v : View). slice_get v.parts old.place) view_is ∙ old.there) in
-              record { view = single next; place = 0; part = next; seated = ap (λ (k : ℕ). get_elem? (set views seat (single next)) k) (t.owner n ∙ is) ∙ set_here views seat (single next) seated; there = refl; of_node = t.me ∙ (ap me_of part_is ∙ old.of_node) })
-          | inr apart ↦ record { view = old.view; place = old.place; part = old.part; seated = ap (λ (k : ℕ). get_elem? (set views seat (single next)) k) (t.owner n) ∙ (set_else views seat (x.owner n) (single next) apart ∙ old.seated); there = old.there; of_node = old.of_node }
+              record {
+                view = single next;
+                place = 0;
+                part = next;
+                seated = ap (λ (k : ℕ). get_elem? (set views seat (single next)) k) (t.owner n ∙ is) ∙ set_here views seat (single next) seated;
+                there =
+                    refl;
+                of_node = t.me ∙ (ap me_of part_is ∙ old.of_node);
+              })
+          | inr apart ↦ record {
+            view = old.view;
+            place = old.place;
+            part = old.part;
+            seated = ap (λ (k : ℕ). get_elem? (set views seat (single next)) k) (t.owner n)
+                ∙ (set_else views seat (x.owner n) (single next) apart ∙ old.seated);
+            there = old.there;
+            of_node = old.of_node;
+          }
         ]
       where
         only : (p q : Part) (k : ℕ) → slice_get (p ∷ []) k ≡ Some q → p ≡ q
@@ -166,5 +189,6 @@ step_shows x y words views seat place value part next s here t lanes = record {
     read : (other : ℕ) (view : View) → get_elem? (set views seat (single next)) other ≡ some view → HasRead y other (set words place value) view.words
     read other view e = elim (at_set views seat other (single next) view e) [
       | inl h ↦ subst (λ (v : View). HasRead y other (set words place value) v.words) h.1 (read_none y other (set words place value))
-      | inr h ↦ read_nothing x y other (me_of part) words (set words place value) view.words mine.some_node (λ is. h.0 (sym is ∙ mine.mine)) (s.read other view h.1)
+      | inr h ↦ read_nothing x y other (me_of part) words (set words place value) view.words mine.some_node (λ is. h.0 (sym is ∙ mine.mine))
+          (s.read other view h.1)
     ]

@@ -1,5 +1,6 @@
 -- What each kind of step does to the words of a lane and to what its ends know of it.
-use Rattle.std.proofs.Common.{◌≡◌, ◌≢◌, ℕ, zero, suc, ◌+◌, ◌-◌, ◌<◌, ◌≤◌, inl, inr, Bool, true, false, eqb, List, [], ◌∷◌, ◌++◌, length, get_or, set, take, Some, refl, sym, ap, subst, ◌∙◌, arith}
+use Rattle.std.proofs.Common.{◌≡◌, ◌≢◌, ℕ, zero, suc, ◌+◌, ◌-◌, ◌<◌, ◌≤◌, inl, inr, Bool, true, false, eqb, List, [], ◌∷◌, ◌++◌, length, get_or, set, take}
+use Rattle.std.proofs.Common.{Some, refl, sym, ap, subst, ◌∙◌, arith}
 use Rattle.std.specs.Prelude.{slice_get}
 use Rattle.std.proofs.lemmas.Bool.{cases_lt, eqb-true, eqb-false, ne_eqb}
 use Rattle.std.proofs.lemmas.List.{length-take-le, length_push, get_or-take, get_or_append_left, get_or_push}
@@ -23,10 +24,12 @@ pub record Agrees (words others : List ℕ) (lane : ℕ) (packets : List Packet)
   pub filled : (j : ℕ) → j < length o.filled → word_at others lane o.sent (suc j) ≡ word_at words lane o.sent (suc j)
   pub found : (j : ℕ) → j < length i.found → word_at others lane i.taken j ≡ word_at words lane i.taken j
 
-pub below_eleven : {words : List ℕ} {lane : ℕ} {packets : List Packet} {o : Outbound} {i : Inbound} (f : Fits words lane packets o i) (k j : ℕ) (p : Packet) → slice_get packets k ≡ Some p → j < length (words_of p) → j < 11
+pub below_eleven : {words : List ℕ} {lane : ℕ} {packets : List Packet} {o : Outbound} {i : Inbound} (f : Fits words lane packets o i) (k j : ℕ) (p : Packet)
+    → slice_get packets k ≡ Some p → j < length (words_of p) → j < 11
 below_eleven f k j p e lt = let few = few_words p (f.good k p e) in omega arith
 
-pub agreeing : (words others : List ℕ) (lane : ℕ) (packets : List Packet) (o : Outbound) (i : Inbound) → Agrees words others lane packets o i → Fits words lane packets o i → Fits others lane packets o i
+pub agreeing : (words others : List ℕ) (lane : ℕ) (packets : List Packet) (o : Outbound) (i : Inbound) → Agrees words others lane packets o i
+    → Fits words lane packets o i → Fits others lane packets o i
 agreeing words others lane packets o i a f = record {
   good = f.good;
   counted = f.counted;
@@ -48,17 +51,24 @@ pub stored_elsewhere : (words : List ℕ) (lane other turn index value : ℕ) (p
 stored_elsewhere words lane other turn index value packets o i apart few f =
     agreeing words (set words (cell_place lane turn + index) value) other packets o i
     (record {
-      full = λ k j lt less. stored_else words (cell_place lane turn + index) (cell_place other (i.taken + k) + j) value (other_lane lane other turn (i.taken + k) index j apart few less);
-      empty = λ k le lt. stored_else words (cell_place lane turn + index) (cell_place other (i.taken + k) + 0) value (other_lane lane other turn (i.taken + k) index 0 apart few (omega arith));
-      filled = λ j lt. let most = f.few_filled in stored_else words (cell_place lane turn + index) (cell_place other o.sent + suc j) value (other_lane lane other turn o.sent index (suc j) apart few (omega arith));
-      found = λ j lt. let most = f.few_found in stored_else words (cell_place lane turn + index) (cell_place other i.taken + j) value (other_lane lane other turn i.taken index j apart few (omega arith));
+      full = λ k j lt less. stored_else words (cell_place lane turn + index) (cell_place other (i.taken + k) + j) value
+          (other_lane lane other turn (i.taken + k) index j apart few less);
+      empty = λ k le lt. stored_else words (cell_place lane turn + index) (cell_place other (i.taken + k) + 0) value
+          (other_lane lane other turn (i.taken + k) index 0 apart few (omega arith));
+      filled = λ j lt. let most = f.few_filled in
+          stored_else words (cell_place lane turn + index) (cell_place other o.sent + suc j) value
+          (other_lane lane other turn o.sent index (suc j) apart few (omega arith));
+      found = λ j lt. let most = f.few_found in
+          stored_else words (cell_place lane turn + index) (cell_place other i.taken + j) value
+          (other_lane lane other turn i.taken index j apart few (omega arith));
     })
     f
 
 -- ---- what is known
 
 -- fewer words filled
-forget_filled : (words : List ℕ) (lane n : ℕ) (packets : List Packet) (o : Outbound) (i : Inbound) → n ≤ length o.filled → Fits words lane packets o i → Fits words lane packets (record o { filled = take n o.filled }) i
+forget_filled : (words : List ℕ) (lane n : ℕ) (packets : List Packet) (o : Outbound) (i : Inbound) → n ≤ length o.filled → Fits words lane packets o i
+    → Fits words lane packets (record o { filled = take n o.filled }) i
 forget_filled words lane n packets o i le f =
     let count : length (take n o.filled) ≡ n = length-take-le n o.filled le in
     let most = f.few_filled in
@@ -82,7 +92,8 @@ forget_filled words lane n packets o i le f =
     take_nil (suc n) = refl
 
 -- one word more filled
-more_filled : (words : List ℕ) (lane word : ℕ) (packets : List Packet) (o : Outbound) (i : Inbound) → o.vacant ≡ true → length o.filled < 10 → word_at words lane o.sent (suc (length o.filled)) ≡ word
+more_filled : (words : List ℕ) (lane word : ℕ) (packets : List Packet) (o : Outbound) (i : Inbound) → o.vacant ≡ true → length o.filled < 10
+    → word_at words lane o.sent (suc (length o.filled)) ≡ word
     → Fits words lane packets o i → Fits words lane packets (record o { filled = o.filled ++ word ∷ [] }) i
 more_filled words lane word packets o i vacant few here f =
     let count : length (o.filled ++ word ∷ []) ≡ length o.filled + 1 = length_push o.filled word in
@@ -97,7 +108,9 @@ more_filled words lane word packets o i vacant few here f =
       few_filled = omega arith;
       filled = λ j lt. elim (cases_lt j (length o.filled)) [
         | inl less ↦ f.filled j less ∙ sym (get_or_append_left o.filled (word ∷ []) 0 j less)
-        | inr le ↦ (let same : j ≡ length o.filled = omega arith in subst (λ (k : ℕ). word_at words lane o.sent (suc k) ≡ get_or (o.filled ++ word ∷ []) k 0) (sym same) (here ∙ sym (get_or_push o.filled word 0 (length o.filled) refl)))
+        | inr le ↦ (let same : j ≡ length o.filled = omega arith in
+            subst (λ (k : ℕ). word_at words lane o.sent (suc k) ≡ get_or (o.filled ++ word ∷ []) k 0) (sym same)
+            (here ∙ sym (get_or_push o.filled word 0 (length o.filled) refl)))
       ];
       few_found = f.few_found;
       there = f.there;
@@ -108,7 +121,8 @@ more_filled words lane word packets o i vacant few here f =
     true_not_false e = cc
 
 -- fewer words found
-forget_found : (words : List ℕ) (lane n : ℕ) (packets : List Packet) (o : Outbound) (i : Inbound) → n ≤ length i.found → Fits words lane packets o i → Fits words lane packets o (record i { found = take n i.found })
+forget_found : (words : List ℕ) (lane n : ℕ) (packets : List Packet) (o : Outbound) (i : Inbound) → n ≤ length i.found → Fits words lane packets o i
+    → Fits words lane packets o (record i { found = take n i.found })
 forget_found words lane n packets o i le f =
     let count : length (take n i.found) ≡ n = length-take-le n i.found le in
     let most = f.few_found in
@@ -128,7 +142,8 @@ forget_found words lane n packets o i le f =
     }
 
 -- one word more found
-more_found : (words : List ℕ) (lane word : ℕ) (packets : List Packet) (o : Outbound) (i : Inbound) → 0 < length packets → length i.found < 11 → word_at words lane i.taken (length i.found) ≡ word
+more_found : (words : List ℕ) (lane word : ℕ) (packets : List Packet) (o : Outbound) (i : Inbound) → 0 < length packets → length i.found < 11
+    → word_at words lane i.taken (length i.found) ≡ word
     → Fits words lane packets o i → Fits words lane packets o (record i { found = i.found ++ word ∷ [] })
 more_found words lane word packets o i some few here f =
     let count : length (i.found ++ word ∷ []) ≡ length i.found + 1 = length_push i.found word in
@@ -146,13 +161,16 @@ more_found words lane word packets o i some few here f =
       there = λ lt. some;
       found = λ j lt. elim (cases_lt j (length i.found)) [
         | inl less ↦ f.found j less ∙ sym (get_or_append_left i.found (word ∷ []) 0 j less)
-        | inr le ↦ (let same : j ≡ length i.found = omega arith in subst (λ (k : ℕ). word_at words lane i.taken k ≡ get_or (i.found ++ word ∷ []) k 0) (sym same) (here ∙ sym (get_or_push i.found word 0 (length i.found) refl)))
+        | inr le ↦ (let same : j ≡ length i.found = omega arith in
+            subst (λ (k : ℕ). word_at words lane i.taken k ≡ get_or (i.found ++ word ∷ []) k 0) (sym same)
+            (here ∙ sym (get_or_push i.found word 0 (length i.found) refl)))
       ];
     }
 
 -- ---- looks
 
-first_empty : {words : List ℕ} {lane : ℕ} {packets : List Packet} {o : Outbound} {i : Inbound} (f : Fits words lane packets o i) (k : ℕ) → length packets ≤ k → k < 4 → (turn : ℕ) → turn ≡ i.taken + k → word_at words lane turn 0 ≡ 0
+first_empty : {words : List ℕ} {lane : ℕ} {packets : List Packet} {o : Outbound} {i : Inbound} (f : Fits words lane packets o i) (k : ℕ) → length packets ≤ k
+    → k < 4 → (turn : ℕ) → turn ≡ i.taken + k → word_at words lane turn 0 ≡ 0
 first_empty {words = words} {lane = lane} f k le lt turn is = ap (λ (t : ℕ). word_at words lane t 0) is ∙ f.empty k le lt
 
 count_above : (q : Packet) → 0 < length (words_of q)
@@ -160,7 +178,8 @@ unfolding words_of
 count_above q = omega arith
 
 -- the first word of the oldest packet is not 0
-pub first_full : (words : List ℕ) (lane : ℕ) (packets : List Packet) (o : Outbound) (i : Inbound) → Fits words lane packets o i → 0 < length packets → 0 < word_at words lane i.taken 0
+pub first_full : (words : List ℕ) (lane : ℕ) (packets : List Packet) (o : Outbound) (i : Inbound) → Fits words lane packets o i → 0 < length packets
+    → 0 < word_at words lane i.taken 0
 first_full words lane [] o i f some = absurd (omega arith)
 first_full words lane (p ∷ packets) o i f some =
     let here : word_at words lane (i.taken + 0) 0 ≡ get_or (words_of p) 0 0 = f.full 0 0 p refl (omega (arith, count_above p)) in
@@ -170,16 +189,19 @@ first_full words lane (p ∷ packets) o i f some =
     omega arith
 
 -- a sender's next cell is full exactly if its lane has four packets
-pub sender_finds_empty : (words : List ℕ) (lane : ℕ) (packets : List Packet) (o : Outbound) (i : Inbound) → Fits words lane packets o i → length packets < 4 → word_at words lane o.sent 0 ≡ 0
+pub sender_finds_empty : (words : List ℕ) (lane : ℕ) (packets : List Packet) (o : Outbound) (i : Inbound) → Fits words lane packets o i → length packets < 4
+    → word_at words lane o.sent 0 ≡ 0
 sender_finds_empty words lane packets o i f less = first_empty f (length packets) (omega arith) less o.sent f.counted
 
-pub sender_finds_full : (words : List ℕ) (lane : ℕ) (packets : List Packet) (o : Outbound) (i : Inbound) → Fits words lane packets o i → length packets ≡ 4 → 0 < word_at words lane o.sent 0
+pub sender_finds_full : (words : List ℕ) (lane : ℕ) (packets : List Packet) (o : Outbound) (i : Inbound) → Fits words lane packets o i → length packets ≡ 4
+    → 0 < word_at words lane o.sent 0
 sender_finds_full words lane packets o i f four =
     let counted = f.counted in
     let same : cell_place lane i.taken ≡ cell_place lane o.sent = same_cell lane i.taken o.sent (omega arith) in
     subst (λ (place : ℕ). 0 < get_or words (place + 0) 0) same (first_full words lane packets o i f (omega arith))
 
-pub out_looked : (words : List ℕ) (lane : ℕ) (packets : List Packet) (o : Outbound) (i : Inbound) → Fits words lane packets o i → Fits words lane packets (looked_out (word_at words lane o.sent 0) o) i
+pub out_looked : (words : List ℕ) (lane : ℕ) (packets : List Packet) (o : Outbound) (i : Inbound) → Fits words lane packets o i
+    → Fits words lane packets (looked_out (word_at words lane o.sent 0) o) i
 out_looked words lane packets o i f =
     let most = f.room in
     record {
@@ -190,9 +212,11 @@ out_looked words lane packets o i f =
       empty = f.empty;
       vacant = λ is. elim (cases_lt (length packets) 4) [
         | inl less ↦ less
-        | inr le ↦ (let full = sender_finds_full words lane packets o i f (omega arith) in let zero = eqb-true (word_at words lane o.sent 0) 0 is in absurd (omega arith))
+        | inr le ↦ (let full = sender_finds_full words lane packets o i f (omega arith) in let zero = eqb-true (word_at words lane o.sent 0) 0 is in
+            absurd (omega arith))
       ];
-      unfilled = λ not. nothing_filled f.unfilled (λ is. not_vacant (word_at words lane o.sent 0) (sender_finds_empty words lane packets o i f (f.vacant is)) not);
+      unfilled = λ not. nothing_filled f.unfilled
+          (λ is. not_vacant (word_at words lane o.sent 0) (sender_finds_empty words lane packets o i f (f.vacant is)) not);
       few_filled = f.few_filled;
       filled = f.filled;
       few_found = f.few_found;
@@ -209,7 +233,8 @@ out_looked words lane packets o i f =
 
 -- ---- the other steps
 
-pub in_looked : (words : List ℕ) (lane : ℕ) (packets : List Packet) (o : Outbound) (i : Inbound) (sure : Bool) → (sure ≡ true → 0 < length packets) → Fits words lane packets o i → Fits words lane packets o (looked_in sure (word_at words lane i.taken 0) i)
+pub in_looked : (words : List ℕ) (lane : ℕ) (packets : List Packet) (o : Outbound) (i : Inbound) (sure : Bool) → (sure ≡ true → 0 < length packets)
+    → Fits words lane packets o i → Fits words lane packets o (looked_in sure (word_at words lane i.taken 0) i)
 in_looked words lane packets o i sure there f = by_word sure there (word_at words lane i.taken 0) refl
   where
     none : Fits words lane packets o (record i { found = [] })
@@ -221,12 +246,15 @@ in_looked words lane packets o i sure there f = by_word sure there (word_at word
       | inr le ↦ (let empty = first_empty f 0 le (omega arith) i.taken (omega arith) in absurd (omega arith))
     ]
 
-    by_word : (s : Bool) → (s ≡ true → 0 < length packets) → (word : ℕ) → word_at words lane i.taken 0 ≡ word → Fits words lane packets o (record i { found = found_first s word })
+    by_word : (s : Bool) → (s ≡ true → 0 < length packets) → (word : ℕ) → word_at words lane i.taken 0 ≡ word
+        → Fits words lane packets o (record i { found = found_first s word })
     by_word true full zero is = more_found words lane 0 packets o (record i { found = [] }) (full refl) (omega arith) is none
     by_word false full zero is = none
-    by_word s full (suc word) is = rw (ne_eqb (suc word) 0 (λ e. omega arith)) (more_found words lane (suc word) packets o (record i { found = [] }) (some word is) (omega arith) is none)
+    by_word s full (suc word) is =
+        rw (ne_eqb (suc word) 0 (λ e. omega arith)) (more_found words lane (suc word) packets o (record i { found = [] }) (some word is) (omega arith) is none)
 
-pub out_filled : (words : List ℕ) (lane index word : ℕ) (packets : List Packet) (o : Outbound) (i : Inbound) → o.vacant ≡ true → 0 < index → index < 11 → index ≤ length o.filled + 1
+pub out_filled : (words : List ℕ) (lane index word : ℕ) (packets : List Packet) (o : Outbound) (i : Inbound) → o.vacant ≡ true → 0 < index → index < 11
+    → index ≤ length o.filled + 1
     → cell_place lane o.sent + index < length words
     → Fits words lane packets o i → Fits (set words (cell_place lane o.sent + index) word) lane packets (filled_out index word o) i
 out_filled words lane index word packets o i vacant above few next within f =
@@ -235,24 +263,31 @@ out_filled words lane index word packets o i vacant above few next within f =
     let less = f.vacant vacant in
     let counted = f.counted in
     let count : length (take (index - 1) o.filled) ≡ index - 1 = length-take-le (index - 1) o.filled (omega arith) in
-    let before : Fits words lane packets (record o { filled = take (index - 1) o.filled }) i = forget_filled words lane (index - 1) packets o i (omega arith) f in
+    let before : Fits words lane packets (record o { filled = take (index - 1) o.filled }) i =
+    forget_filled words lane (index - 1) packets o i (omega arith) f in
     let kept : Fits others lane packets (record o { filled = take (index - 1) o.filled }) i =
     agreeing words others lane packets (record o { filled = take (index - 1) o.filled }) i
     (record {
-      full = λ k j lt small. stored_else words place (cell_place lane (i.taken + k) + j) word (other_cell lane o.sent (i.taken + k) index j (λ e. omega arith) few small);
-      empty = λ k le lt. stored_else words place (cell_place lane (i.taken + k) + 0) word (other_index lane o.sent (i.taken + k) index 0 (λ e. omega arith) few (omega arith));
-      filled = λ j lt. stored_else words place (cell_place lane o.sent + suc j) word (other_index lane o.sent o.sent index (suc j) (λ e. omega arith) few (omega arith));
-      found = λ j lt. let there = f.there (omega arith) in let most = f.few_found in stored_else words place (cell_place lane i.taken + j) word (other_cell lane o.sent i.taken index j (λ e. omega arith) few (omega arith));
+      full = λ k j lt small. stored_else words place (cell_place lane (i.taken + k) + j) word
+          (other_cell lane o.sent (i.taken + k) index j (λ e. omega arith) few small);
+      empty = λ k le lt. stored_else words place (cell_place lane (i.taken + k) + 0) word
+          (other_index lane o.sent (i.taken + k) index 0 (λ e. omega arith) few (omega arith));
+      filled = λ j lt. stored_else words place (cell_place lane o.sent + suc j) word
+          (other_index lane o.sent o.sent index (suc j) (λ e. omega arith) few (omega arith));
+      found = λ j lt. let there = f.there (omega arith) in let most = f.few_found in
+          stored_else words place (cell_place lane i.taken + j) word (other_cell lane o.sent i.taken index j (λ e. omega arith) few (omega arith));
     })
     before in
     let at : suc (length (take (index - 1) o.filled)) ≡ index = omega arith in
-    more_filled others lane word packets (record o { filled = take (index - 1) o.filled }) i vacant (omega arith) (ap (λ (k : ℕ). word_at others lane o.sent k) at ∙ stored_here words place word within) kept
+    more_filled others lane word packets (record o { filled = take (index - 1) o.filled }) i vacant (omega arith)
+    (ap (λ (k : ℕ). word_at others lane o.sent k) at ∙ stored_here words place word within) kept
 
 pub in_read : (words : List ℕ) (lane index : ℕ) (packets : List Packet) (o : Outbound) (i : Inbound) → 0 < index → index < 11 → index ≤ length i.found
     → Fits words lane packets o i → Fits words lane packets o (read_in index (word_at words lane i.taken index) i)
 in_read words lane index packets o i above few next f =
     let count : length (take index i.found) ≡ index = length-take-le index i.found next in
-    more_found words lane (word_at words lane i.taken index) packets o (record i { found = take index i.found }) (f.there (omega arith)) (omega arith) (ap (λ (k : ℕ). word_at words lane i.taken k) count)
+    more_found words lane (word_at words lane i.taken index) packets o (record i { found = take index i.found }) (f.there (omega arith)) (omega arith)
+    (ap (λ (k : ℕ). word_at words lane i.taken k) count)
     (forget_found words lane index packets o i next f)
 
 -- the packet leaves the lane, and its cell is empty
@@ -270,24 +305,29 @@ in_freed words lane p packets o i within f =
       room = omega arith;
       full = λ k j q e lt.
           let at = slice_get_within packets k q e in
-          stored_else words place (cell_place lane (i.taken + 1 + k) + j) 0 (other_cell lane i.taken (i.taken + 1 + k) 0 j (λ s. omega arith) (omega arith) (below_eleven f (suc k) j q e lt))
+          stored_else words place (cell_place lane (i.taken + 1 + k) + j) 0
+          (other_cell lane i.taken (i.taken + 1 + k) 0 j (λ s. omega arith) (omega arith) (below_eleven f (suc k) j q e lt))
           ∙ (ap (λ (t : ℕ). word_at words lane t j) (sym (later k)) ∙ f.full (suc k) j q e lt);
       empty = λ k le lt. elim (cases_lt k 3) [
-        | inl less ↦ stored_else words place (cell_place lane (i.taken + 1 + k) + 0) 0 (other_cell lane i.taken (i.taken + 1 + k) 0 0 (λ s. omega arith) (omega arith) (omega arith))
+        | inl less ↦ stored_else words place (cell_place lane (i.taken + 1 + k) + 0) 0
+            (other_cell lane i.taken (i.taken + 1 + k) 0 0 (λ s. omega arith) (omega arith) (omega arith))
             ∙ (ap (λ (t : ℕ). word_at words lane t 0) (sym (later k)) ∙ f.empty (suc k) (omega arith) (omega arith))
         | inr most ↦ ap (λ (c : ℕ). get_or others (c + 0) 0) (same_cell lane (i.taken + 1 + k) i.taken (omega arith)) ∙ stored_here words place 0 within
       ];
       vacant = λ is. let less = f.vacant is in omega arith;
       unfilled = f.unfilled;
       few_filled = f.few_filled;
-      filled = λ j lt. let most = f.few_filled in stored_else words place (cell_place lane o.sent + suc j) 0 (other_index lane i.taken o.sent 0 (suc j) (λ s. omega arith) (omega arith) (omega arith)) ∙ f.filled j lt;
+      filled = λ j lt. let most = f.few_filled in
+          stored_else words place (cell_place lane o.sent + suc j) 0 (other_index lane i.taken o.sent 0 (suc j) (λ s. omega arith) (omega arith) (omega arith))
+          ∙ f.filled j lt;
       few_found = omega arith;
       there = λ lt. absurd (omega arith);
       found = λ j lt. absurd (omega arith);
     }
 
 -- the packet ends the lane
-pub out_published : (words : List ℕ) (lane first : ℕ) (p : Packet) (packets : List Packet) (o : Outbound) (i : Inbound) → o.vacant ≡ true → IsPacket p → words_of p ≡ first ∷ o.filled
+pub out_published : (words : List ℕ) (lane first : ℕ) (p : Packet) (packets : List Packet) (o : Outbound) (i : Inbound) → o.vacant ≡ true → IsPacket p
+    → words_of p ≡ first ∷ o.filled
     → cell_place lane o.sent + 0 < length words
     → Fits words lane packets o i → Fits (set words (cell_place lane o.sent + 0) first) lane (packets ++ p ∷ []) (published_out o) i
 out_published words lane first p packets o i vacant good spelled within f =
@@ -301,20 +341,24 @@ out_published words lane first p packets o i vacant good spelled within f =
       counted = omega arith;
       room = omega arith;
       full = λ k j q e lt. elim (at_end packets p k q e) [
-        | inl h ↦ (let at = h.0 in stored_else words place (cell_place lane (i.taken + k) + j) first (other_cell lane o.sent (i.taken + k) 0 j (λ s. omega arith) (omega arith) (below_eleven f k j q h.1 lt)) ∙ f.full k j q h.1 lt)
+        | inl h ↦ (let at = h.0 in stored_else words place (cell_place lane (i.taken + k) + j) first
+            (other_cell lane o.sent (i.taken + k) 0 j (λ s. omega arith) (omega arith) (below_eleven f k j q h.1 lt)) ∙ f.full k j q h.1 lt)
         | inr h ↦ (let turn : o.sent ≡ i.taken + k = (let at = h.0 in omega arith) in
             subst (λ (t : ℕ). word_at others lane t j ≡ get_or (words_of q) j 0) turn
             (subst (λ (r : Packet). word_at others lane o.sent j ≡ get_or (words_of r) j 0) h.1
             (new_word j (subst (λ (r : Packet). j < length (words_of r)) (sym h.1) lt))))
       ];
-      empty = λ k le lt. stored_else words place (cell_place lane (i.taken + k) + 0) first (other_cell lane o.sent (i.taken + k) 0 0 (λ s. omega arith) (omega arith) (omega arith)) ∙ f.empty k (omega arith) lt;
+      empty = λ k le lt. stored_else words place (cell_place lane (i.taken + k) + 0) first
+          (other_cell lane o.sent (i.taken + k) 0 0 (λ s. omega arith) (omega arith) (omega arith)) ∙ f.empty k (omega arith) lt;
       vacant = λ is. cc;
       unfilled = λ not. refl;
       few_filled = omega arith;
       filled = λ j lt. absurd (omega arith);
       few_found = f.few_found;
       there = λ lt. omega arith;
-      found = λ j lt. let there = f.there (omega arith) in let most = f.few_found in stored_else words place (cell_place lane i.taken + j) first (other_cell lane o.sent i.taken 0 j (λ s. omega arith) (omega arith) (omega arith)) ∙ f.found j lt;
+      found = λ j lt. let there = f.there (omega arith) in let most = f.few_found in
+          stored_else words place (cell_place lane i.taken + j) first (other_cell lane o.sent i.taken 0 j (λ s. omega arith) (omega arith) (omega arith))
+          ∙ f.found j lt;
     }
   where
     new_word : (j : ℕ) → j < length (words_of p) → word_at (set words (cell_place lane o.sent + 0) first) lane o.sent j ≡ get_or (words_of p) j 0
@@ -322,5 +366,6 @@ out_published words lane first p packets o i vacant good spelled within f =
     new_word (suc j) lt =
         let size : length (words_of p) ≡ suc (length o.filled) = ap (λ (ws : List ℕ). length ws) spelled in
         let most = f.few_filled in
-        stored_else words (cell_place lane o.sent + 0) (cell_place lane o.sent + suc j) first (other_index lane o.sent o.sent 0 (suc j) (λ s. omega arith) (omega arith) (omega arith))
+        stored_else words (cell_place lane o.sent + 0) (cell_place lane o.sent + suc j) first
+        (other_index lane o.sent o.sent 0 (suc j) (λ s. omega arith) (omega arith) (omega arith))
         ∙ (f.filled j (omega arith) ∙ ap (λ (ws : List ℕ). get_or ws (suc j) 0) (sym spelled))

@@ -17,17 +17,26 @@ use Rattle.sci_lanes.specs.Gathering.{AreLogged}
 
 -- a node's log has its own entries, no more than fit a log
 pub shown_own : (part : Part) → IsShown part → All (λ (entry : Entry). entry.node ≡ me_of part) part.node.log
-shown_own part s = subst (λ (node : NodeOf). All (λ (entry : Entry). entry.node ≡ me_of part) node.log) s.here (own_log s.core (me_of part) (reached_well s.core s.reached) s.some_node)
+shown_own part s = subst (λ (node : NodeOf). All (λ (entry : Entry). entry.node ≡ me_of part) node.log) s.here
+    (own_log s.core (me_of part) (reached_well s.core s.reached) s.some_node)
 
 pub shown_short : (part : Part) → IsShown part → length part.node.log ≤ MAX_OPERATIONS
-shown_short part s = subst (λ (node : NodeOf). length node.log ≤ MAX_OPERATIONS) s.here (short_log s.core (me_of part) (reached_well s.core s.reached) s.reached.size.few_operations s.some_node)
+shown_short part s = subst (λ (node : NodeOf). length node.log ≤ MAX_OPERATIONS) s.here
+    (short_log s.core (me_of part) (reached_well s.core s.reached) s.reached.size.few_operations s.some_node)
 
 -- one end's log more
-pub logged_more : (ends : List EndOf) (logs : List (List Entry)) (n place : ℕ) (end : EndOf) (log : List Entry) → n < 16 → slice_get ends place ≡ Some end → me_of end.part ≡ n → log ≡ end.part.node.log → AreLogged n ends logs → AreLogged (n + 1) ends (set logs n log)
+pub logged_more : (ends : List EndOf) (logs : List (List Entry)) (n place : ℕ) (end : EndOf) (log : List Entry) → n < 16 → slice_get ends place ≡ Some end
+    → me_of end.part ≡ n → log ≡ end.part.node.log → AreLogged n ends logs → AreLogged (n + 1) ends (set logs n log)
 logged_more ends logs n place end log few there numbered is a = record {
   sixteen = length-set logs n log ∙ a.sixteen;
   here = λ k lt. elim (cases_eq k n) [
-    | inl same ↦ (place, end, there, numbered ∙ sym same, ap (λ (j : ℕ). get_or (set logs n log) j []) same ∙ (get_or-set_same logs n log [] (let long = a.sixteen in omega arith) ∙ is))
+    | inl same ↦ (
+      place,
+      end,
+      there,
+      numbered ∙ sym same,
+      ap (λ (j : ℕ). get_or (set logs n log) j []) same ∙ (get_or-set_same logs n log [] (let long = a.sixteen in omega arith) ∙ is),
+    )
     | inr apart ↦ (let h = a.here k (omega arith) in (h.0, h.1, h.2, h.3, get_or-set_other logs n k log [] apart ∙ h.4))
   ];
   none = λ k le. get_or-set_other logs n k log [] (λ e. omega arith) ∙ a.none k (omega arith);

@@ -1,5 +1,6 @@
 -- The table at the beginning, and its ends.
-use Rattle.std.proofs.Common.{◌≡◌, ◌≢◌, ℕ, zero, suc, ◌+◌, ◌-◌, ◌*◌, ◌/◌, ◌%◌, ◌<◌, ◌≤◌, ◌⊎◌, inl, inr, List, [], ◌∷◌, ◌++◌, length, get_or, map, take, drop, replicate, Some, None, refl, sym, ap, subst, ◌∙◌, arith}
+use Rattle.std.proofs.Common.{◌≡◌, ◌≢◌, ℕ, zero, suc, ◌+◌, ◌-◌, ◌*◌, ◌/◌, ◌%◌, ◌<◌, ◌≤◌, ◌⊎◌, inl, inr, List, [], ◌∷◌, ◌++◌, length, get_or, map, take, drop}
+use Rattle.std.proofs.Common.{replicate, Some, None, refl, sym, ap, subst, ◌∙◌, arith}
 use Rattle.std.specs.Prelude.{slice_get}
 use Rattle.std.specs.List.{AllByRecursion, range_with_len}
 use Rattle.std.proofs.lemmas.Bool.{cases_lt}
@@ -59,7 +60,8 @@ fits_opened words lane zeros = record {
 }
 
 -- a part of the opening state
-known_opened : (size : Size) (n : ℕ) → n < size.nodes → IsKnown (record { core = opening size; schedule = []; outbound = λ l. no_outbound; inbound = λ l. no_inbound; owner = λ m. 0 }) 0 (opening_part size n)
+known_opened : (size : Size) (n : ℕ) → n < size.nodes
+    → IsKnown (record { core = opening size; schedule = []; outbound = λ l. no_outbound; inbound = λ l. no_inbound; owner = λ m. 0 }) 0 (opening_part size n)
 known_opened size n lt = record {
   some_node = lt;
   mine = refl;
@@ -71,16 +73,19 @@ known_opened size n lt = record {
   inbound = λ lane less is. replicated (lane_count size.nodes) lane no_inbound;
 }
 
-all_opened : (P : Part → Type 0) (size : Size) (a count : ℕ) → ((n : ℕ) → a ≤ n → n < a + count → P (opening_part size n)) → AllByRecursion P (map (opening_part size) (range_with_len a count))
+all_opened : (P : Part → Type 0) (size : Size) (a count : ℕ) → ((n : ℕ) → a ≤ n → n < a + count → P (opening_part size n))
+    → AllByRecursion P (map (opening_part size) (range_with_len a count))
 all_opened P size a zero each = tt
 all_opened P size a (suc count) each = (each a (omega arith) (omega arith), all_opened P size (a + 1) count (λ n le lt. each n (omega arith) (omega arith)))
 
 there_opened : (size : Size) (a count n : ℕ) → n < count → slice_get (map (opening_part size) (range_with_len a count)) n ≡ Some (opening_part size (a + n))
 there_opened size a zero n lt = absurd (omega arith)
 there_opened size a (suc count) zero lt = let e : a ≡ a + 0 = omega arith in ap (λ (k : ℕ). Some (opening_part size k)) e
-there_opened size a (suc count) (suc n) lt = let e : a + 1 + n ≡ a + suc n = omega arith in there_opened size (a + 1) count n (omega arith) ∙ ap (λ (k : ℕ). Some (opening_part size k)) e
+there_opened size a (suc count) (suc n) lt = let e : a + 1 + n ≡ a + suc n = omega arith in
+    there_opened size (a + 1) count n (omega arith) ∙ ap (λ (k : ℕ). Some (opening_part size k)) e
 
-pub opened : (size : Size) (words : List ℕ) → IsMachineSize size → length words ≡ word_count size.nodes → ((k : ℕ) → get_or words k 0 ≡ 0) → IsKept size (opening_state words [] (first_view size))
+pub opened : (size : Size) (words : List ℕ) → IsMachineSize size → length words ≡ word_count size.nodes → ((k : ℕ) → get_or words k 0 ≡ 0)
+    → IsKept size (opening_state words [] (first_view size))
 opened size words ok long zeros = record {
   whole = x;
   reached = reached_opening size ok;
@@ -91,7 +96,14 @@ opened size words ok long zeros = record {
     long = long;
     lanes = λ lane lt. record { packets = []; letters = sym (lane_opened size lane); fits = fits_opened words lane zeros };
     known = λ seat view e. known seat view e;
-    covered = λ n lt. record { view = first_view size; place = n; part = opening_part size (0 + n); seated = refl; there = there_opened size 0 size.nodes n lt; of_node = omega arith };
+    covered = λ n lt. record {
+      view = first_view size;
+      place = n;
+      part = opening_part size (0 + n);
+      seated = refl;
+      there = there_opened size 0 size.nodes n lt;
+      of_node = omega arith;
+    };
     read = λ seat view e. read seat view e;
   };
 }
@@ -100,7 +112,8 @@ opened size words ok long zeros = record {
     x = record { core = opening size; schedule = []; outbound = λ l. no_outbound; inbound = λ l. no_inbound; owner = λ m. 0 }
 
     known : (seat : ℕ) (view : View) → get_elem? (first_view size ∷ []) seat ≡ some view → AllByRecursion (IsKnown x seat) view.parts
-    known zero view e = subst (λ (v : View). AllByRecursion (IsKnown x 0) v.parts) (some-injective (first_view size) view e) (all_opened (IsKnown x 0) size 0 size.nodes (λ n le lt. known_opened size n (omega arith)))
+    known zero view e = subst (λ (v : View). AllByRecursion (IsKnown x 0) v.parts) (some-injective (first_view size) view e)
+        (all_opened (IsKnown x 0) size 0 size.nodes (λ n le lt. known_opened size n (omega arith)))
     known (suc seat) view e = absurd (some-ne-none view (sym e))
 
     read : (seat : ℕ) (view : View) → get_elem? (first_view size ∷ []) seat ≡ some view → HasRead x seat words view.words
@@ -112,13 +125,17 @@ zeros_are count k = replicated count k 0
 
 -- ---- splitting
 
-rest_is : (size : Size) (n : ℕ) → n < size.nodes → rest_view size n ≡ record { parts = opening_part size n ∷ map (opening_part size) (range_with_len (n + 1) (size.nodes - (n + 1))); words = [] }
-rest_is size n lt = let e : size.nodes - n ≡ suc (size.nodes - (n + 1)) = omega arith in ap (λ (count : ℕ). record { parts = map (opening_part size) (range_with_len n count); words = [] }) e
+rest_is : (size : Size) (n : ℕ) → n < size.nodes
+    → rest_view size n ≡ record { parts = opening_part size n ∷ map (opening_part size) (range_with_len (n + 1) (size.nodes - (n + 1))); words = [] }
+rest_is size n lt = let e : size.nodes - n ≡ suc (size.nodes - (n + 1)) = omega arith in
+    ap (λ (count : ℕ). record { parts = map (opening_part size) (range_with_len n count); words = [] }) e
 
-pub split_asks : (size : Size) (id n : ℕ) (view : View) → n < size.nodes → view ≡ rest_view size n → Splits (IsKept size) id view (first_off view) (first_only view)
+pub split_asks : (size : Size) (id n : ℕ) (view : View) → n < size.nodes → view ≡ rest_view size n
+    → Splits (IsKept size) id view (first_off view) (first_only view)
 split_asks size id n view lt is =
     subst (λ (v : View). Splits (IsKept size) id v (first_off v) (first_only v)) (sym (is ∙ rest_is size n lt))
-    (splits size id (opening_part size n) (map (opening_part size) (range_with_len (n + 1) (size.nodes - (n + 1)))) (all_opened (λ q. me_of q ≢ n) size (n + 1) (size.nodes - (n + 1)) (λ m le less e. omega arith)))
+    (splits size id (opening_part size n) (map (opening_part size) (range_with_len (n + 1) (size.nodes - (n + 1))))
+    (all_opened (λ q. me_of q ≢ n) size (n + 1) (size.nodes - (n + 1)) (λ m le less e. omega arith)))
 
 pub split_left : (size : Size) (n : ℕ) (view : View) → n < size.nodes → view ≡ rest_view size n → first_off view ≡ rest_view size (n + 1)
 split_left size n view lt is = ap first_off (is ∙ rest_is size n lt)
@@ -156,7 +173,9 @@ shown_opened size n ok lt = record {
 
 pub inside_opened : (size : Size) (n : ℕ) (node : NodeOf) → IsMachineSize size → n < size.nodes → node ≡ opening_node n size
     → FitsInside (opening_part size n) node node.cache.me size.nodes (replicate (lane_count size.nodes) 0) (replicate (2 * size.nodes) 0)
-inside_opened size n node ok lt is = subst (λ (m : NodeOf). FitsInside (opening_part size n) m m.cache.me size.nodes (replicate (lane_count size.nodes) 0) (replicate (2 * size.nodes) 0)) (sym is)
+inside_opened size n node ok lt is =
+    subst (λ (m : NodeOf). FitsInside (opening_part size n) m m.cache.me size.nodes (replicate (lane_count size.nodes) 0) (replicate (2 * size.nodes) 0))
+    (sym is)
     (record {
       shown = shown_opened size n ok lt;
       node_is = refl;
@@ -168,19 +187,28 @@ inside_opened size n node ok lt is = subst (λ (m : NodeOf). FitsInside (opening
       turns_long = length-replicate (lane_count size.nodes) 0;
       inbox_turns_long = length-replicate (2 * size.nodes) 0;
       turns_are = λ lane less. zeros_are (lane_count size.nodes) lane ∙ ap (λ u. u.sent % 4) (sym (replicated (lane_count size.nodes) lane no_outbound));
-      taken_are = λ lane less here. zeros_are (2 * size.nodes) (lane / size.nodes) ∙ ap (λ u. u.taken % 4) (sym (replicated (lane_count size.nodes) lane no_inbound));
+      taken_are = λ lane less here. zeros_are (2 * size.nodes) (lane / size.nodes)
+          ∙ ap (λ u. u.taken % 4) (sym (replicated (lane_count size.nodes) lane no_inbound));
     })
 
 -- ---- the size
 
 pub machine_size : (extent : Extent) (limit : ℕ) → 1 ≤ limit → limit ≤ MAX_OPERATIONS → IsMachineSize (size_of extent limit)
 machine_size extent limit some_operation few = record {
-  extent = record { has_node = extent.has_node; few_nodes = extent.few_nodes; has_line = extent.has_line; few_lines = extent.few_lines; has_slot = extent.has_slot; few_slots = extent.few_slots };
+  extent = record {
+    has_node = extent.has_node;
+    few_nodes = extent.few_nodes;
+    has_line = extent.has_line;
+    few_lines = extent.few_lines;
+    has_slot = extent.has_slot;
+    few_slots = extent.few_slots;
+  };
   some_operation = some_operation;
   few_operations = few;
 }
 
-pub seated_opened : (extent : Extent) (limit n : ℕ) (key : Extent × ℕ) (table seat : TableId) (knows : Me (Unit {0}) View) → IsMachineSize (size_of extent limit) → n < extent.nodes → key ≡ (extent, limit) → seat ≡ table → seat.words ≡ word_count extent.nodes
+pub seated_opened : (extent : Extent) (limit n : ℕ) (key : Extent × ℕ) (table seat : TableId) (knows : Me (Unit {0}) View)
+    → IsMachineSize (size_of extent limit) → n < extent.nodes → key ≡ (extent, limit) → seat ≡ table → seat.words ≡ word_count extent.nodes
     → knows ≡ (single (opening_part (size_of extent limit) n), []) → IsSeated key table seat knows
 seated_opened extent limit n key table seat knows ok lt key_is same long is =
     let part_is : part_of knows.0 ≡ opening_part (size_of extent limit) n = ap (λ (k : Me (Unit {0}) View). part_of k.0) is in
@@ -194,18 +222,25 @@ seated_opened extent limit n key table seat knows ok lt key_is same long is =
 
 -- ---- what a split leaves
 
-pub knows_after : (size : Size) (n : ℕ) (old new : Me (Unit {0}) View) → n < size.nodes → old ≡ (rest_view size n, []) → new ≡ (first_off old.0, old.1) → new ≡ (rest_view size (n + 1), [])
-knows_after size n old new lt is told = told ∙ pairs (split_left size n old.0 lt (ap (λ (k : Me (Unit {0}) View). k.0) is)) (ap (λ (k : Me (Unit {0}) View). k.1) is)
+pub knows_after : (size : Size) (n : ℕ) (old new : Me (Unit {0}) View) → n < size.nodes → old ≡ (rest_view size n, []) → new ≡ (first_off old.0, old.1)
+    → new ≡ (rest_view size (n + 1), [])
+knows_after size n old new lt is told =
+    told ∙ pairs (split_left size n old.0 lt (ap (λ (k : Me (Unit {0}) View). k.0) is)) (ap (λ (k : Me (Unit {0}) View). k.1) is)
   where
     pairs : {a b : View} {xs ys : List (ℕ × Unit {0})} → a ≡ b → xs ≡ ys → ◌≡◌ {A = Me (Unit {0}) View} (a, xs) (b, ys)
     pairs p q = λ i. (p i, q i)
 
-pub knows_new : (size : Size) (n : ℕ) (old new : Me (Unit {0}) View) → n < size.nodes → old ≡ (rest_view size n, []) → new ≡ (first_only old.0, []) → new ≡ (single (opening_part size n), [])
+pub knows_new : (size : Size) (n : ℕ) (old new : Me (Unit {0}) View) → n < size.nodes → old ≡ (rest_view size n, []) → new ≡ (first_only old.0, [])
+    → new ≡ (single (opening_part size n), [])
 knows_new size n old new lt is told = told ∙ ap (λ (v : View). (v, [])) (split_right size n old.0 lt (ap (λ (k : Me (Unit {0}) View). k.0) is))
 
-pub ends_more : (old new : TableId) (size : Size) (n : ℕ) (ends later : List EndOf) (end : EndOf) → new ≡ old → ends ≡ opening_ends old size n → end ≡ record { table = old; part = opening_part size n } → later ≡ ends ++ end ∷ [] → later ≡ opening_ends new size (n + 1)
+pub ends_more : (old new : TableId) (size : Size) (n : ℕ) (ends later : List EndOf) (end : EndOf) → new ≡ old → ends ≡ opening_ends old size n
+    → end ≡ record { table = old; part = opening_part size n } → later ≡ ends ++ end ∷ [] → later ≡ opening_ends new size (n + 1)
 ends_more old new size n ends later end same is end_is more =
-    more ∙ ((λ i. is i ++ end_is i ∷ []) ∙ (sym (map-range_with_len_more (λ m. record { table = old; part = opening_part size m }) 0 n n (omega arith)) ∙ ap (λ (t : TableId). opening_ends t size (n + 1)) (sym same)))
+    more ∙ ((λ i. is i ++ end_is i ∷ [])
+    ∙ (sym (map-range_with_len_more (λ m. record { table = old; part = opening_part size m }) 0 n n (omega arith))
+    ∙ ap (λ (t : TableId). opening_ends t size (n + 1)) (sym same)))
 
 pub none_left : (size : Size) (n : ℕ) (knows : Me (Unit {0}) View) → size.nodes ≤ n → knows ≡ (rest_view size n, []) → knows ≡ (no_view, [])
-none_left size n knows le is = let e : size.nodes - n ≡ 0 = omega arith in is ∙ ap (λ (count : ℕ). (record { parts = map (opening_part size) (range_with_len n count); words = [] }, [])) e
+none_left size n knows le is = let e : size.nodes - n ≡ 0 = omega arith in
+    is ∙ ap (λ (count : ℕ). (record { parts = map (opening_part size) (range_with_len n count); words = [] }, [])) e

@@ -21,7 +21,8 @@ pub record AreFirst (nodes me count : ℕ) (places : List ℕ) : Type 0 where
   pub long : length places ≡ count
   pub are : (inbox : ℕ) → inbox < count → get_or places inbox 0 ≡ cell_place (inbox * nodes + me) 0
 
-pub one_more : (nodes me count place : ℕ) (places more : List ℕ) → AreFirst nodes me count places → place ≡ (count * nodes + me) * 4 * 11 → more ≡ places ++ place ∷ [] → AreFirst nodes me (count + 1) more
+pub one_more : (nodes me count place : ℕ) (places more : List ℕ) → AreFirst nodes me count places → place ≡ (count * nodes + me) * 4 * 11
+    → more ≡ places ++ place ∷ [] → AreFirst nodes me (count + 1) more
 unfolding cell_place
 one_more nodes me count place places more first is more_is = subst (AreFirst nodes me (count + 1)) (sym more_is) (record {
   long = length_push places place ∙ ap (λ (n : ℕ). n + 1) first.long;
@@ -45,7 +46,8 @@ first_are nodes me places first = record {
 inbox_lane : (nodes lane me : ℕ) → receiver_of nodes lane ≡ me → lane / nodes * nodes + me ≡ lane
 inbox_lane nodes lane me is = (λ i. mul_comm (lane / nodes) nodes i + (sym is) i) ∙ div-add-mod lane nodes
 
-module _ (part : Part) (node : NodeOf) (me nodes : ℕ) (turns inbox_turns places : List ℕ) (f : FitsInside part node me nodes turns inbox_turns) (p : ArePlaces nodes me inbox_turns places) (cell : CellId) (next : IsNextToTake part cell) where
+module _ (part : Part) (node : NodeOf) (me nodes : ℕ) (turns inbox_turns places : List ℕ) (f : FitsInside part node me nodes turns inbox_turns)
+    (p : ArePlaces nodes me inbox_turns places) (cell : CellId) (next : IsNextToTake part cell) where
   abbrev lane : ℕ
   lane = lane_number nodes cell
 
@@ -66,19 +68,25 @@ module _ (part : Part) (node : NodeOf) (me nodes : ℕ) (turns inbox_turns place
 
   pub place_here : get_or places (lane_number nodes cell / nodes) 0 ≡ cell_place (lane_number nodes cell) cell.number
   place_here =
-      let turn : get_or inbox_turns (lane / nodes) 0 ≡ cell.number = f.taken_are lane lane_below receives ∙ (ap (λ (l : ℕ). (inbound_at part l).taken % 4) here ∙ sym next.next) in
+      let turn : get_or inbox_turns (lane / nodes) 0 ≡ cell.number =
+      f.taken_are lane lane_below receives ∙ (ap (λ (l : ℕ). (inbound_at part l).taken % 4) here ∙ sym next.next) in
       p.are (lane / nodes) inbox_below ∙ (λ i. cell_place (inbox_lane nodes lane me receives i) (turn i))
 
   -- the next cell of the lane begins elsewhere
-  pub places_freed : (turn place : ℕ) → place ≡ cell_place (lane_number nodes cell) turn + 0 → ArePlaces nodes me (set inbox_turns (lane_number nodes cell / nodes) turn) (set places (lane_number nodes cell / nodes) place)
+  pub places_freed : (turn place : ℕ) → place ≡ cell_place (lane_number nodes cell) turn + 0
+      → ArePlaces nodes me (set inbox_turns (lane_number nodes cell / nodes) turn) (set places (lane_number nodes cell / nodes) place)
   places_freed turn place is = record {
     long = length-set places (lane / nodes) place ∙ p.long;
     are = λ inbox lt. elim (cases_eq inbox (lane / nodes)) [
       | inl same ↦
-          subst (λ (n : ℕ). get_or (set places (lane / nodes) place) n 0 ≡ cell_place (n * nodes + me) (get_or (set inbox_turns (lane / nodes) turn) n 0)) (sym same)
-          (get_or-set_same places (lane / nodes) place 0 inbox_listed ∙ (place_is ∙ (λ i. cell_place (sym (inbox_lane nodes lane me receives) i) (sym (get_or-set_same inbox_turns (lane / nodes) turn 0 turns_listed) i))))
+          subst (λ (n : ℕ). get_or (set places (lane / nodes) place) n 0 ≡ cell_place (n * nodes + me) (get_or (set inbox_turns (lane / nodes) turn) n 0))
+          (sym same)
+          (get_or-set_same places (lane / nodes) place 0 inbox_listed
+          ∙ (place_is ∙ (λ i. cell_place (sym (inbox_lane nodes lane me receives) i)
+          (sym (get_or-set_same inbox_turns (lane / nodes) turn 0 turns_listed) i))))
       | inr apart ↦
-          get_or-set_other places (lane / nodes) inbox place 0 apart ∙ (p.are inbox lt ∙ ap (λ (t : ℕ). cell_place (inbox * nodes + me) t) (sym (get_or-set_other inbox_turns (lane / nodes) inbox turn 0 apart)))
+          get_or-set_other places (lane / nodes) inbox place 0 apart
+          ∙ (p.are inbox lt ∙ ap (λ (t : ℕ). cell_place (inbox * nodes + me) t) (sym (get_or-set_other inbox_turns (lane / nodes) inbox turn 0 apart)))
     ];
   }
     where

@@ -1,9 +1,11 @@
 -- Reading the packets of a lane off the words of the table.
-use Rattle.std.proofs.Common.{◌≡◌, ◌≢◌, ℕ, ◌+◌, ◌-◌, ◌*◌, ◌/◌, ◌%◌, ◌<◌, ◌≤◌, inl, inr, Bool, true, false, List, [], ◌∷◌, ◌++◌, length, map, take, drop, get_or, Some, refl, sym, ap, subst, ◌∙◌, arith}
+use Rattle.std.proofs.Common.{◌≡◌, ◌≢◌, ℕ, ◌+◌, ◌-◌, ◌*◌, ◌/◌, ◌%◌, ◌<◌, ◌≤◌, inl, inr, Bool, true, false, List, [], ◌∷◌, ◌++◌, length, map, take, drop, get_or}
+use Rattle.std.proofs.Common.{Some, refl, sym, ap, subst, ◌∙◌, arith}
 use Rattle.std.specs.Prelude.{Vec, slice_get}
 use Rattle.std.proofs.Math.Nat.{mod-lt}
 use Rattle.std.proofs.lemmas.Bool.{cases_lt}
-use Rattle.std.proofs.lemmas.List.{ext_get_or, get_or-take, get_or-drop, length-take-le, length-drop, length_push, get_or_append_left, get_or_push, get_or_read, take_more, take_all}
+use Rattle.std.proofs.lemmas.List.{ext_get_or, get_or-take, get_or-drop, length-take-le, length-drop, length_push, get_or_append_left, get_or_push, get_or_read}
+use Rattle.std.proofs.lemmas.List.{take_more, take_all}
 use Rattle.std.proofs.lemmas.Option.{slice_get_cases, get_or_from_slice_get}
 use Rattle.sci_packets.specs.declared.packet.Packet.{Packet}
 use Rattle.sci_packets.specs.Spelling.{SpellsInWords, words_of}
@@ -18,7 +20,8 @@ use Rattle.sci_lanes.proofs.Events.{words_some}
 use Rattle.sci_lanes.proofs.Inside.{inbox_within}
 
 -- the packet at a place is spelled by the words from there on
-spelled_there : (words : List ℕ) (place : ℕ) (packet : Packet) → IsPacketAt words place packet → (length (words_of packet) ≤ length (drop place words)) × SpellsInWords packet (take (length (words_of packet)) (drop place words))
+spelled_there : (words : List ℕ) (place : ℕ) (packet : Packet) → IsPacketAt words place packet
+    → (length (words_of packet) ≤ length (drop place words)) × SpellsInWords packet (take (length (words_of packet)) (drop place words))
 spelled_there words place packet at =
     let count = length (words_of packet) in
     let within = at.within in
@@ -27,20 +30,25 @@ spelled_there words place packet at =
       le,
       record {
         packet = at.good;
-        spelled_so = ext_get_or 0 (take (length (words_of packet)) (drop place words)) (words_of packet) (length-take-le (length (words_of packet)) (drop place words) le) (λ k lt.
+        spelled_so = ext_get_or 0 (take (length (words_of packet)) (drop place words)) (words_of packet)
+            (length-take-le (length (words_of packet)) (drop place words) le) (λ k lt.
             let less : k < length (words_of packet) = subst (λ (n : ℕ). k < n) (length-take-le (length (words_of packet)) (drop place words) le) lt in
             get_or-take (length (words_of packet)) (drop place words) k 0 less ∙ (get_or-drop place words k 0 ∙ at.same k less));
       },
     )
 
 -- the same where they are cut at the end
-pub spelled_here : (words : List ℕ) (place : ℕ) (packet : Packet) → IsPacketAt words place packet → (length (words_of packet) ≤ length (take (length words - place) (drop place words))) × SpellsInWords packet (take (length (words_of packet)) (take (length words - place) (drop place words)))
+pub spelled_here : (words : List ℕ) (place : ℕ) (packet : Packet) → IsPacketAt words place packet
+    → (length (words_of packet) ≤ length (take (length words - place) (drop place words)))
+    × SpellsInWords packet (take (length (words_of packet)) (take (length words - place) (drop place words)))
 spelled_here words place packet at =
     let rest = length-drop place words in
     let all : take (length words - place) (drop place words) ≡ drop place words = take_all (length words - place) (drop place words) (omega arith) in
-    subst (λ (ws : List ℕ). (length (words_of packet) ≤ length ws) × SpellsInWords packet (take (length (words_of packet)) ws)) (sym all) (spelled_there words place packet at)
+    subst (λ (ws : List ℕ). (length (words_of packet) ≤ length ws) × SpellsInWords packet (take (length (words_of packet)) ws)) (sym all)
+    (spelled_there words place packet at)
 
-module _ (words : List ℕ) (lane turn k place : ℕ) (shown : List Packet) (o : Outbound) (i : Inbound) (f : Fits words lane shown o i) (turn_is : turn ≡ i.taken % 4) (less : k < 4) (place_is : place ≡ (lane * 4 + (turn % 4 + k) % 4) * 11) (inside : (lane + 1) * 44 ≤ length words) where
+module _ (words : List ℕ) (lane turn k place : ℕ) (shown : List Packet) (o : Outbound) (i : Inbound) (f : Fits words lane shown o i)
+    (turn_is : turn ≡ i.taken % 4) (less : k < 4) (place_is : place ≡ (lane * 4 + (turn % 4 + k) % 4) * 11) (inside : (lane + 1) * 44 ≤ length words) where
   here : place ≡ cell_place lane (i.taken + k)
   unfolding cell_place
   here = omega (arith, turn_is, place_is)
@@ -70,7 +78,8 @@ module _ (words : List ℕ) (lane turn k place : ℕ) (shown : List Packet) (o :
       )
 
   -- one packet more
-  pub one_more : (items new : List Packet) (result : Bool) → k ≤ length shown → items ≡ take k shown → (get_or words place 0 ≡ 0 → (result ≡ false) × (new ≡ items))
+  pub one_more : (items new : List Packet) (result : Bool) → k ≤ length shown → items ≡ take k shown
+      → (get_or words place 0 ≡ 0 → (result ≡ false) × (new ≡ items))
       → ((packet : Packet) → get_or words place 0 ≢ 0 → IsPacketAt words place packet → (result ≡ true) × (new ≡ items ++ packet ∷ []))
       → (result ≡ true → (k + 1 ≤ length shown) × (new ≡ take (k + 1) shown)) × (result ≡ false → (length shown ≤ k) × (new ≡ shown))
   one_more items new result le are empty full = elim (slice_get_cases shown k).1 [
@@ -79,7 +88,9 @@ module _ (words : List ℕ) (lane turn k place : ℕ) (shown : List Packet) (o :
         let now = full found.0 at.0 at.1 in (
           (λ is. (
             (let lt = found.1 in omega arith),
-            now.1 ∙ (ap (λ (ps : List Packet). ps ++ found.0 ∷ []) are ∙ (ap (λ (p : Packet). take k shown ++ p ∷ []) (sym (get_or_from_slice_get shown k found.0 found.0 found.2)) ∙ sym (take_more shown k found.0 found.1))),
+            now.1 ∙ (ap (λ (ps : List Packet). ps ++ found.0 ∷ []) are
+                ∙ (ap (λ (p : Packet). take k shown ++ p ∷ []) (sym (get_or_from_slice_get shown k found.0 found.0 found.2))
+                ∙ sym (take_more shown k found.0 found.1))),
           )),
           (λ is. absurd (apart (sym now.0 ∙ is))),
         ))
@@ -96,13 +107,15 @@ module _ (words : List ℕ) (lane turn k place : ℕ) (shown : List Packet) (o :
 -- ---- the lanes so far
 
 -- the number of the cell of a lane to take from
-pub turn_there : {Z : Type 0} (nodes lane : ℕ) (inbox_turns : List (Vec ℕ Z)) (v : Vec ℕ Z) → 0 < nodes → lane < lane_count nodes → HaveInboxTurns nodes inbox_turns → v ≡ get_or inbox_turns (lane % nodes) v → lane / nodes < length v.items
+pub turn_there : {Z : Type 0} (nodes lane : ℕ) (inbox_turns : List (Vec ℕ Z)) (v : Vec ℕ Z) → 0 < nodes → lane < lane_count nodes
+    → HaveInboxTurns nodes inbox_turns → v ≡ get_or inbox_turns (lane % nodes) v → lane / nodes < length v.items
 turn_there nodes lane inbox_turns v some lt each is =
     let long : length v.items ≡ 2 * nodes = each (lane % nodes) v (mod-lt lane some) is in
     let within = inbox_within nodes lane some lt in
     omega arith
 
-pub lanes_more : {Z : Type 0} (nodes : ℕ) (words : List ℕ) (inbox_turns : List (Vec ℕ Z)) (lanes : List (List Letter)) (v : Vec ℕ Z) (turn : ℕ) (letters : List Letter) → 0 < nodes → length lanes < lane_count nodes → HaveInboxTurns nodes inbox_turns
+pub lanes_more : {Z : Type 0} (nodes : ℕ) (words : List ℕ) (inbox_turns : List (Vec ℕ Z)) (lanes : List (List Letter)) (v : Vec ℕ Z) (turn : ℕ)
+    (letters : List Letter) → 0 < nodes → length lanes < lane_count nodes → HaveInboxTurns nodes inbox_turns
     → v ≡ get_or inbox_turns (length lanes % nodes) v → turn ≡ get_or v.items (length lanes / nodes) turn
     → ((shown : List Packet) (o : Outbound) (i : Inbound) → Fits words (length lanes) shown o i → turn ≡ i.taken % 4 → letters ≡ map letter_of shown)
     → AreLanes nodes words inbox_turns (length lanes) lanes → AreLanes nodes words inbox_turns (length (lanes ++ letters ∷ [])) (lanes ++ letters ∷ [])

@@ -39,7 +39,8 @@ pub record IsInLane (part : Part) (cell : CellId) : Type 0 where
   pub number : cell.number < 4
 
 in_lane : (part : Part) (cell : CellId) → cell.sender < nodes_in part → cell.receiver < nodes_in part → cell.number < 4 → IsInLane part cell
-in_lane part cell s r n = let at = sent_place (nodes_in part) cell.kind cell.sender cell.receiver s r in record { lane = at.0; sender = at.1; receiver = at.2; number = n }
+in_lane part cell s r n = let at = sent_place (nodes_in part) cell.kind cell.sender cell.receiver s r in
+    record { lane = at.0; sender = at.1; receiver = at.2; number = n }
 
 pub sends_in : (part : Part) (cell : CellId) → IsShown part → IsNextToSend part cell → IsInLane part cell
 sends_in part cell s n = let below = me_below part s in let mine = n.mine in let next = n.next in in_lane part cell (omega arith) n.other (omega arith)
@@ -58,16 +59,19 @@ abbrev pub Asks : Extent × ℕ → TableId → TableId → ℕ → Me (Unit {0}
 Asks key table seat id knows place f told = (seat ≡ table) × (place < table.words) × Allows (IsKept (size_of key.0 key.1)) table.slots id knows place f told
 
 -- the nodes of the key are those of the part
-pub key_nodes : (key : Extent × ℕ) (table seat : TableId) (knows : Me (Unit {0}) View) → IsSeated key table seat knows → nodes_in (part_of knows.0) ≡ key.0.nodes
+pub key_nodes : (key : Extent × ℕ) (table seat : TableId) (knows : Me (Unit {0}) View) → IsSeated key table seat knows
+    → nodes_in (part_of knows.0) ≡ key.0.nodes
 key_nodes key table seat knows s = ap (λ z. z.nodes) s.sized
 
-pub place_in_table : (key : Extent × ℕ) (table seat : TableId) (knows : Me (Unit {0}) View) → IsSeated key table seat knows → (lane turn index place : ℕ) → lane < lane_count (nodes_in (part_of knows.0)) → index < 11 → place ≡ cell_place lane turn + index → place < table.words
+pub place_in_table : (key : Extent × ℕ) (table seat : TableId) (knows : Me (Unit {0}) View) → IsSeated key table seat knows → (lane turn index place : ℕ)
+    → lane < lane_count (nodes_in (part_of knows.0)) → index < 11 → place ≡ cell_place lane turn + index → place < table.words
 place_in_table key table seat knows s lane turn index place lt few is =
     let within = place_within (nodes_in (part_of knows.0)) lane turn index lt few in
     let long : table.words ≡ word_count (nodes_in (part_of knows.0)) = s.long ∙ ap word_count (sym (key_nodes key table seat knows s)) in
     subst (λ (n : ℕ). place < n) (sym long) (subst (λ (p : ℕ). p < word_count (nodes_in (part_of knows.0))) (sym is) within)
 
-pub look_asks : (key : Extent × ℕ) (table seat : TableId) (id : ℕ) (knows : Me (Unit {0}) View) (cell : CellId) (nodes place : ℕ) → IsSeated key table seat knows → nodes ≡ nodes_in (part_of knows.0)
+pub look_asks : (key : Extent × ℕ) (table seat : TableId) (id : ℕ) (knows : Me (Unit {0}) View) (cell : CellId) (nodes place : ℕ)
+    → IsSeated key table seat knows → nodes ≡ nodes_in (part_of knows.0)
     → IsNextToSend (part_of knows.0) cell ⊎ IsNextToTake (part_of knows.0) cell → place ≡ cell_place (lane_number nodes cell) cell.number + 0
     → Asks key table seat id knows place (λ n. n) (Looks (step table.slots place 0 0 none) knows)
 look_asks key table seat id knows cell nodes place s nodes_are next is =
@@ -78,13 +82,16 @@ look_asks key table seat id knows cell nodes place s nodes_are next is =
     let lane_ok : lane < lane_count key.0.nodes = subst (λ (n : ℕ). lane < lane_count n) (key_nodes key table seat knows s) at.lane in (
       s.same,
       place_in_table key table seat knows s lane cell.number 0 place at.lane (omega arith) place_is,
-      subst (λ (k : Me (Unit {0}) View). Allows (IsKept (size_of key.0 key.1)) table.slots id k place (λ n. n) (Looks (step table.slots place 0 0 none) k)) (sym s.seated)
-          (subst (λ (p : ℕ). Allows (IsKept (size_of key.0 key.1)) table.slots id (single part, []) p (λ n. n) (Looks (step table.slots p 0 0 none) (single part, []))) (sym place_is)
+      subst (λ (k : Me (Unit {0}) View). Allows (IsKept (size_of key.0 key.1)) table.slots id k place (λ n. n) (Looks (step table.slots place 0 0 none) k))
+          (sym s.seated)
+          (subst (λ (p : ℕ). Allows (IsKept (size_of key.0 key.1)) table.slots id (single part, []) p (λ n. n)
+          (Looks (step table.slots p 0 0 none) (single part, []))) (sym place_is)
           (looks (size_of key.0 key.1) table.slots id lane cell.number part lane_ok at.number)),
     )
 
 -- after a step the seat has the next part
-pub seated_after : (key : Extent × ℕ) (table seat later : TableId) (knows after : Me (Unit {0}) View) (how : List Event → Type 0) (next : Part) → IsSeated key table seat knows → later ≡ seat → Tells how (part_of knows.0) next after → IsSeated key table later after
+pub seated_after : (key : Extent × ℕ) (table seat later : TableId) (knows after : Me (Unit {0}) View) (how : List Event → Type 0) (next : Part)
+    → IsSeated key table seat knows → later ≡ seat → Tells how (part_of knows.0) next after → IsSeated key table later after
 seated_after key table seat later knows after how next s same t =
     let next_is : part_of after.0 ≡ informed t.schedule next = ap (λ (k : Me (Unit {0}) View). part_of k.0) t.view in
     record {
@@ -95,7 +102,8 @@ seated_after key table seat later knows after how next s same t =
       sized = ap size_in next_is ∙ (t.same.sized ∙ s.sized);
     }
 
-pub part_after : (how : List Event → Type 0) (part next : Part) (after : Me (Unit {0}) View) (t : Tells how part next after) → part_of after.0 ≡ informed t.schedule next
+pub part_after : (how : List Event → Type 0) (part next : Part) (after : Me (Unit {0}) View) (t : Tells how part next after)
+    → part_of after.0 ≡ informed t.schedule next
 part_after how part next after t = ap (λ (k : Me (Unit {0}) View). part_of k.0) t.view
 
 -- what is told of the schedule, that the part knows then
@@ -103,18 +111,23 @@ pub went_after : (how : List Event → Type 0) (part next : Part) (after : Me (U
 went_after how part next after t = subst how (sym (ap (λ (p : Part). p.schedule) (part_after how part next after t))) t.went
 
 -- the part is still of the node
-pub same_after : (how : List Event → Type 0) (part old next : Part) (after : Me (Unit {0}) View) → part ≡ old → Tells how part next after → IsSameNode old (part_of after.0)
+pub same_after : (how : List Event → Type 0) (part old next : Part) (after : Me (Unit {0}) View) → part ≡ old → Tells how part next after
+    → IsSameNode old (part_of after.0)
 same_after how part old next after is t =
     subst (λ (p : Part). IsSameNode old p) (sym (part_after how part next after t)) (subst (λ (p : Part). IsSameNode p (informed t.schedule next)) is t.same)
 
 -- what a look told
-pub look_told : (knows after : Me (Unit {0}) View) (cell : CellId) (nodes place word slots : ℕ) → IsNextToSend (part_of knows.0) cell ⊎ IsNextToTake (part_of knows.0) cell → IsShown (part_of knows.0) → nodes ≡ nodes_in (part_of knows.0)
-    → place ≡ cell_place (lane_number nodes cell) cell.number + 0 → Looks (step slots place 0 0 none) knows word after → LooksAt (lane_at_cell (part_of knows.0) cell) cell.number word (part_of knows.0) after
+pub look_told : (knows after : Me (Unit {0}) View) (cell : CellId) (nodes place word slots : ℕ)
+    → IsNextToSend (part_of knows.0) cell ⊎ IsNextToTake (part_of knows.0) cell → IsShown (part_of knows.0) → nodes ≡ nodes_in (part_of knows.0)
+    → place ≡ cell_place (lane_number nodes cell) cell.number + 0 → Looks (step slots place 0 0 none) knows word after
+    → LooksAt (lane_at_cell (part_of knows.0) cell) cell.number word (part_of knows.0) after
 look_told knows after cell nodes place word slots next s nodes_are is told =
     let part = part_of knows.0 in
     let at = either_in part cell s next in
-    let place_is : place ≡ cell_place (lane_at_cell part cell) cell.number + 0 = is ∙ ap (λ (n : ℕ). cell_place (lane_number n cell) cell.number + 0) nodes_are in
-    let number_is : number_in place ≡ cell.number = (let few = at.number in let e = ap number_in place_is ∙ number_found (lane_at_cell part cell) cell.number 0 (omega arith) in omega arith) in
+    let place_is : place ≡ cell_place (lane_at_cell part cell) cell.number + 0 =
+    is ∙ ap (λ (n : ℕ). cell_place (lane_number n cell) cell.number + 0) nodes_are in
+    let number_is : number_in place ≡ cell.number =
+    (let few = at.number in let e = ap number_in place_is ∙ number_found (lane_at_cell part cell) cell.number 0 (omega arith) in omega arith) in
     subst (λ (l : ℕ). LooksAt l cell.number word part after) (ap lane_in place_is ∙ lane_found (lane_at_cell part cell) cell.number 0 (omega arith))
     (subst (λ (n : ℕ). LooksAt (lane_in place) n word part after) number_is told)
 
@@ -122,19 +135,23 @@ look_told knows after cell nodes place word slots next s nodes_are is told =
 pub is_sending_here : (part : Part) (cell : CellId) → IsShown part → IsNextToSend part cell → is_sending part (lane_at_cell part cell) cell.number ≡ true
 is_sending_here part cell s n =
     let at = sends_in part cell s n in
-    and_from _ _ (eq-eqb (sender_of (nodes_in part) (lane_at_cell part cell)) (me_of part) (at.sender ∙ n.mine)) (eq-eqb cell.number ((outbound_at part (lane_at_cell part cell)).sent % 4) n.next)
+    and_from _ _ (eq-eqb (sender_of (nodes_in part) (lane_at_cell part cell)) (me_of part) (at.sender ∙ n.mine))
+    (eq-eqb cell.number ((outbound_at part (lane_at_cell part cell)).sent % 4) n.next)
 
 pub is_receiving_here : (part : Part) (cell : CellId) → IsShown part → IsNextToTake part cell → is_receiving part (lane_at_cell part cell) cell.number ≡ true
 is_receiving_here part cell s n =
     let at = takes_in part cell s n in
-    and_from _ _ (eq-eqb (receiver_of (nodes_in part) (lane_at_cell part cell)) (me_of part) (at.receiver ∙ n.mine)) (eq-eqb cell.number ((inbound_at part (lane_at_cell part cell)).taken % 4) n.next)
+    and_from _ _ (eq-eqb (receiver_of (nodes_in part) (lane_at_cell part cell)) (me_of part) (at.receiver ∙ n.mine))
+    (eq-eqb cell.number ((inbound_at part (lane_at_cell part cell)).taken % 4) n.next)
 
 -- what contracts see of a seat after a step
-pub view_after : (seat later : TableId) (knows after : Me (Unit {0}) View) (now : EndOf) (how : List Event → Type 0) (next : Part) → record { table = seat; part = part_of knows.0 } ≡ now → later ≡ seat → Tells how now.part next after
+pub view_after : (seat later : TableId) (knows after : Me (Unit {0}) View) (now : EndOf) (how : List Event → Type 0) (next : Part)
+    → record { table = seat; part = part_of knows.0 } ≡ now → later ≡ seat → Tells how now.part next after
     → record { table = later; part = part_of after.0 } ≡ with_part now (informed (part_of after.0).schedule next)
 view_after seat later knows after now how next view same t =
     let is = part_after how now.part next after t in
-    ends later now.table (part_of after.0) (informed (part_of after.0).schedule next) (same ∙ ap (λ (e : EndOf). e.table) view) (is ∙ ap (λ (es : List Event). informed es next) (sym (ap (λ (p : Part). p.schedule) is)))
+    ends later now.table (part_of after.0) (informed (part_of after.0).schedule next) (same ∙ ap (λ (e : EndOf). e.table) view)
+    (is ∙ ap (λ (es : List Event). informed es next) (sym (ap (λ (p : Part). p.schedule) is)))
   where
     ends : (a b : TableId) (p q : Part) → a ≡ b → p ≡ q → record { table = a; part = p } ≡ with_part (record { table = b; part = q }) q
     ends a b p q s t = λ i. record { table = s i; part = t i }
@@ -142,17 +159,21 @@ view_after seat later knows after now how next view same t =
 -- ---- the other steps
 
 -- a place in the cell, of the part's lane
-place_now : (part : Part) (cell : CellId) (nodes place index : ℕ) → nodes ≡ nodes_in part → place ≡ cell_place (lane_number nodes cell) cell.number + index → place ≡ cell_place (lane_at_cell part cell) cell.number + index
+place_now : (part : Part) (cell : CellId) (nodes place index : ℕ) → nodes ≡ nodes_in part → place ≡ cell_place (lane_number nodes cell) cell.number + index
+    → place ≡ cell_place (lane_at_cell part cell) cell.number + index
 place_now part cell nodes place index nodes_are is = is ∙ ap (λ (n : ℕ). cell_place (lane_number n cell) cell.number + index) nodes_are
 
 -- a step of a seat with one node is one of the seat
-allowed_seated : (key : Extent × ℕ) (slots id place at : ℕ) (knows : Me (Unit {0}) View) (part : Part) (f : ℕ → ℕ) (told : ℕ → Me (Unit {0}) View → ℕ → Me (Unit {0}) View → Type 0)
-    → knows ≡ (single part, []) → place ≡ at → Allows (IsKept (size_of key.0 key.1)) slots id (single part, []) at f (told at (single part, [])) → Allows (IsKept (size_of key.0 key.1)) slots id knows place f (told place knows)
+allowed_seated : (key : Extent × ℕ) (slots id place at : ℕ) (knows : Me (Unit {0}) View) (part : Part) (f : ℕ → ℕ) (told : ℕ → Me (Unit {0}) View → ℕ
+    → Me (Unit {0}) View → Type 0)
+    → knows ≡ (single part, []) → place ≡ at → Allows (IsKept (size_of key.0 key.1)) slots id (single part, []) at f (told at (single part, []))
+    → Allows (IsKept (size_of key.0 key.1)) slots id knows place f (told place knows)
 allowed_seated key slots id place at knows part f told seated is allowed =
     subst (λ (k : Me (Unit {0}) View). Allows (IsKept (size_of key.0 key.1)) slots id k place f (told place k)) (sym seated)
     (subst (λ (p : ℕ). Allows (IsKept (size_of key.0 key.1)) slots id (single part, []) p f (told p (single part, []))) (sym is) allowed)
 
-module _ (key : Extent × ℕ) (table seat : TableId) (id : ℕ) (knows : Me (Unit {0}) View) (cell : CellId) (nodes place : ℕ) (s : IsSeated key table seat knows) (now : EndOf) (view : record { table = seat; part = part_of knows.0 } ≡ now)
+module _ (key : Extent × ℕ) (table seat : TableId) (id : ℕ) (knows : Me (Unit {0}) View) (cell : CellId) (nodes place : ℕ) (s : IsSeated key table seat knows)
+    (now : EndOf) (view : record { table = seat; part = part_of knows.0 } ≡ now)
     (nodes_are : nodes ≡ nodes_in now.part) where
   part_is : part_of knows.0 ≡ now.part
   part_is = ap (λ (e : EndOf). e.part) view
@@ -160,7 +181,8 @@ module _ (key : Extent × ℕ) (table seat : TableId) (id : ℕ) (knows : Me (Un
   nodes_here : nodes ≡ nodes_in (part_of knows.0)
   nodes_here = nodes_are ∙ ap nodes_in (sym part_is)
 
-  pub fill_asks : (index word : ℕ) → MayFill now.part cell index → place ≡ cell_place (lane_number nodes cell) cell.number + index → Asks key table seat id knows place (λ n. word) (λ n. Fills (step table.slots place word 0 none) knows word)
+  pub fill_asks : (index word : ℕ) → MayFill now.part cell index → place ≡ cell_place (lane_number nodes cell) cell.number + index
+      → Asks key table seat id knows place (λ n. word) (λ n. Fills (step table.slots place word 0 none) knows word)
   fill_asks index word may is =
       let part = part_of knows.0 in
       let m = subst (λ (p : Part). MayFill p cell index) (sym part_is) may in
@@ -170,7 +192,8 @@ module _ (key : Extent × ℕ) (table seat : TableId) (id : ℕ) (knows : Me (Un
       let size_nodes = key_nodes key table seat knows s in (
         s.same,
         place_in_table key table seat knows s lane cell.number index place at.lane m.within place_is,
-        allowed_seated key table.slots id place (cell_place lane cell.number + index) knows part (λ n. word) (λ p k n. Fills (step table.slots p word 0 none) k word) s.seated place_is
+        allowed_seated key table.slots id place (cell_place lane cell.number + index) knows part (λ n. word)
+            (λ p k n. Fills (step table.slots p word 0 none) k word) s.seated place_is
             (fills (size_of key.0 key.1) table.slots id lane cell.number index word part
             (record {
               lane_ok = subst (λ (n : ℕ). lane < lane_count n) size_nodes at.lane;
@@ -183,7 +206,8 @@ module _ (key : Extent × ℕ) (table seat : TableId) (id : ℕ) (knows : Me (Un
             })),
       )
 
-  pub read_asks : (index : ℕ) → MayRead now.part cell index → place ≡ cell_place (lane_number nodes cell) cell.number + index → Asks key table seat id knows place (λ n. n) (Reads (step table.slots place 0 0 none) knows)
+  pub read_asks : (index : ℕ) → MayRead now.part cell index → place ≡ cell_place (lane_number nodes cell) cell.number + index
+      → Asks key table seat id knows place (λ n. n) (Reads (step table.slots place 0 0 none) knows)
   read_asks index may is =
       let part = part_of knows.0 in
       let m = subst (λ (p : Part). MayRead p cell index) (sym part_is) may in
@@ -193,7 +217,8 @@ module _ (key : Extent × ℕ) (table seat : TableId) (id : ℕ) (knows : Me (Un
       let size_nodes = key_nodes key table seat knows s in (
         s.same,
         place_in_table key table seat knows s lane cell.number index place at.lane m.within place_is,
-        allowed_seated key table.slots id place (cell_place lane cell.number + index) knows part (λ n. n) (λ p k. Reads (step table.slots p 0 0 none) k) s.seated place_is
+        allowed_seated key table.slots id place (cell_place lane cell.number + index) knows part (λ n. n) (λ p k. Reads (step table.slots p 0 0 none) k)
+            s.seated place_is
             (reads (size_of key.0 key.1) table.slots id lane cell.number index part
             (record {
               lane_ok = subst (λ (n : ℕ). lane < lane_count n) size_nodes at.lane;
@@ -205,7 +230,8 @@ module _ (key : Extent × ℕ) (table seat : TableId) (id : ℕ) (knows : Me (Un
             })),
       )
 
-  pub publish_asks : (first : ℕ) (event : Event) (next : NodeOf) → IsNextToSend now.part cell → IsSending now.part (lane_at_cell now.part cell) first event next → place ≡ cell_place (lane_number nodes cell) cell.number + 0
+  pub publish_asks : (first : ℕ) (event : Event) (next : NodeOf) → IsNextToSend now.part cell → IsSending now.part (lane_at_cell now.part cell) first event next
+      → place ≡ cell_place (lane_number nodes cell) cell.number + 0
       → Asks key table seat id knows place (λ n. first) (λ n. Publishes event next (step table.slots place first 0 none) knows first)
   publish_asks first event next to_send may is =
       let part = part_of knows.0 in
@@ -216,11 +242,13 @@ module _ (key : Extent × ℕ) (table seat : TableId) (id : ℕ) (knows : Me (Un
       let place_is = place_now part cell nodes place 0 nodes_here is in (
         s.same,
         place_in_table key table seat knows s lane cell.number 0 place at.lane (omega arith) place_is,
-        allowed_seated key table.slots id place (cell_place lane cell.number + 0) knows part (λ n. first) (λ p k n. Publishes event next (step table.slots p first 0 none) k first) s.seated place_is
+        allowed_seated key table.slots id place (cell_place lane cell.number + 0) knows part (λ n. first)
+            (λ p k n. Publishes event next (step table.slots p first 0 none) k first) s.seated place_is
             (publishes (size_of key.0 key.1) table.slots id lane cell.number first part event next to_send'.next m),
       )
 
-  pub free_asks : (event : Event) (next : NodeOf) → IsNextToTake now.part cell → IsTaking now.part (lane_at_cell now.part cell) event next → place ≡ cell_place (lane_number nodes cell) cell.number + 0
+  pub free_asks : (event : Event) (next : NodeOf) → IsNextToTake now.part cell → IsTaking now.part (lane_at_cell now.part cell) event next
+      → place ≡ cell_place (lane_number nodes cell) cell.number + 0
       → Asks key table seat id knows place (λ n. 0) (λ n. Frees event next (step table.slots place 0 0 none) knows 0)
   free_asks event next to_take may is =
       let part = part_of knows.0 in
@@ -231,7 +259,8 @@ module _ (key : Extent × ℕ) (table seat : TableId) (id : ℕ) (knows : Me (Un
       let place_is = place_now part cell nodes place 0 nodes_here is in (
         s.same,
         place_in_table key table seat knows s lane cell.number 0 place at.lane (omega arith) place_is,
-        allowed_seated key table.slots id place (cell_place lane cell.number + 0) knows part (λ n. 0) (λ p k n. Frees event next (step table.slots p 0 0 none) k 0) s.seated place_is
+        allowed_seated key table.slots id place (cell_place lane cell.number + 0) knows part (λ n. 0)
+            (λ p k n. Frees event next (step table.slots p 0 0 none) k 0) s.seated place_is
             (frees (size_of key.0 key.1) table.slots id lane cell.number part event next to_take'.next m),
       )
 
@@ -241,29 +270,37 @@ module _ (key : Extent × ℕ) (table seat : TableId) (id : ℕ) (knows : Me (Un
   lane_told index few is = ap lane_in (place_now now.part cell nodes place index nodes_are is) ∙ lane_found (lane_at_cell now.part cell) cell.number index few
 
   index_told : (index : ℕ) → index < 11 → place ≡ cell_place (lane_number nodes cell) cell.number + index → index_in place ≡ index
-  index_told index few is = ap index_in (place_now now.part cell nodes place index nodes_are is) ∙ index_found (lane_at_cell now.part cell) cell.number index few
+  index_told index few is = ap index_in (place_now now.part cell nodes place index nodes_are is)
+      ∙ index_found (lane_at_cell now.part cell) cell.number index few
 
   -- by a step on a word of the cell that leaves a part as f says, which looks at the lane and the word's number
-  pub told_after : (later : TableId) (after : Me (Unit {0}) View) (index : ℕ) (how : Part → List Event → Type 0) (f : ℕ → ℕ → Part → Part) → index < 11 → place ≡ cell_place (lane_number nodes cell) cell.number + index → later ≡ seat
-      → Tells (how (part_of knows.0)) (part_of knows.0) (f (lane_in place) (index_in place) (part_of knows.0)) after → record { table = later; part = part_of after.0 } ≡ with_part now (informed (part_of after.0).schedule (f (lane_at_cell now.part cell) index now.part))
+  pub told_after : (later : TableId) (after : Me (Unit {0}) View) (index : ℕ) (how : Part → List Event → Type 0) (f : ℕ → ℕ → Part → Part) → index < 11
+      → place ≡ cell_place (lane_number nodes cell) cell.number + index → later ≡ seat
+      → Tells (how (part_of knows.0)) (part_of knows.0) (f (lane_in place) (index_in place) (part_of knows.0)) after
+      → record { table = later; part = part_of after.0 } ≡ with_part now
+      (informed (part_of after.0).schedule (f (lane_at_cell now.part cell) index now.part))
   told_after later after index how f few is same t =
       view_after seat later knows after now (how now.part) (f (lane_at_cell now.part cell) index now.part) view same
       (subst (λ (p : Part). Tells (how p) p (f (lane_at_cell now.part cell) index p) after) part_is
       (subst (λ (l : ℕ). Tells (how (part_of knows.0)) (part_of knows.0) (f l index (part_of knows.0)) after) (lane_told index few is)
       (subst (λ (i : ℕ). Tells (how (part_of knows.0)) (part_of knows.0) (f (lane_in place) i (part_of knows.0)) after) (index_told index few is) t)))
 
-pub beat_asks : (key : Extent × ℕ) (table seat : TableId) (id : ℕ) (knows : Me (Unit {0}) View) (me nodes place : ℕ) (event : Event) (next : NodeOf) → IsSeated key table seat knows → (now : EndOf) → record { table = seat; part = part_of knows.0 } ≡ now
+pub beat_asks : (key : Extent × ℕ) (table seat : TableId) (id : ℕ) (knows : Me (Unit {0}) View) (me nodes place : ℕ) (event : Event) (next : NodeOf)
+    → IsSeated key table seat knows → (now : EndOf) → record { table = seat; part = part_of knows.0 } ≡ now
     → me ≡ me_of now.part → nodes ≡ nodes_in now.part → IsBeating now.part event next → place ≡ own_place nodes me
     → Asks key table seat id knows place (λ n. (n + 1) % 2 ^ 64) (Beats event next (step table.slots place 1 0 none) knows)
 beat_asks key table seat id knows me nodes place event next s now view me_is nodes_are may is =
     let part = part_of knows.0 in
     let part_is : part ≡ now.part = ap (λ (e : EndOf). e.part) view in
     let size_nodes = key_nodes key table seat knows s in
-    let at : place ≡ own_place key.0.nodes (me_of part) = is ∙ (ap (λ (m : ℕ). own_place nodes m) (me_is ∙ ap me_of (sym part_is)) ∙ ap (λ (n : ℕ). own_place n (me_of part)) (nodes_are ∙ (ap nodes_in (sym part_is) ∙ size_nodes))) in
+    let at : place ≡ own_place key.0.nodes (me_of part) =
+    is ∙ (ap (λ (m : ℕ). own_place nodes m) (me_is ∙ ap me_of (sym part_is))
+    ∙ ap (λ (n : ℕ). own_place n (me_of part)) (nodes_are ∙ (ap nodes_in (sym part_is) ∙ size_nodes))) in
     let below : me_of part < key.0.nodes = subst (λ (n : ℕ). me_of part < n) size_nodes (me_below part s.shown) in
     let long = s.long in (
       s.same,
       omega arith,
-      allowed_seated key table.slots id place (own_place key.0.nodes (me_of part)) knows part (λ n. (n + 1) % 2 ^ 64) (λ p k. Beats event next (step table.slots p 1 0 none) k) s.seated at
+      allowed_seated key table.slots id place (own_place key.0.nodes (me_of part)) knows part (λ n. (n + 1) % 2 ^ 64)
+          (λ p k. Beats event next (step table.slots p 1 0 none) k) s.seated at
           (beats (size_of key.0 key.1) table.slots id part event next (subst (λ (p : Part). IsBeating p event next) (sym part_is) may)),
     )

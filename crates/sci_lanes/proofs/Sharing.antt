@@ -1,5 +1,6 @@
 -- Splitting a seat, and joining two, keeps words and views showing the same state.
-use Rattle.std.proofs.Common.{◌≡◌, ◌≢◌, ℕ, zero, suc, ◌<◌, ◌⊎◌, inl, inr, eqb, if◌then◌else◌, List, [], ◌∷◌, ◌++◌, length, set, Some, refl, sym, ap, subst, ◌∙◌, eq-eqb, ne_eqb}
+use Rattle.std.proofs.Common.{◌≡◌, ◌≢◌, ℕ, zero, suc, ◌<◌, ◌⊎◌, inl, inr, eqb, if◌then◌else◌, List, [], ◌∷◌, ◌++◌, length, set, Some, refl, sym, ap, subst, ◌∙◌}
+use Rattle.std.proofs.Common.{eq-eqb, ne_eqb}
 use Rattle.std.specs.Prelude.{slice_get}
 use Rattle.std.specs.List.{AllByRecursion}
 use Rattle.std.proofs.lemmas.Bool.{cases_eq}
@@ -44,13 +45,16 @@ moved x owner seat later p is k = record {
 abbrev pub NoneIs : ℕ → List Part → Type 0
 NoneIs n parts = AllByRecursion (λ q. me_of q ≢ n) parts
 
-stay : (x : Whole) (owner : ℕ → ℕ) (seat n : ℕ) (parts : List Part) → NoneIs n parts → ((m : ℕ) → m ≢ n → owner m ≡ x.owner m) → AllByRecursion (IsKnown x seat) parts → AllByRecursion (IsKnown (owned_by x owner) seat) parts
+stay : (x : Whole) (owner : ℕ → ℕ) (seat n : ℕ) (parts : List Part) → NoneIs n parts → ((m : ℕ) → m ≢ n → owner m ≡ x.owner m)
+    → AllByRecursion (IsKnown x seat) parts → AllByRecursion (IsKnown (owned_by x owner) seat) parts
 stay x owner seat n [] none same known = tt
-stay x owner seat n (q ∷ parts) none same known = (moved x owner seat seat q (same (me_of q) none.0 ∙ known.0.mine) known.0, stay x owner seat n parts none.1 same known.1)
+stay x owner seat n (q ∷ parts) none same known =
+    (moved x owner seat seat q (same (me_of q) none.0 ∙ known.0.mine) known.0, stay x owner seat n parts none.1 same known.1)
 
 -- ---- split
 
-pub split_shows : (x : Whole) (words : List ℕ) (views : List View) (seat : ℕ) (p : Part) (rest : List Part) → Shows x words views → get_elem? views seat ≡ some (record { parts = p ∷ rest; words = [] }) → NoneIs (me_of p) rest
+pub split_shows : (x : Whole) (words : List ℕ) (views : List View) (seat : ℕ) (p : Part) (rest : List Part) → Shows x words views
+    → get_elem? views seat ≡ some (record { parts = p ∷ rest; words = [] }) → NoneIs (me_of p) rest
     → Shows (owned_by x (changed_at x.owner (me_of p) (length views))) words (set views seat (record { parts = rest; words = [] }) ++ single p ∷ [])
 split_shows x words views seat p rest s here none = record { long = s.long; lanes = s.lanes; known = known; covered = covered; read = read }
   where
@@ -73,15 +77,19 @@ split_shows x words views seat p rest s here none = record { long = s.long; lane
     sized = length-set views seat left
 
     others : (id : ℕ) (view : View) → id ≢ seat → get_elem? views id ≡ some view → AllByRecursion (IsKnown y id) view.parts
-    others id view apart e = all_by (IsKnown x id) (IsKnown y id) (λ q k. moved x owner id id q (same (me_of q) (λ is. apart (sym k.mine ∙ (ap x.owner is ∙ mine.mine))) ∙ k.mine) k) view.parts (s.known id view e)
+    others id view apart e = all_by (IsKnown x id) (IsKnown y id)
+        (λ q k. moved x owner id id q (same (me_of q) (λ is. apart (sym k.mine ∙ (ap x.owner is ∙ mine.mine))) ∙ k.mine) k) view.parts (s.known id view e)
 
     known : (id : ℕ) (view : View) → get_elem? (set views seat left ++ single p ∷ []) id ≡ some view → AllByRecursion (IsKnown y id) view.parts
     known id view e = elim (last_at? (set views seat left) (single p) id view e) [
       | inl h ↦ elim (at_set views seat id left view h) [
-        | inl k ↦ subst (λ (j : ℕ). AllByRecursion (IsKnown y j) view.parts) (sym k.0) (subst (λ (v : View). AllByRecursion (IsKnown y seat) v.parts) k.1 (stay x owner seat (me_of p) rest none same (s.known seat (record { parts = p ∷ rest; words = [] }) here).1))
+        | inl k ↦ subst (λ (j : ℕ). AllByRecursion (IsKnown y j) view.parts) (sym k.0)
+            (subst (λ (v : View). AllByRecursion (IsKnown y seat) v.parts) k.1
+            (stay x owner seat (me_of p) rest none same (s.known seat (record { parts = p ∷ rest; words = [] }) here).1))
         | inr k ↦ others id view k.0 k.1
       ]
-      | inr h ↦ subst (λ (v : View). AllByRecursion (IsKnown y id) v.parts) h.1 (moved x owner seat id p (changed_here x.owner (me_of p) (length views) ∙ (sym sized ∙ sym h.0)) mine, tt)
+      | inr h ↦ subst (λ (v : View). AllByRecursion (IsKnown y id) v.parts) h.1
+          (moved x owner seat id p (changed_here x.owner (me_of p) (length views) ∙ (sym sized ∙ sym h.0)) mine, tt)
     ]
 
     seated : seat < length views
@@ -93,7 +101,8 @@ split_shows x words views seat p rest s here none = record { long = s.long; lane
         view = single p;
         place = 0;
         part = p;
-        seated = ap (λ (k : ℕ). get_elem? (set views seat left ++ single p ∷ []) k) (ap owner is ∙ changed_here x.owner (me_of p) (length views)) ∙ at_last (set views seat left) (single p) (length views) sized;
+        seated = ap (λ (k : ℕ). get_elem? (set views seat left ++ single p ∷ []) k) (ap owner is ∙ changed_here x.owner (me_of p) (length views))
+            ∙ at_last (set views seat left) (single p) (length views) sized;
         there = refl;
         of_node = sym is;
       }
@@ -107,14 +116,24 @@ split_shows x words views seat p rest s here none = record { long = s.long; lane
         elsewhere : (n : ℕ) → n ≢ me_of p → IsCovered x views n → IsCovered y (set views seat left ++ single p ∷ []) n
         elsewhere n apart c = elim (cases_eq (x.owner n) seat) [
           | inl is ↦ (
-              let view_is : record { parts = p ∷ rest; words = [] } ≡ c.view = some-injective _ c.view (sym here ∙ (ap (λ (k : ℕ). get_elem? views k) (sym is) ∙ c.seated)) in
+              let view_is : record { parts = p ∷ rest; words = [] } ≡ c.view =
+              some-injective _ c.view (sym here ∙ (ap (λ (k : ℕ). get_elem? views k) (sym is) ∙ c.seated)) in
               let k = in_rest n c.place c.part apart (ap (λ (v : View). slice_get v.parts c.place) view_is ∙ c.there) c.of_node in
-              record { view = left; place = k.0; part = c.part; seated = ap (λ (j : ℕ). get_elem? (set views seat left ++ single p ∷ []) j) (same n apart ∙ is) ∙ at_longer (set views seat left) (single p ∷ []) seat left (set_here views seat left seated); there = k.1; of_node = c.of_node })
+              record {
+                view = left;
+                place = k.0;
+                part = c.part;
+                seated = ap (λ (j : ℕ). get_elem? (set views seat left ++ single p ∷ []) j) (same n apart ∙ is)
+                    ∙ at_longer (set views seat left) (single p ∷ []) seat left (set_here views seat left seated);
+                there = k.1;
+                of_node = c.of_node;
+              })
           | inr not ↦ record {
             view = c.view;
             place = c.place;
             part = c.part;
-            seated = ap (λ (j : ℕ). get_elem? (set views seat left ++ single p ∷ []) j) (same n apart) ∙ at_longer (set views seat left) (single p ∷ []) (x.owner n) c.view (set_else views seat (x.owner n) left not ∙ c.seated);
+            seated = ap (λ (j : ℕ). get_elem? (set views seat left ++ single p ∷ []) j) (same n apart)
+                ∙ at_longer (set views seat left) (single p ∷ []) (x.owner n) c.view (set_else views seat (x.owner n) left not ∙ c.seated);
             there = c.there;
             of_node = c.of_node;
           }
@@ -129,7 +148,8 @@ split_shows x words views seat p rest s here none = record { long = s.long; lane
       | inr h ↦ subst (λ (v : View). HasRead y id words v.words) h.1 (read_none y id words)
     ]
 
-pub splits : (size : Size) (id : ℕ) (p : Part) (rest : List Part) → NoneIs (me_of p) rest → Splits (IsKept size) id (record { parts = p ∷ rest; words = [] }) (record { parts = rest; words = [] }) (single p)
+pub splits : (size : Size) (id : ℕ) (p : Part) (rest : List Part) → NoneIs (me_of p) rest
+    → Splits (IsKept size) id (record { parts = p ∷ rest; words = [] }) (record { parts = rest; words = [] }) (single p)
 splits size id p rest none s kept here = record {
   whole = owned_by kept.whole (changed_at kept.whole.owner (me_of p) (length s.views));
   reached = kept.reached;
@@ -141,9 +161,11 @@ splits size id p rest none s kept here = record {
 
 -- ---- join
 
-pub join_shows : (x : Whole) (words : List ℕ) (views : List View) (seat other : ℕ) (v w : List Part) → Shows x words views → get_elem? views seat ≡ some (record { parts = v; words = [] }) → other ≢ seat
+pub join_shows : (x : Whole) (words : List ℕ) (views : List View) (seat other : ℕ) (v w : List Part) → Shows x words views
+    → get_elem? views seat ≡ some (record { parts = v; words = [] }) → other ≢ seat
     → get_elem? views other ≡ some (record { parts = w; words = [] })
-    → Shows (owned_by x (λ n. if eqb (x.owner n) other then seat else x.owner n)) words (set (set views seat (record { parts = v ++ w; words = [] })) other (record { parts = []; words = [] }))
+    → Shows (owned_by x (λ n. if eqb (x.owner n) other then seat else x.owner n)) words
+    (set (set views seat (record { parts = v ++ w; words = [] })) other (record { parts = []; words = [] }))
 join_shows x words views seat other v w s here apart there = record { long = s.long; lanes = s.lanes; known = known; covered = covered; read = read }
   where
     both : View
@@ -166,15 +188,19 @@ join_shows x words views seat other v w s here apart there = record { long = s.l
 
     both_known : AllByRecursion (IsKnown y seat) (v ++ w)
     both_known = all_join (IsKnown y seat) v w
-        (all_by (IsKnown x seat) (IsKnown y seat) (λ q k. moved x y.owner seat seat q (same (me_of q) (λ is. apart (sym is ∙ k.mine)) ∙ k.mine) k) v (s.known seat (record { parts = v; words = [] }) here))
-        (all_by (IsKnown x other) (IsKnown y seat) (λ q k. moved x y.owner other seat q (taken (me_of q) k.mine) k) w (s.known other (record { parts = w; words = [] }) there))
+        (all_by (IsKnown x seat) (IsKnown y seat) (λ q k. moved x y.owner seat seat q (same (me_of q) (λ is. apart (sym is ∙ k.mine)) ∙ k.mine) k) v
+        (s.known seat (record { parts = v; words = [] }) here))
+        (all_by (IsKnown x other) (IsKnown y seat) (λ q k. moved x y.owner other seat q (taken (me_of q) k.mine) k) w
+        (s.known other (record { parts = w; words = [] }) there))
 
     known : (id : ℕ) (view : View) → get_elem? (set (set views seat both) other spent) id ≡ some view → AllByRecursion (IsKnown y id) view.parts
     known id view e = elim (at_set (set views seat both) other id spent view e) [
       | inl h ↦ subst (λ (u : View). AllByRecursion (IsKnown y id) u.parts) h.1 tt
       | inr h ↦ elim (at_set views seat id both view h.1) [
-        | inl k ↦ subst (λ (j : ℕ). AllByRecursion (IsKnown y j) view.parts) (sym k.0) (subst (λ (u : View). AllByRecursion (IsKnown y seat) u.parts) k.1 both_known)
-        | inr k ↦ all_by (IsKnown x id) (IsKnown y id) (λ q t. moved x y.owner id id q (same (me_of q) (λ is. h.0 (sym t.mine ∙ is)) ∙ t.mine) t) view.parts (s.known id view k.1)
+        | inl k ↦ subst (λ (j : ℕ). AllByRecursion (IsKnown y j) view.parts) (sym k.0)
+            (subst (λ (u : View). AllByRecursion (IsKnown y seat) u.parts) k.1 both_known)
+        | inr k ↦ all_by (IsKnown x id) (IsKnown y id) (λ q t. moved x y.owner id id q (same (me_of q) (λ is. h.0 (sym t.mine ∙ is)) ∙ t.mine) t) view.parts
+            (s.known id view k.1)
       ]
     ]
 
@@ -189,18 +215,36 @@ join_shows x words views seat other v w s here apart there = record { long = s.l
         let c = s.covered n lt in
         elim (cases_eq (x.owner n) other) [
           | inl is ↦ (
-              let view_is : record { parts = w; words = [] } ≡ c.view = some-injective _ c.view (sym there ∙ (ap (λ (k : ℕ). get_elem? views k) (sym is) ∙ c.seated)) in
+              let view_is : record { parts = w; words = [] } ≡ c.view =
+              some-injective _ c.view (sym there ∙ (ap (λ (k : ℕ). get_elem? views k) (sym is) ∙ c.seated)) in
               let k = get_right v w c.place c.part (ap (λ (u : View). slice_get u.parts c.place) view_is ∙ c.there) in
-              record { view = both; place = k.0; part = c.part; seated = ap (λ (j : ℕ). get_elem? (set (set views seat both) other spent) j) (taken n is) ∙ at_seat; there = k.1; of_node = c.of_node })
+              record {
+                view = both;
+                place = k.0;
+                part = c.part;
+                seated = ap (λ (j : ℕ). get_elem? (set (set views seat both) other spent) j) (taken n is) ∙ at_seat;
+                there = k.1;
+                of_node = c.of_node;
+              })
           | inr not ↦ elim (cases_eq (x.owner n) seat) [
             | inl is ↦ (
-                let view_is : record { parts = v; words = [] } ≡ c.view = some-injective _ c.view (sym here ∙ (ap (λ (k : ℕ). get_elem? views k) (sym is) ∙ c.seated)) in
-                record { view = both; place = c.place; part = c.part; seated = ap (λ (j : ℕ). get_elem? (set (set views seat both) other spent) j) (same n not ∙ is) ∙ at_seat; there = get_left v w c.place c.part (ap (λ (u : View). slice_get u.parts c.place) view_is ∙ c.there); of_node = c.of_node })
+                let view_is : record { parts = v; words = [] } ≡ c.view =
+                some-injective _ c.view (sym here ∙ (ap (λ (k : ℕ). get_elem? views k) (sym is) ∙ c.seated)) in
+                record {
+                  view = both;
+                  place = c.place;
+                  part = c.part;
+                  seated = ap (λ (j : ℕ). get_elem? (set (set views seat both) other spent) j) (same n not ∙ is) ∙ at_seat;
+                  there =
+                      get_left v w c.place c.part (ap (λ (u : View). slice_get u.parts c.place) view_is ∙ c.there);
+                  of_node = c.of_node;
+                })
             | inr neither ↦ record {
               view = c.view;
               place = c.place;
               part = c.part;
-              seated = ap (λ (j : ℕ). get_elem? (set (set views seat both) other spent) j) (same n not) ∙ (set_else (set views seat both) other (x.owner n) spent not ∙ (set_else views seat (x.owner n) both neither ∙ c.seated));
+              seated = ap (λ (j : ℕ). get_elem? (set (set views seat both) other spent) j) (same n not)
+                  ∙ (set_else (set views seat both) other (x.owner n) spent not ∙ (set_else views seat (x.owner n) both neither ∙ c.seated));
               there = c.there;
               of_node = c.of_node;
             }
@@ -212,11 +256,18 @@ join_shows x words views seat other v w s here apart there = record { long = s.l
       | inl h ↦ subst (λ (u : View). HasRead y id words u.words) h.1 (read_none y id words)
       | inr h ↦ elim (at_set views seat id both view h.1) [
         | inl k ↦ subst (λ (u : View). HasRead y id words u.words) k.1 (read_none y id words)
-        | inr k ↦ (let r = s.read id view k.1 in record { no_more = r.no_more; same = r.same; every = λ some_read n few. same n (λ is. h.0 (sym (r.every some_read n few) ∙ is)) ∙ r.every some_read n few })
+        | inr k ↦ (let r = s.read id view k.1 in
+            record {
+              no_more = r.no_more;
+              same = r.same;
+              every = λ some_read n few. same n (λ is. h.0 (sym (r.every some_read n few) ∙ is)) ∙ r.every some_read n few;
+            })
       ]
     ]
 
-pub joins : (size : Size) (id other : ℕ) (v w : List Part) → Joins (IsKept size) id (record { parts = v; words = [] }) other (record { parts = w; words = [] }) (record { parts = v ++ w; words = [] }) (record { parts = []; words = [] })
+pub joins : (size : Size) (id other : ℕ) (v w : List Part)
+    → Joins (IsKept size) id (record { parts = v; words = [] }) other (record { parts = w; words = [] }) (record { parts = v ++ w; words = [] })
+    (record { parts = []; words = [] })
 joins size id other v w s kept here apart there = record {
   whole = owned_by kept.whole (λ n. if eqb (kept.whole.owner n) other then id else kept.whole.owner n);
   reached = kept.reached;

@@ -32,9 +32,11 @@ pub record IsTurn (x : Whole) (part : Part) (lane : ℕ) (core : Core) (schedule
   pub not_receiver : receiver_of (nodes_of x) lane ≢ me_of part → i' ≡ x.inbound lane
 
 abbrev pub turned_whole : Whole → ℕ → Core → List Event → Outbound → Inbound → Whole
-turned_whole x lane core schedule o i = record { core = core; schedule = schedule; outbound = changed_at x.outbound lane o; inbound = changed_at x.inbound lane i; owner = x.owner }
+turned_whole x lane core schedule o i =
+    record { core = core; schedule = schedule; outbound = changed_at x.outbound lane o; inbound = changed_at x.inbound lane i; owner = x.owner }
 
-known_turned : (x : Whole) (seat : ℕ) (part : Part) (lane : ℕ) (core : Core) (schedule : List Event) (next : NodeOf) (o o' : Outbound) (i i' : Inbound) → IsKnown x seat part → IsTurn x part lane core schedule next o o' i i'
+known_turned : (x : Whole) (seat : ℕ) (part : Part) (lane : ℕ) (core : Core) (schedule : List Event) (next : NodeOf) (o o' : Outbound) (i i' : Inbound)
+    → IsKnown x seat part → IsTurn x part lane core schedule next o o' i i'
     → IsKnown (turned_whole x lane core schedule o' i') seat (informed schedule (with_lane_known lane next o i part))
 known_turned x seat part lane core schedule next o o' i i' k t =
     let n = nodes_of x in
@@ -52,22 +54,28 @@ known_turned x seat part lane core schedule next o o' i i' k t =
           let is' : sender_of n other ≡ me_of part = subst (λ (m : ℕ). sender_of m other ≡ me_of part) size (is ∙ t.me) in
           elim (cases_eq other lane) [
             | inl e ↦ subst (λ (l : ℕ). get_or (set part.outbound lane o) l no_outbound ≡ changed_at x.outbound lane o' l) (sym e)
-                (get_or-set_same part.outbound lane o no_outbound lane_in_out ∙ (t.sender (subst (λ (l : ℕ). sender_of n l ≡ me_of part) e is') ∙ sym (changed_here x.outbound lane o')))
-            | inr apart ↦ get_or-set_other part.outbound lane other o no_outbound apart ∙ (k.outbound other (subst (λ (m : ℕ). other < lane_count m) size lt) is' ∙ sym (changed_else x.outbound lane o' other apart))
+                (get_or-set_same part.outbound lane o no_outbound lane_in_out
+                ∙ (t.sender (subst (λ (l : ℕ). sender_of n l ≡ me_of part) e is') ∙ sym (changed_here x.outbound lane o')))
+            | inr apart ↦ get_or-set_other part.outbound lane other o no_outbound apart
+                ∙ (k.outbound other (subst (λ (m : ℕ). other < lane_count m) size lt) is' ∙ sym (changed_else x.outbound lane o' other apart))
           ];
       inbound = λ other lt is.
           let is' : receiver_of n other ≡ me_of part = subst (λ (m : ℕ). receiver_of m other ≡ me_of part) size (is ∙ t.me) in
           elim (cases_eq other lane) [
             | inl e ↦ subst (λ (l : ℕ). get_or (set part.inbound lane i) l no_inbound ≡ changed_at x.inbound lane i' l) (sym e)
-                (get_or-set_same part.inbound lane i no_inbound lane_in_in ∙ (t.receiver (subst (λ (l : ℕ). receiver_of n l ≡ me_of part) e is') ∙ sym (changed_here x.inbound lane i')))
-            | inr apart ↦ get_or-set_other part.inbound lane other i no_inbound apart ∙ (k.inbound other (subst (λ (m : ℕ). other < lane_count m) size lt) is' ∙ sym (changed_else x.inbound lane i' other apart))
+                (get_or-set_same part.inbound lane i no_inbound lane_in_in
+                ∙ (t.receiver (subst (λ (l : ℕ). receiver_of n l ≡ me_of part) e is') ∙ sym (changed_here x.inbound lane i')))
+            | inr apart ↦ get_or-set_other part.inbound lane other i no_inbound apart
+                ∙ (k.inbound other (subst (λ (m : ℕ). other < lane_count m) size lt) is' ∙ sym (changed_else x.inbound lane i' other apart))
           ];
     }
 
-pub lane_step : (x : Whole) (words : List ℕ) (views : List View) (seat lane turn index value : ℕ) (part : Part) (core : Core) (schedule : List Event) (next : NodeOf) (o o' : Outbound) (i i' : Inbound)
+pub lane_step : (x : Whole) (words : List ℕ) (views : List View) (seat lane turn index value : ℕ) (part : Part) (core : Core) (schedule : List Event)
+    (next : NodeOf) (o o' : Outbound) (i i' : Inbound)
     → Shows x words views → get_elem? views seat ≡ some (single part) → index < 11 → IsTurn x part lane core schedule next o o' i i'
     → ShowsLane (set words (cell_place lane turn + index) value) lane (lane_at core lane) o' i'
-    → Shows (turned_whole x lane core schedule o' i') (set words (cell_place lane turn + index) value) (set views seat (single (informed schedule (with_lane_known lane next o i part))))
+    → Shows (turned_whole x lane core schedule o' i') (set words (cell_place lane turn + index) value)
+    (set views seat (single (informed schedule (with_lane_known lane next o i part))))
 lane_step x words views seat lane turn index value part core schedule next o o' i i' s here few t shows =
     step_shows x y words views seat place value part (informed schedule (with_lane_known lane next o i part)) s here
     (record {
@@ -100,5 +108,9 @@ lane_step x words views seat lane turn index value part core schedule next o o' 
           (rw (changed_here x.outbound lane o', changed_here x.inbound lane i') shows)
       | inr apart ↦ rw (changed_else x.outbound lane o' other apart, changed_else x.inbound lane i' other apart)
           (let old = s.lanes other lt in
-          record { packets = old.packets; letters = old.letters ∙ sym (t.lanes other apart); fits = stored_elsewhere words lane other turn index value old.packets (x.outbound other) (x.inbound other) apart few old.fits })
+          record {
+            packets = old.packets;
+            letters = old.letters ∙ sym (t.lanes other apart);
+            fits = stored_elsewhere words lane other turn index value old.packets (x.outbound other) (x.inbound other) apart few old.fits;
+          })
     ]

@@ -21,9 +21,11 @@ use Rattle.sci_lanes.proofs.Events.{count_is}
 
 -- ---- packets
 
-one_packet : (words : List ℕ) (lane k : ℕ) (ps qs : List Packet) (o u : Outbound) (i j : Inbound) (p q : Packet) → Fits words lane ps o i → Fits words lane qs u j → i.taken ≡ j.taken → slice_get ps k ≡ Some p → slice_get qs k ≡ Some q → p ≡ q
+one_packet : (words : List ℕ) (lane k : ℕ) (ps qs : List Packet) (o u : Outbound) (i j : Inbound) (p q : Packet) → Fits words lane ps o i
+    → Fits words lane qs u j → i.taken ≡ j.taken → slice_get ps k ≡ Some p → slice_get qs k ≡ Some q → p ≡ q
 one_packet words lane k ps qs o u i j p q f g taken at there =
-    one_by_words p q (f.good k p at) (g.good k q there) (λ n a b. sym (f.full k n p at a) ∙ (ap (λ (t : ℕ). word_at words lane (t + k) n) taken ∙ g.full k n q there b))
+    one_by_words p q (f.good k p at) (g.good k q there)
+    (λ n a b. sym (f.full k n p at a) ∙ (ap (λ (t : ℕ). word_at words lane (t + k) n) taken ∙ g.full k n q there b))
 
 same_packets : (ps qs : List Packet) → length ps ≡ length qs → ((k : ℕ) (p q : Packet) → slice_get ps k ≡ Some p → slice_get qs k ≡ Some q → p ≡ q) → ps ≡ qs
 same_packets [] [] e each = refl
@@ -33,7 +35,8 @@ same_packets (p ∷ ps) (q ∷ qs) e each = λ i. each 0 p q refl refl i ∷ sam
 
 -- ---- one state
 
-module _ (x y : Whole) (words : List ℕ) (views : List View) (rx : IsReached x.core) (ry : IsReached y.core) (sizes : x.core.size ≡ y.core.size) (s : Shows x words views) (t : Shows y words views) where
+module _ (x y : Whole) (words : List ℕ) (views : List View) (rx : IsReached x.core) (ry : IsReached y.core) (sizes : x.core.size ≡ y.core.size)
+    (s : Shows x words views) (t : Shows y words views) where
   n : ℕ
   n = nodes_of x
 
@@ -66,13 +69,15 @@ module _ (x y : Whole) (words : List ℕ) (views : List View) (rx : IsReached x.
   one_outbound lane lt =
       let some_node = (reached_well x.core rx).sizes.some_node in
       let b = both (sender_of (nodes_of x) lane) (mod-lt (lane / nodes_of x) (omega arith)) in
-      sym (b.there.outbound lane lt (sym b.me)) ∙ b.here.outbound lane (subst (λ (k : ℕ). lane < lane_count k) same_n lt) (subst (λ (k : ℕ). sender_of k lane ≡ me_of b.part) same_n (sym b.me))
+      sym (b.there.outbound lane lt (sym b.me))
+      ∙ b.here.outbound lane (subst (λ (k : ℕ). lane < lane_count k) same_n lt) (subst (λ (k : ℕ). sender_of k lane ≡ me_of b.part) same_n (sym b.me))
 
   one_inbound : (lane : ℕ) → lane < lane_count (nodes_of x) → x.inbound lane ≡ y.inbound lane
   one_inbound lane lt =
       let some_node = (reached_well x.core rx).sizes.some_node in
       let b = both (receiver_of (nodes_of x) lane) (mod-lt lane (omega arith)) in
-      sym (b.there.inbound lane lt (sym b.me)) ∙ b.here.inbound lane (subst (λ (k : ℕ). lane < lane_count k) same_n lt) (subst (λ (k : ℕ). receiver_of k lane ≡ me_of b.part) same_n (sym b.me))
+      sym (b.there.inbound lane lt (sym b.me))
+      ∙ b.here.inbound lane (subst (λ (k : ℕ). lane < lane_count k) same_n lt) (subst (λ (k : ℕ). receiver_of k lane ≡ me_of b.part) same_n (sym b.me))
 
   one_lane : (lane : ℕ) → lane < lane_count (nodes_of x) → lane_at x.core lane ≡ lane_at y.core lane
   one_lane lane lt =
@@ -82,7 +87,9 @@ module _ (x y : Whole) (words : List ℕ) (views : List View) (rx : IsReached x.
       let taken = ap (λ (i : Inbound). i.taken) (one_inbound lane lt) in
       let counted = a.fits.counted in
       let counted' = b.fits.counted in
-      let packets = same_packets a.packets b.packets (omega arith) (λ k p q at there. one_packet words lane k a.packets b.packets (x.outbound lane) (y.outbound lane) (x.inbound lane) (y.inbound lane) p q a.fits b.fits taken at there) in
+      let packets = same_packets a.packets b.packets (omega arith)
+      (λ k p q at there. one_packet words lane k a.packets b.packets (x.outbound lane) (y.outbound lane) (x.inbound lane) (y.inbound lane) p q a.fits b.fits
+      taken at there) in
       sym a.letters ∙ (ap (λ (ps : List Packet). map letter_of ps) packets ∙ b.letters)
 
   pub one_state : x.core ≡ y.core
@@ -91,6 +98,8 @@ module _ (x y : Whole) (words : List ℕ) (views : List View) (rx : IsReached x.
       let wy = (reached_well y.core ry).sizes in
       let parts_long : length x.core.parts ≡ length y.core.parts = wx.parts_long ∙ (same_n ∙ sym wy.parts_long) in
       let lanes_long : length x.core.lanes ≡ length y.core.lanes = wx.lanes_long ∙ (ap (λ (k : ℕ). 2 * k * k) same_n ∙ sym wy.lanes_long) in
-      let parts : x.core.parts ≡ y.core.parts = ext_get_or no_node x.core.parts y.core.parts parts_long (λ m lt. one_node m (subst (λ (k : ℕ). m < k) wx.parts_long lt)) in
-      let lanes : x.core.lanes ≡ y.core.lanes = ext_get_or [] x.core.lanes y.core.lanes lanes_long (λ l lt. one_lane l (subst (λ (k : ℕ). l < k) (wx.lanes_long ∙ count_is (nodes_of x)) lt)) in
+      let parts : x.core.parts ≡ y.core.parts =
+      ext_get_or no_node x.core.parts y.core.parts parts_long (λ m lt. one_node m (subst (λ (k : ℕ). m < k) wx.parts_long lt)) in
+      let lanes : x.core.lanes ≡ y.core.lanes =
+      ext_get_or [] x.core.lanes y.core.lanes lanes_long (λ l lt. one_lane l (subst (λ (k : ℕ). l < k) (wx.lanes_long ∙ count_is (nodes_of x)) lt)) in
       λ i. record { size = sizes i; parts = parts i; lanes = lanes i }

@@ -42,7 +42,8 @@ stored_here words place value lt = get_or-set_same words place value 0 lt
 
 -- ---- a list with one element more
 
-pub at_end : {A : Type 0} (xs : List A) (x : A) (k : ℕ) (y : A) → slice_get (xs ++ x ∷ []) k ≡ Some y → ((k < length xs) × (slice_get xs k ≡ Some y)) ⊎ ((k ≡ length xs) × (x ≡ y))
+pub at_end : {A : Type 0} (xs : List A) (x : A) (k : ℕ) (y : A) → slice_get (xs ++ x ∷ []) k ≡ Some y
+    → ((k < length xs) × (slice_get xs k ≡ Some y)) ⊎ ((k ≡ length xs) × (x ≡ y))
 at_end [] x zero y e = inr (refl, same_some x y e)
 at_end [] x (suc k) y e = cc
 at_end (z ∷ xs) x zero y e = inl (omega arith, e)

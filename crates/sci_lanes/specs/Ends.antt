@@ -207,7 +207,8 @@ pub record FitsInside (part : Part) (node : NodeOf) (me nodes : ℕ) (turns inbo
   pub turns_long : length turns ≡ lane_count nodes
   pub inbox_turns_long : length inbox_turns ≡ 2 * nodes
   pub turns_are : (lane : ℕ) → lane < lane_count nodes → slice_index turns lane ≡ (outbound_at part lane).sent % LANE_CELLS
-  pub taken_are : (lane : ℕ) → lane < lane_count nodes → receiver_of nodes lane ≡ me → slice_index inbox_turns (lane / nodes) ≡ (inbound_at part lane).taken % LANE_CELLS
+  pub taken_are : (lane : ℕ) → lane < lane_count nodes → receiver_of nodes lane ≡ me
+      → slice_index inbox_turns (lane / nodes) ≡ (inbound_at part lane).taken % LANE_CELLS
 
 -- where the next cell to take from begins in the table, for each lane to the node
 pub record ArePlaces (nodes me : ℕ) (inbox_turns places : List ℕ) : Type 0 where

@@ -1,5 +1,6 @@
 -- Gathering: all ends are joined, and the state that their lanes show is read.
-use Rattle.std.specs.Prelude.{◌≡◌, ℕ, ◌+◌, ◌*◌, ◌/◌, ◌%◌, ◌<◌, ◌≤◌, ◌⊎◌, List, [], ◌∷◌, ◌++◌, filter, length, map, slice_get, slice_index, slice_index_or, Some, Vec, vec_len, vec_capacity}
+use Rattle.std.specs.Prelude.{◌≡◌, ℕ, ◌+◌, ◌*◌, ◌/◌, ◌%◌, ◌<◌, ◌≤◌, ◌⊎◌, List, [], ◌∷◌, ◌++◌, filter, length, map, slice_get, slice_index, slice_index_or, Some}
+use Rattle.std.specs.Prelude.{Vec, vec_len, vec_capacity}
 use Rattle.std.specs.List.{AllByRecursion}
 use Rattle.std.specs.VecDeque.{deque_len, deque_capacity}
 use Rattle.atomic_table.specs.Table.{Me, Step}
@@ -118,7 +119,8 @@ HasNodes nodes parts = (n : ℕ) → n < nodes → (place : ℕ) × (part : Part
 -- for each lane to a node, the number of the cell to take from
 pub record HasTurns (nodes : ℕ) (part : Part) (inbox_turns : List ℕ) : Type 0 where
   pub long : length inbox_turns ≡ 2 * nodes
-  pub turns : (lane : ℕ) → lane < lane_count nodes → receiver_of nodes lane ≡ me_of part → slice_index inbox_turns (lane / nodes) ≡ (inbound_at part lane).taken % LANE_CELLS
+  pub turns : (lane : ℕ) → lane < lane_count nodes → receiver_of nodes lane ≡ me_of part
+      → slice_index inbox_turns (lane / nodes) ≡ (inbound_at part lane).taken % LANE_CELLS
 
 module _ {Z : Type 0} where
   -- the node with this number, among those that were joined
@@ -136,7 +138,8 @@ module _ {Z : Type 0} where
 
 -- each end that was given is still there, or what it knows was joined
 abbrev pub AreKept : List EndOf → List EndOf → List Part → Type 0
-AreKept ends left parts = (place : ℕ) (end : EndOf) → slice_get ends place ≡ Some end → ((k : ℕ) × (slice_get left k ≡ Some end)) ⊎ ((me_of end.part < length parts) × (slice_index_or parts (me_of end.part) no_part ≡ end.part))
+AreKept ends left parts = (place : ℕ) (end : EndOf) → slice_get ends place ≡ Some end
+    → ((k : ℕ) × (slice_get left k ≡ Some end)) ⊎ ((me_of end.part < length parts) × (slice_index_or parts (me_of end.part) no_part ≡ end.part))
 
 -- a vector with nothing in it that has room for so many
 abbrev pub HasRoom : {X Z : Type 0} → ℕ → Vec X Z → Type 0
@@ -179,4 +182,5 @@ module _ {Z : Type 0} where
   -- the packets of the first lanes, whatever the words show there
   pub record AreLanes (nodes : ℕ) (words : List ℕ) (inbox_turns : List (Vec ℕ Z)) (count : ℕ) (lanes : List (List Letter)) : Type 0 where
     pub long : length lanes ≡ count
-    pub each : (lane : ℕ) (packets : List Packet) (o : Outbound) (i : Inbound) → lane < count → Fits words lane packets o i → TakesFrom nodes inbox_turns lane (i.taken % LANE_CELLS) → slice_index_or lanes lane [] ≡ map letter_of packets
+    pub each : (lane : ℕ) (packets : List Packet) (o : Outbound) (i : Inbound) → lane < count → Fits words lane packets o i
+        → TakesFrom nodes inbox_turns lane (i.taken % LANE_CELLS) → slice_index_or lanes lane [] ≡ map letter_of packets

@@ -52,7 +52,8 @@ has_sent_more part lane = sender_of part.node.cache.nodes lane == me_of part && 
 
 -- the part with this node, and this known of a lane
 abbrev pub with_lane_known : ℕ → NodeOf → Outbound → Inbound → Part → Part
-with_lane_known lane node o i part = record { node = node; schedule = part.schedule; outbound = slice_set part.outbound lane o; inbound = slice_set part.inbound lane i }
+with_lane_known lane node o i part =
+    record { node = node; schedule = part.schedule; outbound = slice_set part.outbound lane o; inbound = slice_set part.inbound lane i }
 
 -- a cell was looked at, as its sender does, as its receiver does, or both if they are one node
 abbrev pub looked : ℕ → ℕ → ℕ → Part → Part

@@ -41,7 +41,8 @@ abbrev pub Publishes : Event → NodeOf → Step (Unit {0}) → Me (Unit {0}) Vi
 Publishes event next s before word after = Tells (IsMade (part_of before.0) event) (part_of before.0) (published (lane_in s.word) next (part_of before.0)) after
 
 abbrev pub Frees : Event → NodeOf → Step (Unit {0}) → Me (Unit {0}) View → ℕ → Me (Unit {0}) View → Type 0
-Frees event next s before word after = Tells (IsTaken (part_of before.0) (lane_in s.word) event) (part_of before.0) (freed (lane_in s.word) next (part_of before.0)) after
+Frees event next s before word after =
+    Tells (IsTaken (part_of before.0) (lane_in s.word) event) (part_of before.0) (freed (lane_in s.word) next (part_of before.0)) after
 
 abbrev pub Beats : Event → NodeOf → Step (Unit {0}) → Me (Unit {0}) View → ℕ → Me (Unit {0}) View → Type 0
 Beats event next s before word after = Tells (IsMade (part_of before.0) event) (part_of before.0) (with_node_known next (part_of before.0)) after

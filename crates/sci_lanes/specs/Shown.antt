@@ -1,5 +1,6 @@
 -- What words and views show: the state of a machine.
-use Rattle.std.specs.Prelude.{◌≡◌, ◌≢◌, ◌++◌, ℕ, suc, ◌+◌, ◌<◌, ◌≤◌, true, false, List, [], ◌∷◌, map, length, replicate, slice_index, slice_index_or, slice_get, Some}
+use Rattle.std.specs.Prelude.{◌≡◌, ◌≢◌, ◌++◌, ℕ, suc, ◌+◌, ◌<◌, ◌≤◌, true, false, List, [], ◌∷◌, map, length, replicate, slice_index, slice_index_or, slice_get}
+use Rattle.std.specs.Prelude.{Some}
 use Rattle.std.specs.List.{AllByRecursion, range_with_len}
 use mathlib.Core.Option.{some}
 use lib.ListN.{get_elem?}
@@ -72,7 +73,12 @@ single part = record { parts = part ∷ []; words = [] }
 
 -- a node of a machine in which nothing was done yet
 abbrev pub opening_part : Size → ℕ → Part
-opening_part size n = record { node = opening_node n size; schedule = []; outbound = replicate (lane_count size.nodes) no_outbound; inbound = replicate (lane_count size.nodes) no_inbound }
+opening_part size n = record {
+  node = opening_node n size;
+  schedule = [];
+  outbound = replicate (lane_count size.nodes) no_outbound;
+  inbound = replicate (lane_count size.nodes) no_inbound;
+}
 
 -- all of them, which the first seat has
 abbrev pub first_view : Size → View

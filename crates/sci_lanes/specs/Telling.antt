@@ -56,9 +56,11 @@ pub record IsShown (part : Part) : Type 0 where
   pub outbound_long : length part.outbound ≡ lane_count core.size.nodes
   pub inbound_long : length part.inbound ≡ lane_count core.size.nodes
   -- words found are those of the oldest packet
-  pub found : (lane : ℕ) → lane < lane_count core.size.nodes → receiver_of core.size.nodes lane ≡ me_of part → 0 < length (inbound_at part lane).found → IsFront (lane_at core lane) (inbound_at part lane).found
+  pub found : (lane : ℕ) → lane < lane_count core.size.nodes → receiver_of core.size.nodes lane ≡ me_of part → 0 < length (inbound_at part lane).found
+      → IsFront (lane_at core lane) (inbound_at part lane).found
   -- a cell known empty has room for a packet
-  pub vacant : (lane : ℕ) → lane < lane_count core.size.nodes → sender_of core.size.nodes lane ≡ me_of part → (outbound_at part lane).vacant ≡ true → length (lane_at core lane) < LANE_CELLS
+  pub vacant : (lane : ℕ) → lane < lane_count core.size.nodes → sender_of core.size.nodes lane ≡ me_of part → (outbound_at part lane).vacant ≡ true
+      → length (lane_at core lane) < LANE_CELLS
   -- a lane has a place for each packet
   pub room : (lane : ℕ) → lane < lane_count core.size.nodes → length (lane_at core lane) ≤ LANE_CELLS
   -- the node knows how many packets are in a lane to itself

@@ -21,13 +21,16 @@ use Rattle.sci_outcomes.proofs.Counts.{tally_more, tally_same}
 -- ---- the order of outcomes
 
 replied_total : IsTotalOrder replied_cmp
-replied_total = then_total (on_total (λ (r : Replied). r.node) nat_cmp_total) (then_total (on_total (λ (r : Replied). r.serial) nat_cmp_total) (on_total (λ (r : Replied). r.word) nat_cmp_total))
+replied_total = then_total (on_total (λ (r : Replied). r.node) nat_cmp_total)
+    (then_total (on_total (λ (r : Replied). r.serial) nat_cmp_total) (on_total (λ (r : Replied). r.word) nat_cmp_total))
 
 held_total : IsTotalOrder held_cmp
-held_total = then_total (on_total (λ (h : Held). h.line) nat_cmp_total) (then_total (on_total (λ (h : Held). h.word) nat_cmp_total) (on_total (λ (h : Held). h.value) nat_cmp_total))
+held_total = then_total (on_total (λ (h : Held). h.line) nat_cmp_total)
+    (then_total (on_total (λ (h : Held). h.word) nat_cmp_total) (on_total (λ (h : Held). h.value) nat_cmp_total))
 
 pub outcome_total : IsTotalOrder outcome_cmp
-outcome_total = then_total (on_total (λ (o : Outcome). o.replies.items) (lists_total replied_total)) (on_total (λ (o : Outcome). o.last.items) (lists_total held_total))
+outcome_total = then_total (on_total (λ (o : Outcome). o.replies.items) (lists_total replied_total))
+    (on_total (λ (o : Outcome). o.last.items) (lists_total held_total))
 
 abbrev pub is_same : Outcome → Outcome → Bool
 is_same = eq_by_cmp outcome_cmp
@@ -41,14 +44,16 @@ same_sightings a b is = fun_ext (λ (s : Sighting). (eq_by_cmp_equiv outcome_tot
 
 -- ---- one more
 
-module _ (old : Histogram) (tallies : BTreeMap Outcome Tally) (seen : List Sighting) (x : Sighting) (tally : Tally) (counted : HasCounted old seen) (tally_is : tally ≡ with_run (get outcome_cmp old.tallies x.outcome) old.runs x.in_order) where
+module _ (old : Histogram) (tallies : BTreeMap Outcome Tally) (seen : List Sighting) (x : Sighting) (tally : Tally) (counted : HasCounted old seen)
+    (tally_is : tally ≡ with_run (get outcome_cmp old.tallies x.outcome) old.runs x.in_order) where
   some_tally : (q : Outcome) → is_same x.outcome q ≡ true → Some tally ≡ tally_by (has_outcome q) (seen ++ x ∷ [])
   some_tally q is =
       ap Some tally_is
       ∙ (ap (λ t. Some (with_run t old.runs x.in_order)) (counted.each x.outcome ∙ ap (λ p. tally_by p seen) (same_sightings x.outcome q is))
       ∙ (ap (λ n. Some (with_run (tally_by (has_outcome q) seen) n x.in_order)) counted.many ∙ tally_more (has_outcome q) seen x (same_back q x.outcome ∙ is)))
 
-  each_tally : (q : Outcome) (b : Bool) → is_same x.outcome q ≡ b → get outcome_cmp tallies q ≡ cond b (Some tally) (get outcome_cmp old.tallies q) → get outcome_cmp tallies q ≡ tally_by (has_outcome q) (seen ++ x ∷ [])
+  each_tally : (q : Outcome) (b : Bool) → is_same x.outcome q ≡ b → get outcome_cmp tallies q ≡ cond b (Some tally) (get outcome_cmp old.tallies q)
+      → get outcome_cmp tallies q ≡ tally_by (has_outcome q) (seen ++ x ∷ [])
   each_tally q true is now = now ∙ some_tally q is
   each_tally q false is now = now ∙ (counted.each q ∙ tally_same (has_outcome q) seen x (same_back q x.outcome ∙ is))
 
@@ -56,13 +61,18 @@ module _ (old : Histogram) (tallies : BTreeMap Outcome Tally) (seen : List Sight
   runs_of None n b = refl
   runs_of (Some t) n b = refl
 
-  pub counted_more : Updates outcome_cmp old.tallies tallies x.outcome (Some tally) → tallies.entries ≡ insert_entry outcome_cmp old.tallies.entries x.outcome tally → IsOrdered outcome_cmp old.tallies → HasCounted (record { tallies = tallies; runs = old.runs + 1 }) (seen ++ x ∷ [])
+  pub counted_more : Updates outcome_cmp old.tallies tallies x.outcome (Some tally)
+      → tallies.entries ≡ insert_entry outcome_cmp old.tallies.entries x.outcome tally → IsOrdered outcome_cmp old.tallies
+      → HasCounted (record { tallies = tallies; runs = old.runs + 1 }) (seen ++ x ∷ [])
   counted_more updates entries ordered =
       let long : length (seen ++ x ∷ []) ≡ length seen + 1 = length-append seen (x ∷ []) in
-      let total : sum_by (λ (t : Tally). t.runs) (values_of (insert_entry outcome_cmp old.tallies.entries x.outcome tally)) + unwrap_or (option_map (λ (t : Tally). t.runs) (get outcome_cmp old.tallies x.outcome)) 0 ≡ sum_by (λ (t : Tally). t.runs) (values old.tallies) + tally.runs
+      let total : sum_by (λ (t : Tally). t.runs) (values_of (insert_entry outcome_cmp old.tallies.entries x.outcome tally)) + unwrap_or
+      (option_map (λ (t : Tally). t.runs) (get outcome_cmp old.tallies x.outcome)) 0 ≡ sum_by (λ (t : Tally). t.runs) (values old.tallies) + tally.runs
       = sum_by-insert_entry (λ (t : Tally). t.runs) outcome_total old.tallies.entries x.outcome tally ordered in
-      let runs : tally.runs ≡ unwrap_or (option_map (λ (t : Tally). t.runs) (get outcome_cmp old.tallies x.outcome)) 0 + 1 = ap (λ (t : Tally). t.runs) tally_is ∙ runs_of (get outcome_cmp old.tallies x.outcome) old.runs x.in_order in
-      let now : sum_by (λ (t : Tally). t.runs) (values tallies) ≡ sum_by (λ (t : Tally). t.runs) (values_of (insert_entry outcome_cmp old.tallies.entries x.outcome tally)) = ap (λ es. sum_by (λ (t : Tally). t.runs) (values_of es)) entries in
+      let runs : tally.runs ≡ unwrap_or (option_map (λ (t : Tally). t.runs) (get outcome_cmp old.tallies x.outcome)) 0 + 1 =
+      ap (λ (t : Tally). t.runs) tally_is ∙ runs_of (get outcome_cmp old.tallies x.outcome) old.runs x.in_order in
+      let now : sum_by (λ (t : Tally). t.runs) (values tallies) ≡ sum_by (λ (t : Tally). t.runs)
+      (values_of (insert_entry outcome_cmp old.tallies.entries x.outcome tally)) = ap (λ es. sum_by (λ (t : Tally). t.runs) (values_of es)) entries in
       let many = counted.many in
       let whole = counted.whole in
       record {

@@ -16,7 +16,8 @@ use Rattle.std.proofs.lemmas.List.Sorted.{All-permutation, ranks_by, sum_by-IsPe
 use Rattle.std.proofs.lemmas.List.Sums.{sum_by-cons, sum-map}
 use Rattle.std.proofs.lemmas.Map.{NonePasses}
 use Rattle.std.proofs.lemmas.Map.Entries.{btree_map_get_place, lookup_tail, none_past_head}
-use Rattle.std.proofs.lemmas.Map.Keys.{IsDistinct-cons, IsDistinct-from_sorted, IsDistinct-head, IsDistinct-IsPermutation, IsDistinct-tail, Less-from_sorted, apart_from_distinct, ge_from_not_lt, sorted_from_all_adjacent}
+use Rattle.std.proofs.lemmas.Map.Keys.{IsDistinct-cons, IsDistinct-from_sorted, IsDistinct-head, IsDistinct-IsPermutation, IsDistinct-tail, Less-from_sorted}
+use Rattle.std.proofs.lemmas.Map.Keys.{apart_from_distinct, ge_from_not_lt, sorted_from_all_adjacent}
 use Rattle.std.proofs.lemmas.Option.{slice_get-get_or}
 use Rattle.sci_outcomes.specs.declared.histogram.Histogram.{Histogram}
 use Rattle.sci_outcomes.specs.declared.histogram.Row.{Row}
@@ -43,7 +44,9 @@ none_counts (e ∷ es) q none =
     let here : bit (is_same e.0 q) ≡ 0 = ap bit (same_back e.0 q ∙ none.0) in
     sum_by-cons (λ f. bit (is_same f.0 q)) e es ∙ omega (arith, rest, here)
 
-one_at : (e : Outcome × Tally) (es : List (Outcome × Tally)) (q : Outcome) (t : Tally) (b : Bool) → (lookup (is_at (outcome_cmp q)) es ≡ Some t → count_by (λ f. is_same f.0 q) es ≡ 1) → is_same q e.0 ≡ b → IsDistinct is_same (keys_of (e ∷ es)) → lookup (is_at (outcome_cmp q)) (e ∷ es) ≡ Some t
+one_at : (e : Outcome × Tally) (es : List (Outcome × Tally)) (q : Outcome) (t : Tally) (b : Bool)
+    → (lookup (is_at (outcome_cmp q)) es ≡ Some t → count_by (λ f. is_same f.0 q) es ≡ 1) → is_same q e.0 ≡ b → IsDistinct is_same (keys_of (e ∷ es))
+    → lookup (is_at (outcome_cmp q)) (e ∷ es) ≡ Some t
     → count_by (λ f. is_same f.0 q) (e ∷ es) ≡ 1
 one_at e es q t true later is distinct found =
     let rest : count_by (λ f. is_same f.0 q) es ≡ 0 = none_counts es q (none_past_head (eq_by_cmp_equiv outcome_total) q e es distinct is) in
@@ -54,20 +57,25 @@ one_at e es q t false later is distinct found =
     let here : bit (is_same e.0 q) ≡ 0 = ap bit (same_back e.0 q ∙ is) in
     sum_by-cons (λ f. bit (is_same f.0 q)) e es ∙ omega (arith, rest, here)
 
-one_entry : (es : List (Outcome × Tally)) (q : Outcome) (t : Tally) → IsDistinct is_same (keys_of es) → lookup (is_at (outcome_cmp q)) es ≡ Some t → count_by (λ e. is_same e.0 q) es ≡ 1
+one_entry : (es : List (Outcome × Tally)) (q : Outcome) (t : Tally) → IsDistinct is_same (keys_of es) → lookup (is_at (outcome_cmp q)) es ≡ Some t
+    → count_by (λ e. is_same e.0 q) es ≡ 1
 one_entry [] q t distinct found = let none_some : None ≡ Some t = found in absurd cc
-one_entry (e ∷ es) q t distinct found = one_at e es q t (is_same q e.0) (one_entry es q t (IsDistinct-tail is_same e.0 (keys_of es) distinct)) refl distinct found
+one_entry (e ∷ es) q t distinct found =
+    one_at e es q t (is_same q e.0) (one_entry es q t (IsDistinct-tail is_same e.0 (keys_of es) distinct)) refl distinct found
 
 -- ---- rows of one outcome
 
-apart_head : (e : Outcome × Tally) (es : List (Outcome × Tally)) → AllByRecursion (λ o. is_same e.0 o ≡ false) (keys_of es) → AllByRecursion (λ row. row_same (row_of e) row ≡ false) (map row_of es)
+apart_head : (e : Outcome × Tally) (es : List (Outcome × Tally)) → AllByRecursion (λ o. is_same e.0 o ≡ false) (keys_of es)
+    → AllByRecursion (λ row. row_same (row_of e) row ≡ false) (map row_of es)
 apart_head e [] all = tt
 apart_head e (f ∷ es) all = (all.0, apart_head e es all.1)
 
 rows_distinct : (es : List (Outcome × Tally)) → IsDistinct is_same (keys_of es) → IsDistinct row_same (map row_of es)
 unfolding IsDistinct
 rows_distinct [] distinct = tt
-rows_distinct (e ∷ es) distinct = IsDistinct-cons row_same (row_of e) (map row_of es) (apart_head e es (IsDistinct-head is_same e.0 (keys_of es) distinct)) (rows_distinct es (IsDistinct-tail is_same e.0 (keys_of es) distinct))
+rows_distinct (e ∷ es) distinct =
+    IsDistinct-cons row_same (row_of e) (map row_of es) (apart_head e es (IsDistinct-head is_same e.0 (keys_of es) distinct))
+    (rows_distinct es (IsDistinct-tail is_same e.0 (keys_of es) distinct))
 
 -- ---- the order
 
@@ -94,8 +102,11 @@ entries_sorted es sorted = λ k d _ lt.
     let longs : length (keys_of es) ≡ length es = length-map es (λ e. e.0) in
     let pair : Outcome × Tally = (d.outcome, record { runs = d.runs; first = d.first; in_order = d.in_order }) in
     let key = λ (i : ℕ). get_or (keys_of es) i d.outcome in
-    let at : (i : ℕ) → i < length es → (get_or (map row_of es) i d).outcome ≡ key i = λ i below. ap (λ (row : Row). row.outcome) (get_or-map row_of es i pair d below) ∙ sym (get_or-map (λ (e : Outcome × Tally). e.0) es i pair d.outcome below) in
-    let less : outcome_cmp (key k) (key (k + 1)) ≡ Less = Less-from_sorted outcome_cmp (keys_of es) k (k + 1) d.outcome sorted (omega arith) (omega (arith, lt, long, longs)) in
+    let at : (i : ℕ) → i < length es → (get_or (map row_of es) i d).outcome ≡ key i =
+    λ i below. ap (λ (row : Row). row.outcome) (get_or-map row_of es i pair d below)
+    ∙ sym (get_or-map (λ (e : Outcome × Tally). e.0) es i pair d.outcome below) in
+    let less : outcome_cmp (key k) (key (k + 1)) ≡ Less =
+    Less-from_sorted outcome_cmp (keys_of es) k (k + 1) d.outcome sorted (omega arith) (omega (arith, lt, long, longs)) in
     ap (λ o. is_lt (outcome_cmp o (get_or (map row_of es) k d).outcome)) (at (k + 1) (omega (arith, lt, long)))
     ∙ (ap (λ o. is_lt (outcome_cmp (key (k + 1)) o)) (at k (omega (arith, lt, long))) ∙ less_back (key k) (key (k + 1)) less)
 
@@ -114,7 +125,8 @@ ranked_neighbours a b le ties_stay apart =
     let outcomes = outcome_cmp a.outcome b.outcome in
     by_ranked (b.runs < a.runs) (b.runs ≡ a.runs) (a.runs < b.runs) (nat_cmp b.runs a.runs) (ranked b.runs a.runs (nat_cmp b.runs a.runs) refl)
     (λ less _. ap (λ (o : Ordering). ordering_then o outcomes) less)
-    (λ equal is. ap (λ (o : Ordering). ordering_then o outcomes) equal ∙ below outcomes (outcome_cmp b.outcome a.outcome) (outcome_total.antisymm a.outcome b.outcome) (ties_stay is) apart)
+    (λ equal is. ap (λ (o : Ordering). ordering_then o outcomes) equal
+    ∙ below outcomes (outcome_cmp b.outcome a.outcome) (outcome_total.antisymm a.outcome b.outcome) (ties_stay is) apart)
     (λ _ lt. absurd (omega (arith, lt, le)))
 
 tied : (a b : Row) → b.runs ≡ a.runs → ties is_more a b ≡ true
@@ -126,12 +138,14 @@ tied a b same =
 row_total : IsTotalOrder row_cmp
 row_total = then_total (on_total runs_of (back_total nat_cmp_total)) (on_total (λ (row : Row). row.outcome) outcome_total)
 
-strictly : (rows : List Row) → ((d : Row) (k : ℕ) → k + 1 < length rows → row_cmp (get_or rows k d) (get_or rows (k + 1) d) ≡ Less) → IsStrictlySortedBy row_cmp rows
+strictly : (rows : List Row) → ((d : Row) (k : ℕ) → k + 1 < length rows → row_cmp (get_or rows k d) (get_or rows (k + 1) d) ≡ Less)
+    → IsStrictlySortedBy row_cmp rows
 unfolding IsStrictlySortedBy
 strictly [] neighbours = tt
 strictly (row ∷ rows) neighbours = sorted_from_all_adjacent row_total (row ∷ rows) row (neighbours row)
 
-module _ (histogram : Histogram) (seen : List Sighting) (rows : List Row) (counted : HasCounted histogram seen) (ordered : IsOrdered outcome_cmp histogram.tallies) (moved : IsPermutation (map row_of histogram.tallies.entries) rows)
+module _ (histogram : Histogram) (seen : List Sighting) (rows : List Row) (counted : HasCounted histogram seen)
+    (ordered : IsOrdered outcome_cmp histogram.tallies) (moved : IsPermutation (map row_of histogram.tallies.entries) rows)
     (sorted : IsSortedBy is_more rows) (stable : IsStableBy is_more (map row_of histogram.tallies.entries) rows) where
   abbrev es : List (Outcome × Tally)
   es = histogram.tallies.entries
@@ -142,7 +156,8 @@ module _ (histogram : Histogram) (seen : List Sighting) (rows : List Row) (count
   entry_row : All (λ e. IsRowOf seen (row_of e)) es
   entry_row = λ k d lt.
       let e : Outcome × Tally = get_or es k d in
-      let there : get outcome_cmp histogram.tallies e.0 ≡ Some e.1 = btree_map_get_place outcome_total histogram.tallies k e.0 e.1 ordered (slice_get-get_or es k d lt) in
+      let there : get outcome_cmp histogram.tallies e.0 ≡ Some e.1 =
+      btree_map_get_place outcome_total histogram.tallies k e.0 e.1 ordered (slice_get-get_or es k d lt) in
       let says = tally_is (has_outcome e.0) seen e.1 (sym (counted.each e.0) ∙ there) in
       record { runs = says.0; first = says.1; in_order = says.2 }
 
@@ -154,10 +169,12 @@ module _ (histogram : Histogram) (seen : List Sighting) (rows : List Row) (count
       let s : Sighting = get_or seen k d in
       let some = some_tally (has_outcome s.outcome) seen k d lt (ap is_eq (tied_itself outcome_total s.outcome)) in
       let one : count_by (λ e. is_same e.0 s.outcome) es ≡ 1 = one_entry es s.outcome some.0 distinct (counted.each s.outcome ∙ some.1) in
-      sum_by-IsPermutation (λ (row : Row). bit (has_outcome row.outcome s)) (map row_of es) rows moved ∙ (sum_by_map (λ (row : Row). bit (has_outcome row.outcome s)) row_of es ∙ one)
+      sum_by-IsPermutation (λ (row : Row). bit (has_outcome row.outcome s)) (map row_of es) rows moved
+      ∙ (sum_by_map (λ (row : Row). bit (has_outcome row.outcome s)) row_of es ∙ one)
 
   whole : sum (map runs_of rows) ≡ length seen
-  whole = sum-map runs_of rows ∙ (sum_by-IsPermutation runs_of (map row_of es) rows moved ∙ (sum_by_map runs_of row_of es ∙ (sym (sum_by_map (λ (t : Tally). t.runs) (λ (e : Outcome × Tally). e.1) es) ∙ counted.whole)))
+  whole = sum-map runs_of rows ∙ (sum_by-IsPermutation runs_of (map row_of es) rows moved
+      ∙ (sum_by_map runs_of row_of es ∙ (sym (sum_by_map (λ (t : Tally). t.runs) (λ (e : Outcome × Tally). e.1) es) ∙ counted.whole)))
 
   rows_apart : IsDistinct row_same rows
   rows_apart = IsDistinct-IsPermutation row_same (λ a b. same_back a.outcome b.outcome) (map row_of es) rows moved (rows_distinct es distinct)
@@ -166,7 +183,8 @@ module _ (histogram : Histogram) (seen : List Sighting) (rows : List Row) (count
   neighbours d k lt =
       let a = get_or rows k d in
       let b = get_or rows (k + 1) d in
-      ranked_neighbours a b (ge_from_not_lt a.runs b.runs (sorted k d (omega arith) lt)) (λ same. ties_stay_sorted before is_more before_order more_order (map row_of es) rows (entries_sorted es ordered) stable k d lt (tied a b same))
+      ranked_neighbours a b (ge_from_not_lt a.runs b.runs (sorted k d (omega arith) lt))
+      (λ same. ties_stay_sorted before is_more before_order more_order (map row_of es) rows (entries_sorted es ordered) stable k d lt (tied a b same))
       (apart_from_distinct row_same rows k (k + 1) d rows_apart (omega arith) lt)
 
   pub are_rows : AreRowsOf seen rows

@@ -5,7 +5,8 @@ use Rattle.std.specs.Option.{is_some}
 use Rattle.sci_words.specs.declared.stamped.Stamped.{Stamped}
 use Rattle.sci_words.specs.Stamped.{zero_stamped}
 use Rattle.sci_packets.specs.declared.body.Body.{Body}
-use Rattle.sci_packets.specs.declared.body.Body.TheVariants.{Mread, Cread, Purge, Roll, Wback, Setback, Fread, Claim, Clear, Mdata, Mgone, Cdata, Purged, Rolled, Wbok, Wbno, Told, Busy, Fdata}
+use Rattle.sci_packets.specs.declared.body.Body.TheVariants.{Mread, Cread, Purge, Roll, Wback, Setback, Fread, Claim, Clear, Mdata, Mgone, Cdata, Purged}
+use Rattle.sci_packets.specs.declared.body.Body.TheVariants.{Rolled, Wbok, Wbno, Told, Busy, Fdata}
 use Rattle.sci_packets.specs.declared.table.Parts.{Parts}
 use Rattle.sci_packets.specs.Fields.{word_bytes, contents_words}
 use Rattle.sci_packets.specs.Spelling.{IsContents}
@@ -60,10 +61,12 @@ body_from-parts_of Told = refl
 body_from-parts_of Busy = refl
 body_from-parts_of (Fdata old_head contents) = refl
 
-joined : (made : ℕ → Option ℕ → Option Stamped → Parts) (c c' : ℕ) (i i' : Option ℕ) (s s' : Option Stamped) → c ≡ c' → i ≡ i' → s ≡ s' → made c i s ≡ made c' i' s'
+joined : (made : ℕ → Option ℕ → Option Stamped → Parts) (c c' : ℕ) (i i' : Option ℕ) (s s' : Option Stamped) → c ≡ c' → i ≡ i' → s ≡ s'
+    → made c i s ≡ made c' i' s'
 joined made c c' i i' s s' p q r = cc
 
-pub same_body : (a b : Body) → (parts_of a).command ≡ (parts_of b).command → (parts_of a).identifier ≡ (parts_of b).identifier → (parts_of a).contents ≡ (parts_of b).contents → a ≡ b
+pub same_body : (a b : Body) → (parts_of a).command ≡ (parts_of b).command → (parts_of a).identifier ≡ (parts_of b).identifier
+    → (parts_of a).contents ≡ (parts_of b).contents → a ≡ b
 same_body a b c i s =
     let e : parts_of a ≡ parts_of b = joined (λ c i s. record { command = c; identifier = i; contents = s }) _ _ _ _ _ _ c i s in
     sym (body_from-parts_of a) ∙ ap body_from e ∙ body_from-parts_of b
@@ -76,7 +79,8 @@ pub record IsKnown (p : Parts) : Type 0 where
   pub above : 0 < p.command
   pub below : p.command < 2 ^ 16
 
-known : (p : Parts) → is_command p.command ≡ true → is_misnamed p.command p.identifier ≡ false → takes_contents p.command ≡ is_some p.contents → 0 < p.command → p.command < 2 ^ 16 → IsKnown p
+known : (p : Parts) → is_command p.command ≡ true → is_misnamed p.command p.identifier ≡ false → takes_contents p.command ≡ is_some p.contents → 0 < p.command
+    → p.command < 2 ^ 16 → IsKnown p
 known p a b c d e = record { command = a; identifier = b; contents = c; above = d; below = e }
 
 pub is_known : (body : Body) → IsKnown (parts_of body)
@@ -117,7 +121,8 @@ each stamped h zero = h.version
 each stamped h (suc i) = h.words i
 
 -- contents by their bytes, whatever follows
-pub contents_cancel : (a b : Option Stamped) (r s : List ℕ) → IfSome a IsContents → IfSome b IsContents → is_some a ≡ is_some b → word_bytes (contents_words a) ++ r ≡ word_bytes (contents_words b) ++ s → (a ≡ b) × (r ≡ s)
+pub contents_cancel : (a b : Option Stamped) (r s : List ℕ) → IfSome a IsContents → IfSome b IsContents → is_some a ≡ is_some b
+    → word_bytes (contents_words a) ++ r ≡ word_bytes (contents_words b) ++ s → (a ≡ b) × (r ≡ s)
 contents_cancel None None r s h k v e = (refl, e)
 contents_cancel None (Some b) r s h k v e = absurd cc
 contents_cancel (Some a) None r s h k v e = absurd cc

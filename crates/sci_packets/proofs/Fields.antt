@@ -1,8 +1,10 @@
 -- A field that is read is the one that was written, and what was written is read again.
-use Rattle.std.proofs.Common.{◌≡◌, ℕ, zero, suc, ◌+◌, ◌-◌, ◌*◌, ◌^◌, ◌<◌, ◌≤◌, List, [], ◌∷◌, ◌++◌, length, get_or, take, drop, refl, sym, ap, ◌∙◌, append_assoc, add-zero, arith, inl, inr}
+use Rattle.std.proofs.Common.{◌≡◌, ℕ, zero, suc, ◌+◌, ◌-◌, ◌*◌, ◌^◌, ◌<◌, ◌≤◌, List, [], ◌∷◌, ◌++◌, length, get_or, take, drop, refl, sym, ap, ◌∙◌}
+use Rattle.std.proofs.Common.{append_assoc, add-zero, arith, inl, inr}
 use Rattle.std.proofs.lemmas.Bool.{cases_lt}
 use Rattle.std.specs.List.{between}
-use Rattle.std.proofs.lemmas.List.{take_at, drop_at, drop_all, drop-take, drop-drop, take-append-drop, length-append, length-take, length-drop, get_or-drop, get_or-take, get_or_past, append-nil}
+use Rattle.std.proofs.lemmas.List.{take_at, drop_at, drop_all, drop-take, drop-drop, take-append-drop, length-append, length-take, length-drop, get_or-drop}
+use Rattle.std.proofs.lemmas.List.{get_or-take, get_or_past, append-nil}
 use Rattle.std.proofs.lemmas.Nat.{be_bytes_2, be_bytes_8}
 use borrow.Rule.Slice.PartMut.{put_mid}
 use Rattle.byteorder.specs.Endian.{big_number}
@@ -67,12 +69,14 @@ six bytes len fits =
     ap (λ (bytes : List ℕ). drop 2 bytes) whole
 
 -- what stands from place k on begins with the field that is read there
-pub field_takes : (k n : ℕ) (bytes : List ℕ) → IsWidth n → IsBytes bytes → k + n ≤ length bytes → drop k bytes ≡ field n (field_at k n bytes) ++ drop (k + n) bytes
+pub field_takes : (k n : ℕ) (bytes : List ℕ) → IsWidth n → IsBytes bytes → k + n ≤ length bytes
+    → drop k bytes ≡ field n (field_at k n bytes) ++ drop (k + n) bytes
 unfolding field_at
 field_takes k n bytes wide fits le =
     let rest = drop k bytes in
     let len : length (take n rest) ≡ n = omega (arith, length-take n rest, length-drop k bytes) in
-    let same : field n (big_number n rest) ≡ take n rest = ap (λ (x : ℕ). field n x) (sym (big_from-take 0 n n rest (omega arith))) ∙ wide (take n rest) len (IsBytes-take n rest (IsBytes-drop k bytes fits)) in
+    let same : field n (big_number n rest) ≡ take n rest =
+    ap (λ (x : ℕ). field n x) (sym (big_from-take 0 n n rest (omega arith))) ∙ wide (take n rest) len (IsBytes-take n rest (IsBytes-drop k bytes fits)) in
     rw same (rw (← drop-drop n k bytes) (sym (take-append-drop n rest)))
 
 pub field_at-lt : (k n : ℕ) (bytes : List ℕ) → IsBytes bytes → field_at k n bytes < 256 ^ n
@@ -85,12 +89,14 @@ pub length-word_bytes : (words : List ℕ) → length (word_bytes words) ≡ 8 *
 length-word_bytes [] = refl
 length-word_bytes (w ∷ words) = omega (arith, length-append (field 8 w) (word_bytes words), length-field 8 w, length-word_bytes words)
 
-pub words_takes : (k n e : ℕ) (bytes : List ℕ) → IsBytes bytes → e ≡ k + 8 * n → e ≤ length bytes → drop k bytes ≡ word_bytes (words_at k n bytes) ++ drop e bytes
+pub words_takes : (k n e : ℕ) (bytes : List ℕ) → IsBytes bytes → e ≡ k + 8 * n → e ≤ length bytes
+    → drop k bytes ≡ word_bytes (words_at k n bytes) ++ drop e bytes
 words_takes k zero e bytes fits is le = let same : k ≡ e = omega arith in ap (λ (i : ℕ). drop i bytes) same
 words_takes k (suc n) e bytes fits is le =
     let first = field_takes k 8 bytes eight fits (omega arith) in
     let others = words_takes (k + 8) n e bytes fits (omega arith) le in
-    first ∙ ap (λ (r : List ℕ). field 8 (field_at k 8 bytes) ++ r) others ∙ sym (append_assoc (field 8 (field_at k 8 bytes)) (word_bytes (words_at (k + 8) n bytes)) (drop e bytes))
+    first ∙ ap (λ (r : List ℕ). field 8 (field_at k 8 bytes) ++ r) others
+    ∙ sym (append_assoc (field 8 (field_at k 8 bytes)) (word_bytes (words_at (k + 8) n bytes)) (drop e bytes))
 
 pub words_at-lt : (k n : ℕ) (bytes : List ℕ) → IsBytes bytes → (i : ℕ) → get_or (words_at k n bytes) i 0 < 2 ^ 64
 words_at-lt k zero bytes fits i = omega arith
@@ -102,7 +108,8 @@ length-words_at k zero bytes = refl
 length-words_at k (suc n) bytes = ap suc (length-words_at (k + 8) n bytes)
 
 -- as many words with one spelling, whatever follows, are the same words
-pub words_cancel : (xs ys r s : List ℕ) → length xs ≡ length ys → ((i : ℕ) → get_or xs i 0 < 2 ^ 64) → ((i : ℕ) → get_or ys i 0 < 2 ^ 64) → word_bytes xs ++ r ≡ word_bytes ys ++ s → (xs ≡ ys) × (r ≡ s)
+pub words_cancel : (xs ys r s : List ℕ) → length xs ≡ length ys → ((i : ℕ) → get_or xs i 0 < 2 ^ 64) → ((i : ℕ) → get_or ys i 0 < 2 ^ 64)
+    → word_bytes xs ++ r ≡ word_bytes ys ++ s → (xs ≡ ys) × (r ≡ s)
 words_cancel [] [] r s len hx hy e = (refl, e)
 words_cancel [] (y ∷ ys) r s len hx hy e = absurd (omega arith)
 words_cancel (x ∷ xs) [] r s len hx hy e = absurd (omega arith)
@@ -113,41 +120,49 @@ words_cancel (x ∷ xs) (y ∷ ys) r s len hx hy e =
     (cc (first.0, others.0), others.1)
 
 -- words that are read one by one
-pub words_at_is : (k n : ℕ) (bytes words : List ℕ) → length words ≡ n → ((i : ℕ) → i < n → get_or words i 0 ≡ field_at (k + 8 * i) 8 bytes) → words ≡ words_at k n bytes
+pub words_at_is : (k n : ℕ) (bytes words : List ℕ) → length words ≡ n → ((i : ℕ) → i < n → get_or words i 0 ≡ field_at (k + 8 * i) 8 bytes)
+    → words ≡ words_at k n bytes
 words_at_is k zero bytes [] len each = refl
 words_at_is k zero bytes (w ∷ words) len each = absurd (omega arith)
 words_at_is k (suc n) bytes [] len each = absurd (omega arith)
 words_at_is k (suc n) bytes (w ∷ words) len each =
     let first : w ≡ field_at k 8 bytes = each 0 (omega arith) ∙ ap (λ (i : ℕ). field_at i 8 bytes) (add-zero k) in
-    let others = words_at_is (k + 8) n bytes words (omega arith) (λ i lt. each (suc i) (omega arith) ∙ (let p : k + 8 * suc i ≡ k + 8 + 8 * i = omega arith in ap (λ (i : ℕ). field_at i 8 bytes) p)) in
+    let others = words_at_is (k + 8) n bytes words (omega arith)
+    (λ i lt. each (suc i) (omega arith) ∙ (let p : k + 8 * suc i ≡ k + 8 + 8 * i = omega arith in ap (λ (i : ℕ). field_at i 8 bytes) p)) in
     cc
 
 -- the words that `read_u64_into` gives
-pub words_read : (bytes words : List ℕ) → 88 ≤ length bytes → length words ≡ 8 → ((i : ℕ) → i < length words → get_or words i 0 ≡ big_number 8 (drop (8 * i) (between 24 88 bytes))) → words ≡ words_at 24 8 bytes
+pub words_read : (bytes words : List ℕ) → 88 ≤ length bytes → length words ≡ 8
+    → ((i : ℕ) → i < length words → get_or words i 0 ≡ big_number 8 (drop (8 * i) (between 24 88 bytes))) → words ≡ words_at 24 8 bytes
 unfolding field_at
 words_read bytes words long len each =
     words_at_is 24 8 bytes words len (λ i lt.
     let split : 64 ≡ 8 * i + (64 - 8 * i) = omega arith in
-    let cut : drop (8 * i) (between 24 88 bytes) ≡ take (64 - 8 * i) (drop (8 * i) (drop 24 bytes)) = ap (λ (n : ℕ). drop (8 * i) (take n (drop 24 bytes))) split ∙ drop-take (8 * i) (64 - 8 * i) (drop 24 bytes) in
+    let cut : drop (8 * i) (between 24 88 bytes) ≡ take (64 - 8 * i) (drop (8 * i) (drop 24 bytes)) =
+    ap (λ (n : ℕ). drop (8 * i) (take n (drop 24 bytes))) split ∙ drop-take (8 * i) (64 - 8 * i) (drop 24 bytes) in
     each i (omega arith)
     ∙ ap (λ (b : List ℕ). big_number 8 b) cut
     ∙ big_from-take 0 8 (64 - 8 * i) (drop (8 * i) (drop 24 bytes)) (omega arith)
     ∙ ap (λ (b : List ℕ). big_number 8 b) (drop-drop (8 * i) 24 bytes))
 
 -- a number written over place 16 and then words over place 24
-pub words_written : (to first second rest words : List ℕ) (v : ℕ) → length to ≡ 88 → first ≡ field 8 v ++ rest → second ≡ word_bytes words → length first ≡ 72 → length second ≡ 64
+pub words_written : (to first second rest words : List ℕ) (v : ℕ) → length to ≡ 88 → first ≡ field 8 v ++ rest → second ≡ word_bytes words → length first ≡ 72
+    → length second ≡ 64
     → put_mid 24 64 (put_mid 16 72 to first) second ≡ take 16 to ++ (field 8 v ++ word_bytes words)
 words_written to first second rest words v len e f len-first len-second =
     let front = take 16 to ++ field 8 v in
     let len-front : length front ≡ 24 = omega (arith, length-append (take 16 to) (field 8 v), length-take 16 to, length-field 8 v) in
     let past : drop 72 (drop 16 to) ≡ [] = drop_all 72 (drop 16 to) (omega (arith, length-drop 16 to)) in
-    let once : put_mid 16 72 to first ≡ front ++ rest = rw past (ap (λ (x : List ℕ). take 16 to ++ x) (append-nil first ∙ e) ∙ sym (append_assoc (take 16 to) (field 8 v) rest)) in
+    let once : put_mid 16 72 to first ≡ front ++ rest =
+    rw past (ap (λ (x : List ℕ). take 16 to ++ x) (append-nil first ∙ e) ∙ sym (append_assoc (take 16 to) (field 8 v) rest)) in
     let len-rest : length rest ≡ 64 = omega (arith, length-append (field 8 v) rest, length-field 8 v, ap (λ (x : List ℕ). length x) e) in
     let past2 : drop 64 (drop 24 (front ++ rest)) ≡ [] = rw (drop_at front rest 24 len-front) (drop_all 64 rest (omega arith)) in
     ap (λ (x : List ℕ). put_mid 24 64 x second) once
-    ∙ (rw (take_at front rest 24 len-front, past2) (ap (λ (x : List ℕ). front ++ x) (append-nil second ∙ f) ∙ append_assoc (take 16 to) (field 8 v) (word_bytes words)))
+    ∙ (rw (take_at front rest 24 len-front, past2)
+    (ap (λ (x : List ℕ). front ++ x) (append-nil second ∙ f) ∙ append_assoc (take 16 to) (field 8 v) (word_bytes words)))
 
-pub contents_read : (bytes words line : List ℕ) (version : ℕ) → 88 ≤ length bytes → length words ≡ 8 → ((i : ℕ) → i < length words → get_or words i 0 ≡ big_number 8 (drop (8 * i) (between 24 88 bytes))) → line ≡ words → version ≡ field_at 16 8 bytes
+pub contents_read : (bytes words line : List ℕ) (version : ℕ) → 88 ≤ length bytes → length words ≡ 8
+    → ((i : ℕ) → i < length words → get_or words i 0 ≡ big_number 8 (drop (8 * i) (between 24 88 bytes))) → line ≡ words → version ≡ field_at 16 8 bytes
     → (let stamped : Stamped = record { line = line; version = version } in stamped ≡ contents_in bytes)
 unfolding contents_in
 contents_read bytes words line version long len each e f = grind (arith, words_read)

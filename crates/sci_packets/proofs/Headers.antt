@@ -36,10 +36,12 @@ header_takes bytes fits long =
     let e2 = field_takes 2 2 bytes two fits (omega arith) ∙ ap (λ (r : List ℕ). field 2 (field_at 2 2 bytes) ++ r) e4 in
     field_takes 0 2 bytes two fits (omega arith) ∙ ap (λ (r : List ℕ). field 2 (field_at 0 2 bytes) ++ r) e2
 
-joined : (made : ℕ → ℕ → ℕ → ℕ → ℕ → ℕ → Header) (a b c d e f a' b' c' d' e' f' : ℕ) → a ≡ a' → b ≡ b' → c ≡ c' → d ≡ d' → e ≡ e' → f ≡ f' → made a b c d e f ≡ made a' b' c' d' e' f'
+joined : (made : ℕ → ℕ → ℕ → ℕ → ℕ → ℕ → Header) (a b c d e f a' b' c' d' e' f' : ℕ) → a ≡ a' → b ≡ b' → c ≡ c' → d ≡ d' → e ≡ e' → f ≡ f'
+    → made a b c d e f ≡ made a' b' c' d' e' f'
 joined made a b c d e f a' b' c' d' e' f' p q r s t u = cc
 
-pub same_header : (h g : Header) → h.target ≡ g.target → h.command ≡ g.command → h.source ≡ g.source → h.control ≡ g.control → h.offset ≡ g.offset → h.identifier ≡ g.identifier → h ≡ g
+pub same_header : (h g : Header) → h.target ≡ g.target → h.command ≡ g.command → h.source ≡ g.source → h.control ≡ g.control → h.offset ≡ g.offset
+    → h.identifier ≡ g.identifier → h ≡ g
 same_header h g = grind (arith, joined)
 
 pub header_cancel : (h g : Header) (r s : List ℕ) → IsHeader h → IsHeader g → spelled h r ≡ spelled g s → (h ≡ g) × (r ≡ s)

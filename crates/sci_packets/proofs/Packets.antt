@@ -1,5 +1,6 @@
 -- Packets and their spellings.
-use Rattle.std.proofs.Common.{◌≡◌, ℕ, ◌+◌, ◌^◌, ◌<◌, ◌≤◌, Bool, true, false, cond, eqb, ltb, ◌&&◌, List, [], ◌∷◌, ◌++◌, length, take, drop, Option, Some, None, Result, Ok, Err, refl, sym, ap, subst, ◌∙◌, arith}
+use Rattle.std.proofs.Common.{◌≡◌, ℕ, ◌+◌, ◌^◌, ◌<◌, ◌≤◌, Bool, true, false, cond, eqb, ltb, ◌&&◌, List, [], ◌∷◌, ◌++◌, length, take, drop, Option, Some, None}
+use Rattle.std.proofs.Common.{Result, Ok, Err, refl, sym, ap, subst, ◌∙◌, arith}
 use Rattle.std.specs.Prelude.{IfSome, IfOk, IsErr, ◌↔◌}
 use Rattle.std.specs.Option.{is_some}
 use Rattle.std.specs.Result.{result_err}
@@ -42,13 +43,16 @@ Line = (line : ℕ) × (line < 2 ^ 42)
 same_lines : (a b : Line) → a.0 ≡ b.0 → a ≡ b
 same_lines a b e = Σ_prop_path (λ line. hlevel props) e
 
-joined : (made : ℕ → ℕ → ℕ → Line → Body → Packet) (t t' s s' c c' : ℕ) (l l' : Line) (b b' : Body) → t ≡ t' → s ≡ s' → c ≡ c' → l ≡ l' → b ≡ b' → made t s c l b ≡ made t' s' c' l' b'
+joined : (made : ℕ → ℕ → ℕ → Line → Body → Packet) (t t' s s' c c' : ℕ) (l l' : Line) (b b' : Body) → t ≡ t' → s ≡ s' → c ≡ c' → l ≡ l' → b ≡ b'
+    → made t s c l b ≡ made t' s' c' l' b'
 joined made t t' s s' c c' l l' b b' p q r u v = cc
 
 -- packets are the same if their fields are
 same_fields : (p q : Packet) → p.target ≡ q.target → p.source ≡ q.source → p.control ≡ q.control → p.line ≡ q.line → p.body ≡ q.body → p ≡ q
 same_fields p q a b c d e =
-    joined (λ target source control line body. record { target = target; source = source; control = control; line = line.0; body = body; low_line = line.1 }) p.target q.target p.source q.source p.control q.control (p.line, p.low_line) (q.line, q.low_line) p.body q.body a b c (same_lines (p.line, p.low_line) (q.line, q.low_line) d) e
+    joined (λ target source control line body. record { target = target; source = source; control = control; line = line.0; body = body; low_line = line.1 })
+    p.target q.target p.source q.source p.control q.control (p.line, p.low_line) (q.line, q.low_line) p.body q.body a b c
+    (same_lines (p.line, p.low_line) (q.line, q.low_line) d) e
 
 -- a packet by its header and its contents
 pub same_packet : (p q : Packet) → IsPacket p → IsPacket q → header_of p ≡ header_of q → (parts_of p.body).contents ≡ (parts_of q.body).contents → p ≡ q
@@ -60,10 +64,12 @@ unfolding spelling
 spelling_cancel p q r s h k e =
     let a = parts_of p.body in
     let b = parts_of q.body in
-    let shown = sym (spelled-append (header_of p) (word_bytes (contents_words a.contents)) r) ∙ e ∙ spelled-append (header_of q) (word_bytes (contents_words b.contents)) s in
+    let shown = sym (spelled-append (header_of p) (word_bytes (contents_words a.contents)) r) ∙ e
+    ∙ spelled-append (header_of q) (word_bytes (contents_words b.contents)) s in
     let headers = header_cancel (header_of p) (header_of q) _ _ (header_fits p h) (header_fits q k) shown in
     let command : a.command ≡ b.command = ap (λ (x : Header). x.command) headers.0 in
-    let both : is_some a.contents ≡ is_some b.contents = sym (is_known p.body).contents ∙ ap (λ (c : ℕ). takes_contents c) command ∙ (is_known q.body).contents in
+    let both : is_some a.contents ≡ is_some b.contents =
+    sym (is_known p.body).contents ∙ ap (λ (c : ℕ). takes_contents c) command ∙ (is_known q.body).contents in
     let contents = contents_cancel a.contents b.contents r s h.contents k.contents both headers.1 in
     (same_packet p q h k headers.0 contents.0, contents.1)
 
@@ -103,11 +109,13 @@ unfolding spelling
 length-spelling p h = grind (arith, length-spelled, length-contents, sixteen)
 
 -- a packet that begins bytes has no fault there
-pub body_known : (p : Packet) (length : ℕ) → IsPacket p → cond (is_some (parts_of p.body).contents) 88 16 ≤ length → body_fault (parts_of p.body).command (parts_of p.body).identifier length ≡ None
+pub body_known : (p : Packet) (length : ℕ) → IsPacket p → cond (is_some (parts_of p.body).contents) 88 16 ≤ length
+    → body_fault (parts_of p.body).command (parts_of p.body).identifier length ≡ None
 unfolding body_fault
 body_known p length h long =
     let k = is_known p.body in
-    rw (k.identifier, k.contents) (elim (is_some (parts_of p.body).contents) as (λ b. cond b 88 16 ≤ length → cond (b && ltb length 88) (Some Short) None ≡ None) [
+    rw (k.identifier, k.contents) (elim (is_some (parts_of p.body).contents) as (λ b. cond b 88 16 ≤ length
+    → cond (b && ltb length 88) (Some Short) None ≡ None) [
       | true ↦ λ le. rw (le-ltb length 88 le) refl
       | false ↦ λ le. refl
     ] long)
@@ -124,25 +132,32 @@ none_wrong p rest bytes h fits e = grind (arith, length-spelling, length-append,
 
 contents_in-fits : (bytes : List ℕ) → IsBytes bytes → IsContents (contents_in bytes)
 unfolding contents_in
-contents_in-fits bytes fits = record { version = omega (arith, field_at-lt 16 8 bytes fits); width = length-words_at 24 8 bytes; words = words_at-lt 24 8 bytes fits }
+contents_in-fits bytes fits = record {
+  version = omega (arith, field_at-lt 16 8 bytes fits);
+  width = length-words_at 24 8 bytes;
+  words = words_at-lt 24 8 bytes fits;
+}
 
 contents_take : (bytes : List ℕ) → IsBytes bytes → 88 ≤ length bytes → drop 16 bytes ≡ word_bytes (contents_words (Some (contents_in bytes))) ++ drop 88 bytes
 unfolding contents_in
 contents_take bytes fits long = words_takes 16 9 88 bytes fits refl long
 
 pub contents_for-fits : (command : ℕ) (bytes : List ℕ) → IsBytes bytes → IfSome (contents_for command bytes) IsContents
-contents_for-fits command bytes fits = elim (takes_contents command) as (λ b. IfSome (cond b (Some (contents_in bytes)) None) IsContents) [ true ↦ contents_in-fits bytes fits | false ↦ tt ]
+contents_for-fits command bytes fits =
+    elim (takes_contents command) as (λ b. IfSome (cond b (Some (contents_in bytes)) None) IsContents) [ true ↦ contents_in-fits bytes fits | false ↦ tt ]
 
 taken : (b : Bool) (s t : Stamped) → Some s ≡ cond b (Some t) None → s ≡ t
 taken true s t e = cc
 taken false s t e = absurd cc
 
-tail_takes : (a : Option Stamped) (command : ℕ) (bytes : List ℕ) → IsBytes bytes → a ≡ contents_for command bytes → cond (is_some a) 88 16 ≤ length bytes → drop 16 bytes ≡ word_bytes (contents_words a) ++ drop (cond (is_some a) 88 16) bytes
+tail_takes : (a : Option Stamped) (command : ℕ) (bytes : List ℕ) → IsBytes bytes → a ≡ contents_for command bytes → cond (is_some a) 88 16 ≤ length bytes
+    → drop 16 bytes ≡ word_bytes (contents_words a) ++ drop (cond (is_some a) 88 16) bytes
 tail_takes None command bytes fits e long = refl
 tail_takes (Some s) command bytes fits e long = grind (arith, taken, contents_take)
 
 -- the bytes of a packet with the header and the contents that are read
-pub packet_takes : (p : Packet) (bytes : List ℕ) → IsBytes bytes → header_of p ≡ header_in bytes → (parts_of p.body).contents ≡ contents_for (header_in bytes).command bytes → cond (is_some (parts_of p.body).contents) 88 16 ≤ length bytes
+pub packet_takes : (p : Packet) (bytes : List ℕ) → IsBytes bytes → header_of p ≡ header_in bytes
+    → (parts_of p.body).contents ≡ contents_for (header_in bytes).command bytes → cond (is_some (parts_of p.body).contents) 88 16 ≤ length bytes
     → bytes ≡ spelling p ++ drop (cond (is_some (parts_of p.body).contents) 88 16) bytes
 unfolding spelling
 packet_takes p bytes fits e s long = grind (arith, at_least, header_takes, tail_takes, spelled-append)
@@ -168,19 +183,24 @@ too_short bytes lt = rw (lt-ltb (length bytes) 16 lt) refl
 
 -- ---- the clauses of a decoder
 
-pub is_packet : (p : Packet) (bytes : List ℕ) → IsBytes bytes → header_of p ≡ header_in bytes → (parts_of p.body).contents ≡ contents_for (header_in bytes).command bytes → (p.target < 0xFFFF) × (p.source < 0xFFFF) → IfSome (parts_of p.body).identifier (λ id. id < 0xFFFF) → IsPacket p
+pub is_packet : (p : Packet) (bytes : List ℕ) → IsBytes bytes → header_of p ≡ header_in bytes
+    → (parts_of p.body).contents ≡ contents_for (header_in bytes).command bytes → (p.target < 0xFFFF) × (p.source < 0xFFFF)
+    → IfSome (parts_of p.body).identifier (λ id. id < 0xFFFF) → IsPacket p
 is_packet p bytes fits e s nodes identifier = grind (arith, header_in-fits, contents_for-fits)
 
 pub record Found (p : Packet) (k : ℕ) (bytes : List ℕ) : Type 0 where
   pub spells : Spells p (take k bytes)
   pub within : k ≤ length bytes
 
-pub is_found : (p : Packet) (k : ℕ) (bytes : List ℕ) → IsBytes bytes → header_of p ≡ header_in bytes → (parts_of p.body).contents ≡ contents_for (header_in bytes).command bytes → IsPacket p → fault_of bytes ≡ None
+pub is_found : (p : Packet) (k : ℕ) (bytes : List ℕ) → IsBytes bytes → header_of p ≡ header_in bytes
+    → (parts_of p.body).contents ≡ contents_for (header_in bytes).command bytes → IsPacket p → fault_of bytes ≡ None
     → k ≡ cond (is_some (parts_of p.body).contents) 88 16 → Found p k bytes
 is_found p k bytes fits e s h none size =
     let command : (parts_of p.body).command ≡ (header_in bytes).command = ap (λ (x : Header). x.command) e in
-    let which : takes_contents (header_in bytes).command ≡ is_some (parts_of p.body).contents = ap (λ (c : ℕ). takes_contents c) (sym command) ∙ (is_known p.body).contents in
-    let long : cond (is_some (parts_of p.body).contents) 88 16 ≤ length bytes = subst (λ (b : Bool). cond b 88 16 ≤ length bytes) which (none_long bytes none) in
+    let which : takes_contents (header_in bytes).command ≡ is_some (parts_of p.body).contents =
+    ap (λ (c : ℕ). takes_contents c) (sym command) ∙ (is_known p.body).contents in
+    let long : cond (is_some (parts_of p.body).contents) 88 16 ≤ length bytes =
+    subst (λ (b : Bool). cond b 88 16 ≤ length bytes) which (none_long bytes none) in
     let text = packet_takes p bytes fits e s long in
     let front : take k bytes ≡ spelling p = ap (λ (b : List ℕ). take k b) text ∙ take_at (spelling p) _ k (length-spelling p h ∙ sym size) in
     record { spells = record { packet = h; spelled_so = front }; within = omega (arith, size, long) }
@@ -189,12 +209,16 @@ some_not_none : (e : PacketFault) → Some e ≡ None → ⊥
 some_not_none e h = cc
 
 -- what a decoder that answers the fault and a front of the bytes must say of a packet that begins them
-pub only_found : (bytes : List ℕ) (r : Result (Packet × ℕ) PacketFault) → IsBytes bytes → IfOk r (λ found. Spells found.0 (take found.1 bytes)) → IfOk r (λ found. found.1 ≤ length bytes) → result_err r ≡ fault_of bytes
+pub only_found : (bytes : List ℕ) (r : Result (Packet × ℕ) PacketFault) → IsBytes bytes → IfOk r (λ found. Spells found.0 (take found.1 bytes))
+    → IfOk r (λ found. found.1 ≤ length bytes) → result_err r ≡ fault_of bytes
     → (p : Packet) (k : ℕ) → k ≤ length bytes → Spells p (take k bytes) → r ≡ Ok (p, k)
 only_found bytes (Ok found) fits spells within fault p k le h =
-    let e : spelling found.0 ++ drop found.1 bytes ≡ spelling p ++ drop k bytes = ap (λ (t : List ℕ). t ++ drop found.1 bytes) (sym spells.spelled_so) ∙ take-append-drop found.1 bytes ∙ sym (take-append-drop k bytes) ∙ ap (λ (t : List ℕ). t ++ drop k bytes) h.spelled_so in
+    let e : spelling found.0 ++ drop found.1 bytes ≡ spelling p ++ drop k bytes =
+    ap (λ (t : List ℕ). t ++ drop found.1 bytes) (sym spells.spelled_so) ∙ take-append-drop found.1 bytes ∙ sym (take-append-drop k bytes)
+    ∙ ap (λ (t : List ℕ). t ++ drop k bytes) h.spelled_so in
     let same = spelling_cancel found.0 p _ _ spells.packet h.packet e in
-    let size : found.1 ≡ k = sym (length-take-le found.1 bytes within) ∙ ap (λ (t : List ℕ). length t) (spells.spelled_so ∙ ap spelling same.0 ∙ sym h.spelled_so) ∙ length-take-le k bytes le in
+    let size : found.1 ≡ k = sym (length-take-le found.1 bytes within)
+    ∙ ap (λ (t : List ℕ). length t) (spells.spelled_so ∙ ap spelling same.0 ∙ sym h.spelled_so) ∙ length-take-le k bytes le in
     ap (λ (x : Packet). Ok (x, found.1)) same.0 ∙ ap (λ (n : ℕ). Ok (p, n)) size
 only_found bytes (Err e) fits spells within fault p k le h =
     let none = none_wrong p (drop k bytes) bytes h.packet fits (sym (take-append-drop k bytes) ∙ ap (λ (t : List ℕ). t ++ drop k bytes) h.spelled_so) in
@@ -203,33 +227,41 @@ only_found bytes (Err e) fits spells within fault p k le h =
 err_not_ok : (e : PacketFault) (x : Packet × ℕ) → Err e ≡ Ok x → ⊥
 err_not_ok e x h = cc
 
-pub none_found : (bytes : List ℕ) (r : Result (Packet × ℕ) PacketFault) → IsBytes bytes → IfOk r (λ found. Spells found.0 (take found.1 bytes)) → IfOk r (λ found. found.1 ≤ length bytes) → result_err r ≡ fault_of bytes → IsErr r ↔ NoneSpells bytes
+pub none_found : (bytes : List ℕ) (r : Result (Packet × ℕ) PacketFault) → IsBytes bytes → IfOk r (λ found. Spells found.0 (take found.1 bytes))
+    → IfOk r (λ found. found.1 ≤ length bytes) → result_err r ≡ fault_of bytes → IsErr r ↔ NoneSpells bytes
 none_found bytes (Ok found) fits spells within fault = (λ err. absurd cc, λ none. absurd (none found.0 found.1 within spells))
-none_found bytes (Err e) fits spells within fault = (λ err p k le h. absurd (err_not_ok e (p, k) (only_found bytes (Err e) fits spells within fault p k le h)), λ none. refl)
+none_found bytes (Err e) fits spells within fault =
+    (λ err p k le h. absurd (err_not_ok e (p, k) (only_found bytes (Err e) fits spells within fault p k le h)), λ none. refl)
 
-pub none_refused : (bytes : List ℕ) (r : Result (Packet × ℕ) PacketFault) (e e' : PacketFault) → r ≡ Err e → e ≡ e' → IsBytes bytes → Some e' ≡ fault_of bytes → IsErr r ↔ NoneSpells bytes
+pub none_refused : (bytes : List ℕ) (r : Result (Packet × ℕ) PacketFault) (e e' : PacketFault) → r ≡ Err e → e ≡ e' → IsBytes bytes → Some e' ≡ fault_of bytes
+    → IsErr r ↔ NoneSpells bytes
 none_refused bytes r e e' p q fits fault =
-    subst (λ (x : Result (Packet × ℕ) PacketFault). IsErr x ↔ NoneSpells bytes) (sym (p ∙ ap (λ (x : PacketFault). Err x) q)) (none_found bytes (Err e') fits tt tt fault)
+    subst (λ (x : Result (Packet × ℕ) PacketFault). IsErr x ↔ NoneSpells bytes) (sym (p ∙ ap (λ (x : PacketFault). Err x) q))
+    (none_found bytes (Err e') fits tt tt fault)
 
 -- ---- the clauses of an encoder
 
-pub packet_made : (p : Packet) (parts : Parts) (h : Header) → parts ≡ parts_of p.body → h ≡ header_of p → (p.target < 0xFFFF) × (p.source < 0xFFFF) → h.control < 2 ^ 16 → IfSome parts.identifier (λ id. id < 0xFFFF) → IfSome parts.contents IsContents → IsPacket p
+pub packet_made : (p : Packet) (parts : Parts) (h : Header) → parts ≡ parts_of p.body → h ≡ header_of p → (p.target < 0xFFFF) × (p.source < 0xFFFF)
+    → h.control < 2 ^ 16 → IfSome parts.identifier (λ id. id < 0xFFFF) → IfSome parts.contents IsContents → IsPacket p
 packet_made p parts h e made nodes control identifier contents = grind arith
 
 -- the header and nothing more
-pub short_written : (p : Packet) (h : Header) (old new : List ℕ) → h ≡ header_of p → (parts_of p.body).contents ≡ None → new ≡ spelled h (drop 16 old) → new ≡ spelling p ++ drop 16 old
+pub short_written : (p : Packet) (h : Header) (old new : List ℕ) → h ≡ header_of p → (parts_of p.body).contents ≡ None → new ≡ spelled h (drop 16 old)
+    → new ≡ spelling p ++ drop 16 old
 unfolding spelling
 short_written p h old new e none written = grind (arith, spelled-append)
 
 -- the header and the contents
-pub long_written : (p : Packet) (h : Header) (stamped : Stamped) (old mid new : List ℕ) → h ≡ header_of p → (parts_of p.body).contents ≡ Some stamped → length old ≡ 88 → mid ≡ spelled h (drop 16 old) → new ≡ take 16 mid ++ word_bytes (stamped.version ∷ stamped.line)
+pub long_written : (p : Packet) (h : Header) (stamped : Stamped) (old mid new : List ℕ) → h ≡ header_of p → (parts_of p.body).contents ≡ Some stamped
+    → length old ≡ 88 → mid ≡ spelled h (drop 16 old) → new ≡ take 16 mid ++ word_bytes (stamped.version ∷ stamped.line)
     → new ≡ spelling p ++ drop 88 old
 unfolding spelling
 long_written p h stamped old mid new e some len written after =
     let words = word_bytes (stamped.version ∷ stamped.line) in
     let text : spelling p ≡ spelled (header_of p) words = ap (λ (a : Option Stamped). spelled (header_of p) (word_bytes (contents_words a))) some in
     let rest : drop 88 old ≡ [] = drop_all 88 old (omega arith) in
-    let front : take 16 mid ≡ spelled h [] = ap (λ (t : List ℕ). take 16 t) (written ∙ sym (spelled-append h [] (drop 16 old))) ∙ take_at (spelled h []) (drop 16 old) 16 (length-spelled h []) in
+    let front : take 16 mid ≡ spelled h [] =
+    ap (λ (t : List ℕ). take 16 t) (written ∙ sym (spelled-append h [] (drop 16 old))) ∙ take_at (spelled h []) (drop 16 old) 16 (length-spelled h []) in
     after
     ∙ ap (λ (t : List ℕ). t ++ words) front
     ∙ spelled-append h [] words

@@ -27,20 +27,25 @@ bytes_and p more h = flat_map-append (field 8) (words_of p) more ∙ ap (λ (b :
 
 pub back : (p q : Packet) (more others : List ℕ) → IsPacket p → IsPacket q → words_of p ++ more ≡ words_of q ++ others → (p ≡ q) × (more ≡ others)
 back p q more others h k e =
-    let bytes : spelling p ++ word_bytes more ≡ spelling q ++ word_bytes others = sym (bytes_and p more h) ∙ ap (λ (w : List ℕ). word_bytes w) e ∙ bytes_and q others k in
+    let bytes : spelling p ++ word_bytes more ≡ spelling q ++ word_bytes others =
+    sym (bytes_and p more h) ∙ ap (λ (w : List ℕ). word_bytes w) e ∙ bytes_and q others k in
     let same = (spelling_cancel p q (word_bytes more) (word_bytes others) h k bytes).0 in
     (same, append_cancel_left (words_of q) more others (ap (λ (x : Packet). words_of x ++ more) (sym same) ∙ e))
 
 -- if the shorter packet's words begin the longer one's
-one_by_shorter : (p q : Packet) → IsPacket p → IsPacket q → length (words_of p) ≤ length (words_of q) → ((i : ℕ) → i < length (words_of p) → i < length (words_of q) → get_or (words_of p) i 0 ≡ get_or (words_of q) i 0) → p ≡ q
+one_by_shorter : (p q : Packet) → IsPacket p → IsPacket q → length (words_of p) ≤ length (words_of q)
+    → ((i : ℕ) → i < length (words_of p) → i < length (words_of q) → get_or (words_of p) i 0 ≡ get_or (words_of q) i 0) → p ≡ q
 one_by_shorter p q h k le agree =
     let n = length (words_of p) in
     let long : length (words_of p) ≡ length (take n (words_of q)) = sym (length-take-le n (words_of q) le) in
-    let front : words_of p ≡ take n (words_of q) = ext_get_or 0 (words_of p) (take n (words_of q)) long (λ i lt. agree i lt (omega arith) ∙ sym (get_or-take n (words_of q) i 0 lt)) in
-    let whole : words_of p ++ drop n (words_of q) ≡ words_of q ++ [] = ap (λ (w : List ℕ). w ++ drop n (words_of q)) front ∙ take-append-drop n (words_of q) ∙ sym (append-nil (words_of q)) in
+    let front : words_of p ≡ take n (words_of q) =
+    ext_get_or 0 (words_of p) (take n (words_of q)) long (λ i lt. agree i lt (omega arith) ∙ sym (get_or-take n (words_of q) i 0 lt)) in
+    let whole : words_of p ++ drop n (words_of q) ≡ words_of q ++ [] =
+    ap (λ (w : List ℕ). w ++ drop n (words_of q)) front ∙ take-append-drop n (words_of q) ∙ sym (append-nil (words_of q)) in
     (back p q (drop n (words_of q)) [] h k whole).0
 
-pub one_by_words : (p q : Packet) → IsPacket p → IsPacket q → ((i : ℕ) → i < length (words_of p) → i < length (words_of q) → get_or (words_of p) i 0 ≡ get_or (words_of q) i 0) → p ≡ q
+pub one_by_words : (p q : Packet) → IsPacket p → IsPacket q
+    → ((i : ℕ) → i < length (words_of p) → i < length (words_of q) → get_or (words_of p) i 0 ≡ get_or (words_of q) i 0) → p ≡ q
 one_by_words p q h k agree =
     elim (cases_lt (length (words_of p)) (length (words_of q))) [
       | inl lt ↦ one_by_shorter p q h k (omega arith) agree

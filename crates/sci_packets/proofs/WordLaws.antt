@@ -1,12 +1,14 @@
 -- Packets and their words.
-use Rattle.std.proofs.Common.{◌≡◌, ℕ, zero, suc, ◌+◌, ◌*◌, ◌/◌, ◌%◌, ◌^◌, ◌<◌, ◌≤◌, Bool, true, false, cond, ltb, List, [], ◌∷◌, ◌++◌, length, get_or, take, drop, Option, Some, None, refl, sym, ap, ◌∙◌, append_assoc, arith, ◌⊎◌, inl, inr}
+use Rattle.std.proofs.Common.{◌≡◌, ℕ, zero, suc, ◌+◌, ◌*◌, ◌/◌, ◌%◌, ◌^◌, ◌<◌, ◌≤◌, Bool, true, false, cond, ltb, List, [], ◌∷◌, ◌++◌, length, get_or, take}
+use Rattle.std.proofs.Common.{drop, Option, Some, None, refl, sym, ap, ◌∙◌, append_assoc, arith, ◌⊎◌, inl, inr}
 use Rattle.std.specs.Prelude.{IfSome, slice_set}
 use Rattle.std.specs.Option.{is_some}
 use Rattle.std.specs.Int.{byte_at, bytes_high_first}
 use Rattle.std.proofs.Math.Nat.{mod-lt}
 use Rattle.std.proofs.lemmas.Bool.{cases_lt, le-ltb, lt-ltb}
 use Rattle.std.proofs.lemmas.Nat.{be_bytes_8}
-use Rattle.std.proofs.lemmas.List.{append-nil, drop_all, length-take, length-take-le, take_at, drop_at, take-append-drop, length-drop, get_or-drop, get_or-take, get_or_past}
+use Rattle.std.proofs.lemmas.List.{append-nil, drop_all, length-take, length-take-le, take_at, drop_at, take-append-drop, length-drop, get_or-drop, get_or-take}
+use Rattle.std.proofs.lemmas.List.{get_or_past}
 use Rattle.std.proofs.lemmas.List.Concat.{flat_map-append}
 use borrow.Rule.Slice.PartMut.{put_mid}
 use Rattle.sci_words.specs.declared.stamped.Stamped.{Stamped}
@@ -38,7 +40,8 @@ pub field-fits : (n x : ℕ) → IsBytes (field n x)
 unfolding field
 field-fits n x = high_first-fits n x
 
-first_bytes : (t c s k : ℕ) → t < 2 ^ 16 → c < 2 ^ 16 → s < 2 ^ 16 → k < 2 ^ 16 → field 8 (((t * 2 ^ 16 + c) * 2 ^ 16 + s) * 2 ^ 16 + k) ≡ field 2 t ++ (field 2 c ++ (field 2 s ++ field 2 k))
+first_bytes : (t c s k : ℕ) → t < 2 ^ 16 → c < 2 ^ 16 → s < 2 ^ 16 → k < 2 ^ 16
+    → field 8 (((t * 2 ^ 16 + c) * 2 ^ 16 + s) * 2 ^ 16 + k) ≡ field 2 t ++ (field 2 c ++ (field 2 s ++ field 2 k))
 unfolding field
 first_bytes t c s k ht hc hs hk = grind (arith, be_bytes_8, field-fits)
 
@@ -51,7 +54,8 @@ unfolding spelled
 header_words h rest fits =
     let first = first_bytes h.target h.command h.source h.control fits.target fits.command fits.source fits.control in
     let second = second_bytes h.offset h.identifier fits.offset fits.identifier in
-    ap (λ (x : List ℕ). x ++ (field 8 (second_word h) ++ rest)) first ∙ ap (λ (x : List ℕ). (field 2 h.target ++ (field 2 h.command ++ (field 2 h.source ++ field 2 h.control))) ++ (x ++ rest)) second ∙ simp append_assoc
+    ap (λ (x : List ℕ). x ++ (field 8 (second_word h) ++ rest)) first
+    ∙ ap (λ (x : List ℕ). (field 2 h.target ++ (field 2 h.command ++ (field 2 h.source ++ field 2 h.control))) ++ (x ++ rest)) second ∙ simp append_assoc
 
 -- the bytes of a packet's words are its spelling
 pub word_bytes-words_of : (p : Packet) → IsPacket p → word_bytes (words_of p) ≡ spelling p
@@ -118,17 +122,41 @@ word_bytes-split k words = ap (λ (w : List ℕ). word_bytes w) (sym (take-appen
 
 -- the header that two words spell
 pub header_read : (words : List ℕ) → ((i : ℕ) → get_or words i 0 < 2 ^ 64) → 2 ≤ length words
-    → (let h : Header = record { target = get_or words 0 0 / 281474976710656 % 65536; command = get_or words 0 0 / 4294967296 % 65536; source = get_or words 0 0 / 65536 % 65536; control = get_or words 0 0 % 65536; offset = get_or words 1 0 / 65536; identifier = get_or words 1 0 % 65536 } in h ≡ header_in (word_bytes words))
+    → (let h : Header = record {
+      target = get_or words 0 0 / 281474976710656 % 65536;
+      command = get_or words 0 0 / 4294967296 % 65536;
+      source = get_or words 0 0 / 65536 % 65536;
+      control = get_or words 0 0 % 65536;
+      offset = get_or words 1 0 / 65536;
+      identifier =
+          get_or words 1 0 % 65536;
+    } in h ≡ header_in (word_bytes words))
 header_read [] fits long = absurd (omega arith)
 header_read (v ∷ []) fits long = absurd (omega arith)
 header_read (v ∷ w ∷ more) fits long =
-    let h : Header = record { target = v / 281474976710656 % 65536; command = v / 4294967296 % 65536; source = v / 65536 % 65536; control = v % 65536; offset = w / 65536; identifier = w % 65536 } in
-    let below : IsHeader h = record { target = omega arith; command = omega arith; source = omega arith; control = omega arith; offset = omega (arith, fits 1); identifier = omega arith } in
+    let h : Header = record {
+      target = v / 281474976710656 % 65536;
+      command = v / 4294967296 % 65536;
+      source = v / 65536 % 65536;
+      control = v % 65536;
+      offset = w / 65536;
+      identifier = w % 65536;
+    } in
+    let below : IsHeader h = record {
+      target = omega arith;
+      command = omega arith;
+      source = omega arith;
+      control = omega arith;
+      offset = omega (arith, fits 1);
+      identifier = omega arith;
+    } in
     let first : v ≡ first_word h = omega (arith, fits 0) in
     let second : w ≡ second_word h = omega (arith, fits 1) in
     let bytes = word_bytes (v ∷ w ∷ more) in
     let rest = word_bytes more in
-    let text : bytes ≡ spelled h rest = ap (λ (x : ℕ). field 8 x ++ (field 8 w ++ rest)) first ∙ ap (λ (x : ℕ). field 8 (first_word h) ++ (field 8 x ++ rest)) second ∙ header_words h rest below in
+    let text : bytes ≡ spelled h rest =
+    ap (λ (x : ℕ). field 8 x ++ (field 8 w ++ rest)) first ∙ ap (λ (x : ℕ). field 8 (first_word h) ++ (field 8 x ++ rest)) second
+    ∙ header_words h rest below in
     let size : 16 ≤ length bytes = omega (arith, length-word_bytes (v ∷ w ∷ more)) in
     let are : IsBytes bytes = word_bytes-fits (v ∷ w ∷ more) in
     sym (header_cancel (header_in bytes) h (drop 16 bytes) rest (header_in-fits bytes are) below (sym (header_takes bytes are size) ∙ text)).0
@@ -141,7 +169,8 @@ nine_read words fits long =
     let len : length nine ≡ 9 = omega (arith, length-take 9 (drop 2 words), length-drop 2 words) in
     let two : length (word_bytes (take 2 words)) ≡ 16 = omega (arith, length-word_bytes (take 2 words), length-take 2 words) in
     let behind : drop 16 bytes ≡ word_bytes nine ++ word_bytes (drop 9 (drop 2 words)) =
-    ap (λ (b : List ℕ). drop 16 b) (word_bytes-split 2 words) ∙ drop_at (word_bytes (take 2 words)) (word_bytes (drop 2 words)) 16 two ∙ word_bytes-split 9 (drop 2 words) in
+    ap (λ (b : List ℕ). drop 16 b) (word_bytes-split 2 words) ∙ drop_at (word_bytes (take 2 words)) (word_bytes (drop 2 words)) 16 two
+    ∙ word_bytes-split 9 (drop 2 words) in
     let are : IsBytes bytes = word_bytes-fits words in
     let read = words_takes 16 9 88 bytes are refl (omega (arith, length-word_bytes words)) in
     let below : (i : ℕ) → get_or nine i 0 < 2 ^ 64 = take_fits 9 (drop 2 words) (λ i. rw get_or-drop (fits (2 + i))) in
@@ -159,7 +188,8 @@ contents_read (a ∷ []) line fits long e = absurd (omega arith)
 contents_read (a ∷ b ∷ []) line fits long e = absurd (omega arith)
 contents_read (a ∷ b ∷ v ∷ more) line fits long e =
     let bytes = word_bytes (a ∷ b ∷ v ∷ more) in
-    same_contents (λ version line. record { line = line; version = version }) v (field_at 16 8 bytes) line (words_at 24 8 bytes) (ap (λ (l : List ℕ). v ∷ l) e ∙ nine_read (a ∷ b ∷ v ∷ more) fits long)
+    same_contents (λ version line. record { line = line; version = version }) v (field_at 16 8 bytes) line (words_at 24 8 bytes)
+    (ap (λ (l : List ℕ). v ∷ l) e ∙ nine_read (a ∷ b ∷ v ∷ more) fits long)
 
 -- whether there are eleven words
 pub short_words : (words : List ℕ) (n : ℕ) → length words < n → ltb (length (word_bytes words)) (8 * n) ≡ true
@@ -171,14 +201,16 @@ long_words words n le = le-ltb (length (word_bytes words)) (8 * n) (omega (arith
 -- ---- the words that are written
 
 -- the header and nothing more
-pub two_written : (p : Packet) (h : Header) (old : List ℕ) (v w : ℕ) → h ≡ header_of p → (parts_of p.body).contents ≡ None → length old ≡ 11 → v ≡ first_word h → w ≡ second_word h → slice_set (slice_set old 0 v) 1 w ≡ words_of p ++ drop 2 old
+pub two_written : (p : Packet) (h : Header) (old : List ℕ) (v w : ℕ) → h ≡ header_of p → (parts_of p.body).contents ≡ None → length old ≡ 11 → v ≡ first_word h
+    → w ≡ second_word h → slice_set (slice_set old 0 v) 1 w ≡ words_of p ++ drop 2 old
 unfolding words_of
 two_written p h [] v w e none len first second = absurd (omega arith)
 two_written p h (a ∷ []) v w e none len first second = absurd (omega arith)
 two_written p h (a ∷ b ∷ more) v w e none len first second = rw none (rw (first, second) (rw e refl))
 
 -- contents behind two words
-pub contents_written : (old line : List ℕ) (version : ℕ) → length old ≡ 11 → length line ≡ 8 → put_mid 3 8 (slice_set old 2 version) line ≡ take 2 old ++ (version ∷ line)
+pub contents_written : (old line : List ℕ) (version : ℕ) → length old ≡ 11 → length line ≡ 8
+    → put_mid 3 8 (slice_set old 2 version) line ≡ take 2 old ++ (version ∷ line)
 contents_written [] line version len width = absurd (omega arith)
 contents_written (a ∷ []) line version len width = absurd (omega arith)
 contents_written (a ∷ b ∷ []) line version len width = absurd (omega arith)
@@ -187,14 +219,16 @@ contents_written (a ∷ b ∷ d ∷ more) line version len width =
     rw past (rw (append-nil line) refl)
 
 -- the header and the contents
-pub eleven_written : (p : Packet) (h : Header) (stamped : Stamped) (old new : List ℕ) (v w : ℕ) → h ≡ header_of p → (parts_of p.body).contents ≡ Some stamped → length old ≡ 11 → v ≡ first_word h → w ≡ second_word h
+pub eleven_written : (p : Packet) (h : Header) (stamped : Stamped) (old new : List ℕ) (v w : ℕ) → h ≡ header_of p → (parts_of p.body).contents ≡ Some stamped
+    → length old ≡ 11 → v ≡ first_word h → w ≡ second_word h
     → new ≡ take 2 (slice_set (slice_set old 0 v) 1 w) ++ (stamped.version ∷ stamped.line) → new ≡ words_of p ++ drop 11 old
 unfolding words_of
 eleven_written p h stamped [] new v w e some len first second after = absurd (omega arith)
 eleven_written p h stamped (a ∷ []) new v w e some len first second after = absurd (omega arith)
 eleven_written p h stamped (a ∷ b ∷ more) new v w e some len first second after =
     let past : drop 11 (a ∷ b ∷ more) ≡ [] = drop_all 11 (a ∷ b ∷ more) (omega arith) in
-    let same : v ∷ w ∷ stamped.version ∷ stamped.line ≡ first_word (header_of p) ∷ second_word (header_of p) ∷ contents_words (parts_of p.body).contents = rw some (rw (first, second) (rw e refl)) in
+    let same : v ∷ w ∷ stamped.version ∷ stamped.line ≡ first_word (header_of p) ∷ second_word (header_of p) ∷ contents_words (parts_of p.body).contents =
+    rw some (rw (first, second) (rw e refl)) in
     rw past (after ∙ same ∙ sym (append-nil (words_of p)))
 
 -- ---- a packet that begins the words begins their bytes, and the other way round
@@ -202,7 +236,8 @@ eleven_written p h stamped (a ∷ b ∷ more) new v w e some len first second af
 pub take-word_bytes : (k : ℕ) (words : List ℕ) → k ≤ length words → take (8 * k) (word_bytes words) ≡ word_bytes (take k words)
 take-word_bytes k words le =
     ap (λ (b : List ℕ). take (8 * k) b) (word_bytes-split k words)
-    ∙ take_at (word_bytes (take k words)) (word_bytes (drop k words)) (8 * k) (length-word_bytes (take k words) ∙ ap (λ (n : ℕ). 8 * n) (length-take-le k words le))
+    ∙ take_at (word_bytes (take k words)) (word_bytes (drop k words)) (8 * k)
+    (length-word_bytes (take k words) ∙ ap (λ (n : ℕ). 8 * n) (length-take-le k words le))
 
 -- a packet that begins the words begins the bytes
 pub record Begins (p : Packet) (k : ℕ) (bytes : List ℕ) : Type 0 where
@@ -211,7 +246,8 @@ pub record Begins (p : Packet) (k : ℕ) (bytes : List ℕ) : Type 0 where
 
 pub begins_bytes : (p : Packet) (k : ℕ) (words : List ℕ) → k ≤ length words → SpellsInWords p (take k words) → Begins p k (word_bytes words)
 begins_bytes p k words le h =
-    let text : take (8 * k) (word_bytes words) ≡ spelling p = take-word_bytes k words le ∙ ap (λ (w : List ℕ). word_bytes w) h.spelled_so ∙ word_bytes-words_of p h.packet in
+    let text : take (8 * k) (word_bytes words) ≡ spelling p =
+    take-word_bytes k words le ∙ ap (λ (w : List ℕ). word_bytes w) h.spelled_so ∙ word_bytes-words_of p h.packet in
     record { spells = record { packet = h.packet; spelled_so = text }; within = omega (arith, length-word_bytes words) }
 
 -- a packet that begins the bytes begins the words
@@ -219,7 +255,8 @@ pub record BeginsWords (p : Packet) (k : ℕ) (words : List ℕ) : Type 0 where
   pub spells : SpellsInWords p (take k words)
   pub within : k ≤ length words
 
-pub begins_words : (p : Packet) (len : ℕ) (words : List ℕ) → ((i : ℕ) → get_or words i 0 < 2 ^ 64) → len ≤ length (word_bytes words) → Spells p (take len (word_bytes words)) → BeginsWords p (len / 8) words
+pub begins_words : (p : Packet) (len : ℕ) (words : List ℕ) → ((i : ℕ) → get_or words i 0 < 2 ^ 64) → len ≤ length (word_bytes words)
+    → Spells p (take len (word_bytes words)) → BeginsWords p (len / 8) words
 begins_words p len words fits le h =
     let bytes = word_bytes words in
     let m = length (words_of p) in
@@ -227,6 +264,7 @@ begins_words p len words fits le h =
     let k-is : len / 8 ≡ m = omega arith in
     let few : m ≤ length words = omega (arith, length-word_bytes words) in
     let shown : word_bytes (take m words) ++ word_bytes (drop m words) ≡ word_bytes (words_of p) ++ drop len bytes =
-    sym (word_bytes-split m words) ∙ sym (take-append-drop len bytes) ∙ ap (λ (b : List ℕ). b ++ drop len bytes) (h.spelled_so ∙ sym (word_bytes-words_of p h.packet)) in
+    sym (word_bytes-split m words) ∙ sym (take-append-drop len bytes)
+    ∙ ap (λ (b : List ℕ). b ++ drop len bytes) (h.spelled_so ∙ sym (word_bytes-words_of p h.packet)) in
     let same = words_cancel (take m words) (words_of p) _ _ (length-take-le m words few) (take_fits m words fits) (words_of-lt p h.packet) shown in
     record { spells = record { packet = h.packet; spelled_so = ap (λ (k : ℕ). take k words) k-is ∙ same.0 }; within = omega arith }

@@ -5,7 +5,8 @@ use Rattle.sci_words.specs.declared.stamped.Stamped.{Stamped}
 use Rattle.sci_packets.specs.declared.fault.PacketFault.{PacketFault}
 use Rattle.sci_packets.specs.declared.fault.PacketFault.TheVariants.{Short, BadIdentifier}
 use Rattle.sci_packets.specs.declared.body.Body.{Body}
-use Rattle.sci_packets.specs.declared.body.Body.TheVariants.{Mread, Cread, Purge, Roll, Wback, Setback, Fread, Claim, Clear, Mdata, Mgone, Cdata, Purged, Rolled, Wbok, Wbno, Told, Busy, Fdata}
+use Rattle.sci_packets.specs.declared.body.Body.TheVariants.{Mread, Cread, Purge, Roll, Wback, Setback, Fread, Claim, Clear, Mdata, Mgone, Cdata, Purged}
+use Rattle.sci_packets.specs.declared.body.Body.TheVariants.{Rolled, Wbok, Wbno, Told, Busy, Fdata}
 use Rattle.sci_packets.specs.declared.table.Parts.{Parts}
 
 -- parts as a record

@@ -1,5 +1,6 @@
 -- A machine of one node.
-use Rattle.std.proofs.Common.{◌≡◌, ◌≤◌, ◌<◌, ◌*◌, ◌⊎◌, ℕ, zero, suc, true, false, arith, List, [], ◌∷◌, filter, length, get_or, None, refl, sym, ap, subst, ◌∙◌, inl, inr}
+use Rattle.std.proofs.Common.{◌≡◌, ◌≤◌, ◌<◌, ◌*◌, ◌⊎◌, ℕ, zero, suc, true, false, arith, List, [], ◌∷◌, filter, length, get_or, None, refl, sym, ap, subst, ◌∙◌}
+use Rattle.std.proofs.Common.{inl, inr}
 use Rattle.std.specs.Prelude.{option_to_list}
 use Rattle.std.specs.List.{flat_map}
 use Rattle.std.proofs.lemmas.Bool.{cases_lt}
@@ -33,10 +34,12 @@ place_alone nodes (suc zero) one few = inr (rw one refl)
 place_alone nodes (suc (suc i)) one few = absurd (omega arith)
 
 -- no packet is under way if nothing waits at the node, and both lanes to itself are empty
-quiet : (core : Core) → IsReached core → core.size.nodes ≡ 1 → (node_at core 0).waiting ≡ None → lane_of core Requests 0 0 ≡ [] → lane_of core Answers 0 0 ≡ [] → (line : ℕ) → packets_of core 0 line ≡ []
+quiet : (core : Core) → IsReached core → core.size.nodes ≡ 1 → (node_at core 0).waiting ≡ None → lane_of core Requests 0 0 ≡ [] → lane_of core Answers 0 0 ≡ []
+    → (line : ℕ) → packets_of core 0 line ≡ []
 quiet core reached one free requests answers line =
     let well = reached_well core reached in
-    let parts : flat_map (λ (part : NodeOf). option_to_list part.waiting) core.parts ≡ [] = none_flat (λ (part : NodeOf). option_to_list part.waiting) core.parts no_node (λ i below.
+    let parts : flat_map (λ (part : NodeOf). option_to_list part.waiting) core.parts ≡ [] =
+    none_flat (λ (part : NodeOf). option_to_list part.waiting) core.parts no_node (λ i below.
     let first : i ≡ 0 = first_only i core.size.nodes (let long = well.sizes.parts_long in omega arith) one in
     subst (λ (j : ℕ). option_to_list (node_at core j).waiting ≡ []) (sym first) (ap option_to_list free)) in
     let lanes : flat_map (λ (lane : List Letter). lane) core.lanes ≡ [] = none_flat (λ (lane : List Letter). lane) core.lanes [] (λ i below.
@@ -62,10 +65,12 @@ beyond_out core n line reached some past awaits =
     cc
 
 -- so no line awaits an answer
-pub alone_rests : (core : Core) → IsReached core → core.size.nodes ≡ 1 → (node_at core 0).waiting ≡ None → lane_of core Requests 0 0 ≡ [] → lane_of core Answers 0 0 ≡ [] → (line : ℕ) → waits (state_on (node_at core 0) line) ≡ true → ⊥
+pub alone_rests : (core : Core) → IsReached core → core.size.nodes ≡ 1 → (node_at core 0).waiting ≡ None → lane_of core Requests 0 0 ≡ []
+    → lane_of core Answers 0 0 ≡ [] → (line : ℕ) → waits (state_on (node_at core 0) line) ≡ true → ⊥
 alone_rests core reached one free requests answers line awaits =
     let here : 0 < core.size.nodes = omega arith in
     elim (cases_lt line core.size.lines) [
-      | inl inside ↦ waits_for_one _ (line_of (node_at core 0).cache line) _ (reached_tidy core reached 0 line here inside) (quiet core reached one free requests answers line) awaits
+      | inl inside ↦ waits_for_one _ (line_of (node_at core 0).cache line) _ (reached_tidy core reached 0 line here inside)
+          (quiet core reached one free requests answers line) awaits
       | inr past ↦ beyond_out core 0 line reached here past awaits
     ]

@@ -9,7 +9,8 @@ pub record ComesBy (nodes first from : ℕ) : Type 0 where
   pub there : (first + place) % nodes ≡ from
 
 comes_at : (nodes first from place rounds : ℕ) → place < nodes → from < nodes → first + place ≡ rounds * nodes + from → ComesBy nodes first from
-comes_at nodes first from place rounds below f is = record { place = place; below = below; there = ap (λ (k : ℕ). k % nodes) is ∙ mod-mul-add rounds nodes from f }
+comes_at nodes first from place rounds below f is =
+    record { place = place; below = below; there = ap (λ (k : ℕ). k % nodes) is ∙ mod-mul-add rounds nodes from f }
 
 pub comes_by : (nodes first from : ℕ) → first < nodes → from < nodes → ComesBy nodes first from
 comes_by nodes first from start f =

@@ -22,13 +22,15 @@ cread_alone (body.Setback w) e = cc
 cread_alone _ e = refl
 
 -- what is refused is no Setback
-pub refuses_no_setback : (policy : PolicyOf) (node : NodeOf) (request : Letter) → decided policy node request ≡ decision.Refuse → is_setback request.body ≡ false
+pub refuses_no_setback : (policy : PolicyOf) (node : NodeOf) (request : Letter) → decided policy node request ≡ decision.Refuse
+    → is_setback request.body ≡ false
 refuses_no_setback policy node request e =
     let refused : refused_by policy node request ≡ true = refused_if (kept_by policy node request) (refused_by policy node request) e in
     cread_alone request.body (and_parts (is_cread request.body) _ refused).0
 
 -- what isn't there isn't seen
-pub none_seen : {A B : Type 0} (seen : Option A → Option B) → seen None ≡ None → (o : Option A) (waiting : Option B) → seen o ≡ waiting → is_some o ≡ false → waiting ≡ None
+pub none_seen : {A B : Type 0} (seen : Option A → Option B) → seen None ≡ None → (o : Option A) (waiting : Option B) → seen o ≡ waiting → is_some o ≡ false
+    → waiting ≡ None
 none_seen seen blind None waiting e none = sym e ∙ blind
 none_seen seen blind (Some x) waiting e none = cc
 

@@ -1,5 +1,6 @@
 -- What the least and the oldest of some lines are, and when there is one.
-use Rattle.std.proofs.Common.{◌≡◌, ℕ, zero, suc, ◌+◌, ◌<◌, ◌≤◌, ◌&&◌, nat_le, Bool, true, false, cond, if◌then◌else◌, List, [], ◌∷◌, filter, Option, Some, None, refl, sym, ap, subst, ◌∙◌, arith, inl, inr}
+use Rattle.std.proofs.Common.{◌≡◌, ℕ, zero, suc, ◌+◌, ◌<◌, ◌≤◌, ◌&&◌, nat_le, Bool, true, false, cond, if◌then◌else◌, List, [], ◌∷◌, filter, Option, Some, None}
+use Rattle.std.proofs.Common.{refl, sym, ap, subst, ◌∙◌, arith, inl, inr}
 use Rattle.std.specs.Prelude.{IfSome, is_some}
 use Rattle.std.specs.List.{find, range_with_len, AllByRecursion}
 use Rattle.std.proofs.lemmas.Bool.{cases_Bool, cases_eq}
@@ -27,7 +28,8 @@ further p a x from passes fails =
       | inr other ↦ grind (arith)
     ]
 
-some_found_by : (p : ℕ → Bool) (a n : ℕ) (b : Bool) → p a ≡ b → (p a ≡ false → is_some (find p (range_with_len (a + 1) n)) ≡ true) → is_some (cond b (Some a) (find p (range_with_len (a + 1) n))) ≡ true
+some_found_by : (p : ℕ → Bool) (a n : ℕ) (b : Bool) → p a ≡ b → (p a ≡ false → is_some (find p (range_with_len (a + 1) n)) ≡ true)
+    → is_some (cond b (Some a) (find p (range_with_len (a + 1) n))) ≡ true
 some_found_by p a n true e rest = refl
 some_found_by p a n false e rest = rest e
 
@@ -59,7 +61,8 @@ none_of (Some x) P B h fails = absurd (fails x h.0 h.1)
 
 -- if no line passes, there is none
 pub none_passes : (node : NodeOf) (test : ℕ → Bool) → ((line : ℕ) → line < lines_of node → test line ≡ false) → some_line node test ≡ false
-none_passes node test fails = none_of (least node test) (λ line. test line ≡ true) (λ line. line < lines_of node) (least_fits node test) (λ line below passes. (let clash : true ≡ false = sym passes ∙ fails line below in cc))
+none_passes node test fails = none_of (least node test) (λ line. test line ≡ true) (λ line. line < lines_of node) (least_fits node test)
+    (λ line below passes. (let clash : true ≡ false = sym passes ∙ fails line below in cc))
 
 -- ---- the oldest operation
 
@@ -91,22 +94,27 @@ pub oldest_fits : (node : NodeOf) (test : ℕ → Bool) → IfSome (oldest node 
 oldest_fits node test =
     let same : 0 + lines_of node ≡ lines_of node = omega arith in
     let all = filtered_fit (λ line. has_pending node line && test line) 0 (lines_of node) in
-    oldest_in (λ line. (line < lines_of node) × ((has_pending node line && test line) ≡ true)) node _ (subst (λ (end : ℕ). AllByRecursion (λ x. (x < end) × ((has_pending node x && test x) ≡ true)) (filter (λ line. has_pending node line && test line) (all_lines node))) same all)
+    oldest_in (λ line. (line < lines_of node) × ((has_pending node line && test line) ≡ true)) node _
+    (subst (λ (end : ℕ). AllByRecursion (λ x. (x < end) × ((has_pending node x && test x) ≡ true))
+    (filter (λ line. has_pending node line && test line) (all_lines node))) same all)
 
 oldest_of_some : (node : NodeOf) (lines : List ℕ) → (lines ≡ [] → ⊥) → is_some (oldest_of node lines) ≡ true
 oldest_of_some node [] some = absurd (some refl)
 oldest_of_some node (line ∷ lines) some = refl
 
-filtered_some_by : (p : ℕ → Bool) (a n : ℕ) (b : Bool) → p a ≡ b → (p a ≡ false → filter p (range_with_len (a + 1) n) ≡ [] → ⊥) → cond b (a ∷ filter p (range_with_len (a + 1) n)) (filter p (range_with_len (a + 1) n)) ≡ [] → ⊥
+filtered_some_by : (p : ℕ → Bool) (a n : ℕ) (b : Bool) → p a ≡ b → (p a ≡ false → filter p (range_with_len (a + 1) n) ≡ [] → ⊥)
+    → cond b (a ∷ filter p (range_with_len (a + 1) n)) (filter p (range_with_len (a + 1) n)) ≡ [] → ⊥
 filtered_some_by p a n true e rest none = cc
 filtered_some_by p a n false e rest none = rest e none
 
 filtered_some : (p : ℕ → Bool) (a n x : ℕ) → a ≤ x → x < a + n → p x ≡ true → filter p (range_with_len a n) ≡ [] → ⊥
 filtered_some p a zero x from below passes none = absurd (omega arith)
 filtered_some p a (suc n) x from below passes none =
-    filtered_some_by p a n (p a) refl (λ fails. (let end : x < (a + 1) + n = omega arith in filtered_some p (a + 1) n x (further p a x from passes fails) end passes)) none
+    filtered_some_by p a n (p a) refl
+    (λ fails. (let end : x < (a + 1) + n = omega arith in filtered_some p (a + 1) n x (further p a x from passes fails) end passes)) none
 
-pub oldest_some : (node : NodeOf) (test : ℕ → Bool) (line : ℕ) → line < lines_of node → has_pending node line ≡ true → test line ≡ true → is_some (oldest node test) ≡ true
+pub oldest_some : (node : NodeOf) (test : ℕ → Bool) (line : ℕ) → line < lines_of node → has_pending node line ≡ true → test line ≡ true
+    → is_some (oldest node test) ≡ true
 oldest_some node test line below pending passes =
     let both : (has_pending node line && test line) ≡ true = rw (pending, passes) refl in
     oldest_of_some node _ (filtered_some (λ l. has_pending node l && test l) 0 (lines_of node) line (omega arith) (omega arith) both)

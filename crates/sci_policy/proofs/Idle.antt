@@ -7,7 +7,8 @@ use Rattle.sci_cache.specs.State.{CacheState, Out, is_out}
 use Rattle.sci_core.specs.Node.{IsAtRest, NodeOf, node_performing}
 use Rattle.sci_cache.specs.Kinds.{has_fresh_sharers, has_sharers, joins, must_send}
 use Rattle.sci_policy.specs.Lines.{has_pending, least, oldest, some_line, state_on}
-use Rattle.sci_policy.specs.Policy.{PolicyOf, ask_of, contents_wanted, due_wanted, has, held_back, is_claimed, is_purged, operation_asks, perform_wanted, purge_wanted, ruled, send_wanted, slot_for, slot_wanted, wanted}
+use Rattle.sci_policy.specs.Policy.{PolicyOf, ask_of, contents_wanted, due_wanted, has, held_back, is_claimed, is_purged, operation_asks, perform_wanted}
+use Rattle.sci_policy.specs.Policy.{purge_wanted, ruled, send_wanted, slot_for, slot_wanted, wanted}
 use Rattle.sci_policy.proofs.Found.{least_fits, oldest_fits}
 
 out_is : (state : CacheState) → is_out state ≡ true → state ≡ Out
@@ -37,10 +38,16 @@ pub rest_wants_none : (policy : PolicyOf) (node : NodeOf) → IsAtRest node → 
 rest_wants_none policy node rest =
     let out = all_out node rest in
     let no_perform : perform_wanted node ≡ None = ap (option_map _) (no_oldest node (λ line. is_some (node_performing node line)) rest) in
-    let no_purge : purge_wanted policy node ≡ None = ap (option_map _) (no_least node (is_purged policy node) (λ line. ap (λ (s : CacheState). has_sharers s && (has policy.draining line || has_pending node line)) (out line))) in
-    let no_send : send_wanted node ≡ None = ap (option_and_then (ask_of node)) (no_least node (λ line. must_send (state_on node line)) (λ line. ap must_send (out line))) in
-    let no_due : due_wanted policy node ≡ None = ap (option_map _) (no_least node (is_claimed policy node) (λ line. ap (λ (s : CacheState). has_fresh_sharers s && has policy.due line) (out line))) in
+    let no_purge : purge_wanted policy node ≡ None =
+    ap (option_map _) (no_least node (is_purged policy node)
+    (λ line. ap (λ (s : CacheState). has_sharers s && (has policy.draining line || has_pending node line)) (out line))) in
+    let no_send : send_wanted node ≡ None =
+    ap (option_and_then (ask_of node)) (no_least node (λ line. must_send (state_on node line)) (λ line. ap must_send (out line))) in
+    let no_due : due_wanted policy node ≡ None =
+    ap (option_map _) (no_least node (is_claimed policy node) (λ line. ap (λ (s : CacheState). has_fresh_sharers s && has policy.due line) (out line))) in
     let no_slot : slot_wanted node ≡ None = ap (option_and_then (slot_for node)) (no_oldest node (λ line. true) rest) in
-    let no_contents : contents_wanted node ≡ None = ap (option_and_then (operation_asks node)) (no_oldest node (λ line. is_some (operation_asks node line)) rest) in
-    let none : ruled policy node ≡ None = neither _ _ no_perform (neither _ _ no_purge (neither _ _ no_send (neither _ _ no_due (neither _ _ no_slot no_contents)))) in
+    let no_contents : contents_wanted node ≡ None =
+    ap (option_and_then (operation_asks node)) (no_oldest node (λ line. is_some (operation_asks node line)) rest) in
+    let none : ruled policy node ≡ None =
+    neither _ _ no_perform (neither _ _ no_purge (neither _ _ no_send (neither _ _ no_due (neither _ _ no_slot no_contents)))) in
     ap (held_back (some_line node (λ line. joins (state_on node line)))) none

@@ -1,5 +1,6 @@
 -- The oldest of the operations of some lines.
-use Rattle.std.proofs.Common.{◌≡◌, ℕ, zero, suc, ◌+◌, ◌-◌, ◌<◌, ◌≤◌, nat_lt, ◌&&◌, Bool, true, false, if◌then◌else◌, cond, List, [], ◌∷◌, ◌++◌, filter, Option, Some, None, refl, sym, ap, subst, ◌∙◌, arith, inl, inr}
+use Rattle.std.proofs.Common.{◌≡◌, ℕ, zero, suc, ◌+◌, ◌-◌, ◌<◌, ◌≤◌, nat_lt, ◌&&◌, Bool, true, false, if◌then◌else◌, cond, List, [], ◌∷◌, ◌++◌, filter, Option}
+use Rattle.std.proofs.Common.{Some, None, refl, sym, ap, subst, ◌∙◌, arith, inl, inr}
 use Rattle.std.specs.Prelude.{IfSome, is_some, option_map}
 use Rattle.std.specs.List.{range_with_len}
 use Rattle.std.proofs.lemmas.Bool.{cases_Bool}
@@ -16,33 +17,44 @@ abbrev pub next_oldest : NodeOf → Option ℕ → ℕ → ℕ
 next_oldest node None line = line
 next_oldest node (Some found) line = if nat_lt (serial_on node line) (serial_on node found) then line else found
 
-older_push : (node : NodeOf) (line last : ℕ) (rest : Option ℕ) → Some (older node line (Some (next_oldest node rest last))) ≡ Some (next_oldest node (Some (older node line rest)) last)
+older_push : (node : NodeOf) (line last : ℕ) (rest : Option ℕ)
+    → Some (older node line (Some (next_oldest node rest last))) ≡ Some (next_oldest node (Some (older node line rest)) last)
 older_push node line last None = grind (arith)
 older_push node line last (Some found) = grind (arith)
 
 pub oldest_push : (node : NodeOf) (lines : List ℕ) (last : ℕ) → oldest_of node (lines ++ last ∷ []) ≡ Some (next_oldest node (oldest_of node lines) last)
 oldest_push node [] last = refl
-oldest_push node (line ∷ lines) last = ap (λ (o : Option ℕ). Some (older node line o)) (oldest_push node lines last) ∙ older_push node line last (oldest_of node lines)
+oldest_push node (line ∷ lines) last =
+    ap (λ (o : Option ℕ). Some (older node line o)) (oldest_push node lines last) ∙ older_push node line last (oldest_of node lines)
 
 -- the oldest of the first lines
 abbrev pub oldest_below : NodeOf → (ℕ → Bool) → ℕ → Option ℕ
 oldest_below node tested count = oldest_of node (filter (λ line. has_pending node line && tested line) (range_with_len 0 count))
 
-one_more : (node : NodeOf) (tested : ℕ → Bool) (line : ℕ) → filter (λ l. has_pending node l && tested l) (range_with_len 0 (line + 1)) ≡ filter (λ l. has_pending node l && tested l) (range_with_len 0 line) ++ filter (λ l. has_pending node l && tested l) (line ∷ [])
-one_more node tested line = ap (filter (λ l. has_pending node l && tested l)) (range_more line) ∙ filter-append (λ l. has_pending node l && tested l) (range_with_len 0 line) (line ∷ [])
+one_more : (node : NodeOf) (tested : ℕ → Bool) (line : ℕ)
+    → filter (λ l. has_pending node l && tested l) (range_with_len 0 (line + 1)) ≡ filter (λ l. has_pending node l && tested l) (range_with_len 0 line)
+    ++ filter (λ l. has_pending node l && tested l) (line ∷ [])
+one_more node tested line = ap (filter (λ l. has_pending node l && tested l)) (range_more line)
+    ∙ filter-append (λ l. has_pending node l && tested l) (range_with_len 0 line) (line ∷ [])
 
 filtered : (p : ℕ → Bool) (line : ℕ) (b : Bool) → p line ≡ b → filter p (line ∷ []) ≡ cond b (line ∷ []) []
 filtered p line b e = ap (λ (c : Bool). cond {A = List ℕ} c (line ∷ []) []) e
 
 -- a line that isn't meant leaves it
-pub oldest_left : (node : NodeOf) (tested : ℕ → Bool) (line : ℕ) → (has_pending node line && tested line) ≡ false → oldest_below node tested (line + 1) ≡ oldest_below node tested line
+pub oldest_left : (node : NodeOf) (tested : ℕ → Bool) (line : ℕ) → (has_pending node line && tested line) ≡ false
+    → oldest_below node tested (line + 1) ≡ oldest_below node tested line
 oldest_left node tested line fails =
-    ap (oldest_of node) (one_more node tested line ∙ (ap (λ (ls : List ℕ). filter (λ l. has_pending node l && tested l) (range_with_len 0 line) ++ ls) (filtered (λ l. has_pending node l && tested l) line false fails) ∙ append-nil _))
+    ap (oldest_of node) (one_more node tested line
+    ∙ (ap (λ (ls : List ℕ). filter (λ l. has_pending node l && tested l) (range_with_len 0 line) ++ ls)
+    (filtered (λ l. has_pending node l && tested l) line false fails) ∙ append-nil _))
 
 -- a line that is meant is compared with it
-pub oldest_next : (node : NodeOf) (tested : ℕ → Bool) (line : ℕ) → (has_pending node line && tested line) ≡ true → oldest_below node tested (line + 1) ≡ Some (next_oldest node (oldest_below node tested line) line)
+pub oldest_next : (node : NodeOf) (tested : ℕ → Bool) (line : ℕ) → (has_pending node line && tested line) ≡ true
+    → oldest_below node tested (line + 1) ≡ Some (next_oldest node (oldest_below node tested line) line)
 oldest_next node tested line passes =
-    ap (oldest_of node) (one_more node tested line ∙ ap (λ (ls : List ℕ). filter (λ l. has_pending node l && tested l) (range_with_len 0 line) ++ ls) (filtered (λ l. has_pending node l && tested l) line true passes))
+    ap (oldest_of node) (one_more node tested line
+    ∙ ap (λ (ls : List ℕ). filter (λ l. has_pending node l && tested l) (range_with_len 0 line) ++ ls)
+    (filtered (λ l. has_pending node l && tested l) line true passes))
     ∙ oldest_push node (filter (λ l. has_pending node l && tested l) (range_with_len 0 line)) line
 
 -- ---- what a walk over the lines has found so far: a line, and its operation's serial
@@ -56,24 +68,30 @@ line_found found = option_map (λ f. f.0) found
 -- an older one takes its place
 pub found_next : (node : NodeOf) (tested : ℕ → Bool) (line : ℕ) (found : Option (ℕ × ℕ)) → IsFound node found → line_found found ≡ oldest_below node tested line
     → (has_pending node line && tested line) ≡ true → is_older_than (serial_on node line) found ≡ true → Some line ≡ oldest_below node tested (line + 1)
-found_next node tested line None is same passes older = sym (oldest_next node tested line passes ∙ ap (λ (o : Option ℕ). Some (next_oldest node o line)) (sym same))
+found_next node tested line None is same passes older =
+    sym (oldest_next node tested line passes ∙ ap (λ (o : Option ℕ). Some (next_oldest node o line)) (sym same))
 found_next node tested line (Some f) is same passes older =
     let least : nat_lt (serial_on node line) (serial_on node f.0) ≡ true = subst (λ (s : ℕ). nat_lt (serial_on node line) s ≡ true) is older in
-    sym (oldest_next node tested line passes ∙ (ap (λ (o : Option ℕ). Some (next_oldest node o line)) (sym same) ∙ ap (λ (b : Bool). Some (if b then line else f.0)) least))
+    sym (oldest_next node tested line passes
+    ∙ (ap (λ (o : Option ℕ). Some (next_oldest node o line)) (sym same) ∙ ap (λ (b : Bool). Some (if b then line else f.0)) least))
 
 not_true : (b : Bool) → (b ≡ true → ⊥) → b ≡ false
 not_true b never = elim (cases_Bool b) [ inl is ↦ absurd (never is) | inr is ↦ is ]
 
 kept : (node : NodeOf) (tested : ℕ → Bool) (line : ℕ) (found : Option (ℕ × ℕ)) → IsFound node found → line_found found ≡ oldest_below node tested line
-    → (has_pending node line && tested line) ≡ true → (is_older_than (serial_on node line) found ≡ true → ⊥) → line_found found ≡ oldest_below node tested (line + 1)
+    → (has_pending node line && tested line) ≡ true → (is_older_than (serial_on node line) found ≡ true → ⊥)
+    → line_found found ≡ oldest_below node tested (line + 1)
 kept node tested line None is same passes younger = absurd (younger refl)
 kept node tested line (Some f) is same passes younger =
-    let least : nat_lt (serial_on node line) (serial_on node f.0) ≡ false = subst (λ (s : ℕ). nat_lt (serial_on node line) s ≡ false) is (not_true (nat_lt (serial_on node line) f.1) younger) in
-    sym (oldest_next node tested line passes ∙ (ap (λ (o : Option ℕ). Some (next_oldest node o line)) (sym same) ∙ ap (λ (b : Bool). Some (if b then line else f.0)) least))
+    let least : nat_lt (serial_on node line) (serial_on node f.0) ≡ false =
+    subst (λ (s : ℕ). nat_lt (serial_on node line) s ≡ false) is (not_true (nat_lt (serial_on node line) f.1) younger) in
+    sym (oldest_next node tested line passes
+    ∙ (ap (λ (o : Option ℕ). Some (next_oldest node o line)) (sym same) ∙ ap (λ (b : Bool). Some (if b then line else f.0)) least))
 
 -- one that is younger, or isn't meant, doesn't
 pub found_left : (node : NodeOf) (tested : ℕ → Bool) (line : ℕ) (found : Option (ℕ × ℕ)) → IsFound node found → line_found found ≡ oldest_below node tested line
-    → (is_older_than (serial_on node line) found ≡ true → (has_pending node line && tested line) ≡ false) → line_found found ≡ oldest_below node tested (line + 1)
+    → (is_older_than (serial_on node line) found ≡ true → (has_pending node line && tested line) ≡ false)
+    → line_found found ≡ oldest_below node tested (line + 1)
 found_left node tested line found is same skips =
     elim (cases_Bool (has_pending node line && tested line)) [
       | inl passes ↦ kept node tested line found is same passes (λ older. (let clash : true ≡ false = sym passes ∙ skips older in cc))
@@ -94,38 +112,57 @@ pending_and (Some q) p b c e f = f
 abbrev pub IsPassedOver : NodeOf → ((ℕ → Bool) → Type 0) → ℕ → Type 0
 IsPassedOver node IsMeant line = (tested : ℕ → Bool) → IsMeant tested → (has_pending node line && tested line) ≡ false
 
-passed_over : (node : NodeOf) (IsMeant : (ℕ → Bool) → Type 0) (line : ℕ) (found : Option (ℕ × ℕ)) → IsPassedOver node IsMeant line → IsFoundBelow node IsMeant line found → IsFoundBelow node IsMeant (line + 1) found
+passed_over : (node : NodeOf) (IsMeant : (ℕ → Bool) → Type 0) (line : ℕ) (found : Option (ℕ × ℕ)) → IsPassedOver node IsMeant line
+    → IsFoundBelow node IsMeant line found → IsFoundBelow node IsMeant (line + 1) found
 passed_over node IsMeant line found over was = (was.0, λ tested is. found_left node tested line found was.0 (was.1 tested is) (λ older. over tested is))
 
-pub nothing_pending : (node : NodeOf) (IsMeant : (ℕ → Bool) → Type 0) (line : ℕ) (found : Option (ℕ × ℕ)) → pending_on node line ≡ None → IsFoundBelow node IsMeant line found → IsFoundBelow node IsMeant (line + 1) found
-nothing_pending node IsMeant line found none was = passed_over node IsMeant line found (λ tested is. ap (λ (o : Option Pending). is_some o && tested line) none) was
+pub nothing_pending : (node : NodeOf) (IsMeant : (ℕ → Bool) → Type 0) (line : ℕ) (found : Option (ℕ × ℕ)) → pending_on node line ≡ None
+    → IsFoundBelow node IsMeant line found → IsFoundBelow node IsMeant (line + 1) found
+nothing_pending node IsMeant line found none was =
+    passed_over node IsMeant line found (λ tested is. ap (λ (o : Option Pending). is_some o && tested line) none) was
 
-pub older_found : (node : NodeOf) (IsMeant : (ℕ → Bool) → Type 0) (line : ℕ) (found : Option (ℕ × ℕ)) (p : Pending) → pending_on node line ≡ Some p → is_older_than p.serial found ≡ true → ((tested : ℕ → Bool) → IsMeant tested → tested line ≡ true)
+pub older_found : (node : NodeOf) (IsMeant : (ℕ → Bool) → Type 0) (line : ℕ) (found : Option (ℕ × ℕ)) (p : Pending) → pending_on node line ≡ Some p
+    → is_older_than p.serial found ≡ true → ((tested : ℕ → Bool) → IsMeant tested → tested line ≡ true)
     → IsFoundBelow node IsMeant line found → IsFoundBelow node IsMeant (line + 1) (Some (line, p.serial))
 older_found node IsMeant line found p at older passes was =
-    let serial : serial_on node line ≡ p.serial = ap serial_in at in
-    (sym serial, λ tested is. found_next node tested line found was.0 (was.1 tested is) (pending_and (pending_on node line) p (tested line) true at (passes tested is)) (ap (λ (s : ℕ). is_older_than s found) serial ∙ older))
+    let serial : serial_on node line ≡ p.serial = ap serial_in at in (
+      sym serial,
+      λ tested is. found_next node tested line found was.0 (was.1 tested is)
+          (pending_and (pending_on node line) p (tested line) true at (passes tested is)) (ap (λ (s : ℕ). is_older_than s found) serial ∙ older),
+    )
 
-pub not_meant : (node : NodeOf) (IsMeant : (ℕ → Bool) → Type 0) (line : ℕ) (found : Option (ℕ × ℕ)) (p : Pending) → pending_on node line ≡ Some p → ((tested : ℕ → Bool) → IsMeant tested → tested line ≡ false)
+pub not_meant : (node : NodeOf) (IsMeant : (ℕ → Bool) → Type 0) (line : ℕ) (found : Option (ℕ × ℕ)) (p : Pending) → pending_on node line ≡ Some p
+    → ((tested : ℕ → Bool) → IsMeant tested → tested line ≡ false)
     → IsFoundBelow node IsMeant line found → IsFoundBelow node IsMeant (line + 1) found
-not_meant node IsMeant line found p at fails was =
-    (was.0, λ tested is. found_left node tested line found was.0 (was.1 tested is) (λ older. pending_and (pending_on node line) p (tested line) false at (fails tested is)))
+not_meant node IsMeant line found p at fails was = (
+  was.0,
+  λ tested is. found_left node tested line found was.0 (was.1 tested is)
+      (λ older. pending_and (pending_on node line) p (tested line) false at (fails tested is)),
+)
 
-pub not_older : (node : NodeOf) (IsMeant : (ℕ → Bool) → Type 0) (line : ℕ) (found : Option (ℕ × ℕ)) (p : Pending) → pending_on node line ≡ Some p → is_older_than p.serial found ≡ false
+pub not_older : (node : NodeOf) (IsMeant : (ℕ → Bool) → Type 0) (line : ℕ) (found : Option (ℕ × ℕ)) (p : Pending) → pending_on node line ≡ Some p
+    → is_older_than p.serial found ≡ false
     → IsFoundBelow node IsMeant line found → IsFoundBelow node IsMeant (line + 1) found
 not_older node IsMeant line found p at younger was =
-    let serial : serial_on node line ≡ p.serial = ap serial_in at in
-    (was.0, λ tested is. found_left node tested line found was.0 (was.1 tested is) (λ older. (let clash : true ≡ false = sym older ∙ (ap (λ (s : ℕ). is_older_than s found) serial ∙ younger) in cc)))
+    let serial : serial_on node line ≡ p.serial = ap serial_in at in (
+      was.0,
+      λ tested is. found_left node tested line found was.0 (was.1 tested is)
+          (λ older. (let clash : true ≡ false = sym older ∙ (ap (λ (s : ℕ). is_older_than s found) serial ∙ younger) in cc)),
+    )
 
 -- ---- lines that are passed over
 
-none_between : (node : NodeOf) (IsMeant : (ℕ → Bool) → Type 0) (k d : ℕ) (found : Option (ℕ × ℕ)) → ((j : ℕ) → k ≤ j → j < k + d → IsPassedOver node IsMeant j) → IsFoundBelow node IsMeant k found → IsFoundBelow node IsMeant (k + d) found
+none_between : (node : NodeOf) (IsMeant : (ℕ → Bool) → Type 0) (k d : ℕ) (found : Option (ℕ × ℕ)) → ((j : ℕ) → k ≤ j → j < k + d → IsPassedOver node IsMeant j)
+    → IsFoundBelow node IsMeant k found → IsFoundBelow node IsMeant (k + d) found
 none_between node IsMeant k zero found none was = let same : k ≡ k + 0 = omega arith in subst (λ (n : ℕ). IsFoundBelow node IsMeant n found) same was
 none_between node IsMeant k (suc d) found none was =
     let same : (k + d) + 1 ≡ k + suc d = omega arith in
-    subst (λ (n : ℕ). IsFoundBelow node IsMeant n found) same (passed_over node IsMeant (k + d) found (none (k + d) (omega arith) (omega arith)) (none_between node IsMeant k d found (λ j from below. (let lt : j < k + suc d = omega arith in none j from lt)) was))
+    subst (λ (n : ℕ). IsFoundBelow node IsMeant n found) same
+    (passed_over node IsMeant (k + d) found (none (k + d) (omega arith) (omega arith))
+    (none_between node IsMeant k d found (λ j from below. (let lt : j < k + suc d = omega arith in none j from lt)) was))
 
-pub none_up_to : (node : NodeOf) (IsMeant : (ℕ → Bool) → Type 0) (k n : ℕ) (found : Option (ℕ × ℕ)) → k ≤ n → ((j : ℕ) → k ≤ j → j < n → IsPassedOver node IsMeant j) → IsFoundBelow node IsMeant k found → IsFoundBelow node IsMeant n found
+pub none_up_to : (node : NodeOf) (IsMeant : (ℕ → Bool) → Type 0) (k n : ℕ) (found : Option (ℕ × ℕ)) → k ≤ n
+    → ((j : ℕ) → k ≤ j → j < n → IsPassedOver node IsMeant j) → IsFoundBelow node IsMeant k found → IsFoundBelow node IsMeant n found
 none_up_to node IsMeant k n found le none was =
     let whole : k + (n - k) ≡ n = omega arith in
     subst (λ (m : ℕ). IsFoundBelow node IsMeant m found) whole (none_between node IsMeant k (n - k) found (λ j from below. none j from (omega arith)) was)
@@ -142,11 +179,13 @@ not_both true false tested test none is = is
 not_both true true tested test none is = cc
 
 -- a line that has no operation pending or isn't of the kind is passed over
-pub of_no_kind : (node : NodeOf) (kind : ℕ → Bool) (IsMeant : (ℕ → Bool) → Type 0) (line : ℕ) → (has_pending node line && kind line) ≡ false → IsPassedOver node (IsNarrowed kind IsMeant) line
+pub of_no_kind : (node : NodeOf) (kind : ℕ → Bool) (IsMeant : (ℕ → Bool) → Type 0) (line : ℕ) → (has_pending node line && kind line) ≡ false
+    → IsPassedOver node (IsNarrowed kind IsMeant) line
 of_no_kind node kind IsMeant line none = λ test is. not_both (has_pending node line) (kind line) (is.0 line) (test line) none (is.1.1 line)
 
 -- what a test says of a line of the kind
-pub of_kind : (kind : ℕ → Bool) (IsMeant : (ℕ → Bool) → Type 0) (line : ℕ) (b : Bool) → kind line ≡ true → ((tested : ℕ → Bool) → IsMeant tested → tested line ≡ b) → (test : ℕ → Bool) → IsNarrowed kind IsMeant test → test line ≡ b
+pub of_kind : (kind : ℕ → Bool) (IsMeant : (ℕ → Bool) → Type 0) (line : ℕ) (b : Bool) → kind line ≡ true
+    → ((tested : ℕ → Bool) → IsMeant tested → tested line ≡ b) → (test : ℕ → Bool) → IsNarrowed kind IsMeant test → test line ≡ b
 of_kind kind IsMeant line b here says test is = is.1.1 line ∙ (ap (λ (k : Bool). k && is.0 line) here ∙ says is.0 is.1.0)
 
 -- tests that say the same of each line find the same one
@@ -159,5 +198,6 @@ implied false true only = only refl
 implied false false only = refl
 
 -- a kind of lines that has all that pass needn't be asked for
-pub oldest_of_kind : (node : NodeOf) (kind test : ℕ → Bool) → ((line : ℕ) → test line ≡ true → kind line ≡ true) → oldest node (λ line. kind line && test line) ≡ oldest node test
+pub oldest_of_kind : (node : NodeOf) (kind test : ℕ → Bool) → ((line : ℕ) → test line ≡ true → kind line ≡ true)
+    → oldest node (λ line. kind line && test line) ≡ oldest node test
 oldest_of_kind node kind test only = oldest_same node _ _ (λ line. implied (kind line) (test line) (only line))

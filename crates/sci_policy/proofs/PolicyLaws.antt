@@ -20,14 +20,16 @@ use Rattle.sci_policy.specs.declared.policy.TheConstants.{PATIENCE}
 use Rattle.sci_policy.specs.declared.want.Want.{Want}
 use Rattle.sci_policy.specs.declared.want.Want.TheVariants.{Perform, Ask}
 use Rattle.sci_policy.specs.Lines.{can_drain, some_line, state_on}
-use Rattle.sci_policy.specs.Policy.{IsEnabledWant, PolicyOf, asks_home_to_change, awaits_home, draining_at_last, due_at_last, has, held_back, is_busy_now, is_cread, kept_by, next_policy, next_wanted, noted, noted_ask, refused_by, ruled, set_of, still_draining, ticked, wanted}
+use Rattle.sci_policy.specs.Policy.{IsEnabledWant, PolicyOf, asks_home_to_change, awaits_home, draining_at_last, due_at_last, has, held_back, is_busy_now}
+use Rattle.sci_policy.specs.Policy.{is_cread, kept_by, next_policy, next_wanted, noted, noted_ask, refused_by, ruled, set_of, still_draining, ticked, wanted}
 use Rattle.sci_policy.proofs.Found.{least_some}
 use Rattle.sci_policy.proofs.Marks.{in_set, past_set}
 use Rattle.sci_policy.proofs.Wants.{wanted_enabled}
 
 -- ---- what is wanted while a line joins
 
-held_by : (want : Want) (line : ℕ) (k : AskKind) (changes : Bool) → asks_home_to_change want ≡ changes → (if true && changes then None else Some want) ≡ Some (Ask line k) → asks_home_to_change (Ask line k) ≡ false
+held_by : (want : Want) (line : ℕ) (k : AskKind) (changes : Bool) → asks_home_to_change want ≡ changes
+    → (if true && changes then None else Some want) ≡ Some (Ask line k) → asks_home_to_change (Ask line k) ≡ false
 held_by want line k true is held = cc
 held_by want line k false is held = let same : want ≡ Ask line k = cc in subst (λ (w : Want). asks_home_to_change w ≡ false) same is
 
@@ -38,11 +40,13 @@ held (Some want) line k is = held_by want line k (asks_home_to_change want) refl
 other_kind : (line : ℕ) (k j : AskKind) → asks_home_to_change (Ask line j) ≡ true → asks_home_to_change (Ask line k) ≡ false → k ≢ j
 other_kind line k j changes not_so = λ same. (let so = subst (λ (i : AskKind). asks_home_to_change (Ask line i) ≡ false) same not_so in cc)
 
-pub joins_first : (policy : PolicyOf) (node : NodeOf) (joining line : ℕ) (k : AskKind) → joining < lines_of node → joins (state_on node joining) ≡ true → next_wanted policy node ≡ Some (Ask line k)
+pub joins_first : (policy : PolicyOf) (node : NodeOf) (joining line : ℕ) (k : AskKind) → joining < lines_of node → joins (state_on node joining) ≡ true
+    → next_wanted policy node ≡ Some (Ask line k)
     → (k ≢ kind.Claim) × (k ≢ kind.Clear) × (k ≢ kind.Wback)
 joins_first policy node joining line k below joined wants =
     let some = least_some node (λ other. joins (state_on node other)) joining below joined in
-    let back : held_back true (ruled (ticked policy node) node) ≡ Some (Ask line k) = subst (λ (b : Bool). held_back b (ruled (ticked policy node) node) ≡ Some (Ask line k)) some wants in
+    let back : held_back true (ruled (ticked policy node) node) ≡ Some (Ask line k) =
+    subst (λ (b : Bool). held_back b (ruled (ticked policy node) node) ≡ Some (Ask line k)) some wants in
     let unchanged = held (ruled (ticked policy node) node) line k back in
     (other_kind line k kind.Claim refl unchanged, other_kind line k kind.Clear refl unchanged, other_kind line k kind.Wback refl unchanged)
 
@@ -72,7 +76,8 @@ made_some cache line (Some asked) lacks ok = refl
 purge_enabled : (node : NodeOf) (line : ℕ) → IsSome (node_asking node line kind.Purge) → can_drain (state_on node line) ≡ true
 purge_enabled node line enabled =
     let asked = (may_ask node line kind.Purge enabled).1 in
-    purge_drains (state_on node line) (made_some node.cache line (asking (state_on node line) kind.Purge) (is_out (state_on node line) && not (has_slot node.cache)) asked)
+    purge_drains (state_on node line)
+    (made_some node.cache line (asking (state_on node line) kind.Purge) (is_out (state_on node line) && not (has_slot node.cache)) asked)
 
 -- every marked line can drain
 abbrev CanDrain : NodeOf → List Bool → Type 0
@@ -94,7 +99,8 @@ last_drains policy node line h = elim (or_cases (still_draining policy node line
 ]
 
 ticked_by : (policy : PolicyOf) (node : NodeOf) (b : Bool)
-    → CanDrain node (if b then record policy { draining = set_of (still_draining policy node); patience = policy.patience + 1 } else record policy { draining = set_of (draining_at_last policy node); due = set_of (due_at_last policy node); patience = 0 }).draining
+    → CanDrain node (if b then record policy { draining = set_of (still_draining policy node); patience = policy.patience + 1 } else record policy
+    { draining = set_of (draining_at_last policy node); due = set_of (due_at_last policy node); patience = 0 }).draining
 ticked_by policy node true = set_drains node (still_draining policy node) (still_drains policy node)
 ticked_by policy node false = set_drains node (draining_at_last policy node) (last_drains policy node)
 
@@ -107,19 +113,23 @@ marked_too node marks line drains before = λ other marked. (elim (cases_eq othe
   | inr ne ↦ before other (sym (get_or-set_other marks line other true false ne) ∙ marked)
 ])
 
-if_draining : (policy due : PolicyOf) (node : NodeOf) (b : Bool) → CanDrain node policy.draining → CanDrain node due.draining → CanDrain node (if b then due else policy).draining
+if_draining : (policy due : PolicyOf) (node : NodeOf) (b : Bool) → CanDrain node policy.draining → CanDrain node due.draining
+    → CanDrain node (if b then due else policy).draining
 if_draining policy due node true before after = after
 if_draining policy due node false before after = before
 
-noted_drains : (policy : PolicyOf) (node : NodeOf) (want : Option Want) → IfSome want (IsEnabledWant node) → CanDrain node policy.draining → CanDrain node (noted policy node want).draining
+noted_drains : (policy : PolicyOf) (node : NodeOf) (want : Option Want) → IfSome want (IsEnabledWant node) → CanDrain node policy.draining
+    → CanDrain node (noted policy node want).draining
 noted_drains policy node None enabled before = before
 noted_drains policy node (Some (Perform line)) enabled before = before
 noted_drains policy node (Some (Ask line kind.Purge)) enabled before = marked_too node policy.draining line (purge_enabled node line enabled) before
 noted_drains policy node (Some (Ask line kind.Claim)) enabled before = if_draining policy _ node _ before before
 noted_drains policy node (Some (Ask line _)) enabled before = before
 
-pub draining_purges : (policy : PolicyOf) (node : NodeOf) (line : ℕ) → has (next_policy policy node).draining line ≡ true → can_drain (state_on node line) ≡ true
-draining_purges policy node = noted_drains (ticked policy node) node (next_wanted policy node) (wanted_enabled (ticked policy node) node) (ticked_drains policy node)
+pub draining_purges : (policy : PolicyOf) (node : NodeOf) (line : ℕ) → has (next_policy policy node).draining line ≡ true
+    → can_drain (state_on node line) ≡ true
+draining_purges policy node = noted_drains (ticked policy node) node (next_wanted policy node) (wanted_enabled (ticked policy node) node)
+    (ticked_drains policy node)
 
 -- ---- requests that are kept
 
@@ -130,7 +140,8 @@ cread_is _ is = cc
 differ : (m n : ℕ) → not (m == n) ≡ true → m ≢ n
 differ m n other = λ same. (let equal = eq-eqb m n same in cc)
 
-pub kept_is_cread : (policy : PolicyOf) (node : NodeOf) (request : Letter) → kept_by policy node request ≡ true → (request.body ≡ Cread) × (request.source ≢ node.cache.me)
+pub kept_is_cread : (policy : PolicyOf) (node : NodeOf) (request : Letter) → kept_by policy node request ≡ true
+    → (request.body ≡ Cread) × (request.source ≢ node.cache.me)
 kept_is_cread policy node request kept =
     let first = (and_parts (is_cread request.body && not (request.source == node.cache.me)) _ kept).0 in
     let both = and_parts (is_cread request.body) (not (request.source == node.cache.me)) first in
@@ -143,7 +154,8 @@ in_last_turn false other turns zero kept =
     let none = eq-eqb turns 0 zero in
     cc
 
-pub kept_awaits_home : (policy : PolicyOf) (node : NodeOf) (request : Letter) → policy.turns ≡ 0 → kept_by policy node request ≡ true → awaits_home (state_on node request.line) ≡ true
+pub kept_awaits_home : (policy : PolicyOf) (node : NodeOf) (request : Letter) → policy.turns ≡ 0 → kept_by policy node request ≡ true
+    → awaits_home (state_on node request.line) ≡ true
 kept_awaits_home policy node request zero kept =
     let why = (and_parts (is_cread request.body && not (request.source == node.cache.me)) _ kept).1 in
     in_last_turn (awaits_home (state_on node request.line)) (is_busy_now (state_on node request.line) || refused_by policy node request) policy.turns zero why

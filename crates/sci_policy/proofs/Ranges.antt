@@ -1,5 +1,6 @@
 -- The least number that passes a test, among more and more of them.
-use Rattle.std.proofs.Common.{◌≡◌, ℕ, zero, suc, ◌+◌, ◌-◌, ◌<◌, ◌≤◌, Bool, true, false, cond, List, [], ◌∷◌, ◌++◌, Option, Some, None, refl, sym, ap, ◌∙◌, arith}
+use Rattle.std.proofs.Common.{◌≡◌, ℕ, zero, suc, ◌+◌, ◌-◌, ◌<◌, ◌≤◌, Bool, true, false, cond, List, [], ◌∷◌, ◌++◌, Option, Some, None, refl, sym, ap, ◌∙◌}
+use Rattle.std.proofs.Common.{arith}
 use Rattle.std.specs.Prelude.{IfSome}
 use Rattle.std.specs.Bool.{then_some}
 use Rattle.std.specs.Option.{option_or}
@@ -54,7 +55,8 @@ longer p k n x le is =
     ∙ (find-append p (range_with_len 0 k) (range_with_len (0 + k) (n - k)) ∙ ap (λ (o : Option ℕ). option_or o (find p (range_with_len (0 + k) (n - k)))) is))
 
 -- a number that passes, and before which none does, is the least that passes; and there is none if none passes
-pub found_at : (p : ℕ → Bool) (n : ℕ) (found : Option ℕ) → IfSome found (λ k. k < n) → IfSome found (λ k. p k ≡ true) → ((j : ℕ) → j < n → IsBefore j found → p j ≡ false) → found ≡ find p (range_with_len 0 n)
+pub found_at : (p : ℕ → Bool) (n : ℕ) (found : Option ℕ) → IfSome found (λ k. k < n) → IfSome found (λ k. p k ≡ true)
+    → ((j : ℕ) → j < n → IsBefore j found → p j ≡ false) → found ≡ find p (range_with_len 0 n)
 found_at p n None here passes none = find_up_to p 0 n (omega arith) (λ j from below. none j below tt)
 found_at p n (Some k) here passes none =
     let before : None ≡ find p (range_with_len 0 k) = find_up_to p 0 k (omega arith) (λ j from below. (let lt : j < n = omega arith in none j lt below)) in

@@ -1,12 +1,14 @@
 -- A node of a reached state always wants something, unless nothing is pending or a line awaits an answer.
-use Rattle.std.proofs.Common.{◌≡◌, ℕ, ◌<◌, ◌≤◌, ◌&&◌, ◌||◌, not, Bool, true, false, if◌then◌else◌, get_or, Option, Some, None, refl, sym, ap, subst, ◌∙◌, arith, inl, inr}
+use Rattle.std.proofs.Common.{◌≡◌, ℕ, ◌<◌, ◌≤◌, ◌&&◌, ◌||◌, not, Bool, true, false, if◌then◌else◌, get_or, Option, Some, None, refl, sym, ap, subst, ◌∙◌, arith}
+use Rattle.std.proofs.Common.{inl, inr}
 use Rattle.std.specs.Prelude.{IfSome, IsSome, is_some, option_map}
 use Rattle.std.specs.Option.{option_or, option_and_then}
 use Rattle.std.proofs.lemmas.Bool.{and_parts, cases_Bool, cases_lt, lt-ltb}
 use Rattle.std.proofs.lemmas.List.{get_or_past}
 use Rattle.sci_words.specs.declared.event.AskKind.{AskKind}
 use Rattle.sci_words.specs.declared.event.AskKind.TheVariants as kind
-use Rattle.sci_cache.specs.State.{CacheState, Out, Asking, Joining, FreshJoining, Head, FreshHead, Below, Purging, Claiming, Clearing, Returning, Rolling, Telling, Fading, is_out, waits}
+use Rattle.sci_cache.specs.State.{CacheState, Out, Asking, Joining, FreshJoining, Head, FreshHead, Below, Purging, Claiming, Clearing, Returning, Rolling}
+use Rattle.sci_cache.specs.State.{Telling, Fading, is_out, waits}
 use Rattle.sci_cache.specs.Line.{LineState, untouched}
 use Rattle.sci_cache.specs.Cache.{has_slot, slots_taken}
 use Rattle.sci_core.specs.Node.{NodeOf, lines_of, node_performing, pending_on}
@@ -19,15 +21,19 @@ use Rattle.sci_policy.specs.declared.want.Want.{Want}
 use Rattle.sci_policy.specs.declared.want.Want.TheVariants.{Perform, Ask}
 use Rattle.sci_cache.specs.Kinds.{could_give_way, gives_way, joins, must_send}
 use Rattle.sci_policy.specs.Lines.{has_maker, has_pending, least, oldest, own_ask, some_line, state_on}
-use Rattle.sci_policy.specs.Policy.{PolicyOf, ask_of, asked_in, asks_home_to_change, contents_wanted, due_wanted, has, held_back, is_purged, lacks_slot, operation_asks, operation_wanted, perform_wanted, purge_wanted, read_kind, ruled, send_wanted, slot_for, slot_wanted, wanted}
+use Rattle.sci_policy.specs.Policy.{PolicyOf, ask_of, asked_in, asks_home_to_change, contents_wanted, due_wanted, has, held_back, is_purged, lacks_slot}
+use Rattle.sci_policy.specs.Policy.{operation_asks, operation_wanted, perform_wanted, purge_wanted, read_kind, ruled, send_wanted, slot_for, slot_wanted}
+use Rattle.sci_policy.specs.Policy.{wanted}
 use Rattle.sci_policy.specs.Rest.{MayRest, NothingPending, Awaits}
 use Rattle.sci_policy.proofs.Found.{least_fits, least_none, least_some, none_passes, oldest_fits, oldest_some}
 
 -- ---- options
 
-then_none : {A B : Type 0} (f : A → Option B) (o : Option A) (P : A → Type 0) → option_and_then f o ≡ None → is_some o ≡ true → IfSome o P → ((x : A) → P x → is_some (f x) ≡ true) → ⊥
+then_none : {A B : Type 0} (f : A → Option B) (o : Option A) (P : A → Type 0) → option_and_then f o ≡ None → is_some o ≡ true → IfSome o P
+    → ((x : A) → P x → is_some (f x) ≡ true) → ⊥
 then_none f None P none some h each = cc
-then_none f (Some x) P none some h each = let there = each x h in let clash : is_some (f x) ≡ false = ap is_some none in let differ : true ≡ false = sym there ∙ clash in cc
+then_none f (Some x) P none some h each = let there = each x h in let clash : is_some (f x) ≡ false = ap is_some none in let differ : true ≡ false =
+    sym there ∙ clash in cc
 
 or_first : {A : Type 0} (a b : Option A) → option_or a b ≡ None → a ≡ None
 or_first None b e = refl
@@ -51,7 +57,8 @@ some_there (Some x) e = (x, refl)
 
 -- ---- states of a line that doesn't wait
 
-must_ask : (maker : Bool) (state : CacheState) → must_send state ≡ true → (k : AskKind) × (own_ask maker state ≡ Some k) × ((line : ℕ) → asks_home_to_change (Ask line k) ≡ false)
+must_ask : (maker : Bool) (state : CacheState) → must_send state ≡ true
+    → (k : AskKind) × (own_ask maker state ≡ Some k) × ((line : ℕ) → asks_home_to_change (Ask line k) ≡ false)
 must_ask maker (Joining p false) e = (kind.Cread, refl, λ line. refl)
 must_ask maker (Joining p true) e = cc
 must_ask maker (FreshJoining p false c) e = (kind.Cread, refl, λ line. refl)
@@ -112,7 +119,8 @@ is_mapped f None e = cc
 is_mapped f (Some x) e = refl
 
 could_want : (node : NodeOf) (line : ℕ) → could_give_way (state_on node line) ≡ true → is_some (ask_of node line) ≡ true
-could_want node line could = is_mapped (Ask line) (own_ask (has_maker node line) (state_on node line)) (could_ask (has_maker node line) (state_on node line) could)
+could_want node line could = is_mapped (Ask line) (own_ask (has_maker node line) (state_on node line))
+    (could_ask (has_maker node line) (state_on node line) could)
 
 -- ---- a node all of whose lines are quiet
 
@@ -138,20 +146,28 @@ kept_out : (out : Bool) → (out ≡ false → ⊥) → not out ≡ false
 kept_out true never = refl
 kept_out false never = absurd (never refl)
 
-then_some : {A B : Type 0} (f : A → Option B) (o : Option A) (P : A → Type 0) → is_some o ≡ true → IfSome o P → ((x : A) → P x → is_some (f x) ≡ true) → is_some (option_and_then f o) ≡ true
+then_some : {A B : Type 0} (f : A → Option B) (o : Option A) (P : A → Type 0) → is_some o ≡ true → IfSome o P → ((x : A) → P x → is_some (f x) ≡ true)
+    → is_some (option_and_then f o) ≡ true
 then_some f None P some h each = cc
 then_some f (Some x) P some h each = each x h
 
 gives_slot : (node : NodeOf) (line : ℕ) → IsQuietNode node → state_on node line ≡ Out → has_slot node.cache ≡ false → is_some (slot_for node line) ≡ true
 gives_slot node line quiet out full =
-    let no_way : some_line node (λ other. gives_way (state_on node other)) ≡ false = none_passes node (λ other. gives_way (state_on node other)) (λ other below. quiet_gives (state_on node other) (quiet.lines other below)) in
+    let no_way : some_line node (λ other. gives_way (state_on node other)) ≡ false =
+    none_passes node (λ other. gives_way (state_on node other)) (λ other below. quiet_gives (state_on node other) (quiet.lines other below)) in
     let lacks : lacks_slot node line ≡ true = rw (out, full, no_way) refl in
-    let found : some_line node (λ other. could_give_way (state_on node other)) ≡ true = elim (cases_Bool (some_line node (λ other. could_give_way (state_on node other)))) [
+    let found : some_line node (λ other. could_give_way (state_on node other)) ≡ true =
+    elim (cases_Bool (some_line node (λ other. could_give_way (state_on node other)))) [
       | inl is ↦ is
-      | inr none ↦ absurd (has_entry node quiet.some_slot full (none_passes node (λ other. not (is_out (state_on node other))) (λ other below. kept_out (is_out (state_on node other)) (λ entry. (let clash : true ≡ false = sym (quiet_could (state_on node other) (quiet.lines other below) entry) ∙ least_none node (λ o. could_give_way (state_on node o)) none other below in cc)))))
+      | inr none ↦ absurd (has_entry node quiet.some_slot full
+          (none_passes node (λ other. not (is_out (state_on node other)))
+          (λ other below. kept_out (is_out (state_on node other))
+          (λ entry. (let clash : true ≡ false = sym (quiet_could (state_on node other) (quiet.lines other below) entry)
+          ∙ least_none node (λ o. could_give_way (state_on node o)) none other below in cc)))))
     ] in
     ap (λ (b : Bool). is_some (if b then option_and_then (ask_of node) (least node (λ other. could_give_way (state_on node other))) else None)) lacks
-    ∙ then_some (ask_of node) (least node (λ other. could_give_way (state_on node other))) _ found (least_fits node (λ other. could_give_way (state_on node other))) (λ other fits. could_want node other fits.1)
+    ∙ then_some (ask_of node) (least node (λ other. could_give_way (state_on node other))) _ found
+    (least_fits node (λ other. could_give_way (state_on node other))) (λ other fits. could_want node other fits.1)
 
 -- what the oldest operation wants: a slot, or what it asks for
 asks_if : (node : NodeOf) (line : ℕ) (free : Bool) → is_some (if free then Some (Ask line (read_kind (has_maker node line))) else None) ≡ free
@@ -163,7 +179,8 @@ or_true true = refl
 or_true false = refl
 
 -- in each state of a quiet line with an operation, a rule fits
-rule_fits : (policy : PolicyOf) (node : NodeOf) (line : ℕ) (state : CacheState) → IsQuietNode node → line < lines_of node → has_pending node line ≡ true → state_on node line ≡ state → IsQuiet state → ruled policy node ≡ None
+rule_fits : (policy : PolicyOf) (node : NodeOf) (line : ℕ) (state : CacheState) → IsQuietNode node → line < lines_of node → has_pending node line ≡ true
+    → state_on node line ≡ state → IsQuiet state → ruled policy node ≡ None
     → ((is_some (operation_asks node line) ≡ true → ⊥) × (is_some (slot_for node line) ≡ true → ⊥)) → ⊥
 rule_fits policy node line Out quiet below pending is q none never =
     elim (cases_Bool (has_slot node.cache)) [
@@ -175,7 +192,8 @@ rule_fits policy node line (FreshHead f c) quiet below pending is q none never =
 rule_fits policy node line (Below f b c) quiet below pending is q none never =
     never.0 (ap (λ (s : CacheState). is_some (asked_in node line s)) is ∙ could_want node line (ap could_give_way is))
 rule_fits policy node line (Head None c) quiet below pending is q none never =
-    mapped_none Perform (oldest node (λ l. is_some (node_performing node l))) (or_first (perform_wanted node) _ none) (oldest_some node (λ l. is_some (node_performing node l)) line below pending (quiet.sole line c below pending is))
+    mapped_none Perform (oldest node (λ l. is_some (node_performing node l))) (or_first (perform_wanted node) _ none)
+    (oldest_some node (λ l. is_some (node_performing node l)) line below pending (quiet.sole line c below pending is))
 rule_fits policy node line (Head (Some f) c) quiet below pending is q none never =
     mapped_none (λ l. Ask l kind.Purge) (least node (is_purged policy node)) (or_first (purge_wanted policy node) _ (or_second (perform_wanted node) _ none))
     (least_some node (is_purged policy node) line below (rw (is, pending) (or_true (has policy.draining line))))
@@ -191,13 +209,16 @@ rule_fits policy node line (Telling r w sent) quiet below pending is q none neve
 rule_fits policy node line Fading quiet below pending is q none never = let clash = q.idle in cc
 
 -- the oldest operation of a quiet node has a rule
-oldest_wants : (policy : PolicyOf) (node : NodeOf) (line : ℕ) → IsQuietNode node → oldest node (λ l. true) ≡ Some line → line < lines_of node → has_pending node line ≡ true → ruled policy node ≡ None → ⊥
+oldest_wants : (policy : PolicyOf) (node : NodeOf) (line : ℕ) → IsQuietNode node → oldest node (λ l. true) ≡ Some line → line < lines_of node
+    → has_pending node line ≡ true → ruled policy node ≡ None → ⊥
 oldest_wants policy node line quiet first below pending none =
-    let operation = or_second (due_wanted policy node) (operation_wanted node) (or_second (send_wanted node) _ (or_second (purge_wanted policy node) _ (or_second (perform_wanted node) _ none))) in
+    let operation = or_second (due_wanted policy node) (operation_wanted node)
+    (or_second (send_wanted node) _ (or_second (purge_wanted policy node) _ (or_second (perform_wanted node) _ none))) in
     let no_slot : slot_wanted node ≡ None = or_first (slot_wanted node) (contents_wanted node) operation in
     let no_contents : contents_wanted node ≡ None = or_second (slot_wanted node) (contents_wanted node) operation in
     rule_fits policy node line (state_on node line) quiet below pending refl (quiet.lines line below) none (
-      λ asks. then_none (operation_asks node) (oldest node (λ l. is_some (operation_asks node l))) _ no_contents (oldest_some node (λ l. is_some (operation_asks node l)) line below pending asks) (oldest_fits node (λ l. is_some (operation_asks node l)))
+      λ asks. then_none (operation_asks node) (oldest node (λ l. is_some (operation_asks node l))) _ no_contents
+          (oldest_some node (λ l. is_some (operation_asks node l)) line below pending asks) (oldest_fits node (λ l. is_some (operation_asks node l)))
           (λ l fits. (and_parts (has_pending node l) (is_some (operation_asks node l)) fits.1).1),
       λ gives. (let clash : true ≡ false = sym gives ∙ ap is_some (sym (ap (option_and_then (slot_for node)) first) ∙ no_slot) in cc),
     )
@@ -229,7 +250,8 @@ purge_free : (o : Option ℕ) → IfSome (option_map (λ line. Ask line kind.Pur
 purge_free None = tt
 purge_free (Some line) = refl
 
-send_free : (node : NodeOf) (o : Option ℕ) → is_some o ≡ true → IfSome o (λ line. (line < lines_of node) × (must_send (state_on node line) ≡ true)) → HasFree (option_and_then (ask_of node) o)
+send_free : (node : NodeOf) (o : Option ℕ) → is_some o ≡ true → IfSome o (λ line. (line < lines_of node) × (must_send (state_on node line) ≡ true))
+    → HasFree (option_and_then (ask_of node) o)
 send_free node None some fits = cc
 send_free node (Some line) some fits =
     let asks = must_ask (has_maker node line) (state_on node line) fits.1 in
@@ -244,7 +266,8 @@ not_held joining None free none = let clash = free.is in cc
 not_held joining (Some want) free none =
     let same : want ≡ free.want = cc in
     let plain : asks_home_to_change want ≡ false = ap asks_home_to_change same ∙ free.free in
-    let kept : (if joining && asks_home_to_change want then None else Some want) ≡ Some want = ap (λ (b : Bool). if b then None else Some want) (and_no joining (asks_home_to_change want) plain) in
+    let kept : (if joining && asks_home_to_change want then None else Some want) ≡ Some want =
+    ap (λ (b : Bool). if b then None else Some want) (and_no joining (asks_home_to_change want) plain) in
     let clash : Some want ≡ None = sym kept ∙ none in
     cc
 
@@ -253,7 +276,8 @@ sends_something policy node sends none =
     not_held (some_line node (λ line. joins (state_on node line))) (ruled policy node)
     (free_later (perform_wanted node) _ (perform_free (oldest node (λ line. is_some (node_performing node line))))
     (free_later (purge_wanted policy node) _ (purge_free (least node (is_purged policy node)))
-    (free_first (send_wanted node) _ (send_free node (least node (λ line. must_send (state_on node line))) sends (least_fits node (λ line. must_send (state_on node line)))))))
+    (free_first (send_wanted node) _
+    (send_free node (least node (λ line. must_send (state_on node line))) sends (least_fits node (λ line. must_send (state_on node line)))))))
     none
 
 -- ---- a node of a reached state
@@ -263,17 +287,22 @@ held_none wants true e none = cc
 held_none None false e none = refl
 held_none (Some want) false e none = none
 
-quiet_node : (n : ℕ) (node : NodeOf) → IsReachedNode n node → some_line node (λ line. waits (state_on node line)) ≡ false → some_line node (λ line. must_send (state_on node line)) ≡ false → IsQuietNode node
+quiet_node : (n : ℕ) (node : NodeOf) → IsReachedNode n node → some_line node (λ line. waits (state_on node line)) ≡ false
+    → some_line node (λ line. must_send (state_on node line)) ≡ false → IsQuietNode node
 quiet_node n node is idle sent =
     let part = any_part n node (reachable_node n node is) in
     record {
-      lines = λ line below. record { idle = least_none node (λ l. waits (state_on node l)) idle line below; sent = least_none node (λ l. must_send (state_on node l)) sent line below };
+      lines = λ line below. record {
+        idle = least_none node (λ l. waits (state_on node l)) idle line below;
+        sent = least_none node (λ l. must_send (state_on node l)) sent line below;
+      };
       some_slot = (any_can_go_on n node (reachable_node n node is)).some_slot;
       sole = λ line c below pending state.
           let there = some_there (pending_on node line) pending in
           let inside : line < is.core.size.lines = let all = part.each in omega arith in
           subst (λ (m : NodeOf). IsSome (node_performing m line)) is.here
-          (sole_performs is.core n line there.0 c is.reached is.some inside (subst (λ (m : NodeOf). pending_on m line ≡ Some there.0) (sym is.here) there.1) (subst (λ (m : NodeOf). state_on m line ≡ Head None c) (sym is.here) state));
+          (sole_performs is.core n line there.0 c is.reached is.some inside (subst (λ (m : NodeOf). pending_on m line ≡ Some there.0) (sym is.here) there.1)
+          (subst (λ (m : NodeOf). state_on m line ≡ Head None c) (sym is.here) state));
     }
 
 nothing_pending : (n : ℕ) (node : NodeOf) → IsReachedNode n node → is_some (oldest node (λ line. true)) ≡ false → (line : ℕ) → pending_on node line ≡ None
@@ -290,9 +319,11 @@ waiting : (node : NodeOf) (o : Option ℕ) → is_some o ≡ true → IfSome o (
 waiting node None some fits = cc
 waiting node (Some line) some fits = Awaits line fits.1
 
-oldest_found : (policy : PolicyOf) (node : NodeOf) (o : Option ℕ) → IsQuietNode node → oldest node (λ l. true) ≡ o → is_some o ≡ true → IfSome o (λ line. (line < lines_of node) × ((has_pending node line && true) ≡ true)) → ruled policy node ≡ None → ⊥
+oldest_found : (policy : PolicyOf) (node : NodeOf) (o : Option ℕ) → IsQuietNode node → oldest node (λ l. true) ≡ o → is_some o ≡ true
+    → IfSome o (λ line. (line < lines_of node) × ((has_pending node line && true) ≡ true)) → ruled policy node ≡ None → ⊥
 oldest_found policy node None quiet is some fits none = cc
-oldest_found policy node (Some line) quiet is some fits none = oldest_wants policy node line quiet is fits.0 (and_parts (has_pending node line) true fits.1).0 none
+oldest_found policy node (Some line) quiet is some fits none =
+    oldest_wants policy node line quiet is fits.0 (and_parts (has_pending node line) true fits.1).0 none
 
 -- where nothing is wanted, nothing is pending or some line awaits an answer
 pub may_rest : (policy : PolicyOf) (node : NodeOf) (n : ℕ) → IsReachedNode n node → wanted policy node ≡ None → MayRest node
@@ -303,9 +334,11 @@ may_rest policy node n is none =
         | inl sends ↦ absurd (sends_something policy node sends none)
         | inr sent ↦
             let quiet = quiet_node n node is idle sent in
-            let joining : some_line node (λ line. joins (state_on node line)) ≡ false = none_passes node (λ line. joins (state_on node line)) (λ line below. quiet_joins (state_on node line) (quiet.lines line below)) in
+            let joining : some_line node (λ line. joins (state_on node line)) ≡ false =
+            none_passes node (λ line. joins (state_on node line)) (λ line below. quiet_joins (state_on node line) (quiet.lines line below)) in
             elim (cases_Bool (is_some (oldest node (λ line. true)))) [
-              | inl pending ↦ absurd (oldest_found policy node (oldest node (λ line. true)) quiet refl pending (oldest_fits node (λ line. true)) (held_none (ruled policy node) _ joining none))
+              | inl pending ↦ absurd (oldest_found policy node (oldest node (λ line. true)) quiet refl pending (oldest_fits node (λ line. true))
+                  (held_none (ruled policy node) _ joining none))
               | inr absent ↦ NothingPending (nothing_pending n node is absent)
             ]
       ]

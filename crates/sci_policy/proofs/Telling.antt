@@ -28,10 +28,13 @@ pub tells_something : (n : ℕ) (e : Event) (told tells : Progress) → IsTurnEv
 tells_something n (event.Issue m op) told tells own is nothing = let kind = own.kind in cc
 tells_something n (event.Perform m line) told tells own is nothing = let kind = own.kind in cc
 tells_something n (event.Ask m line kind) told tells own is nothing = or_true told.asked (sym (ap (λ (p : Progress). p.asked) is) ∙ nothing.asked)
-tells_something n (event.Serve from m) told tells own is nothing = let more : tells.served ≡ capped (told.served + 1) = ap (λ (p : Progress). p.served) is in never_none told.served (sym more ∙ nothing.served)
-tells_something n (event.Refuse from m) told tells own is nothing = let more : tells.served ≡ capped (told.served + 1) = ap (λ (p : Progress). p.served) is in never_none told.served (sym more ∙ nothing.served)
+tells_something n (event.Serve from m) told tells own is nothing = let more : tells.served ≡ capped (told.served + 1) = ap (λ (p : Progress). p.served) is in
+    never_none told.served (sym more ∙ nothing.served)
+tells_something n (event.Refuse from m) told tells own is nothing = let more : tells.served ≡ capped (told.served + 1) = ap (λ (p : Progress). p.served) is in
+    never_none told.served (sym more ∙ nothing.served)
 tells_something n (event.Reply m) told tells own is nothing = or_true told.replied (sym (ap (λ (p : Progress). p.replied) is) ∙ nothing.replied)
-tells_something n (event.Accept from m) told tells own is nothing = let more : tells.accepted ≡ capped (told.accepted + 1) = ap (λ (p : Progress). p.accepted) is in never_none told.accepted (sym more ∙ nothing.accepted)
+tells_something n (event.Accept from m) told tells own is nothing = let more : tells.accepted ≡ capped (told.accepted + 1) =
+    ap (λ (p : Progress). p.accepted) is in never_none told.accepted (sym more ∙ nothing.accepted)
 
 no_value : {A : Type 0} (o : Option A) → is_none o ≡ true → o ≡ None
 no_value None e = refl

@@ -1,6 +1,7 @@
 -- What a policy remembers, and what it decides: which event its node makes next, and which requests it keeps or refuses.
 -- All of it is this project's profile.
-use Rattle.std.specs.Prelude.{ℕ, ◌+◌, ◌%◌, ◌==◌, nat_lt, Bool, true, false, not, ◌&&◌, ◌||◌, if◌then◌else◌, List, map, slice_index_or, slice_set, replicate, Option, Some, None, is_some, IsSome, option_map}
+use Rattle.std.specs.Prelude.{ℕ, ◌+◌, ◌%◌, ◌==◌, nat_lt, Bool, true, false, not, ◌&&◌, ◌||◌, if◌then◌else◌, List, map, slice_index_or, slice_set, replicate}
+use Rattle.std.specs.Prelude.{Option, Some, None, is_some, IsSome, option_map}
 use Rattle.std.specs.Option.{option_or, option_and_then}
 use Rattle.std.specs.List.{range_with_len}
 use Rattle.sci_words.specs.declared.limits.TheConstants.{MAX_LINES}

@@ -1,5 +1,6 @@
 -- What a node does in a turn, and what is told of it.
-use Rattle.std.specs.Prelude.{◌≡◌, ℕ, ◌+◌, nat_lt, Bool, true, false, not, ◌&&◌, ◌||◌, ◌==◌, is_none, if◌then◌else◌, List, count_by, Option, Some, None, is_some, IfSome, IsSome}
+use Rattle.std.specs.Prelude.{◌≡◌, ℕ, ◌+◌, nat_lt, Bool, true, false, not, ◌&&◌, ◌||◌, ◌==◌, is_none, if◌then◌else◌, List, count_by, Option, Some, None}
+use Rattle.std.specs.Prelude.{is_some, IfSome, IsSome}
 use Rattle.std.specs.List.{list_any}
 use Rattle.sci_words.specs.declared.limits.TheConstants.{WORDS_PER_LINE}
 use Rattle.sci_words.specs.declared.event.Event.{Event}

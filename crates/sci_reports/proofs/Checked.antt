@@ -29,12 +29,14 @@ use Rattle.sci_reports.specs.declared.checking.TextSize.{TextSize}
 use Rattle.sci_reports.specs.declared.text_lines.TextKind.{TextKind}
 use Rattle.sci_reports.specs.declared.text_lines.TextKind.TheVariants.{Script, Schedule, Log}
 use Rattle.sci_reports.specs.declared.checking.Readings.{Readings}
-use Rattle.sci_reports.specs.CheckAnswer.{IsCheckAnswer, IsKnown, IsLastFault, IsLogText, IsNoLater, IsRefusedAt, IsSaid, IsScheduleText, IsScriptText, depth, kind_name, log_size, schedule_size, script_size, size_text}
+use Rattle.sci_reports.specs.CheckAnswer.{IsCheckAnswer, IsKnown, IsLastFault, IsLogText, IsNoLater, IsRefusedAt, IsSaid, IsScheduleText, IsScriptText, depth}
+use Rattle.sci_reports.specs.CheckAnswer.{kind_name, log_size, schedule_size, script_size, size_text}
 use Rattle.sci_reports.specs.TextReadings.{AreReadings, IsChecked, IsReading, known_text, said_of}
 
 -- ---- readings
 
-first_of : (is_first : List ℕ → ℕ → TextFaultKind → Type 0) (kind : TextFaultKind) (input : List ℕ) (line : ℕ) → IsRefusalOf is_first kind input line → (kind ≡ Memory → ⊥) → is_first input line kind
+first_of : (is_first : List ℕ → ℕ → TextFaultKind → Type 0) (kind : TextFaultKind) (input : List ℕ) (line : ℕ) → IsRefusalOf is_first kind input line
+    → (kind ≡ Memory → ⊥) → is_first input line kind
 first_of is_first Syntax input line h none = h
 first_of is_first Range input line h none = h
 first_of is_first TooMany input line h none = h
@@ -43,9 +45,11 @@ first_of is_first Write input line h none = absurd h
 first_of is_first Memory input line h none = absurd (none refl)
 
 -- a fault that isn't of memory is the first of its kind of text
-pub faulty_reading : {V : Type 0} (is_text : V → Type 0) (size : V → TextSize) (is_first : List ℕ → ℕ → TextFaultKind → Type 0) (input : List ℕ) (fault : TextFault) (r : Result Reading TextFault) → IsRefusal is_first input fault
+pub faulty_reading : {V : Type 0} (is_text : V → Type 0) (size : V → TextSize) (is_first : List ℕ → ℕ → TextFaultKind → Type 0) (input : List ℕ)
+    (fault : TextFault) (r : Result Reading TextFault) → IsRefusal is_first input fault
     → IfOk r (λ reading. (reading ≡ Fault fault) × (fault.kind ≡ Memory → ⊥)) → IfOk r (IsReading is_text size (is_first input))
-faulty_reading is_text size is_first input fault (Ok reading) refusal h = subst (IsReading is_text size (is_first input)) (sym h.0) (first_of is_first fault.kind input fault.line refusal h.1)
+faulty_reading is_text size is_first input fault (Ok reading) refusal h =
+    subst (IsReading is_text size (is_first input)) (sym h.0) (first_of is_first fault.kind input fault.line refusal h.1)
 faulty_reading is_text size is_first input fault (Err e) refusal h = tt
 
 -- ---- what is said of a text
@@ -68,27 +72,35 @@ pub script_said : (readings : Readings) (size : TextSize) → readings.script �
 script_said readings size is e = said_some Script size readings.script (said_of Schedule readings.schedule ++ said_of Log readings.log) is e
 
 pub schedule_said : (readings : Readings) (size : TextSize) → readings.schedule ≡ Size size → known_text readings ≡ [] → ⊥
-schedule_said readings size is e = said_some Schedule size readings.schedule (said_of Log readings.log) is (right_nil (said_of Script readings.script) (said_of Schedule readings.schedule ++ said_of Log readings.log) e)
+schedule_said readings size is e =
+    said_some Schedule size readings.schedule (said_of Log readings.log) is
+    (right_nil (said_of Script readings.script) (said_of Schedule readings.schedule ++ said_of Log readings.log) e)
 
 pub log_said : (readings : Readings) (size : TextSize) → readings.log ≡ Size size → known_text readings ≡ [] → ⊥
 log_said readings size is e =
-    let last = right_nil (said_of Schedule readings.schedule) (said_of Log readings.log) (right_nil (said_of Script readings.script) (said_of Schedule readings.schedule ++ said_of Log readings.log) e) in
+    let last = right_nil (said_of Schedule readings.schedule) (said_of Log readings.log)
+    (right_nil (said_of Script readings.script) (said_of Schedule readings.schedule ++ said_of Log readings.log) e) in
     said_some Log size readings.log [] is (append-nil (said_of Log readings.log) ∙ last)
 
 -- a text with a fault of a kind isn't of that kind
-said_is : {V : Type 0} (kind : TextKind) (is_text : V → Type 0) (size : V → TextSize) (is_first : ℕ → TextFaultKind → Type 0) (reading : Reading) → ((value : V) → is_text value → (line : ℕ) (fault : TextFaultKind) → is_first line fault → ⊥)
+said_is : {V : Type 0} (kind : TextKind) (is_text : V → Type 0) (size : V → TextSize) (is_first : ℕ → TextFaultKind → Type 0) (reading : Reading)
+    → ((value : V) → is_text value → (line : ℕ) (fault : TextFaultKind) → is_first line fault → ⊥)
     → IsReading is_text size is_first reading → IsSaid kind is_text size (said_of kind reading)
 said_is kind is_text size is_first (Size found) sound h = inl (h.0, h.1, ap (size_text kind) h.2)
 said_is kind is_text size is_first (Fault fault) sound h = inr (λ value is. sound value is fault.line fault.kind h, refl)
 
-pub known : (input : List ℕ) (readings : Readings) (text : List ℕ) → ((s : ScriptValue) → IsScript s → HasNoFault IsScriptFault (script_text s)) → ((s : ScheduleValue) → IsSchedule s → HasNoFault IsScheduleFault (schedule_text s))
-    → ((i : List ℕ) (nodes : ℕ) (logs : List (List Entry)) (last : List Stamped) → IsLogs i nodes logs last → HasNoFault IsLogFault i) → AreReadings input readings → text ≡ known_text readings → (known_text readings ≡ [] → ⊥) → IsKnown input text
+pub known : (input : List ℕ) (readings : Readings) (text : List ℕ) → ((s : ScriptValue) → IsScript s → HasNoFault IsScriptFault (script_text s))
+    → ((s : ScheduleValue) → IsSchedule s → HasNoFault IsScheduleFault (schedule_text s))
+    → ((i : List ℕ) (nodes : ℕ) (logs : List (List Entry)) (last : List Stamped) → IsLogs i nodes logs last → HasNoFault IsLogFault i)
+    → AreReadings input readings → text ≡ known_text readings → (known_text readings ≡ [] → ⊥) → IsKnown input text
 known input readings text scripts schedules logs are is some = record {
   script = said_of Script readings.script;
   schedule = said_of Schedule readings.schedule;
   log = said_of Log readings.log;
-  is_script = said_is Script (IsScriptText input) script_size (IsScriptFault input) readings.script (λ s h line kind first. scripts s h.0 line kind (subst (λ (i : List ℕ). IsScriptFault i line kind) h.1 first)) are.script;
-  is_schedule = said_is Schedule (IsScheduleText input) schedule_size (IsScheduleFault input) readings.schedule (λ s h line kind first. schedules s h.0 line kind (subst (λ (i : List ℕ). IsScheduleFault i line kind) h.1 first)) are.schedule;
+  is_script = said_is Script (IsScriptText input) script_size (IsScriptFault input) readings.script
+      (λ s h line kind first. scripts s h.0 line kind (subst (λ (i : List ℕ). IsScriptFault i line kind) h.1 first)) are.script;
+  is_schedule = said_is Schedule (IsScheduleText input) schedule_size (IsScheduleFault input) readings.schedule
+      (λ s h line kind first. schedules s h.0 line kind (subst (λ (i : List ℕ). IsScheduleFault i line kind) h.1 first)) are.schedule;
   is_log = said_is Log (IsLogText input) log_size (IsLogFault input) readings.log (λ v h line kind first. logs input v.0 v.1 v.2 h line kind first) are.log;
   said = is;
   some = λ e. some (sym is ∙ e);
@@ -108,7 +120,8 @@ Is is_first input x = is_first input x.1.line x.1.kind
 abbrev Before : TextKind × TextFault → TextKind × TextFault → Type 0
 Before x y = IsNoLater x.1.line x.1.kind y.1.line y.1.kind
 
-pub last_of_three : (input : List ℕ) (script schedule log machine last : TextKind × TextFault) → Is IsScriptFault input script → Is IsScheduleFault input schedule → Is IsLogFault input log
+pub last_of_three : (input : List ℕ) (script schedule log machine last : TextKind × TextFault) → Is IsScriptFault input script
+    → Is IsScheduleFault input schedule → Is IsLogFault input log
     → (machine ≡ script) ⊎ (machine ≡ schedule) → Before script machine → Before schedule machine
     → (last ≡ log) ⊎ (last ≡ machine) → Before log last → Before machine last → IsLastFault input last.1.line last.1.kind
 last_of_three input script schedule log machine last s e l which sm em one ll ml = record {
@@ -118,7 +131,8 @@ last_of_three input script schedule log machine last s e l which sm em one ll ml
   reached = reached_of which one;
 }
   where
-    reached_of : (machine ≡ script) ⊎ (machine ≡ schedule) → (last ≡ log) ⊎ (last ≡ machine) → IsScriptFault input last.1.line last.1.kind ⊎ IsScheduleFault input last.1.line last.1.kind ⊎ IsLogFault input last.1.line last.1.kind
+    reached_of : (machine ≡ script) ⊎ (machine ≡ schedule) → (last ≡ log) ⊎ (last ≡ machine)
+        → IsScriptFault input last.1.line last.1.kind ⊎ IsScheduleFault input last.1.line last.1.kind ⊎ IsLogFault input last.1.line last.1.kind
     reached_of m (inl is) = inr (inr (subst (Is IsLogFault input) (sym is) l))
     reached_of (inl m) (inr is) = inl (subst (Is IsScriptFault input) (sym (is ∙ m)) s)
     reached_of (inr m) (inr is) = inr (inl (subst (Is IsScheduleFault input) (sym (is ∙ m)) e))
@@ -126,18 +140,24 @@ last_of_three input script schedule log machine last s e l which sm em one ll ml
 -- ---- the answer
 
 -- the first fault of a text isn't of a kind that no line has
-first_of_line : {V : Type 0} (opening : List ℕ → TextFaultKind → Type 0) (begins : List ℕ → V → List ℕ → Type 0) (goes_on : V → List ℕ → Type 0) (count : V → ℕ) (fault : V → List ℕ → TextFaultKind → Type 0) (input : List ℕ) (line : ℕ) (kind : TextFaultKind) → (opening input kind → ⊥) → ((before : V) (rest : List ℕ) → fault before rest kind → ⊥)
+first_of_line : {V : Type 0} (opening : List ℕ → TextFaultKind → Type 0) (begins : List ℕ → V → List ℕ → Type 0) (goes_on : V → List ℕ → Type 0) (count : V → ℕ)
+    (fault : V → List ℕ → TextFaultKind → Type 0) (input : List ℕ) (line : ℕ) (kind : TextFaultKind) → (opening input kind → ⊥)
+    → ((before : V) (rest : List ℕ) → fault before rest kind → ⊥)
     → IsFirstFault opening begins goes_on count fault input line kind → ⊥
 first_of_line opening begins goes_on count fault input line kind f g (inl h) = f h.1
 first_of_line opening begins goes_on count fault input line kind f g (inr h) = g h.before h.rest h.wrong
 
-first_has_line : {V : Type 0} (opening : List ℕ → TextFaultKind → Type 0) (begins : List ℕ → V → List ℕ → Type 0) (goes_on : V → List ℕ → Type 0) (count : V → ℕ) (fault : V → List ℕ → TextFaultKind → Type 0) (input : List ℕ) (line : ℕ) (kind : TextFaultKind) → IsFirstFault opening begins goes_on count fault input line kind → 0 < line
+first_has_line : {V : Type 0} (opening : List ℕ → TextFaultKind → Type 0) (begins : List ℕ → V → List ℕ → Type 0) (goes_on : V → List ℕ → Type 0) (count : V
+    → ℕ) (fault : V → List ℕ → TextFaultKind → Type 0) (input : List ℕ) (line : ℕ) (kind : TextFaultKind)
+    → IsFirstFault opening begins goes_on count fault input line kind → 0 < line
 first_has_line opening begins goes_on count fault input line kind (inl h) = omega (arith, h.0)
 first_has_line opening begins goes_on count fault input line kind (inr h) = omega (arith, h.place)
 
 -- no line has a fault of such a kind
 abbrev IsOfNoLine : TextFaultKind → Type 0
-IsOfNoLine kind = ((input : List ℕ) → MachineFault input kind → ⊥) × ((input : List ℕ) → SizeFault input kind → ⊥) × ((s : ScriptValue) (rest : List ℕ) → OperationFault s rest kind → ⊥) × ((s : ScheduleValue) (rest : List ℕ) → EventFault s rest kind → ⊥) × ((front : Front) (rest : List ℕ) → LogLineFault front rest kind → ⊥)
+IsOfNoLine kind = ((input : List ℕ) → MachineFault input kind → ⊥) × ((input : List ℕ) → SizeFault input kind → ⊥)
+    × ((s : ScriptValue) (rest : List ℕ) → OperationFault s rest kind → ⊥) × ((s : ScheduleValue) (rest : List ℕ) → EventFault s rest kind → ⊥)
+    × ((front : Front) (rest : List ℕ) → LogLineFault front rest kind → ⊥)
 
 of_line : (input : List ℕ) (line : ℕ) (kind : TextFaultKind) → IsOfNoLine kind → IsLastFault input line kind → ⊥
 of_line input line kind h last = elim last.reached [
@@ -157,7 +177,8 @@ has_line input line kind last = elim last.reached [
   ]
 ]
 
-told : (known : Option (List ℕ)) (failed : Bool) (bytes : List ℕ) (line : ℕ) (kind : TextFaultKind) → failed ≡ false → AreRead known bytes → IsLastFault bytes line kind → IsTold IsLastFault kind known failed line
+told : (known : Option (List ℕ)) (failed : Bool) (bytes : List ℕ) (line : ℕ) (kind : TextFaultKind) → failed ≡ false → AreRead known bytes
+    → IsLastFault bytes line kind → IsTold IsLastFault kind known failed line
 told known failed bytes line Syntax ok read last = (ok, record { bytes = bytes; read = read; first = last })
 told known failed bytes line Range ok read last = (ok, record { bytes = bytes; read = read; first = last })
 told known failed bytes line TooMany ok read last = (ok, inr (record { bytes = bytes; read = read; first = last }))
@@ -166,7 +187,8 @@ told known failed bytes line Write ok read last = absurd (of_line bytes line Wri
 told known failed bytes line Memory ok read last = absurd (of_line bytes line Memory ((λ i f. f), (λ i f. f.1), (λ s r f. f), (λ s r f. f), (λ s r f. f)) last)
 
 -- what was made of the bytes is the answer to the input
-checked_answer : (known : Option (List ℕ)) (failed : Bool) (bytes text : List ℕ) (outcome : Outcome) → failed ≡ false → AreRead known bytes → IsChecked bytes text outcome → IsCheckAnswer known failed text outcome
+checked_answer : (known : Option (List ℕ)) (failed : Bool) (bytes text : List ℕ) (outcome : Outcome) → failed ≡ false → AreRead known bytes
+    → IsChecked bytes text outcome → IsCheckAnswer known failed text outcome
 checked_answer known failed bytes text Done ok read h = (ok, (bytes, read, h))
 checked_answer known failed bytes text Unlawful ok read h = absurd h
 checked_answer known failed bytes text Refused ok read h = record {
@@ -178,23 +200,36 @@ checked_answer known failed bytes text Refused ok read h = record {
   bare = λ e. (let some = has_line bytes h.0 h.1 h.3 in absurd (omega (arith, some, e)));
 }
 
-pub checked_answers : {A : Type 0} (known : Option (List ℕ)) (failed : Bool) (bytes slice : List ℕ) (text : A → List ℕ) (outcome : A → Outcome) (r : Result A TextFault) → failed ≡ false → AreRead known bytes → slice ≡ bytes
+pub checked_answers : {A : Type 0} (known : Option (List ℕ)) (failed : Bool) (bytes slice : List ℕ) (text : A → List ℕ) (outcome : A → Outcome)
+    (r : Result A TextFault) → failed ≡ false → AreRead known bytes → slice ≡ bytes
     → IfOk r (λ x. IsChecked slice (text x) (outcome x)) → IfOk r (λ x. IsCheckAnswer known failed (text x) (outcome x))
-checked_answers known failed bytes slice text outcome (Ok x) ok read same h = checked_answer known failed bytes (text x) (outcome x) ok read (subst (λ (i : List ℕ). IsChecked i (text x) (outcome x)) same h)
+checked_answers known failed bytes slice text outcome (Ok x) ok read same h =
+    checked_answer known failed bytes (text x) (outcome x) ok read (subst (λ (i : List ℕ). IsChecked i (text x) (outcome x)) same h)
 checked_answers known failed bytes slice text outcome (Err e) ok read same h = tt
 
 -- a refusal of the whole input
-pub refused_whole : (known : Option (List ℕ)) (failed : Bool) (fault : TextFault) (text : List ℕ) → IsTold IsLastFault fault.kind known failed fault.line → fault.line ≡ 0 → Refuses fault text → IsRefusedAt known failed text
-refused_whole known failed fault text is_told whole (inl is) = record { line = fault.line; kind = fault.kind; note = []; is_told = is_told; written = is ∙ sym (append-nil (line_refusal fault.line fault.kind)); bare = λ e. refl }
+pub refused_whole : (known : Option (List ℕ)) (failed : Bool) (fault : TextFault) (text : List ℕ) → IsTold IsLastFault fault.kind known failed fault.line
+    → fault.line ≡ 0 → Refuses fault text → IsRefusedAt known failed text
+refused_whole known failed fault text is_told whole (inl is) =
+    record {
+      line = fault.line;
+      kind = fault.kind;
+      note = [];
+      is_told = is_told;
+      written = is ∙ sym (append-nil (line_refusal fault.line fault.kind));
+      bare = λ e. refl;
+    }
 refused_whole known failed fault text is_told whole (inr m) = absurd (omega (arith, whole, m.0))
 
 -- ---- counting entries
 
 -- the entries of one node more
-pub count_next : (logs : List (List Entry)) (node : ℕ) → node < length logs → entry_count (take (node + 1) logs) ≡ entry_count (take node logs) + length (log_of logs node)
+pub count_next : (logs : List (List Entry)) (node : ℕ) → node < length logs
+    → entry_count (take (node + 1) logs) ≡ entry_count (take node logs) + length (log_of logs node)
 count_next logs node lt =
     let next : node + 1 ≡ suc node = omega arith in
-    rw (next, take-suc logs node [] lt, flat_map-append (λ (log : List Entry). log) (take node logs) (log_of logs node ∷ []), append-nil (log_of logs node)) (length-append (flat_map (λ (log : List Entry). log) (take node logs)) (log_of logs node))
+    rw (next, take-suc logs node [] lt, flat_map-append (λ (log : List Entry). log) (take node logs) (log_of logs node ∷ []), append-nil (log_of logs node))
+    (length-append (flat_map (λ (log : List Entry). log) (take node logs)) (log_of logs node))
 
 pub count_all : (logs : List (List Entry)) (nodes : ℕ) → nodes ≡ length logs → entry_count (take nodes logs) ≡ entry_count logs
 count_all logs nodes is = ap entry_count (take_all nodes logs (omega (arith, is)))

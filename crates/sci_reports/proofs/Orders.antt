@@ -29,7 +29,9 @@ if_ok_three P Q R S (Ok x) f p q r = f x p q r
 if_ok_three P Q R S (Err e) f p q r = tt
 
 -- logs that aren't lawful
-pub fault_found : (request : OrderRequest) (before : ℕ) (logs : List (List Entry)) (last : List Stamped) (line : ℕ) (kind : FaultKind) (at : Option (ℕ × ℕ)) (text : List ℕ) → (let fault : Verdict = verdicts.Fault line kind at in IsVerdict logs last fault × ((fault ≡ verdicts.Lawful) ↔ Lawful logs last) × (text ≡ verdict_text fault))
+pub fault_found : (request : OrderRequest) (before : ℕ) (logs : List (List Entry)) (last : List Stamped) (line : ℕ) (kind : FaultKind) (at : Option (ℕ × ℕ))
+    (text : List ℕ) → (let fault : Verdict = verdicts.Fault line kind at in
+    IsVerdict logs last fault × ((fault ≡ verdicts.Lawful) ↔ Lawful logs last) × (text ≡ verdict_text fault))
     → IsFound request before logs last text Unlawful
 fault_found request before logs last line kind at text h = record {
   verdict = Fault line kind at;
@@ -40,36 +42,50 @@ fault_found request before logs last line kind at text h = record {
 }
 
 -- what is found of lawful logs, each in the order that is kept
-kept_verdict : (keeps : NodeOrder) (logs : List (List Entry)) (last : List Stamped) (verdict : OrderVerdict) → Lawful logs last → Lawful (kept keeps logs) last → AreOwn (kept keeps logs) → length (kept keeps logs) ≡ MAX_NODES
+kept_verdict : (keeps : NodeOrder) (logs : List (List Entry)) (last : List Stamped) (verdict : OrderVerdict) → Lawful logs last → Lawful (kept keeps logs) last
+    → AreOwn (kept keeps logs) → length (kept keeps logs) ≡ MAX_NODES
     → IsOrderVerdict (kept keeps logs) last verdict → IsVerdictOf keeps logs last verdict
-kept_verdict keeps logs last (Fault line kind at) lawful sorted own sixteen is = let same = (verdict_is (kept keeps logs) last (verdicts.Fault line kind at) own sixteen is).1 sorted in absurd (cc)
+kept_verdict keeps logs last (Fault line kind at) lawful sorted own sixteen is = let same =
+    (verdict_is (kept keeps logs) last (verdicts.Fault line kind at) own sixteen is).1 sorted in absurd (cc)
 kept_verdict keeps logs last (Order order) lawful sorted own sixteen is = (lawful, is)
 kept_verdict keeps logs last (Cycle steps) lawful sorted own sixteen is = (lawful, is)
 
-pub serial_found : (request : OrderRequest) (before : ℕ) (logs sorted : List (List Entry)) (last : List Stamped) (verdict : OrderVerdict) (text : List ℕ) (outcome : Outcome) → request.keeps ≡ BySerial → sorted ≡ by_serial logs → Lawful logs last → Lawful (by_serial logs) last → AreOwn sorted → length sorted ≡ MAX_NODES
-    → IsOrderVerdict sorted last verdict → IsOrdered verdict ↔ (Lawful sorted last × IsSequentiallyConsistent sorted last) → IsOrderText request before logs verdict text → (outcome ≡ Refused → ⊥) → (outcome ≡ Done) ↔ IsOrdered verdict → IsFound request before logs last text outcome
+pub serial_found : (request : OrderRequest) (before : ℕ) (logs sorted : List (List Entry)) (last : List Stamped) (verdict : OrderVerdict) (text : List ℕ)
+    (outcome : Outcome) → request.keeps ≡ BySerial → sorted ≡ by_serial logs → Lawful logs last → Lawful (by_serial logs) last → AreOwn sorted
+    → length sorted ≡ MAX_NODES
+    → IsOrderVerdict sorted last verdict → IsOrdered verdict ↔ (Lawful sorted last × IsSequentiallyConsistent sorted last)
+    → IsOrderText request before logs verdict text → (outcome ≡ Refused → ⊥) → (outcome ≡ Done) ↔ IsOrdered verdict
+    → IsFound request before logs last text outcome
 serial_found request before logs sorted last verdict text outcome keeps is lawful still own sixteen found ordered written judged ends =
     let same : sorted ≡ kept request.keeps logs = is ∙ ap (λ (k : NodeOrder). kept k logs) (sym keeps) in
     let still_kept = subst (λ (ls : List (List Entry)). Lawful ls last) (sym is ∙ same) still in
     record {
       verdict = verdict;
-      found = kept_verdict request.keeps logs last verdict lawful still_kept (subst AreOwn same own) (sym (ap (λ (ls : List (List Entry)). length ls) same) ∙ sixteen) (subst (λ (ls : List (List Entry)). IsOrderVerdict ls last verdict) same found);
+      found = kept_verdict request.keeps logs last verdict lawful still_kept (subst AreOwn same own)
+          (sym (ap (λ (ls : List (List Entry)). length ls) same) ∙ sixteen) (subst (λ (ls : List (List Entry)). IsOrderVerdict ls last verdict) same found);
       written = written;
       judged = judged;
       ends = (
         λ e. (lawful, subst (λ (ls : List (List Entry)). IsSequentiallyConsistent ls last) same (ordered.0 (ends.0 e)).1),
-        λ h. ends.1 (ordered.1 (subst (λ (ls : List (List Entry)). Lawful ls last) (sym is) still, subst (λ (ls : List (List Entry)). IsSequentiallyConsistent ls last) (sym same) h.1)),
+        λ h. ends.1 (ordered.1 (
+          subst (λ (ls : List (List Entry)). Lawful ls last) (sym is) still,
+          subst (λ (ls : List (List Entry)). IsSequentiallyConsistent ls last) (sym same) h.1,
+        )),
       );
     }
 
 -- what is found of logs as they are
-logged_verdict : (logs : List (List Entry)) (last : List Stamped) (verdict : OrderVerdict) → IsOrderVerdict logs last verdict → IsVerdictOf Logged logs last verdict
+logged_verdict : (logs : List (List Entry)) (last : List Stamped) (verdict : OrderVerdict) → IsOrderVerdict logs last verdict
+    → IsVerdictOf Logged logs last verdict
 logged_verdict logs last (Fault line kind at) is = is
 logged_verdict logs last (Order order) is = (is.0, is)
 logged_verdict logs last (Cycle steps) is = (is.0, is)
 
-pub logged_found : (request : OrderRequest) (before : ℕ) (logs : List (List Entry)) (last : List Stamped) (verdict : OrderVerdict) (text : List ℕ) (outcome : Outcome) → request.keeps ≡ Logged
-    → IsOrderVerdict logs last verdict → IsOrdered verdict ↔ (Lawful logs last × IsSequentiallyConsistent logs last) → IsOrderText request before logs verdict text → (outcome ≡ Refused → ⊥) → (outcome ≡ Done) ↔ IsOrdered verdict → IsFound request before logs last text outcome
+pub logged_found : (request : OrderRequest) (before : ℕ) (logs : List (List Entry)) (last : List Stamped) (verdict : OrderVerdict) (text : List ℕ)
+    (outcome : Outcome) → request.keeps ≡ Logged
+    → IsOrderVerdict logs last verdict → IsOrdered verdict ↔ (Lawful logs last × IsSequentiallyConsistent logs last)
+    → IsOrderText request before logs verdict text → (outcome ≡ Refused → ⊥) → (outcome ≡ Done) ↔ IsOrdered verdict
+    → IsFound request before logs last text outcome
 logged_found request before logs last verdict text outcome keeps found ordered written judged ends =
     let same : logs ≡ kept request.keeps logs = ap (λ (k : NodeOrder). kept k logs) (sym keeps) in
     record {

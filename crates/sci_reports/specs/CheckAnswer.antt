@@ -68,7 +68,9 @@ many_name Log = codes "entries"
 
 -- `script: 2 nodes, 1 line, 7 operations`, and the line feed
 unfoldable pub size_text : TextKind → TextSize → List ℕ
-size_text kind size = kind_name kind ++ (counted size.nodes (codes "node") (codes "nodes") ++ (codes ", " ++ (counted size.lines (codes "line") (codes "lines") ++ (codes ", " ++ (counted size.count (one_name kind) (many_name kind) ++ 10 ∷ [])))))
+size_text kind size = kind_name kind
+    ++ (counted size.nodes (codes "node") (codes "nodes")
+    ++ (codes ", " ++ (counted size.lines (codes "line") (codes "lines") ++ (codes ", " ++ (counted size.count (one_name kind) (many_name kind) ++ 10 ∷ [])))))
 
 -- ---- the answer to a text
 

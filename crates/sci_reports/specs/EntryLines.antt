@@ -12,7 +12,8 @@ IsOpening text count = (BeginsLog text × (count ≡ 1)) ⊎ ((BeginsLog text �
 abbrev pub IsBeforeEntries : List ℕ → ℕ → ℕ → Type 0
 IsBeforeEntries text lines before = (opening : ℕ) × IsOpening text opening × (before ≡ opening + lines)
 
--- An entry of this node, serial and line of memory stands on the line of this number, from 1: in lawful logs there is one. The entries of lower nodes come first, and then those before it in its own log.
+-- An entry of this node, serial and line of memory stands on the line of this number, from 1: in lawful logs there is one. The
+-- entries of lower nodes come first, and then those before it in its own log.
 pub record StandsOn (before : ℕ) (logs : List (List Entry)) (entry : Entry) (line : ℕ) : Type 0 where
   pub place : ℕ
   pub found : Entry

@@ -27,7 +27,8 @@ AreNotes line (fault ∷ faults) text = (first rest : List ℕ) × IsNote line f
 -- Of a lawful log that it is lawful; of another what is found on each of its lines.
 abbrev pub IsExplained : List (List Entry) → List Stamped → List ℕ → Outcome → Type 0
 IsExplained logs last text Done = Lawful logs last × (text ≡ verdict_text verdicts.Lawful)
-IsExplained logs last text Unlawful = (Lawful logs last → ⊥) × (faults : List (Option LineFault)) × AreFound logs last (length last) faults × AreNotes 0 faults text
+IsExplained logs last text Unlawful =
+    (Lawful logs last → ⊥) × (faults : List (Option LineFault)) × AreFound logs last (length last) faults × AreNotes 0 faults text
 IsExplained logs last text Refused = ⊥
 
 -- the input is the text of logs with last contents, which are explained

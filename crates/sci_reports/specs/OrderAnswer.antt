@@ -85,7 +85,8 @@ AreNumbered before logs steps numbered = (map (λ x. x.step) numbered ≡ steps)
 abbrev pub IsOrderText : OrderRequest → ℕ → List (List Entry) → OrderVerdict → List ℕ → Type 0
 IsOrderText request before logs (Fault line kind at) text = text ≡ verdict_text (verdicts.Fault line kind at)
 IsOrderText request before logs (Order order) text = text ≡ found_text request (entries_of order.items)
-IsOrderText request before logs (Cycle steps) text = (numbered : List NumberedStep) × AreNumbered before logs steps.items numbered × (text ≡ cycle_text request.keeps numbered)
+IsOrderText request before logs (Cycle steps) text =
+    (numbered : List NumberedStep) × AreNumbered before logs steps.items numbered × (text ≡ cycle_text request.keeps numbered)
 
 -- ---- the answer
 
@@ -95,7 +96,8 @@ IsVerdictOf keeps logs last (Fault line kind at) = IsFault logs last line kind a
 IsVerdictOf keeps logs last (Order order) = Lawful logs last × IsOrderVerdict (kept keeps logs) last (Order order)
 IsVerdictOf keeps logs last (Cycle steps) = Lawful logs last × IsOrderVerdict (kept keeps logs) last (Cycle steps)
 
--- What a search for an order finds is written, where so many lines of the text come before the entries. It is Done exactly if the logs are lawful and there is such an order
+-- What a search for an order finds is written, where so many lines of the text come before the entries. It is Done exactly if
+-- the logs are lawful and there is such an order
 pub record IsFound (request : OrderRequest) (before : ℕ) (logs : List (List Entry)) (last : List Stamped) (text : List ℕ) (outcome : Outcome) : Type 0 where
   pub verdict : OrderVerdict
   pub found : IsVerdictOf request.keeps logs last verdict

@@ -1,5 +1,6 @@
 -- The schedule of a run that has come to its end.
-use Rattle.std.proofs.Common.{◌≡◌, ◌≤◌, ◌<◌, ℕ, zero, suc, Bool, true, false, arith, List, [], ◌∷◌, All, length, take, Some, refl, sym, ap, subst, ◌∙◌, inl, inr}
+use Rattle.std.proofs.Common.{◌≡◌, ◌≤◌, ◌<◌, ℕ, zero, suc, Bool, true, false, arith, List, [], ◌∷◌, All, length, take, Some, refl, sym, ap, subst, ◌∙◌, inl}
+use Rattle.std.proofs.Common.{inr}
 use Rattle.std.specs.Prelude.{slice_get, slice_index_or}
 use Rattle.sci_words.specs.declared.limits.TheConstants.{MAX_NODES}
 use Rattle.sci_words.specs.declared.operation.Op.{Op}
@@ -28,7 +29,8 @@ use Rattle.sci_runs.specs.Runs.{IsRunOf, logs_behind}
 -- ---- the operations that were issued
 
 -- a list whose elements stand at the same places of another is its front
-front_by : {A : Type 0} (xs ys : List A) → length xs ≤ length ys → ((k : ℕ) (x : A) → slice_get xs k ≡ Some x → slice_get ys k ≡ Some x) → xs ≡ take (length xs) ys
+front_by : {A : Type 0} (xs ys : List A) → length xs ≤ length ys → ((k : ℕ) (x : A) → slice_get xs k ≡ Some x → slice_get ys k ≡ Some x)
+    → xs ≡ take (length xs) ys
 front_by [] ys le at = refl
 front_by (x ∷ xs) [] le at = absurd (omega arith)
 front_by (x ∷ xs) (y ∷ ys) le at =
@@ -36,7 +38,8 @@ front_by (x ∷ xs) (y ∷ ys) le at =
     let rest : xs ≡ take (length xs) ys = front_by xs ys (omega arith) (λ k z e. at (suc k) z e) in
     ap (λ (zs : List _). x ∷ zs) rest ∙ ap (λ z. z ∷ take (length xs) ys) (let same : x ≡ y = cc in same)
 
-known_named : (driver : DriverOf) (node : NodeOf) (serial : ℕ) (op : Op) → IsDriven driver node → IsKnown node serial op → slice_get driver.script serial ≡ Some op
+known_named : (driver : DriverOf) (node : NodeOf) (serial : ℕ) (op : Op) → IsDriven driver node → IsKnown node serial op
+    → slice_get driver.script serial ≡ Some op
 known_named driver node serial op d (inl pends) = (d.pending op.line (record { serial = serial; op = op }) pends).named
 known_named driver node serial op d (inr logged) =
     let entry = logged.0 in
@@ -56,7 +59,8 @@ some_driver : (drivers : List DriverOf) → 0 < length drivers → DriverOf
 some_driver [] lt = absurd (omega arith)
 some_driver (driver ∷ drivers) lt = driver
 
-module _ (table : TableOf) (schedule : ScheduleValue) (work : AreAtWork table) (led : HasLed schedule.events table.recorder.core) (reached : IsReached table.recorder.core) (good : IsSchedule schedule)
+module _ (table : TableOf) (schedule : ScheduleValue) (work : AreAtWork table) (led : HasLed schedule.events table.recorder.core)
+    (reached : IsReached table.recorder.core) (good : IsSchedule schedule)
     (sized : IsOfSize table.recorder.core.size schedule) where
   abbrev script : ScriptValue
   script = table.script
@@ -74,21 +78,27 @@ module _ (table : TableOf) (schedule : ScheduleValue) (work : AreAtWork table) (
   few node lt = let most = reached.size.extent.few_nodes in let same = nodes_are in omega (arith, most, same, lt)
 
   -- what holds of each driver's script and its node's log holds of each node's operations and its log
-  each_log : (Good : List Op → List Entry → Type 0) → ((node : ℕ) (d : DriverOf) → node < script.nodes → IsAtWork script table.issuing node (slice_index_or table.drivers node d) (node_at core node) → Good (slice_index_or table.drivers node d).script (node_at core node).log)
+  each_log : (Good : List Op → List Entry → Type 0)
+      → ((node : ℕ) (d : DriverOf) → node < script.nodes → IsAtWork script table.issuing node (slice_index_or table.drivers node d) (node_at core node)
+      → Good (slice_index_or table.drivers node d).script (node_at core node).log)
       → (node : ℕ) → node < script.nodes → Good (operations_of node script.operations) (log_of (logs_behind script schedule) node)
   each_log Good each node lt =
       let d = some_driver table.drivers (let many = work.many in omega (arith, many, lt)) in
       let at = work.each node d lt in
-      let log : log_of (logs_behind script schedule) node ≡ (node_at core node).log = ap (λ (logs : List (List Entry)). log_of logs node) behind ∙ log_at core node (few node lt) in
-      subst (Good (operations_of node script.operations)) (sym log) (subst (λ (ops : List Op). Good ops (node_at core node).log) at.script_is (each node d lt at))
+      let log : log_of (logs_behind script schedule) node ≡ (node_at core node).log =
+      ap (λ (logs : List (List Entry)). log_of logs node) behind ∙ log_at core node (few node lt) in
+      subst (Good (operations_of node script.operations)) (sym log)
+      (subst (λ (ops : List Op). Good ops (node_at core node).log) at.script_is (each node d lt at))
 
-  issued : (node : ℕ) → node < script.nodes → issues_at node schedule.events ≡ take (length (issues_at node schedule.events)) (operations_of node script.operations)
+  issued : (node : ℕ) → node < script.nodes
+      → issues_at node schedule.events ≡ take (length (issues_at node schedule.events)) (operations_of node script.operations)
   issued node lt =
       let ops = issues_at node schedule.events in
       let d = some_driver table.drivers (let many = work.many in omega (arith, many, lt)) in
       let at = work.each node d lt in
       let has = led.issued node (let same = nodes_are in omega (arith, same, lt)) in
-      subst (λ (own : List Op). ops ≡ take (length ops) own) at.script_is (issued_first ops (slice_index_or table.drivers node d) (node_at core node) has at.driven)
+      subst (λ (own : List Op). ops ≡ take (length ops) own) at.script_is
+      (issued_first ops (slice_index_or table.drivers node d) (node_at core node) has at.driven)
 
   pub is_run : (done : Bool) → (done ≡ true → All IsAnswered table.drivers) → IsRunOf script table.issuing done schedule
   is_run done answered = record {
@@ -100,18 +110,22 @@ module _ (table : TableOf) (schedule : ScheduleValue) (work : AreAtWork table) (
     whole = λ is. each_log IsWholeLogOf (λ node d lt at.
         let all = answered is node d (let many = work.many in omega (arith, many, lt)) in
         whole_of (slice_index_or table.drivers node d) (node_at core node) all.0 all.1 at.driven);
-    ordered = λ is. in_order (logs_behind script schedule) script.nodes core reached behind nodes_are (each_log (λ _. IsInProgramOrder) (λ node d lt at. (at.ordered is).ordered));
+    ordered = λ is. in_order (logs_behind script schedule) script.nodes core reached behind nodes_are
+        (each_log (λ _. IsInProgramOrder) (λ node d lt at. (at.ordered is).ordered));
     front = λ is. each_log IsFrontOf (λ node d lt at. subst (λ (own : List Op). IsFrontOf own (node_at core node).log) refl (at.ordered is).front);
   }
 
 -- the same of what a table is seen as
-pub run_of : (view table : TableOf) (schedule : ScheduleValue) → view ≡ table → AreAtWork view → HasLed schedule.events view.recorder.core → IsReached view.recorder.core → IsSchedule schedule → IsOfSize view.recorder.core.size schedule
+pub run_of : (view table : TableOf) (schedule : ScheduleValue) → view ≡ table → AreAtWork view → HasLed schedule.events view.recorder.core
+    → IsReached view.recorder.core → IsSchedule schedule → IsOfSize view.recorder.core.size schedule
     → (done : Bool) → (done ≡ true → All IsAnswered table.drivers) → IsRunOf table.script table.issuing done schedule
 run_of view table schedule is work led reached good sized =
-    subst (λ (t : TableOf). (done : Bool) → (done ≡ true → All IsAnswered t.drivers) → IsRunOf t.script t.issuing done schedule) is (is_run view schedule work led reached good sized)
+    subst (λ (t : TableOf). (done : Bool) → (done ≡ true → All IsAnswered t.drivers) → IsRunOf t.script t.issuing done schedule) is
+    (is_run view schedule work led reached good sized)
 
 -- a run that is done, or not
-pub run_if : (own : ScriptValue) (issuing : Issuing) (drivers : List DriverOf) (schedule : ScheduleValue) (done : Bool) → (done ≡ true → All IsAnswered drivers) → IsRunOf own issuing false schedule
+pub run_if : (own : ScriptValue) (issuing : Issuing) (drivers : List DriverOf) (schedule : ScheduleValue) (done : Bool) → (done ≡ true → All IsAnswered drivers)
+    → IsRunOf own issuing false schedule
     → (All IsAnswered drivers → IsRunOf own issuing true schedule) → IsRunOf own issuing done schedule
 run_if own issuing drivers schedule true answered so_far whole = whole (answered refl)
 run_if own issuing drivers schedule false answered so_far whole = so_far

@@ -1,5 +1,6 @@
 -- The operations that a node has issued, behind an event more.
-use Rattle.std.proofs.Common.{◌≡◌, ◌≢◌, ℕ, zero, suc, ◌<◌, ◌⊎◌, Bool, if◌then◌else◌, arith, List, [], ◌∷◌, ◌++◌, length, Option, Some, None, refl, sym, ap, subst, ◌∙◌, inl, inr}
+use Rattle.std.proofs.Common.{◌≡◌, ◌≢◌, ℕ, zero, suc, ◌<◌, ◌⊎◌, Bool, if◌then◌else◌, arith, List, [], ◌∷◌, ◌++◌, length, Option, Some, None, refl, sym, ap}
+use Rattle.std.proofs.Common.{subst, ◌∙◌, inl, inr}
 use Rattle.std.specs.Prelude.{slice_get, slice_index_or}
 use Rattle.std.specs.List.{Contains}
 use Rattle.std.proofs.lemmas.Bool.{cases_eq, eq-eqb, ne_eqb}
@@ -40,7 +41,8 @@ push_cases (z ∷ xs) x y (suc k) e = elim (push_cases xs x y k e) [
 
 known_issued : (old new : NodeOf) (op : Op) (serial : ℕ) (o : Op) → IsIssued old new op → IsKnown old serial o → IsKnown new serial o
 known_issued old new op serial o i (inl pends) = elim (cases_eq o.line op.line) [
-  | inl same ↦ let waits : Pending = record { serial = serial; op = o } in let free : pending_on old o.line ≡ None = ap (pending_on old) same ∙ i.free in let clash : None ≡ Some waits = sym free ∙ pends in cc
+  | inl same ↦ let waits : Pending = record { serial = serial; op = o } in let free : pending_on old o.line ≡ None = ap (pending_on old) same ∙ i.free in
+      let clash : None ≡ Some waits = sym free ∙ pends in cc
   | inr other ↦ inl (i.others o.line other ∙ pends)
 ]
 known_issued old new op serial o i (inr logged) = inr (logged.0, subst (λ (log : List Entry). Contains log logged.0) (sym i.log) logged.1, logged.2, logged.3)
@@ -52,7 +54,8 @@ issued_more ops old new op i has = record {
     | inl before ↦ known_issued old new op serial o i (has.each serial o before)
     | inr last ↦
         let number : old.issued ≡ serial = sym has.counted ∙ sym last.0 in
-        let pends : pending_on new op.line ≡ Some (record { serial = serial; op = op }) = subst (λ (n : ℕ). pending_on new op.line ≡ Some (record { serial = n; op = op })) number i.pending in
+        let pends : pending_on new op.line ≡ Some (record { serial = serial; op = op }) =
+        subst (λ (n : ℕ). pending_on new op.line ≡ Some (record { serial = n; op = op })) number i.pending in
         inl (subst (λ (p : Op). pending_on new p.line ≡ Some (record { serial = serial; op = p })) last.1 pends)
   ];
 }
@@ -66,12 +69,23 @@ same_pending (Some p) a b e f = cc
 known_logged : (old new : NodeOf) (line : ℕ) (entry : Entry) (serial : ℕ) (o : Op) → IsLogged old new line entry → IsKnown old serial o → IsKnown new serial o
 known_logged old new line entry serial o i (inl pends) = elim (cases_eq o.line line) [
   | inl same ↦
-      let one = same_pending (pending_on old line) (record { serial = entry.serial; op = entry.op }) (record { serial = serial; op = o }) i.pending (ap (pending_on old) (sym same) ∙ pends) in
-      inr (entry, subst (λ (log : List Entry). Contains log entry) (sym i.log) (Contains-push old.log entry), ap (λ (p : Pending). p.serial) one, ap (λ (p : Pending). p.op) one)
+      let one = same_pending (pending_on old line) (record { serial = entry.serial; op = entry.op }) (record { serial = serial; op = o }) i.pending
+      (ap (pending_on old) (sym same) ∙ pends) in
+      inr (
+        entry,
+        subst (λ (log : List Entry). Contains log entry) (sym i.log) (Contains-push old.log entry),
+        ap (λ (p : Pending). p.serial) one,
+        ap (λ (p : Pending). p.op) one,
+      )
   | inr other ↦ inl (i.others o.line other ∙ pends)
 ]
 known_logged old new line entry serial o i (inr logged) =
-    inr (logged.0, subst (λ (log : List Entry). Contains log logged.0) (sym i.log) (Contains-append_left old.log (entry ∷ []) logged.0 logged.1), logged.2, logged.3)
+    inr (
+      logged.0,
+      subst (λ (log : List Entry). Contains log logged.0) (sym i.log) (Contains-append_left old.log (entry ∷ []) logged.0 logged.1),
+      logged.2,
+      logged.3,
+    )
 
 pub issued_logged : (ops : List Op) (old new : NodeOf) (line : ℕ) (entry : Entry) → IsLogged old new line entry → HasIssued ops old → HasIssued ops new
 issued_logged ops old new line entry i has = record {
@@ -94,9 +108,11 @@ same_itself : (node : NodeOf) → SameWork node node
 same_itself node = record { pending = refl; issued = refl; log = refl }
 
 worked : (core : Core) (m : ℕ) (next : NodeOf) (n : ℕ) → SameWork (node_at core m) next → SameWork (node_at core n) (node_at (with_node core m next) n)
-worked core m next n same = at_place_set (λ (j : ℕ) (part : NodeOf). SameWork (node_at core j) part) core.parts m next no_node (λ j. same_itself (node_at core j)) same n
+worked core m next n same = at_place_set (λ (j : ℕ) (part : NodeOf). SameWork (node_at core j) part) core.parts m next no_node
+    (λ j. same_itself (node_at core j)) same n
 
-stepped_work : (core new : Core) (e : Event) (made : Option Entry) (n : ℕ) → made ≡ None → ((m : ℕ) (op : Op) → e ≡ event.Issue m op → ⊥) → IsWellFormed core → Stepped core e made new → SameWork (node_at core n) (node_at new n)
+stepped_work : (core new : Core) (e : Event) (made : Option Entry) (n : ℕ) → made ≡ None → ((m : ℕ) (op : Op) → e ≡ event.Issue m op → ⊥) → IsWellFormed core
+    → Stepped core e made new → SameWork (node_at core n) (node_at new n)
 stepped_work core new e made n none other well (By_issue m op next event lt is then_ nothing) = absurd (other m op event)
 stepped_work core new e made n none other well (By_perform m line done lt is then_ some) = let clash : None ≡ Some done.1 = sym none ∙ some in cc
 stepped_work core new e made n none other well (By_ask m line kind sent is sends_well s nothing) =
@@ -123,10 +139,12 @@ stepped_work core new e made n none other well (By_accept t nothing) =
     subst (λ (x : Core). SameWork (node_at core n) (node_at x n)) t.then_ (worked core t.node t.next n same)
 
 -- an event that is no Issue and no Perform leaves each node's work
-step_work : (core new : Core) (e : Event) (n : ℕ) → IsReached core → stepping core e ≡ Some new → performed core e ≡ None → ((m : ℕ) (op : Op) → e ≡ event.Issue m op → ⊥) → SameWork (node_at core n) (node_at new n)
+step_work : (core new : Core) (e : Event) (n : ℕ) → IsReached core → stepping core e ≡ Some new → performed core e ≡ None
+    → ((m : ℕ) (op : Op) → e ≡ event.Issue m op → ⊥) → SameWork (node_at core n) (node_at new n)
 step_work core new e n reached steps none other =
     let well = reached_well core reached in
-    stepped_work core new e (performed core e) n none other well (of_some (Stepped core e (performed core e)) (stepping core e) new steps (stepping_stepped core e well))
+    stepped_work core new e (performed core e) n none other well
+    (of_some (Stepped core e (performed core e)) (stepping core e) new steps (stepping_stepped core e well))
 
 -- ---- the operations behind an event more
 
@@ -142,15 +160,19 @@ issue_here m n op same = ap (λ (b : Bool). if b then Some op else None) (eq-eqb
 issue_there : (m n : ℕ) (op : Op) → m ≢ n → issued_at n (event.Issue m op) ≡ None
 issue_there m n op other = ap (λ (b : Bool). if b then Some op else None) (ne_eqb m n other)
 
-same_on : (core new : Core) (e : Event) (n : ℕ) (events : List Event) → SameWork (node_at core n) (node_at new n) → issued_at n e ≡ None → HasIssued (issues_at n events) (node_at core n) → HasIssued (issues_at n (events ++ e ∷ [])) (node_at new n)
+same_on : (core new : Core) (e : Event) (n : ℕ) (events : List Event) → SameWork (node_at core n) (node_at new n) → issued_at n e ≡ None
+    → HasIssued (issues_at n events) (node_at core n) → HasIssued (issues_at n (events ++ e ∷ [])) (node_at new n)
 same_on core new e n events same none has =
-    subst (λ (ops : List Op). HasIssued ops (node_at new n)) (sym (none_more n events e none)) (issued_same (issues_at n events) (node_at core n) (node_at new n) same has)
+    subst (λ (ops : List Op). HasIssued ops (node_at new n)) (sym (none_more n events e none))
+    (issued_same (issues_at n events) (node_at core n) (node_at new n) same has)
 
-stays_on : (core new : Core) (e : Event) (n : ℕ) (events : List Event) → stepping core e ≡ Some new → node_of e ≢ n → issued_at n e ≡ None → HasIssued (issues_at n events) (node_at core n) → HasIssued (issues_at n (events ++ e ∷ [])) (node_at new n)
+stays_on : (core new : Core) (e : Event) (n : ℕ) (events : List Event) → stepping core e ≡ Some new → node_of e ≢ n → issued_at n e ≡ None
+    → HasIssued (issues_at n events) (node_at core n) → HasIssued (issues_at n (events ++ e ∷ [])) (node_at new n)
 stays_on core new e n events steps apart none has =
     same_on core new e n events (subst (SameWork (node_at core n)) (sym (other_stays core new e n apart steps)) (same_itself (node_at core n))) none has
 
-pub issues_on : (core new : Core) (e : Event) (n : ℕ) (events : List Event) → IsReached core → n < core.size.nodes → stepping core e ≡ Some new → HasIssued (issues_at n events) (node_at core n) → HasIssued (issues_at n (events ++ e ∷ [])) (node_at new n)
+pub issues_on : (core new : Core) (e : Event) (n : ℕ) (events : List Event) → IsReached core → n < core.size.nodes → stepping core e ≡ Some new
+    → HasIssued (issues_at n events) (node_at core n) → HasIssued (issues_at n (events ++ e ∷ [])) (node_at new n)
 issues_on core new (event.Issue m op) n events reached some steps has = elim (cases_eq m n) [
   | inl same ↦
       let own : stepping core (event.Issue n op) ≡ Some new = subst (λ (k : ℕ). stepping core (event.Issue k op) ≡ Some new) same steps in
@@ -166,8 +188,13 @@ issues_on core new (event.Perform m line) n events reached some steps has = elim
       (issued_logged (issues_at n events) (node_at core n) (node_at new n) line made.0 made.2 has)
   | inr other ↦ stays_on core new (event.Perform m line) n events steps other refl has
 ]
-issues_on core new (event.Ask m line kind) n events reached some steps has = same_on core new (event.Ask m line kind) n events (step_work core new (event.Ask m line kind) n reached steps refl (λ k op is. cc)) refl has
-issues_on core new (event.Serve from m) n events reached some steps has = same_on core new (event.Serve from m) n events (step_work core new (event.Serve from m) n reached steps refl (λ k op is. cc)) refl has
-issues_on core new (event.Refuse from m) n events reached some steps has = same_on core new (event.Refuse from m) n events (step_work core new (event.Refuse from m) n reached steps refl (λ k op is. cc)) refl has
-issues_on core new (event.Reply m) n events reached some steps has = same_on core new (event.Reply m) n events (step_work core new (event.Reply m) n reached steps refl (λ k op is. cc)) refl has
-issues_on core new (event.Accept from m) n events reached some steps has = same_on core new (event.Accept from m) n events (step_work core new (event.Accept from m) n reached steps refl (λ k op is. cc)) refl has
+issues_on core new (event.Ask m line kind) n events reached some steps has =
+    same_on core new (event.Ask m line kind) n events (step_work core new (event.Ask m line kind) n reached steps refl (λ k op is. cc)) refl has
+issues_on core new (event.Serve from m) n events reached some steps has =
+    same_on core new (event.Serve from m) n events (step_work core new (event.Serve from m) n reached steps refl (λ k op is. cc)) refl has
+issues_on core new (event.Refuse from m) n events reached some steps has =
+    same_on core new (event.Refuse from m) n events (step_work core new (event.Refuse from m) n reached steps refl (λ k op is. cc)) refl has
+issues_on core new (event.Reply m) n events reached some steps has =
+    same_on core new (event.Reply m) n events (step_work core new (event.Reply m) n reached steps refl (λ k op is. cc)) refl has
+issues_on core new (event.Accept from m) n events reached some steps has =
+    same_on core new (event.Accept from m) n events (step_work core new (event.Accept from m) n reached steps refl (λ k op is. cc)) refl has

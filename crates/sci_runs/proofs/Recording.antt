@@ -39,11 +39,15 @@ use Rattle.sci_runs.proofs.Issues.{issues_on}
 -- ---- an event that is enabled is one of the machine's
 
 lock_fits : (lock : LockOp) → are_words lock ≡ true → LockFits lock
-lock_fits (MaskSwap arg datum) e = let both = and_parts (nat_lt arg (2 ^ 64)) (nat_lt datum (2 ^ 64)) e in (ltb-true arg (2 ^ 64) both.0, ltb-true datum (2 ^ 64) both.1)
-lock_fits (CompareSwap arg datum) e = let both = and_parts (nat_lt arg (2 ^ 64)) (nat_lt datum (2 ^ 64)) e in (ltb-true arg (2 ^ 64) both.0, ltb-true datum (2 ^ 64) both.1)
+lock_fits (MaskSwap arg datum) e = let both = and_parts (nat_lt arg (2 ^ 64)) (nat_lt datum (2 ^ 64)) e in
+    (ltb-true arg (2 ^ 64) both.0, ltb-true datum (2 ^ 64) both.1)
+lock_fits (CompareSwap arg datum) e = let both = and_parts (nat_lt arg (2 ^ 64)) (nat_lt datum (2 ^ 64)) e in
+    (ltb-true arg (2 ^ 64) both.0, ltb-true datum (2 ^ 64) both.1)
 lock_fits (FetchAdd datum) e = ltb-true datum (2 ^ 64) e
-lock_fits (BoundedAdd arg datum) e = let both = and_parts (nat_lt arg (2 ^ 64)) (nat_lt datum (2 ^ 64)) e in (ltb-true arg (2 ^ 64) both.0, ltb-true datum (2 ^ 64) both.1)
-lock_fits (WrapAdd arg datum) e = let both = and_parts (nat_lt arg (2 ^ 64)) (nat_lt datum (2 ^ 64)) e in (ltb-true arg (2 ^ 64) both.0, ltb-true datum (2 ^ 64) both.1)
+lock_fits (BoundedAdd arg datum) e = let both = and_parts (nat_lt arg (2 ^ 64)) (nat_lt datum (2 ^ 64)) e in
+    (ltb-true arg (2 ^ 64) both.0, ltb-true datum (2 ^ 64) both.1)
+lock_fits (WrapAdd arg datum) e = let both = and_parts (nat_lt arg (2 ^ 64)) (nat_lt datum (2 ^ 64)) e in
+    (ltb-true arg (2 ^ 64) both.0, ltb-true datum (2 ^ 64) both.1)
 
 act_fits : (act : Act) → has_words act ≡ true → ActFits act
 act_fits Load e = tt
@@ -62,11 +66,17 @@ module _ (core new : Core) (n : ℕ) (reached : IsReached core) (some : n < core
   issue_within : (op : Op) → stepping core (event.Issue n op) ≡ Some new → IsWithin core.size.nodes core.size.lines n op
   issue_within op steps =
       let node = node_at core n in
-      let may : may_issue node op ≡ true = if_there (with_node core n) (may_issue node op) (Some (node_issued node op)) new (sym ((steps_by_sides core n some).issue op) ∙ steps) in
+      let may : may_issue node op ≡ true =
+      if_there (with_node core n) (may_issue node op) (Some (node_issued node op)) new (sym ((steps_by_sides core n some).issue op) ∙ steps) in
       let range = and_parts (is_in_range node op) _ may in
       let fits = and_parts (nat_lt op.line (lines_of node) && nat_lt op.word WORDS_PER_LINE) (has_words op.act) range.0 in
       let both = and_parts (nat_lt op.line (lines_of node)) (nat_lt op.word WORDS_PER_LINE) fits.0 in
-      record { known_node = some; known_line = lines_are op.line (ltb-true op.line (lines_of node) both.0); known_word = ltb-true op.word WORDS_PER_LINE both.1; words = act_fits op.act fits.1 }
+      record {
+        known_node = some;
+        known_line = lines_are op.line (ltb-true op.line (lines_of node) both.0);
+        known_word = ltb-true op.word WORDS_PER_LINE both.1;
+        words = act_fits op.act fits.1;
+      }
 
   perform_within : (line : ℕ) → stepping core (event.Perform n line) ≡ Some new → line < core.size.lines
   perform_within line steps =
@@ -78,24 +88,34 @@ module _ (core new : Core) (n : ℕ) (reached : IsReached core) (some : n < core
   ask_within : (line : ℕ) (kind : AskKind) → stepping core (event.Ask n line kind) ≡ Some new → line < core.size.lines
   ask_within line kind steps =
       let node = node_at core n in
-      lines_are line (ltb-true line (lines_of node) (if_there (λ (sent : NodeOf × Letter). sent_by core n Requests sent.0 sent.1) (nat_lt line (lines_of node)) _ new (sym ((steps_by_sides core n some).ask line kind) ∙ steps)))
+      lines_are line (ltb-true line (lines_of node)
+      (if_there (λ (sent : NodeOf × Letter). sent_by core n Requests sent.0 sent.1) (nat_lt line (lines_of node)) _ new
+      (sym ((steps_by_sides core n some).ask line kind) ∙ steps)))
 
 pub enabled_within : (core new : Core) (e : Event) → IsReached core → stepping core e ≡ Some new → IsEventWithin core.size.nodes core.size.lines e
 enabled_within core new (event.Issue n op) reached steps = issue_within core new n reached (some_node core new (event.Issue n op) steps) op steps
-enabled_within core new (event.Perform n line) reached steps = let some = some_node core new (event.Perform n line) steps in (some, perform_within core new n reached some line steps)
-enabled_within core new (event.Ask n line kind) reached steps = let some = some_node core new (event.Ask n line kind) steps in (some, ask_within core new n reached some line kind steps)
-enabled_within core new (event.Serve from n) reached steps = let some = some_node core new (event.Serve from n) steps in (some_sender core new (event.Serve from n) Requests from (node_serving (node_at core n)) some refl steps, some)
-enabled_within core new (event.Refuse from n) reached steps = let some = some_node core new (event.Refuse from n) steps in (some_sender core new (event.Refuse from n) Requests from (node_refusing (node_at core n)) some refl steps, some)
+enabled_within core new (event.Perform n line) reached steps = let some = some_node core new (event.Perform n line) steps in
+    (some, perform_within core new n reached some line steps)
+enabled_within core new (event.Ask n line kind) reached steps = let some = some_node core new (event.Ask n line kind) steps in
+    (some, ask_within core new n reached some line kind steps)
+enabled_within core new (event.Serve from n) reached steps = let some = some_node core new (event.Serve from n) steps in
+    (some_sender core new (event.Serve from n) Requests from (node_serving (node_at core n)) some refl steps, some)
+enabled_within core new (event.Refuse from n) reached steps = let some = some_node core new (event.Refuse from n) steps in
+    (some_sender core new (event.Refuse from n) Requests from (node_refusing (node_at core n)) some refl steps, some)
 enabled_within core new (event.Reply n) reached steps = some_node core new (event.Reply n) steps
-enabled_within core new (event.Accept from n) reached steps = let some = some_node core new (event.Accept from n) steps in (some_sender core new (event.Accept from n) Answers from (node_accepting (node_at core n)) some refl steps, some)
+enabled_within core new (event.Accept from n) reached steps = let some = some_node core new (event.Accept from n) steps in
+    (some_sender core new (event.Accept from n) Answers from (node_accepting (node_at core n)) some refl steps, some)
 
 -- ---- the schedule goes on
 
-enabled_more : (size : Size) (known xs : List Event) (e : Event) → AreEnabled size known xs → IsEnabled (run size (known ++ xs)) e → AreEnabled size known (xs ++ e ∷ [])
+enabled_more : (size : Size) (known xs : List Event) (e : Event) → AreEnabled size known xs → IsEnabled (run size (known ++ xs)) e
+    → AreEnabled size known (xs ++ e ∷ [])
 enabled_more size known [] e all one = (subst (λ (es : List Event). IsEnabled (run size es) e) (append-nil known) one, tt)
-enabled_more size known (x ∷ xs) e all one = (all.0, enabled_more size (known ++ x ∷ []) xs e all.1 (subst (λ (es : List Event). IsEnabled (run size es) e) (sym (append_assoc known (x ∷ []) xs)) one))
+enabled_more size known (x ∷ xs) e all one =
+    (all.0, enabled_more size (known ++ x ∷ []) xs e all.1 (subst (λ (es : List Event). IsEnabled (run size es) e) (sym (append_assoc known (x ∷ []) xs)) one))
 
-pub led_more : (events : List Event) (core new : Core) (e : Event) → IsReached core → stepping core e ≡ Some new → new.size ≡ core.size → HasLed events core → HasLed (events ++ e ∷ []) new
+pub led_more : (events : List Event) (core new : Core) (e : Event) → IsReached core → stepping core e ≡ Some new → new.size ≡ core.size → HasLed events core
+    → HasLed (events ++ e ∷ []) new
 led_more events core new e reached steps size led =
     let enabled : IsEnabled (run core.size events) e = subst (λ (o : Core). IsEnabled o e) (sym led.leads) (subst IsSome (sym steps) refl) in
     record {
@@ -120,20 +140,25 @@ led_opening size = record {
 
 -- ---- a recorder
 
-pub opened_recorder : (core : Core) (schedule : ScheduleValue) (extent : Extent) (limit : ℕ) → core ≡ opening (size_of extent limit) → schedule ≡ record { nodes = extent.nodes; lines = extent.lines; slots = extent.slots; events = [] }
+pub opened_recorder : (core : Core) (schedule : ScheduleValue) (extent : Extent) (limit : ℕ) → core ≡ opening (size_of extent limit)
+    → schedule ≡ record { nodes = extent.nodes; lines = extent.lines; slots = extent.slots; events = [] }
     → IsRecorder (record { core = core; schedule = schedule; lost = None })
 opened_recorder core schedule extent limit opens empty =
     subst (λ (s : ScheduleValue). IsRecorder (record { core = core; schedule = s; lost = None })) (sym empty)
-    (subst (λ (c : Core). IsRecorder (record { core = c; schedule = record { nodes = extent.nodes; lines = extent.lines; slots = extent.slots; events = [] }; lost = None })) (sym opens)
+    (subst (λ (c : Core). IsRecorder
+    (record { core = c; schedule = record { nodes = extent.nodes; lines = extent.lines; slots = extent.slots; events = [] }; lost = None })) (sym opens)
     (record { sized = record { nodes_are = refl; lines_are = refl; slots_are = refl }; led = λ none. led_opening (size_of extent limit) }))
 
 -- an event that happens is one of the schedule's machine
-pub event_within : (core new : Core) (schedule : ScheduleValue) (e : Event) → IsOfSize core.size schedule → IsReached core → stepping core e ≡ Some new → IsEventWithin schedule.nodes schedule.lines e
+pub event_within : (core new : Core) (schedule : ScheduleValue) (e : Event) → IsOfSize core.size schedule → IsReached core → stepping core e ≡ Some new
+    → IsEventWithin schedule.nodes schedule.lines e
 event_within core new schedule e sized reached steps =
-    subst (λ (n : ℕ). IsEventWithin n schedule.lines e) (sym sized.nodes_are) (subst (λ (l : ℕ). IsEventWithin core.size.nodes l e) (sym sized.lines_are) (enabled_within core new e reached steps))
+    subst (λ (n : ℕ). IsEventWithin n schedule.lines e) (sym sized.nodes_are)
+    (subst (λ (l : ℕ). IsEventWithin core.size.nodes l e) (sym sized.lines_are) (enabled_within core new e reached steps))
 
 -- it is recorded, or lost
-pub recorder_on : (core new : Core) (old now : ScheduleValue) (was lost : Option RunFault) (e : Event) → IsRecorder (record { core = core; schedule = old; lost = was }) → IsReached core → stepping core e ≡ Some new → new.size ≡ core.size → IsSameSize old now
+pub recorder_on : (core new : Core) (old now : ScheduleValue) (was lost : Option RunFault) (e : Event)
+    → IsRecorder (record { core = core; schedule = old; lost = was }) → IsReached core → stepping core e ≡ Some new → new.size ≡ core.size → IsSameSize old now
     → (lost ≡ None → was ≡ None) → (lost ≡ None → now ≡ with_event old e) → IsRecorder (record { core = new; schedule = now; lost = lost })
 recorder_on core new old now was lost e is reached steps size same before recorded = record {
   sized = record {
@@ -141,5 +166,6 @@ recorder_on core new old now was lost e is reached steps size same before record
     lines_are = same.lines_are ∙ (is.sized.lines_are ∙ ap (λ (z : Size). z.lines) (sym size));
     slots_are = same.slots_are ∙ (is.sized.slots_are ∙ ap (λ (z : Size). z.slots) (sym size));
   };
-  led = λ none. subst (λ (s : ScheduleValue). HasLed s.events new) (sym (recorded none)) (led_more old.events core new e reached steps size (is.led (before none)));
+  led = λ none. subst (λ (s : ScheduleValue). HasLed s.events new) (sym (recorded none))
+      (led_more old.events core new e reached steps size (is.led (before none)));
 }

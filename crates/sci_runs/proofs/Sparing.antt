@@ -11,6 +11,7 @@ pub spares_step : (n : ℕ) (old new : Core) (e : Event) → node_of e ≡ n →
 spares_step n old new e own steps size = record { size = size; others = λ m apart. other_stays old new e m (λ is. apart (sym is ∙ own)) steps }
 
 -- the same if nothing was done where it was refused
-pub spares_either : {T E : Type 0} (result : Result T E) (n : ℕ) (old new : Core) (e : Event) → node_of e ≡ n → IfOk result (λ _. stepping old e ≡ Some new) → (IsErr result → new ≡ old) → new.size ≡ old.size → SparesOthers n old new
+pub spares_either : {T E : Type 0} (result : Result T E) (n : ℕ) (old new : Core) (e : Event) → node_of e ≡ n → IfOk result (λ _. stepping old e ≡ Some new)
+    → (IsErr result → new ≡ old) → new.size ≡ old.size → SparesOthers n old new
 spares_either (Ok x) n old new e own done same size = spares_step n old new e own done size
 spares_either (Err x) n old new e own done same size = record { size = size; others = λ m apart. ap (λ (core : Core). node_at core m) (same refl) }

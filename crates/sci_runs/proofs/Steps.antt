@@ -21,19 +21,23 @@ node_fits core n reached some = ((reached_well core reached).each_part n some).f
 
 -- ---- Issue
 
-issued_by : (core new : Core) (n : ℕ) (o : Option NodeOf) → IsReached core → n < core.size.nodes → option_map (with_node core n) o ≡ Some new → o ≡ Some (node_at new n)
+issued_by : (core new : Core) (n : ℕ) (o : Option NodeOf) → IsReached core → n < core.size.nodes → option_map (with_node core n) o ≡ Some new
+    → o ≡ Some (node_at new n)
 issued_by core new n None reached some e = cc
 issued_by core new n (Some next) reached some e =
     let same : with_node core n next ≡ new = cc in
     ap Some (sym (changed_node core n next reached some) ∙ ap (λ (c : Core). node_at c n) same)
 
-pub issue_makes : (core new : Core) (n : ℕ) (op : Op) → IsReached core → n < core.size.nodes → stepping core (Issue n op) ≡ Some new → IsIssued (node_at core n) (node_at new n) op
+pub issue_makes : (core new : Core) (n : ℕ) (op : Op) → IsReached core → n < core.size.nodes → stepping core (Issue n op) ≡ Some new
+    → IsIssued (node_at core n) (node_at new n) op
 issue_makes core new n op reached some steps =
-    issue_puts (node_at core n) (node_at new n) op (node_fits core n reached some) (issued_by core new n (node_issuing (node_at core n) op) reached some (sym ((steps_by_sides core n some).issue op) ∙ steps))
+    issue_puts (node_at core n) (node_at new n) op (node_fits core n reached some)
+    (issued_by core new n (node_issuing (node_at core n) op) reached some (sym ((steps_by_sides core n some).issue op) ∙ steps))
 
 -- ---- Perform
 
-performed_by : (core new : Core) (n : ℕ) (o : Option (NodeOf × Entry)) → IsReached core → n < core.size.nodes → option_map (λ (done : NodeOf × Entry). with_node core n done.0) o ≡ Some new → (entry : Entry) × (o ≡ Some (node_at new n, entry))
+performed_by : (core new : Core) (n : ℕ) (o : Option (NodeOf × Entry)) → IsReached core → n < core.size.nodes
+    → option_map (λ (done : NodeOf × Entry). with_node core n done.0) o ≡ Some new → (entry : Entry) × (o ≡ Some (node_at new n, entry))
 performed_by core new n None reached some e = cc
 performed_by core new n (Some done) reached some e =
     let same : with_node core n done.0 ≡ new = cc in

@@ -22,23 +22,30 @@ use Rattle.sci_runs.specs.Recorded.{RecorderOf, SparesOthers}
 
 -- ---- a new machine
 
-opened_driver : {Z : Type 0} (s : ScriptValue) (issuing : Issuing) (all : List (Vec Op Z)) (drivers : List DriverOf) (n : ℕ) (d : DriverOf) → length all ≡ s.nodes
-    → ((k : ℕ) (own : Vec Op Z) → k < s.nodes → (slice_index_or all k own).items ≡ operations_of k s.operations) → n < s.nodes → drivers ≡ map (λ own. opening_driver own.items issuing) all
+opened_driver : {Z : Type 0} (s : ScriptValue) (issuing : Issuing) (all : List (Vec Op Z)) (drivers : List DriverOf) (n : ℕ) (d : DriverOf)
+    → length all ≡ s.nodes
+    → ((k : ℕ) (own : Vec Op Z) → k < s.nodes → (slice_index_or all k own).items ≡ operations_of k s.operations) → n < s.nodes
+    → drivers ≡ map (λ own. opening_driver own.items issuing) all
     → slice_index_or drivers n d ≡ opening_driver (operations_of n s.operations) issuing
 opened_driver s issuing [] drivers n d long each lt is = absurd (omega (arith, long, lt))
 opened_driver s issuing (v ∷ all) drivers n d long each lt is =
     ap (λ (ds : List DriverOf). slice_index_or ds n d) is
-    ∙ (get_or-map (λ own. opening_driver own.items issuing) (v ∷ all) n v d (omega (arith, long, lt)) ∙ ap (λ (ops : List Op). opening_driver ops issuing) (each n v lt))
+    ∙ (get_or-map (λ own. opening_driver own.items issuing) (v ∷ all) n v d (omega (arith, long, lt))
+    ∙ ap (λ (ops : List Op). opening_driver ops issuing) (each n v lt))
 
-opened_work : (s : ScriptValue) (issuing : Issuing) (n : ℕ) (node : NodeOf) → HasSubmittedNothing node → IsAtWork s issuing n (opening_driver (operations_of n s.operations) issuing) node
+opened_work : (s : ScriptValue) (issuing : Issuing) (n : ℕ) (node : NodeOf) → HasSubmittedNothing node
+    → IsAtWork s issuing n (opening_driver (operations_of n s.operations) issuing) node
 opened_work s issuing n node fresh = record {
   script_is = refl;
   driven = opens (operations_of n s.operations) issuing node fresh;
-  ordered = λ is. subst (λ (i : Issuing). IsInOrder (opening_driver (operations_of n s.operations) i) node) (sym is) (opens_in_order (operations_of n s.operations) node fresh);
+  ordered = λ is. subst (λ (i : Issuing). IsInOrder (opening_driver (operations_of n s.operations) i) node) (sym is)
+      (opens_in_order (operations_of n s.operations) node fresh);
 }
 
-pub all_opened : {Z : Type 0} (s : ScriptValue) (issuing : Issuing) (recorder : RecorderOf) (extent : Extent) (all : List (Vec Op Z)) (drivers : List DriverOf) → recorder.core ≡ opening (size_of extent MAX_OPERATIONS)
-    → extent.nodes ≡ s.nodes → extent.lines ≡ s.lines → extent.slots ≡ s.slots → length all ≡ s.nodes → ((k : ℕ) (own : Vec Op Z) → k < s.nodes → (slice_index_or all k own).items ≡ operations_of k s.operations)
+pub all_opened : {Z : Type 0} (s : ScriptValue) (issuing : Issuing) (recorder : RecorderOf) (extent : Extent) (all : List (Vec Op Z)) (drivers : List DriverOf)
+    → recorder.core ≡ opening (size_of extent MAX_OPERATIONS)
+    → extent.nodes ≡ s.nodes → extent.lines ≡ s.lines → extent.slots ≡ s.slots → length all ≡ s.nodes
+    → ((k : ℕ) (own : Vec Op Z) → k < s.nodes → (slice_index_or all k own).items ≡ operations_of k s.operations)
     → drivers ≡ map (λ own. opening_driver own.items issuing) all → AreAtWork (record { script = s; issuing = issuing; recorder = recorder; drivers = drivers })
 all_opened s issuing recorder extent all drivers opens nodes lines slots long each is =
     let size = size_of extent MAX_OPERATIONS in
@@ -46,37 +53,50 @@ all_opened s issuing recorder extent all drivers opens nodes lines slots long ea
       sized = ap (λ (core : Core). core.size) opens ∙ sized_for extent s nodes lines slots;
       many = ap length is ∙ (length-map all (λ own. opening_driver own.items issuing) ∙ long);
       each = λ n d lt.
-          let node : node_at recorder.core n ≡ opening_node n size = ap (λ (core : Core). node_at core n) opens ∙ node_opened size n (omega (arith, lt, nodes)) in
+          let node : node_at recorder.core n ≡ opening_node n size =
+          ap (λ (core : Core). node_at core n) opens ∙ node_opened size n (omega (arith, lt, nodes)) in
           subst (λ (driver : DriverOf). IsAtWork s issuing n driver (node_at recorder.core n)) (sym (opened_driver s issuing all drivers n d long each lt is))
-          (subst (λ (part : NodeOf). IsAtWork s issuing n (opening_driver (operations_of n s.operations) issuing) part) (sym node) (opened_work s issuing n (opening_node n size) (opened_fresh n size)));
+          (subst (λ (part : NodeOf). IsAtWork s issuing n (opening_driver (operations_of n s.operations) issuing) part) (sym node)
+          (opened_work s issuing n (opening_node n size) (opened_fresh n size)));
     }
 
 -- ---- a round
 
 -- the node that was driven on, and the others, which stay
-goes_on : (table : TableOf) (n : ℕ) (was driver : DriverOf) (recorder : RecorderOf) (drivers : List DriverOf) → AreAtWork table → n < table.script.nodes → slice_index_or table.drivers n driver ≡ was → drivers ≡ set table.drivers n driver
-    → SparesOthers n table.recorder.core recorder.core → driver.script ≡ was.script → IsDriven driver (node_at recorder.core n) → (IsInOrder was (node_at table.recorder.core n) → IsInOrder driver (node_at recorder.core n))
+goes_on : (table : TableOf) (n : ℕ) (was driver : DriverOf) (recorder : RecorderOf) (drivers : List DriverOf) → AreAtWork table → n < table.script.nodes
+    → slice_index_or table.drivers n driver ≡ was → drivers ≡ set table.drivers n driver
+    → SparesOthers n table.recorder.core recorder.core → driver.script ≡ was.script → IsDriven driver (node_at recorder.core n)
+    → (IsInOrder was (node_at table.recorder.core n) → IsInOrder driver (node_at recorder.core n))
     → AreAtWork (record { script = table.script; issuing = table.issuing; recorder = recorder; drivers = drivers })
 goes_on table n was driver recorder drivers work some stood is spares script driven order =
-    let before : IsAtWork table.script table.issuing n was (node_at table.recorder.core n) = subst (λ (x : DriverOf). IsAtWork table.script table.issuing n x (node_at table.recorder.core n)) stood (work.each n driver some) in
-    let here : IsAtWork table.script table.issuing n driver (node_at recorder.core n) = record { script_is = script ∙ before.script_is; driven = driven; ordered = λ in_order. order (before.ordered in_order) } in
+    let before : IsAtWork table.script table.issuing n was (node_at table.recorder.core n) =
+    subst (λ (x : DriverOf). IsAtWork table.script table.issuing n x (node_at table.recorder.core n)) stood (work.each n driver some) in
+    let here : IsAtWork table.script table.issuing n driver (node_at recorder.core n) =
+    record { script_is = script ∙ before.script_is; driven = driven; ordered = λ in_order. order (before.ordered in_order) } in
     let many = work.many in
     record {
       sized = spares.size ∙ work.sized;
       many = ap length is ∙ (length-set table.drivers n driver ∙ work.many);
       each = λ m d lt. elim (cases_eq m n) [
         | inl same ↦
-            let there : slice_index_or drivers m d ≡ driver = ap (λ (ds : List DriverOf). slice_index_or ds m d) is ∙ (ap (λ (k : ℕ). slice_index_or (set table.drivers n driver) k d) same ∙ get_or-set_same table.drivers n driver d (omega (arith, some, many))) in
-            subst (λ (x : DriverOf). IsAtWork table.script table.issuing m x (node_at recorder.core m)) (sym there) (subst (λ (k : ℕ). IsAtWork table.script table.issuing k driver (node_at recorder.core k)) (sym same) here)
-        | inr other ↦
-            let there : slice_index_or drivers m d ≡ slice_index_or table.drivers m d = ap (λ (ds : List DriverOf). slice_index_or ds m d) is ∙ get_or-set_other table.drivers n m driver d other in
+            let there : slice_index_or drivers m d ≡ driver =
+            ap (λ (ds : List DriverOf). slice_index_or ds m d) is
+            ∙ (ap (λ (k : ℕ). slice_index_or (set table.drivers n driver) k d) same
+            ∙ get_or-set_same table.drivers n driver d (omega (arith, some, many))) in
             subst (λ (x : DriverOf). IsAtWork table.script table.issuing m x (node_at recorder.core m)) (sym there)
-            (subst (λ (part : NodeOf). IsAtWork table.script table.issuing m (slice_index_or table.drivers m d) part) (sym (spares.others m other)) (work.each m d lt))
+            (subst (λ (k : ℕ). IsAtWork table.script table.issuing k driver (node_at recorder.core k)) (sym same) here)
+        | inr other ↦
+            let there : slice_index_or drivers m d ≡ slice_index_or table.drivers m d =
+            ap (λ (ds : List DriverOf). slice_index_or ds m d) is ∙ get_or-set_other table.drivers n m driver d other in
+            subst (λ (x : DriverOf). IsAtWork table.script table.issuing m x (node_at recorder.core m)) (sym there)
+            (subst (λ (part : NodeOf). IsAtWork table.script table.issuing m (slice_index_or table.drivers m d) part) (sym (spares.others m other))
+            (work.each m d lt))
       ];
     }
 
 -- a player that stands at node n's place, and its driver
-module _ {A : Type 0} (f : A → DriverOf) (script : ScriptValue) (issuing : Issuing) (recorder : RecorderOf) (players : List A) (table : TableOf) (n k : ℕ) (player : A) where
+module _ {A : Type 0} (f : A → DriverOf) (script : ScriptValue) (issuing : Issuing) (recorder : RecorderOf) (players : List A) (table : TableOf) (n k : ℕ)
+    (player : A) where
   abbrev view : TableOf
   view = record { script = script; issuing = issuing; recorder = recorder; drivers = map f players }
 
@@ -89,13 +109,16 @@ module _ {A : Type 0} (f : A → DriverOf) (script : ScriptValue) (issuing : Iss
       let long = length-map players f in
       get_or-map f players n player d (omega (arith, some, many, long)) ∙ ap f (sym (value ∙ ap (λ (i : ℕ). slice_index_or players i player) same))
 
-  pub player_at : view ≡ table → AreAtWork view → n < table.script.nodes → k ≡ n → player ≡ slice_index_or players k player → IsAtWork script issuing n (f player) (node_at recorder.core n)
+  pub player_at : view ≡ table → AreAtWork view → n < table.script.nodes → k ≡ n → player ≡ slice_index_or players k player
+      → IsAtWork script issuing n (f player) (node_at recorder.core n)
   player_at is work lt same value =
       let some = some_node is lt in
-      subst (λ (driver : DriverOf). IsAtWork script issuing n driver (node_at recorder.core n)) (stands work some same value (f player)) (work.each n (f player) some)
+      subst (λ (driver : DriverOf). IsAtWork script issuing n driver (node_at recorder.core n)) (stands work some same value (f player))
+      (work.each n (f player) some)
 
   -- it does a round
-  pub round_on : view ≡ table → AreAtWork view → n < table.script.nodes → k ≡ n → player ≡ slice_index_or players k player → (new : A) (later : RecorderOf) → SparesOthers n recorder.core later.core → (f new).script ≡ (f player).script
+  pub round_on : view ≡ table → AreAtWork view → n < table.script.nodes → k ≡ n → player ≡ slice_index_or players k player → (new : A) (later : RecorderOf)
+      → SparesOthers n recorder.core later.core → (f new).script ≡ (f player).script
       → IsDriven (f new) (node_at later.core n) → (IsInOrder (f player) (node_at recorder.core n) → IsInOrder (f new) (node_at later.core n))
       → AreAtWork (record { script = script; issuing = issuing; recorder = later; drivers = map f (set players k new) })
   round_on is work lt same value new later spares own driven order =

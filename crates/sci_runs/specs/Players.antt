@@ -30,4 +30,5 @@ pub record TableOf : Type 0 where
 pub record AreAtWork (table : TableOf) : Type 0 where
   pub sized : table.recorder.core.size ≡ size_for table.script
   pub many : length table.drivers ≡ table.script.nodes
-  pub each : (n : ℕ) (d : DriverOf) → n < table.script.nodes → IsAtWork table.script table.issuing n (slice_index_or table.drivers n d) (node_at table.recorder.core n)
+  pub each : (n : ℕ) (d : DriverOf) → n < table.script.nodes
+      → IsAtWork table.script table.issuing n (slice_index_or table.drivers n d) (node_at table.recorder.core n)

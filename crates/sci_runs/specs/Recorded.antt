@@ -40,7 +40,8 @@ issues_at n events = filter_map (issued_at n) events
 -- the operation is pending at the node with this serial, or logged with it
 abbrev pub IsKnown : NodeOf → ℕ → Op → Type 0
 IsKnown node serial op =
-    (pending_on node op.line ≡ Some (record { serial = serial; op = op })) ⊎ ((entry : Entry) × Contains node.log entry × (entry.serial ≡ serial) × (entry.op ≡ op))
+    (pending_on node op.line ≡ Some (record { serial = serial; op = op }))
+    ⊎ ((entry : Entry) × Contains node.log entry × (entry.serial ≡ serial) × (entry.op ≡ op))
 
 -- these are the operations that the node has issued: each is known there by its serial
 pub record HasIssued (ops : List Op) (node : NodeOf) : Type 0 where

@@ -30,7 +30,8 @@ pub record IsRunOf (script : ScriptValue) (issuing : Issuing) (done : Bool) (sch
   pub good : IsSchedule schedule
   pub sized : IsOfSize (size_for script) schedule
   pub enabled : AreEnabled (size_for script) [] schedule.events
-  pub issued : (node : ℕ) → node < script.nodes → issues_at node schedule.events ≡ take (length (issues_at node schedule.events)) (operations_of node script.operations)
+  pub issued : (node : ℕ) → node < script.nodes
+      → issues_at node schedule.events ≡ take (length (issues_at node schedule.events)) (operations_of node script.operations)
   pub named : HaveLogsOf script (logs_behind script schedule)
   pub whole : done ≡ true → HaveWholeLogsOf script (logs_behind script schedule)
   pub ordered : issuing ≡ InOrder → AreInProgramOrder (logs_behind script schedule)

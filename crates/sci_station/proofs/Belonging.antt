@@ -50,7 +50,9 @@ module _ {S : Type 0} (end_of : S → EndOf) (f : LanesOf) where
 
   pub of_swapped : (xs : List S) (i j : ℕ) → i < length xs → j < length xs → All xs → All (swap xs i j)
   of_swapped [] i j a b all = all
-  of_swapped (y ∷ xs) i j a b all = of_put (set (y ∷ xs) i (get_or (y ∷ xs) j y)) j (get_or (y ∷ xs) i y) (of_there (y ∷ xs) i y a all) (of_put (y ∷ xs) i (get_or (y ∷ xs) j y) (of_there (y ∷ xs) j y b all) all)
+  of_swapped (y ∷ xs) i j a b all =
+      of_put (set (y ∷ xs) i (get_or (y ∷ xs) j y)) j (get_or (y ∷ xs) i y) (of_there (y ∷ xs) i y a all)
+      (of_put (y ∷ xs) i (get_or (y ∷ xs) j y) (of_there (y ∷ xs) j y b all) all)
 
   pub of_take : (n : ℕ) (xs : List S) → All xs → All (take n xs)
   of_take zero xs all = λ place end e. absurd (nothing place end e)
@@ -58,11 +60,18 @@ module _ {S : Type 0} (end_of : S → EndOf) (f : LanesOf) where
   of_take (suc n) (y ∷ xs) all = of_more y (take n xs) (first y xs all) (of_take n xs (later y xs all))
 
 -- the ends of new lanes are of them
-pub opened_ends : (table : TableId) (size : Size) (ns : List ℕ) → All (λ end. end) (record { table = table; size = size }) (map (λ n. record { table = table; part = opening_part size n }) ns)
+pub opened_ends : (table : TableId) (size : Size) (ns : List ℕ)
+    → All (λ end. end) (record { table = table; size = size }) (map (λ n. record { table = table; part = opening_part size n }) ns)
 opened_ends table size [] = λ place end e. absurd (nothing place end e)
-opened_ends table size (n ∷ ns) = of_more (λ end. end) (record { table = table; size = size }) (record { table = table; part = opening_part size n }) (map (λ m. record { table = table; part = opening_part size m }) ns) (record { table = refl; sized = size_opened size n }) (opened_ends table size ns)
+opened_ends table size (n ∷ ns) =
+    of_more (λ end. end) (record { table = table; size = size }) (record { table = table; part = opening_part size n })
+    (map (λ m. record { table = table; part = opening_part size m }) ns) (record { table = refl; sized = size_opened size n }) (opened_ends table size ns)
 
 -- the stations of a new fabric are its own
-pub opened_of : (table : TableId) (size : Size) (ns : List ℕ) → All end_in (record { table = table; size = size }) (map opening_station (map (λ n. record { table = table; part = opening_part size n }) ns))
+pub opened_of : (table : TableId) (size : Size) (ns : List ℕ)
+    → All end_in (record { table = table; size = size }) (map opening_station (map (λ n. record { table = table; part = opening_part size n }) ns))
 opened_of table size [] = λ place end e. absurd (nothing place end e)
-opened_of table size (n ∷ ns) = of_more end_in (record { table = table; size = size }) (opening_station (record { table = table; part = opening_part size n })) (map opening_station (map (λ m. record { table = table; part = opening_part size m }) ns)) (record { table = refl; sized = size_opened size n }) (opened_of table size ns)
+opened_of table size (n ∷ ns) =
+    of_more end_in (record { table = table; size = size }) (opening_station (record { table = table; part = opening_part size n }))
+    (map opening_station (map (λ m. record { table = table; part = opening_part size m }) ns)) (record { table = refl; sized = size_opened size n })
+    (opened_of table size ns)

@@ -33,13 +33,17 @@ use Rattle.sci_station.proofs.Cells.{front_found}
 -- the answer that waits goes to a node of the machine
 pub reply_target : (part : Part) (answer : Letter) → IsShown part → part.node.waiting ≡ Some answer → answer.target < nodes_in part
 reply_target part answer s waits =
-    subst (λ (n : ℕ). answer.target < n) (sym (shown_nodes part s)) (waiting_target s.core (me_of part) answer s.reached s.some_node (ap (λ (m : NodeOf). m.waiting) s.here ∙ waits))
+    subst (λ (n : ℕ). answer.target < n) (sym (shown_nodes part s))
+    (waiting_target s.core (me_of part) answer s.reached s.some_node (ap (λ (m : NodeOf). m.waiting) s.here ∙ waits))
 
-pub ask_target : (part : Part) (line : ℕ) (kind : AskKind) (sent : NodeOf × Letter) → IsShown part → node_asking part.node line kind ≡ Some sent → sent.1.target < nodes_in part
+pub ask_target : (part : Part) (line : ℕ) (kind : AskKind) (sent : NodeOf × Letter) → IsShown part → node_asking part.node line kind ≡ Some sent
+    → sent.1.target < nodes_in part
 ask_target part line kind sent s asks =
-    subst (λ (n : ℕ). sent.1.target < n) (sym (shown_nodes part s)) (asked_target s.core (me_of part) line kind sent s.reached s.some_node (ap (λ (m : NodeOf). node_asking m line kind) s.here ∙ asks))
+    subst (λ (n : ℕ). sent.1.target < n) (sym (shown_nodes part s))
+    (asked_target s.core (me_of part) line kind sent s.reached s.some_node (ap (λ (m : NodeOf). node_asking m line kind) s.here ∙ asks))
 
-pub sent_by : (kind : LaneKind) (o : Option (NodeOf × Letter)) (next : NodeOf) (letter : Letter) → sends kind o ≡ Sends kind next letter → o ≡ Some (next, letter)
+pub sent_by : (kind : LaneKind) (o : Option (NodeOf × Letter)) (next : NodeOf) (letter : Letter) → sends kind o ≡ Sends kind next letter
+    → o ≡ Some (next, letter)
 sent_by kind None next letter e = cc
 sent_by kind (Some sent) next letter e = ap Some (let node : sent.0 ≡ next = cc in let packet : sent.1 ≡ letter = cc in (λ i. (node i, packet i)))
 
@@ -49,7 +53,8 @@ replying node answer waits = ap (replied_by node) waits
 -- ---- receiving
 
 -- the packet that was read is the oldest of its lane
-pub front_read : (part : Part) (cell : CellId) (packet : Packet) (read : HasRead part cell packet) (kind : LaneKind) (from : ℕ) → cell.kind ≡ kind → cell.sender ≡ from
+pub front_read : (part : Part) (cell : CellId) (packet : Packet) (read : HasRead part cell packet) (kind : LaneKind) (from : ℕ) → cell.kind ≡ kind
+    → cell.sender ≡ from
     → (rest : List Letter) × (lane_of read.shown.core kind from (me_of part) ≡ letter_of packet ∷ rest)
 front_read part cell packet read kind from k f =
     let s = read.shown in
@@ -58,7 +63,8 @@ front_read part cell packet read kind from k f =
     let some : 0 < length found = subst (λ (ws : List ℕ). 0 < length ws) (sym read.spelled.spelled_so) (words_some packet) in
     let front = front_found part cell s read.next some in
     let same : front.packet ≡ packet = sym (one_by_words packet front.packet read.spelled.packet front.good (λ i a b.
-    ap (λ (ws : List ℕ). get_or ws i 0) (sym read.spelled.spelled_so) ∙ front.agrees i (subst (λ (ws : List ℕ). i < length ws) (sym read.spelled.spelled_so) a) b)) in
+    ap (λ (ws : List ℕ). get_or ws i 0) (sym read.spelled.spelled_so)
+    ∙ front.agrees i (subst (λ (ws : List ℕ). i < length ws) (sym read.spelled.spelled_so) a) b)) in
     let place : lane ≡ lane_place s.core.size.nodes kind from (me_of part) = (λ i. lane_place (shown_nodes part s i) (k i) (f i) (read.next.mine i)) in
     (front.rest, ap (lane_at s.core) (sym place) ∙ (front.front ∙ ap (λ (p : Packet). letter_of p ∷ front.rest) same))
 
@@ -66,11 +72,13 @@ some_of : {A : Type 0} (o : Option A) → IsSome o → (x : A) × (o ≡ Some x)
 some_of None e = cc
 some_of (Some x) e = (x, refl)
 
-sender_below : (part : Part) (cell : CellId) (packet : Packet) (read : HasRead part cell packet) (from : ℕ) → cell.sender ≡ from → from < read.shown.core.size.nodes
+sender_below : (part : Part) (cell : CellId) (packet : Packet) (read : HasRead part cell packet) (from : ℕ) → cell.sender ≡ from
+    → from < read.shown.core.size.nodes
 sender_below part cell packet read from f = subst (λ (n : ℕ). from < n) (shown_nodes part read.shown) (subst (λ (j : ℕ). j < nodes_in part) f read.next.other)
 
 -- an answer that was read is accepted
-pub may_accept : (part : Part) (cell : CellId) (packet : Packet) (from n : ℕ) → HasRead part cell packet → cell.kind ≡ Answers → cell.sender ≡ from → n ≡ me_of part → MayFree part cell (event.Accept from n)
+pub may_accept : (part : Part) (cell : CellId) (packet : Packet) (from n : ℕ) → HasRead part cell packet → cell.kind ≡ Answers → cell.sender ≡ from
+    → n ≡ me_of part → MayFree part cell (event.Accept from n)
 may_accept part cell packet from n read k f is =
     let s = read.shown in
     let me = me_of part in
@@ -89,13 +97,15 @@ may_accept part cell packet from n read k f is =
     }
 
 -- a request that was read is served, if no answer waits
-pub may_serve : (part : Part) (cell : CellId) (packet : Packet) (from n : ℕ) → HasRead part cell packet → cell.kind ≡ Requests → cell.sender ≡ from → n ≡ me_of part → part.node.waiting ≡ None → MayFree part cell (event.Serve from n)
+pub may_serve : (part : Part) (cell : CellId) (packet : Packet) (from n : ℕ) → HasRead part cell packet → cell.kind ≡ Requests → cell.sender ≡ from
+    → n ≡ me_of part → part.node.waiting ≡ None → MayFree part cell (event.Serve from n)
 may_serve part cell packet from n read k f is free =
     let s = read.shown in
     let me = me_of part in
     let front = front_read part cell packet read Requests from k f in
     let free_there : (node_at s.core me).waiting ≡ None = ap (λ (m : NodeOf). m.waiting) s.here ∙ free in
-    let some = (request_enabled s.core from me s.reached (sender_below part cell packet read from f) s.some_node).served (letter_of packet) front.0 front.1 free_there in
+    let some = (request_enabled s.core from me s.reached (sender_below part cell packet read from f) s.some_node).served (letter_of packet) front.0 front.1
+    free_there in
     let next = some_of (node_serving part.node (letter_of packet)) (subst (λ (m : NodeOf). IsSome (node_serving m (letter_of packet))) s.here some) in
     record {
       next = read.next;
@@ -109,14 +119,16 @@ may_serve part cell packet from n read k f is free =
     }
 
 -- a request that was read is refused, unless it is a Setback
-pub may_refuse : (part : Part) (cell : CellId) (packet : Packet) (from n : ℕ) → HasRead part cell packet → cell.kind ≡ Requests → cell.sender ≡ from → n ≡ me_of part → part.node.waiting ≡ None → is_setback (letter_of packet).body ≡ false
+pub may_refuse : (part : Part) (cell : CellId) (packet : Packet) (from n : ℕ) → HasRead part cell packet → cell.kind ≡ Requests → cell.sender ≡ from
+    → n ≡ me_of part → part.node.waiting ≡ None → is_setback (letter_of packet).body ≡ false
     → MayFree part cell (event.Refuse from n)
 may_refuse part cell packet from n read k f is free no_setback =
     let s = read.shown in
     let me = me_of part in
     let front = front_read part cell packet read Requests from k f in
     let free_there : (node_at s.core me).waiting ≡ None = ap (λ (m : NodeOf). m.waiting) s.here ∙ free in
-    let some = (request_enabled s.core from me s.reached (sender_below part cell packet read from f) s.some_node).refused (letter_of packet) front.0 front.1 free_there no_setback in
+    let some = (request_enabled s.core from me s.reached (sender_below part cell packet read from f) s.some_node).refused (letter_of packet) front.0 front.1
+    free_there no_setback in
     let next = some_of (node_refusing part.node (letter_of packet)) (subst (λ (m : NodeOf). IsSome (node_refusing m (letter_of packet))) s.here some) in
     record {
       next = read.next;
@@ -134,7 +146,8 @@ pub made_later : (old mid : EndOf) (e : Event) (schedule : List Event) → IsSti
 made_later old mid e schedule still m =
     let others = still.seen.others in
     let same = (same_of_still old mid still).node in
-    let known : mid.part.schedule ++ m.others ≡ old.part.schedule ++ (others ++ m.others) = ap (λ (es : List Event). es ++ m.others) still.seen.further ∙ append_assoc old.part.schedule others m.others in
+    let known : mid.part.schedule ++ m.others ≡ old.part.schedule ++ (others ++ m.others) =
+    ap (λ (es : List Event). es ++ m.others) still.seen.further ∙ append_assoc old.part.schedule others m.others in
     record {
       others = others ++ m.others;
       further = m.further ∙ ap (λ (es : List Event). es ++ e ∷ []) known;

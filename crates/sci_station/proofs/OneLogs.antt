@@ -29,8 +29,11 @@ later_versions : (entries : List Entry) (old new : Stamped) → IsHistory entrie
 later_versions [] old new h = λ i j d lt long. absurd (omega arith)
 later_versions (entry ∷ entries) old new h =
     let mid = after old entry.op in
-    let all : AllByRecursion (λ (e : Entry). (mid.version ≤ e.version) × (IsTrue (is_making e) → mid.version < e.version)) entries = all_both (λ (e : Entry). mid.version ≤ e.version) (λ (e : Entry). IsTrue (is_making e) → mid.version < e.version) entries (versions-after entries mid new h.2) (makers-after entries mid new h.2) in
-    let here : AllByRecursion (HasLaterVersion entry) entries = subst (λ (v : ℕ). AllByRecursion (λ (e : Entry). (v ≤ e.version) × (IsTrue (is_making e) → v < e.version)) entries) (sym h.1) all in
+    let all : AllByRecursion (λ (e : Entry). (mid.version ≤ e.version) × (IsTrue (is_making e) → mid.version < e.version)) entries =
+    all_both (λ (e : Entry). mid.version ≤ e.version) (λ (e : Entry). IsTrue (is_making e) → mid.version < e.version) entries
+    (versions-after entries mid new h.2) (makers-after entries mid new h.2) in
+    let here : AllByRecursion (HasLaterVersion entry) entries =
+    subst (λ (v : ℕ). AllByRecursion (λ (e : Entry). (v ≤ e.version) × (IsTrue (is_making e) → v < e.version)) entries) (sym h.1) all in
     AllPairs-cons HasLaterVersion entry entries (All-from_recursion (HasLaterVersion entry) entries here) (later_versions entries mid new h.2)
 
 log_of_one : (core : Core) (n : ℕ) → IsReached core → n < core.size.nodes → IsOneLog (node_at core n).log
@@ -40,8 +43,11 @@ log_of_one core n reached some line =
     let history = has_history core (reachable core reached) line few in
     let versions = AllPairs-filter HasLaterVersion (is_of_node n) history.entries (later_versions history.entries _ _ history.history) in
     let log = log_at core n lt in
-    let versions_here : AllPairs HasLaterVersion (filter (is_on_line line) (node_at core n).log) = subst (λ (es : List Entry). AllPairs HasLaterVersion (filter (is_on_line line) es)) log (subst (λ (es : List Entry). AllPairs HasLaterVersion es) (sym (history.logged n lt)) versions) in
-    let serials_here : AllPairs (λ x y. x.serial < y.serial) (filter (is_on_line line) (node_at core n).log) = subst (λ (es : List Entry). AllPairs (λ x y. x.serial < y.serial) (filter (is_on_line line) es)) log (history.serials n lt) in
+    let versions_here : AllPairs HasLaterVersion (filter (is_on_line line) (node_at core n).log) =
+    subst (λ (es : List Entry). AllPairs HasLaterVersion (filter (is_on_line line) es)) log
+    (subst (λ (es : List Entry). AllPairs HasLaterVersion es) (sym (history.logged n lt)) versions) in
+    let serials_here : AllPairs (λ x y. x.serial < y.serial) (filter (is_on_line line) (node_at core n).log) =
+    subst (λ (es : List Entry). AllPairs (λ x y. x.serial < y.serial) (filter (is_on_line line) es)) log (history.serials n lt) in
     λ i j d before long. (
     let v = versions_here i j d before long in
     record { serial = serials_here i j d before long; version = v.0; maker = v.1 })

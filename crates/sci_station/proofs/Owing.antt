@@ -10,7 +10,8 @@ use Rattle.sci_history.specs.declared.entry.Entry.{Entry}
 use Rattle.sci_cache.specs.Cache.{Letter}
 use Rattle.sci_core.specs.declared.lane.LaneKind.{LaneKind}
 use Rattle.sci_core.specs.declared.lane.LaneKind.TheVariants.{Answers, Requests}
-use Rattle.sci_core.specs.Core.{Changes, Core, Sends, Takes, changes, lane_at, lane_of, lane_place, node_at, node_of, performs, sends, sent_by, side, stepping, with_lane, with_node}
+use Rattle.sci_core.specs.Core.{Changes, Core, Sends, Takes, changes, lane_at, lane_of, lane_place, node_at, node_of, performs, sends, sent_by, side, stepping}
+use Rattle.sci_core.specs.Core.{with_lane, with_node}
 use Rattle.sci_core.specs.Draining.{one_if}
 use Rattle.sci_core.specs.Node.{NodeOf, no_node, node_accepting, node_asking, node_issuing, node_performing, node_refusing, node_replying, node_serving}
 use Rattle.sci_core.specs.Size.{Size}
@@ -27,7 +28,8 @@ use Rattle.sci_core.proofs.WellFormed.WellFormedSteps.{StepsWell, stepping_well}
 use Rattle.sci_turn.specs.Posts.{OthersLead}
 use Rattle.sci_words.specs.declared.event.AskKind.{AskKind}
 use Rattle.sci_words.specs.declared.operation.Op.{Op}
-use Rattle.sci_core.proofs.Tidy.WaitingNodes.{Accepts, Answers as AnswersTo, AsksOnce, Replies, Stays, accept_accepts, ask_once, issue_stays, perform_stays, refuse_answers, reply_replies, serve_answers}
+use Rattle.sci_core.proofs.Tidy.WaitingNodes.{Accepts, Answers as AnswersTo, AsksOnce, Replies, Stays, accept_accepts, ask_once, issue_stays, perform_stays}
+use Rattle.sci_core.proofs.Tidy.WaitingNodes.{refuse_answers, reply_replies, serve_answers}
 use Rattle.sci_station.specs.Posts.{answers_to, owed}
 
 -- ---- a node and a lane change
@@ -53,7 +55,8 @@ moved core m next place lane = with_lane (with_node core m next) place lane
 kinds_apart : (nodes a b x y : ℕ) → a < nodes → b < nodes → lane_place nodes Requests a b ≢ lane_place nodes Answers x y
 kinds_apart nodes a b x y la lb e = let below = place_requests nodes a b la lb in let above = place_answers nodes x y in absurd (omega arith)
 
-same_sender : (nodes : ℕ) (kind : LaneKind) (a b x y : ℕ) → a < nodes → b < nodes → x < nodes → y < nodes → lane_place nodes kind a b ≡ lane_place nodes kind x y → a ≡ x
+same_sender : (nodes : ℕ) (kind : LaneKind) (a b x y : ℕ) → a < nodes → b < nodes → x < nodes → y < nodes
+    → lane_place nodes kind a b ≡ lane_place nodes kind x y → a ≡ x
 same_sender nodes kind a b x y la lb lx ly e = sym (place_from nodes kind a b la lb) ∙ (ap (λ (p : ℕ). p / nodes % nodes) e ∙ place_from nodes kind x y lx ly)
 
 same_receiver : (nodes : ℕ) (kind : LaneKind) (a b x y : ℕ) → b < nodes → y < nodes → lane_place nodes kind a b ≡ lane_place nodes kind x y → b ≡ y
@@ -62,25 +65,33 @@ same_receiver nodes kind a b x y lb ly e = sym (place_to nodes kind a b lb) ∙ 
 -- ---- each part of what is owed
 
 -- the answer that waits at a node, after a node and a lane change
-waits_else : (core : Core) (m n other place : ℕ) (next : NodeOf) (lane : List Letter) → m ≢ other → one_if (answers_to (node_at (moved core m next place lane) other).waiting n) ≡ one_if (answers_to (node_at core other).waiting n)
+waits_else : (core : Core) (m n other place : ℕ) (next : NodeOf) (lane : List Letter) → m ≢ other
+    → one_if (answers_to (node_at (moved core m next place lane) other).waiting n) ≡ one_if (answers_to (node_at core other).waiting n)
 waits_else core m n other place next lane apart = ap (λ (v : NodeOf). one_if (answers_to v.waiting n)) (node_else core m other next apart)
 
-waits_here : (core : Core) (m n place : ℕ) (next : NodeOf) (lane : List Letter) → m < length core.parts → one_if (answers_to (node_at (moved core m next place lane) m).waiting n) ≡ one_if (answers_to next.waiting n)
+waits_here : (core : Core) (m n place : ℕ) (next : NodeOf) (lane : List Letter) → m < length core.parts
+    → one_if (answers_to (node_at (moved core m next place lane) m).waiting n) ≡ one_if (answers_to next.waiting n)
 waits_here core m n place next lane below = ap (λ (v : NodeOf). one_if (answers_to v.waiting n)) (node_here core m next below)
 
 -- it stays if the node's does
-waits_same : (core : Core) (m n other place : ℕ) (next : NodeOf) (lane : List Letter) → m < length core.parts → next.waiting ≡ (node_at core m).waiting → one_if (answers_to (node_at (moved core m next place lane) other).waiting n) ≡ one_if (answers_to (node_at core other).waiting n)
+waits_same : (core : Core) (m n other place : ℕ) (next : NodeOf) (lane : List Letter) → m < length core.parts → next.waiting ≡ (node_at core m).waiting
+    → one_if (answers_to (node_at (moved core m next place lane) other).waiting n) ≡ one_if (answers_to (node_at core other).waiting n)
 waits_same core m n other place next lane below same =
     elim (cases_eq m other) [
-      | inl here ↦ subst (λ (k : ℕ). one_if (answers_to (node_at (moved core m next place lane) k).waiting n) ≡ one_if (answers_to (node_at core k).waiting n)) here (waits_here core m n place next lane below ∙ ap (λ (w : Option Letter). one_if (answers_to w n)) same)
+      | inl here ↦ subst (λ (k : ℕ). one_if (answers_to (node_at (moved core m next place lane) k).waiting n) ≡ one_if (answers_to (node_at core k).waiting n))
+          here (waits_here core m n place next lane below ∙ ap (λ (w : Option Letter). one_if (answers_to w n)) same)
       | inr apart ↦ waits_else core m n other place next lane apart
     ]
 
-long_else : (core : Core) (m place other : ℕ) (next : NodeOf) (lane : List Letter) → other ≢ place → length (lane_at (moved core m next place lane) other) ≡ length (lane_at core other)
+long_else : (core : Core) (m place other : ℕ) (next : NodeOf) (lane : List Letter) → other ≢ place
+    → length (lane_at (moved core m next place lane) other) ≡ length (lane_at core other)
 long_else core m place other next lane apart = ap (λ (l : List Letter). length l) (lane_else (with_node core m next) place other lane apart)
 
-long_here : (core : Core) (m place other : ℕ) (next : NodeOf) (lane : List Letter) → other ≡ place → place < length core.lanes → length (lane_at (moved core m next place lane) other) ≡ length lane
-long_here core m place other next lane same below = ap (λ (p : ℕ). length (lane_at (moved core m next place lane) p)) same ∙ ap (λ (l : List Letter). length l) (lane_here (with_node core m next) place lane below)
+long_here : (core : Core) (m place other : ℕ) (next : NodeOf) (lane : List Letter) → other ≡ place → place < length core.lanes
+    → length (lane_at (moved core m next place lane) other) ≡ length lane
+long_here core m place other next lane same below =
+    ap (λ (p : ℕ). length (lane_at (moved core m next place lane) p)) same
+    ∙ ap (λ (l : List Letter). length l) (lane_here (with_node core m next) place lane below)
 
 one_here : (a b : ℕ) → a ≡ b → one_if (a == b) ≡ 1
 one_here a b same = ap one_if (eq-eqb a b same)
@@ -91,33 +102,42 @@ one_else a b apart = ap one_if (ne_eqb a b apart)
 -- ---- what is owed after a step
 
 -- the node alone changes, and not the answer that waits at it
-owes_changed : (core : Core) (m n other : ℕ) (next : NodeOf) → m < length core.parts → next.waiting ≡ (node_at core m).waiting → owed (with_node core m next) n other ≡ owed core n other
+owes_changed : (core : Core) (m n other : ℕ) (next : NodeOf) → m < length core.parts → next.waiting ≡ (node_at core m).waiting
+    → owed (with_node core m next) n other ≡ owed core n other
 owes_changed core m n other next below same =
     elim (cases_eq m other) [
-      | inl here ↦ subst (λ (k : ℕ). owed (with_node core m next) n k ≡ owed core n k) here (ap (λ (w : Option Letter). length (lane_of core Requests n m) + (one_if (answers_to w n) + length (lane_of core Answers m n))) (ap (λ (v : NodeOf). v.waiting) (node_here core m next below) ∙ same))
-      | inr apart ↦ ap (λ (v : NodeOf). length (lane_of core Requests n other) + (one_if (answers_to v.waiting n) + length (lane_of core Answers other n))) (node_else core m other next apart)
+      | inl here ↦ subst (λ (k : ℕ). owed (with_node core m next) n k ≡ owed core n k) here
+          (ap (λ (w : Option Letter). length (lane_of core Requests n m) + (one_if (answers_to w n) + length (lane_of core Answers m n)))
+          (ap (λ (v : NodeOf). v.waiting) (node_here core m next below) ∙ same))
+      | inr apart ↦ ap (λ (v : NodeOf). length (lane_of core Requests n other) + (one_if (answers_to v.waiting n) + length (lane_of core Answers other n)))
+          (node_else core m other next apart)
     ]
 
 -- another node sends a request
-owes_asked_else : (core : Core) (m n other : ℕ) (next : NodeOf) (letter : Letter) → IsWellFormed core → m < core.size.nodes → n < core.size.nodes → other < core.size.nodes → letter.target < core.size.nodes → next.waiting ≡ (node_at core m).waiting → m ≢ n
+owes_asked_else : (core : Core) (m n other : ℕ) (next : NodeOf) (letter : Letter) → IsWellFormed core → m < core.size.nodes → n < core.size.nodes
+    → other < core.size.nodes → letter.target < core.size.nodes → next.waiting ≡ (node_at core m).waiting → m ≢ n
     → owed (sent_by core m Requests next letter) n other ≡ owed core n other
 owes_asked_else core m n other next letter well lm ln lo lt same apart =
     let place = lane_place core.size.nodes Requests m letter.target in
     let lane = lane_of core Requests m letter.target ++ letter ∷ [] in
     let w = waits_same core m n other place next lane (node_below core m well lm) same in
-    let r = long_else core m place (lane_place core.size.nodes Requests n other) next lane (λ e. apart (sym (same_sender core.size.nodes Requests n other m letter.target ln lo lm lt e))) in
-    let a = long_else core m place (lane_place core.size.nodes Answers other n) next lane (λ e. kinds_apart core.size.nodes m letter.target other n lm lt (sym e)) in
+    let r = long_else core m place (lane_place core.size.nodes Requests n other) next lane
+    (λ e. apart (sym (same_sender core.size.nodes Requests n other m letter.target ln lo lm lt e))) in
+    let a = long_else core m place (lane_place core.size.nodes Answers other n) next lane
+    (λ e. kinds_apart core.size.nodes m letter.target other n lm lt (sym e)) in
     omega arith
 
 -- the node itself sends one
-owes_asked : (core : Core) (n other : ℕ) (next : NodeOf) (letter : Letter) → IsWellFormed core → n < core.size.nodes → other < core.size.nodes → letter.target < core.size.nodes → next.waiting ≡ (node_at core n).waiting
+owes_asked : (core : Core) (n other : ℕ) (next : NodeOf) (letter : Letter) → IsWellFormed core → n < core.size.nodes → other < core.size.nodes
+    → letter.target < core.size.nodes → next.waiting ≡ (node_at core n).waiting
     → owed (sent_by core n Requests next letter) n other ≡ owed core n other + one_if (letter.target == other)
 owes_asked core n other next letter well ln lo lt same =
     let place = lane_place core.size.nodes Requests n letter.target in
     let before = lane_of core Requests n letter.target in
     let lane = before ++ letter ∷ [] in
     let w = waits_same core n n other place next lane (node_below core n well ln) same in
-    let a = long_else core n place (lane_place core.size.nodes Answers other n) next lane (λ e. kinds_apart core.size.nodes n letter.target other n ln lt (sym e)) in
+    let a = long_else core n place (lane_place core.size.nodes Answers other n) next lane
+    (λ e. kinds_apart core.size.nodes n letter.target other n ln lt (sym e)) in
     elim (cases_eq letter.target other) [
       | inl here ↦
           let there : lane_place core.size.nodes Requests n other ≡ place = ap (lane_place core.size.nodes Requests n) (sym here) in
@@ -127,35 +147,45 @@ owes_asked core n other next letter well ln lo lt same =
           let more = length_push before letter in
           omega arith
       | inr apart ↦
-          let r = long_else core n place (lane_place core.size.nodes Requests n other) next lane (λ e. apart (sym (same_receiver core.size.nodes Requests n other n letter.target lo lt e))) in
+          let r = long_else core n place (lane_place core.size.nodes Requests n other) next lane
+          (λ e. apart (sym (same_receiver core.size.nodes Requests n other n letter.target lo lt e))) in
           let one = one_else letter.target other apart in
           omega arith
     ]
 
 -- a request is taken, and its answer waits
-owes_served : (core new : Core) (m from n other : ℕ) (taking : NodeOf → Letter → Option NodeOf) → IsWellFormed core → m < core.size.nodes → from < core.size.nodes → n < core.size.nodes → other < core.size.nodes → Took core new Requests m from taking
+owes_served : (core new : Core) (m from n other : ℕ) (taking : NodeOf → Letter → Option NodeOf) → IsWellFormed core → m < core.size.nodes
+    → from < core.size.nodes → n < core.size.nodes → other < core.size.nodes → Took core new Requests m from taking
     → ((letter : Letter) → IfSome (taking (node_at core m) letter) (AnswersTo core.size.nodes letter (node_at core m))) → owed new n other ≡ owed core n other
 owes_served core new m from n other taking well lm lf ln lo took answers =
     let place = lane_place core.size.nodes Requests from m in
-    let source : took.letter.source ≡ from = (front_holds (IsInLane core.size.nodes core.size.lines place) (lane_of core Requests from m) took.letter (ap (λ (lane : List Letter). slice_get lane 0) took.front) (well.each_lane place)).from ∙ place_from core.size.nodes Requests from m lf lm in
-    let does = of_some (AnswersTo core.size.nodes took.letter (node_at core m)) (taking (node_at core m) took.letter) took.next took.takes (answers took.letter) in
-    let a = long_else core m place (lane_place core.size.nodes Answers other n) took.next took.rest (λ e. kinds_apart core.size.nodes from m other n lf lm (sym e)) in
+    let source : took.letter.source ≡ from =
+    (front_holds (IsInLane core.size.nodes core.size.lines place) (lane_of core Requests from m) took.letter
+    (ap (λ (lane : List Letter). slice_get lane 0) took.front) (well.each_lane place)).from ∙ place_from core.size.nodes Requests from m lf lm in
+    let does = of_some (AnswersTo core.size.nodes took.letter (node_at core m)) (taking (node_at core m) took.letter) took.next took.takes
+    (answers took.letter) in
+    let a = long_else core m place (lane_place core.size.nodes Answers other n) took.next took.rest
+    (λ e. kinds_apart core.size.nodes from m other n lf lm (sym e)) in
     let then_ : owed new n other ≡ owed (moved core m took.next place took.rest) n other = ap (λ (c : Core). owed c n other) took.then_ in
     let same = owes_served_at core m from n other took.next took.letter took.rest well lm lf ln lo took.front does source a in
     then_ ∙ same
   where
-    owes_served_at : (core : Core) (m from n other : ℕ) (next : NodeOf) (letter : Letter) (rest : List Letter) → IsWellFormed core → m < core.size.nodes → from < core.size.nodes → n < core.size.nodes → other < core.size.nodes → lane_of core Requests from m ≡ letter ∷ rest
+    owes_served_at : (core : Core) (m from n other : ℕ) (next : NodeOf) (letter : Letter) (rest : List Letter) → IsWellFormed core → m < core.size.nodes
+        → from < core.size.nodes → n < core.size.nodes → other < core.size.nodes → lane_of core Requests from m ≡ letter ∷ rest
         → AnswersTo core.size.nodes letter (node_at core m) next → letter.source ≡ from
-        → length (lane_at (moved core m next (lane_place core.size.nodes Requests from m) rest) (lane_place core.size.nodes Answers other n)) ≡ length (lane_at core (lane_place core.size.nodes Answers other n))
+        → length (lane_at (moved core m next (lane_place core.size.nodes Requests from m) rest) (lane_place core.size.nodes Answers other n)) ≡ length
+        (lane_at core (lane_place core.size.nodes Answers other n))
         → owed (moved core m next (lane_place core.size.nodes Requests from m) rest) n other ≡ owed core n other
     owes_served_at core m from n other next letter rest well lm lf ln lo front does source a =
         let place = lane_place core.size.nodes Requests from m in
         let long : length (lane_at core place) ≡ length (letter ∷ rest) = ap (λ (l : List Letter). length l) front in
         elim (cases_eq m other) [
           | inl here ↦
-              let w : one_if (answers_to (node_at (moved core m next place rest) m).waiting n) ≡ one_if (letter.source == n) = waits_here core m n place next rest (node_below core m well lm) ∙ ap (λ (w : Option Letter). one_if (answers_to w n)) does.waiting in
+              let w : one_if (answers_to (node_at (moved core m next place rest) m).waiting n) ≡ one_if (letter.source == n) =
+              waits_here core m n place next rest (node_below core m well lm) ∙ ap (λ (w : Option Letter). one_if (answers_to w n)) does.waiting in
               let free : one_if (answers_to (node_at core m).waiting n) ≡ 0 = ap (λ (w : Option Letter). one_if (answers_to w n)) does.free in
-              subst (λ (k : ℕ). length (lane_at (moved core m next place rest) (lane_place core.size.nodes Answers k n)) ≡ length (lane_at core (lane_place core.size.nodes Answers k n)) → owed (moved core m next place rest) n k ≡ owed core n k) here (λ same. (
+              subst (λ (k : ℕ). length (lane_at (moved core m next place rest) (lane_place core.size.nodes Answers k n)) ≡ length
+              (lane_at core (lane_place core.size.nodes Answers k n)) → owed (moved core m next place rest) n k ≡ owed core n k) here (λ same. (
               elim (cases_eq from n) [
                 | inl mine ↦
                     let there : lane_place core.size.nodes Requests n m ≡ place = ap (λ (k : ℕ). lane_place core.size.nodes Requests k m) (sym mine) in
@@ -164,18 +194,21 @@ owes_served core new m from n other taking well lm lf ln lo took answers =
                     let one = one_here letter.source n (source ∙ mine) in
                     omega arith
                 | inr apart ↦
-                    let r = long_else core m place (lane_place core.size.nodes Requests n m) next rest (λ e. apart (sym (same_sender core.size.nodes Requests n m from m ln lm lf lm e))) in
+                    let r = long_else core m place (lane_place core.size.nodes Requests n m) next rest
+                    (λ e. apart (sym (same_sender core.size.nodes Requests n m from m ln lm lf lm e))) in
                     let one = one_else letter.source n (λ e. apart (sym source ∙ e)) in
                     omega arith
               ])) a
           | inr apart ↦
               let w = waits_else core m n other place next rest apart in
-              let r = long_else core m place (lane_place core.size.nodes Requests n other) next rest (λ e. apart (sym (same_receiver core.size.nodes Requests n other from m lo lm e))) in
+              let r = long_else core m place (lane_place core.size.nodes Requests n other) next rest
+              (λ e. apart (sym (same_receiver core.size.nodes Requests n other from m lo lm e))) in
               omega arith
         ]
 
 -- the answer that waits is sent
-owes_replied : (core : Core) (m n other : ℕ) (next : NodeOf) (letter : Letter) → IsWellFormed core → m < core.size.nodes → n < core.size.nodes → other < core.size.nodes → letter.target < core.size.nodes
+owes_replied : (core : Core) (m n other : ℕ) (next : NodeOf) (letter : Letter) → IsWellFormed core → m < core.size.nodes → n < core.size.nodes
+    → other < core.size.nodes → letter.target < core.size.nodes
     → (node_at core m).waiting ≡ Some letter → next.waiting ≡ None → owed (sent_by core m Answers next letter) n other ≡ owed core n other
 owes_replied core m n other next letter well lm ln lo lt waited gone =
     let place = lane_place core.size.nodes Answers m letter.target in
@@ -185,9 +218,11 @@ owes_replied core m n other next letter well lm ln lo lt waited gone =
     let r = long_else core m place (lane_place core.size.nodes Requests n other) next lane (λ e. kinds_apart core.size.nodes n other m letter.target ln lo e) in
     elim (cases_eq m other) [
       | inl here ↦
-          let w : one_if (answers_to (node_at (moved core m next place lane) m).waiting n) ≡ 0 = waits_here core m n place next lane (node_below core m well lm) ∙ ap (λ (w : Option Letter). one_if (answers_to w n)) gone in
+          let w : one_if (answers_to (node_at (moved core m next place lane) m).waiting n) ≡ 0 =
+          waits_here core m n place next lane (node_below core m well lm) ∙ ap (λ (w : Option Letter). one_if (answers_to w n)) gone in
           let was : one_if (answers_to (node_at core m).waiting n) ≡ one_if (letter.target == n) = ap (λ (w : Option Letter). one_if (answers_to w n)) waited in
-          subst (λ (k : ℕ). length (lane_at (moved core m next place lane) (lane_place core.size.nodes Requests n k)) ≡ length (lane_at core (lane_place core.size.nodes Requests n k)) → owed (moved core m next place lane) n k ≡ owed core n k) here (λ same. (
+          subst (λ (k : ℕ). length (lane_at (moved core m next place lane) (lane_place core.size.nodes Requests n k)) ≡ length
+          (lane_at core (lane_place core.size.nodes Requests n k)) → owed (moved core m next place lane) n k ≡ owed core n k) here (λ same. (
           elim (cases_eq letter.target n) [
             | inl mine ↦
                 let there : lane_place core.size.nodes Answers m n ≡ place = ap (lane_place core.size.nodes Answers m) (sym mine) in
@@ -196,28 +231,33 @@ owes_replied core m n other next letter well lm ln lo lt waited gone =
                 let one = one_here letter.target n mine in
                 omega arith
             | inr apart ↦
-                let a = long_else core m place (lane_place core.size.nodes Answers m n) next lane (λ e. apart (sym (same_receiver core.size.nodes Answers m n m letter.target ln lt e))) in
+                let a = long_else core m place (lane_place core.size.nodes Answers m n) next lane
+                (λ e. apart (sym (same_receiver core.size.nodes Answers m n m letter.target ln lt e))) in
                 let one = one_else letter.target n apart in
                 omega arith
           ])) r
       | inr apart ↦
           let w = waits_else core m n other place next lane apart in
-          let a = long_else core m place (lane_place core.size.nodes Answers other n) next lane (λ e. apart (sym (same_sender core.size.nodes Answers other n m letter.target lo ln lm lt e))) in
+          let a = long_else core m place (lane_place core.size.nodes Answers other n) next lane
+          (λ e. apart (sym (same_sender core.size.nodes Answers other n m letter.target lo ln lm lt e))) in
           omega arith
     ]
 
 -- another node takes an answer
-owes_accepted_else : (core : Core) (m from n other : ℕ) (next : NodeOf) (rest : List Letter) → IsWellFormed core → m < core.size.nodes → from < core.size.nodes → n < core.size.nodes → other < core.size.nodes → next.waiting ≡ (node_at core m).waiting → m ≢ n
+owes_accepted_else : (core : Core) (m from n other : ℕ) (next : NodeOf) (rest : List Letter) → IsWellFormed core → m < core.size.nodes → from < core.size.nodes
+    → n < core.size.nodes → other < core.size.nodes → next.waiting ≡ (node_at core m).waiting → m ≢ n
     → owed (moved core m next (lane_place core.size.nodes Answers from m) rest) n other ≡ owed core n other
 owes_accepted_else core m from n other next rest well lm lf ln lo same apart =
     let place = lane_place core.size.nodes Answers from m in
     let w = waits_same core m n other place next rest (node_below core m well lm) same in
     let r = long_else core m place (lane_place core.size.nodes Requests n other) next rest (λ e. kinds_apart core.size.nodes n other from m ln lo e) in
-    let a = long_else core m place (lane_place core.size.nodes Answers other n) next rest (λ e. apart (sym (same_receiver core.size.nodes Answers other n from m ln lm e))) in
+    let a = long_else core m place (lane_place core.size.nodes Answers other n) next rest
+    (λ e. apart (sym (same_receiver core.size.nodes Answers other n from m ln lm e))) in
     omega arith
 
 -- the node itself takes one
-owes_accepted : (core : Core) (from n other : ℕ) (next : NodeOf) (letter : Letter) (rest : List Letter) → IsWellFormed core → from < core.size.nodes → n < core.size.nodes → other < core.size.nodes → next.waiting ≡ (node_at core n).waiting → lane_of core Answers from n ≡ letter ∷ rest
+owes_accepted : (core : Core) (from n other : ℕ) (next : NodeOf) (letter : Letter) (rest : List Letter) → IsWellFormed core → from < core.size.nodes
+    → n < core.size.nodes → other < core.size.nodes → next.waiting ≡ (node_at core n).waiting → lane_of core Answers from n ≡ letter ∷ rest
     → owed (moved core n next (lane_place core.size.nodes Answers from n) rest) n other + one_if (from == other) ≡ owed core n other
 owes_accepted core from n other next letter rest well lf ln lo same front =
     let place = lane_place core.size.nodes Answers from n in
@@ -232,7 +272,8 @@ owes_accepted core from n other next letter rest well lf ln lo same front =
           let one = one_here from other here in
           omega arith
       | inr apart ↦
-          let a = long_else core n place (lane_place core.size.nodes Answers other n) next rest (λ e. apart (sym (same_sender core.size.nodes Answers other n from n lo ln lf ln e))) in
+          let a = long_else core n place (lane_place core.size.nodes Answers other n) next rest
+          (λ e. apart (sym (same_sender core.size.nodes Answers other n from n lo ln lf ln e))) in
           let one = one_else from other apart in
           omega arith
     ]
@@ -248,18 +289,23 @@ abbrev pub adds_one : LaneKind → ℕ → ℕ → ℕ
 adds_one Requests to other = one_if (to == other)
 adds_one Answers to other = 0
 
-issued_owes : (core new : Core) (m n other : ℕ) (op : Op) → IsWellFormed core → stepping core (event.Issue m op) ≡ Some new → owed new n other ≡ owed core n other
+issued_owes : (core new : Core) (m n other : ℕ) (op : Op) → IsWellFormed core → stepping core (event.Issue m op) ≡ Some new
+    → owed new n other ≡ owed core n other
 issued_owes core new m n other op well steps =
     let lt = some_node core new (event.Issue m op) steps in
     let made = made_by (with_node core m) (node_issuing (node_at core m) op) new (sym ((steps_by_sides core m lt).issue op) ∙ steps) in
-    let stays = of_some (Stays core.size.nodes (node_at core m)) (node_issuing (node_at core m) op) made.0 made.1 (issue_stays core.size.nodes (node_at core m) op) in
+    let stays = of_some (Stays core.size.nodes (node_at core m)) (node_issuing (node_at core m) op) made.0 made.1
+    (issue_stays core.size.nodes (node_at core m) op) in
     ap (λ (c : Core). owed c n other) made.2 ∙ owes_changed core m n other made.0 (node_below core m well lt) stays.waiting
 
-performed_owes : (core new : Core) (m n other line : ℕ) → IsWellFormed core → stepping core (event.Perform m line) ≡ Some new → owed new n other ≡ owed core n other
+performed_owes : (core new : Core) (m n other line : ℕ) → IsWellFormed core → stepping core (event.Perform m line) ≡ Some new
+    → owed new n other ≡ owed core n other
 performed_owes core new m n other line well steps =
     let lt = some_node core new (event.Perform m line) steps in
-    let made = made_by (λ (done : NodeOf × Entry). with_node core m done.0) (node_performing (node_at core m) line) new (sym ((steps_by_sides core m lt).perform line) ∙ steps) in
-    let stays = of_some (λ (x : NodeOf × Entry). Stays core.size.nodes (node_at core m) x.0) (node_performing (node_at core m) line) made.0 made.1 (perform_stays core.size.nodes (node_at core m) line) in
+    let made = made_by (λ (done : NodeOf × Entry). with_node core m done.0) (node_performing (node_at core m) line) new
+    (sym ((steps_by_sides core m lt).perform line) ∙ steps) in
+    let stays = of_some (λ (x : NodeOf × Entry). Stays core.size.nodes (node_at core m) x.0) (node_performing (node_at core m) line) made.0 made.1
+    (perform_stays core.size.nodes (node_at core m) line) in
     ap (λ (c : Core). owed c n other) made.2 ∙ owes_changed core m n other made.0.0 (node_below core m well lt) stays.waiting
 
 -- what an Ask sends
@@ -276,29 +322,42 @@ asked : (core new : Core) (m line : ℕ) (kind : AskKind) → IsWellFormed core 
 asked core new m line kind well steps =
     let lt = some_node core new (event.Ask m line kind) steps in
     let part = node_at core m in
-    let made = made_by (λ (s : NodeOf × Letter). sent_by core m Requests s.0 s.1) (node_asking part line kind) new (sym ((steps_by_sides core m lt).ask line kind) ∙ steps) in
-    let sends = of_some (SendsWell core.size m) (node_asking part line kind) made.0 made.1 (part_asking core.size m part line kind well.sizes.some_node lt (well.each_part m lt)) in
-    let once = of_some (AsksOnce core.size.nodes line part) (node_asking part line kind) made.0 made.1 (ask_once core.size.nodes part line kind (well.each_part m lt).all ((well.each_part m lt).asks line)) in
+    let made = made_by (λ (s : NodeOf × Letter). sent_by core m Requests s.0 s.1) (node_asking part line kind) new
+    (sym ((steps_by_sides core m lt).ask line kind) ∙ steps) in
+    let sends = of_some (SendsWell core.size m) (node_asking part line kind) made.0 made.1
+    (part_asking core.size m part line kind well.sizes.some_node lt (well.each_part m lt)) in
+    let once = of_some (AsksOnce core.size.nodes line part) (node_asking part line kind) made.0 made.1
+    (ask_once core.size.nodes part line kind (well.each_part m lt).all ((well.each_part m lt).asks line)) in
     record { lt = lt; next = made.0.0; letter = made.0.1; asks = made.1; then_ = made.2; target = sends.request.letter_ok.target; waiting = once.waiting }
 
-served_owes : (core new : Core) (m from n other : ℕ) → IsWellFormed core → n < core.size.nodes → other < core.size.nodes → stepping core (event.Serve from m) ≡ Some new → owed new n other ≡ owed core n other
+served_owes : (core new : Core) (m from n other : ℕ) → IsWellFormed core → n < core.size.nodes → other < core.size.nodes
+    → stepping core (event.Serve from m) ≡ Some new → owed new n other ≡ owed core n other
 served_owes core new m from n other well ln lo steps =
     let lt = some_node core new (event.Serve from m) steps in
     let f = some_sender core new (event.Serve from m) Requests from (node_serving (node_at core m)) lt refl steps in
-    owes_served core new m from n other node_serving well lt f ln lo (took_along core new Requests m from node_serving (event.Serve from m) (lane_of core Requests from m) ((steps_by_sides core m lt).serve from f) refl steps) (λ letter. serve_answers core.size.nodes (node_at core m) letter)
+    owes_served core new m from n other node_serving well lt f ln lo
+    (took_along core new Requests m from node_serving (event.Serve from m) (lane_of core Requests from m) ((steps_by_sides core m lt).serve from f) refl
+    steps) (λ letter. serve_answers core.size.nodes (node_at core m) letter)
 
-refused_owes : (core new : Core) (m from n other : ℕ) → IsWellFormed core → n < core.size.nodes → other < core.size.nodes → stepping core (event.Refuse from m) ≡ Some new → owed new n other ≡ owed core n other
+refused_owes : (core new : Core) (m from n other : ℕ) → IsWellFormed core → n < core.size.nodes → other < core.size.nodes
+    → stepping core (event.Refuse from m) ≡ Some new → owed new n other ≡ owed core n other
 refused_owes core new m from n other well ln lo steps =
     let lt = some_node core new (event.Refuse from m) steps in
     let f = some_sender core new (event.Refuse from m) Requests from (node_refusing (node_at core m)) lt refl steps in
-    owes_served core new m from n other node_refusing well lt f ln lo (took_along core new Requests m from node_refusing (event.Refuse from m) (lane_of core Requests from m) ((steps_by_sides core m lt).refuse from f) refl steps) (λ letter. refuse_answers core.size.nodes (node_at core m) letter)
+    owes_served core new m from n other node_refusing well lt f ln lo
+    (took_along core new Requests m from node_refusing (event.Refuse from m) (lane_of core Requests from m) ((steps_by_sides core m lt).refuse from f) refl
+    steps) (λ letter. refuse_answers core.size.nodes (node_at core m) letter)
 
-replied_owes : (core new : Core) (m n other : ℕ) → IsWellFormed core → n < core.size.nodes → other < core.size.nodes → stepping core (event.Reply m) ≡ Some new → owed new n other ≡ owed core n other
+replied_owes : (core new : Core) (m n other : ℕ) → IsWellFormed core → n < core.size.nodes → other < core.size.nodes → stepping core (event.Reply m) ≡ Some new
+    → owed new n other ≡ owed core n other
 replied_owes core new m n other well ln lo steps =
     let lt = some_node core new (event.Reply m) steps in
-    let made = made_by (λ (s : NodeOf × Letter). sent_by core m Answers s.0 s.1) (node_replying (node_at core m)) new (sym (steps_by_sides core m lt).reply ∙ steps) in
-    let does = of_some (Replies core.size.nodes (node_at core m)) (node_replying (node_at core m)) made.0 made.1 (reply_replies core.size.nodes (node_at core m)) in
-    let answers = (of_some (λ (l : Letter). IsAnswerLetter core.size.nodes core.size.lines l × (l.source ≡ m)) (node_at core m).waiting made.0.1 does.waited (well.each_part m lt).answer).0 in
+    let made = made_by (λ (s : NodeOf × Letter). sent_by core m Answers s.0 s.1) (node_replying (node_at core m)) new
+    (sym (steps_by_sides core m lt).reply ∙ steps) in
+    let does = of_some (Replies core.size.nodes (node_at core m)) (node_replying (node_at core m)) made.0 made.1
+    (reply_replies core.size.nodes (node_at core m)) in
+    let answers = (of_some (λ (l : Letter). IsAnswerLetter core.size.nodes core.size.lines l × (l.source ≡ m)) (node_at core m).waiting made.0.1 does.waited
+    (well.each_part m lt).answer).0 in
     ap (λ (c : Core). owed c n other) made.2 ∙ owes_replied core m n other made.0.0 made.0.1 well lt ln lo answers.letter_ok.target does.waited does.gone
 
 -- an answer was accepted
@@ -312,11 +371,19 @@ accepted : (core new : Core) (m from : ℕ) → IsWellFormed core → stepping c
 accepted core new m from well steps =
     let lt = some_node core new (event.Accept from m) steps in
     let f = some_sender core new (event.Accept from m) Answers from (node_accepting (node_at core m)) lt refl steps in
-    let took = took_along core new Answers m from node_accepting (event.Accept from m) (lane_of core Answers from m) ((steps_by_sides core m lt).accept from f) refl steps in
-    record { lt = lt; sender = f; took = took; waiting = (of_some (Accepts took.letter.line (node_at core m)) (node_accepting (node_at core m) took.letter) took.next took.takes (accept_accepts (node_at core m) took.letter)).waiting }
+    let took = took_along core new Answers m from node_accepting (event.Accept from m) (lane_of core Answers from m) ((steps_by_sides core m lt).accept from f)
+    refl steps in
+    record {
+      lt = lt;
+      sender = f;
+      took = took;
+      waiting = (of_some (Accepts took.letter.line (node_at core m)) (node_accepting (node_at core m) took.letter) took.next took.takes
+          (accept_accepts (node_at core m) took.letter)).waiting;
+    }
 
 -- an event of another node leaves what is owed
-pub other_owes : (core new : Core) (e : Event) (n other : ℕ) → IsWellFormed core → n < core.size.nodes → other < core.size.nodes → node_of e ≢ n → stepping core e ≡ Some new → owed new n other ≡ owed core n other
+pub other_owes : (core new : Core) (e : Event) (n other : ℕ) → IsWellFormed core → n < core.size.nodes → other < core.size.nodes → node_of e ≢ n
+    → stepping core e ≡ Some new → owed new n other ≡ owed core n other
 other_owes core new (event.Issue m op) n other well ln lo apart steps = issued_owes core new m n other op well steps
 other_owes core new (event.Perform m line) n other well ln lo apart steps = performed_owes core new m n other line well steps
 other_owes core new (event.Ask m line kind) n other well ln lo apart steps =
@@ -330,11 +397,13 @@ other_owes core new (event.Accept from m) n other well ln lo apart steps =
     ap (λ (c : Core). owed c n other) a.took.then_ ∙ owes_accepted_else core m from n other a.took.next a.took.rest well a.lt a.sender ln lo a.waiting apart
 
 -- others' events leave it
-pub others_owe : (n other : ℕ) (old : Core) (others : List Event) (new : Core) → IsWellFormed old → n < old.size.nodes → other < old.size.nodes → OthersLead n old others new → owed new n other ≡ owed old n other
+pub others_owe : (n other : ℕ) (old : Core) (others : List Event) (new : Core) → IsWellFormed old → n < old.size.nodes → other < old.size.nodes
+    → OthersLead n old others new → owed new n other ≡ owed old n other
 others_owe n other old [] new well ln lo lead = ap (λ (c : Core). owed c n other) (sym lead)
 others_owe n other old (e ∷ others) new well ln lo lead =
     let next = of_some (StepsWell old) (stepping old e) lead.0 lead.1 (stepping_well old e well) in
-    others_owe n other lead.0 others new next.well (subst (λ (z : Size). n < z.nodes) (sym next.same) ln) (subst (λ (z : Size). other < z.nodes) (sym next.same) lo) lead.3
+    others_owe n other lead.0 others new next.well (subst (λ (z : Size). n < z.nodes) (sym next.same) ln)
+    (subst (λ (z : Size). other < z.nodes) (sym next.same) lo) lead.3
     ∙ other_owes old lead.0 e n other well ln lo lead.2 lead.1
 
 -- ---- the node's own
@@ -351,15 +420,18 @@ performs_none : {T : Type 0} (o : Option (NodeOf × Entry)) (kind : LaneKind) (n
 performs_none None kind next letter e = cc
 performs_none (Some x) kind next letter e = cc
 
-pub performs_nothing : {T : Type 0} (o : Option (NodeOf × Entry)) (kind : LaneKind) (from : ℕ) (taking : Letter → Option NodeOf) → performs o ≡ Takes kind from taking → T
+pub performs_nothing : {T : Type 0} (o : Option (NodeOf × Entry)) (kind : LaneKind) (from : ℕ) (taking : Letter → Option NodeOf)
+    → performs o ≡ Takes kind from taking → T
 performs_nothing None kind from taking e = cc
 performs_nothing (Some x) kind from taking e = cc
 
-pub sends_nothing : {T : Type 0} (k : LaneKind) (o : Option (NodeOf × Letter)) (kind : LaneKind) (from : ℕ) (taking : Letter → Option NodeOf) → sends k o ≡ Takes kind from taking → T
+pub sends_nothing : {T : Type 0} (k : LaneKind) (o : Option (NodeOf × Letter)) (kind : LaneKind) (from : ℕ) (taking : Letter → Option NodeOf)
+    → sends k o ≡ Takes kind from taking → T
 sends_nothing k None kind from taking e = cc
 sends_nothing k (Some x) kind from taking e = cc
 
-sends_what : (k : LaneKind) (o : Option (NodeOf × Letter)) (kind : LaneKind) (next : NodeOf) (letter : Letter) → sends k o ≡ Sends kind next letter → (k ≡ kind) × (o ≡ Some (next, letter))
+sends_what : (k : LaneKind) (o : Option (NodeOf × Letter)) (kind : LaneKind) (next : NodeOf) (letter : Letter) → sends k o ≡ Sends kind next letter
+    → (k ≡ kind) × (o ≡ Some (next, letter))
 sends_what k None kind next letter e = cc
 sends_what k (Some x) kind next letter e = (cc, sent_by_same x next letter (let node : x.0 ≡ next = cc in node) (let packet : x.1 ≡ letter = cc in packet))
   where
@@ -370,7 +442,8 @@ pub takes_what : (k kind : LaneKind) (f from : ℕ) (t taking : Letter → Optio
 takes_what k kind f from t taking e = (cc, cc)
 
 -- it sends a packet: a request adds one at its target
-pub sent_owes : (core new : Core) (e : Event) (other : ℕ) (kind : LaneKind) (next : NodeOf) (letter : Letter) → IsWellFormed core → other < core.size.nodes → side (node_at core (node_of e)) e ≡ Sends kind next letter → stepping core e ≡ Some new
+pub sent_owes : (core new : Core) (e : Event) (other : ℕ) (kind : LaneKind) (next : NodeOf) (letter : Letter) → IsWellFormed core → other < core.size.nodes
+    → side (node_at core (node_of e)) e ≡ Sends kind next letter → stepping core e ≡ Some new
     → owed new (node_of e) other ≡ owed core (node_of e) other + adds_one kind letter.target other
 sent_owes core new (event.Issue m op) other kind next letter well lo is steps = changes_none _ kind next letter is
 sent_owes core new (event.Perform m line) other kind next letter well lo is steps = performs_none _ kind next letter is
@@ -379,7 +452,8 @@ sent_owes core new (event.Ask m line ask) other kind next letter well lo is step
     let what = sends_what Requests (node_asking (node_at core m) line ask) kind next letter is in
     let same : a.letter ≡ letter = second_same _ (a.next, a.letter) (next, letter) a.asks what.1 in
     let one = ap (λ (c : Core). owed c m other) a.then_ ∙ owes_asked core m other a.next a.letter well a.lt lo a.target a.waiting in
-    subst (λ (k : LaneKind). owed new m other ≡ owed core m other + adds_one k letter.target other) what.0 (one ∙ ap (λ (l : Letter). owed core m other + one_if (l.target == other)) same)
+    subst (λ (k : LaneKind). owed new m other ≡ owed core m other + adds_one k letter.target other) what.0
+    (one ∙ ap (λ (l : Letter). owed core m other + one_if (l.target == other)) same)
   where
     second_same : (o : Option (NodeOf × Letter)) (p q : NodeOf × Letter) → o ≡ Some p → o ≡ Some q → p.1 ≡ q.1
     second_same o p q one two = let both : Some p ≡ Some q = sym one ∙ two in cc
@@ -392,7 +466,8 @@ sent_owes core new (event.Reply m) other kind next letter well lo is steps =
 sent_owes core new (event.Accept from m) other kind next letter well lo is steps = cc
 
 -- it takes a packet: an answer takes one from its sender
-pub taken_owes : (core new : Core) (e : Event) (from other : ℕ) (kind : LaneKind) (taking : Letter → Option NodeOf) → IsWellFormed core → other < core.size.nodes → side (node_at core (node_of e)) e ≡ Takes kind from taking → stepping core e ≡ Some new
+pub taken_owes : (core new : Core) (e : Event) (from other : ℕ) (kind : LaneKind) (taking : Letter → Option NodeOf) → IsWellFormed core
+    → other < core.size.nodes → side (node_at core (node_of e)) e ≡ Takes kind from taking → stepping core e ≡ Some new
     → owed new (node_of e) other + takes_one kind from other ≡ owed core (node_of e) other
 taken_owes core new (event.Issue m op) from other kind taking well lo is steps = changes_nothing _ kind from taking is
 taken_owes core new (event.Perform m line) from other kind taking well lo is steps = performs_nothing _ kind from taking is
@@ -410,11 +485,14 @@ taken_owes core new (event.Accept f m) from other kind taking well lo is steps =
     let what = takes_what Answers kind f from (node_accepting (node_at core m)) taking is in
     let a = accepted core new m f well steps in
     let one = owes_accepted core f m other a.took.next a.took.letter a.took.rest well a.sender a.lt lo a.waiting a.took.front in
-    let then_ : owed new m other ≡ owed (moved core m a.took.next (lane_place core.size.nodes Answers f m) a.took.rest) m other = ap (λ (c : Core). owed c m other) a.took.then_ in
-    subst (λ (k : LaneKind). owed new m other + takes_one k from other ≡ owed core m other) what.0 (subst (λ (j : ℕ). owed new m other + one_if (j == other) ≡ owed core m other) what.1 (omega arith))
+    let then_ : owed new m other ≡ owed (moved core m a.took.next (lane_place core.size.nodes Answers f m) a.took.rest) m other =
+    ap (λ (c : Core). owed c m other) a.took.then_ in
+    subst (λ (k : LaneKind). owed new m other + takes_one k from other ≡ owed core m other) what.0
+    (subst (λ (j : ℕ). owed new m other + one_if (j == other) ≡ owed core m other) what.1 (omega arith))
 
 -- it changes alone, by an Issue or a Perform
-pub changed_owes : (core new : Core) (e : Event) (other : ℕ) (next : NodeOf) → IsWellFormed core → side (node_at core (node_of e)) e ≡ Changes next → stepping core e ≡ Some new → owed new (node_of e) other ≡ owed core (node_of e) other
+pub changed_owes : (core new : Core) (e : Event) (other : ℕ) (next : NodeOf) → IsWellFormed core → side (node_at core (node_of e)) e ≡ Changes next
+    → stepping core e ≡ Some new → owed new (node_of e) other ≡ owed core (node_of e) other
 changed_owes core new (event.Issue m op) other next well is steps = issued_owes core new m m other op well steps
 changed_owes core new (event.Perform m line) other next well is steps = performed_owes core new m m other line well steps
 changed_owes core new (event.Ask m line ask) other next well is steps = sends_change Requests _ next is

@@ -28,7 +28,9 @@ own_seen n more others apart = own_join n more others ∙ (ap (λ (es : List Eve
 pub own_known : (part : Part) (schedule : List Event) → IsSeen part schedule → own_of (me_of part) schedule ≡ own_of (me_of part) part.schedule
 own_known part schedule seen = ap (own_of (me_of part)) seen.further ∙ own_seen (me_of part) part.schedule seen.others seen.apart
 
-pub own_added : (part : Part) (e : Event) (schedule : List Event) → node_of e ≡ me_of part → IsMade part e schedule → own_of (me_of part) schedule ≡ own_of (me_of part) part.schedule ++ e ∷ []
+pub own_added : (part : Part) (e : Event) (schedule : List Event) → node_of e ≡ me_of part → IsMade part e schedule
+    → own_of (me_of part) schedule ≡ own_of (me_of part) part.schedule ++ e ∷ []
 own_added part e schedule own made =
     let n = me_of part in
-    ap (own_of n) made.further ∙ (own_join n (part.schedule ++ made.others) (e ∷ []) ∙ (λ i. own_seen n part.schedule made.others made.apart i ++ own_one n e own i))
+    ap (own_of n) made.further ∙ (own_join n (part.schedule ++ made.others) (e ∷ [])
+    ∙ (λ i. own_seen n part.schedule made.others made.apart i ++ own_one n e own i))

@@ -62,19 +62,25 @@ pub still_sends : (old new : EndOf) (cell : CellId) → IsStill old new → IsNe
 still_sends old new cell still next = record {
   mine = next.mine ∙ ap (λ (n : NodeOf). n.cache.me) (sym still.node);
   other = subst (λ (n : NodeOf). cell.receiver < n.cache.nodes) (sym still.node) next.other;
-  next = next.next ∙ (ap (λ (k : ℕ). k % 4) (sym (still.sent (lane_at_cell old.part cell))) ∙ ap (λ (n : NodeOf). (outbound_at new.part (lane_at_cell (record { node = n; schedule = []; outbound = []; inbound = [] }) cell)).sent % 4) (sym still.node));
+  next = next.next ∙ (ap (λ (k : ℕ). k % 4) (sym (still.sent (lane_at_cell old.part cell)))
+      ∙ ap (λ (n : NodeOf). (outbound_at new.part (lane_at_cell (record { node = n; schedule = []; outbound = []; inbound = [] }) cell)).sent % 4)
+      (sym still.node));
 }
 
 pub still_takes : (old new : EndOf) (cell : CellId) → IsStill old new → IsNextToTake old.part cell → IsNextToTake new.part cell
 still_takes old new cell still next = record {
   mine = next.mine ∙ ap (λ (n : NodeOf). n.cache.me) (sym still.node);
   other = subst (λ (n : NodeOf). cell.sender < n.cache.nodes) (sym still.node) next.other;
-  next = next.next ∙ (ap (λ (k : ℕ). k % 4) (sym (still.taken (lane_at_cell old.part cell))) ∙ ap (λ (n : NodeOf). (inbound_at new.part (lane_at_cell (record { node = n; schedule = []; outbound = []; inbound = [] }) cell)).taken % 4) (sym still.node));
+  next = next.next ∙ (ap (λ (k : ℕ). k % 4) (sym (still.taken (lane_at_cell old.part cell)))
+      ∙ ap (λ (n : NodeOf). (inbound_at new.part (lane_at_cell (record { node = n; schedule = []; outbound = []; inbound = [] }) cell)).taken % 4)
+      (sym still.node));
 }
 
 -- ---- steps that are no event
 
-known_still : (end new : EndOf) (lane : ℕ) (o : Outbound) (i : Inbound) → o.sent ≡ (outbound_at end.part lane).sent → i.taken ≡ (inbound_at end.part lane).taken → IsSeen end.part new.part.schedule → new ≡ informed_at new.part.schedule (with_part end (with_lane_known lane end.part.node o i end.part)) → IsStill end new
+known_still : (end new : EndOf) (lane : ℕ) (o : Outbound) (i : Inbound) → o.sent ≡ (outbound_at end.part lane).sent → i.taken ≡ (inbound_at end.part lane).taken
+    → IsSeen end.part new.part.schedule → new ≡ informed_at new.part.schedule (with_part end (with_lane_known lane end.part.node o i end.part))
+    → IsStill end new
 known_still end new lane o i sent taken seen is = subst (IsStill end) (sym is) (record {
   table = refl;
   node = refl;
@@ -83,17 +89,24 @@ known_still end new lane o i sent taken seen is = subst (IsStill end) (sym is) (
   taken = at_place_set (λ (k : ℕ) (x : Inbound). x.taken ≡ (inbound_at end.part k).taken) end.part.inbound lane i no_inbound (λ k. refl) taken;
 })
 
-pub fill_still : (end new : EndOf) (cell : CellId) (index word : ℕ) → IsSeen end.part new.part.schedule → new ≡ informed_at new.part.schedule (filled_at cell index word end) → IsStill end new
-fill_still end new cell index word seen is = known_still end new (lane_at_cell end.part cell) (filled_out index word (outbound_at end.part (lane_at_cell end.part cell))) (inbound_at end.part (lane_at_cell end.part cell)) refl refl seen is
+pub fill_still : (end new : EndOf) (cell : CellId) (index word : ℕ) → IsSeen end.part new.part.schedule
+    → new ≡ informed_at new.part.schedule (filled_at cell index word end) → IsStill end new
+fill_still end new cell index word seen is =
+    known_still end new (lane_at_cell end.part cell) (filled_out index word (outbound_at end.part (lane_at_cell end.part cell)))
+    (inbound_at end.part (lane_at_cell end.part cell)) refl refl seen is
 
-pub read_still : (end new : EndOf) (cell : CellId) (index word : ℕ) → IsSeen end.part new.part.schedule → new ≡ informed_at new.part.schedule (read_at cell index word end) → IsStill end new
-read_still end new cell index word seen is = known_still end new (lane_at_cell end.part cell) (outbound_at end.part (lane_at_cell end.part cell)) (read_in index word (inbound_at end.part (lane_at_cell end.part cell))) refl refl seen is
+pub read_still : (end new : EndOf) (cell : CellId) (index word : ℕ) → IsSeen end.part new.part.schedule
+    → new ≡ informed_at new.part.schedule (read_at cell index word end) → IsStill end new
+read_still end new cell index word seen is =
+    known_still end new (lane_at_cell end.part cell) (outbound_at end.part (lane_at_cell end.part cell))
+    (read_in index word (inbound_at end.part (lane_at_cell end.part cell))) refl refl seen is
 
 if_same : {A : Type 0} (f : A → ℕ) (b : Bool) (x y : A) (n : ℕ) → f x ≡ n → f y ≡ n → f (if b then x else y) ≡ n
 if_same f true x y n h k = h
 if_same f false x y n h k = k
 
-pub look_still : (end new : EndOf) (cell : CellId) (word : ℕ) → IsSeen end.part new.part.schedule → new ≡ informed_at new.part.schedule (looked_at cell word end) → IsStill end new
+pub look_still : (end new : EndOf) (cell : CellId) (word : ℕ) → IsSeen end.part new.part.schedule
+    → new ≡ informed_at new.part.schedule (looked_at cell word end) → IsStill end new
 look_still end new cell word seen is =
     let lane = lane_at_cell end.part cell in
     known_still end new lane
@@ -109,7 +122,8 @@ look_still end new cell word seen is =
 pub next_same : (part : Part) (a b : CellId) → IsNextToTake part a → IsNextToTake part b → a.kind ≡ b.kind → a.sender ≡ b.sender → a ≡ b
 next_same part a b one two kind sender =
     let receiver : a.receiver ≡ b.receiver = one.mine ∙ sym two.mine in
-    let lane : lane_at_cell part a ≡ lane_at_cell part b = (λ i. lane_at_cell part (record { kind = kind i; sender = sender i; receiver = receiver i; number = 0 })) in
+    let lane : lane_at_cell part a ≡ lane_at_cell part b =
+    (λ i. lane_at_cell part (record { kind = kind i; sender = sender i; receiver = receiver i; number = 0 })) in
     let number : a.number ≡ b.number = one.next ∙ (ap (λ (l : ℕ). (inbound_at part l).taken % 4) lane ∙ sym two.next) in
     λ i. record { kind = kind i; sender = sender i; receiver = receiver i; number = number i }
 
@@ -122,17 +136,27 @@ lane_still old new cell still = ap (λ (n : NodeOf). lane_number n.cache.nodes c
 pub others_then : (lane : ℕ) (old mid new : Part) → LeavesOthers lane old mid → LeavesOthers lane mid new → LeavesOthers lane old new
 others_then lane old mid new one two other apart = two other apart ∙ one other apart
 
-pub look_others : (end new : EndOf) (cell : CellId) (word : ℕ) → new ≡ informed_at new.part.schedule (looked_at cell word end) → LeavesOthers (lane_at_cell end.part cell) end.part new.part
-look_others end new cell word is other apart = ap (λ (e : EndOf). inbound_at e.part other) is ∙ get_or-set_other end.part.inbound (lane_at_cell end.part cell) other _ no_inbound apart
+pub look_others : (end new : EndOf) (cell : CellId) (word : ℕ) → new ≡ informed_at new.part.schedule (looked_at cell word end)
+    → LeavesOthers (lane_at_cell end.part cell) end.part new.part
+look_others end new cell word is other apart =
+    ap (λ (e : EndOf). inbound_at e.part other) is ∙ get_or-set_other end.part.inbound (lane_at_cell end.part cell) other _ no_inbound apart
 
-pub fill_others : (end new : EndOf) (cell : CellId) (index word : ℕ) → new ≡ informed_at new.part.schedule (filled_at cell index word end) → LeavesOthers (lane_at_cell end.part cell) end.part new.part
-fill_others end new cell index word is other apart = ap (λ (e : EndOf). inbound_at e.part other) is ∙ get_or-set_other end.part.inbound (lane_at_cell end.part cell) other _ no_inbound apart
+pub fill_others : (end new : EndOf) (cell : CellId) (index word : ℕ) → new ≡ informed_at new.part.schedule (filled_at cell index word end)
+    → LeavesOthers (lane_at_cell end.part cell) end.part new.part
+fill_others end new cell index word is other apart =
+    ap (λ (e : EndOf). inbound_at e.part other) is ∙ get_or-set_other end.part.inbound (lane_at_cell end.part cell) other _ no_inbound apart
 
-pub read_others : (end new : EndOf) (cell : CellId) (index word : ℕ) → new ≡ informed_at new.part.schedule (read_at cell index word end) → LeavesOthers (lane_at_cell end.part cell) end.part new.part
-read_others end new cell index word is other apart = ap (λ (e : EndOf). inbound_at e.part other) is ∙ get_or-set_other end.part.inbound (lane_at_cell end.part cell) other _ no_inbound apart
+pub read_others : (end new : EndOf) (cell : CellId) (index word : ℕ) → new ≡ informed_at new.part.schedule (read_at cell index word end)
+    → LeavesOthers (lane_at_cell end.part cell) end.part new.part
+read_others end new cell index word is other apart =
+    ap (λ (e : EndOf). inbound_at e.part other) is ∙ get_or-set_other end.part.inbound (lane_at_cell end.part cell) other _ no_inbound apart
 
-pub publish_others : (end new : EndOf) (cell : CellId) (node : NodeOf) → new ≡ informed_at new.part.schedule (published_at cell node end) → LeavesOthers (lane_at_cell end.part cell) end.part new.part
-publish_others end new cell node is other apart = ap (λ (e : EndOf). inbound_at e.part other) is ∙ get_or-set_other end.part.inbound (lane_at_cell end.part cell) other _ no_inbound apart
+pub publish_others : (end new : EndOf) (cell : CellId) (node : NodeOf) → new ≡ informed_at new.part.schedule (published_at cell node end)
+    → LeavesOthers (lane_at_cell end.part cell) end.part new.part
+publish_others end new cell node is other apart =
+    ap (λ (e : EndOf). inbound_at e.part other) is ∙ get_or-set_other end.part.inbound (lane_at_cell end.part cell) other _ no_inbound apart
 
-pub free_others : (end new : EndOf) (cell : CellId) (node : NodeOf) → new ≡ informed_at new.part.schedule (freed_at cell node end) → LeavesOthers (lane_at_cell end.part cell) end.part new.part
-free_others end new cell node is other apart = ap (λ (e : EndOf). inbound_at e.part other) is ∙ get_or-set_other end.part.inbound (lane_at_cell end.part cell) other _ no_inbound apart
+pub free_others : (end new : EndOf) (cell : CellId) (node : NodeOf) → new ≡ informed_at new.part.schedule (freed_at cell node end)
+    → LeavesOthers (lane_at_cell end.part cell) end.part new.part
+free_others end new cell node is other apart =
+    ap (λ (e : EndOf). inbound_at e.part other) is ∙ get_or-set_other end.part.inbound (lane_at_cell end.part cell) other _ no_inbound apart

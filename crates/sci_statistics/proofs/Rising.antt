@@ -29,7 +29,8 @@ at_most_one : (t : Bool) → cond t 1 0 ≤ 1
 at_most_one true = omega arith
 at_most_one false = omega arith
 
-counted : (test : Passage → Bool) (passages : List Passage) (i : ℕ) (d : Passage) (n one : ℕ) → i < length passages → one ≡ cond (test (get_or passages i d)) 1 0 → n ≡ count_by test (take i passages) → n + one ≡ count_by test (take (i + 1) passages)
+counted : (test : Passage → Bool) (passages : List Passage) (i : ℕ) (d : Passage) (n one : ℕ) → i < length passages
+    → one ≡ cond (test (get_or passages i d)) 1 0 → n ≡ count_by test (take i passages) → n + one ≡ count_by test (take (i + 1) passages)
 counted test passages i d n one lt is was =
     ap (λ m. m + one) was ∙ (ap (λ m. count_by test (take i passages) + m) is ∙ sym (sum_by_more (λ x. cond (test x) 1 0) passages i d lt))
 
@@ -39,14 +40,17 @@ flagged number true test is same = is ∙ ap (λ (t : Bool). cond t 1 0) same
 flagged number false test is same = is ∙ ap (λ (t : Bool). cond t 1 0) same
 
 -- one event more
-pub rises_more : (level : Level) (passages : List Passage) (i : ℕ) (d : Passage) (begun ended greatest total up down there next : ℕ) → i < length passages → length passages ≤ 500000
-    → up ≡ cond (begins level (get_or passages i d)) 1 0 → down ≡ cond (ends level (get_or passages i d)) 1 0 → there ≡ (begun + up) - (ended + down) → next ≡ max greatest there
+pub rises_more : (level : Level) (passages : List Passage) (i : ℕ) (d : Passage) (begun ended greatest total up down there next : ℕ) → i < length passages
+    → length passages ≤ 500000
+    → up ≡ cond (begins level (get_or passages i d)) 1 0 → down ≡ cond (ends level (get_or passages i d)) 1 0 → there ≡ (begun + up) - (ended + down)
+    → next ≡ max greatest there
     → HasRisen level passages i begun ended greatest total → HasRisen level passages (i + 1) (begun + up) (ended + down) next (total + there)
 rises_more level passages i d begun ended greatest total up down there next lt few up_is down_is there_is next_is was =
     let f = level_at level passages in
     let begun_more = counted (begins level) passages i d begun up lt up_is was.begun_is in
     let ended_more = counted (ends level) passages i d ended down lt down_is was.ended_is in
-    let level_is : there ≡ f (i + 1) = there_is ∙ (ap (λ n. n - (ended + down)) begun_more ∙ ap (λ n. count_by (begins level) (take (i + 1) passages) - n) ended_more) in
+    let level_is : there ≡ f (i + 1) =
+    there_is ∙ (ap (λ n. n - (ended + down)) begun_more ∙ ap (λ n. count_by (begins level) (take (i + 1) passages) - n) ended_more) in
     let one_up : up ≤ 1 = rw up_is (at_most_one (begins level (get_or passages i d))) in
     let one_down : down ≤ 1 = rw down_is (at_most_one (ends level (get_or passages i d))) in
     let few_begun = was.few_begun in
@@ -54,7 +58,8 @@ rises_more level passages i d begun ended greatest total up down there next lt f
     let small = was.small in record {
       begun_is = begun_more;
       ended_is = ended_more;
-      greatest_is = next_is ∙ (ap (λ n. max n there) was.greatest_is ∙ (ap (λ n. max (fold max 0 (map f (range_with_len 1 i))) n) level_is ∙ sym (greatest_more f i)));
+      greatest_is = next_is ∙ (ap (λ n. max n there) was.greatest_is
+          ∙ (ap (λ n. max (fold max 0 (map f (range_with_len 1 i))) n) level_is ∙ sym (greatest_more f i)));
       total_is = ap (λ n. n + there) was.total_is ∙ (ap (λ n. sum (map f (range_with_len 1 i)) + n) level_is ∙ sym (total_more f i));
       few_begun = omega (arith, few_begun, one_up);
       few_ended = omega (arith, few_ended, one_down);

@@ -1,7 +1,8 @@
 -- The figures of a schedule: each is a count of passages that meet a test, or a sum over passages.
 use Rattle.std.specs.Prelude.{ℕ, ◌-◌, true, false, not, List, filter, count_by, length}
 use Rattle.std.specs.List.{sum_by}
-use Rattle.sci_statistics.specs.declared.command.Command.TheVariants.{Mread, Cread, Purge, Roll, Wback, Setback, Fread, Claim, Clear, Mdata, Mgone, Cdata, Purged, Rolled, Wbok, Wbno, Told, Busy, Fdata}
+use Rattle.sci_statistics.specs.declared.command.Command.TheVariants.{Mread, Cread, Purge, Roll, Wback, Setback, Fread, Claim, Clear, Mdata, Mgone, Cdata}
+use Rattle.sci_statistics.specs.declared.command.Command.TheVariants.{Purged, Rolled, Wbok, Wbno, Told, Busy, Fdata}
 use Rattle.sci_statistics.specs.declared.kind.Access.TheVariants.{Load, Maker}
 use Rattle.sci_statistics.specs.declared.kind.EventKind.{EventKind}
 use Rattle.sci_statistics.specs.declared.kind.EventKind.TheVariants.{Issue, Perform, Ask, Serve, Refuse, Reply, Accept}

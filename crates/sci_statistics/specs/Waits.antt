@@ -1,5 +1,6 @@
 -- How many events pass between the Issue of an operation and its Perform.
-use Rattle.std.specs.Prelude.{ℕ, true, ◌&&◌, not, Option, Some, None, if◌then◌else◌, List, filter, length, map, max, min, option_map, reverse, slice_get, sum, take}
+use Rattle.std.specs.Prelude.{ℕ, true, ◌&&◌, not, Option, Some, None, if◌then◌else◌, List, filter, length, map, max, min, option_map, reverse, slice_get, sum}
+use Rattle.std.specs.Prelude.{take}
 use Rattle.std.specs.List.{filter_map, prefix_len, range_with_len, reduce}
 use Rattle.std.specs.Option.{unwrap_or}
 use Rattle.sci_statistics.specs.declared.kind.Access.{Access}

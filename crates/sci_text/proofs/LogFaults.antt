@@ -1,5 +1,6 @@
 -- The faults of a log's lines, from what was read of them.
-use Rattle.std.proofs.Common.{◌≡◌, ℕ, ◌+◌, ◌^◌, ◌<◌, ◌≤◌, List, [], ◌∷◌, ◌++◌, length, Option, Some, None, refl, sym, ap, subst, ◌∙◌, append_assoc, arith, inl, inr, ◌⊎◌}
+use Rattle.std.proofs.Common.{◌≡◌, ℕ, ◌+◌, ◌^◌, ◌<◌, ◌≤◌, List, [], ◌∷◌, ◌++◌, length, Option, Some, None, refl, sym, ap, subst, ◌∙◌, append_assoc, arith, inl}
+use Rattle.std.proofs.Common.{inr, ◌⊎◌}
 use Rattle.std.specs.Prelude.{codes, true, false}
 use Rattle.std.specs.Option.{is_some}
 use denote.Ref.{Bor}
@@ -25,7 +26,8 @@ use Rattle.sci_text.proofs.Numbers.{fitting_below, Ends, number_again, ends_fiel
 use Rattle.sci_text.proofs.Words.{after_again, after_found}
 use Rattle.sci_text.proofs.ScriptFaults.{fitting_some}
 use Rattle.sci_text.proofs.LineLengths.{line_short, line_long}
-use Rattle.sci_text.proofs.LogReads.{SizeSaid, log_line_again, log_line_found, LastSaid, last_line_again, last_line_found, EntrySaid, EntryReads, entry_line_again, entry_line_found}
+use Rattle.sci_text.proofs.LogReads.{SizeSaid, log_line_again, log_line_found, LastSaid, last_line_again, last_line_found, EntrySaid, EntryReads}
+use Rattle.sci_text.proofs.LogReads.{entry_line_again, entry_line_found}
 
 -- ---- the line of the size
 
@@ -40,9 +42,13 @@ pub begins_not : (bytes : List ℕ) → after (codes "log ") bytes ≡ None → 
 begins_not bytes e h = none-some h.0 (sym e ∙ (ap (after (codes "log ")) h.1 ∙ after_again (codes "log ") h.0))
 
 pub size_none : (bytes : List ℕ) → (after (codes "log ") bytes ≡ None → ⊥) → log_line_read bytes ≡ None → SizeFault bytes Syntax
-size_none bytes begins e = (begins_found bytes (after (codes "log ") bytes) refl begins, λ size says. none-some ((fitting size.0, fitting size.1), says.rest) (sym e ∙ said_size bytes size.0 size.1 says))
+size_none bytes begins e = (
+  begins_found bytes (after (codes "log ") bytes) refl begins,
+  λ size says. none-some ((fitting size.0, fitting size.1), says.rest) (sym e ∙ said_size bytes size.0 size.1 says),
+)
 
-pub size_long : (bytes : List ℕ) (sizes : SizeSaid) (rest : List ℕ) → (after (codes "log ") bytes ≡ None → ⊥) → log_line_read bytes ≡ Some (sizes, rest) → length rest + MAX_TEXT_LINE_BYTES + 1 < length bytes → SizeFault bytes Syntax
+pub size_long : (bytes : List ℕ) (sizes : SizeSaid) (rest : List ℕ) → (after (codes "log ") bytes ≡ None → ⊥) → log_line_read bytes ≡ Some (sizes, rest)
+    → length rest + MAX_TEXT_LINE_BYTES + 1 < length bytes → SizeFault bytes Syntax
 size_long bytes sizes rest begins e long = (
   begins_found bytes (after (codes "log ") bytes) refl begins,
   λ size says.
@@ -51,7 +57,8 @@ size_long bytes sizes rest begins e long = (
       line_long bytes line rest (says.parts ∙ ap (λ (l : List ℕ). line ++ l) same.1) long says.short,
 )
 
-pub size_range : (bytes : List ℕ) (a b : Option ℕ) (rest : List ℕ) → (after (codes "log ") bytes ≡ None → ⊥) → log_line_read bytes ≡ Some ((a, b), rest) → length bytes ≤ length rest + MAX_TEXT_LINE_BYTES + 1
+pub size_range : (bytes : List ℕ) (a b : Option ℕ) (rest : List ℕ) → (after (codes "log ") bytes ≡ None → ⊥) → log_line_read bytes ≡ Some ((a, b), rest)
+    → length bytes ≤ length rest + MAX_TEXT_LINE_BYTES + 1
     → ((n m : ℕ) → a ≡ Some n → b ≡ Some m → IsSize n m → ⊥) → SizeFault bytes Range
 size_range bytes a b rest begins e short outside =
     let f = log_line_found bytes a b rest e in (
@@ -63,7 +70,8 @@ size_range bytes a b rest begins e short outside =
       ),
     )
 
-pub size_ok : (bytes : List ℕ) (a b : Option ℕ) (rest : List ℕ) (n m : ℕ) → log_line_read bytes ≡ Some ((a, b), rest) → a ≡ Some n → b ≡ Some m → bytes ≡ log_line n m ++ rest
+pub size_ok : (bytes : List ℕ) (a b : Option ℕ) (rest : List ℕ) (n m : ℕ) → log_line_read bytes ≡ Some ((a, b), rest) → a ≡ Some n → b ≡ Some m
+    → bytes ≡ log_line n m ++ rest
 size_ok bytes a b rest n m e an bm =
     let f = log_line_found bytes a b rest e in
     let en : f.0 ≡ n = fitting_some f.0 n (sym f.3 ∙ an) in
@@ -95,25 +103,31 @@ neither front bytes no_last no_entry = says_nothing
 
 -- ---- `last` lines
 
-last_said : (bytes : List ℕ) (l : Option ℕ) (o : Option Stamped) (rest : List ℕ) (line : ℕ) (stamped : Stamped) → last_line_read bytes ≡ Some ((l, o), rest) → length stamped.line ≡ WORDS_PER_LINE → (says : Says bytes (last_line line stamped))
+last_said : (bytes : List ℕ) (l : Option ℕ) (o : Option Stamped) (rest : List ℕ) (line : ℕ) (stamped : Stamped) → last_line_read bytes ≡ Some ((l, o), rest)
+    → length stamped.line ≡ WORDS_PER_LINE → (says : Says bytes (last_line line stamped))
     → (l ≡ fitting line) × (says.rest ≡ rest) × SomeIff o (StampedFits stamped) stamped
 last_said bytes l o rest line stamped e eight says =
     let again = last_line_again line stamped says.rest eight in
-    let same = some_pair_parts {A = LastSaid} (fitting line, again.0) (l, o) says.rest rest (sym again.1 ∙ (sym (ap last_line_read says.parts) ∙ e)) in
-    (sym (ap (λ (t : LastSaid). t.0) same.0), same.1, subst (λ (v : Option Stamped). SomeIff v (StampedFits stamped) stamped) (ap (λ (t : LastSaid). t.1) same.0) again.2)
+    let same = some_pair_parts {A = LastSaid} (fitting line, again.0) (l, o) says.rest rest (sym again.1 ∙ (sym (ap last_line_read says.parts) ∙ e)) in (
+      sym (ap (λ (t : LastSaid). t.0) same.0),
+      same.1,
+      subst (λ (v : Option Stamped). SomeIff v (StampedFits stamped) stamped) (ap (λ (t : LastSaid). t.1) same.0) again.2,
+    )
 
 pub last_none : (front : Front) (bytes : List ℕ) → last_line_read bytes ≡ None → NoLast front bytes
 last_none front bytes e = λ line stamped h.
     let again = last_line_again line stamped h.says.rest h.eight in
     none-some ((fitting line, again.0), h.says.rest) (sym e ∙ (ap last_line_read h.says.parts ∙ again.1))
 
-pub last_long : (front : Front) (bytes : List ℕ) (l : Option ℕ) (o : Option Stamped) (rest : List ℕ) → last_line_read bytes ≡ Some ((l, o), rest) → length rest + MAX_TEXT_LINE_BYTES + 1 < length bytes → NoLast front bytes
+pub last_long : (front : Front) (bytes : List ℕ) (l : Option ℕ) (o : Option Stamped) (rest : List ℕ) → last_line_read bytes ≡ Some ((l, o), rest)
+    → length rest + MAX_TEXT_LINE_BYTES + 1 < length bytes → NoLast front bytes
 last_long front bytes l o rest e long = λ line stamped h.
     let same = last_said bytes l o rest line stamped e h.eight h.says in
     line_long bytes (last_line line stamped) rest (h.says.parts ∙ ap (λ (t : List ℕ). last_line line stamped ++ t) same.1) long h.says.short
 
 -- another number than the next
-pub last_other : (front : Front) (bytes : List ℕ) (l : Option ℕ) (o : Option Stamped) (rest : List ℕ) → last_line_read bytes ≡ Some ((l, o), rest) → length front.last < 2 ^ 64 → (l ≡ Some (length front.last) → ⊥) → NoLast front bytes
+pub last_other : (front : Front) (bytes : List ℕ) (l : Option ℕ) (o : Option Stamped) (rest : List ℕ) → last_line_read bytes ≡ Some ((l, o), rest)
+    → length front.last < 2 ^ 64 → (l ≡ Some (length front.last) → ⊥) → NoLast front bytes
 last_other front bytes l o rest e few other = λ line stamped h.
     let same = last_said bytes l o rest line stamped e h.eight h.says in
     other (same.0 ∙ ap fitting h.place.next ∙ fitting_below (length front.last) few)
@@ -128,13 +142,17 @@ last_is_no_number rest = refl
 
 entry_begins : (entry : Entry) (rest : List ℕ) → (more : List ℕ) × (entry_line entry ++ rest ≡ number entry.node ++ more) × Ends more
 unfolding entry_line issue_text
-entry_begins entry rest =
-    (field entry.serial ++ (codes " " ++ (operation entry.op ++ ((outcome_text entry ++ 10 ∷ []) ++ rest))), simp append_assoc, ends_field entry.serial (codes " " ++ (operation entry.op ++ ((outcome_text entry ++ 10 ∷ []) ++ rest))))
+entry_begins entry rest = (
+  field entry.serial ++ (codes " " ++ (operation entry.op ++ ((outcome_text entry ++ 10 ∷ []) ++ rest))),
+  simp append_assoc,
+  ends_field entry.serial (codes " " ++ (operation entry.op ++ ((outcome_text entry ++ 10 ∷ []) ++ rest))),
+)
 
 pub last_no_entry : (front : Front) (bytes : List ℕ) → BeginsLast bytes → NoEntry front bytes
 last_no_entry front bytes begins = λ entry h.
     let first = entry_begins entry h.says.rest in
-    none-some (fitting entry.node, first.0) (sym (last_is_no_number begins.0) ∙ ap number_read (sym begins.1 ∙ h.says.parts ∙ first.1) ∙ number_again entry.node first.0 first.2)
+    none-some (fitting entry.node, first.0)
+    (sym (last_is_no_number begins.0) ∙ ap number_read (sym begins.1 ∙ h.says.parts ∙ first.1) ∙ number_again entry.node first.0 first.2)
 
 pub last_is : (bytes : List ℕ) (l : Option ℕ) (o : Option Stamped) (rest : List ℕ) (count : ℕ) → last_line_read bytes ≡ Some ((l, o), rest) → l ≡ Some count
     → (stamped : Stamped) × (length stamped.line ≡ WORDS_PER_LINE) × (bytes ≡ last_line count stamped ++ rest) × SomeIff o (StampedFits stamped) stamped
@@ -144,20 +162,27 @@ last_is bytes l o rest count e is =
     (f.1, f.2, f.3 ∙ ap (λ (x : ℕ). last_line x f.1 ++ rest) en, f.5)
 
 -- a `last` line whose numbers are out of range
-pub last_range : (front : Front) (bytes : List ℕ) (l : Option ℕ) (o : Option Stamped) (rest : List ℕ) → entry_count front.logs ≡ 0 → HasRoom front.form.lines (length front.last) → last_line_read bytes ≡ Some ((l, o), rest) → l ≡ Some (length front.last)
+pub last_range : (front : Front) (bytes : List ℕ) (l : Option ℕ) (o : Option Stamped) (rest : List ℕ) → entry_count front.logs ≡ 0
+    → HasRoom front.form.lines (length front.last) → last_line_read bytes ≡ Some ((l, o), rest) → l ≡ Some (length front.last)
     → length bytes ≤ length rest + MAX_TEXT_LINE_BYTES + 1 → ((MAX_LINES ≤ length front.last) ⊎ (o ≡ None)) → LogLineFault front bytes Range
 last_range front bytes l o rest none room e is short outside =
     let f = last_is bytes l o rest (length front.last) e is in
     let count = length front.last in (
       inl (count, f.0),
-      record { place = record { first = none; next = refl; room = room }; says = record { rest = rest; parts = f.2; short = line_short bytes (last_line count f.0) rest f.2 short }; eight = f.1 },
+      record {
+        place = record { first = none; next = refl; room = room };
+        says = record { rest = rest; parts = f.2; short = line_short bytes (last_line count f.0) rest f.2 short };
+        eight = f.1;
+      },
       λ fits. elim outside [
         | inl many ↦ let low = fits.0 in absurd (omega arith)
         | inr unfit ↦ let no : StampedFits f.0 → ⊥ = subst (λ (v : Option Stamped). SomeIff v (StampedFits f.0) f.0) unfit f.3 in no fits.1
       ],
     )
 
-pub last_ok : (form : Form) (old : List Stamped) (bytes : List ℕ) (l : Option ℕ) (stamped : Stamped) (rest : List ℕ) → last_line_read bytes ≡ Some ((l, Some stamped), rest) → l ≡ Some (length old) → length old < MAX_LINES → HasRoom form.lines (length old) → AddsLast form old (old ++ stamped ∷ []) bytes rest
+pub last_ok : (form : Form) (old : List Stamped) (bytes : List ℕ) (l : Option ℕ) (stamped : Stamped) (rest : List ℕ)
+    → last_line_read bytes ≡ Some ((l, Some stamped), rest) → l ≡ Some (length old) → length old < MAX_LINES → HasRoom form.lines (length old)
+    → AddsLast form old (old ++ stamped ∷ []) bytes rest
 last_ok form old bytes l stamped rest e is few room =
     let f = last_is bytes l (Some stamped) rest (length old) e is in
     let same : stamped ≡ f.0 = f.3.1 in
@@ -173,25 +198,32 @@ last_ok form old bytes l stamped rest e is few room =
 
 -- ---- entries
 
-entry_said : (bytes : List ℕ) (l : Option ℕ) (o : Option Entry) (rest : List ℕ) (entry : Entry) → entry_line_read bytes ≡ Some ((l, o), rest) → Answers entry.op.act entry.reply → (says : Says bytes (entry_line entry))
+entry_said : (bytes : List ℕ) (l : Option ℕ) (o : Option Entry) (rest : List ℕ) (entry : Entry) → entry_line_read bytes ≡ Some ((l, o), rest)
+    → Answers entry.op.act entry.reply → (says : Says bytes (entry_line entry))
     → (l ≡ fitting entry.node) × (says.rest ≡ rest) × SomeIff o (EntryReads entry) entry
 entry_said bytes l o rest entry e answers says =
     let again = entry_line_again entry says.rest answers in
-    let same = some_pair_parts {A = EntrySaid} (fitting entry.node, again.0) (l, o) says.rest rest (sym again.1 ∙ (sym (ap entry_line_read says.parts) ∙ e)) in
-    (sym (ap (λ (t : EntrySaid). t.0) same.0), same.1, subst (λ (v : Option Entry). SomeIff v (EntryReads entry) entry) (ap (λ (t : EntrySaid). t.1) same.0) again.2)
+    let same = some_pair_parts {A = EntrySaid} (fitting entry.node, again.0) (l, o) says.rest rest
+    (sym again.1 ∙ (sym (ap entry_line_read says.parts) ∙ e)) in (
+      sym (ap (λ (t : EntrySaid). t.0) same.0),
+      same.1,
+      subst (λ (v : Option Entry). SomeIff v (EntryReads entry) entry) (ap (λ (t : EntrySaid). t.1) same.0) again.2,
+    )
 
 pub entry_none : (front : Front) (bytes : List ℕ) → entry_line_read bytes ≡ None → NoEntry front bytes
 entry_none front bytes e = λ entry h.
     let again = entry_line_again entry h.says.rest h.answers in
     none-some ((fitting entry.node, again.0), h.says.rest) (sym e ∙ (ap entry_line_read h.says.parts ∙ again.1))
 
-pub entry_long : (front : Front) (bytes : List ℕ) (l : Option ℕ) (o : Option Entry) (rest : List ℕ) → entry_line_read bytes ≡ Some ((l, o), rest) → length rest + MAX_TEXT_LINE_BYTES + 1 < length bytes → NoEntry front bytes
+pub entry_long : (front : Front) (bytes : List ℕ) (l : Option ℕ) (o : Option Entry) (rest : List ℕ) → entry_line_read bytes ≡ Some ((l, o), rest)
+    → length rest + MAX_TEXT_LINE_BYTES + 1 < length bytes → NoEntry front bytes
 entry_long front bytes l o rest e long = λ entry h.
     let same = entry_said bytes l o rest entry e h.answers h.says in
     line_long bytes (entry_line entry) rest (h.says.parts ∙ ap (λ (t : List ℕ). entry_line entry ++ t) same.1) long h.says.short
 
 -- a node below the latest
-pub entry_lower : (front : Front) (bytes : List ℕ) (l : Option ℕ) (o : Option Entry) (rest : List ℕ) (latest : ℕ) → IsLatest front.logs latest → entry_line_read bytes ≡ Some ((l, o), rest) → (n : ℕ) × (l ≡ Some n) × (n < latest) → NoEntry front bytes
+pub entry_lower : (front : Front) (bytes : List ℕ) (l : Option ℕ) (o : Option Entry) (rest : List ℕ) (latest : ℕ) → IsLatest front.logs latest
+    → entry_line_read bytes ≡ Some ((l, o), rest) → (n : ℕ) × (l ≡ Some n) × (n < latest) → NoEntry front bytes
 entry_lower front bytes l o rest latest is e lower = λ entry h.
     let same = entry_said bytes l o rest entry e h.answers h.says in
     let node : entry.node ≡ lower.0 = fitting_some entry.node lower.0 (sym same.0 ∙ lower.1) in
@@ -208,14 +240,19 @@ not_lower l node latest e few above =
     ]
 
 -- the line that was read, at its place
-says_entry : (front : Front) (bytes : List ℕ) (l : Option ℕ) (o : Option Entry) (rest : List ℕ) (latest : ℕ) → HasAllLines front.form.lines (length front.last) → IsLatest front.logs latest → latest < 2 ^ 64
+says_entry : (front : Front) (bytes : List ℕ) (l : Option ℕ) (o : Option Entry) (rest : List ℕ) (latest : ℕ) → HasAllLines front.form.lines (length front.last)
+    → IsLatest front.logs latest → latest < 2 ^ 64
     → entry_line_read bytes ≡ Some ((l, o), rest) → length bytes ≤ length rest + MAX_TEXT_LINE_BYTES + 1 → ((m : ℕ) → l ≡ Some m → latest ≤ m)
     → (entry : Entry) × SaysEntry front bytes entry × SomeIff o (EntryReads entry) entry × (bytes ≡ entry_line entry ++ rest) × (latest ≤ entry.node)
 says_entry front bytes l o rest latest whole is few e short above =
     let f = entry_line_found bytes l o rest e in
     let later = not_lower l f.0.node latest f.3 few above in (
       f.0,
-      record { place = record { whole = whole; none_above = λ other lt. is.none_above other (omega arith) }; says = record { rest = rest; parts = f.2; short = line_short bytes (entry_line f.0) rest f.2 short }; answers = f.1 },
+      record {
+        place = record { whole = whole; none_above = λ other lt. is.none_above other (omega arith) };
+        says = record { rest = rest; parts = f.2; short = line_short bytes (entry_line f.0) rest f.2 short };
+        answers = f.1;
+      },
       f.4,
       f.2,
       later,
@@ -225,7 +262,8 @@ form_small : (form : Form) → IsForm form → (form.nodes ≤ 16) × (form.seri
 form_small form (inl e) = (rw e (omega arith), rw e (omega arith))
 form_small form (inr h) = let few = h.2.few_nodes in (omega arith, rw h.1 (omega arith))
 
-pub fits_reads : (front : Front) (entry : Entry) → IsForm front.form → length front.last ≤ MAX_LINES → EntryFits front.form (length front.last) entry → EntryReads entry
+pub fits_reads : (front : Front) (entry : Entry) → IsForm front.form → length front.last ≤ MAX_LINES → EntryFits front.form (length front.last) entry
+    → EntryReads entry
 fits_reads front entry good few h =
     let small = form_small front.form good in
     let nodes = small.0 in
@@ -236,46 +274,65 @@ fits_reads front entry good few h =
     let word = h.numbers.word in
     record { node = omega arith; serial = omega arith; op = (omega arith, omega arith, h.operands); reply = h.reply; version = h.version }
 
-pub entry_unfit : (front : Front) (bytes : List ℕ) (l : Option ℕ) (o : Option Entry) (rest : List ℕ) (latest : ℕ) → IsForm front.form → length front.last ≤ MAX_LINES → HasAllLines front.form.lines (length front.last) → IsLatest front.logs latest → latest < 2 ^ 64
-    → entry_line_read bytes ≡ Some ((l, o), rest) → length bytes ≤ length rest + MAX_TEXT_LINE_BYTES + 1 → ((m : ℕ) → l ≡ Some m → latest ≤ m) → o ≡ None → LogLineFault front bytes Range
+pub entry_unfit : (front : Front) (bytes : List ℕ) (l : Option ℕ) (o : Option Entry) (rest : List ℕ) (latest : ℕ) → IsForm front.form
+    → length front.last ≤ MAX_LINES → HasAllLines front.form.lines (length front.last) → IsLatest front.logs latest → latest < 2 ^ 64
+    → entry_line_read bytes ≡ Some ((l, o), rest) → length bytes ≤ length rest + MAX_TEXT_LINE_BYTES + 1 → ((m : ℕ) → l ≡ Some m → latest ≤ m) → o ≡ None
+    → LogLineFault front bytes Range
 entry_unfit front bytes l o rest latest good few_lines whole is few e short above unfit =
     let s = says_entry front bytes l o rest latest whole is few e short above in
     let no : EntryReads s.0 → ⊥ = subst (λ (v : Option Entry). SomeIff v (EntryReads s.0) s.0) unfit s.2 in
     (inr s.0, s.1, λ fits. no (fits_reads front s.0 good few_lines fits))
 
-pub entry_outside : (front : Front) (bytes : List ℕ) (l : Option ℕ) (entry : Entry) (rest : List ℕ) (latest : ℕ) → HasAllLines front.form.lines (length front.last) → IsLatest front.logs latest → latest < 2 ^ 64
-    → entry_line_read bytes ≡ Some ((l, Some entry), rest) → length bytes ≤ length rest + MAX_TEXT_LINE_BYTES + 1 → ((m : ℕ) → l ≡ Some m → latest ≤ m) → (AreNumbersWithin front.form (length front.last) entry → ⊥) → LogLineFault front bytes Range
+pub entry_outside : (front : Front) (bytes : List ℕ) (l : Option ℕ) (entry : Entry) (rest : List ℕ) (latest : ℕ)
+    → HasAllLines front.form.lines (length front.last) → IsLatest front.logs latest → latest < 2 ^ 64
+    → entry_line_read bytes ≡ Some ((l, Some entry), rest) → length bytes ≤ length rest + MAX_TEXT_LINE_BYTES + 1 → ((m : ℕ) → l ≡ Some m → latest ≤ m)
+    → (AreNumbersWithin front.form (length front.last) entry → ⊥) → LogLineFault front bytes Range
 entry_outside front bytes l entry rest latest whole is few e short above outside =
     let s = says_entry front bytes l (Some entry) rest latest whole is few e short above in
     (inr s.0, s.1, λ fits. outside (subst (AreNumbersWithin front.form (length front.last)) (sym s.2.1) fits.numbers))
 
 -- the entry that was read, and that it fits
 abbrev ReadEntry : Front → List ℕ → Entry → List ℕ → ℕ → Type 0
-ReadEntry front bytes entry rest latest = SaysEntry front bytes entry × EntryFits front.form (length front.last) entry × (bytes ≡ entry_line entry ++ rest) × (latest ≤ entry.node)
+ReadEntry front bytes entry rest latest =
+    SaysEntry front bytes entry × EntryFits front.form (length front.last) entry × (bytes ≡ entry_line entry ++ rest) × (latest ≤ entry.node)
 
-read_entry : (front : Front) (bytes : List ℕ) (l : Option ℕ) (entry : Entry) (rest : List ℕ) (latest : ℕ) → HasAllLines front.form.lines (length front.last) → IsLatest front.logs latest → latest < 2 ^ 64
-    → entry_line_read bytes ≡ Some ((l, Some entry), rest) → length bytes ≤ length rest + MAX_TEXT_LINE_BYTES + 1 → ((m : ℕ) → l ≡ Some m → latest ≤ m) → AreNumbersWithin front.form (length front.last) entry → ReadEntry front bytes entry rest latest
+read_entry : (front : Front) (bytes : List ℕ) (l : Option ℕ) (entry : Entry) (rest : List ℕ) (latest : ℕ) → HasAllLines front.form.lines (length front.last)
+    → IsLatest front.logs latest → latest < 2 ^ 64
+    → entry_line_read bytes ≡ Some ((l, Some entry), rest) → length bytes ≤ length rest + MAX_TEXT_LINE_BYTES + 1 → ((m : ℕ) → l ≡ Some m → latest ≤ m)
+    → AreNumbersWithin front.form (length front.last) entry → ReadEntry front bytes entry rest latest
 read_entry front bytes l entry rest latest whole is few e short above within =
     let s = says_entry front bytes l (Some entry) rest latest whole is few e short above in
     let reads = s.2.0 in
     let all : ReadEntry front bytes s.0 rest latest = (
       s.1,
-      record { numbers = subst (AreNumbersWithin front.form (length front.last)) s.2.1 within; operands = reads.op.2; answers = s.1.answers; reply = reads.reply; version = reads.version },
+      record {
+        numbers = subst (AreNumbersWithin front.form (length front.last)) s.2.1 within;
+        operands = reads.op.2;
+        answers = s.1.answers;
+        reply = reads.reply;
+        version = reads.version;
+      },
       s.3,
       s.4,
     ) in
     subst (λ (e : Entry). ReadEntry front bytes e rest latest) (sym s.2.1) all
 
-pub entry_too_many : (front : Front) (bytes : List ℕ) (l : Option ℕ) (entry : Entry) (rest : List ℕ) (latest : ℕ) → HasAllLines front.form.lines (length front.last) → IsLatest front.logs latest → latest < 2 ^ 64
-    → entry_line_read bytes ≡ Some ((l, Some entry), rest) → length bytes ≤ length rest + MAX_TEXT_LINE_BYTES + 1 → ((m : ℕ) → l ≡ Some m → latest ≤ m) → AreNumbersWithin front.form (length front.last) entry
+pub entry_too_many : (front : Front) (bytes : List ℕ) (l : Option ℕ) (entry : Entry) (rest : List ℕ) (latest : ℕ)
+    → HasAllLines front.form.lines (length front.last) → IsLatest front.logs latest → latest < 2 ^ 64
+    → entry_line_read bytes ≡ Some ((l, Some entry), rest) → length bytes ≤ length rest + MAX_TEXT_LINE_BYTES + 1 → ((m : ℕ) → l ≡ Some m → latest ≤ m)
+    → AreNumbersWithin front.form (length front.last) entry
     → front.form.entries ≤ length (log_of front.logs entry.node) → LogLineFault front bytes TooMany
 entry_too_many front bytes l entry rest latest whole is few e short above within full =
     let r = read_entry front bytes l entry rest latest whole is few e short above within in
     (inr entry, r.0, r.1, full)
 
-pub entry_ok : (front : Front) (bytes : List ℕ) (l : Option ℕ) (entry : Entry) (rest : List ℕ) (latest : ℕ) → HasAllLines front.form.lines (length front.last) → IsLatest front.logs latest → latest < 2 ^ 64
-    → entry_line_read bytes ≡ Some ((l, Some entry), rest) → length bytes ≤ length rest + MAX_TEXT_LINE_BYTES + 1 → ((m : ℕ) → l ≡ Some m → latest ≤ m) → AreNumbersWithin front.form (length front.last) entry
-    → length (log_of front.logs entry.node) < front.form.entries → (new : List (List Entry)) → new ≡ set front.logs entry.node (log_of front.logs entry.node ++ entry ∷ []) → AddsEntry front.form (length front.last) front.logs new latest entry.node bytes rest
+pub entry_ok : (front : Front) (bytes : List ℕ) (l : Option ℕ) (entry : Entry) (rest : List ℕ) (latest : ℕ) → HasAllLines front.form.lines (length front.last)
+    → IsLatest front.logs latest → latest < 2 ^ 64
+    → entry_line_read bytes ≡ Some ((l, Some entry), rest) → length bytes ≤ length rest + MAX_TEXT_LINE_BYTES + 1 → ((m : ℕ) → l ≡ Some m → latest ≤ m)
+    → AreNumbersWithin front.form (length front.last) entry
+    → length (log_of front.logs entry.node) < front.form.entries → (new : List (List Entry))
+    → new ≡ set front.logs entry.node (log_of front.logs entry.node ++ entry ∷ [])
+    → AddsEntry front.form (length front.last) front.logs new latest entry.node bytes rest
 entry_ok front bytes l entry rest latest whole is few e short above within room new added =
     let r = read_entry front bytes l entry rest latest whole is few e short above within in
     record { entry = entry; parts = r.2; fits = r.1; room = room; added = added; later = r.3; now_is = refl }
@@ -285,14 +342,17 @@ found_by word bytes None e h = absurd (h refl)
 found_by word bytes (Some rest) e h = (rest, after_found word bytes rest e)
 
 -- the bytes begin with the word that was found
-pub gives_front : (word bytes : List ℕ) (r : Option (Bor (List ℕ))) → Gives (λ x. x.now) r (after word bytes) → is_some r ≡ true → (rest : List ℕ) × (bytes ≡ word ++ rest)
+pub gives_front : (word bytes : List ℕ) (r : Option (Bor (List ℕ))) → Gives (λ x. x.now) r (after word bytes) → is_some r ≡ true
+    → (rest : List ℕ) × (bytes ≡ word ++ rest)
 gives_front word bytes r h e = found_by word bytes (after word bytes) refl (gives_some r (after word bytes) h e)
 
-pub gives_no_front : (word bytes : List ℕ) (r : Option (Bor (List ℕ))) → Gives (λ x. x.now) r (after word bytes) → is_some r ≡ false → (rest : List ℕ) × (bytes ≡ word ++ rest) → ⊥
+pub gives_no_front : (word bytes : List ℕ) (r : Option (Bor (List ℕ))) → Gives (λ x. x.now) r (after word bytes) → is_some r ≡ false
+    → (rest : List ℕ) × (bytes ≡ word ++ rest) → ⊥
 gives_no_front word bytes r h e begins = none-some begins.0 (sym (gives_none r (after word bytes) h e) ∙ ap (after word) begins.1 ∙ after_again word begins.0)
 
 -- bytes that begin with an entry don't begin with `last`
 pub entry_not_last : (entry : Entry) (rest : List ℕ) → BeginsLast (entry_line entry ++ rest) → ⊥
 entry_not_last entry rest begins =
     let first = entry_begins entry rest in
-    none-some (fitting entry.node, first.0) (sym (last_is_no_number begins.0) ∙ ap number_read (sym begins.1 ∙ first.1) ∙ number_again entry.node first.0 first.2)
+    none-some (fitting entry.node, first.0)
+    (sym (last_is_no_number begins.0) ∙ ap number_read (sym begins.1 ∙ first.1) ∙ number_again entry.node first.0 first.2)

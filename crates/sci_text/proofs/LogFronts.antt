@@ -1,5 +1,6 @@
 -- The front of a log grows by the lines that are read.
-use Rattle.std.proofs.Common.{◌≡◌, ℕ, zero, suc, ◌+◌, ◌<◌, ◌≤◌, List, [], ◌∷◌, ◌++◌, length, Option, Some, None, refl, sym, ap, subst, ◌∙◌, append_assoc, arith, inl, inr, ◌⊎◌}
+use Rattle.std.proofs.Common.{◌≡◌, ℕ, zero, suc, ◌+◌, ◌<◌, ◌≤◌, List, [], ◌∷◌, ◌++◌, length, Option, Some, None, refl, sym, ap, subst, ◌∙◌, append_assoc, arith}
+use Rattle.std.proofs.Common.{inl, inr, ◌⊎◌}
 use Rattle.std.proofs.Math.ListN.{set}
 use Rattle.std.specs.Prelude.{codes, All}
 use Rattle.std.specs.List.{flat_map}
@@ -18,7 +19,8 @@ use Rattle.sci_text.specs.declared.fault.TextFaultKind.TheVariants.{Syntax, Memo
 use Rattle.sci_text.specs.FirstFault.{IsRefusal, IsToldAt}
 use Rattle.sci_text.specs.Number.{number, field}
 use Rattle.sci_text.specs.Log.{last_line, last_lines, issue_text, entry_line, entry_lines}
-use Rattle.sci_text.specs.LogValue.{StampedFits, EntryFits, Front, front_of, IsFront, IsForm, HasAllLines, HasRoom, HasNoExtra, first_line, front_text, entry_count, BeginsLog}
+use Rattle.sci_text.specs.LogValue.{StampedFits, EntryFits, Front, front_of, IsFront, IsForm, HasAllLines, HasRoom, HasNoExtra, first_line, front_text}
+use Rattle.sci_text.specs.LogValue.{entry_count, BeginsLog}
 use Rattle.sci_text.specs.LogFault.{first_lines, SaysNext, NextFits, HasNoRoomFor, LogLineFault, IsLogFault}
 use Rattle.sci_text.specs.LogReading.{BeginsLast, NoLast, IsRefusalAfter, AddsLast, AddsEntry, IsLatest, no_logs}
 use Rattle.sci_text.proofs.FirstFaults.{line_fault_is, told_at}
@@ -26,8 +28,10 @@ use Rattle.sci_text.proofs.LogFaults.{neither}
 
 -- ---- `last` lines
 
-last_lines-push : (first : ℕ) (last : List Stamped) (stamped : Stamped) → last_lines first (last ++ stamped ∷ []) ≡ last_lines first last ++ last_line (first + length last) stamped
-last_lines-push first [] stamped = let same : first + 0 ≡ first = omega arith in append-nil (last_line first stamped) ∙ ap (λ (n : ℕ). last_line n stamped) (sym same)
+last_lines-push : (first : ℕ) (last : List Stamped) (stamped : Stamped)
+    → last_lines first (last ++ stamped ∷ []) ≡ last_lines first last ++ last_line (first + length last) stamped
+last_lines-push first [] stamped = let same : first + 0 ≡ first = omega arith in
+    append-nil (last_line first stamped) ∙ ap (λ (n : ℕ). last_line n stamped) (sym same)
 last_lines-push first (s ∷ last) stamped =
     let same : first + 1 + length last ≡ first + suc (length last) = omega arith in
     ap (λ (t : List ℕ). last_line first s ++ t) (last_lines-push (first + 1) last stamped)
@@ -39,13 +43,16 @@ unfolding last_line
 last_nonempty line stamped = omega arith
 
 pub last_shrinks : (form : Form) (old new : List Stamped) (bytes rest : List ℕ) → AddsLast form old new bytes rest → length rest < length bytes
-last_shrinks form old new bytes rest h = omega (arith, ap length h.parts, length-append (last_line (length old) h.stamped) rest, last_nonempty (length old) h.stamped)
+last_shrinks form old new bytes rest h =
+    omega (arith, ap length h.parts, length-append (last_line (length old) h.stamped) rest, last_nonempty (length old) h.stamped)
 
-pub last_goes_on : (form : Form) (all : List ℕ) (old new : List Stamped) (bytes rest : List ℕ) → all ≡ last_lines 0 old ++ bytes → AddsLast form old new bytes rest → all ≡ last_lines 0 new ++ rest
+pub last_goes_on : (form : Form) (all : List ℕ) (old new : List Stamped) (bytes rest : List ℕ) → all ≡ last_lines 0 old ++ bytes
+    → AddsLast form old new bytes rest → all ≡ last_lines 0 new ++ rest
 last_goes_on form all old new bytes rest so_far h =
     let same : 0 + length old ≡ length old = omega arith in
     so_far ∙ ap (λ (t : List ℕ). last_lines 0 old ++ t) h.parts ∙ sym (append_assoc (last_lines 0 old) (last_line (length old) h.stamped) rest)
-    ∙ ap (λ (t : List ℕ). t ++ rest) (ap (λ (n : ℕ). last_lines 0 old ++ last_line n h.stamped) (sym same) ∙ sym (last_lines-push 0 old h.stamped) ∙ ap (last_lines 0) (sym h.added))
+    ∙ ap (λ (t : List ℕ). t ++ rest)
+    (ap (λ (n : ℕ). last_lines 0 old ++ last_line n h.stamped) (sym same) ∙ sym (last_lines-push 0 old h.stamped) ∙ ap (last_lines 0) (sym h.added))
 
 abbrev pub GoodLast : Stamped → Type 0
 GoodLast stamped = (length stamped.line ≡ WORDS_PER_LINE) × StampedFits stamped
@@ -93,20 +100,31 @@ last_front_more form old new bytes rest h a = rw a.added (record {
 
 -- ---- faults
 
-refusal_at : (kind : TextFaultKind) (input : List ℕ) (fault : TextFault) (line : ℕ) (front : Front) (rest : List ℕ) → IsToldAt line kind fault → IsFront front → input ≡ front_text front ++ rest → (front.form.lines ≡ None → BeginsLog input → ⊥)
-    → (0 < length rest) ⊎ (HasAllLines front.form.lines (length front.last) → ⊥) → line ≡ first_lines front.form.lines + length front.last + entry_count front.logs + 1 → (kind ≡ Memory) ⊎ LogLineFault front rest kind → IsRefusal IsLogFault input fault
+refusal_at : (kind : TextFaultKind) (input : List ℕ) (fault : TextFault) (line : ℕ) (front : Front) (rest : List ℕ) → IsToldAt line kind fault → IsFront front
+    → input ≡ front_text front ++ rest → (front.form.lines ≡ None → BeginsLog input → ⊥)
+    → (0 < length rest) ⊎ (HasAllLines front.form.lines (length front.last) → ⊥)
+    → line ≡ first_lines front.form.lines + length front.last + entry_count front.logs + 1 → (kind ≡ Memory) ⊎ LogLineFault front rest kind
+    → IsRefusal IsLogFault input fault
 refusal_at kind input fault line front rest at good parts first goes_on place faulty =
     told_at IsLogFault kind input fault line at (elim faulty [
       | inl memory ↦ inl memory
       | inr wrong ↦
           inr (
             line_fault_is (SaysNext front rest) (NextFits front) (HasNoRoomFor front) kind wrong,
-            inr (record { before = front; rest = rest; right = record { good = good; parts = parts; first = first }; more = goes_on; place = place; wrong = wrong }),
+            inr (record {
+              before = front;
+              rest = rest;
+              right = record { good = good; parts = parts; first = first };
+              more = goes_on;
+              place = place;
+              wrong = wrong;
+            }),
           )
     ])
 
 -- a faulty `last` line
-pub last_refused : (form : Form) (last : List Stamped) (bytes rest : List ℕ) (kind : TextFaultKind) (line : ℕ) (fault : TextFault) → IsForm form → IsFrontOf form last → bytes ≡ last_lines 0 last ++ rest → BeginsLast rest → IsToldAt line kind fault
+pub last_refused : (form : Form) (last : List Stamped) (bytes rest : List ℕ) (kind : TextFaultKind) (line : ℕ) (fault : TextFault) → IsForm form
+    → IsFrontOf form last → bytes ≡ last_lines 0 last ++ rest → BeginsLast rest → IsToldAt line kind fault
     → (kind ≡ Memory) ⊎ LogLineFault (front_of form last no_logs) rest kind → line ≡ first_lines form.lines + length last + 1 → IsRefusalAfter form bytes fault
 last_refused form last bytes rest kind line fault good h parts begins at faulty place = λ input is first.
     let front = front_of form last no_logs in
@@ -122,12 +140,14 @@ pub no_last_here : (front : Front) (bytes : List ℕ) → (BeginsLast bytes → 
 no_last_here front bytes no_more = λ line stamped h. no_more (subst BeginsLast (sym h.says.parts) (last_begins line stamped h.says.rest))
 
 -- too few `last` lines
-pub few_refused : (form : Form) (last : List Stamped) (bytes rest : List ℕ) (line : ℕ) (fault : TextFault) → IsForm form → IsFrontOf form last → bytes ≡ last_lines 0 last ++ rest → (BeginsLast rest → ⊥) → (HasAllLines form.lines (length last) → ⊥)
+pub few_refused : (form : Form) (last : List Stamped) (bytes rest : List ℕ) (line : ℕ) (fault : TextFault) → IsForm form → IsFrontOf form last
+    → bytes ≡ last_lines 0 last ++ rest → (BeginsLast rest → ⊥) → (HasAllLines form.lines (length last) → ⊥)
     → IsToldAt line Syntax fault → line ≡ first_lines form.lines + length last + 1 → IsRefusalAfter form bytes fault
 few_refused form last bytes rest line fault good h parts no_more few at place = λ input is first.
     let front = front_of form last no_logs in
     let whole : input ≡ front_text front ++ rest = is ∙ ap (λ (t : List ℕ). first_line form ++ t) parts ∙ simp (append_assoc, append-nil) in
-    refusal_at Syntax input fault line front rest at (front_of_last form last good h) whole first (inr few) (omega (arith, place)) (inr (neither front rest (no_last_here front rest no_more) (λ entry s. few s.place.whole)))
+    refusal_at Syntax input fault line front rest at (front_of_last form last good h) whole first (inr few) (omega (arith, place))
+    (inr (neither front rest (no_last_here front rest no_more) (λ entry s. few s.place.whole)))
 
 -- ---- entries
 
@@ -139,16 +159,20 @@ entry_lines-none : (logs : List (List Entry)) → ((node : ℕ) → log_of logs 
 entry_lines-none [] h = refl
 entry_lines-none (log ∷ logs) h = rw (h 0) (entry_lines-none logs (λ node. h (suc node)))
 
-entry_lines-push : (logs : List (List Entry)) (node : ℕ) (entry : Entry) → node < length logs → ((other : ℕ) → node < other → log_of logs other ≡ []) → entry_lines (set logs node (log_of logs node ++ entry ∷ [])) ≡ entry_lines logs ++ entry_line entry
+entry_lines-push : (logs : List (List Entry)) (node : ℕ) (entry : Entry) → node < length logs → ((other : ℕ) → node < other → log_of logs other ≡ [])
+    → entry_lines (set logs node (log_of logs node ++ entry ∷ [])) ≡ entry_lines logs ++ entry_line entry
 entry_lines-push [] node entry lt none = absurd (omega arith)
 entry_lines-push (log ∷ logs) zero entry lt none =
     let after = entry_lines-none logs (λ node. none (suc node) (omega arith)) in
-    let own : flat_map entry_line (log ++ entry ∷ []) ≡ flat_map entry_line log ++ entry_line entry = flat_map-append entry_line log (entry ∷ []) ∙ ap (λ (t : List ℕ). flat_map entry_line log ++ t) (append-nil (entry_line entry)) in
+    let own : flat_map entry_line (log ++ entry ∷ []) ≡ flat_map entry_line log ++ entry_line entry =
+    flat_map-append entry_line log (entry ∷ []) ∙ ap (λ (t : List ℕ). flat_map entry_line log ++ t) (append-nil (entry_line entry)) in
     rw (own, after) (simp append-nil)
 entry_lines-push (log ∷ logs) (suc node) entry lt none =
-    rw (entry_lines-push logs node entry (omega arith) (λ other above. none (suc other) (omega arith))) (sym (append_assoc (flat_map entry_line log) (entry_lines logs) (entry_line entry)))
+    rw (entry_lines-push logs node entry (omega arith) (λ other above. none (suc other) (omega arith)))
+    (sym (append_assoc (flat_map entry_line log) (entry_lines logs) (entry_line entry)))
 
-pub entry_count-push : (logs : List (List Entry)) (node : ℕ) (entry : Entry) → node < length logs → entry_count (set logs node (log_of logs node ++ entry ∷ [])) ≡ entry_count logs + 1
+pub entry_count-push : (logs : List (List Entry)) (node : ℕ) (entry : Entry) → node < length logs
+    → entry_count (set logs node (log_of logs node ++ entry ∷ [])) ≡ entry_count logs + 1
 entry_count-push [] node entry lt = absurd (omega arith)
 entry_count-push (log ∷ logs) zero entry lt =
     let all = flat_map (λ (l : List Entry). l) logs in
@@ -166,7 +190,8 @@ pub entry_nonempty : (entry : Entry) → 1 ≤ length (entry_line entry)
 unfolding entry_line issue_text field
 entry_nonempty entry = some_between (number entry.node) _ _ 32
 
-pub entry_shrinks : (form : Form) (lines : ℕ) (old new : List (List Entry)) (latest now : ℕ) (bytes rest : List ℕ) → AddsEntry form lines old new latest now bytes rest → length rest < length bytes
+pub entry_shrinks : (form : Form) (lines : ℕ) (old new : List (List Entry)) (latest now : ℕ) (bytes rest : List ℕ)
+    → AddsEntry form lines old new latest now bytes rest → length rest < length bytes
 entry_shrinks form lines old new latest now bytes rest h = omega (arith, ap length h.parts, length-append (entry_line h.entry) rest, entry_nonempty h.entry)
 
 pub front_none : (form : Form) (last : List Stamped) → IsFront (front_of form last no_logs) → IsLatest no_logs 0
@@ -176,18 +201,23 @@ pub node_below : (form : Form) → IsForm form → form.nodes ≤ MAX_NODES
 node_below form (inl e) = rw e (omega arith)
 node_below form (inr h) = h.2.few_nodes
 
-few_below : (form : Form) (last : List Stamped) (logs : List (List Entry)) (entry : Entry) → IsFront (front_of form last logs) → EntryFits form (length last) entry → entry.node < length logs
+few_below : (form : Form) (last : List Stamped) (logs : List (List Entry)) (entry : Entry) → IsFront (front_of form last logs)
+    → EntryFits form (length last) entry → entry.node < length logs
 few_below form last logs entry h fits = let few = node_below form h.form in let node = fits.numbers.node in let sixteen = h.sixteen in omega arith
 
 -- the front with one entry more
-pub front_more : (form : Form) (last : List Stamped) (old new : List (List Entry)) (latest now : ℕ) (bytes rest : List ℕ) → IsFront (front_of form last old) → HasAllLines form.lines (length last) → AddsEntry form (length last) old new latest now bytes rest
+pub front_more : (form : Form) (last : List Stamped) (old new : List (List Entry)) (latest now : ℕ) (bytes rest : List ℕ) → IsFront (front_of form last old)
+    → HasAllLines form.lines (length last) → AddsEntry form (length last) old new latest now bytes rest
     → IsFront (front_of form last new)
 front_more form last old new latest now bytes rest h whole a =
     let node = a.entry.node in
     let log = log_of old node in
     let below = few_below form last old a.entry h a.fits in
-    let same : (n : ℕ) → n ≡ node → log_of new n ≡ log ++ a.entry ∷ [] = λ n e. ap (λ (ls : List (List Entry)). log_of ls n) a.added ∙ ap (log_of (set old node (log ++ a.entry ∷ []))) e ∙ get_or-set_same old node (log ++ a.entry ∷ []) [] below in
-    let other : (n : ℕ) → (n ≡ node → ⊥) → log_of new n ≡ log_of old n = λ n ne. ap (λ (ls : List (List Entry)). log_of ls n) a.added ∙ get_or-set_other old node n (log ++ a.entry ∷ []) [] ne in
+    let same : (n : ℕ) → n ≡ node → log_of new n ≡ log ++ a.entry ∷ [] =
+    λ n e. ap (λ (ls : List (List Entry)). log_of ls n) a.added ∙ ap (log_of (set old node (log ++ a.entry ∷ []))) e
+    ∙ get_or-set_same old node (log ++ a.entry ∷ []) [] below in
+    let other : (n : ℕ) → (n ≡ node → ⊥) → log_of new n ≡ log_of old n =
+    λ n ne. ap (λ (ls : List (List Entry)). log_of ls n) a.added ∙ get_or-set_other old node n (log ++ a.entry ∷ []) [] ne in
     record {
       form = h.form;
       last = h.last;
@@ -196,11 +226,13 @@ front_more form last old new latest now bytes rest h whole a =
       last_first = λ some. whole;
       sixteen = ap length a.added ∙ length-set old node (log ++ a.entry ∷ []) ∙ h.sixteen;
       own = λ n. elim (cases_eq n node) [
-        | inl e ↦ All-same (λ x. x.node ≡ n) (log_of new n) (log ++ a.entry ∷ []) (same n e) (All-push (λ x. x.node ≡ n) log a.entry (subst (λ (m : ℕ). All (λ x. x.node ≡ n) (log_of old m)) e (h.own n)) (sym e))
+        | inl e ↦ All-same (λ x. x.node ≡ n) (log_of new n) (log ++ a.entry ∷ []) (same n e)
+            (All-push (λ x. x.node ≡ n) log a.entry (subst (λ (m : ℕ). All (λ x. x.node ≡ n) (log_of old m)) e (h.own n)) (sym e))
         | inr ne ↦ All-same (λ x. x.node ≡ n) (log_of new n) (log_of old n) (other n ne) (h.own n)
       ];
       entries = λ n. elim (cases_eq n node) [
-        | inl e ↦ All-same (EntryFits form (length last)) (log_of new n) (log ++ a.entry ∷ []) (same n e) (All-push (EntryFits form (length last)) log a.entry (h.entries node) a.fits)
+        | inl e ↦ All-same (EntryFits form (length last)) (log_of new n) (log ++ a.entry ∷ []) (same n e)
+            (All-push (EntryFits form (length last)) log a.entry (h.entries node) a.fits)
         | inr ne ↦ All-same (EntryFits form (length last)) (log_of new n) (log_of old n) (other n ne) (h.entries n)
       ];
       few_entries = λ n. elim (cases_eq n node) [
@@ -209,33 +241,45 @@ front_more form last old new latest now bytes rest h whole a =
       ];
     }
 
-pub latest_more : (form : Form) (last : List Stamped) (old new : List (List Entry)) (latest now : ℕ) (bytes rest : List ℕ) → IsFront (front_of form last old) → IsLatest old latest → AddsEntry form (length last) old new latest now bytes rest → IsLatest new now
+pub latest_more : (form : Form) (last : List Stamped) (old new : List (List Entry)) (latest now : ℕ) (bytes rest : List ℕ) → IsFront (front_of form last old)
+    → IsLatest old latest → AddsEntry form (length last) old new latest now bytes rest → IsLatest new now
 latest_more form last old new latest now bytes rest h is a =
     let node = a.entry.node in
     let log = log_of old node in
     let below = few_below form last old a.entry h a.fits in
-    let same : log_of new now ≡ log ++ a.entry ∷ [] = ap (λ (ls : List (List Entry)). log_of ls now) a.added ∙ ap (log_of (set old node (log ++ a.entry ∷ []))) a.now_is ∙ get_or-set_same old node (log ++ a.entry ∷ []) [] below in
+    let same : log_of new now ≡ log ++ a.entry ∷ [] =
+    ap (λ (ls : List (List Entry)). log_of ls now) a.added ∙ ap (log_of (set old node (log ++ a.entry ∷ []))) a.now_is
+    ∙ get_or-set_same old node (log ++ a.entry ∷ []) [] below in
     let later = a.later in
     let now_is = a.now_is in
     record {
-      none_above = λ other lt. ap (λ (ls : List (List Entry)). log_of ls other) a.added ∙ get_or-set_other old node other (log ++ a.entry ∷ []) [] (λ e. absurd (omega arith)) ∙ is.none_above other (omega arith);
+      none_above = λ other lt. ap (λ (ls : List (List Entry)). log_of ls other) a.added
+          ∙ get_or-set_other old node other (log ++ a.entry ∷ []) [] (λ e. absurd (omega arith)) ∙ is.none_above other (omega arith);
       some = λ lt. omega (arith, ap length same, length-append log (a.entry ∷ []));
     }
 
-pub entries_go_on : (form : Form) (last : List Stamped) (all : List ℕ) (old new : List (List Entry)) (latest now : ℕ) (bytes rest : List ℕ) → IsFront (front_of form last old) → IsLatest old latest → all ≡ entry_lines old ++ bytes → AddsEntry form (length last) old new latest now bytes rest → all ≡ entry_lines new ++ rest
+pub entries_go_on : (form : Form) (last : List Stamped) (all : List ℕ) (old new : List (List Entry)) (latest now : ℕ) (bytes rest : List ℕ)
+    → IsFront (front_of form last old) → IsLatest old latest → all ≡ entry_lines old ++ bytes → AddsEntry form (length last) old new latest now bytes rest
+    → all ≡ entry_lines new ++ rest
 entries_go_on form last all old new latest now bytes rest h is so_far a =
     let node = a.entry.node in
     let later = a.later in
     let below = few_below form last old a.entry h a.fits in
-    let grown : entry_lines new ≡ entry_lines old ++ entry_line a.entry = ap entry_lines a.added ∙ entry_lines-push old node a.entry below (λ other above. is.none_above other (omega arith)) in
-    so_far ∙ ap (λ (t : List ℕ). entry_lines old ++ t) a.parts ∙ sym (append_assoc (entry_lines old) (entry_line a.entry) rest) ∙ ap (λ (t : List ℕ). t ++ rest) (sym grown)
+    let grown : entry_lines new ≡ entry_lines old ++ entry_line a.entry =
+    ap entry_lines a.added ∙ entry_lines-push old node a.entry below (λ other above. is.none_above other (omega arith)) in
+    so_far ∙ ap (λ (t : List ℕ). entry_lines old ++ t) a.parts ∙ sym (append_assoc (entry_lines old) (entry_line a.entry) rest)
+    ∙ ap (λ (t : List ℕ). t ++ rest) (sym grown)
 
-pub count_more : (form : Form) (last : List Stamped) (old new : List (List Entry)) (latest now : ℕ) (bytes rest : List ℕ) → IsFront (front_of form last old) → AddsEntry form (length last) old new latest now bytes rest → entry_count new ≡ entry_count old + 1
-count_more form last old new latest now bytes rest h a = ap entry_count a.added ∙ entry_count-push old a.entry.node a.entry (few_below form last old a.entry h a.fits)
+pub count_more : (form : Form) (last : List Stamped) (old new : List (List Entry)) (latest now : ℕ) (bytes rest : List ℕ) → IsFront (front_of form last old)
+    → AddsEntry form (length last) old new latest now bytes rest → entry_count new ≡ entry_count old + 1
+count_more form last old new latest now bytes rest h a =
+    ap entry_count a.added ∙ entry_count-push old a.entry.node a.entry (few_below form last old a.entry h a.fits)
 
 -- a faulty entry
-pub entry_refused : (form : Form) (last : List Stamped) (logs : List (List Entry)) (bytes rest : List ℕ) (kind : TextFaultKind) (line : ℕ) (fault : TextFault) → IsFront (front_of form last logs) → bytes ≡ entry_lines logs ++ rest → 0 < length rest → IsToldAt line kind fault
-    → (kind ≡ Memory) ⊎ LogLineFault (front_of form last logs) rest kind → line ≡ first_lines form.lines + length last + entry_count logs + 1 → IsRefusalAfter form (last_lines 0 last ++ bytes) fault
+pub entry_refused : (form : Form) (last : List Stamped) (logs : List (List Entry)) (bytes rest : List ℕ) (kind : TextFaultKind) (line : ℕ) (fault : TextFault)
+    → IsFront (front_of form last logs) → bytes ≡ entry_lines logs ++ rest → 0 < length rest → IsToldAt line kind fault
+    → (kind ≡ Memory) ⊎ LogLineFault (front_of form last logs) rest kind → line ≡ first_lines form.lines + length last + entry_count logs + 1
+    → IsRefusalAfter form (last_lines 0 last ++ bytes) fault
 entry_refused form last logs bytes rest kind line fault good parts some at faulty place = λ input is first.
     let front = front_of form last logs in
     let whole : input ≡ front_text front ++ rest = is ∙ ap (λ (t : List ℕ). first_line form ++ (last_lines 0 last ++ t)) parts ∙ simp append_assoc in
@@ -252,7 +296,15 @@ pub record Started (form : Form) (last : List Stamped) (logs : List (List Entry)
   pub no_last : NoLast (front_of form last logs) bytes
   pub none : entry_count logs ≡ 0
 
-pub started : (form : Form) (last : List Stamped) (logs : List (List Entry)) (bytes : List ℕ) → logs ≡ no_logs → IsFront (front_of form last no_logs) → (BeginsLast bytes → ⊥) → Started form last logs bytes
+pub started : (form : Form) (last : List Stamped) (logs : List (List Entry)) (bytes : List ℕ) → logs ≡ no_logs → IsFront (front_of form last no_logs)
+    → (BeginsLast bytes → ⊥) → Started form last logs bytes
 started form last logs bytes e good no_more =
-    let start : Started form last no_logs bytes = record { good = good; parts = refl; latest = front_none form last good; no_last = no_last_here (front_of form last no_logs) bytes no_more; none = refl } in
+    let start : Started form last no_logs bytes =
+    record {
+      good = good;
+      parts = refl;
+      latest = front_none form last good;
+      no_last = no_last_here (front_of form last no_logs) bytes no_more;
+      none = refl;
+    } in
     subst (λ (ls : List (List Entry)). Started form last ls bytes) (sym e) start

@@ -18,20 +18,36 @@ record IsLimited (form : Form) (count : ℕ) : Type 0 where
 limited : (form : Form) (count : ℕ) → IsForm form → HasAllLines form.lines count → count ≤ MAX_LINES → IsLimited form count
 limited form count (inl e) whole few =
     let some : 1 ≤ count = (rw e at whole) in
-    rw e (record { size = record { has_node = omega arith; few_nodes = omega arith; has_line = some; few_lines = few }; serials = omega arith; entries = omega arith })
+    rw e (record {
+      size = record { has_node = omega arith; few_nodes = omega arith; has_line = some; few_lines = few };
+      serials = omega arith;
+      entries = omega arith;
+    })
 limited form count (inr h) whole few =
     let all : count ≡ h.0 = (rw h.1 at whole) in
     let size = h.2 in
     let has_line = size.has_line in
-    rw h.1 (record { size = record { has_node = size.has_node; few_nodes = size.few_nodes; has_line = omega arith; few_lines = few }; serials = omega arith; entries = omega arith })
+    rw h.1 (record {
+      size = record { has_node = size.has_node; few_nodes = size.few_nodes; has_line = omega arith; few_lines = few };
+      serials = omega arith;
+      entries = omega arith;
+    })
 
-fits_format_2 : (form : Form) (lines count : ℕ) (entry : Entry) → form.serials ≤ MAX_OPERATIONS → EntryFits form count entry → EntryFits (format_2 form.nodes lines) count entry
+fits_format_2 : (form : Form) (lines count : ℕ) (entry : Entry) → form.serials ≤ MAX_OPERATIONS → EntryFits form count entry
+    → EntryFits (format_2 form.nodes lines) count entry
 fits_format_2 form lines count entry few h =
     let n = h.numbers in
     let serial = n.serial in
-    record { numbers = record { node = n.node; serial = omega arith; line = n.line; word = n.word }; operands = h.operands; answers = h.answers; reply = h.reply; version = h.version }
+    record {
+      numbers = record { node = n.node; serial = omega arith; line = n.line; word = n.word };
+      operands = h.operands;
+      answers = h.answers;
+      reply = h.reply;
+      version = h.version;
+    }
 
-in_format_2 : (form : Form) (nodes : ℕ) (logs : List (List Entry)) (last : List Stamped) → AreLogsOf form nodes logs last → AreLogsOf (format_2 form.nodes (length last)) nodes logs last
+in_format_2 : (form : Form) (nodes : ℕ) (logs : List (List Entry)) (last : List Stamped) → AreLogsOf form nodes logs last
+    → AreLogsOf (format_2 form.nodes (length last)) nodes logs last
 in_format_2 form nodes logs last h =
     let l = limited form (length last) h.good.form h.whole h.good.few_lines in
     let serials = l.serials in
@@ -44,7 +60,8 @@ in_format_2 form nodes logs last h =
         last_first = λ some. refl;
         sixteen = h.good.sixteen;
         own = h.good.own;
-        entries = λ node. All-weaker (EntryFits form (length last)) (EntryFits (format_2 form.nodes (length last)) (length last)) (λ e fits. fits_format_2 form (length last) (length last) e serials fits) (log_of logs node) (h.good.entries node);
+        entries = λ node. All-weaker (EntryFits form (length last)) (EntryFits (format_2 form.nodes (length last)) (length last))
+            (λ e fits. fits_format_2 form (length last) (length last) e serials fits) (log_of logs node) (h.good.entries node);
         few_entries = λ node. let few = h.good.few_entries node in let entries = l.entries in omega arith;
       };
       whole = refl;

@@ -21,10 +21,12 @@ use Rattle.sci_text.specs.Operation.{act_word, act_operands, operation}
 use Rattle.sci_text.specs.Log.{reply_text, version_text, log_line, last_line, issue_text, outcome_text, entry_line}
 use Rattle.sci_text.specs.LogValue.{StampedFits, Answers, ReplyFits}
 use Rattle.sci_text.specs.Reading.{◌>>=◌, fitting, field_read, number_read, after, byte, command_read, pair_read, operation_read}
-use Rattle.sci_text.specs.LogReading.{version_read, eight, words_read, stamped_of, last_line_read, reply_read, serial_of, entry_of, issue_read, outcome_read, entry_line_read, log_line_read}
+use Rattle.sci_text.specs.LogReading.{version_read, eight, words_read, stamped_of, last_line_read, reply_read, serial_of, entry_of, issue_read, outcome_read}
+use Rattle.sci_text.specs.LogReading.{entry_line_read, log_line_read}
 use Rattle.sci_text.proofs.Numbers.{fitting_below, fitting_above, Ends, number_again, number_found, field_again, ends_field, field_found}
 use Rattle.sci_text.proofs.Words.{after_again, after_found}
-use Rattle.sci_text.proofs.Operations.{fitting_is, mapped, both, both_is, byte_is, bind_some, pair_again, pair_found, command_of, command_again, OpFits, operation_again, operation_found}
+use Rattle.sci_text.proofs.Operations.{fitting_is, mapped, both, both_is, byte_is, bind_some, pair_again, pair_found, command_of, command_again, OpFits}
+use Rattle.sci_text.proofs.Operations.{operation_again, operation_found}
 
 -- the same value under a condition that says the same
 pub some_iff_as : {A : Type 0} (P Q : Type 0) (o : Option A) (x : A) → (P → Q) → (Q → P) → SomeIff o P x → SomeIff o Q x
@@ -39,9 +41,11 @@ ends_version version rest = refl
 
 version_again : (version : ℕ) (rest : List ℕ) → Ends rest → version_read (version_text version ++ rest) ≡ Some (fitting version, rest)
 unfolding version_read version_text
-version_again version rest ends = rw (append_assoc (codes " @") (number version) rest, after_again (codes " @") (number version ++ rest)) (number_again version rest ends)
+version_again version rest ends =
+    rw (append_assoc (codes " @") (number version) rest, after_again (codes " @") (number version ++ rest)) (number_again version rest ends)
 
-version_found : (bytes : List ℕ) (value : Option ℕ) (rest : List ℕ) → version_read bytes ≡ Some (value, rest) → (n : ℕ) × (bytes ≡ version_text n ++ rest) × (value ≡ fitting n)
+version_found : (bytes : List ℕ) (value : Option ℕ) (rest : List ℕ) → version_read bytes ≡ Some (value, rest)
+    → (n : ℕ) × (bytes ≡ version_text n ++ rest) × (value ≡ fitting n)
 unfolding version_read version_text
 version_found bytes value rest e =
     let first = bind_some (after (codes " @") bytes) number_read (value, rest) e in
@@ -74,12 +78,17 @@ eight_of (Some w) (Some x) (Some y) (Some z) a b c d h i j k = ((h.0, i.0, j.0, 
 two_is : (a b : ℕ) → SomeIff (both (fitting a) (fitting b)) (Fit (a, b)) (a, b)
 two_is a b = both_is (a < 2 ^ 64) (b < 2 ^ 64) (fitting a) (fitting b) a b (fitting_is a) (fitting_is b)
 
-eight_is : (a b c d : ℕ × ℕ) → SomeIff (eight (both (fitting a.0) (fitting a.1)) (both (fitting b.0) (fitting b.1)) (both (fitting c.0) (fitting c.1)) (both (fitting d.0) (fitting d.1))) (AreWords (eight_words a b c d)) (eight_words a b c d)
+eight_is : (a b c d : ℕ × ℕ) → SomeIff
+    (eight (both (fitting a.0) (fitting a.1)) (both (fitting b.0) (fitting b.1)) (both (fitting c.0) (fitting c.1)) (both (fitting d.0) (fitting d.1)))
+    (AreWords (eight_words a b c d)) (eight_words a b c d)
 eight_is a b c d =
-    some_iff_as (Fit a × Fit b × Fit c × Fit d) (AreWords (eight_words a b c d)) (eight (both (fitting a.0) (fitting a.1)) (both (fitting b.0) (fitting b.1)) (both (fitting c.0) (fitting c.1)) (both (fitting d.0) (fitting d.1))) (eight_words a b c d)
+    some_iff_as (Fit a × Fit b × Fit c × Fit d) (AreWords (eight_words a b c d))
+    (eight (both (fitting a.0) (fitting a.1)) (both (fitting b.0) (fitting b.1)) (both (fitting c.0) (fitting c.1)) (both (fitting d.0) (fitting d.1)))
+    (eight_words a b c d)
     (λ h. (h.0.0, (h.0.1, (h.1.0, (h.1.1, (h.2.0, (h.2.1, (h.3.0, (h.3.1, tt)))))))))
     (λ h. ((h.0, h.1.0), (h.1.1.0, h.1.1.1.0), (h.1.1.1.1.0, h.1.1.1.1.1.0), (h.1.1.1.1.1.1.0, h.1.1.1.1.1.1.1.0)))
-    (eight_of (both (fitting a.0) (fitting a.1)) (both (fitting b.0) (fitting b.1)) (both (fitting c.0) (fitting c.1)) (both (fitting d.0) (fitting d.1)) a b c d (two_is a.0 a.1) (two_is b.0 b.1) (two_is c.0 c.1) (two_is d.0 d.1))
+    (eight_of (both (fitting a.0) (fitting a.1)) (both (fitting b.0) (fitting b.1)) (both (fitting c.0) (fitting c.1)) (both (fitting d.0) (fitting d.1)) a b c
+    d (two_is a.0 a.1) (two_is b.0 b.1) (two_is c.0 c.1) (two_is d.0 d.1))
 
 abbrev pair_text : ℕ × ℕ → List ℕ
 pair_text p = field p.0 ++ field p.1
@@ -87,14 +96,25 @@ pair_text p = field p.0 ++ field p.1
 ends_pair : (p : ℕ × ℕ) (rest : List ℕ) → Ends (pair_text p ++ rest)
 ends_pair p rest = rw (append_assoc (field p.0) (field p.1) rest) (ends_field p.0 (field p.1 ++ rest))
 
-eight_text : (a b c d : ℕ × ℕ) (rest : List ℕ) → flat_map field (eight_words a b c d) ++ rest ≡ pair_text a ++ (pair_text b ++ (pair_text c ++ (pair_text d ++ rest)))
+eight_text : (a b c d : ℕ × ℕ) (rest : List ℕ)
+    → flat_map field (eight_words a b c d) ++ rest ≡ pair_text a ++ (pair_text b ++ (pair_text c ++ (pair_text d ++ rest)))
 eight_text a b c d rest = simp append_assoc
 
 words_again : (a b c d : ℕ × ℕ) (rest : List ℕ) → Ends rest
-    → words_read (flat_map field (eight_words a b c d) ++ rest) ≡ Some (eight (both (fitting a.0) (fitting a.1)) (both (fitting b.0) (fitting b.1)) (both (fitting c.0) (fitting c.1)) (both (fitting d.0) (fitting d.1)), rest)
+    → words_read (flat_map field (eight_words a b c d) ++ rest) ≡ Some (
+      eight (both (fitting a.0) (fitting a.1)) (both (fitting b.0) (fitting b.1)) (both (fitting c.0) (fitting c.1)) (both (fitting d.0) (fitting d.1)),
+      rest,
+    )
 unfolding words_read
 words_again a b c d rest ends =
-    rw (eight_text a b c d rest, pair_again a.0 a.1 (pair_text b ++ (pair_text c ++ (pair_text d ++ rest))) (ends_pair b (pair_text c ++ (pair_text d ++ rest))), pair_again b.0 b.1 (pair_text c ++ (pair_text d ++ rest)) (ends_pair c (pair_text d ++ rest)), pair_again c.0 c.1 (pair_text d ++ rest) (ends_pair d rest), pair_again d.0 d.1 rest ends) refl
+    rw (
+      eight_text a b c d rest,
+      pair_again a.0 a.1 (pair_text b ++ (pair_text c ++ (pair_text d ++ rest)))
+          (ends_pair b (pair_text c ++ (pair_text d ++ rest))),
+      pair_again b.0 b.1 (pair_text c ++ (pair_text d ++ rest)) (ends_pair c (pair_text d ++ rest)),
+      pair_again c.0 c.1 (pair_text d ++ rest) (ends_pair d rest),
+      pair_again d.0 d.1 rest ends,
+    ) refl
 
 -- what is read as these words
 abbrev ReadWords : List ℕ → List ℕ → Option (Option (List ℕ) × List ℕ) → Type 0
@@ -109,8 +129,11 @@ eight_words_again (a ∷ b ∷ c ∷ d ∷ []) rest e ends = absurd (omega arith
 eight_words_again (a ∷ b ∷ c ∷ d ∷ f ∷ []) rest e ends = absurd (omega arith)
 eight_words_again (a ∷ b ∷ c ∷ d ∷ f ∷ g ∷ []) rest e ends = absurd (omega arith)
 eight_words_again (a ∷ b ∷ c ∷ d ∷ f ∷ g ∷ h ∷ []) rest e ends = absurd (omega arith)
-eight_words_again (a ∷ b ∷ c ∷ d ∷ f ∷ g ∷ h ∷ i ∷ []) rest e ends =
-    (eight (both (fitting a) (fitting b)) (both (fitting c) (fitting d)) (both (fitting f) (fitting g)) (both (fitting h) (fitting i)), words_again (a, b) (c, d) (f, g) (h, i) rest ends, eight_is (a, b) (c, d) (f, g) (h, i))
+eight_words_again (a ∷ b ∷ c ∷ d ∷ f ∷ g ∷ h ∷ i ∷ []) rest e ends = (
+  eight (both (fitting a) (fitting b)) (both (fitting c) (fitting d)) (both (fitting f) (fitting g)) (both (fitting h) (fitting i)),
+  words_again (a, b) (c, d) (f, g) (h, i) rest ends,
+  eight_is (a, b) (c, d) (f, g) (h, i),
+)
 eight_words_again (a ∷ b ∷ c ∷ d ∷ f ∷ g ∷ h ∷ i ∷ j ∷ more) rest e ends = absurd (omega arith)
 
 words_found : (bytes : List ℕ) (o : Option (List ℕ)) (rest : List ℕ) → words_read bytes ≡ Some (o, rest)
@@ -129,11 +152,18 @@ words_found bytes o rest e =
     let d = pair_found r.0.1 s.0.0 s.0.1 s.1 in
     let fourth : r.0.1 ≡ pair_text (d.0, d.1) ++ rest = d.2 ∙ ap (λ (l : List ℕ). pair_text (d.0, d.1) ++ l) parts.1 in
     let third : q.0.1 ≡ pair_text (c.0, c.1) ++ (pair_text (d.0, d.1) ++ rest) = c.2 ∙ ap (λ (l : List ℕ). pair_text (c.0, c.1) ++ l) fourth in
-    let second : p.0.1 ≡ pair_text (b.0, b.1) ++ (pair_text (c.0, c.1) ++ (pair_text (d.0, d.1) ++ rest)) = b.2 ∙ ap (λ (l : List ℕ). pair_text (b.0, b.1) ++ l) third in
-    let first : bytes ≡ pair_text (a.0, a.1) ++ (pair_text (b.0, b.1) ++ (pair_text (c.0, c.1) ++ (pair_text (d.0, d.1) ++ rest))) = a.2 ∙ ap (λ (l : List ℕ). pair_text (a.0, a.1) ++ l) second in
+    let second : p.0.1 ≡ pair_text (b.0, b.1) ++ (pair_text (c.0, c.1) ++ (pair_text (d.0, d.1) ++ rest)) =
+    b.2 ∙ ap (λ (l : List ℕ). pair_text (b.0, b.1) ++ l) third in
+    let first : bytes ≡ pair_text (a.0, a.1) ++ (pair_text (b.0, b.1) ++ (pair_text (c.0, c.1) ++ (pair_text (d.0, d.1) ++ rest))) =
+    a.2 ∙ ap (λ (l : List ℕ). pair_text (a.0, a.1) ++ l) second in
     let words = eight_words (a.0, a.1) (b.0, b.1) (c.0, c.1) (d.0, d.1) in
-    let said : eight (both (fitting a.0) (fitting a.1)) (both (fitting b.0) (fitting b.1)) (both (fitting c.0) (fitting c.1)) (both (fitting d.0) (fitting d.1)) ≡ o = rw (← a.3, ← b.3, ← c.3, ← d.3) parts.0 in
-    (words, refl, first ∙ sym (eight_text (a.0, a.1) (b.0, b.1) (c.0, c.1) (d.0, d.1) rest), subst (λ (v : Option (List ℕ)). SomeIff v (AreWords words) words) said (eight_is (a.0, a.1) (b.0, b.1) (c.0, c.1) (d.0, d.1)))
+    let said : eight (both (fitting a.0) (fitting a.1)) (both (fitting b.0) (fitting b.1)) (both (fitting c.0) (fitting c.1))
+    (both (fitting d.0) (fitting d.1)) ≡ o = rw (← a.3, ← b.3, ← c.3, ← d.3) parts.0 in (
+      words,
+      refl,
+      first ∙ sym (eight_text (a.0, a.1) (b.0, b.1) (c.0, c.1) (d.0, d.1) rest),
+      subst (λ (v : Option (List ℕ)). SomeIff v (AreWords words) words) said (eight_is (a.0, a.1) (b.0, b.1) (c.0, c.1) (d.0, d.1)),
+    )
 
 -- ---- `last` lines
 
@@ -144,11 +174,13 @@ same_parts : (line : List ℕ) (version : ℕ) (s : Stamped) → line ≡ s.line
 unfolding with_line
 same_parts line version s e f = ap (with_line version) e ∙ ap (λ (v : ℕ). with_line v s.line) f
 
-stamped_is : (o : Option (List ℕ)) (p : Option ℕ) (stamped : Stamped) → SomeIff o (AreWords stamped.line) stamped.line → SomeIff p (stamped.version < 2 ^ 64) stamped.version → SomeIff (stamped_of o p) (StampedFits stamped) stamped
+stamped_is : (o : Option (List ℕ)) (p : Option ℕ) (stamped : Stamped) → SomeIff o (AreWords stamped.line) stamped.line
+    → SomeIff p (stamped.version < 2 ^ 64) stamped.version → SomeIff (stamped_of o p) (StampedFits stamped) stamped
 unfolding stamped_of
 stamped_is None p stamped h k = λ fits. h (recursion_from_All (λ word. word < 2 ^ 64) stamped.line fits.words)
 stamped_is (Some line) None stamped h k = λ fits. k fits.version
-stamped_is (Some line) (Some version) stamped h k = (record { words = All-from_recursion (λ word. word < 2 ^ 64) stamped.line h.0; version = k.0 }, same_parts line version stamped h.1 k.1)
+stamped_is (Some line) (Some version) stamped h k =
+    (record { words = All-from_recursion (λ word. word < 2 ^ 64) stamped.line h.0; version = k.0 }, same_parts line version stamped h.1 k.1)
 
 abbrev pub LastSaid : Type 0
 LastSaid = Option ℕ × Option Stamped
@@ -164,19 +196,30 @@ last_line_again line stamped rest long =
     let end = 10 ∷ rest in
     let texts = flat_map field stamped.line ++ end in
     let tail = version_text stamped.version ++ texts in
-    let regrouped : (codes "last" ++ (field line ++ (version_text stamped.version ++ (flat_map field stamped.line ++ 10 ∷ [])))) ++ rest ≡ codes "last" ++ (field line ++ tail) = simp append_assoc in
+    let regrouped : (codes "last" ++ (field line ++ (version_text stamped.version ++ (flat_map field stamped.line ++ 10 ∷ [])))) ++ rest ≡ codes "last"
+    ++ (field line ++ tail) = simp append_assoc in
     let words = eight_words_again stamped.line end long refl in (
       stamped_of words.0 (fitting stamped.version),
-      rw (regrouped, after_again (codes "last") (field line ++ tail), field_again line tail (ends_version stamped.version texts), version_again stamped.version texts (ends_words stamped.line rest), words.1, after_again (10 ∷ []) rest) refl,
+      rw (
+        regrouped,
+        after_again (codes "last") (field line ++ tail),
+        field_again line tail (ends_version stamped.version texts),
+        version_again stamped.version texts (ends_words stamped.line rest),
+        words.1,
+        after_again (10 ∷ []) rest,
+      ) refl,
       stamped_is words.0 (fitting stamped.version) stamped words.2 (fitting_is stamped.version),
     )
 
 pub last_line_found : (bytes : List ℕ) (l : Option ℕ) (o : Option Stamped) (rest : List ℕ) → last_line_read bytes ≡ Some ((l, o), rest)
-    → (line : ℕ) × (stamped : Stamped) × (length stamped.line ≡ WORDS_PER_LINE) × (bytes ≡ last_line line stamped ++ rest) × (l ≡ fitting line) × SomeIff o (StampedFits stamped) stamped
+    → (line : ℕ) × (stamped : Stamped) × (length stamped.line ≡ WORDS_PER_LINE) × (bytes ≡ last_line line stamped ++ rest) × (l ≡ fitting line)
+    × SomeIff o (StampedFits stamped) stamped
 unfolding last_line last_line_read
 last_line_found bytes l o rest e =
-    let end : Option ℕ → Option ℕ → Option (List ℕ) → List ℕ → Option (LastSaid × List ℕ) = λ x v w t. after (10 ∷ []) t >>= λ r. Some ((x, stamped_of w v), r) in
-    let first = bind_some (after (codes "last") bytes) (λ t. field_read t >>= λ x. version_read x.1 >>= λ v. words_read v.1 >>= λ w. end x.0 v.0 w.0 w.1) ((l, o), rest) e in
+    let end : Option ℕ → Option ℕ → Option (List ℕ) → List ℕ → Option (LastSaid × List ℕ) =
+    λ x v w t. after (10 ∷ []) t >>= λ r. Some ((x, stamped_of w v), r) in
+    let first = bind_some (after (codes "last") bytes) (λ t. field_read t >>= λ x. version_read x.1 >>= λ v. words_read v.1 >>= λ w. end x.0 v.0 w.0 w.1)
+    ((l, o), rest) e in
     let x = bind_some (field_read first.0) (λ x. version_read x.1 >>= λ v. words_read v.1 >>= λ w. end x.0 v.0 w.0 w.1) ((l, o), rest) first.2 in
     let v = bind_some (version_read x.0.1) (λ v. words_read v.1 >>= λ w. end x.0.0 v.0 w.0 w.1) ((l, o), rest) x.2 in
     let w = bind_some (words_read v.0.1) (λ w. end x.0.0 v.0.0 w.0 w.1) ((l, o), rest) v.2 in
@@ -188,8 +231,10 @@ last_line_found bytes l o rest e =
     let last : w.0.1 ≡ 10 ∷ rest = after_found (10 ∷ []) w.0.1 r.0 r.1 ∙ ap (λ (t : List ℕ). 10 ∷ t) parts.1 in
     let third : v.0.1 ≡ flat_map field words.0 ++ 10 ∷ rest = words.2 ∙ ap (λ (t : List ℕ). flat_map field words.0 ++ t) last in
     let second : x.0.1 ≡ version_text version.0 ++ (flat_map field words.0 ++ 10 ∷ rest) = version.1 ∙ ap (λ (t : List ℕ). version_text version.0 ++ t) third in
-    let front : first.0 ≡ field line.0 ++ (version_text version.0 ++ (flat_map field words.0 ++ 10 ∷ rest)) = line.1 ∙ ap (λ (t : List ℕ). field line.0 ++ t) second in
-    let regrouped : (codes "last" ++ (field line.0 ++ (version_text version.0 ++ (flat_map field words.0 ++ 10 ∷ [])))) ++ rest ≡ codes "last" ++ (field line.0 ++ (version_text version.0 ++ (flat_map field words.0 ++ 10 ∷ rest))) = simp append_assoc in
+    let front : first.0 ≡ field line.0 ++ (version_text version.0 ++ (flat_map field words.0 ++ 10 ∷ rest)) =
+    line.1 ∙ ap (λ (t : List ℕ). field line.0 ++ t) second in
+    let regrouped : (codes "last" ++ (field line.0 ++ (version_text version.0 ++ (flat_map field words.0 ++ 10 ∷ [])))) ++ rest ≡ codes "last"
+    ++ (field line.0 ++ (version_text version.0 ++ (flat_map field words.0 ++ 10 ∷ rest))) = simp append_assoc in
     let stamped : Stamped = record { line = words.0; version = version.0 } in
     let seen : stamped_of w.0.0 (fitting version.0) ≡ o = ap (λ (n : Option ℕ). stamped_of w.0.0 n) (sym version.2) ∙ ap (λ (t : LastSaid). t.1) parts.0 in (
       line.0,
@@ -197,7 +242,8 @@ last_line_found bytes l o rest e =
       words.1,
       after_found (codes "last") bytes first.0 first.1 ∙ ap (λ (t : List ℕ). codes "last" ++ t) front ∙ sym regrouped,
       sym (ap (λ (t : LastSaid). t.0) parts.0) ∙ line.2,
-      subst (λ (s : Option Stamped). SomeIff s (StampedFits stamped) stamped) seen (stamped_is w.0.0 (fitting version.0) stamped words.3 (fitting_is version.0)),
+      subst (λ (s : Option Stamped). SomeIff s (StampedFits stamped) stamped) seen
+          (stamped_is w.0.0 (fitting version.0) stamped words.3 (fitting_is version.0)),
     )
 
 -- ---- replies
@@ -206,15 +252,21 @@ reply_again : (act : Act) (reply : Reply) (rest : List ℕ) → Answers act repl
     → (o : Option Reply) × (reply_read (command_of act) (reply_text reply ++ rest) ≡ Some (o, rest)) × SomeIff o (ReplyFits reply) reply
 unfolding reply_read after
 reply_again Load Stored rest h ends = absurd h
-reply_again Load (Got word) rest h ends = (option_map Got (fitting word), rw (number_again word rest ends) refl, mapped (word < 2 ^ 64) Got (fitting word) word (fitting_is word))
+reply_again Load (Got word) rest h ends =
+    (option_map Got (fitting word), rw (number_again word rest ends) refl, mapped (word < 2 ^ 64) Got (fitting word) word (fitting_is word))
 reply_again (Store word) Stored rest h ends = (Some Stored, refl, (tt, refl))
 reply_again (Store word) (Got other) rest h ends = absurd h
 reply_again (Lock lock) Stored rest h ends = absurd h
-reply_again (Lock (MaskSwap arg datum)) (Got word) rest h ends = (option_map Got (fitting word), rw (number_again word rest ends) refl, mapped (word < 2 ^ 64) Got (fitting word) word (fitting_is word))
-reply_again (Lock (CompareSwap arg datum)) (Got word) rest h ends = (option_map Got (fitting word), rw (number_again word rest ends) refl, mapped (word < 2 ^ 64) Got (fitting word) word (fitting_is word))
-reply_again (Lock (FetchAdd datum)) (Got word) rest h ends = (option_map Got (fitting word), rw (number_again word rest ends) refl, mapped (word < 2 ^ 64) Got (fitting word) word (fitting_is word))
-reply_again (Lock (BoundedAdd arg datum)) (Got word) rest h ends = (option_map Got (fitting word), rw (number_again word rest ends) refl, mapped (word < 2 ^ 64) Got (fitting word) word (fitting_is word))
-reply_again (Lock (WrapAdd arg datum)) (Got word) rest h ends = (option_map Got (fitting word), rw (number_again word rest ends) refl, mapped (word < 2 ^ 64) Got (fitting word) word (fitting_is word))
+reply_again (Lock (MaskSwap arg datum)) (Got word) rest h ends =
+    (option_map Got (fitting word), rw (number_again word rest ends) refl, mapped (word < 2 ^ 64) Got (fitting word) word (fitting_is word))
+reply_again (Lock (CompareSwap arg datum)) (Got word) rest h ends =
+    (option_map Got (fitting word), rw (number_again word rest ends) refl, mapped (word < 2 ^ 64) Got (fitting word) word (fitting_is word))
+reply_again (Lock (FetchAdd datum)) (Got word) rest h ends =
+    (option_map Got (fitting word), rw (number_again word rest ends) refl, mapped (word < 2 ^ 64) Got (fitting word) word (fitting_is word))
+reply_again (Lock (BoundedAdd arg datum)) (Got word) rest h ends =
+    (option_map Got (fitting word), rw (number_again word rest ends) refl, mapped (word < 2 ^ 64) Got (fitting word) word (fitting_is word))
+reply_again (Lock (WrapAdd arg datum)) (Got word) rest h ends =
+    (option_map Got (fitting word), rw (number_again word rest ends) refl, mapped (word < 2 ^ 64) Got (fitting word) word (fitting_is word))
 
 -- what bytes begin with as the reply of an operation
 abbrev ReplyFound : Act → List ℕ → Option Reply → List ℕ → Type 0
@@ -231,14 +283,19 @@ got_found bytes o rest e =
     let parts = some_pair_parts (option_map Got x.0.0) o x.0.1 rest x.2 in (
       n.0,
       n.1 ∙ ap (λ (l : List ℕ). number n.0 ++ l) parts.1,
-      subst (λ (v : Option Reply). SomeIff v (n.0 < 2 ^ 64) (Got n.0)) (ap (option_map Got) (sym n.2) ∙ parts.0) (mapped (n.0 < 2 ^ 64) Got (fitting n.0) n.0 (fitting_is n.0)),
+      subst (λ (v : Option Reply). SomeIff v (n.0 < 2 ^ 64) (Got n.0)) (ap (option_map Got) (sym n.2) ∙ parts.0)
+          (mapped (n.0 < 2 ^ 64) Got (fitting n.0) n.0 (fitting_is n.0)),
     )
 
-stored_found : (bytes : List ℕ) (o : Option Reply) (rest : List ℕ) (read : Option (List ℕ)) → after (codes "-") bytes ≡ read → ◌≡◌ {A = Option (Option Reply × List ℕ)} (option_map (λ r. (Some Stored, r)) read) (Some (o, rest)) → (bytes ≡ codes "-" ++ rest) × SomeIff o (Unit {0}) Stored
+stored_found : (bytes : List ℕ) (o : Option Reply) (rest : List ℕ) (read : Option (List ℕ)) → after (codes "-") bytes ≡ read
+    → ◌≡◌ {A = Option (Option Reply × List ℕ)} (option_map (λ r. (Some Stored, r)) read) (Some (o, rest))
+    → (bytes ≡ codes "-" ++ rest) × SomeIff o (Unit {0}) Stored
 stored_found bytes o rest None a e = absurd cc
 stored_found bytes o rest (Some r) a e =
-    let parts = some_pair_parts (Some Stored) o r rest e in
-    (after_found (codes "-") bytes r a ∙ ap (λ (l : List ℕ). codes "-" ++ l) parts.1, subst (λ (v : Option Reply). SomeIff v (Unit {0}) Stored) parts.0 (tt, refl))
+    let parts = some_pair_parts (Some Stored) o r rest e in (
+      after_found (codes "-") bytes r a ∙ ap (λ (l : List ℕ). codes "-" ++ l) parts.1,
+      subst (λ (v : Option Reply). SomeIff v (Unit {0}) Stored) parts.0 (tt, refl),
+    )
 
 reply_found : (act : Act) (bytes : List ℕ) (o : Option Reply) (rest : List ℕ) → reply_read (command_of act) bytes ≡ Some (o, rest) → ReplyFound act bytes o rest
 unfolding reply_read
@@ -286,20 +343,25 @@ pub record EntryReads (entry : Entry) : Type 0 where
 entry_with : ℕ → ℕ → Op → Reply → ℕ → Entry
 entry_with n s o r v = record { node = n; serial = s; op = o; reply = r; version = v }
 
-same_entry : (n s : ℕ) (o : Op) (r : Reply) (v : ℕ) (e : Entry) → n ≡ e.node → s ≡ e.serial → o ≡ e.op → r ≡ e.reply → v ≡ e.version → record { node = n; serial = s; op = o; reply = r; version = v } ≡ e
+same_entry : (n s : ℕ) (o : Op) (r : Reply) (v : ℕ) (e : Entry) → n ≡ e.node → s ≡ e.serial → o ≡ e.op → r ≡ e.reply → v ≡ e.version
+    → record { node = n; serial = s; op = o; reply = r; version = v } ≡ e
 unfolding entry_with
 same_entry n s o r v e a b c d f =
     ap (λ (x : ℕ). entry_with x s o r v) a ∙ ap (λ (x : ℕ). entry_with e.node x o r v) b ∙ ap (λ (x : Op). entry_with e.node e.serial x r v) c
     ∙ ap (λ (x : Reply). entry_with e.node e.serial e.op x v) d ∙ ap (λ (x : ℕ). entry_with e.node e.serial e.op e.reply x) f
 
-entry_is : (n s : Option ℕ) (o : Option Op) (r : Option Reply) (v : Option ℕ) (entry : Entry) → SomeIff (byte n) (entry.node < 256) entry.node → SomeIff (serial_of s) (entry.serial < 2 ^ 32) entry.serial
-    → SomeIff o (OpFits entry.op) entry.op → SomeIff r (ReplyFits entry.reply) entry.reply → SomeIff v (entry.version < 2 ^ 64) entry.version → SomeIff (entry_of n s o r v) (EntryReads entry) entry
+entry_is : (n s : Option ℕ) (o : Option Op) (r : Option Reply) (v : Option ℕ) (entry : Entry) → SomeIff (byte n) (entry.node < 256) entry.node
+    → SomeIff (serial_of s) (entry.serial < 2 ^ 32) entry.serial
+    → SomeIff o (OpFits entry.op) entry.op → SomeIff r (ReplyFits entry.reply) entry.reply → SomeIff v (entry.version < 2 ^ 64) entry.version
+    → SomeIff (entry_of n s o r v) (EntryReads entry) entry
 unfolding entry_of
 entry_is n s o r v entry a b c d e = joined (byte n) (serial_of s) o r v entry a b c d e
   where
-    joined : (n s : Option ℕ) (o : Option Op) (r : Option Reply) (v : Option ℕ) (entry : Entry) → SomeIff n (entry.node < 256) entry.node → SomeIff s (entry.serial < 2 ^ 32) entry.serial
+    joined : (n s : Option ℕ) (o : Option Op) (r : Option Reply) (v : Option ℕ) (entry : Entry) → SomeIff n (entry.node < 256) entry.node
+        → SomeIff s (entry.serial < 2 ^ 32) entry.serial
         → SomeIff o (OpFits entry.op) entry.op → SomeIff r (ReplyFits entry.reply) entry.reply → SomeIff v (entry.version < 2 ^ 64) entry.version
-        → SomeIff {T = Entry} (n >>= λ x. s >>= λ y. o >>= λ z. r >>= λ u. v >>= λ w. Some (record { node = x; serial = y; op = z; reply = u; version = w })) (EntryReads entry) entry
+        → SomeIff {T = Entry} (n >>= λ x. s >>= λ y. o >>= λ z. r >>= λ u. v >>= λ w. Some (record { node = x; serial = y; op = z; reply = u; version = w }))
+        (EntryReads entry) entry
     joined None s o r v entry a b c d e = λ all. a all.node
     joined (Some x) None o r v entry a b c d e = λ all. b all.serial
     joined (Some x) (Some y) None r v entry a b c d e = λ all. c all.op
@@ -319,11 +381,13 @@ command_again_of op rest =
 abbrev IssueSaid : Type 0
 IssueSaid = Option ℕ × Option ℕ × Command × Option Op
 
-issue_part : (node serial : ℕ) (op : Op) (rest : List ℕ) → (number node ++ (field serial ++ (codes " " ++ operation op))) ++ rest ≡ number node ++ (field serial ++ (codes " " ++ (operation op ++ rest)))
+issue_part : (node serial : ℕ) (op : Op) (rest : List ℕ)
+    → (number node ++ (field serial ++ (codes " " ++ operation op))) ++ rest ≡ number node ++ (field serial ++ (codes " " ++ (operation op ++ rest)))
 issue_part node serial op rest = simp append_assoc
 
 issue_again : (node serial : ℕ) (op : Op) (rest : List ℕ) → Ends rest
-    → (o : Option Op) × (issue_read ((number node ++ (field serial ++ (codes " " ++ operation op))) ++ rest) ≡ Some ((fitting node, fitting serial, command_of op.act, o), rest)) × SomeIff o (OpFits op) op
+    → (o : Option Op) × (issue_read ((number node ++ (field serial ++ (codes " " ++ operation op))) ++ rest) ≡ Some
+    ((fitting node, fitting serial, command_of op.act, o), rest)) × SomeIff o (OpFits op) op
 unfolding issue_read
 issue_again node serial op rest ends =
     let ops = operation op ++ rest in
@@ -331,25 +395,43 @@ issue_again node serial op rest ends =
     let command = command_again_of op rest in
     let again = operation_again op rest ends in (
       again.0,
-      rw (issue_part node serial op rest, number_again node (field serial ++ gap) (ends_field serial gap), field_again serial gap refl, after_again (codes " ") ops, command.1, again.1) refl,
+      rw (
+        issue_part node serial op rest,
+        number_again node (field serial ++ gap) (ends_field serial gap),
+        field_again serial gap refl,
+        after_again (codes " ") ops,
+        command.1,
+        again.1,
+      ) refl,
       again.2,
     )
 
 issue_found : (bytes : List ℕ) (a b : Option ℕ) (k : Command) (o : Option Op) (rest : List ℕ) → issue_read bytes ≡ Some ((a, b, k, o), rest)
-    → (node : ℕ) × (serial : ℕ) × (op : Op) × (bytes ≡ (number node ++ (field serial ++ (codes " " ++ operation op))) ++ rest) × (a ≡ fitting node) × (b ≡ fitting serial) × (command_of op.act ≡ k) × SomeIff o (OpFits op) op
+    → (node : ℕ) × (serial : ℕ) × (op : Op) × (bytes ≡ (number node ++ (field serial ++ (codes " " ++ operation op))) ++ rest) × (a ≡ fitting node)
+    × (b ≡ fitting serial) × (command_of op.act ≡ k) × SomeIff o (OpFits op) op
 unfolding issue_read
 issue_found bytes a b k o rest e =
-    let n = bind_some (number_read bytes) (λ n. field_read n.1 >>= λ s. after (codes " ") s.1 >>= λ g. command_read g >>= λ c. operation_read g >>= λ p. Some ((n.0, s.0, c.0, p.0), p.1)) ((a, b, k, o), rest) e in
-    let s = bind_some (field_read n.0.1) (λ s. after (codes " ") s.1 >>= λ g. command_read g >>= λ c. operation_read g >>= λ p. Some ((n.0.0, s.0, c.0, p.0), p.1)) ((a, b, k, o), rest) n.2 in
-    let g = bind_some (after (codes " ") s.0.1) (λ g. command_read g >>= λ c. operation_read g >>= λ p. Some ((n.0.0, s.0.0, c.0, p.0), p.1)) ((a, b, k, o), rest) s.2 in
+    let n = bind_some (number_read bytes)
+    (λ n. field_read n.1 >>= λ s. after (codes " ") s.1 >>= λ g. command_read g >>= λ c. operation_read g >>= λ p. Some ((n.0, s.0, c.0, p.0), p.1))
+    ((a, b, k, o), rest) e in
+    let s = bind_some (field_read n.0.1)
+    (λ s. after (codes " ") s.1 >>= λ g. command_read g >>= λ c. operation_read g >>= λ p. Some ((n.0.0, s.0, c.0, p.0), p.1)) ((a, b, k, o), rest) n.2 in
+    let g = bind_some (after (codes " ") s.0.1) (λ g. command_read g >>= λ c. operation_read g >>= λ p. Some ((n.0.0, s.0.0, c.0, p.0), p.1)) (
+      (a, b, k, o),
+      rest,
+    ) s.2 in
     let c = bind_some (command_read g.0) (λ c. operation_read g.0 >>= λ p. Some ((n.0.0, s.0.0, c.0, p.0), p.1)) ((a, b, k, o), rest) g.2 in
     let p = bind_some (operation_read g.0) (λ p. Some ((n.0.0, s.0.0, c.0.0, p.0), p.1)) ((a, b, k, o), rest) c.2 in
-    issue_parts bytes a b k o rest n.0.0 n.0.1 n.1 s.0.0 s.0.1 s.1 g.0 g.1 c.0.0 c.0.1 c.1 p.0.0 p.0.1 p.1 (some_pair_parts {A = IssueSaid} (n.0.0, s.0.0, c.0.0, p.0.0) (a, b, k, o) p.0.1 rest p.2)
+    issue_parts bytes a b k o rest n.0.0 n.0.1 n.1 s.0.0 s.0.1 s.1 g.0 g.1 c.0.0 c.0.1 c.1 p.0.0 p.0.1 p.1
+    (some_pair_parts {A = IssueSaid} (n.0.0, s.0.0, c.0.0, p.0.0) (a, b, k, o) p.0.1 rest p.2)
   where
-    issue_parts : (bytes : List ℕ) (a b : Option ℕ) (k : Command) (o : Option Op) (rest : List ℕ) (n : Option ℕ) (after_n : List ℕ) → number_read bytes ≡ Some (n, after_n) → (s : Option ℕ) (after_s : List ℕ) → field_read after_n ≡ Some (s, after_s)
-        → (gap : List ℕ) → after (codes " ") after_s ≡ Some gap → (c : Command) (after_c : List ℕ) → command_read gap ≡ Some (c, after_c) → (p : Option Op) (after_p : List ℕ) → operation_read gap ≡ Some (p, after_p)
+    issue_parts : (bytes : List ℕ) (a b : Option ℕ) (k : Command) (o : Option Op) (rest : List ℕ) (n : Option ℕ) (after_n : List ℕ)
+        → number_read bytes ≡ Some (n, after_n) → (s : Option ℕ) (after_s : List ℕ) → field_read after_n ≡ Some (s, after_s)
+        → (gap : List ℕ) → after (codes " ") after_s ≡ Some gap → (c : Command) (after_c : List ℕ) → command_read gap ≡ Some (c, after_c)
+        → (p : Option Op) (after_p : List ℕ) → operation_read gap ≡ Some (p, after_p)
         → (◌≡◌ {A = IssueSaid} (n, s, c, p) (a, b, k, o)) × (after_p ≡ rest)
-        → (node : ℕ) × (serial : ℕ) × (op : Op) × (bytes ≡ (number node ++ (field serial ++ (codes " " ++ operation op))) ++ rest) × (a ≡ fitting node) × (b ≡ fitting serial) × (command_of op.act ≡ k) × SomeIff o (OpFits op) op
+        → (node : ℕ) × (serial : ℕ) × (op : Op) × (bytes ≡ (number node ++ (field serial ++ (codes " " ++ operation op))) ++ rest) × (a ≡ fitting node)
+        × (b ≡ fitting serial) × (command_of op.act ≡ k) × SomeIff o (OpFits op) op
     issue_parts bytes a b k o rest n after_n en s after_s es gap eg c after_c ec p after_p ep same =
         let node = number_found bytes n after_n en in
         let serial = field_found after_n s after_s es in
@@ -373,22 +455,31 @@ issue_found bytes a b k o rest e =
 abbrev OutcomeSaid : Type 0
 OutcomeSaid = Option Reply × Option ℕ
 
-outcome_part : (reply : Reply) (version : ℕ) (rest : List ℕ) → (codes " = " ++ (reply_text reply ++ version_text version)) ++ rest ≡ codes " = " ++ (reply_text reply ++ (version_text version ++ rest))
+outcome_part : (reply : Reply) (version : ℕ) (rest : List ℕ)
+    → (codes " = " ++ (reply_text reply ++ version_text version)) ++ rest ≡ codes " = " ++ (reply_text reply ++ (version_text version ++ rest))
 outcome_part reply version rest = simp append_assoc
 
 outcome_again : (act : Act) (reply : Reply) (version : ℕ) (rest : List ℕ) → Answers act reply → Ends rest
-    → (o : Option Reply) × (outcome_read (command_of act) ((codes " = " ++ (reply_text reply ++ version_text version)) ++ rest) ≡ Some ((o, fitting version), rest)) × SomeIff o (ReplyFits reply) reply
+    → (o : Option Reply) × (outcome_read (command_of act) ((codes " = " ++ (reply_text reply ++ version_text version)) ++ rest) ≡ Some (
+      (o, fitting version),
+      rest,
+    )) × SomeIff o (ReplyFits reply) reply
 unfolding outcome_read
 outcome_again act reply version rest answers ends =
     let versions = version_text version ++ rest in
-    let again = reply_again act reply versions answers (ends_version version rest) in
-    (again.0, rw (outcome_part reply version rest, after_again (codes " = ") (reply_text reply ++ versions), again.1, version_again version rest ends) refl, again.2)
+    let again = reply_again act reply versions answers (ends_version version rest) in (
+      again.0,
+      rw (outcome_part reply version rest, after_again (codes " = ") (reply_text reply ++ versions), again.1, version_again version rest ends) refl,
+      again.2,
+    )
 
 outcome_found : (act : Act) (bytes : List ℕ) (o : Option Reply) (v : Option ℕ) (rest : List ℕ) → outcome_read (command_of act) bytes ≡ Some ((o, v), rest)
-    → (reply : Reply) × (version : ℕ) × (bytes ≡ (codes " = " ++ (reply_text reply ++ version_text version)) ++ rest) × SomeIff o (ReplyFits reply) reply × Answers act reply × (v ≡ fitting version)
+    → (reply : Reply) × (version : ℕ) × (bytes ≡ (codes " = " ++ (reply_text reply ++ version_text version)) ++ rest) × SomeIff o (ReplyFits reply) reply
+    × Answers act reply × (v ≡ fitting version)
 unfolding outcome_read
 outcome_found act bytes o v rest e =
-    let t = bind_some (after (codes " = ") bytes) (λ t. reply_read (command_of act) t >>= λ r. version_read r.1 >>= λ w. Some ((r.0, w.0), w.1)) ((o, v), rest) e in
+    let t = bind_some (after (codes " = ") bytes) (λ t. reply_read (command_of act) t >>= λ r. version_read r.1 >>= λ w. Some ((r.0, w.0), w.1)) ((o, v), rest)
+    e in
     let r = bind_some (reply_read (command_of act) t.0) (λ r. version_read r.1 >>= λ w. Some ((r.0, w.0), w.1)) ((o, v), rest) t.2 in
     let w = bind_some (version_read r.0.1) (λ w. Some ((r.0.0, w.0), w.1)) ((o, v), rest) r.2 in
     let parts = some_pair_parts {A = OutcomeSaid} (r.0.0, w.0.0) (o, v) w.0.1 rest w.2 in
@@ -408,7 +499,8 @@ abbrev pub EntrySaid : Type 0
 EntrySaid = Option ℕ × Option Entry
 
 entry_text : (entry : Entry) (rest : List ℕ) → entry_line entry ++ rest
-    ≡ (number entry.node ++ (field entry.serial ++ (codes " " ++ operation entry.op))) ++ ((codes " = " ++ (reply_text entry.reply ++ version_text entry.version)) ++ 10 ∷ rest)
+    ≡ (number entry.node ++ (field entry.serial ++ (codes " " ++ operation entry.op)))
+    ++ ((codes " = " ++ (reply_text entry.reply ++ version_text entry.version)) ++ 10 ∷ rest)
 unfolding entry_line issue_text outcome_text
 entry_text entry rest = simp append_assoc
 
@@ -421,34 +513,45 @@ entry_line_again entry rest answers =
     let outcome = outcome_again entry.op.act entry.reply entry.version (10 ∷ rest) answers refl in (
       entry_of (fitting entry.node) (fitting entry.serial) issue.0 outcome.0 (fitting entry.version),
       rw (entry_text entry rest, issue.1, outcome.1, after_again (10 ∷ []) rest) refl,
-      entry_is (fitting entry.node) (fitting entry.serial) issue.0 outcome.0 (fitting entry.version) entry (byte_is entry.node) (serial_is entry.serial) issue.2 outcome.2 (fitting_is entry.version),
+      entry_is (fitting entry.node) (fitting entry.serial) issue.0 outcome.0 (fitting entry.version) entry (byte_is entry.node) (serial_is entry.serial) issue.2
+          outcome.2 (fitting_is entry.version),
     )
 
 pub entry_line_found : (bytes : List ℕ) (l : Option ℕ) (o : Option Entry) (rest : List ℕ) → entry_line_read bytes ≡ Some ((l, o), rest)
     → (entry : Entry) × Answers entry.op.act entry.reply × (bytes ≡ entry_line entry ++ rest) × (l ≡ fitting entry.node) × SomeIff o (EntryReads entry) entry
 unfolding entry_line_read
 entry_line_found bytes l o rest e =
-    let i = bind_some (issue_read bytes) (λ i. outcome_read i.0.2 i.1 >>= λ u. after (10 ∷ []) u.1 >>= λ r. Some ((i.0.0, entry_of i.0.0 i.0.1 i.0.3 u.0.0 u.0.1), r)) ((l, o), rest) e in
-    let u = bind_some (outcome_read i.0.0.2 i.0.1) (λ u. after (10 ∷ []) u.1 >>= λ r. Some ((i.0.0.0, entry_of i.0.0.0 i.0.0.1 i.0.0.3 u.0.0 u.0.1), r)) ((l, o), rest) i.2 in
+    let i = bind_some (issue_read bytes)
+    (λ i. outcome_read i.0.2 i.1 >>= λ u. after (10 ∷ []) u.1 >>= λ r. Some ((i.0.0, entry_of i.0.0 i.0.1 i.0.3 u.0.0 u.0.1), r)) ((l, o), rest) e in
+    let u = bind_some (outcome_read i.0.0.2 i.0.1) (λ u. after (10 ∷ []) u.1 >>= λ r. Some ((i.0.0.0, entry_of i.0.0.0 i.0.0.1 i.0.0.3 u.0.0 u.0.1), r))
+    ((l, o), rest) i.2 in
     let r = bind_some (after (10 ∷ []) u.0.1) (λ r. Some ((i.0.0.0, entry_of i.0.0.0 i.0.0.1 i.0.0.3 u.0.0.0 u.0.0.1), r)) ((l, o), rest) u.2 in
-    entry_parts bytes l o rest i.0.0.0 i.0.0.1 i.0.0.2 i.0.0.3 i.0.1 i.1 u.0.0.0 u.0.0.1 u.0.1 u.1 r.0 r.1 (some_pair_parts {A = EntrySaid} (i.0.0.0, entry_of i.0.0.0 i.0.0.1 i.0.0.3 u.0.0.0 u.0.0.1) (l, o) r.0 rest r.2)
+    entry_parts bytes l o rest i.0.0.0 i.0.0.1 i.0.0.2 i.0.0.3 i.0.1 i.1 u.0.0.0 u.0.0.1 u.0.1 u.1 r.0 r.1
+    (some_pair_parts {A = EntrySaid} (i.0.0.0, entry_of i.0.0.0 i.0.0.1 i.0.0.3 u.0.0.0 u.0.0.1) (l, o) r.0 rest r.2)
   where
-    entry_parts : (bytes : List ℕ) (l : Option ℕ) (o : Option Entry) (rest : List ℕ) (n s : Option ℕ) (k : Command) (p : Option Op) (after_p : List ℕ) → issue_read bytes ≡ Some ((n, s, k, p), after_p)
-        → (q : Option Reply) (v : Option ℕ) (after_v : List ℕ) → outcome_read k after_p ≡ Some ((q, v), after_v) → (end : List ℕ) → after (10 ∷ []) after_v ≡ Some end
+    entry_parts : (bytes : List ℕ) (l : Option ℕ) (o : Option Entry) (rest : List ℕ) (n s : Option ℕ) (k : Command) (p : Option Op) (after_p : List ℕ)
+        → issue_read bytes ≡ Some ((n, s, k, p), after_p)
+        → (q : Option Reply) (v : Option ℕ) (after_v : List ℕ) → outcome_read k after_p ≡ Some ((q, v), after_v) → (end : List ℕ)
+        → after (10 ∷ []) after_v ≡ Some end
         → (◌≡◌ {A = EntrySaid} (n, entry_of n s p q v) (l, o)) × (end ≡ rest)
-        → (entry : Entry) × Answers entry.op.act entry.reply × (bytes ≡ entry_line entry ++ rest) × (l ≡ fitting entry.node) × SomeIff o (EntryReads entry) entry
+        → (entry : Entry) × Answers entry.op.act entry.reply × (bytes ≡ entry_line entry ++ rest) × (l ≡ fitting entry.node)
+        × SomeIff o (EntryReads entry) entry
     entry_parts bytes l o rest n s k p after_p ei q v after_v eo end ee same =
         let issue = issue_found bytes n s k p after_p ei in
         let outcome = outcome_found issue.2.act after_p q v after_v (ap (λ (c : Command). outcome_read c after_p) issue.6 ∙ eo) in
         let entry : Entry = record { node = issue.0; serial = issue.1; op = issue.2; reply = outcome.0; version = outcome.1 } in
         let a : after_v ≡ 10 ∷ rest = after_found (10 ∷ []) after_v end ee ∙ ap (λ (x : List ℕ). 10 ∷ x) same.1 in
-        let b : after_p ≡ (codes " = " ++ (reply_text entry.reply ++ version_text entry.version)) ++ 10 ∷ rest = outcome.2 ∙ ap (λ (x : List ℕ). (codes " = " ++ (reply_text entry.reply ++ version_text entry.version)) ++ x) a in
-        let seen : entry_of (fitting issue.0) (fitting issue.1) p q (fitting outcome.1) ≡ o = rw (← issue.4, ← issue.5, ← outcome.5) (ap (λ (x : EntrySaid). x.1) same.0) in (
+        let b : after_p ≡ (codes " = " ++ (reply_text entry.reply ++ version_text entry.version)) ++ 10 ∷ rest =
+        outcome.2 ∙ ap (λ (x : List ℕ). (codes " = " ++ (reply_text entry.reply ++ version_text entry.version)) ++ x) a in
+        let seen : entry_of (fitting issue.0) (fitting issue.1) p q (fitting outcome.1) ≡ o =
+        rw (← issue.4, ← issue.5, ← outcome.5) (ap (λ (x : EntrySaid). x.1) same.0) in (
           entry,
           outcome.4,
           issue.3 ∙ ap (λ (x : List ℕ). (number entry.node ++ (field entry.serial ++ (codes " " ++ operation entry.op))) ++ x) b ∙ sym (entry_text entry rest),
           sym (ap (λ (x : EntrySaid). x.0) same.0) ∙ issue.4,
-          subst (λ (x : Option Entry). SomeIff x (EntryReads entry) entry) seen (entry_is (fitting issue.0) (fitting issue.1) p q (fitting outcome.1) entry (byte_is issue.0) (serial_is issue.1) issue.7 outcome.3 (fitting_is outcome.1)),
+          subst (λ (x : Option Entry). SomeIff x (EntryReads entry) entry) seen
+              (entry_is (fitting issue.0) (fitting issue.1) p q (fitting outcome.1) entry (byte_is issue.0) (serial_is issue.1) issue.7 outcome.3
+              (fitting_is outcome.1)),
         )
 
 -- ---- the line of the size
@@ -459,10 +562,18 @@ SizeSaid = Option ℕ × Option ℕ
 pub log_line_again : (nodes lines : ℕ) (rest : List ℕ) → log_line_read (log_line nodes lines ++ rest) ≡ Some ((fitting nodes, fitting lines), rest)
 unfolding log_line log_line_read
 log_line_again nodes lines rest =
-    let regrouped : (codes "log 2" ++ (field nodes ++ (field lines ++ 10 ∷ []))) ++ rest ≡ codes "log 2" ++ (field nodes ++ (field lines ++ 10 ∷ rest)) = simp append_assoc in
-    rw (regrouped, after_again (codes "log 2") (field nodes ++ (field lines ++ 10 ∷ rest)), field_again nodes (field lines ++ 10 ∷ rest) (ends_field lines (10 ∷ rest)), field_again lines (10 ∷ rest) refl, after_again (10 ∷ []) rest) refl
+    let regrouped : (codes "log 2" ++ (field nodes ++ (field lines ++ 10 ∷ []))) ++ rest ≡ codes "log 2" ++ (field nodes ++ (field lines ++ 10 ∷ rest)) =
+    simp append_assoc in
+    rw (
+      regrouped,
+      after_again (codes "log 2") (field nodes ++ (field lines ++ 10 ∷ rest)),
+      field_again nodes (field lines ++ 10 ∷ rest) (ends_field lines (10 ∷ rest)),
+      field_again lines (10 ∷ rest) refl,
+      after_again (10 ∷ []) rest,
+    ) refl
 
-pub log_line_found : (bytes : List ℕ) (a b : Option ℕ) (rest : List ℕ) → log_line_read bytes ≡ Some ((a, b), rest) → (nodes : ℕ) × (lines : ℕ) × (bytes ≡ log_line nodes lines ++ rest) × (a ≡ fitting nodes) × (b ≡ fitting lines)
+pub log_line_found : (bytes : List ℕ) (a b : Option ℕ) (rest : List ℕ) → log_line_read bytes ≡ Some ((a, b), rest)
+    → (nodes : ℕ) × (lines : ℕ) × (bytes ≡ log_line nodes lines ++ rest) × (a ≡ fitting nodes) × (b ≡ fitting lines)
 unfolding log_line log_line_read
 log_line_found bytes a b rest e =
     let end : Option ℕ → Option ℕ → List ℕ → Option (SizeSaid × List ℕ) = λ x y l. after (10 ∷ []) l >>= λ r. Some ((x, y), r) in
@@ -476,7 +587,8 @@ log_line_found bytes a b rest e =
     let last : y.0.1 ≡ 10 ∷ rest = after_found (10 ∷ []) y.0.1 r.0 r.1 ∙ ap (λ (l : List ℕ). 10 ∷ l) parts.1 in
     let lines : x.0.1 ≡ field m.0 ++ 10 ∷ rest = m.1 ∙ ap (λ (l : List ℕ). field m.0 ++ l) last in
     let nodes : first.0 ≡ field n.0 ++ (field m.0 ++ 10 ∷ rest) = n.1 ∙ ap (λ (l : List ℕ). field n.0 ++ l) lines in
-    let regrouped : (codes "log 2" ++ (field n.0 ++ (field m.0 ++ 10 ∷ []))) ++ rest ≡ codes "log 2" ++ (field n.0 ++ (field m.0 ++ 10 ∷ rest)) = simp append_assoc in (
+    let regrouped : (codes "log 2" ++ (field n.0 ++ (field m.0 ++ 10 ∷ []))) ++ rest ≡ codes "log 2" ++ (field n.0 ++ (field m.0 ++ 10 ∷ rest)) =
+    simp append_assoc in (
       n.0,
       m.0,
       after_found (codes "log 2") bytes first.0 first.1 ∙ ap (λ (l : List ℕ). codes "log 2" ++ l) nodes ∙ sym regrouped,

@@ -58,9 +58,11 @@ pub weaker : (P Q : Entry → Type 0) → ((e : Entry) → P e → Q e) → (es 
 weaker P Q f [] h = tt
 weaker P Q f (e ∷ es) h = (f e h.0, weaker P Q f es h.1)
 
-pub good_entries : (form : Form) (logs : List (List Entry)) (last : List Stamped) → IsFront (front_of form last logs) → AllByRecursion GoodEntry (flat_map same_log logs)
+pub good_entries : (form : Form) (logs : List (List Entry)) (last : List Stamped) → IsFront (front_of form last logs)
+    → AllByRecursion GoodEntry (flat_map same_log logs)
 good_entries form logs last h =
-    weaker (EntryFits form (length last)) GoodEntry (λ e fits. (fits.answers, fits_reads (front_of form last logs) e h.form h.few_lines fits)) (flat_map same_log logs) (all_in (EntryFits form (length last)) logs h.entries)
+    weaker (EntryFits form (length last)) GoodEntry (λ e fits. (fits.answers, fits_reads (front_of form last logs) e h.form h.few_lines fits))
+    (flat_map same_log logs) (all_in (EntryFits form (length last)) logs h.entries)
 
 -- what stands behind the first line
 abbrev pub OnePartition : Type 0

@@ -1,5 +1,6 @@
 -- A number that is written is read again, and what is read as a number is written so.
-use Rattle.std.proofs.Common.{◌≡◌, ℕ, zero, suc, ◌+◌, ◌-◌, ◌*◌, ◌/◌, ◌%◌, ◌^◌, ◌<◌, ◌≤◌, Bool, true, false, cond, eqb, List, [], ◌∷◌, ◌++◌, get_or, map, Option, Some, None, refl, sym, ap, ◌∙◌, append_assoc, arith, inl, inr, ◌⊎◌}
+use Rattle.std.proofs.Common.{◌≡◌, ℕ, zero, suc, ◌+◌, ◌-◌, ◌*◌, ◌/◌, ◌%◌, ◌^◌, ◌<◌, ◌≤◌, Bool, true, false, cond, eqb, List, [], ◌∷◌, ◌++◌, get_or, map, Option}
+use Rattle.std.proofs.Common.{Some, None, refl, sym, ap, ◌∙◌, append_assoc, arith, inl, inr, ◌⊎◌}
 use Rattle.std.specs.List.{AllByRecursion}
 use Rattle.std.specs.Int.Digits.{digits_of, number_from_digits, number_from_digits_after, AllBelowBase}
 use Rattle.std.proofs.lemmas.Bool.{cases_lt, cases_Bool, eqb-true, eqb-false}
@@ -43,7 +44,8 @@ number_step n d pos small =
     digits_of_step 10 (n * 10 + d) (omega arith) (omega arith)
     ∙ ap (λ (q : ℕ). digits_of 10 q ++ (n * 10 + d) % 10 ∷ []) (div-mul-add n 10 d small)
     ∙ ap (λ (r : ℕ). digits_of 10 n ++ r ∷ []) (mod-mul-add n 10 d small) in
-    number_pos (n * 10 + d) (omega arith) ∙ ap (map glyph) cut ∙ map-append glyph (digits_of 10 n) (d ∷ []) ∙ ap (λ (ds : List ℕ). ds ++ glyph d ∷ []) (sym (number_pos n pos))
+    number_pos (n * 10 + d) (omega arith) ∙ ap (map glyph) cut ∙ map-append glyph (digits_of 10 n) (d ∷ [])
+    ∙ ap (λ (ds : List ℕ). ds ++ glyph d ∷ []) (sym (number_pos n pos))
 
 -- ---- what is written is read
 
@@ -71,7 +73,8 @@ unfolding number_read
 first_again d ds rest pos small ends =
     let not_zero : eqb (glyph d) 48 ≡ false = grind (arith, nat_tests) in
     let value : Some (glyph d - 48) ≡ fitting d = ap (λ (n : ℕ). Some n) (omega arith) ∙ sym (fitting_below d (omega arith)) in
-    rw (not_zero, is_digit-add d small.0, value, digits_again d ds rest small.1 ends) (ap (λ (m : ℕ). Some (fitting (number_from_digits_after 10 m ds), rest)) (omega arith))
+    rw (not_zero, is_digit-add d small.0, value, digits_again d ds rest small.1 ends)
+    (ap (λ (m : ℕ). Some (fitting (number_from_digits_after 10 m ds), rest)) (omega arith))
 
 number_again_pos : (n : ℕ) (ds : List ℕ) (rest : List ℕ) → 0 < n → digits_of 10 n ≡ ds → Ends rest → number_read (number n ++ rest) ≡ Some (fitting n, rest)
 number_again_pos n [] rest pos e ends =
@@ -127,7 +130,8 @@ digits_found n (b ∷ bytes) pos =
           let step : number next ≡ number n ++ glyph (b - 48) ∷ [] = number_step n (b - 48) pos (omega (arith, bounds.1)) in
           let same : glyph (b - 48) ≡ b = omega (arith, bounds.0) in
           let parts : number n ++ b ∷ bytes ≡ number next ++ bytes =
-          ap (λ (c : ℕ). number n ++ c ∷ bytes) (sym same) ∙ sym (append_assoc (number n) (glyph (b - 48) ∷ []) bytes) ∙ ap (λ (front : List ℕ). front ++ bytes) (sym step) in
+          ap (λ (c : ℕ). number n ++ c ∷ bytes) (sym same) ∙ sym (append_assoc (number n) (glyph (b - 48) ∷ []) bytes)
+          ∙ ap (λ (front : List ℕ). front ++ bytes) (sym step) in
           rw (is, with_digit-fitting n b) (later.0, parts ∙ later.1, later.2)
       | inr not_digit ↦ rw not_digit (n, refl, refl)
     ]
@@ -148,13 +152,15 @@ chosen : {A : Type 0} (b : Bool) (x y z : A) → cond b x y ≡ z → ((b ≡ tr
 chosen true x y z e = inl (refl, e)
 chosen false x y z e = inr (refl, e)
 
-number_found_zero : (b : ℕ) (bytes : List ℕ) (value : Option ℕ) (rest : List ℕ) → b ≡ 48 → ◌≡◌ {A = Option (Option ℕ × List ℕ)} (Some (Some 0, bytes)) (Some (value, rest)) → IsNumberThen (b ∷ bytes) value rest
+number_found_zero : (b : ℕ) (bytes : List ℕ) (value : Option ℕ) (rest : List ℕ) → b ≡ 48
+    → ◌≡◌ {A = Option (Option ℕ × List ℕ)} (Some (Some 0, bytes)) (Some (value, rest)) → IsNumberThen (b ∷ bytes) value rest
 unfolding number
 number_found_zero b bytes value rest zeros e =
     let parts = some_pair_parts (Some 0) value bytes rest e in
     (0, rw (zeros, parts.1) refl, sym parts.0)
 
-number_found_digits : (b : ℕ) (bytes : List ℕ) (value : Option ℕ) (rest : List ℕ) → (b ≡ 48 → ⊥) → (48 ≤ b) × (b ≤ 57) → digits_read (Some (b - 48)) bytes ≡ (value, rest)
+number_found_digits : (b : ℕ) (bytes : List ℕ) (value : Option ℕ) (rest : List ℕ) → (b ≡ 48 → ⊥) → (48 ≤ b) × (b ≤ 57)
+    → digits_read (Some (b - 48)) bytes ≡ (value, rest)
     → IsNumberThen (b ∷ bytes) value rest
 number_found_digits b bytes value rest other bounds e =
     let low : 49 ≤ b = omega (arith, other, bounds.0) in

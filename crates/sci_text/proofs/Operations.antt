@@ -13,7 +13,8 @@ use Rattle.sci_text.specs.declared.operation.Command.{Command}
 use Rattle.sci_text.specs.declared.operation.Command.TheVariants as commands
 use Rattle.sci_text.specs.Number.{field}
 use Rattle.sci_text.specs.Operation.{act_word, act_operands, operation, ActFits}
-use Rattle.sci_text.specs.Reading.{◌>>=◌, fitting, field_read, after, byte, otherwise, named, command_read, pair_read, one, two, operands_read, made, operation_after, operation_read}
+use Rattle.sci_text.specs.Reading.{◌>>=◌, fitting, field_read, after, byte, otherwise, named, command_read, pair_read, one, two, operands_read, made}
+use Rattle.sci_text.specs.Reading.{operation_after, operation_read}
 use Rattle.sci_text.proofs.Numbers.{fitting_below, fitting_above, Ends, field_again, ends_field, field_found}
 use Rattle.sci_text.proofs.Words.{after_found}
 
@@ -155,13 +156,15 @@ two_again : (f : ℕ → ℕ → LockOp) (a d : ℕ) (rest : List ℕ) → Ends 
 two_again f a d rest ends = (
   option_map (λ p. Lock (f p.0 p.1)) (both (fitting a) (fitting d)),
   rw (pair_again a d rest ends) refl,
-  mapped ((a < 2 ^ 64) × (d < 2 ^ 64)) (λ p. Lock (f p.0 p.1)) (both (fitting a) (fitting d)) (a, d) (both_is (a < 2 ^ 64) (d < 2 ^ 64) (fitting a) (fitting d) a d (fitting_is a) (fitting_is d)),
+  mapped ((a < 2 ^ 64) × (d < 2 ^ 64)) (λ p. Lock (f p.0 p.1)) (both (fitting a) (fitting d)) (a, d)
+      (both_is (a < 2 ^ 64) (d < 2 ^ 64) (fitting a) (fitting d) a d (fitting_is a) (fitting_is d)),
 )
 
 operands_again : (act : Act) (rest : List ℕ) → Ends rest → ReadAs act (operands_read (command_of act) (act_operands act ++ rest)) rest
 unfolding operands_read
 operands_again Load rest ends = (Some Load, refl, (tt, refl))
-operands_again (Store word) rest ends = (option_map Store (fitting word), one_again Store word rest ends, mapped (word < 2 ^ 64) Store (fitting word) word (fitting_is word))
+operands_again (Store word) rest ends =
+    (option_map Store (fitting word), one_again Store word rest ends, mapped (word < 2 ^ 64) Store (fitting word) word (fitting_is word))
 operands_again (Lock (MaskSwap arg datum)) rest ends = two_again MaskSwap arg datum rest ends
 operands_again (Lock (CompareSwap arg datum)) rest ends = two_again CompareSwap arg datum rest ends
 operands_again (Lock (FetchAdd datum)) rest ends =
@@ -183,14 +186,16 @@ ends_operands (Lock (WrapAdd arg datum)) rest ends = rw append_assoc (ends_field
 abbrev FoundAs : Command → List ℕ → Option Act → List ℕ → Type 0
 FoundAs command bytes o rest = (act : Act) × (command_of act ≡ command) × (bytes ≡ act_operands act ++ rest) × SomeIff o (ActFits act) act
 
-one_found : (f : ℕ → Act) (bytes : List ℕ) (o : Option Act) (rest : List ℕ) → one f bytes ≡ Some (o, rest) → (n : ℕ) × (bytes ≡ field n ++ rest) × SomeIff o (n < 2 ^ 64) (f n)
+one_found : (f : ℕ → Act) (bytes : List ℕ) (o : Option Act) (rest : List ℕ) → one f bytes ≡ Some (o, rest)
+    → (n : ℕ) × (bytes ≡ field n ++ rest) × SomeIff o (n < 2 ^ 64) (f n)
 one_found f bytes o rest e =
     let s = bind_some (field_read bytes) (λ x. Some (option_map f x.0, x.1)) (o, rest) e in
     let found = field_found bytes s.0.0 s.0.1 s.1 in
     let parts = some_pair_parts (option_map f s.0.0) o s.0.1 rest s.2 in (
       found.0,
       found.1 ∙ ap (λ (l : List ℕ). field found.0 ++ l) parts.1,
-      subst (λ (v : Option Act). SomeIff v (found.0 < 2 ^ 64) (f found.0)) (ap (option_map f) (sym found.2) ∙ parts.0) (mapped (found.0 < 2 ^ 64) f (fitting found.0) found.0 (fitting_is found.0)),
+      subst (λ (v : Option Act). SomeIff v (found.0 < 2 ^ 64) (f found.0)) (ap (option_map f) (sym found.2) ∙ parts.0)
+          (mapped (found.0 < 2 ^ 64) f (fitting found.0) found.0 (fitting_is found.0)),
     )
 
 pub pair_found : (bytes : List ℕ) (o : Option (ℕ × ℕ)) (rest : List ℕ) → pair_read bytes ≡ Some (o, rest)
@@ -203,7 +208,8 @@ pair_found bytes o rest e =
     let second = field_found s.0.1 t.0.0 t.0.1 t.1 in
     let parts = some_pair_parts (both s.0.0 t.0.0) o t.0.1 rest t.2 in
     let all : bytes ≡ (field first.0 ++ field second.0) ++ rest =
-    first.1 ∙ ap (λ (l : List ℕ). field first.0 ++ l) (second.1 ∙ ap (λ (l : List ℕ). field second.0 ++ l) parts.1) ∙ sym (append_assoc (field first.0) (field second.0) rest) in
+    first.1 ∙ ap (λ (l : List ℕ). field first.0 ++ l) (second.1 ∙ ap (λ (l : List ℕ). field second.0 ++ l) parts.1)
+    ∙ sym (append_assoc (field first.0) (field second.0) rest) in
     (first.0, second.0, all, sym parts.0 ∙ ap (λ (v : Option ℕ). both v t.0.0) first.2 ∙ ap (λ (v : Option ℕ). both (fitting first.0) v) second.2)
 
 two_found : (f : ℕ → ℕ → LockOp) (bytes : List ℕ) (o : Option Act) (rest : List ℕ) → two f bytes ≡ Some (o, rest)
@@ -219,10 +225,12 @@ two_found f bytes o rest e =
       d,
       found.2 ∙ ap (λ (l : List ℕ). (field a ++ field d) ++ l) parts.1,
       subst (λ (v : Option Act). SomeIff v ((a < 2 ^ 64) × (d < 2 ^ 64)) (Lock (f a d))) (ap (option_map g) (sym found.3) ∙ parts.0)
-          (mapped ((a < 2 ^ 64) × (d < 2 ^ 64)) g (both (fitting a) (fitting d)) (a, d) (both_is (a < 2 ^ 64) (d < 2 ^ 64) (fitting a) (fitting d) a d (fitting_is a) (fitting_is d))),
+          (mapped ((a < 2 ^ 64) × (d < 2 ^ 64)) g (both (fitting a) (fitting d)) (a, d)
+          (both_is (a < 2 ^ 64) (d < 2 ^ 64) (fitting a) (fitting d) a d (fitting_is a) (fitting_is d))),
     )
 
-pub operands_found : (command : Command) (bytes : List ℕ) (o : Option Act) (rest : List ℕ) → operands_read command bytes ≡ Some (o, rest) → FoundAs command bytes o rest
+pub operands_found : (command : Command) (bytes : List ℕ) (o : Option Act) (rest : List ℕ) → operands_read command bytes ≡ Some (o, rest)
+    → FoundAs command bytes o rest
 unfolding operands_read
 operands_found commands.Load bytes o rest e =
     let parts = some_pair_parts (Some Load) o bytes rest e in
@@ -240,8 +248,10 @@ operands_found commands.WrapAdd bytes o rest e = let s = two_found WrapAdd bytes
 abbrev pub OpFits : Op → Type 0
 OpFits op = (op.line < 256) × (op.word < 256) × ActFits op.act
 
-made_of : (l w : Option ℕ) (o : Option Act) (line word : ℕ) (act : Act) → SomeIff l (line < 256) line → SomeIff w (word < 256) word → SomeIff o (ActFits act) act
-    → SomeIff {T = Op} (l >>= λ x. w >>= λ y. o >>= λ a. Some (record { line = x; word = y; act = a })) ((line < 256) × (word < 256) × ActFits act) (record { line = line; word = word; act = act })
+made_of : (l w : Option ℕ) (o : Option Act) (line word : ℕ) (act : Act) → SomeIff l (line < 256) line → SomeIff w (word < 256) word
+    → SomeIff o (ActFits act) act
+    → SomeIff {T = Op} (l >>= λ x. w >>= λ y. o >>= λ a. Some (record { line = x; word = y; act = a })) ((line < 256) × (word < 256) × ActFits act)
+    (record { line = line; word = word; act = act })
 made_of None w o line word act h k m = λ all. h all.0
 made_of (Some x) None o line word act h k m = λ all. k all.1
 made_of (Some x) (Some y) None line word act h k m = λ all. m all.2
@@ -261,14 +271,22 @@ command_word (Lock (FetchAdd datum)) = refl
 command_word (Lock (BoundedAdd arg datum)) = refl
 command_word (Lock (WrapAdd arg datum)) = refl
 
-pub operation_again : (op : Op) (rest : List ℕ) → Ends rest → (o : Option Op) × (operation_read (operation op ++ rest) ≡ Some (o, rest)) × SomeIff o (OpFits op) op
+pub operation_again : (op : Op) (rest : List ℕ) → Ends rest
+    → (o : Option Op) × (operation_read (operation op ++ rest) ≡ Some (o, rest)) × SomeIff o (OpFits op) op
 unfolding operation operation_after operation_read
 operation_again op rest ends =
     let last = act_operands op.act ++ rest in
-    let regrouped : (act_word op.act ++ (field op.line ++ (field op.word ++ act_operands op.act))) ++ rest ≡ act_word op.act ++ (field op.line ++ (field op.word ++ last)) = simp append_assoc in
+    let regrouped : (act_word op.act ++ (field op.line ++ (field op.word ++ act_operands op.act))) ++ rest ≡ act_word op.act
+    ++ (field op.line ++ (field op.word ++ last)) = simp append_assoc in
     let act = operands_again op.act rest ends in (
       made (fitting op.line) (fitting op.word) act.0,
-      rw (regrouped, command_again op.act (field op.line ++ (field op.word ++ last)), field_again op.line (field op.word ++ last) (ends_field op.word last), field_again op.word last (ends_operands op.act rest ends), act.1) refl,
+      rw (
+        regrouped,
+        command_again op.act (field op.line ++ (field op.word ++ last)),
+        field_again op.line (field op.word ++ last) (ends_field op.word last),
+        field_again op.word last (ends_operands op.act rest ends),
+        act.1,
+      ) refl,
       made_is op.line op.word act.0 op.act act.2,
     )
 
@@ -276,19 +294,26 @@ pub operation_found : (bytes : List ℕ) (o : Option Op) (rest : List ℕ) → o
     → (op : Op) × (bytes ≡ operation op ++ rest) × SomeIff o (OpFits op) op
 unfolding operation operation_after operation_read
 operation_found bytes o rest e =
-    let a = bind_some (command_read bytes) (λ c. field_read c.1 >>= λ line. field_read line.1 >>= λ word. operands_read c.0 word.1 >>= λ act. Some (made line.0 word.0 act.0, act.1)) (o, rest) e in
-    let b = bind_some (field_read a.0.1) (λ line. field_read line.1 >>= λ word. operands_read a.0.0 word.1 >>= λ act. Some (made line.0 word.0 act.0, act.1)) (o, rest) a.2 in
+    let a = bind_some (command_read bytes)
+    (λ c. field_read c.1 >>= λ line. field_read line.1 >>= λ word. operands_read c.0 word.1 >>= λ act. Some (made line.0 word.0 act.0, act.1)) (o, rest)
+    e in
+    let b = bind_some (field_read a.0.1) (λ line. field_read line.1 >>= λ word. operands_read a.0.0 word.1 >>= λ act. Some (made line.0 word.0 act.0, act.1))
+    (o, rest) a.2 in
     let c = bind_some (field_read b.0.1) (λ word. operands_read a.0.0 word.1 >>= λ act. Some (made b.0.0 word.0 act.0, act.1)) (o, rest) b.2 in
     let d = bind_some (operands_read a.0.0 c.0.1) (λ act. Some (made b.0.0 c.0.0 act.0, act.1)) (o, rest) c.2 in
     let line = field_found a.0.1 b.0.0 b.0.1 b.1 in
     let word = field_found b.0.1 c.0.0 c.0.1 c.1 in
     let act = operands_found a.0.0 c.0.1 d.0.0 d.0.1 d.1 in
     let parts = some_pair_parts (made b.0.0 c.0.0 d.0.0) o d.0.1 rest d.2 in
-    let first : bytes ≡ act_word act.0 ++ a.0.1 = command_found bytes a.0.0 a.0.1 a.1 ∙ ap (λ (k : Command). word_of k ++ a.0.1) (sym act.1) ∙ ap (λ (w : List ℕ). w ++ a.0.1) (command_word act.0) in
-    let third : b.0.1 ≡ field word.0 ++ (act_operands act.0 ++ rest) = word.1 ∙ ap (λ (l : List ℕ). field word.0 ++ l) (act.2 ∙ ap (λ (l : List ℕ). act_operands act.0 ++ l) parts.1) in
+    let first : bytes ≡ act_word act.0 ++ a.0.1 =
+    command_found bytes a.0.0 a.0.1 a.1 ∙ ap (λ (k : Command). word_of k ++ a.0.1) (sym act.1) ∙ ap (λ (w : List ℕ). w ++ a.0.1) (command_word act.0) in
+    let third : b.0.1 ≡ field word.0 ++ (act_operands act.0 ++ rest) =
+    word.1 ∙ ap (λ (l : List ℕ). field word.0 ++ l) (act.2 ∙ ap (λ (l : List ℕ). act_operands act.0 ++ l) parts.1) in
     let second : a.0.1 ≡ field line.0 ++ (field word.0 ++ (act_operands act.0 ++ rest)) = line.1 ∙ ap (λ (l : List ℕ). field line.0 ++ l) third in
-    let regrouped : (act_word act.0 ++ (field line.0 ++ (field word.0 ++ act_operands act.0))) ++ rest ≡ act_word act.0 ++ (field line.0 ++ (field word.0 ++ (act_operands act.0 ++ rest))) = simp append_assoc in
-    let seen : made (fitting line.0) (fitting word.0) d.0.0 ≡ o = ap (λ (v : Option ℕ). made v (fitting word.0) d.0.0) (sym line.2) ∙ ap (λ (v : Option ℕ). made b.0.0 v d.0.0) (sym word.2) ∙ parts.0 in
+    let regrouped : (act_word act.0 ++ (field line.0 ++ (field word.0 ++ act_operands act.0))) ++ rest ≡ act_word act.0
+    ++ (field line.0 ++ (field word.0 ++ (act_operands act.0 ++ rest))) = simp append_assoc in
+    let seen : made (fitting line.0) (fitting word.0) d.0.0 ≡ o =
+    ap (λ (v : Option ℕ). made v (fitting word.0) d.0.0) (sym line.2) ∙ ap (λ (v : Option ℕ). made b.0.0 v d.0.0) (sym word.2) ∙ parts.0 in
     let op : Op = record { line = line.0; word = word.0; act = act.0 } in (
       op,
       first ∙ ap (λ (l : List ℕ). act_word act.0 ++ l) second ∙ sym regrouped,

@@ -22,7 +22,8 @@ use Rattle.sci_text.proofs.LineLengths.{line_short, line_long}
 
 -- ---- faults
 
-said_same : (bytes : List ℕ) (o : Option Event) (rest : List ℕ) (event : Event) → event_line_read bytes ≡ Some (o, rest) → (says : Says bytes (event_line event)) → says.rest ≡ rest
+said_same : (bytes : List ℕ) (o : Option Event) (rest : List ℕ) (event : Event) → event_line_read bytes ≡ Some (o, rest)
+    → (says : Says bytes (event_line event)) → says.rest ≡ rest
 said_same bytes o rest event e says =
     let again = event_line_again event says.rest in
     let same = some_pair_parts again.0 o says.rest rest (sym again.1 ∙ (sym (ap event_line_read says.parts) ∙ e)) in
@@ -33,12 +34,14 @@ event_none s bytes e = λ event says.
     let again = event_line_again event says.rest in
     none-some (again.0, says.rest) (sym e ∙ (ap event_line_read says.parts ∙ again.1))
 
-pub event_long : (s : ScheduleValue) (bytes : List ℕ) (o : Option Event) (rest : List ℕ) → event_line_read bytes ≡ Some (o, rest) → length rest + MAX_TEXT_LINE_BYTES + 1 < length bytes → EventFault s bytes Syntax
+pub event_long : (s : ScheduleValue) (bytes : List ℕ) (o : Option Event) (rest : List ℕ) → event_line_read bytes ≡ Some (o, rest)
+    → length rest + MAX_TEXT_LINE_BYTES + 1 < length bytes → EventFault s bytes Syntax
 event_long s bytes o rest e long = λ event says.
     line_long bytes (event_line event) rest (says.parts ∙ ap (λ (l : List ℕ). event_line event ++ l) (said_same bytes o rest event e says)) long says.short
 
 within_fits : (nodes lines : ℕ) (event : Event) → nodes ≤ 16 → lines ≤ 64 → IsEventWithin nodes lines event → EventFits event
-within_fits nodes lines (Issue node op) few less within = (omega (arith, within.known_node), (omega (arith, within.known_line), omega (arith, within.known_word), within.words))
+within_fits nodes lines (Issue node op) few less within =
+    (omega (arith, within.known_node), (omega (arith, within.known_line), omega (arith, within.known_word), within.words))
 within_fits nodes lines (Perform node line) few less within = (omega (arith, within.0), omega (arith, within.1))
 within_fits nodes lines (Ask node line kind) few less within = (omega (arith, within.0), omega (arith, within.1))
 within_fits nodes lines (Serve from node) few less within = (omega (arith, within.0), omega (arith, within.1))
@@ -49,7 +52,8 @@ within_fits nodes lines (Accept from node) few less within = (omega (arith, with
 pub fits : (s : ScheduleValue) → IsSchedule s → (event : Event) → IsEventWithin s.nodes s.lines event → EventFits event
 fits s good event within = within_fits s.nodes s.lines event (omega (arith, good.size.few_nodes)) (omega (arith, good.size.few_lines)) within
 
-pub event_unfit : (s : ScheduleValue) (bytes rest : List ℕ) → IsSchedule s → event_line_read bytes ≡ Some (None, rest) → length bytes ≤ length rest + MAX_TEXT_LINE_BYTES + 1 → EventFault s bytes Range
+pub event_unfit : (s : ScheduleValue) (bytes rest : List ℕ) → IsSchedule s → event_line_read bytes ≡ Some (None, rest)
+    → length bytes ≤ length rest + MAX_TEXT_LINE_BYTES + 1 → EventFault s bytes Range
 event_unfit s bytes rest good e short =
     let f = event_line_found bytes None rest e in
     (f.0, record { rest = rest; parts = f.1; short = line_short bytes (event_line f.0) rest f.1 short }, λ within. f.2 (fits s good f.0 within))
@@ -59,22 +63,26 @@ said_is bytes rest event e =
     let f = event_line_found bytes (Some event) rest e in
     f.1 ∙ ap (λ (x : Event). event_line x ++ rest) (sym f.2.1)
 
-pub event_ok : (old new : ScheduleValue) (bytes rest : List ℕ) (event : Event) → event_line_read bytes ≡ Some (Some event, rest) → new ≡ with_event old event → AddsEvent old new bytes rest
+pub event_ok : (old new : ScheduleValue) (bytes rest : List ℕ) (event : Event) → event_line_read bytes ≡ Some (Some event, rest) → new ≡ with_event old event
+    → AddsEvent old new bytes rest
 event_ok old new bytes rest event e added = record { event = event; parts = said_is bytes rest event e; added = added }
 
-refused_says : (s : ScheduleValue) (bytes : List ℕ) (event : Event) (fault : PushFault) → Says bytes (event_line event) → EventRefusal s event fault → (kind_of fault ≡ Memory) ⊎ EventFault s bytes (kind_of fault)
+refused_says : (s : ScheduleValue) (bytes : List ℕ) (event : Event) (fault : PushFault) → Says bytes (event_line event) → EventRefusal s event fault
+    → (kind_of fault ≡ Memory) ⊎ EventFault s bytes (kind_of fault)
 refused_says s bytes event push.Range says refused = inr (event, says, refused)
 refused_says s bytes event push.TooMany says refused = inr (event, says, refused.0, refused.1)
 refused_says s bytes event push.Memory says refused = inl refl
 
-pub event_refused : (s : ScheduleValue) (bytes rest : List ℕ) (event : Event) (fault : PushFault) → event_line_read bytes ≡ Some (Some event, rest) → length bytes ≤ length rest + MAX_TEXT_LINE_BYTES + 1
+pub event_refused : (s : ScheduleValue) (bytes rest : List ℕ) (event : Event) (fault : PushFault) → event_line_read bytes ≡ Some (Some event, rest)
+    → length bytes ≤ length rest + MAX_TEXT_LINE_BYTES + 1
     → EventRefusal s event fault → (kind_of fault ≡ Memory) ⊎ EventFault s bytes (kind_of fault)
 event_refused s bytes rest event fault e short refused =
     let parts = said_is bytes rest event e in
     refused_says s bytes event fault (record { rest = rest; parts = parts; short = line_short bytes (event_line event) rest parts short }) refused
 
 -- a faulty line behind the text of a schedule is the first
-pub event_told : (s : ScheduleValue) (input rest : List ℕ) (kind : TextFaultKind) (line : ℕ) (fault : TextFault) → IsSchedule s → input ≡ schedule_text s ++ rest → 0 < length rest → line ≡ length s.events + 2
+pub event_told : (s : ScheduleValue) (input rest : List ℕ) (kind : TextFaultKind) (line : ℕ) (fault : TextFault) → IsSchedule s
+    → input ≡ schedule_text s ++ rest → 0 < length rest → line ≡ length s.events + 2
     → IsToldAt line kind fault → (kind ≡ Memory) ⊎ EventFault s rest kind → IsRefusal IsScheduleFault input fault
 event_told s input rest kind line fault good parts some place at faulty =
     told_at IsScheduleFault kind input fault line at (elim faulty [
@@ -88,11 +96,13 @@ event_told s input rest kind line fault good parts some place at faulty =
 
 -- ---- the text so far
 
-pub text_grows : (s : ScheduleValue) (event : Event) (rest : List ℕ) → schedule_text (with_event s event) ++ rest ≡ schedule_text s ++ (event_line event ++ rest)
+pub text_grows : (s : ScheduleValue) (event : Event) (rest : List ℕ)
+    → schedule_text (with_event s event) ++ rest ≡ schedule_text s ++ (event_line event ++ rest)
 text_grows s event rest =
     let first = machine_line s.nodes s.lines s.slots in
     let front = event_lines s.events in
-    let more : event_lines (s.events ++ event ∷ []) ≡ front ++ event_line event = flat_map-append event_line s.events (event ∷ []) ∙ ap (λ (l : List ℕ). front ++ l) (append-nil (event_line event)) in
+    let more : event_lines (s.events ++ event ∷ []) ≡ front ++ event_line event =
+    flat_map-append event_line s.events (event ∷ []) ∙ ap (λ (l : List ℕ). front ++ l) (append-nil (event_line event)) in
     ap (λ (l : List ℕ). (first ++ l) ++ rest) more ∙ simp append_assoc
 
 pub line_nonempty : (event : Event) → 0 < length (event_line event)

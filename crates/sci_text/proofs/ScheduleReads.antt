@@ -126,7 +126,8 @@ ReadAs event read rest = (o : Option Event) × (read ≡ Some (o, rest)) × Some
 
 pair_is : (f : ℕ → ℕ → Event) (a b : ℕ) → SomeIff (option_map (λ p. f p.0 p.1) (paired (byte (fitting a)) (byte (fitting b)))) ((a < 256) × (b < 256)) (f a b)
 pair_is f a b =
-    mapped ((a < 256) × (b < 256)) (λ p. f p.0 p.1) (paired (byte (fitting a)) (byte (fitting b))) (a, b) (both_is (a < 256) (b < 256) (byte (fitting a)) (byte (fitting b)) a b (byte_is a) (byte_is b))
+    mapped ((a < 256) × (b < 256)) (λ p. f p.0 p.1) (paired (byte (fitting a)) (byte (fitting b))) (a, b)
+    (both_is (a < 256) (b < 256) (byte (fitting a)) (byte (fitting b)) a b (byte_is a) (byte_is b))
 
 numbered_again : (f : ℕ → ℕ → Event) (a b : ℕ) (rest : List ℕ) → Ends rest
     → (o : Option Event) × (numbered_read f (fitting a) (field b ++ rest) ≡ Some (o, rest)) × SomeIff o ((a < 256) × (b < 256)) (f a b)
@@ -152,17 +153,20 @@ issue_again node op rest ends =
     let read = operation_again op rest ends in (
       option_map (λ p. Issue p.0 p.1) (paired (byte (fitting node)) read.0),
       rw (regrouped, after_again (codes " ") (operation op ++ rest), read.1) refl,
-      mapped ((node < 256) × OpFits op) (λ p. Issue p.0 p.1) (paired (byte (fitting node)) read.0) (node, op) (both_is (node < 256) (OpFits op) (byte (fitting node)) read.0 node op (byte_is node) read.2),
+      mapped ((node < 256) × OpFits op) (λ p. Issue p.0 p.1) (paired (byte (fitting node)) read.0) (node, op)
+          (both_is (node < 256) (OpFits op) (byte (fitting node)) read.0 node op (byte_is node) read.2),
     )
 
-details_again : (event : Event) (rest : List ℕ) → Ends rest → ReadAs event (details_read (verb_of event) (fitting (first_node event)) (event_details event ++ rest)) rest
+details_again : (event : Event) (rest : List ℕ) → Ends rest
+    → ReadAs event (details_read (verb_of event) (fitting (first_node event)) (event_details event ++ rest)) rest
 unfolding details_read
 details_again (Issue node op) rest ends = issue_again node op rest ends
 details_again (Perform node line) rest ends = numbered_again Perform node line rest ends
 details_again (Ask node line kind) rest ends = ask_again node line kind rest ends
 details_again (Serve from node) rest ends = numbered_again Serve from node rest ends
 details_again (Refuse from node) rest ends = numbered_again Refuse from node rest ends
-details_again (Reply node) rest ends = (option_map (λ n. Reply n) (byte (fitting node)), refl, mapped (node < 256) (λ n. Reply n) (byte (fitting node)) node (byte_is node))
+details_again (Reply node) rest ends =
+    (option_map (λ n. Reply n) (byte (fitting node)), refl, mapped (node < 256) (λ n. Reply n) (byte (fitting node)) node (byte_is node))
 details_again (Accept from node) rest ends = numbered_again Accept from node rest ends
 
 ends_details : (event : Event) (rest : List ℕ) → Ends rest → Ends (event_details event ++ rest)
@@ -176,7 +180,8 @@ ends_details (Accept from node) rest ends = ends_field node rest
 
 -- what bytes begin with as the details of an event of this word and first node
 abbrev FoundAs : Verb → ℕ → List ℕ → Option Event → List ℕ → Type 0
-FoundAs verb first bytes o rest = (event : Event) × (verb_of event ≡ verb) × (first_node event ≡ first) × (bytes ≡ event_details event ++ rest) × SomeIff o (EventFits event) event
+FoundAs verb first bytes o rest =
+    (event : Event) × (verb_of event ≡ verb) × (first_node event ≡ first) × (bytes ≡ event_details event ++ rest) × SomeIff o (EventFits event) event
 
 numbered_found : (f : ℕ → ℕ → Event) (a : ℕ) (bytes : List ℕ) (o : Option Event) (rest : List ℕ) → numbered_read f (fitting a) bytes ≡ Some (o, rest)
     → (b : ℕ) × (bytes ≡ field b ++ rest) × SomeIff o ((a < 256) × (b < 256)) (f a b)
@@ -191,7 +196,8 @@ numbered_found f a bytes o rest e =
       subst (λ (v : Option Event). SomeIff v ((a < 256) × (b.0 < 256)) (f a b.0)) (ap event (sym b.2) ∙ parts.0) (pair_is f a b.0),
     )
 
-ask_found : (a : ℕ) (bytes : List ℕ) (o : Option Event) (rest : List ℕ) → details_read verbs.Ask (fitting a) bytes ≡ Some (o, rest) → FoundAs verbs.Ask a bytes o rest
+ask_found : (a : ℕ) (bytes : List ℕ) (o : Option Event) (rest : List ℕ) → details_read verbs.Ask (fitting a) bytes ≡ Some (o, rest)
+    → FoundAs verbs.Ask a bytes o rest
 unfolding details_read
 ask_found a bytes o rest e =
     let event : Option ℕ → AskKind → Option Event = λ x kind. option_map (λ p. Ask p.0 p.1 kind) (paired (byte (fitting a)) (byte x)) in
@@ -208,10 +214,12 @@ ask_found a bytes o rest e =
       refl,
       refl,
       line.1 ∙ ap (λ (l : List ℕ). field line.0 ++ l) gap ∙ sym regrouped,
-      subst (λ (v : Option Event). SomeIff v ((a < 256) × (line.0 < 256)) (Ask a line.0 kind)) (ap (λ (x : Option ℕ). event x kind) (sym line.2) ∙ parts.0) (pair_is (λ n l. Ask n l kind) a line.0),
+      subst (λ (v : Option Event). SomeIff v ((a < 256) × (line.0 < 256)) (Ask a line.0 kind)) (ap (λ (x : Option ℕ). event x kind) (sym line.2) ∙ parts.0)
+          (pair_is (λ n l. Ask n l kind) a line.0),
     )
 
-issue_found : (a : ℕ) (bytes : List ℕ) (o : Option Event) (rest : List ℕ) → details_read verbs.Issue (fitting a) bytes ≡ Some (o, rest) → FoundAs verbs.Issue a bytes o rest
+issue_found : (a : ℕ) (bytes : List ℕ) (o : Option Event) (rest : List ℕ) → details_read verbs.Issue (fitting a) bytes ≡ Some (o, rest)
+    → FoundAs verbs.Issue a bytes o rest
 unfolding details_read
 issue_found a bytes o rest e =
     let event : Option Op → Option Event = λ x. option_map (λ p. Issue p.0 p.1) (paired (byte (fitting a)) x) in
@@ -226,17 +234,25 @@ issue_found a bytes o rest e =
       refl,
       after_found (codes " ") bytes g.0 g.1 ∙ ap (λ (l : List ℕ). codes " " ++ l) said ∙ sym regrouped,
       subst (λ (v : Option Event). SomeIff v ((a < 256) × OpFits op.0) (Issue a op.0)) parts.0
-          (mapped ((a < 256) × OpFits op.0) (λ p. Issue p.0 p.1) (paired (byte (fitting a)) y.0.0) (a, op.0) (both_is (a < 256) (OpFits op.0) (byte (fitting a)) y.0.0 a op.0 (byte_is a) op.2)),
+          (mapped ((a < 256) × OpFits op.0) (λ p. Issue p.0 p.1) (paired (byte (fitting a)) y.0.0) (a, op.0)
+          (both_is (a < 256) (OpFits op.0) (byte (fitting a)) y.0.0 a op.0 (byte_is a) op.2)),
     )
 
-reply_found : (a : ℕ) (bytes : List ℕ) (o : Option Event) (rest : List ℕ) → details_read verbs.Reply (fitting a) bytes ≡ Some (o, rest) → FoundAs verbs.Reply a bytes o rest
+reply_found : (a : ℕ) (bytes : List ℕ) (o : Option Event) (rest : List ℕ) → details_read verbs.Reply (fitting a) bytes ≡ Some (o, rest)
+    → FoundAs verbs.Reply a bytes o rest
 unfolding details_read
 reply_found a bytes o rest e =
     let event : Option Event = option_map (λ n. Reply n) (byte (fitting a)) in
-    let parts = some_pair_parts event o bytes rest e in
-    (Reply a, refl, refl, parts.1, subst (λ (v : Option Event). SomeIff v (a < 256) (Reply a)) parts.0 (mapped (a < 256) (λ n. Reply n) (byte (fitting a)) a (byte_is a)))
+    let parts = some_pair_parts event o bytes rest e in (
+      Reply a,
+      refl,
+      refl,
+      parts.1,
+      subst (λ (v : Option Event). SomeIff v (a < 256) (Reply a)) parts.0 (mapped (a < 256) (λ n. Reply n) (byte (fitting a)) a (byte_is a)),
+    )
 
-details_found : (verb : Verb) (a : ℕ) (bytes : List ℕ) (o : Option Event) (rest : List ℕ) → details_read verb (fitting a) bytes ≡ Some (o, rest) → FoundAs verb a bytes o rest
+details_found : (verb : Verb) (a : ℕ) (bytes : List ℕ) (o : Option Event) (rest : List ℕ) → details_read verb (fitting a) bytes ≡ Some (o, rest)
+    → FoundAs verb a bytes o rest
 unfolding details_read
 details_found verbs.Issue a bytes o rest e = issue_found a bytes o rest e
 details_found verbs.Perform a bytes o rest e = let s = numbered_found Perform a bytes o rest e in (Perform a s.0, refl, refl, s.1, s.2)
@@ -253,10 +269,17 @@ unfolding event_line event_line_read
 event_line_again event rest =
     let last = 10 ∷ rest in
     let details = event_details event ++ last in
-    let regrouped : (event_word event ++ (field (first_node event) ++ (event_details event ++ 10 ∷ []))) ++ rest ≡ event_word event ++ (field (first_node event) ++ details) = simp append_assoc in
+    let regrouped : (event_word event ++ (field (first_node event) ++ (event_details event ++ 10 ∷ []))) ++ rest ≡ event_word event
+    ++ (field (first_node event) ++ details) = simp append_assoc in
     let read = details_again event last refl in (
       read.0,
-      rw (regrouped, verb_again event (field (first_node event) ++ details), field_again (first_node event) details (ends_details event last refl), read.1, after_again (10 ∷ []) rest) refl,
+      rw (
+        regrouped,
+        verb_again event (field (first_node event) ++ details),
+        field_again (first_node event) details (ends_details event last refl),
+        read.1,
+        after_again (10 ∷ []) rest,
+      ) refl,
       read.2,
     )
 
@@ -275,9 +298,11 @@ event_line_found bytes o rest e =
     let parts = some_pair_parts y.0.0 o r.0 rest r.2 in
     let last : y.0.1 ≡ 10 ∷ rest = after_found (10 ∷ []) y.0.1 r.0 r.1 ∙ ap (λ (l : List ℕ). 10 ∷ l) parts.1 in
     let details : x.0.1 ≡ event_details event ++ 10 ∷ rest = found.3 ∙ ap (λ (l : List ℕ). event_details event ++ l) last in
-    let node : v.0.1 ≡ field (first_node event) ++ (event_details event ++ 10 ∷ rest) = n.1 ∙ ap (λ (l : List ℕ). field n.0 ++ l) details ∙ ap (λ (k : ℕ). field k ++ (event_details event ++ 10 ∷ rest)) (sym found.2) in
+    let node : v.0.1 ≡ field (first_node event) ++ (event_details event ++ 10 ∷ rest) =
+    n.1 ∙ ap (λ (l : List ℕ). field n.0 ++ l) details ∙ ap (λ (k : ℕ). field k ++ (event_details event ++ 10 ∷ rest)) (sym found.2) in
     let word : verb_word v.0.0 ≡ event_word event = ap verb_word (sym found.1) ∙ event_verb event in
-    let regrouped : (event_word event ++ (field (first_node event) ++ (event_details event ++ 10 ∷ []))) ++ rest ≡ event_word event ++ (field (first_node event) ++ (event_details event ++ 10 ∷ rest)) = simp append_assoc in (
+    let regrouped : (event_word event ++ (field (first_node event) ++ (event_details event ++ 10 ∷ []))) ++ rest ≡ event_word event
+    ++ (field (first_node event) ++ (event_details event ++ 10 ∷ rest)) = simp append_assoc in (
       event,
       verb_found bytes v.0.0 v.0.1 v.1 ∙ ap (λ (w : List ℕ). w ++ v.0.1) word ∙ ap (λ (l : List ℕ). event_word event ++ l) node ∙ sym regrouped,
       subst (λ (z : Option Event). SomeIff z (EventFits event) event) parts.0 found.4,

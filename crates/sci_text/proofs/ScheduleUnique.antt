@@ -1,5 +1,6 @@
 -- A text is one schedule's alone, and has no fault; bytes have one first faulty line and one fault there.
-use Rattle.std.proofs.Common.{◌≡◌, ℕ, ◌+◌, ◌*◌, ◌<◌, ◌≤◌, List, [], ◌∷◌, ◌++◌, length, Option, Some, None, Result, Ok, Err, sym, ap, subst, ◌∙◌, append_assoc, arith, inl, inr}
+use Rattle.std.proofs.Common.{◌≡◌, ℕ, ◌+◌, ◌*◌, ◌<◌, ◌≤◌, List, [], ◌∷◌, ◌++◌, length, Option, Some, None, Result, Ok, Err, sym, ap, subst, ◌∙◌, append_assoc}
+use Rattle.std.proofs.Common.{arith, inl, inr}
 use Rattle.std.specs.Prelude.{codes, IfOk, IfErr}
 use Rattle.std.specs.Option.{SomeIff}
 use Rattle.std.specs.List.{AllByRecursion}
@@ -23,7 +24,8 @@ use Rattle.sci_text.specs.ScriptFault.{MachineFault}
 use Rattle.sci_text.specs.ScheduleFault.{EventFault, BeginsSchedule, IsScheduleFault}
 use Rattle.sci_text.proofs.ScheduleReads.{EventFits, event_line_again}
 use Rattle.sci_text.proofs.ScheduleFaults.{fits, line_nonempty}
-use Rattle.sci_text.proofs.FirstFaults.{SaysOne, one_line_fault, no_line_fault, GoesOnWith, meet_lists, GoesRight, Meets, IsGrammar, one_first_fault, no_first_fault, read_as}
+use Rattle.sci_text.proofs.FirstFaults.{SaysOne, one_line_fault, no_line_fault, GoesOnWith, meet_lists, GoesRight, Meets, IsGrammar, one_first_fault}
+use Rattle.sci_text.proofs.FirstFaults.{no_first_fault, read_as}
 use Rattle.sci_text.proofs.ScriptUnique.{same_size, fitting_same, one_machine_fault, machine_faultless, machine_short, field_short, operation_short}
 
 -- ---- one line
@@ -88,7 +90,8 @@ line_is_short (events.Ask node line kind) fit =
     )
 line_is_short (events.Serve from node) fit = line_of_numbers (codes "serve") from node (omega arith) fit
 line_is_short (events.Refuse from node) fit = line_of_numbers (codes "refuse") from node (omega arith) fit
-line_is_short (events.Reply node) fit = omega (arith, length-append (codes "reply") (field node ++ 10 ∷ []), length-append (field node) (10 ∷ []), field_short node (omega (arith, fit)))
+line_is_short (events.Reply node) fit =
+    omega (arith, length-append (codes "reply") (field node ++ 10 ∷ []), length-append (field node) (10 ∷ []), field_short node (omega (arith, fit)))
 line_is_short (events.Accept from node) fit = line_of_numbers (codes "accept") from node (omega arith) fit
 
 -- ---- lists of lines
@@ -127,7 +130,8 @@ is_full s event = MAX_EVENTS ≤ length s.events
 one_event : (s : ScheduleValue) (bytes : List ℕ) → IsSchedule s → SaysOne (says_event bytes) (Within s)
 one_event s bytes good x y f within g = (same_event x y f.rest g.rest (fits s good x within) (sym f.parts ∙ g.parts)).0
 
-goes_right : (s b : ScheduleValue) (rest : List ℕ) → IsSchedule s → IsSchedule b → s.nodes ≡ b.nodes → s.lines ≡ b.lines → GoesOnWith event_line s.events b.events rest → GoesRight EventFault b rest
+goes_right : (s b : ScheduleValue) (rest : List ℕ) → IsSchedule s → IsSchedule b → s.nodes ≡ b.nodes → s.lines ≡ b.lines
+    → GoesOnWith event_line s.events b.events rest → GoesRight EventFault b rest
 goes_right s b rest good other en em n =
     let x = n.next in
     let within : Within s x = in_back (Within s) b.events x n.more (rw n.parts at (recursion_from_All (Within s) s.events good.within)) in
@@ -135,19 +139,23 @@ goes_right s b rest good other en em n =
     let few = good.few in
     record {
       some = omega (arith, ap length n.left, length-append (event_line x) n.tail, line_nonempty x);
-      right = λ kind fault. no_line_fault (says_event rest) (Within b) (is_full b) (one_event b rest other) x (record { rest = n.tail; parts = n.left; short = line_is_short x (fits s good x within) }) here (λ full. absurd (omega (arith, full, few, ap length n.parts, length-append b.events (x ∷ n.more)))) kind fault;
+      right = λ kind fault. no_line_fault (says_event rest) (Within b) (is_full b) (one_event b rest other) x
+          (record { rest = n.tail; parts = n.left; short = line_is_short x (fits s good x within) }) here
+          (λ full. absurd (omega (arith, full, few, ap length n.parts, length-append b.events (x ∷ n.more)))) kind fault;
     }
 
 meets : (input : List ℕ) (v w : ScheduleValue) (r t : List ℕ) → BeginsSchedule input v r → BeginsSchedule input w t → Meets EventFault v w r t
 meets input v w r t f g =
     let lines = event_lines v.events in
     let others = event_lines w.events in
-    let grouped = sym (append_assoc (machine_line v.nodes v.lines v.slots) lines r) ∙ (sym f.1 ∙ g.1) ∙ append_assoc (machine_line w.nodes w.lines w.slots) others t in
+    let grouped = sym (append_assoc (machine_line v.nodes v.lines v.slots) lines r) ∙ (sym f.1 ∙ g.1)
+    ∙ append_assoc (machine_line w.nodes w.lines w.slots) others t in
     let size = same_size v.nodes v.lines v.slots w.nodes w.lines w.slots (lines ++ r) (others ++ t) f.0.size grouped in
     let en = fitting_same v.nodes w.nodes (omega (arith, g.0.size.few_nodes)) size.0 in
     let em = fitting_same v.lines w.lines (omega (arith, g.0.size.few_lines)) size.1 in
     let ec = fitting_same v.slots w.slots (omega (arith, g.0.size.few_slots)) size.2 in
-    elim (meet_lists event_line EventFits (λ x y a b fit other e. same_event x y a b fit e) v.events w.events r t (events_fit v f.0) (events_fit w g.0) size.3) [
+    elim (meet_lists event_line EventFits (λ x y a b fit other e. same_event x y a b fit e) v.events w.events r t (events_fit v f.0) (events_fit w g.0)
+    size.3) [
       | inl same ↦ inl (same_value v w en em ec same.0, same.1)
       | inr goes ↦
           elim goes [
@@ -159,7 +167,9 @@ meets input v w r t f g =
 grammar : IsGrammar MachineFault BeginsSchedule EventFault
 grammar = record {
   one_opening = one_machine_fault;
-  opened = λ input k s r fault h. machine_faultless s.nodes s.lines s.slots (event_lines s.events ++ r) input k h.0.size (h.1 ∙ append_assoc (machine_line s.nodes s.lines s.slots) (event_lines s.events) r) fault;
+  opened = λ input k s r fault h.
+      machine_faultless s.nodes s.lines s.slots (event_lines s.events ++ r) input k h.0.size
+      (h.1 ∙ append_assoc (machine_line s.nodes s.lines s.slots) (event_lines s.events) r) fault;
   one_fault = λ input s r k j h f g. one_line_fault (says_event r) (Within s) (is_full s) (one_event s r h.0) k j f g;
   meets = meets;
 }
@@ -172,7 +182,13 @@ lines_short (x ∷ events) fit = omega (arith, line_is_short x fit.0, lines_shor
 
 pub schedule_short : (s : ScheduleValue) → IsSchedule s → length (schedule_text s) ≤ MAX_INPUT_BYTES
 schedule_short s good =
-    omega (arith, good.few, machine_short s.nodes s.lines s.slots good.size, lines_short s.events (events_fit s good), length-append (machine_line s.nodes s.lines s.slots) (event_lines s.events))
+    omega (
+      arith,
+      good.few,
+      machine_short s.nodes s.lines s.slots good.size,
+      lines_short s.events (events_fit s good),
+      length-append (machine_line s.nodes s.lines s.slots) (event_lines s.events),
+    )
 
 whole : (s : ScheduleValue) → IsSchedule s → BeginsSchedule (schedule_text s) s []
 whole s good = (good, sym (append-nil (schedule_text s)))
@@ -189,17 +205,21 @@ one_schedule a b good other e =
 
 pub no_fault : (s : ScheduleValue) (line : ℕ) (kind : TextFaultKind) → IsSchedule s → IsScheduleFault (schedule_text s) line kind → ⊥
 no_fault s line kind good fault =
-    no_first_fault MachineFault BeginsSchedule (λ s rest. 0 < length rest) (λ s. length s.events + 1) EventFault grammar (schedule_text s) s (whole s good) (λ some. absurd (omega arith)) line kind fault
+    no_first_fault MachineFault BeginsSchedule (λ s rest. 0 < length rest) (λ s. length s.events + 1) EventFault grammar (schedule_text s) s (whole s good)
+    (λ some. absurd (omega arith)) line kind fault
 
 pub one_fault : (input : List ℕ) (l m : ℕ) (k j : TextFaultKind) → IsScheduleFault input l k → IsScheduleFault input m j → (l ≡ m) × (k ≡ j)
-one_fault input l m k j f g = one_first_fault MachineFault BeginsSchedule (λ s rest. 0 < length rest) (λ s. length s.events + 1) EventFault grammar input l m k j f g
+one_fault input l m k j f g = one_first_fault MachineFault BeginsSchedule (λ s rest. 0 < length rest) (λ s. length s.events + 1) EventFault grammar input l m k
+    j f g
 
 -- what comes of a schedule's text in memory
 pub schedule_read_as : (s : ScheduleValue) (input : List ℕ) (result : Result ScheduleValue TextFault) → IsSchedule s → input ≡ schedule_text s
     → IfOk result (λ read. input ≡ schedule_text read) → IfOk result IsSchedule → IfErr result (IsRefusal IsScheduleFault input) → GivesOnly s result
 schedule_read_as s input result good is text other fault =
-    read_as IsScheduleFault input (λ line kind f. no_fault s line kind good (subst (λ (bytes : List ℕ). IsScheduleFault bytes line kind) is f)) s result (read_is result text other) fault
+    read_as IsScheduleFault input (λ line kind f. no_fault s line kind good (subst (λ (bytes : List ℕ). IsScheduleFault bytes line kind) is f)) s result
+    (read_is result text other) fault
   where
-    read_is : (result : Result ScheduleValue TextFault) → IfOk result (λ read. input ≡ schedule_text read) → IfOk result IsSchedule → IfOk result (λ read. read ≡ s)
+    read_is : (result : Result ScheduleValue TextFault) → IfOk result (λ read. input ≡ schedule_text read) → IfOk result IsSchedule
+        → IfOk result (λ read. read ≡ s)
     read_is (Ok read) text other = sym (one_schedule s read good other (sym is ∙ text))
     read_is (Err f) text other = tt

@@ -18,18 +18,29 @@ use Rattle.sci_text.proofs.Operations.{byte_is, both, both_is, bind_some, OpFits
 abbrev pub Sizes : Type 0
 Sizes = Option ℕ × Option ℕ × Option ℕ
 
-pub machine_line_again : (nodes lines slots : ℕ) (rest : List ℕ) → machine_line_read (machine_line nodes lines slots ++ rest) ≡ Some ((fitting nodes, fitting lines, fitting slots), rest)
+pub machine_line_again : (nodes lines slots : ℕ) (rest : List ℕ)
+    → machine_line_read (machine_line nodes lines slots ++ rest) ≡ Some ((fitting nodes, fitting lines, fitting slots), rest)
 unfolding machine_line machine_line_read
 machine_line_again nodes lines slots rest =
-    let regrouped : (codes "machine" ++ (field nodes ++ (field lines ++ (field slots ++ 10 ∷ [])))) ++ rest ≡ codes "machine" ++ (field nodes ++ (field lines ++ (field slots ++ 10 ∷ rest))) = simp append_assoc in
-    rw (regrouped, after_again (codes "machine") (field nodes ++ (field lines ++ (field slots ++ 10 ∷ rest))), field_again nodes (field lines ++ (field slots ++ 10 ∷ rest)) (ends_field lines (field slots ++ 10 ∷ rest)), field_again lines (field slots ++ 10 ∷ rest) (ends_field slots (10 ∷ rest)), field_again slots (10 ∷ rest) refl, after_again (10 ∷ []) rest) refl
+    let regrouped : (codes "machine" ++ (field nodes ++ (field lines ++ (field slots ++ 10 ∷ [])))) ++ rest ≡ codes "machine"
+    ++ (field nodes ++ (field lines ++ (field slots ++ 10 ∷ rest))) = simp append_assoc in
+    rw (
+      regrouped,
+      after_again (codes "machine") (field nodes ++ (field lines ++ (field slots ++ 10 ∷ rest))),
+      field_again nodes (field lines ++ (field slots ++ 10 ∷ rest)) (ends_field lines (field slots ++ 10 ∷ rest)),
+      field_again lines (field slots ++ 10 ∷ rest) (ends_field slots (10 ∷ rest)),
+      field_again slots (10 ∷ rest) refl,
+      after_again (10 ∷ []) rest,
+    ) refl
 
 pub machine_line_found : (bytes : List ℕ) (a b c : Option ℕ) (rest : List ℕ) → machine_line_read bytes ≡ Some ((a, b, c), rest)
-    → (nodes : ℕ) × (lines : ℕ) × (slots : ℕ) × (bytes ≡ machine_line nodes lines slots ++ rest) × (a ≡ fitting nodes) × (b ≡ fitting lines) × (c ≡ fitting slots)
+    → (nodes : ℕ) × (lines : ℕ) × (slots : ℕ) × (bytes ≡ machine_line nodes lines slots ++ rest) × (a ≡ fitting nodes) × (b ≡ fitting lines)
+    × (c ≡ fitting slots)
 unfolding machine_line machine_line_read
 machine_line_found bytes a b c rest e =
     let end : Option ℕ → Option ℕ → Option ℕ → List ℕ → Option (Sizes × List ℕ) = λ x y z l. after (10 ∷ []) l >>= λ r. Some ((x, y, z), r) in
-    let first = bind_some (after (codes "machine") bytes) (λ l. field_read l >>= λ x. field_read x.1 >>= λ y. field_read y.1 >>= λ z. end x.0 y.0 z.0 z.1) ((a, b, c), rest) e in
+    let first = bind_some (after (codes "machine") bytes) (λ l. field_read l >>= λ x. field_read x.1 >>= λ y. field_read y.1 >>= λ z. end x.0 y.0 z.0 z.1)
+    ((a, b, c), rest) e in
     let x = bind_some (field_read first.0) (λ x. field_read x.1 >>= λ y. field_read y.1 >>= λ z. end x.0 y.0 z.0 z.1) ((a, b, c), rest) first.2 in
     let y = bind_some (field_read x.0.1) (λ y. field_read y.1 >>= λ z. end x.0.0 y.0 z.0 z.1) ((a, b, c), rest) x.2 in
     let z = bind_some (field_read y.0.1) (λ z. end x.0.0 y.0.0 z.0 z.1) ((a, b, c), rest) y.2 in
@@ -42,7 +53,8 @@ machine_line_found bytes a b c rest e =
     let slots : y.0.1 ≡ field k.0 ++ 10 ∷ rest = k.1 ∙ ap (λ (l : List ℕ). field k.0 ++ l) last in
     let lines : x.0.1 ≡ field m.0 ++ (field k.0 ++ 10 ∷ rest) = m.1 ∙ ap (λ (l : List ℕ). field m.0 ++ l) slots in
     let nodes : first.0 ≡ field n.0 ++ (field m.0 ++ (field k.0 ++ 10 ∷ rest)) = n.1 ∙ ap (λ (l : List ℕ). field n.0 ++ l) lines in
-    let regrouped : (codes "machine" ++ (field n.0 ++ (field m.0 ++ (field k.0 ++ 10 ∷ [])))) ++ rest ≡ codes "machine" ++ (field n.0 ++ (field m.0 ++ (field k.0 ++ 10 ∷ rest))) = simp append_assoc in (
+    let regrouped : (codes "machine" ++ (field n.0 ++ (field m.0 ++ (field k.0 ++ 10 ∷ [])))) ++ rest ≡ codes "machine"
+    ++ (field n.0 ++ (field m.0 ++ (field k.0 ++ 10 ∷ rest))) = simp append_assoc in (
       n.0,
       m.0,
       k.0,
@@ -63,7 +75,14 @@ operation_line_again node op rest =
     let regrouped : (codes "p" ++ (field node ++ (codes " " ++ (operation op ++ 10 ∷ [])))) ++ rest ≡ codes "p" ++ (field node ++ gap) = simp append_assoc in
     let read = operation_again op last refl in (
       byte (fitting node) >>= λ n. option_map (λ o. (n, o)) read.0,
-      rw (regrouped, after_again (codes "p") (field node ++ gap), field_again node gap refl, after_again (codes " ") (operation op ++ last), read.1, after_again (10 ∷ []) rest) refl,
+      rw (
+        regrouped,
+        after_again (codes "p") (field node ++ gap),
+        field_again node gap refl,
+        after_again (codes " ") (operation op ++ last),
+        read.1,
+        after_again (10 ∷ []) rest,
+      ) refl,
       both_is (node < 256) (OpFits op) (byte (fitting node)) read.0 node op (byte_is node) read.2,
     )
 
@@ -72,7 +91,10 @@ pub operation_line_found : (bytes : List ℕ) (o : Option (ℕ × Op)) (rest : L
 unfolding operation_line operation_line_read
 operation_line_found bytes o rest e =
     let end : Option ℕ → Option Op → List ℕ → Option (Option (ℕ × Op) × List ℕ) = λ x y l. after (10 ∷ []) l >>= λ r. Some (both (byte x) y, r) in
-    let first = bind_some (after (codes "p") bytes) (λ l. field_read l >>= λ x. after (codes " ") x.1 >>= λ g. operation_read g >>= λ y. end x.0 y.0 y.1) (o, rest) e in
+    let first = bind_some (after (codes "p") bytes) (λ l. field_read l >>= λ x. after (codes " ") x.1 >>= λ g. operation_read g >>= λ y. end x.0 y.0 y.1) (
+      o,
+      rest,
+    ) e in
     let x = bind_some (field_read first.0) (λ x. after (codes " ") x.1 >>= λ g. operation_read g >>= λ y. end x.0 y.0 y.1) (o, rest) first.2 in
     let g = bind_some (after (codes " ") x.0.1) (λ g. operation_read g >>= λ y. end x.0.0 y.0 y.1) (o, rest) x.2 in
     let y = bind_some (operation_read g.0) (λ y. end x.0.0 y.0 y.1) (o, rest) g.2 in
@@ -84,7 +106,8 @@ operation_line_found bytes o rest e =
     let said : g.0 ≡ operation op.0 ++ 10 ∷ rest = op.1 ∙ ap (λ (l : List ℕ). operation op.0 ++ l) last in
     let gap : x.0.1 ≡ codes " " ++ (operation op.0 ++ 10 ∷ rest) = after_found (codes " ") x.0.1 g.0 g.1 ∙ ap (λ (l : List ℕ). codes " " ++ l) said in
     let node : first.0 ≡ field n.0 ++ (codes " " ++ (operation op.0 ++ 10 ∷ rest)) = n.1 ∙ ap (λ (l : List ℕ). field n.0 ++ l) gap in
-    let regrouped : (codes "p" ++ (field n.0 ++ (codes " " ++ (operation op.0 ++ 10 ∷ [])))) ++ rest ≡ codes "p" ++ (field n.0 ++ (codes " " ++ (operation op.0 ++ 10 ∷ rest))) = simp append_assoc in (
+    let regrouped : (codes "p" ++ (field n.0 ++ (codes " " ++ (operation op.0 ++ 10 ∷ [])))) ++ rest ≡ codes "p"
+    ++ (field n.0 ++ (codes " " ++ (operation op.0 ++ 10 ∷ rest))) = simp append_assoc in (
       n.0,
       op.0,
       after_found (codes "p") bytes first.0 first.1 ∙ ap (λ (l : List ℕ). codes "p" ++ l) node ∙ sym regrouped,

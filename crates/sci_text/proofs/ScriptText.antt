@@ -10,11 +10,13 @@ use Rattle.sci_text.specs.ScriptReading.{AddsLine}
 abbrev pub line_of : ℕ × Op → List ℕ
 line_of p = operation_line p.0 p.1
 
-pub text_grows : (s : ScriptValue) (node : ℕ) (op : Op) (rest : List ℕ) → script_text (with_operation s node op) ++ rest ≡ script_text s ++ (operation_line node op ++ rest)
+pub text_grows : (s : ScriptValue) (node : ℕ) (op : Op) (rest : List ℕ)
+    → script_text (with_operation s node op) ++ rest ≡ script_text s ++ (operation_line node op ++ rest)
 text_grows s node op rest =
     let first = machine_line s.nodes s.lines s.slots in
     let front = flat_map line_of s.operations in
-    let more : flat_map line_of (s.operations ++ (node, op) ∷ []) ≡ front ++ operation_line node op = flat_map-append line_of s.operations ((node, op) ∷ []) ∙ ap (λ (l : List ℕ). front ++ l) (append-nil (operation_line node op)) in
+    let more : flat_map line_of (s.operations ++ (node, op) ∷ []) ≡ front ++ operation_line node op =
+    flat_map-append line_of s.operations ((node, op) ∷ []) ∙ ap (λ (l : List ℕ). front ++ l) (append-nil (operation_line node op)) in
     ap (λ (l : List ℕ). (first ++ l) ++ rest) more ∙ simp append_assoc
 
 pub line_nonempty : (node : ℕ) (op : Op) → 0 < length (operation_line node op)
@@ -22,4 +24,5 @@ unfolding operation_line
 line_nonempty node op = omega arith
 
 pub line_shrinks : (old new : ScriptValue) (bytes rest : List ℕ) → AddsLine old new bytes rest → length rest < length bytes
-line_shrinks old new bytes rest adds = omega (arith, ap length adds.parts, length-append (operation_line adds.node adds.op) rest, line_nonempty adds.node adds.op)
+line_shrinks old new bytes rest adds =
+    omega (arith, ap length adds.parts, length-append (operation_line adds.node adds.op) rest, line_nonempty adds.node adds.op)

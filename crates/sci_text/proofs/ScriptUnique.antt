@@ -1,5 +1,6 @@
 -- A text is one script's alone, and has no fault.
-use Rattle.std.proofs.Common.{cond, eqb, ◌≡◌, ℕ, zero, suc, ◌+◌, ◌^◌, ◌<◌, ◌≤◌, List, [], ◌∷◌, ◌++◌, length, Option, Some, None, Result, Ok, Err, refl, sym, ap, subst, ◌∙◌, append_assoc, arith, inl, inr}
+use Rattle.std.proofs.Common.{cond, eqb, ◌≡◌, ℕ, zero, suc, ◌+◌, ◌^◌, ◌<◌, ◌≤◌, List, [], ◌∷◌, ◌++◌, length, Option, Some, None, Result, Ok, Err, refl, sym, ap}
+use Rattle.std.proofs.Common.{subst, ◌∙◌, append_assoc, arith, inl, inr}
 use Rattle.std.specs.Option.{SomeIff}
 use Rattle.std.specs.List.{flat_map, AllByRecursion}
 use Rattle.std.specs.Int.Digits.{digits_of}
@@ -25,7 +26,8 @@ use Rattle.sci_text.specs.Operation.{act_word, act_operands, ActFits, operation}
 use Rattle.sci_text.specs.Script.{ScriptValue, IsScript, IsWithin, count_of, machine_line, operation_line, script_text}
 use Rattle.sci_text.specs.FirstFault.{IsShort, Says, IsRefusal, GivesOnly}
 use Rattle.sci_text.specs.ScriptFault.{MachineFault, OperationFault, BeginsScript, IsScriptFault}
-use Rattle.sci_text.proofs.FirstFaults.{SaysOne, one_line_fault, no_line_fault, GoesOnWith, meet_lists, GoesRight, Meets, IsGrammar, one_first_fault, no_first_fault, read_as}
+use Rattle.sci_text.proofs.FirstFaults.{SaysOne, one_line_fault, no_line_fault, GoesOnWith, meet_lists, GoesRight, Meets, IsGrammar, one_first_fault}
+use Rattle.sci_text.proofs.FirstFaults.{no_first_fault, read_as}
 use Rattle.sci_text.proofs.Numbers.{fitting_below}
 use Rattle.sci_text.proofs.ScriptFaults.{fitting_some}
 use Rattle.sci_text.proofs.Operations.{OpFits}
@@ -60,7 +62,8 @@ both_are (Some x) None p q Q fits h k e = absurd cc
 both_are (Some x) (Some y) p q Q fits h k e = sym h.1 ∙ same_Some x y e ∙ k.1
 
 -- what reads as an operation that fits is that operation
-pub same_operation : (p : ℕ × Op) (node : ℕ) (op : Op) (rest rest' : List ℕ) → LineFits p → line_of p ++ rest ≡ operation_line node op ++ rest' → (p ≡ (node, op)) × (rest ≡ rest')
+pub same_operation : (p : ℕ × Op) (node : ℕ) (op : Op) (rest rest' : List ℕ) → LineFits p → line_of p ++ rest ≡ operation_line node op ++ rest'
+    → (p ≡ (node, op)) × (rest ≡ rest')
 same_operation p node op rest rest' fits e =
     let one = operation_line_again p.0 p.1 rest in
     let two = operation_line_again node op rest' in
@@ -71,8 +74,10 @@ line_length : (p : ℕ × Op) → 0 < length (line_of p)
 line_length p = line_nonempty p.0 p.1
 
 pub within_fits : (s : ScriptValue) → IsScript s → (p : ℕ × Op) → IsWithin s.nodes s.lines p.0 p.1 → LineFits p
-within_fits s good p within =
-    (omega (arith, within.known_node, good.size.few_nodes), (omega (arith, within.known_line, good.size.few_lines), omega (arith, within.known_word), within.words))
+within_fits s good p within = (
+  omega (arith, within.known_node, good.size.few_nodes),
+  (omega (arith, within.known_line, good.size.few_lines), omega (arith, within.known_word), within.words),
+)
 
 abbrev pub Within : ScriptValue → ℕ × Op → Type 0
 Within s p = IsWithin s.nodes s.lines p.0 p.1
@@ -152,7 +157,13 @@ operation_short op fits =
 pub line_is_short : (p : ℕ × Op) → LineFits p → IsShort (line_of p)
 unfolding operation_line
 line_is_short p fits =
-    omega (arith, length-append (field p.0) (codes " " ++ (operation p.1 ++ 10 ∷ [])), length-append (operation p.1) (10 ∷ []), field_short p.0 (omega (arith, fits.0)), operation_short p.1 fits.1)
+    omega (
+      arith,
+      length-append (field p.0) (codes " " ++ (operation p.1 ++ 10 ∷ [])),
+      length-append (operation p.1) (10 ∷ []),
+      field_short p.0 (omega (arith, fits.0)),
+      operation_short p.1 fits.1,
+    )
 
 -- ---- the line of the size has one fault
 
@@ -181,9 +192,11 @@ pub one_machine_fault : (bytes : List ℕ) (k j : TextFaultKind) → MachineFaul
 one_machine_fault bytes k j f g = one_line_fault (says_size bytes) is_size (λ size. ⊥) (one_size bytes) k j f g
 
 -- bytes that begin with the line of a size within its limits have no fault there
-pub machine_faultless : (n m c : ℕ) (tail bytes : List ℕ) (kind : TextFaultKind) → AreWithinLimits n m c → bytes ≡ machine_line n m c ++ tail → MachineFault bytes kind → ⊥
+pub machine_faultless : (n m c : ℕ) (tail bytes : List ℕ) (kind : TextFaultKind) → AreWithinLimits n m c → bytes ≡ machine_line n m c ++ tail
+    → MachineFault bytes kind → ⊥
 machine_faultless n m c tail bytes kind limits parts fault =
-    no_line_fault (says_size bytes) is_size (λ size. ⊥) (one_size bytes) (n, m, c) (record { rest = tail; parts = parts; short = machine_short n m c limits }) limits (λ no. no) kind fault
+    no_line_fault (says_size bytes) is_size (λ size. ⊥) (one_size bytes) (n, m, c) (record { rest = tail; parts = parts; short = machine_short n m c limits })
+    limits (λ no. no) kind fault
 
 -- ---- a script goes on with lines that are right
 
@@ -206,7 +219,8 @@ in_back : (P : ℕ × Op → Type 0) (front : List (ℕ × Op)) (p : ℕ × Op) 
 in_back P [] p more each = each.0
 in_back P (q ∷ front) p more each = in_back P front p more each.1
 
-goes_right : (s b : ScriptValue) (rest : List ℕ) → IsScript s → IsScript b → s.nodes ≡ b.nodes → s.lines ≡ b.lines → GoesOnWith line_of s.operations b.operations rest → GoesRight OperationFault b rest
+goes_right : (s b : ScriptValue) (rest : List ℕ) → IsScript s → IsScript b → s.nodes ≡ b.nodes → s.lines ≡ b.lines
+    → GoesOnWith line_of s.operations b.operations rest → GoesRight OperationFault b rest
 goes_right s b rest good other en em n =
     let p = n.next in
     let within : Within s p = in_back (Within s) b.operations p n.more (rw n.parts at (recursion_from_All (Within s) s.operations good.within)) in
@@ -215,7 +229,8 @@ goes_right s b rest good other en em n =
     let counts = good.counts p.0 within.known_node in
     record {
       some = omega (arith, ap length n.left, length-append (line_of p) n.tail, line_length p);
-      right = λ kind fault. no_line_fault (says_operation rest) (Within b) (is_full b) (one_operation b rest other) p (record { rest = n.tail; parts = n.left; short = line_is_short p (within_fits s good p within) }) here (λ full. absurd (omega arith)) kind fault;
+      right = λ kind fault. no_line_fault (says_operation rest) (Within b) (is_full b) (one_operation b rest other) p
+          (record { rest = n.tail; parts = n.left; short = line_is_short p (within_fits s good p within) }) here (λ full. absurd (omega arith)) kind fault;
     }
 
 all_fit : (s : ScriptValue) (ops : List (ℕ × Op)) → IsScript s → AllByRecursion (Within s) ops → AllByRecursion LineFits ops
@@ -229,12 +244,14 @@ meets : (input : List ℕ) (v w : ScriptValue) (r t : List ℕ) → BeginsScript
 meets input v w r t f g =
     let lines = flat_map line_of v.operations in
     let others = flat_map line_of w.operations in
-    let grouped = sym (append_assoc (machine_line v.nodes v.lines v.slots) lines r) ∙ (sym f.1 ∙ g.1) ∙ append_assoc (machine_line w.nodes w.lines w.slots) others t in
+    let grouped = sym (append_assoc (machine_line v.nodes v.lines v.slots) lines r) ∙ (sym f.1 ∙ g.1)
+    ∙ append_assoc (machine_line w.nodes w.lines w.slots) others t in
     let size = same_size v.nodes v.lines v.slots w.nodes w.lines w.slots (lines ++ r) (others ++ t) f.0.size grouped in
     let en = fitting_same v.nodes w.nodes (omega (arith, g.0.size.few_nodes)) size.0 in
     let em = fitting_same v.lines w.lines (omega (arith, g.0.size.few_lines)) size.1 in
     let ec = fitting_same v.slots w.slots (omega (arith, g.0.size.few_slots)) size.2 in
-    elim (meet_lists line_of LineFits (λ x y a b fit other e. same_operation x y.0 y.1 a b fit e) v.operations w.operations r t (operations_fit v f.0) (operations_fit w g.0) size.3) [
+    elim (meet_lists line_of LineFits (λ x y a b fit other e. same_operation x y.0 y.1 a b fit e) v.operations w.operations r t (operations_fit v f.0)
+    (operations_fit w g.0) size.3) [
       | inl same ↦ inl (same_value v w en em ec same.0, same.1)
       | inr goes ↦
           elim goes [
@@ -246,7 +263,9 @@ meets input v w r t f g =
 grammar : IsGrammar MachineFault BeginsScript OperationFault
 grammar = record {
   one_opening = one_machine_fault;
-  opened = λ input k s r fault h. machine_faultless s.nodes s.lines s.slots (flat_map line_of s.operations ++ r) input k h.0.size (h.1 ∙ append_assoc (machine_line s.nodes s.lines s.slots) (flat_map line_of s.operations) r) fault;
+  opened = λ input k s r fault h.
+      machine_faultless s.nodes s.lines s.slots (flat_map line_of s.operations ++ r) input k h.0.size
+      (h.1 ∙ append_assoc (machine_line s.nodes s.lines s.slots) (flat_map line_of s.operations) r) fault;
   one_fault = λ input s r k j h f g. one_line_fault (says_operation r) (Within s) (is_full s) (one_operation s r h.0) k j f g;
   meets = meets;
 }
@@ -268,16 +287,19 @@ one_script a b good other e =
 
 pub no_fault : (s : ScriptValue) (line : ℕ) (kind : TextFaultKind) → IsScript s → IsScriptFault (script_text s) line kind → ⊥
 no_fault s line kind good fault =
-    no_first_fault MachineFault BeginsScript (λ s rest. 0 < length rest) (λ s. length s.operations + 1) OperationFault grammar (script_text s) s (whole s good) (λ some. absurd (omega arith)) line kind fault
+    no_first_fault MachineFault BeginsScript (λ s rest. 0 < length rest) (λ s. length s.operations + 1) OperationFault grammar (script_text s) s (whole s good)
+    (λ some. absurd (omega arith)) line kind fault
 
 pub one_fault : (input : List ℕ) (l m : ℕ) (k j : TextFaultKind) → IsScriptFault input l k → IsScriptFault input m j → (l ≡ m) × (k ≡ j)
-one_fault input l m k j f g = one_first_fault MachineFault BeginsScript (λ s rest. 0 < length rest) (λ s. length s.operations + 1) OperationFault grammar input l m k j f g
+one_fault input l m k j f g = one_first_fault MachineFault BeginsScript (λ s rest. 0 < length rest) (λ s. length s.operations + 1) OperationFault grammar input
+    l m k j f g
 
 -- what comes of a script's text in memory
 pub script_read_as : (s : ScriptValue) (input : List ℕ) (result : Result ScriptValue TextFault) → IsScript s → input ≡ script_text s
     → IfOk result (λ read. input ≡ script_text read) → IfOk result IsScript → IfErr result (IsRefusal IsScriptFault input) → GivesOnly s result
 script_read_as s input result good is text other fault =
-    read_as IsScriptFault input (λ line kind f. no_fault s line kind good (subst (λ (bytes : List ℕ). IsScriptFault bytes line kind) is f)) s result (read_is result text other) fault
+    read_as IsScriptFault input (λ line kind f. no_fault s line kind good (subst (λ (bytes : List ℕ). IsScriptFault bytes line kind) is f)) s result
+    (read_is result text other) fault
   where
     read_is : (result : Result ScriptValue TextFault) → IfOk result (λ read. input ≡ script_text read) → IfOk result IsScript → IfOk result (λ read. read ≡ s)
     read_is (Ok read) text other = sym (one_script s read good other (sym is ∙ text))

@@ -22,7 +22,8 @@ fits_as m n e = elim (cases_lt m (2 ^ 64)) [
     none_is : (b : ℕ) → None ≡ Some b → ⊥
     none_is b e = cc
 
-found_whole : (bytes : List ℕ) (n : ℕ) (read : Option (Option ℕ × List ℕ)) → number_read bytes ≡ read → whole_of read ≡ Some n → (bytes ≡ number n) × (n < 2 ^ 64)
+found_whole : (bytes : List ℕ) (n : ℕ) (read : Option (Option ℕ × List ℕ)) → number_read bytes ≡ read → whole_of read ≡ Some n
+    → (bytes ≡ number n) × (n < 2 ^ 64)
 found_whole bytes n None read is = absurd cc
 found_whole bytes n (Some (value, b ∷ rest)) read is = absurd cc
 found_whole bytes n (Some (value, [])) read is =
@@ -31,17 +32,21 @@ found_whole bytes n (Some (value, [])) read is =
     (found.1 ∙ (append-nil (number found.0) ∙ ap number same.0), same.1)
 
 whole_again : (bytes : List ℕ) (n : ℕ) → bytes ≡ number n → n < 2 ^ 64 → whole_of (number_read bytes) ≡ Some n
-whole_again bytes n is lt = ap (λ (bs : List ℕ). whole_of (number_read bs)) (is ∙ sym (append-nil (number n))) ∙ (ap whole_of (number_again n [] tt) ∙ fitting_below n lt)
+whole_again bytes n is lt = ap (λ (bs : List ℕ). whole_of (number_read bs)) (is ∙ sym (append-nil (number n)))
+    ∙ (ap whole_of (number_again n [] tt) ∙ fitting_below n lt)
 
-pub whole_is : (bytes : List ℕ) (n : ℕ) (read : Option (Option ℕ × List ℕ)) → number_read bytes ≡ read → (whole_of read ≡ Some n) ↔ ((bytes ≡ number n) × (n < 2 ^ 64))
+pub whole_is : (bytes : List ℕ) (n : ℕ) (read : Option (Option ℕ × List ℕ)) → number_read bytes ≡ read
+    → (whole_of read ≡ Some n) ↔ ((bytes ≡ number n) × (n < 2 ^ 64))
 whole_is bytes n read is = (found_whole bytes n read is, λ h. ap whole_of (sym is) ∙ whole_again bytes n h.0 h.1)
 
 -- a number that is there with nothing after it, one with more after it, and none
-pub whole_here : (bytes : List ℕ) (value : Option ℕ) (rest : List ℕ) → number_read bytes ≡ Some (value, rest) → (length rest == 0) ≡ true → (n : ℕ) → (value ≡ Some n) ↔ ((bytes ≡ number n) × (n < 2 ^ 64))
+pub whole_here : (bytes : List ℕ) (value : Option ℕ) (rest : List ℕ) → number_read bytes ≡ Some (value, rest) → (length rest == 0) ≡ true → (n : ℕ)
+    → (value ≡ Some n) ↔ ((bytes ≡ number n) × (n < 2 ^ 64))
 whole_here bytes value [] is short n = whole_is bytes n (Some (value, [])) is
 whole_here bytes value (b ∷ rest) is short n = absurd (omega (arith, eqb-true (length (b ∷ rest)) 0 short))
 
-pub whole_longer : (bytes : List ℕ) (value : Option ℕ) (rest : List ℕ) → number_read bytes ≡ Some (value, rest) → (length rest == 0) ≡ false → (n : ℕ) → (None ≡ Some n) ↔ ((bytes ≡ number n) × (n < 2 ^ 64))
+pub whole_longer : (bytes : List ℕ) (value : Option ℕ) (rest : List ℕ) → number_read bytes ≡ Some (value, rest) → (length rest == 0) ≡ false → (n : ℕ)
+    → (None ≡ Some n) ↔ ((bytes ≡ number n) × (n < 2 ^ 64))
 whole_longer bytes value [] is long n = absurd cc
 whole_longer bytes value (b ∷ rest) is long n = whole_is bytes n (Some (value, b ∷ rest)) is
 

@@ -26,6 +26,7 @@ strips_none : (read : Option (List ℕ)) (word bytes : List ℕ) → after word 
 strips_none None word bytes e h = refl
 strips_none (Some rest) word bytes e h = absurd (h rest (after_found word bytes rest e))
 
-pub strips : (word bytes : List ℕ) (r : Option (Bor (List ℕ))) → MatchOption r ((rest : List ℕ) → bytes ≢ word ++ rest) (λ x. bytes ≡ word ++ x.now) → Gives (λ x. x.now) r (after word bytes)
+pub strips : (word bytes : List ℕ) (r : Option (Bor (List ℕ))) → MatchOption r ((rest : List ℕ) → bytes ≢ word ++ rest) (λ x. bytes ≡ word ++ x.now)
+    → Gives (λ x. x.now) r (after word bytes)
 strips word bytes None h = strips_none (after word bytes) word bytes refl h
 strips word bytes (Some x) h = ap (after word) h ∙ after_again word x.now

@@ -32,7 +32,8 @@ LineFault says fits is_full Memory = ⊥
 
 -- The input begins with the lines of a value, which are right, and goes on with a line that has a fault, or ends too
 -- early. `begins input v rest`: the rest follows the lines of v. `count v` is the number of those lines.
-pub record FaultAfter {V : Type 0} (begins : List ℕ → V → List ℕ → Type 0) (goes_on : V → List ℕ → Type 0) (count : V → ℕ) (fault : V → List ℕ → TextFaultKind → Type 0) (input : List ℕ) (line : ℕ) (kind : TextFaultKind) : Type 0 where
+pub record FaultAfter {V : Type 0} (begins : List ℕ → V → List ℕ → Type 0) (goes_on : V → List ℕ → Type 0) (count : V → ℕ) (fault : V → List ℕ → TextFaultKind
+    → Type 0) (input : List ℕ) (line : ℕ) (kind : TextFaultKind) : Type 0 where
   pub before : V
   pub rest : List ℕ
   pub right : begins input before rest
@@ -41,7 +42,8 @@ pub record FaultAfter {V : Type 0} (begins : List ℕ → V → List ℕ → Typ
   pub wrong : fault before rest kind
 
 -- the first line that has a fault, and the fault: the opening line, or one after lines that are right
-abbrev pub IsFirstFault : {V : Type 0} → (List ℕ → TextFaultKind → Type 0) → (List ℕ → V → List ℕ → Type 0) → (V → List ℕ → Type 0) → (V → ℕ) → (V → List ℕ → TextFaultKind → Type 0) → List ℕ → ℕ → TextFaultKind → Type 0
+abbrev pub IsFirstFault : {V : Type 0} → (List ℕ → TextFaultKind → Type 0) → (List ℕ → V → List ℕ → Type 0) → (V → List ℕ → Type 0) → (V → ℕ)
+    → (V → List ℕ → TextFaultKind → Type 0) → List ℕ → ℕ → TextFaultKind → Type 0
 IsFirstFault opening begins goes_on count fault input line kind = ((line ≡ 1) × opening input kind) ⊎ FaultAfter begins goes_on count fault input line kind
 
 -- the line where a fault that is found on a line is told: 0 if memory was refused

@@ -1,7 +1,8 @@
 -- Logs that are read from a text, in both formats, and the lines that say them.
 use Rattle.std.specs.Prelude.{◌≡◌, ℕ, ◌<◌, ◌≤◌, ◌^◌, ◌⊎◌, List, [], ◌++◌, length, codes, All, Option, Some, None}
 use Rattle.std.specs.List.{flat_map}
-use Rattle.sci_words.specs.declared.limits.TheConstants.{MAX_NODES, MAX_LINES, MAX_OPERATIONS, WORDS_PER_LINE, FORMAT_1_NODES, FORMAT_1_SERIALS, FORMAT_1_ENTRIES}
+use Rattle.sci_words.specs.declared.limits.TheConstants.{MAX_NODES, MAX_LINES, MAX_OPERATIONS, WORDS_PER_LINE, FORMAT_1_NODES, FORMAT_1_SERIALS}
+use Rattle.sci_words.specs.declared.limits.TheConstants.{FORMAT_1_ENTRIES}
 use Rattle.sci_words.specs.declared.operation.Act.{Act}
 use Rattle.sci_words.specs.declared.operation.Act.TheVariants.{Load, Store, Lock}
 use Rattle.sci_words.specs.declared.operation.Reply.{Reply}

@@ -1,7 +1,8 @@
 -- What the private readers of the code answer, step by step from left to right: what is read, and the bytes
 -- after it. No public contract rests on these words: Script, Schedule and Log say what a text is, and laws in proofs/
 -- join the two.
-use Rattle.std.specs.Prelude.{◌≡◌, ℕ, ◌+◌, ◌-◌, ◌*◌, ◌^◌, Bool, List, [], ◌∷◌, Option, Some, None, option_map, option_and_then, nat_lt, nat_le, ◌&&◌, ◌==◌, if◌then◌else◌}
+use Rattle.std.specs.Prelude.{◌≡◌, ℕ, ◌+◌, ◌-◌, ◌*◌, ◌^◌, Bool, List, [], ◌∷◌, Option, Some, None, option_map, option_and_then, nat_lt, nat_le, ◌&&◌, ◌==◌}
+use Rattle.std.specs.Prelude.{if◌then◌else◌}
 use Rattle.std.specs.Prelude.{codes}
 use Rattle.sci_words.specs.declared.operation.LockOp.{LockOp}
 use Rattle.sci_words.specs.declared.operation.LockOp.TheVariants.{MaskSwap, CompareSwap, FetchAdd, BoundedAdd, WrapAdd}

@@ -10,7 +10,8 @@ use Rattle.sci_text.specs.Schedule.{ScheduleValue, IsSchedule, IsEventWithin, ev
 -- What is wrong with the line at the front of bytes, after the lines that say the schedule so far: it is no
 -- line of an event, whatever the numbers; or a number is out of range; or there are as many events as there may be.
 abbrev pub EventFault : ScheduleValue → List ℕ → TextFaultKind → Type 0
-EventFault s bytes kind = LineFault {X = Event} (λ event. Says bytes (event_line event)) (IsEventWithin s.nodes s.lines) (λ event. MAX_EVENTS ≤ length s.events) kind
+EventFault s bytes kind = LineFault {X = Event} (λ event. Says bytes (event_line event)) (IsEventWithin s.nodes s.lines) (λ event. MAX_EVENTS ≤ length s.events)
+    kind
 
 -- the input begins with the text of a schedule
 abbrev pub BeginsSchedule : List ℕ → ScheduleValue → List ℕ → Type 0

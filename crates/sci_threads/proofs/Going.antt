@@ -26,28 +26,37 @@ module _ {A : Type 0} (driver : A → DriverOf) (end : A → EndOf) where
   all_stay old k d lt = stays (driver (slice_index_or old k d)) (end (slice_index_or old k d))
 
   -- one of them goes on
-  pub one_on : (old shares : List A) (n : ℕ) (now new : A) → n < length shares → GoesOn (driver (slice_index_or shares n now)) (end (slice_index_or shares n now)) (driver new) (end new)
-      → ((k : ℕ) (d : A) → k < length old → HaveGoneOn driver end old shares k d) → (k : ℕ) (d : A) → k < length old → HaveGoneOn driver end old (slice_set shares n new) k d
+  pub one_on : (old shares : List A) (n : ℕ) (now new : A) → n < length shares
+      → GoesOn (driver (slice_index_or shares n now)) (end (slice_index_or shares n now)) (driver new) (end new)
+      → ((k : ℕ) (d : A) → k < length old → HaveGoneOn driver end old shares k d) → (k : ℕ) (d : A) → k < length old
+      → HaveGoneOn driver end old (slice_set shares n new) k d
   one_on old shares n now new lt goes all k d inside = elim (cases_eq k n) [
     | inl same ↦
-        let here : slice_index_or (slice_set shares n new) k d ≡ new = ap (λ (j : ℕ). slice_index_or (slice_set shares n new) j d) same ∙ get_or-set_same shares n new d lt in
+        let here : slice_index_or (slice_set shares n new) k d ≡ new =
+        ap (λ (j : ℕ). slice_index_or (slice_set shares n new) j d) same ∙ get_or-set_same shares n new d lt in
         let was : A = slice_index_or old k d in
         let mid : A = slice_index_or shares k d in
-        let it : slice_index_or shares k d ≡ slice_index_or shares n now = ap (λ (j : ℕ). slice_index_or shares j d) same ∙ get_or_from_slice_get shares n (slice_index_or shares n now) d (slice_get-get_or shares n now lt) in
+        let it : slice_index_or shares k d ≡ slice_index_or shares n now =
+        ap (λ (j : ℕ). slice_index_or shares j d) same
+        ∙ get_or_from_slice_get shares n (slice_index_or shares n now) d (slice_get-get_or shares n now lt) in
         let on : GoesOn (driver mid) (end mid) (driver new) (end new) = subst (λ (s : A). GoesOn (driver s) (end s) (driver new) (end new)) (sym it) goes in
-        subst (λ (s : A). GoesOn (driver was) (end was) (driver s) (end s)) (sym here) (then_on (driver was) (driver mid) (driver new) (end was) (end mid) (end new) (all k d inside) on)
+        subst (λ (s : A). GoesOn (driver was) (end was) (driver s) (end s)) (sym here)
+        (then_on (driver was) (driver mid) (driver new) (end was) (end mid) (end new) (all k d inside) on)
     | inr other ↦
         let was : A = slice_index_or old k d in
         subst (λ (s : A). GoesOn (driver was) (end was) (driver s) (end s)) (sym (get_or-set_other shares n k new d other)) (all k d inside)
   ]
 
   -- all go on, and then again
-  pub all_on : (old mid new : List A) → length mid ≡ length old → ((k : ℕ) (d : A) → k < length old → HaveGoneOn driver end old mid k d) → ((k : ℕ) (d : A) → k < length mid → HaveGoneOn driver end mid new k d) → (k : ℕ) (d : A) → k < length old → HaveGoneOn driver end old new k d
+  pub all_on : (old mid new : List A) → length mid ≡ length old → ((k : ℕ) (d : A) → k < length old → HaveGoneOn driver end old mid k d)
+      → ((k : ℕ) (d : A) → k < length mid → HaveGoneOn driver end mid new k d) → (k : ℕ) (d : A) → k < length old → HaveGoneOn driver end old new k d
   all_on old mid new long first second k d lt =
-      then_on (driver (slice_index_or old k d)) (driver (slice_index_or mid k d)) (driver (slice_index_or new k d)) (end (slice_index_or old k d)) (end (slice_index_or mid k d)) (end (slice_index_or new k d)) (first k d lt) (second k d (omega (arith, long)))
+      then_on (driver (slice_index_or old k d)) (driver (slice_index_or mid k d)) (driver (slice_index_or new k d)) (end (slice_index_or old k d))
+      (end (slice_index_or mid k d)) (end (slice_index_or new k d)) (first k d lt) (second k d (omega (arith, long)))
 
   -- what a share has done that was opened, went on and is well
-  pub has_run : {E : Type 0} (issuing : Issuing) (operations : ℕ → List Op) (old new : A) (finished : Result Bool E) → IsOpened issuing operations (driver old) (end old) → GoesOn (driver old) (end old) (driver new) (end new) → IsWell (driver new) (end new) finished
+  pub has_run : {E : Type 0} (issuing : Issuing) (operations : ℕ → List Op) (old new : A) (finished : Result Bool E)
+      → IsOpened issuing operations (driver old) (end old) → GoesOn (driver old) (end old) (driver new) (end new) → IsWell (driver new) (end new) finished
       → HasRun issuing operations (end new) finished
   has_run issuing operations old new finished opened gone well =
       let node = (end new).part.node in
@@ -61,8 +70,11 @@ module _ {A : Type 0} (driver : A → DriverOf) (end : A → EndOf) where
         front = λ is. subst (λ (ops : List Op). IsFrontOf ops node.log) script (gone.order (opened.ordered is)).front;
       }
 
-  pub all_run : {E : Type 0} (finished : A → Result Bool E) (issuing : Issuing) (operations : ℕ → List Op) (old new : List A) → length new ≡ length old → All (λ s. IsOpened issuing operations (driver s) (end s)) old
-      → ((k : ℕ) (d : A) → k < length old → HaveGoneOn driver end old new k d) → All (λ s. IsWell (driver s) (end s) (finished s)) new → All (λ s. HasRun issuing operations (end s) (finished s)) new
+  pub all_run : {E : Type 0} (finished : A → Result Bool E) (issuing : Issuing) (operations : ℕ → List Op) (old new : List A) → length new ≡ length old
+      → All (λ s. IsOpened issuing operations (driver s) (end s)) old
+      → ((k : ℕ) (d : A) → k < length old → HaveGoneOn driver end old new k d) → All (λ s. IsWell (driver s) (end s) (finished s)) new
+      → All (λ s. HasRun issuing operations (end s) (finished s)) new
   all_run finished issuing operations old new long opened gone well k d lt =
       let within : k < length old = omega (arith, long) in
-      has_run issuing operations (slice_index_or old k d) (slice_index_or new k d) (finished (slice_index_or new k d)) (opened k d within) (gone k d within) (well k d lt)
+      has_run issuing operations (slice_index_or old k d) (slice_index_or new k d) (finished (slice_index_or new k d)) (opened k d within) (gone k d within)
+      (well k d lt)

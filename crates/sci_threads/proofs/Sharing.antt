@@ -1,5 +1,6 @@
 -- The stations of a run, before it and after it.
-use Rattle.std.proofs.Common.{◌≡◌, ◌≤◌, ◌<◌, ℕ, arith, Bool, true, List, [], ◌∷◌, ◌++◌, All, length, filter, map, take, drop, replicate, get_or, Some, None, Result, Ok, Err, IfOk, Vec, refl, sym, ap, subst, ◌∙◌, inl, inr}
+use Rattle.std.proofs.Common.{◌≡◌, ◌≤◌, ◌<◌, ℕ, arith, Bool, true, List, [], ◌∷◌, ◌++◌, All, length, filter, map, take, drop, replicate, get_or, Some, None}
+use Rattle.std.proofs.Common.{Result, Ok, Err, IfOk, Vec, refl, sym, ap, subst, ◌∙◌, inl, inr}
 use Rattle.std.specs.Prelude.{slice_get, slice_index_or, ◌==◌, option_map}
 use Rattle.std.proofs.lemmas.Bool.{cases_lt}
 use Rattle.std.proofs.lemmas.List.{append-nil, drop_all, get_or-map, get_or-replicate, get_or_past, length-map, length-replicate, take_all}
@@ -37,8 +38,10 @@ use Rattle.sci_threads.specs.Shares.{HasRun, operations_of, own_of, size_for}
 -- ---- sizes
 
 -- the machine of the size that a script has is the one that it is run on
-pub sized_for : (extent : Extent) (script : ScriptValue) → extent.nodes ≡ script.nodes → extent.lines ≡ script.lines → extent.slots ≡ script.slots → size_of extent MAX_OPERATIONS ≡ size_for script
-sized_for extent script nodes lines slots = ap (λ n. size n extent.lines extent.slots) nodes ∙ (ap (λ l. size script.nodes l extent.slots) lines ∙ ap (size script.nodes script.lines) slots)
+pub sized_for : (extent : Extent) (script : ScriptValue) → extent.nodes ≡ script.nodes → extent.lines ≡ script.lines → extent.slots ≡ script.slots
+    → size_of extent MAX_OPERATIONS ≡ size_for script
+sized_for extent script nodes lines slots =
+    ap (λ n. size n extent.lines extent.slots) nodes ∙ (ap (λ l. size script.nodes l extent.slots) lines ∙ ap (size script.nodes script.lines) slots)
   where
     size : ℕ → ℕ → ℕ → Size
     size n l s = record { nodes = n; lines = l; slots = s; limit = MAX_OPERATIONS }
@@ -64,7 +67,8 @@ few_own s node good lt =
     omega (arith, good.counts node lt)
 
 -- the operations that stand under a node's number are the node's
-pub own_is : {Z : Type 0} (s : ScriptValue) (all : List (Vec Op Z)) (node : ℕ) → length all ≡ s.nodes → ((n : ℕ) (d : Vec Op Z) → n < s.nodes → (slice_index_or all n d).items ≡ operations_of n s.operations) → node < s.nodes
+pub own_is : {Z : Type 0} (s : ScriptValue) (all : List (Vec Op Z)) (node : ℕ) → length all ≡ s.nodes
+    → ((n : ℕ) (d : Vec Op Z) → n < s.nodes → (slice_index_or all n d).items ≡ operations_of n s.operations) → node < s.nodes
     → own_of all node ≡ operations_of node s.operations
 own_is s [] node long each lt = absurd (omega arith)
 own_is s (v ∷ all) node long each lt = get_or-map (λ own. own.items) (v ∷ all) node v [] (omega arith) ∙ each node v lt
@@ -89,19 +93,22 @@ module _ (table : TableId) (size : Size) (count : ℕ) where
   end_at n = record { table = table; part = opening_part size n }
 
   pub opened_long : length opened ≡ count
-  opened_long = length-map (opening_ends table size count) opening_station ∙ length-map-range_with_len (λ n. record { table = table; part = opening_part size n }) 0 count
+  opened_long = length-map (opening_ends table size count) opening_station
+      ∙ length-map-range_with_len (λ n. record { table = table; part = opening_part size n }) 0 count
 
   pub opened_at : (k : ℕ) (d : StationOf) → k < count → slice_index_or opened k d ≡ opening_station (record { table = table; part = opening_part size k })
   opened_at k d lt =
       let make : ℕ → EndOf = λ n. record { table = table; part = opening_part size n } in
       let long = length-map-range_with_len make 0 count in
-      get_or-map opening_station (opening_ends table size count) k (make k) d (omega arith) ∙ ap opening_station (get_or-map-range_with_len make 0 count k k (make k) lt (omega arith))
+      get_or-map opening_station (opening_ends table size count) k (make k) d (omega arith)
+      ∙ ap opening_station (get_or-map-range_with_len make 0 count k k (make k) lt (omega arith))
 
   pub opened_known : All (λ s. me_of s.end.part < count) opened
   opened_known k d lt = let long = opened_long in subst (λ (s : StationOf). me_of s.end.part < count) (sym (opened_at k d (omega arith))) (omega arith)
 
   pub opened_all_fresh : All (λ s. HasSubmittedNothing (node_in s)) opened
-  opened_all_fresh k d lt = let long = opened_long in subst (λ (s : StationOf). HasSubmittedNothing (node_in s)) (sym (opened_at k d (omega arith))) (opened_fresh k size)
+  opened_all_fresh k d lt = let long = opened_long in
+      subst (λ (s : StationOf). HasSubmittedNothing (node_in s)) (sym (opened_at k d (omega arith))) (opened_fresh k size)
 
 -- ---- the stations after the run
 
@@ -146,13 +153,15 @@ module _ (table : TableId) (size : Size) (count : ℕ) (new : List StationOf) (s
       let long = new_long in
       let within = slice_get_within (map end_in new) place end at in
       let d : StationOf = opening_station end in
-      let there : (slice_index_or new place d).end ≡ end = sym (get_or-map end_in new place d end (omega arith)) ∙ get_or_from_slice_get (map end_in new) place end end at in
+      let there : (slice_index_or new place d).end ≡ end =
+      sym (get_or-map end_in new place d end (omega arith)) ∙ get_or_from_slice_get (map end_in new) place end end at in
       subst (IsOf f) there (same_one f named sized place d (omega arith))
 
 -- ---- what the logs say
 
 -- a log that each end's log is, of the operations that stand under its number
-pub logs_have : (Good : List Op → List Entry → Type 0) (operations : ℕ → List Op) (ends : List EndOf) (logs : List (List Entry)) (count : ℕ) → AreAll count ends → HaveLogs ends logs → All (λ end. Good (operations (me_of end.part)) end.part.node.log) ends
+pub logs_have : (Good : List Op → List Entry → Type 0) (operations : ℕ → List Op) (ends : List EndOf) (logs : List (List Entry)) (count : ℕ) → AreAll count ends
+    → HaveLogs ends logs → All (λ end. Good (operations (me_of end.part)) end.part.node.log) ends
     → (node : ℕ) → node < count → Good (operations node) (log_of logs node)
 logs_have Good operations ends logs count all have good node lt =
     let it = all.every node lt in
@@ -164,7 +173,8 @@ empty_in_order : IsInProgramOrder []
 empty_in_order i j d lt inside = absurd (omega arith)
 
 -- if the log of each node stands in order, all logs do: no other has an entry
-pub in_order : (logs : List (List Entry)) (count : ℕ) (core : Core) → IsReached core → logs ≡ logs_of core → core.size.nodes ≡ count → ((node : ℕ) → node < count → IsInProgramOrder (log_of logs node)) → AreInProgramOrder logs
+pub in_order : (logs : List (List Entry)) (count : ℕ) (core : Core) → IsReached core → logs ≡ logs_of core → core.size.nodes ≡ count
+    → ((node : ℕ) → node < count → IsInProgramOrder (log_of logs node)) → AreInProgramOrder logs
 in_order logs count core reached is nodes each node = elim (cases_lt node count) [
   | inl lt ↦ each node lt
   | inr past ↦ subst (λ (all : List (List Entry)). IsInProgramOrder (log_of all node)) (sym is) (elim (cases_lt node MAX_NODES) [
@@ -175,47 +185,63 @@ in_order logs count core reached is nodes each node = elim (cases_lt node count)
 
 -- What holds of each end's log, and of the operations that stand under its number, holds of each node's log and the node's
 -- operations.
-pub each_log : {Z : Type 0} (Good : List Op → List Entry → Type 0) (s : ScriptValue) (operations : List (Vec Op Z)) (ends : List EndOf) (logs : List (List Entry)) → length operations ≡ s.nodes
-    → ((n : ℕ) (d : Vec Op Z) → n < s.nodes → (slice_index_or operations n d).items ≡ operations_of n s.operations) → AreAll s.nodes ends → HaveLogs ends logs → All (λ end. Good (own_of operations (me_of end.part)) end.part.node.log) ends
+pub each_log : {Z : Type 0} (Good : List Op → List Entry → Type 0) (s : ScriptValue) (operations : List (Vec Op Z)) (ends : List EndOf)
+    (logs : List (List Entry)) → length operations ≡ s.nodes
+    → ((n : ℕ) (d : Vec Op Z) → n < s.nodes → (slice_index_or operations n d).items ≡ operations_of n s.operations) → AreAll s.nodes ends → HaveLogs ends logs
+    → All (λ end. Good (own_of operations (me_of end.part)) end.part.node.log) ends
     → (node : ℕ) → node < s.nodes → Good (operations_of node s.operations) (log_of logs node)
 each_log Good s operations ends logs many own all have good node lt =
-    subst (λ (ops : List Op). Good ops (log_of logs node)) (own_is s operations node many own lt) (logs_have Good (own_of operations) ends logs s.nodes all have good node lt)
+    subst (λ (ops : List Op). Good ops (log_of logs node)) (own_is s operations node many own lt)
+    (logs_have Good (own_of operations) ends logs s.nodes all have good node lt)
 
 -- a slice that is written back over a vector of its length is all of it
 pub written_back : {A : Type 0} (len : ℕ) (new old : List A) → len ≡ length old → length new ≡ length old → take len (new ++ drop (length new) old) ≡ new
 written_back len new old is long =
-    ap (λ rest. take len (new ++ rest)) (drop_all (length new) old (omega (arith, long))) ∙ (ap (take len) (append-nil new) ∙ take_all len new (omega (arith, is, long)))
+    ap (λ rest. take len (new ++ rest)) (drop_all (length new) old (omega (arith, long)))
+    ∙ (ap (take len) (append-nil new) ∙ take_all len new (omega (arith, is, long)))
 
 module _ {A : Type 0} (station : A → StationOf) (issuing : Issuing) (operations : ℕ → List Op) where
   -- of what holds of each share, each end's log is of its operations
-  pub named_ends : {E : Type 0} (finished : A → Result Bool E) (shares : List A) → All (λ s. HasRun issuing operations (station s).end (finished s)) shares → All (λ end. IsLogOf (operations (me_of end.part)) end.part.node.log) (map end_in (map station shares))
+  pub named_ends : {E : Type 0} (finished : A → Result Bool E) (shares : List A) → All (λ s. HasRun issuing operations (station s).end (finished s)) shares
+      → All (λ end. IsLogOf (operations (me_of end.part)) end.part.node.log) (map end_in (map station shares))
   named_ends finished shares run =
       let Good : EndOf → Type 0 = λ end. IsLogOf (operations (me_of end.part)) end.part.node.log in
       All-map Good end_in (map station shares) (All-map (λ (s : StationOf). Good s.end) station shares (λ k d lt. (run k d lt).named))
 
-  pub whole_ends : {E : Type 0} (finished : A → Result Bool E) (shares : List A) → All (λ s. HasRun issuing operations (station s).end (finished s)) shares → All (λ s. finished s ≡ Ok true) shares
+  pub whole_ends : {E : Type 0} (finished : A → Result Bool E) (shares : List A) → All (λ s. HasRun issuing operations (station s).end (finished s)) shares
+      → All (λ s. finished s ≡ Ok true) shares
       → All (λ end. IsWholeLogOf (operations (me_of end.part)) end.part.node.log) (map end_in (map station shares))
   whole_ends finished shares run all =
       let Good : EndOf → Type 0 = λ end. IsWholeLogOf (operations (me_of end.part)) end.part.node.log in
-      All-map Good end_in (map station shares) (All-map (λ (s : StationOf). Good s.end) station shares (λ k d lt. whole_if (operations (me_of (station (slice_index_or shares k d)).end.part)) (station (slice_index_or shares k d)).end.part.node.log (finished (slice_index_or shares k d)) (run k d lt).whole (all k d lt)))
+      All-map Good end_in (map station shares)
+      (All-map (λ (s : StationOf). Good s.end) station shares
+      (λ k d lt. whole_if (operations (me_of (station (slice_index_or shares k d)).end.part)) (station (slice_index_or shares k d)).end.part.node.log
+      (finished (slice_index_or shares k d)) (run k d lt).whole (all k d lt)))
     where
-      whole_if : {E : Type 0} (script : List Op) (log : List Entry) (r : Result Bool E) → IfOk r (λ b. b ≡ true → IsWholeLogOf script log) → r ≡ Ok true → IsWholeLogOf script log
+      whole_if : {E : Type 0} (script : List Op) (log : List Entry) (r : Result Bool E) → IfOk r (λ b. b ≡ true → IsWholeLogOf script log) → r ≡ Ok true
+          → IsWholeLogOf script log
       whole_if script log (Ok b) h is = h cc
       whole_if script log (Err e) h is = absurd cc
 
-  pub ordered_ends : {E : Type 0} (finished : A → Result Bool E) (shares : List A) → issuing ≡ InOrder → All (λ s. HasRun issuing operations (station s).end (finished s)) shares → All (λ end. IsInProgramOrder end.part.node.log) (map end_in (map station shares))
+  pub ordered_ends : {E : Type 0} (finished : A → Result Bool E) (shares : List A) → issuing ≡ InOrder
+      → All (λ s. HasRun issuing operations (station s).end (finished s)) shares
+      → All (λ end. IsInProgramOrder end.part.node.log) (map end_in (map station shares))
   ordered_ends finished shares is run =
       let Good : EndOf → Type 0 = λ end. IsInProgramOrder end.part.node.log in
       All-map Good end_in (map station shares) (All-map (λ (s : StationOf). Good s.end) station shares (λ k d lt. (run k d lt).ordered is))
 
-  pub front_ends : {E : Type 0} (finished : A → Result Bool E) (shares : List A) → issuing ≡ InOrder → All (λ s. HasRun issuing operations (station s).end (finished s)) shares → All (λ end. IsFrontOf (operations (me_of end.part)) end.part.node.log) (map end_in (map station shares))
+  pub front_ends : {E : Type 0} (finished : A → Result Bool E) (shares : List A) → issuing ≡ InOrder
+      → All (λ s. HasRun issuing operations (station s).end (finished s)) shares
+      → All (λ end. IsFrontOf (operations (me_of end.part)) end.part.node.log) (map end_in (map station shares))
   front_ends finished shares is run =
       let Good : EndOf → Type 0 = λ end. IsFrontOf (operations (me_of end.part)) end.part.node.log in
       All-map Good end_in (map station shares) (All-map (λ (s : StationOf). Good s.end) station shares (λ k d lt. (run k d lt).front is))
 
 module _ {A : Type 0} (station : A → StationOf) where
   -- what a run does to each share, it does to each station
-  pub same_stations : (old new : List A) → length new ≡ length old → ((k : ℕ) (d : A) → k < length old → IsSameEnd (station (slice_index_or old k d)).end (station (slice_index_or new k d)).end) → AreSame (map station old) (map station new)
+  pub same_stations : (old new : List A) → length new ≡ length old
+      → ((k : ℕ) (d : A) → k < length old → IsSameEnd (station (slice_index_or old k d)).end (station (slice_index_or new k d)).end)
+      → AreSame (map station old) (map station new)
   same_stations [] new long each = record { long = length-map new station ∙ (long ∙ sym (length-map [] station)); each = λ k d lt. absurd (omega arith) }
   same_stations (x ∷ xs) new long each = record {
     long = length-map new station ∙ (long ∙ sym (length-map (x ∷ xs) station));
@@ -230,11 +256,14 @@ module _ {A : Type 0} (station : A → StationOf) where
 
   -- The stations that come out of the slice which is written back over the vector that lent it: they are of the fabric
   -- that they were of, and all of its.
-  pub came_back : (f : LanesOf) (size : Size) (count len : ℕ) (before after : List A) (left : List StationOf) → f.size ≡ size → map station before ≡ opened f.table size count → len ≡ length before → length after ≡ length before
-      → ((k : ℕ) (d : A) → k < length before → IsSameEnd (station (slice_index_or before k d)).end (station (slice_index_or after k d)).end) → left ≡ map station (take len (after ++ drop (length after) before))
+  pub came_back : (f : LanesOf) (size : Size) (count len : ℕ) (before after : List A) (left : List StationOf) → f.size ≡ size
+      → map station before ≡ opened f.table size count → len ≡ length before → length after ≡ length before
+      → ((k : ℕ) (d : A) → k < length before → IsSameEnd (station (slice_index_or before k d)).end (station (slice_index_or after k d)).end)
+      → left ≡ map station (take len (after ++ drop (length after) before))
       → AreOf f (map end_in left) × AreAll count (map end_in left)
   came_back f size count len before after left sized made is long each comes =
-      let same : AreSame (opened f.table size count) (map station after) = subst (λ (old : List StationOf). AreSame old (map station after)) made (same_stations before after long each) in
+      let same : AreSame (opened f.table size count) (map station after) =
+      subst (λ (old : List StationOf). AreSame old (map station after)) made (same_stations before after long each) in
       let here : left ≡ map station after = comes ∙ ap (map station) (written_back len after before is long) in (
         subst (λ (xs : List StationOf). AreOf f (map end_in xs)) (sym here) (still_of f.table size count (map station after) same f refl sized),
         subst (λ (xs : List StationOf). AreAll count (map end_in xs)) (sym here) (still_all f.table size count (map station after) same),

@@ -79,7 +79,8 @@ pub record GoesOn (driver : DriverOf) (end : EndOf) (later : DriverOf) (last : E
 
 -- the same of the shares that stand at a place
 abbrev pub HaveGoneOn : {A : Type 0} → (A → DriverOf) → (A → EndOf) → List A → List A → ℕ → A → Type 0
-HaveGoneOn driver end old new k d = GoesOn (driver (slice_index_or old k d)) (end (slice_index_or old k d)) (driver (slice_index_or new k d)) (end (slice_index_or new k d))
+HaveGoneOn driver end old new k d =
+    GoesOn (driver (slice_index_or old k d)) (end (slice_index_or old k d)) (driver (slice_index_or new k d)) (end (slice_index_or new k d))
 
 -- The log of the end's node is of the operations that stand under its number, and whole if it has finished. If they were
 -- issued in order, it stands in their order and has the first ones of them.

@@ -29,17 +29,21 @@ some_of : {A : Type 0} (o : Option A) → IsSome o → (x : A) × (o ≡ Some x)
 some_of None e = cc
 some_of (Some x) e = (x, refl)
 
-front_taken : (core : Core) (n from : ℕ) (kind : LaneKind) (taking : NodeOf → Letter → Option NodeOf) (e : Event) (letter : Letter) (rest : List Letter) → TakesFront core n kind taking from e → lane_of core kind from n ≡ letter ∷ rest → IsSome (taking (node_at core n) letter) → IsEnabled core e
-front_taken core n from kind taking e letter rest takes is some = subst IsSome (sym (takes.front letter rest is)) (there (taken_to core n kind from rest) (taking (node_at core n) letter) some)
+front_taken : (core : Core) (n from : ℕ) (kind : LaneKind) (taking : NodeOf → Letter → Option NodeOf) (e : Event) (letter : Letter) (rest : List Letter)
+    → TakesFront core n kind taking from e → lane_of core kind from n ≡ letter ∷ rest → IsSome (taking (node_at core n) letter) → IsEnabled core e
+front_taken core n from kind taking e letter rest takes is some =
+    subst IsSome (sym (takes.front letter rest is)) (there (taken_to core n kind from rest) (taking (node_at core n) letter) some)
 
-pub may_accept : (post : PostOf) (from : ℕ) (letter : Letter) → IsPost post → from < nodes_in post → IsFront post Answers from letter → MayTake post Answers from letter (event.Accept from post.me)
+pub may_accept : (post : PostOf) (from : ℕ) (letter : Letter) → IsPost post → from < nodes_in post → IsFront post Answers from letter
+    → MayTake post Answers from letter (event.Accept from post.me)
 may_accept post from letter here f front =
     let some = accept_enabled post.core from post.me here.reached f here.some letter front.0 front.1 in
     let next = some_of (node_accepting (node_in post) letter) some in
     record {
       own = refl;
       front = front;
-      enabled = front_taken post.core post.me from Answers node_accepting (event.Accept from post.me) letter front.0 ((steps_by_sides post.core post.me here.some).accept from f) front.1 some;
+      enabled = front_taken post.core post.me from Answers node_accepting (event.Accept from post.me) letter front.0
+          ((steps_by_sides post.core post.me here.some).accept from f) front.1 some;
       sender = f;
       taking = node_accepting (node_in post);
       next = next.0;
@@ -47,14 +51,16 @@ may_accept post from letter here f front =
       gives = next.1;
     }
 
-may_serve : (post : PostOf) (from : ℕ) (letter : Letter) → IsPost post → from < nodes_in post → IsFront post Requests from letter → (node_in post).waiting ≡ None → MayTake post Requests from letter (event.Serve from post.me)
+may_serve : (post : PostOf) (from : ℕ) (letter : Letter) → IsPost post → from < nodes_in post → IsFront post Requests from letter
+    → (node_in post).waiting ≡ None → MayTake post Requests from letter (event.Serve from post.me)
 may_serve post from letter here f front free =
     let some = (request_enabled post.core from post.me here.reached f here.some).served letter front.0 front.1 free in
     let next = some_of (node_serving (node_in post) letter) some in
     record {
       own = refl;
       front = front;
-      enabled = front_taken post.core post.me from Requests node_serving (event.Serve from post.me) letter front.0 ((steps_by_sides post.core post.me here.some).serve from f) front.1 some;
+      enabled = front_taken post.core post.me from Requests node_serving (event.Serve from post.me) letter front.0
+          ((steps_by_sides post.core post.me here.some).serve from f) front.1 some;
       sender = f;
       taking = node_serving (node_in post);
       next = next.0;
@@ -62,14 +68,16 @@ may_serve post from letter here f front free =
       gives = next.1;
     }
 
-may_refuse : (post : PostOf) (from : ℕ) (letter : Letter) → IsPost post → from < nodes_in post → IsFront post Requests from letter → (node_in post).waiting ≡ None → is_setback letter.body ≡ false → MayTake post Requests from letter (event.Refuse from post.me)
+may_refuse : (post : PostOf) (from : ℕ) (letter : Letter) → IsPost post → from < nodes_in post → IsFront post Requests from letter
+    → (node_in post).waiting ≡ None → is_setback letter.body ≡ false → MayTake post Requests from letter (event.Refuse from post.me)
 may_refuse post from letter here f front free other =
     let some = (request_enabled post.core from post.me here.reached f here.some).refused letter front.0 front.1 free other in
     let next = some_of (node_refusing (node_in post) letter) some in
     record {
       own = refl;
       front = front;
-      enabled = front_taken post.core post.me from Requests node_refusing (event.Refuse from post.me) letter front.0 ((steps_by_sides post.core post.me here.some).refuse from f) front.1 some;
+      enabled = front_taken post.core post.me from Requests node_refusing (event.Refuse from post.me) letter front.0
+          ((steps_by_sides post.core post.me here.some).refuse from f) front.1 some;
       sender = f;
       taking = node_refusing (node_in post);
       next = next.0;
@@ -78,11 +86,15 @@ may_refuse post from letter here f front free other =
     }
 
 -- a request is taken as the policy decides
-pub may_take : (post : PostOf) (from : ℕ) (letter : Letter) (policy : PolicyOf) (d : Decision) (e : Event) → IsPost post → from < nodes_in post → IsFront post Requests from letter → (node_in post).waiting ≡ None → decided policy (node_in post) letter ≡ d
+pub may_take : (post : PostOf) (from : ℕ) (letter : Letter) (policy : PolicyOf) (d : Decision) (e : Event) → IsPost post → from < nodes_in post
+    → IsFront post Requests from letter → (node_in post).waiting ≡ None → decided policy (node_in post) letter ≡ d
     → Some e ≡ decided_event d from post.me → MayTake post Requests from letter e
 may_take post from letter policy decision.Keep e here f front free decides takes = cc
-may_take post from letter policy decision.Refuse e here f front free decides takes = subst (MayTake post Requests from letter) (sym (same_some _ _ takes)) (may_refuse post from letter here f front free (refuses_no_setback policy (node_in post) letter decides))
-may_take post from letter policy decision.Serve e here f front free decides takes = subst (MayTake post Requests from letter) (sym (same_some _ _ takes)) (may_serve post from letter here f front free)
+may_take post from letter policy decision.Refuse e here f front free decides takes =
+    subst (MayTake post Requests from letter) (sym (same_some _ _ takes))
+    (may_refuse post from letter here f front free (refuses_no_setback policy (node_in post) letter decides))
+may_take post from letter policy decision.Serve e here f front free decides takes =
+    subst (MayTake post Requests from letter) (sym (same_some _ _ takes)) (may_serve post from letter here f front free)
 
 -- ---- sending
 
@@ -94,16 +106,20 @@ may_reply post answer here waits =
     let node = node_in post in
     record {
       own = refl;
-      enabled = subst IsSome (sym ((steps_by_sides post.core post.me here.some).reply ∙ ap (λ (o : Option (NodeOf × Letter)). option_map (λ (s : NodeOf × Letter). sent_by post.core post.me Answers s.0 s.1) o) (replying node answer waits))) refl;
+      enabled = subst IsSome (sym ((steps_by_sides post.core post.me here.some).reply
+          ∙ ap (λ (o : Option (NodeOf × Letter)). option_map (λ (s : NodeOf × Letter). sent_by post.core post.me Answers s.0 s.1) o)
+          (replying node answer waits))) refl;
       next = record node { waiting = None };
       side_is = ap (sends Answers) (replying node answer waits);
       target = waiting_target post.core post.me answer here.reached here.some waits;
     }
 
-pub may_ask : (post : PostOf) (line : ℕ) (kind : AskKind) (next : NodeOf) (request : Letter) → IsPost post → node_asking (node_in post) line kind ≡ Some (next, request) → MaySend post Requests request (event.Ask post.me line kind)
+pub may_ask : (post : PostOf) (line : ℕ) (kind : AskKind) (next : NodeOf) (request : Letter) → IsPost post
+    → node_asking (node_in post) line kind ≡ Some (next, request) → MaySend post Requests request (event.Ask post.me line kind)
 may_ask post line kind next request here asks = record {
   own = refl;
-  enabled = subst IsSome (sym ((steps_by_sides post.core post.me here.some).ask line kind ∙ ap (λ (o : Option (NodeOf × Letter)). option_map (λ (s : NodeOf × Letter). sent_by post.core post.me Requests s.0 s.1) o) asks)) refl;
+  enabled = subst IsSome (sym ((steps_by_sides post.core post.me here.some).ask line kind
+      ∙ ap (λ (o : Option (NodeOf × Letter)). option_map (λ (s : NodeOf × Letter). sent_by post.core post.me Requests s.0 s.1) o) asks)) refl;
   next = next;
   side_is = ap (sends Requests) asks;
   target = asked_target post.core post.me line kind (next, request) here.reached here.some asks;

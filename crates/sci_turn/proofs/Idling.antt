@@ -37,8 +37,11 @@ use Rattle.sci_turn.proofs.Moments.{node_stays, so_after, so_still}
 use Rattle.sci_turn.proofs.Stills.{still_then}
 
 -- what each step of the turn has found
-pub idle_turn : (before begun policy after : PolicyOf) (old replied accepted taken new : PostOf) (told : Progress) → begun ≡ turned before → IsStill old replied → IsStill replied accepted → IsStill accepted taken → policy ≡ begun → IsReplyHeldUp replied
-    → ((from : ℕ) → from < nodes_in replied → WasEmpty Answers from replied accepted) → ((from : ℕ) → from < nodes_in accepted → TookNone begun from accepted taken) → AsksNothing policy taken after new told → IsIdleTurn before old after new
+pub idle_turn : (before begun policy after : PolicyOf) (old replied accepted taken new : PostOf) (told : Progress) → begun ≡ turned before → IsStill old replied
+    → IsStill replied accepted → IsStill accepted taken → policy ≡ begun → IsReplyHeldUp replied
+    → ((from : ℕ) → from < nodes_in replied → WasEmpty Answers from replied accepted)
+    → ((from : ℕ) → from < nodes_in accepted → TookNone begun from accepted taken) → AsksNothing policy taken after new told
+    → IsIdleTurn before old after new
 idle_turn before begun policy after old replied accepted taken new told begins one two three kept reply answers requests asks =
     let is : policy ≡ turned before = kept ∙ begins in
     let last : IsStill accepted new = still_then accepted taken new three asks.still in
@@ -48,10 +51,12 @@ idle_turn before begun policy after old replied accepted taken new told begins o
       still = still_then old replied new one rest;
       policy = asks.policy ∙ ap (λ (p : PolicyOf). next_policy p (node_in new)) is;
       reply = record { mid = replied; before = one; after = rest; so = reply };
-      answers = λ from f. so_after (λ (post : PostOf). lane_to post Answers from ≡ []) old replied new one (so_still (λ (post : PostOf). lane_to post Answers from ≡ []) replied accepted new (answers from (node_stays from old replied one.same f)) last);
+      answers = λ from f. so_after (λ (post : PostOf). lane_to post Answers from ≡ []) old replied new one
+          (so_still (λ (post : PostOf). lane_to post Answers from ≡ []) replied accepted new (answers from (node_stays from old replied one.same f)) last);
       requests = λ from f. (
           let P : PostOf → Type 0 = λ post. taken_next begun post.core from post.me ≡ None in
-          subst (λ (p : PolicyOf). TookNone p from old new) begins (so_after P old accepted new before_ (so_still P accepted taken new (requests from (node_stays from old accepted before_.same f)) asks.still)));
+          subst (λ (p : PolicyOf). TookNone p from old new) begins
+          (so_after P old accepted new before_ (so_still P accepted taken new (requests from (node_stays from old accepted before_.same f)) asks.still)));
       wants = subst (λ (p : PolicyOf). IfSome (next_wanted p (node_in new)) (IsHeldUp new)) is asks.wants;
     }
 
@@ -78,39 +83,51 @@ no_front : (lane : List Letter) → slice_get lane 0 ≡ None → lane ≡ []
 no_front [] e = refl
 no_front (letter ∷ rest) e = cc
 
-free_by : (core : Core) (waiting : Option Letter) → IfSome waiting (λ answer. 4 ≤ length (lane_of core Answers 0 answer.target)) → ((answer : Letter) → waiting ≡ Some answer → lane_of core Answers 0 answer.target ≡ []) → waiting ≡ None
+free_by : (core : Core) (waiting : Option Letter) → IfSome waiting (λ answer. 4 ≤ length (lane_of core Answers 0 answer.target))
+    → ((answer : Letter) → waiting ≡ Some answer → lane_of core Answers 0 answer.target ≡ []) → waiting ≡ None
 free_by core None full empty = refl
 free_by core (Some answer) full empty =
     let long : length (lane_of core Answers 0 answer.target) ≡ 0 = ap length (empty answer refl) in
     let many : 4 ≤ length (lane_of core Answers 0 answer.target) = full in
     absurd (omega arith)
 
-own_taken : (policy : PolicyOf) (node : NodeOf) (request : Letter) (n : ℕ) → request.source ≡ node.cache.me → decided_event (decided policy node request) n n ≡ None → ⊥
+own_taken : (policy : PolicyOf) (node : NodeOf) (request : Letter) (n : ℕ) → request.source ≡ node.cache.me
+    → decided_event (decided policy node request) n n ≡ None → ⊥
 own_taken policy node request n own none = keeps_no_own policy node request own (keep_of (decided policy node request) n n none)
 
-taken_if : (policy : PolicyOf) (node : NodeOf) (n : ℕ) (front : Option Letter) → node.waiting ≡ None → IfSome front (λ request. request.source ≡ node.cache.me) → taking_event policy node n n front ≡ None → front ≡ None
+taken_if : (policy : PolicyOf) (node : NodeOf) (n : ℕ) (front : Option Letter) → node.waiting ≡ None → IfSome front (λ request. request.source ≡ node.cache.me)
+    → taking_event policy node n n front ≡ None → front ≡ None
 taken_if policy node n None free own none = refl
 taken_if policy node n (Some request) free own none =
-    let event : decided_event (decided policy node request) n n ≡ None = subst (λ (w : Option Letter). (if is_some w then None else decided_event (decided policy node request) n n) ≡ None) free none in
+    let event : decided_event (decided policy node request) n n ≡ None =
+    subst (λ (w : Option Letter). (if is_some w then None else decided_event (decided policy node request) n n) ≡ None) free none in
     absurd (own_taken policy node request n own event)
 
-front_own : (P : Letter → Type 0) (lane : List Letter) (front : Option Letter) → slice_get lane 0 ≡ front → ((letter : Letter) → slice_get lane 0 ≡ Some letter → P letter) → IfSome front P
+front_own : (P : Letter → Type 0) (lane : List Letter) (front : Option Letter) → slice_get lane 0 ≡ front
+    → ((letter : Letter) → slice_get lane 0 ≡ Some letter → P letter) → IfSome front P
 front_own P lane None is all = tt
 front_own P lane (Some letter) is all = all letter is
 
 -- no line awaits an answer if a node that is alone has nothing to do
-alone_idle : (policy : PolicyOf) (core : Core) → IsReached core → core.size.nodes ≡ 1 → AloneIdle policy core → (line : ℕ) → waits (state_on (node_at core 0) line) ≡ true → ⊥
+alone_idle : (policy : PolicyOf) (core : Core) → IsReached core → core.size.nodes ≡ 1 → AloneIdle policy core → (line : ℕ)
+    → waits (state_on (node_at core 0) line) ≡ true → ⊥
 alone_idle policy core reached one nothing line awaits =
     let well = reached_well core reached in
     let some : 0 < core.size.nodes = omega arith in
     let node = node_at core 0 in
     let at : (to : ℕ) → to ≡ 0 → lane_of core Answers 0 to ≡ [] = λ to is. subst (λ (t : ℕ). lane_of core Answers 0 t ≡ []) (sym is) nothing.answers in
-    let free : node.waiting ≡ None = free_by core node.waiting nothing.reply (λ answer waiting. at answer.target (first_only answer.target core.size.nodes (waiting_target core 0 answer reached some waiting) one)) in
+    let free : node.waiting ≡ None =
+    free_by core node.waiting nothing.reply
+    (λ answer waiting. at answer.target (first_only answer.target core.size.nodes (waiting_target core 0 answer reached some waiting) one)) in
     let place = lane_place core.size.nodes Requests 0 0 in
     let own : (letter : Letter) → slice_get (lane_of core Requests 0 0) 0 ≡ Some letter → letter.source ≡ node.cache.me = λ letter front.
-    (front_holds (IsInLane core.size.nodes core.size.lines place) (lane_of core Requests 0 0) letter front (well.each_lane place)).from ∙ (place_from core.size.nodes Requests 0 0 some some ∙ sym (well.each_part 0 some).me) in
+    (front_holds (IsInLane core.size.nodes core.size.lines place) (lane_of core Requests 0 0) letter front (well.each_lane place)).from
+    ∙ (place_from core.size.nodes Requests 0 0 some some ∙ sym (well.each_part 0 some).me) in
     let front = slice_get (lane_of core Requests 0 0) 0 in
-    let requests : lane_of core Requests 0 0 ≡ [] = no_front (lane_of core Requests 0 0) (taken_if policy node 0 front free (front_own (λ request. request.source ≡ node.cache.me) (lane_of core Requests 0 0) front refl own) nothing.requests) in
+    let requests : lane_of core Requests 0 0 ≡ [] =
+    no_front (lane_of core Requests 0 0)
+    (taken_if policy node 0 front free (front_own (λ request. request.source ≡ node.cache.me) (lane_of core Requests 0 0) front refl own)
+    nothing.requests) in
     alone_rests core reached one free requests nothing.answers line awaits
 
 -- what was so at a moment is so still, of a node that is alone
@@ -121,7 +138,8 @@ alone_so P old new first one was =
     let same : was.mid.core ≡ new.core = alone_leads was.mid.me was.mid.core was.after.others new.core zero alone was.after.lead in
     subst (λ (c : Core). P c 0) same (subst (P was.mid.core) zero was.so)
 
-alone_nothing : (before after : PolicyOf) (old new : PostOf) → new.me ≡ 0 → new.core.size.nodes ≡ 1 → IsIdleTurn before old after new → AloneIdle (turned before) new.core
+alone_nothing : (before after : PolicyOf) (old new : PostOf) → new.me ≡ 0 → new.core.size.nodes ≡ 1 → IsIdleTurn before old after new
+    → AloneIdle (turned before) new.core
 alone_nothing before after old new first one idle =
     let zero : old.me ≡ 0 = sym idle.still.same.me ∙ first in
     let some : 0 < nodes_in old = subst (λ (s : Size). 0 < s.nodes) idle.still.same.size (omega arith) in
@@ -134,7 +152,8 @@ alone_nothing before after old new first one idle =
 -- ---- any machine
 
 -- a line that awaits an answer awaits one of another node
-awaits_others : (before after : PolicyOf) (old new : PostOf) → IsPost new → IsIdleTurn before old after new → (line : ℕ) → waits (state_on (node_in new) line) ≡ true → MayIdle (node_in new)
+awaits_others : (before after : PolicyOf) (old new : PostOf) → IsPost new → IsIdleTurn before old after new → (line : ℕ)
+    → waits (state_on (node_in new) line) ≡ true → MayIdle (node_in new)
 awaits_others before after old new here idle line awaits =
     let core = new.core in
     let some : new.me < core.size.nodes = here.some in
@@ -143,7 +162,8 @@ awaits_others before after old new here idle line awaits =
       | inr alone ↦
           let one : core.size.nodes ≡ 1 = omega arith in
           let first : new.me ≡ 0 = omega arith in
-          absurd (alone_idle (turned before) core here.reached one (alone_nothing before after old new first one idle) line (subst (λ (m : ℕ). waits (state_on (node_at core m) line) ≡ true) first awaits))
+          absurd (alone_idle (turned before) core here.reached one (alone_nothing before after old new first one idle) line
+          (subst (λ (m : ℕ). waits (state_on (node_at core m) line) ≡ true) first awaits))
     ]
 
 idle_by : (before after : PolicyOf) (old new : PostOf) → IsPost new → IsIdleTurn before old after new → MayRest (node_in new) → MayIdle (node_in new)
@@ -155,22 +175,30 @@ some_of None e = cc
 some_of (Some x) e = (x, refl)
 
 -- a request is under way whose lane is full: its line awaits the answer
-held_idle : (before after : PolicyOf) (old new : PostOf) (line : ℕ) (kind : AskKind) → IsPost new → IsIdleTurn before old after new → IsHeldUp new (Ask line kind) → IsSome (node_asking (node_in new) line kind) → MayIdle (node_in new)
+held_idle : (before after : PolicyOf) (old new : PostOf) (line : ℕ) (kind : AskKind) → IsPost new → IsIdleTurn before old after new
+    → IsHeldUp new (Ask line kind) → IsSome (node_asking (node_in new) line kind) → MayIdle (node_in new)
 held_idle before after old new line kind here idle held asks =
     let core = new.core in
     let n = new.me in
     let sent = some_of (node_asking (node_in new) line kind) asks in
     let to = sent.0.1.target in
-    let full : 4 ≤ length (lane_of core Requests n to) = of_some (λ (s : NodeOf × Letter). IsFull new Requests s.1.target) (node_asking (node_in new) line kind) sent.0 sent.1 held in
+    let full : 4 ≤ length (lane_of core Requests n to) =
+    of_some (λ (s : NodeOf × Letter). IsFull new Requests s.1.target) (node_asking (node_in new) line kind) sent.0 sent.1 held in
     let front = some_front (lane_of core Requests n to) (omega arith) in
-    let waited = (request_enabled core n to here.reached here.some (asked_target core n line kind sent.0 here.reached here.some sent.1)).waited front.0 front.1 front.2 in
+    let waited = (request_enabled core n to here.reached here.some (asked_target core n line kind sent.0 here.reached here.some sent.1)).waited front.0 front.1
+    front.2 in
     awaits_others before after old new here idle front.0.line waited.1
 
-idle_wanting : (before after : PolicyOf) (old new : PostOf) (want : Option Want) → IsPost new → IsIdleTurn before old after new → next_wanted (turned before) (node_in new) ≡ want → IfSome want (IsHeldUp new) → IfSome want (IsEnabledWant (node_in new)) → MayIdle (node_in new)
+idle_wanting : (before after : PolicyOf) (old new : PostOf) (want : Option Want) → IsPost new → IsIdleTurn before old after new
+    → next_wanted (turned before) (node_in new) ≡ want → IfSome want (IsHeldUp new) → IfSome want (IsEnabledWant (node_in new)) → MayIdle (node_in new)
 idle_wanting before after old new None here idle is held enabled =
-    idle_by before after old new here idle (may_rest (ticked (turned before) (node_in new)) (node_in new) new.me (record { core = new.core; reached = here.reached; some = here.some; here = refl }) is)
+    idle_by before after old new here idle
+    (may_rest (ticked (turned before) (node_in new)) (node_in new) new.me
+    (record { core = new.core; reached = here.reached; some = here.some; here = refl }) is)
 idle_wanting before after old new (Some (Perform line)) here idle is held enabled = elim held [ ]
 idle_wanting before after old new (Some (Ask line kind)) here idle is held enabled = held_idle before after old new line kind here idle held enabled
 
 pub may_idle : (before after : PolicyOf) (old new : PostOf) → IsPost new → IsIdleTurn before old after new → MayIdle (node_in new)
-may_idle before after old new here idle = idle_wanting before after old new (next_wanted (turned before) (node_in new)) here idle refl idle.wants (wanted_enabled (ticked (turned before) (node_in new)) (node_in new))
+may_idle before after old new here idle =
+    idle_wanting before after old new (next_wanted (turned before) (node_in new)) here idle refl idle.wants
+    (wanted_enabled (ticked (turned before) (node_in new)) (node_in new))

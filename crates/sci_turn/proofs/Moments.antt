@@ -38,7 +38,8 @@ pub none_came : (policy : PolicyOf) (from : ℕ) (post : PostOf) → lane_to pos
 none_came policy from post empty = ap (λ (lane : List Letter). taking_event policy (node_in post) from post.me (slice_get lane 0)) empty
 
 -- the event of a request that has come, when no answer waits
-pub taken_event : (policy : PolicyOf) (from : ℕ) (post : PostOf) (request : Letter) → IsFront post Requests from request → (node_in post).waiting ≡ None → taken_next policy post.core from post.me ≡ decided_event (decided policy (node_in post) request) from post.me
+pub taken_event : (policy : PolicyOf) (from : ℕ) (post : PostOf) (request : Letter) → IsFront post Requests from request → (node_in post).waiting ≡ None
+    → taken_next policy post.core from post.me ≡ decided_event (decided policy (node_in post) request) from post.me
 taken_event policy from post request front free =
     ap (λ (lane : List Letter). taking_event policy (node_in post) from post.me (slice_get lane 0)) front.1
     ∙ ap (λ (w : Option Letter). if is_some w then None else decided_event (decided policy (node_in post) request) from post.me) free

@@ -16,7 +16,8 @@ pub further_itself : (n : ℕ) (known : Option (List Event)) → IsFurther n kno
 further_itself n None = tt
 further_itself n (Some known) = sym (append-nil known)
 
-pub further_then : (n : ℕ) (a : Option (List Event)) (xs : List Event) (b : Option (List Event)) (ys : List Event) (c : Option (List Event)) → IsFurther n a xs b → IsFurther n b ys c → IsFurther n a (xs ++ ys) c
+pub further_then : (n : ℕ) (a : Option (List Event)) (xs : List Event) (b : Option (List Event)) (ys : List Event) (c : Option (List Event))
+    → IsFurther n a xs b → IsFurther n b ys c → IsFurther n a (xs ++ ys) c
 further_then n (Some a) xs (Some b) ys (Some c) one two = two ∙ (ap (λ (es : List Event). es ++ ys) one ∙ append_assoc a xs ys)
 further_then n (Some a) xs (Some b) ys None one two = absurd two
 further_then n (Some a) xs None ys c one two = absurd one
@@ -24,7 +25,8 @@ further_then n None xs None ys None one two = all-append (λ e. node_of e ≡ n)
 further_then n None xs None ys (Some c) one two = absurd two
 further_then n None xs (Some b) ys c one two = absurd one
 
-pub others_join : (n : ℕ) (x : Core) (xs : List Event) (y : Core) (ys : List Event) (z : Core) → OthersLead n x xs y → OthersLead n y ys z → OthersLead n x (xs ++ ys) z
+pub others_join : (n : ℕ) (x : Core) (xs : List Event) (y : Core) (ys : List Event) (z : Core) → OthersLead n x xs y → OthersLead n y ys z
+    → OthersLead n x (xs ++ ys) z
 others_join n x [] y ys z one two = subst (λ (c : Core). OthersLead n c ys z) (sym one) two
 others_join n x (e ∷ xs) y ys z one two = (one.0, one.1, one.2, others_join n one.0 xs y ys z one.3 two)
 
@@ -36,6 +38,8 @@ still_then old mid new one two = record {
   same = same_then old mid new one.same two.same;
   node = two.node ∙ one.node;
   others = one.others ++ two.others;
-  lead = others_join old.me old.core one.others mid.core two.others new.core one.lead (subst (λ (n : ℕ). OthersLead n mid.core two.others new.core) one.same.me two.lead);
-  further = further_then old.me old.schedule one.others mid.schedule two.others new.schedule one.further (subst (λ (n : ℕ). IsFurther n mid.schedule two.others new.schedule) one.same.me two.further);
+  lead = others_join old.me old.core one.others mid.core two.others new.core one.lead
+      (subst (λ (n : ℕ). OthersLead n mid.core two.others new.core) one.same.me two.lead);
+  further = further_then old.me old.schedule one.others mid.schedule two.others new.schedule one.further
+      (subst (λ (n : ℕ). IsFurther n mid.schedule two.others new.schedule) one.same.me two.further);
 }

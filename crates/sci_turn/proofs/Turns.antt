@@ -14,7 +14,8 @@ use Rattle.sci_turn.specs.Posts.{IsFurther, IsMade, IsSamePost, IsStill, OthersL
 use Rattle.sci_turn.specs.Moves.{Decides, GoesOn, HasEnded, HasMoved, IsOwn, Leads, own_of}
 use Rattle.sci_turn.proofs.Stills.{further_itself, further_then, same_itself, same_then, still_then}
 
-leads_join : (n : ℕ) (a : PolicyOf) (x : Core) (xs : List Event) (b : PolicyOf) (y : Core) (ys : List Event) (c : PolicyOf) (z : Core) → Leads n a x xs b y → Leads n b y ys c z → Leads n a x (xs ++ ys) c z
+leads_join : (n : ℕ) (a : PolicyOf) (x : Core) (xs : List Event) (b : PolicyOf) (y : Core) (ys : List Event) (c : PolicyOf) (z : Core) → Leads n a x xs b y
+    → Leads n b y ys c z → Leads n a x (xs ++ ys) c z
 leads_join n a x [] b y ys c z one two =
     subst (λ (p : PolicyOf). Leads n p x ys c z) (sym one.0) (subst (λ (w : Core). Leads n b w ys c z) (sym one.1) two)
 leads_join n a x (e ∷ xs) b y ys c z one two = (one.0, one.1, one.2, one.3, leads_join n one.1 one.0 xs b y ys c z one.4 two)
@@ -26,7 +27,8 @@ leads_others n a x (e ∷ others) y lead = (lead.0, a, lead.1, inr (record { apa
 
 own_others : (n : ℕ) (x : Core) (others : List Event) (y : Core) → OthersLead n x others y → own_of n others ≡ []
 own_others n x [] y lead = refl
-own_others n x (e ∷ others) y lead = ap (λ (b : Bool). cond b (e ∷ own_of n others) (own_of n others)) (ne_eqb (node_of e) n lead.2) ∙ own_others n lead.0 others y lead.3
+own_others n x (e ∷ others) y lead =
+    ap (λ (b : Bool). cond b (e ∷ own_of n others) (own_of n others)) (ne_eqb (node_of e) n lead.2) ∙ own_others n lead.0 others y lead.3
 
 own_one : (n : ℕ) (e : Event) → node_of e ≡ n → own_of n (e ∷ []) ≡ e ∷ []
 own_one n e is = ap (λ (b : Bool). cond b (e ∷ []) []) (eq-eqb (node_of e) n is)
@@ -35,7 +37,8 @@ own_join : (n : ℕ) (xs ys : List Event) → own_of n (xs ++ ys) ≡ own_of n x
 own_join n xs ys = filter-append (λ e. eqb (node_of e) n) xs ys
 
 own_seen : (n : ℕ) (x : Core) (more others : List Event) (y : Core) → OthersLead n x others y → own_of n (more ++ others) ≡ own_of n more
-own_seen n x more others y lead = own_join n more others ∙ (ap (λ (es : List Event). own_of n more ++ es) (own_others n x others y lead) ∙ append-nil (own_of n more))
+own_seen n x more others y lead =
+    own_join n more others ∙ (ap (λ (es : List Event). own_of n more ++ es) (own_others n x others y lead) ∙ append-nil (own_of n more))
 
 own_more : (n : ℕ) (more : List Event) (e : Event) → node_of e ≡ n → own_of n (more ++ e ∷ []) ≡ own_of n more ++ e ∷ []
 own_more n more e is = own_join n more (e ∷ []) ∙ ap (λ (es : List Event). own_of n more ++ es) (own_one n e is)
@@ -43,31 +46,43 @@ own_more n more e is = own_join n more (e ∷ []) ∙ ap (λ (es : List Event). 
 -- ---- going on
 
 -- no event was made
-pub moved_still : (first policy : PolicyOf) (start old new : PostOf) (told : Progress) → IsStill old new → (moved : HasMoved first start policy old told) → (now : HasMoved first start policy new told) × (own_of start.me now.more ≡ own_of start.me moved.more)
+pub moved_still : (first policy : PolicyOf) (start old new : PostOf) (told : Progress) → IsStill old new → (moved : HasMoved first start policy old told)
+    → (now : HasMoved first start policy new told) × (own_of start.me now.more ≡ own_of start.me moved.more)
 moved_still first policy start old new told still moved =
     let lead : OthersLead start.me old.core still.others new.core = subst (λ (n : ℕ). OthersLead n old.core still.others new.core) moved.same.me still.lead in
     let own = own_seen start.me old.core moved.more still.others new.core lead in (
       record {
         same = same_then start old new moved.same still.same;
         more = moved.more ++ still.others;
-        leads = leads_join start.me first start.core moved.more policy old.core still.others policy new.core moved.leads (leads_others start.me policy old.core still.others new.core lead);
-        further = further_then start.me start.schedule moved.more old.schedule still.others new.schedule moved.further (subst (λ (n : ℕ). IsFurther n old.schedule still.others new.schedule) moved.same.me still.further);
+        leads = leads_join start.me first start.core moved.more policy old.core still.others policy new.core moved.leads
+            (leads_others start.me policy old.core still.others new.core lead);
+        further = further_then start.me start.schedule moved.more old.schedule still.others new.schedule moved.further
+            (subst (λ (n : ℕ). IsFurther n old.schedule still.others new.schedule) moved.same.me still.further);
         counts = subst (λ (es : List Event). Counts es told) (sym own) moved.counts;
       },
       own,
     )
 
 -- an event was made
-pub moved_more : (first before after : PolicyOf) (start mid new : PostOf) (told tells : Progress) (e : Event) → (moved : HasMoved first start before mid told) → IsSamePost mid new → stepping mid.core e ≡ Some new.core → IsOwn mid.me before mid.core e after
-    → IsFurther mid.me mid.schedule (e ∷ []) new.schedule → ((events : List Event) → Counts events told → Counts (events ++ e ∷ []) tells) → (now : HasMoved first start after new tells) × (own_of start.me now.more ≡ own_of start.me moved.more ++ e ∷ [])
+pub moved_more : (first before after : PolicyOf) (start mid new : PostOf) (told tells : Progress) (e : Event) → (moved : HasMoved first start before mid told)
+    → IsSamePost mid new → stepping mid.core e ≡ Some new.core → IsOwn mid.me before mid.core e after
+    → IsFurther mid.me mid.schedule (e ∷ []) new.schedule → ((events : List Event) → Counts events told → Counts (events ++ e ∷ []) tells)
+    → (now : HasMoved first start after new tells) × (own_of start.me now.more ≡ own_of start.me moved.more ++ e ∷ [])
 moved_more first before after start mid new told tells e moved same steps own further counts =
     let here : IsOwn start.me before mid.core e after = subst (λ (n : ℕ). IsOwn n before mid.core e after) moved.same.me own in
     let more = own_more start.me moved.more e here.kind.own in (
       record {
         same = same_then start mid new moved.same same;
         more = moved.more ++ e ∷ [];
-        leads = leads_join start.me first start.core moved.more before mid.core (e ∷ []) after new.core moved.leads (new.core, after, steps, inl here, (refl, refl));
-        further = further_then start.me start.schedule moved.more mid.schedule (e ∷ []) new.schedule moved.further (subst (λ (n : ℕ). IsFurther n mid.schedule (e ∷ []) new.schedule) moved.same.me further);
+        leads = leads_join start.me first start.core moved.more before mid.core (e ∷ []) after new.core moved.leads (
+          new.core,
+          after,
+          steps,
+          inl here,
+          (refl, refl),
+        );
+        further = further_then start.me start.schedule moved.more mid.schedule (e ∷ []) new.schedule moved.further
+            (subst (λ (n : ℕ). IsFurther n mid.schedule (e ∷ []) new.schedule) moved.same.me further);
         counts = subst (λ (es : List Event). Counts es tells) (sym more) (counts (own_of start.me moved.more) moved.counts);
       },
       more,
@@ -81,7 +96,8 @@ goes_still policy old new told tells still is = record {
   still = λ nothing. record { post = still; policy = refl; nothing = subst MadeNothing is nothing };
 }
 
-pub goes_then : (before between after : PolicyOf) (old mid new : PostOf) (first then_ tells : Progress) → GoesOn before old between mid first then_ → GoesOn between mid after new then_ tells → GoesOn before old after new first tells
+pub goes_then : (before between after : PolicyOf) (old mid new : PostOf) (first then_ tells : Progress) → GoesOn before old between mid first then_
+    → GoesOn between mid after new then_ tells → GoesOn before old after new first tells
 goes_then before between after old mid new first then_ tells one two = record {
   same = same_then old mid new one.same two.same;
   ready = two.ready ∙ one.ready;
@@ -93,12 +109,14 @@ goes_then before between after old mid new first then_ tells one two = record {
 }
 
 -- an event was made, and is counted
-pub goes_made : (before after : PolicyOf) (old new : PostOf) (told tells : Progress) (e : Event) → IsTurnEvent old.me e → (made : IsMade old e new) → Decides before made.mid.core old.me e after → tells ≡ counted told e
+pub goes_made : (before after : PolicyOf) (old new : PostOf) (told tells : Progress) (e : Event) → IsTurnEvent old.me e → (made : IsMade old e new)
+    → Decides before made.mid.core old.me e after → tells ≡ counted told e
     → ((events : List Event) → Counts events told → Counts (events ++ e ∷ []) tells) → GoesOn before old after new told tells
 goes_made before after old new told tells e own made decides is counts = record {
   same = same_then old made.mid new made.still.same made.same;
   ready = ap (λ (p : Progress). p.ready) is;
-  turn = λ policy start moved. (moved_more policy before after start made.mid new told tells e (moved_still policy before start old made.mid told made.still moved).0 made.same made.made
+  turn = λ policy start moved. (moved_more policy before after start made.mid new told tells e
+      (moved_still policy before start old made.mid told made.still moved).0 made.same made.made
       (subst (λ (n : ℕ). IsOwn n before made.mid.core e after) (sym made.still.same.me) (record { kind = own; decides = decides })) made.further counts).0;
   still = λ nothing. absurd (tells_something old.me e told tells own is nothing);
 }
@@ -106,18 +124,22 @@ goes_made before after old new told tells e own made decides is counts = record 
 -- ---- the beginning and the end of a turn
 
 pub turn_begins : (policy : PolicyOf) (post : PostOf) (told : Progress) → Counts [] told → HasMoved policy post policy post told
-turn_begins policy post told nothing = record { same = same_itself post; more = []; leads = (refl, refl); further = further_itself post.me post.schedule; counts = nothing }
+turn_begins policy post told nothing =
+    record { same = same_itself post; more = []; leads = (refl, refl); further = further_itself post.me post.schedule; counts = nothing }
 
 -- the policy wasn't asked once more
-pub ends_there : (before : PolicyOf) (old : PostOf) (after : PolicyOf) (new : PostOf) (told : Progress) → HasMoved before old after new told → HasEnded before old after new told
+pub ends_there : (before : PolicyOf) (old : PostOf) (after : PolicyOf) (new : PostOf) (told : Progress) → HasMoved before old after new told
+    → HasEnded before old after new told
 ends_there before old after new told moved = record { policy = after; moved = moved; asked = inl refl }
 
 -- or it was
-pub ends_asked : (before : PolicyOf) (old : PostOf) (policy after : PolicyOf) (new : PostOf) (told : Progress) → after ≡ next_policy policy (node_in new) → HasMoved before old policy new told → HasEnded before old after new told
+pub ends_asked : (before : PolicyOf) (old : PostOf) (policy after : PolicyOf) (new : PostOf) (told : Progress) → after ≡ next_policy policy (node_in new)
+    → HasMoved before old policy new told → HasEnded before old after new told
 ends_asked before old policy after new told is moved = record { policy = policy; moved = moved; asked = inr is }
 
 -- a line that can be performed is told of
-pub ends_ready : (before : PolicyOf) (old : PostOf) (after : PolicyOf) (new : PostOf) (told tells : Progress) → tells.accepted ≡ told.accepted → tells.served ≡ told.served → tells.replied ≡ told.replied → tells.asked ≡ told.asked
+pub ends_ready : (before : PolicyOf) (old : PostOf) (after : PolicyOf) (new : PostOf) (told tells : Progress) → tells.accepted ≡ told.accepted
+    → tells.served ≡ told.served → tells.replied ≡ told.replied → tells.asked ≡ told.asked
     → HasEnded before old after new told → HasEnded before old after new tells
 ends_ready before old after new told tells accepted served replied asked ended =
     let counts = ended.moved.counts in
@@ -128,7 +150,12 @@ ends_ready before old after new told tells accepted served replied asked ended =
         more = ended.moved.more;
         leads = ended.moved.leads;
         further = ended.moved.further;
-        counts = record { accepted = accepted ∙ counts.accepted; served = served ∙ counts.served; replied = replied ∙ counts.replied; asked = asked ∙ counts.asked };
+        counts = record {
+          accepted = accepted ∙ counts.accepted;
+          served = served ∙ counts.served;
+          replied = replied ∙ counts.replied;
+          asked = asked ∙ counts.asked;
+        };
       };
       asked = ended.asked;
     }

@@ -20,4 +20,5 @@ pub record HasAskedAll (before : PolicyOf) (old : PostOf) (after : PolicyOf) (ne
 
 -- the last step of a turn: whatever turn came so far has asked all by it
 abbrev pub AsksAll : PolicyOf → PostOf → PolicyOf → PostOf → Progress → Progress → Type 0
-AsksAll before old after new told tells = (policy : PolicyOf) (start : PostOf) → HasMoved policy start before old told → HasAskedAll policy start after new tells
+AsksAll before old after new told tells =
+    (policy : PolicyOf) (start : PostOf) → HasMoved policy start before old told → HasAskedAll policy start after new tells

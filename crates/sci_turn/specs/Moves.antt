@@ -48,7 +48,8 @@ pub record IsOther (n : ℕ) (before : PolicyOf) (e : Event) (after : PolicyOf) 
 abbrev pub Leads : ℕ → PolicyOf → Core → List Event → PolicyOf → Core → Type 0
 Leads n before old [] after new = (before ≡ after) × (old ≡ new)
 Leads n before old (e ∷ more) after new =
-    (next : Core) × (policy : PolicyOf) × (stepping old e ≡ Some next) × (IsOwn n before old e policy ⊎ IsOther n before e policy) × Leads n policy next more after new
+    (next : Core) × (policy : PolicyOf) × (stepping old e ≡ Some next) × (IsOwn n before old e policy ⊎ IsOther n before e policy)
+    × Leads n policy next more after new
 
 -- the events of a node among these
 abbrev pub own_of : ℕ → List Event → List Event

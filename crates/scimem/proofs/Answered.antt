@@ -6,5 +6,7 @@ use Rattle.sci_text.specs.FirstFault.{IsInputFault}
 use Rattle.scimem.specs.Decoding.{IsInputRefusal, IsAnswer, refusal}
 use Rattle.sci_command.specs.Refusal.{kind_word}
 
-pub refused : (known : Option (List ℕ)) (failed : Bool) (kind : TextFaultKind) → IsInputFault kind known failed → IsAnswer known failed (refusal 0 (kind_word kind)) Refused
-refused known failed kind why = let line : IsInputRefusal known failed (refusal 0 (kind_word kind)) = record { kind = kind; why = why; line = refl } in inr (line, refl)
+pub refused : (known : Option (List ℕ)) (failed : Bool) (kind : TextFaultKind) → IsInputFault kind known failed
+    → IsAnswer known failed (refusal 0 (kind_word kind)) Refused
+refused known failed kind why = let line : IsInputRefusal known failed (refusal 0 (kind_word kind)) = record { kind = kind; why = why; line = refl } in
+    inr (line, refl)

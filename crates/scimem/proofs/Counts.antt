@@ -9,7 +9,8 @@ use Rattle.sci_words.specs.declared.limits.TheConstants.{MAX_OPERATIONS}
 use Rattle.sci_words.specs.declared.operation.Op.{Op}
 use Rattle.sci_text.specs.Script.{ScriptValue, IsScript, IsWithin}
 
-none_of : (nodes lines node : ℕ) (operations : List (ℕ × Op)) → AllByRecursion (λ p. IsWithin nodes lines p.0 p.1) operations → nodes ≤ node → count_by (λ p. eqb p.0 node) operations ≡ 0
+none_of : (nodes lines node : ℕ) (operations : List (ℕ × Op)) → AllByRecursion (λ p. IsWithin nodes lines p.0 p.1) operations → nodes ≤ node
+    → count_by (λ p. eqb p.0 node) operations ≡ 0
 none_of nodes lines node [] h le = refl
 none_of nodes lines node (p ∷ operations) h le =
     let here = h.0 in

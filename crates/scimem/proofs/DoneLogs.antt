@@ -72,8 +72,10 @@ answers_it (Lock lock) old = tt
 
 history_answers : (entries : List Entry) (c d : Stamped) → IsHistory entries c d → AllByRecursion (λ entry. Answers entry.op.act entry.reply) entries
 history_answers [] c d history = tt
-history_answers (entry ∷ entries) c d history =
-    (subst (Answers entry.op.act) (sym history.0) (answers_it entry.op.act (get_or c.line entry.op.word 0)), history_answers entries (after c entry.op) d history.2)
+history_answers (entry ∷ entries) c d history = (
+  subst (Answers entry.op.act) (sym history.0) (answers_it entry.op.act (get_or c.line entry.op.word 0)),
+  history_answers entries (after c entry.op) d history.2,
+)
 
 abbrev ReplyIsRight : Entry → Type 0
 ReplyIsRight entry = Answers entry.op.act entry.reply × ReplyFits entry.reply
@@ -97,26 +99,32 @@ record LineIsRight (entries : List Entry) (last : Stamped) (line : ℕ) : Type 0
   pub last_version : last.version < 2 ^ 64
   pub right : AllByRecursion IsRight (filter (is_on_line line) entries)
 
-line_right : (nodes lines : ℕ) (entries : List Entry) (last_at : ℕ → Stamped) (line : ℕ) → AreDone nodes lines entries last_at → line < lines → LineIsRight entries (last_at line) line
+line_right : (nodes lines : ℕ) (entries : List Entry) (last_at : ℕ → Stamped) (line : ℕ) → AreDone nodes lines entries last_at → line < lines
+    → LineIsRight entries (last_at line) line
 line_right nodes lines entries last_at line h inside =
     let on = filter (is_on_line line) entries in
     let last = last_at line in
     let history = h.histories line inside in
-    let words = all_weaker (λ (entry : Entry). IsWithin nodes lines entry.node entry.op) HasWords (λ entry w. (w.known_word, operands_words entry.op.act w.words)) entries h.within in
+    let words = all_weaker (λ (entry : Entry). IsWithin nodes lines entry.node entry.op) HasWords
+    (λ entry w. (w.known_word, operands_words entry.op.act w.words)) entries h.within in
     let fits = history_fits on zero_stamped last history zero_is_line (all-filter HasWords (is_on_line line) entries words) in
     let Given = λ (entry : Entry). Answers entry.op.act entry.reply in
     let Fits = λ (entry : Entry). IsReply entry.reply in
-    let right = all_weaker (λ entry. Given entry × Fits entry) ReplyIsRight (λ entry r. (r.0, reply_fits entry.reply r.1)) on (all_both Given Fits on (history_answers on zero_stamped last history) fits.1) in
+    let right = all_weaker (λ entry. Given entry × Fits entry) ReplyIsRight (λ entry r. (r.0, reply_fits entry.reply r.1)) on
+    (all_both Given Fits on (history_answers on zero_stamped last history) fits.1) in
     let small = h.small line inside in
-    let versions = all_weaker (λ (entry : Entry). entry.version ≤ last.version) (λ entry. entry.version < 2 ^ 64) (λ entry le. omega arith) on (versions-within on zero_stamped last history) in
+    let versions = all_weaker (λ (entry : Entry). entry.version ≤ last.version) (λ entry. entry.version < 2 ^ 64) (λ entry le. omega arith) on
+    (versions-within on zero_stamped last history) in
     record { last_line = fits.0; last_version = small; right = all_both ReplyIsRight (λ (entry : Entry). entry.version < 2 ^ 64) on right versions }
 
 all_right : (nodes lines : ℕ) (entries : List Entry) (last_at : ℕ → Stamped) → AreDone nodes lines entries last_at → AllByRecursion IsRight entries
 all_right nodes lines entries last_at h =
-    let on = all_weaker (λ (entry : Entry). IsWithin nodes lines entry.node entry.op) (λ entry. entry.op.line < lines) (λ entry w. w.known_line) entries h.within in
+    let on = all_weaker (λ (entry : Entry). IsWithin nodes lines entry.node entry.op) (λ entry. entry.op.line < lines) (λ entry w. w.known_line) entries
+    h.within in
     from_lines IsRight lines entries on (λ line lt. (line_right nodes lines entries last_at line h lt).right)
 
-entry_fits : (nodes lines : ℕ) (entry : Entry) → IsWithin nodes lines entry.node entry.op × (IsRight entry × (entry.serial < MAX_OPERATIONS)) → EntryFits (format_2 nodes lines) lines entry
+entry_fits : (nodes lines : ℕ) (entry : Entry) → IsWithin nodes lines entry.node entry.op × (IsRight entry × (entry.serial < MAX_OPERATIONS))
+    → EntryFits (format_2 nodes lines) lines entry
 entry_fits nodes lines entry h = record {
   numbers = record { node = h.0.known_node; serial = h.1.1; line = h.0.known_line; word = h.0.known_word };
   operands = h.0.words;
@@ -125,7 +133,8 @@ entry_fits nodes lines entry h = record {
   version = h.1.0.1;
 }
 
-log_fits : (nodes lines : ℕ) (entries : List Entry) (last_at : ℕ → Stamped) (node : ℕ) → AreDone nodes lines entries last_at → node < MAX_NODES → AllByRecursion (EntryFits (format_2 nodes lines) lines) (filter (is_of_node node) entries)
+log_fits : (nodes lines : ℕ) (entries : List Entry) (last_at : ℕ → Stamped) (node : ℕ) → AreDone nodes lines entries last_at → node < MAX_NODES
+    → AllByRecursion (EntryFits (format_2 nodes lines) lines) (filter (is_of_node node) entries)
 log_fits nodes lines entries last_at node h low =
     let log = filter (is_of_node node) entries in
     let Within = λ (entry : Entry). IsWithin nodes lines entry.node entry.op in
@@ -136,7 +145,8 @@ log_fits nodes lines entries last_at node h low =
     all_weaker (λ entry. Within entry × Both entry) (EntryFits (format_2 nodes lines) lines) (entry_fits nodes lines) log (all_both Within Both log within both)
 
 own_log : (entries : List Entry) (node : ℕ) → AllByRecursion (λ entry. entry.node ≡ node) (filter (is_of_node node) entries)
-own_log entries node = all_weaker (λ (entry : Entry). is_of_node node entry ≡ true) (λ entry. entry.node ≡ node) (λ entry e. eqb-true entry.node node e) (filter (is_of_node node) entries) (all-passes (is_of_node node) entries)
+own_log entries node = all_weaker (λ (entry : Entry). is_of_node node entry ≡ true) (λ entry. entry.node ≡ node) (λ entry e. eqb-true entry.node node e)
+    (filter (is_of_node node) entries) (all-passes (is_of_node node) entries)
 
 -- ---- all logs, and the last contents
 
@@ -147,7 +157,8 @@ pub record AreLogged (lines : ℕ) (entries : List Entry) (last_at : ℕ → Sta
   pub left : last ≡ map last_at (range_with_len 0 lines)
 
 -- what holds of each node's log holds of each log
-each_log : (P : List Entry → Type 0) (entries : List Entry) (logs : List (List Entry)) (node : ℕ) → length logs ≡ MAX_NODES → ((n : ℕ) → n < MAX_NODES → log_of logs n ≡ filter (is_of_node n) entries)
+each_log : (P : List Entry → Type 0) (entries : List Entry) (logs : List (List Entry)) (node : ℕ) → length logs ≡ MAX_NODES
+    → ((n : ℕ) → n < MAX_NODES → log_of logs n ≡ filter (is_of_node n) entries)
     → P [] → ((n : ℕ) → n < MAX_NODES → P (filter (is_of_node n) entries)) → P (log_of logs node)
 each_log P entries logs node long logged none some =
     elim (cases_lt node MAX_NODES) [
@@ -159,7 +170,8 @@ abbrev LastFits : Stamped → Type 0
 LastFits stamped = (length stamped.line ≡ WORDS_PER_LINE) × StampedFits stamped
 
 -- entries that took effect line by line, with the last contents, can be written as a text
-pub are_logs : (nodes lines : ℕ) (entries : List Entry) (last_at : ℕ → Stamped) (logs : List (List Entry)) (last : List Stamped) → IsSize nodes lines → AreDone nodes lines entries last_at → AreLogged lines entries last_at logs last → AreLogs nodes logs last
+pub are_logs : (nodes lines : ℕ) (entries : List Entry) (last_at : ℕ → Stamped) (logs : List (List Entry)) (last : List Stamped) → IsSize nodes lines
+    → AreDone nodes lines entries last_at → AreLogged lines entries last_at logs last → AreLogs nodes logs last
 are_logs nodes lines entries last_at logs last size h l =
     let long : length last ≡ lines = ap length l.left ∙ length-map-range_with_len last_at 0 lines in
     let few = size.few_lines in
@@ -167,7 +179,8 @@ are_logs nodes lines entries last_at logs last size h l =
     let fits : All LastFits (map last_at (range_with_len 0 lines)) = all_mapped LastFits last_at lines (λ line lt. (
     let right = line_right nodes lines entries last_at line h lt in
     (right.last_line.eight, record { words = right.last_line.words_fit; version = right.last_version }))) in
-    let each : (P : List Entry → Type 0) (node : ℕ) → P [] → ((n : ℕ) → n < MAX_NODES → P (filter (is_of_node n) entries)) → P (log_of logs node) = λ P node none some. each_log P entries logs node l.sixteen l.logged none some in (
+    let each : (P : List Entry → Type 0) (node : ℕ) → P [] → ((n : ℕ) → n < MAX_NODES → P (filter (is_of_node n) entries)) → P (log_of logs node) =
+    λ P node none some. each_log P entries logs node l.sixteen l.logged none some in (
       form,
       record {
         good = record {
@@ -178,7 +191,9 @@ are_logs nodes lines entries last_at logs last size h l =
           last_first = λ some. long;
           sixteen = l.sixteen;
           own = λ node. each_own node;
-          entries = λ node. subst (λ (count : ℕ). All (EntryFits form count) (log_of logs node)) (sym long) (each (All (EntryFits form lines)) node (All-from_recursion (EntryFits form lines) [] tt) (λ n lt. All-from_recursion (EntryFits form lines) (filter (is_of_node n) entries) (log_fits nodes lines entries last_at n h lt)));
+          entries = λ node. subst (λ (count : ℕ). All (EntryFits form count) (log_of logs node)) (sym long)
+              (each (All (EntryFits form lines)) node (All-from_recursion (EntryFits form lines) [] tt)
+              (λ n lt. All-from_recursion (EntryFits form lines) (filter (is_of_node n) entries) (log_fits nodes lines entries last_at n h lt)));
           few_entries = λ node. each (λ log. length log ≤ MAX_OPERATIONS) node (omega arith) h.short;
         };
         whole = long;
@@ -188,6 +203,8 @@ are_logs nodes lines entries last_at logs last size h l =
   where
     each_own : (node : ℕ) → All (λ entry. entry.node ≡ node) (log_of logs node)
     each_own node = elim (cases_lt node MAX_NODES) [
-      | inl lt ↦ subst (All (λ entry. entry.node ≡ node)) (sym (l.logged node lt)) (All-from_recursion (λ entry. entry.node ≡ node) (filter (is_of_node node) entries) (own_log entries node))
-      | inr past ↦ (let long = l.sixteen in subst (All (λ entry. entry.node ≡ node)) (sym (get_or_past logs node [] (omega arith))) (All-from_recursion (λ entry. entry.node ≡ node) [] tt))
+      | inl lt ↦ subst (All (λ entry. entry.node ≡ node)) (sym (l.logged node lt))
+          (All-from_recursion (λ entry. entry.node ≡ node) (filter (is_of_node node) entries) (own_log entries node))
+      | inr past ↦ (let long = l.sixteen in
+          subst (All (λ entry. entry.node ≡ node)) (sym (get_or_past logs node [] (omega arith))) (All-from_recursion (λ entry. entry.node ≡ node) [] tt))
     ]

@@ -1,5 +1,6 @@
 -- Bytes begin with packets in one way, up to a rest that no packet begins.
-use Rattle.std.proofs.Common.{◌≡◌, ◌∙◌, ℕ, ◌<◌, ◌≤◌, List, [], ◌∷◌, ◌++◌, length, take, drop, All, Some, refl, sym, ap, append_assoc, arith, inl, inr, length-append}
+use Rattle.std.proofs.Common.{◌≡◌, ◌∙◌, ℕ, ◌<◌, ◌≤◌, List, [], ◌∷◌, ◌++◌, length, take, drop, All, Some, refl, sym, ap, append_assoc, arith, inl, inr}
+use Rattle.std.proofs.Common.{length-append}
 use Rattle.std.proofs.Math.Seq.{take-append_seam}
 use Rattle.std.proofs.lemmas.Bool.{cases_lt}
 use Rattle.std.proofs.lemmas.List.{take-append-drop, take-append-le, append_cancel_left, append-nil}
@@ -24,7 +25,8 @@ begins a b x y e le =
     let front : a ≡ take (length a) b = sym (take-append_seam a x) ∙ ap (λ (l : List ℕ). take (length a) l) e ∙ take-append-le (length a) b y le in
     sym (take-append-drop (length a) b) ∙ ap (λ (l : List ℕ). l ++ drop (length a) b) (sym front)
 
-same_ordered : NoProperPrefix → OnePacket → (p q : Packet) (x y : List ℕ) → IsPacket p → IsPacket q → spelling p ++ x ≡ spelling q ++ y → length (spelling p) ≤ length (spelling q) → p ≡ q
+same_ordered : NoProperPrefix → OnePacket → (p q : Packet) (x y : List ℕ) → IsPacket p → IsPacket q → spelling p ++ x ≡ spelling q ++ y
+    → length (spelling p) ≤ length (spelling q) → p ≡ q
 same_ordered no_prefix one p q x y h k e le =
     let more = drop (length (spelling p)) (spelling q) in
     let parts : spelling q ≡ spelling p ++ more = begins (spelling p) (spelling q) x y e le in
@@ -69,7 +71,8 @@ same_run no_prefix one (p ∷ ps) (q ∷ qs) r s h k nr ns e =
 none_empty : NoneSpells []
 none_empty p k le s = let pos : 0 < k = shorter [] p k s in absurd (omega arith)
 
-one_input : NoProperPrefix → OnePacket → (input : List ℕ) (ps qs : List Packet) (r s : List ℕ) → PacketsThen input ps r → PacketsThen input qs s → NoneSpells r → NoneSpells s → (ps ≡ qs) × (r ≡ s)
+one_input : NoProperPrefix → OnePacket → (input : List ℕ) (ps qs : List Packet) (r s : List ℕ) → PacketsThen input ps r → PacketsThen input qs s → NoneSpells r
+    → NoneSpells s → (ps ≡ qs) × (r ≡ s)
 one_input no_prefix one input ps qs r s h k nr ns = same_run no_prefix one ps qs r s h.each k.each nr ns (sym h.parts ∙ k.parts)
 
 not_both : NoProperPrefix → OnePacket → (input text other : List ℕ) → ArePackets input text → ArePacketsThenFault input other → ⊥
@@ -93,7 +96,8 @@ two_runs no_prefix one input text other h k =
     let same = one_input no_prefix one input h.packets k.packets [] [] h.run k.run none_empty none_empty in
     h.lines ∙ ap packet_lines same.0 ∙ sym k.lines
 
-pub one_text : NoProperPrefix → OnePacket → (input text other : List ℕ) (outcome another : Outcome) → IsDecoded input text outcome → IsDecoded input other another
+pub one_text : NoProperPrefix → OnePacket → (input text other : List ℕ) (outcome another : Outcome) → IsDecoded input text outcome
+    → IsDecoded input other another
     → (text ≡ other) × (outcome ≡ another)
 one_text no_prefix one input text other outcome another (inl h) (inl k) = (two_runs no_prefix one input text other h.0 k.0, h.1 ∙ sym k.1)
 one_text no_prefix one input text other outcome another (inl h) (inr k) = absurd (not_both no_prefix one input text other h.0 k.0)

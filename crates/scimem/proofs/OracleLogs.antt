@@ -1,5 +1,6 @@
 -- The logs and the last contents of an oracle can be written as a text, which says them alone.
-use Rattle.std.proofs.Common.{◌≡◌, ℕ, ◌+◌, ◌<◌, ◌≤◌, Bool, true, false, if◌then◌else◌, List, [], ◌∷◌, ◌++◌, length, filter, refl, sym, ap, subst, arith, length-append, inl, inr}
+use Rattle.std.proofs.Common.{◌≡◌, ℕ, ◌+◌, ◌<◌, ◌≤◌, Bool, true, false, if◌then◌else◌, List, [], ◌∷◌, ◌++◌, length, filter, refl, sym, ap, subst, arith}
+use Rattle.std.proofs.Common.{length-append, inl, inr}
 use Rattle.std.proofs.lemmas.Bool.{cases_Bool}
 use Rattle.std.specs.Prelude.{count_by}
 use Rattle.std.specs.List.{AllByRecursion, flat_map}
@@ -51,7 +52,9 @@ filter_short p (entry ∷ entries) =
       | inr no_ ↦ subst (λ (es : List Entry). length es ≤ length (entry ∷ entries)) (sym (filter_no p entry entries no_)) (omega arith)
     ]
 
-done_within : (nodes lines : ℕ) (done : List Entry) (script : List Issue) → AllByRecursion (λ entry. IsWithin nodes lines entry.node entry.op) done → AllByRecursion (λ p. IsWithin nodes lines p.0 p.1) script → AllByRecursion (λ entry. IsWithin nodes lines entry.node entry.op) (done_after lines done script)
+done_within : (nodes lines : ℕ) (done : List Entry) (script : List Issue) → AllByRecursion (λ entry. IsWithin nodes lines entry.node entry.op) done
+    → AllByRecursion (λ p. IsWithin nodes lines p.0 p.1) script
+    → AllByRecursion (λ entry. IsWithin nodes lines entry.node entry.op) (done_after lines done script)
 unfolding done_after
 done_within nodes lines done [] h each = h
 done_within nodes lines done (issue ∷ script) h each =
@@ -68,7 +71,12 @@ done_long lines done (issue ∷ script) =
 -- each operation has a line, so a text has no more operations than bytes
 lines_long : (operations : List (ℕ × Op)) → length operations ≤ length (flat_map (λ p. operation_line p.0 p.1) operations)
 lines_long [] = omega arith
-lines_long (p ∷ operations) = omega (arith, lines_long operations, line_nonempty p.0 p.1, length-append (operation_line p.0 p.1) (flat_map (λ q. operation_line q.0 q.1) operations))
+lines_long (p ∷ operations) = omega (
+  arith,
+  lines_long operations,
+  line_nonempty p.0 p.1,
+  length-append (operation_line p.0 p.1) (flat_map (λ q. operation_line q.0 q.1) operations),
+)
 
 text_long : (s : ScriptValue) → length s.operations ≤ length (script_text s)
 text_long s = omega (arith, lines_long s.operations, length-append (machine_line s.nodes s.lines s.slots) (flat_map (λ p. operation_line p.0 p.1) s.operations))
@@ -80,9 +88,11 @@ in_range s good =
   where
     all_in_range : (ops : List Issue) → AllByRecursion (λ p. IsWithin s.nodes s.lines p.0 p.1) ops → AllByRecursion (IsInRange s.lines) ops
     all_in_range [] h = tt
-    all_in_range (p ∷ ops) h = let known = h.0.known_node in let few = good.size.few_nodes in (record { node = omega arith; line = h.0.known_line; word = h.0.known_word }, all_in_range ops h.1)
+    all_in_range (p ∷ ops) h = let known = h.0.known_node in let few = good.size.few_nodes in
+        (record { node = omega arith; line = h.0.known_line; word = h.0.known_word }, all_in_range ops h.1)
 
-oracle_done : (s : ScriptValue) → IsScript s → length (script_text s) ≤ MAX_INPUT_BYTES → AreDone s.nodes s.lines (oracle_entries s.lines s.operations) (stamped_of s.lines (oracle_entries s.lines s.operations))
+oracle_done : (s : ScriptValue) → IsScript s → length (script_text s) ≤ MAX_INPUT_BYTES
+    → AreDone s.nodes s.lines (oracle_entries s.lines s.operations) (stamped_of s.lines (oracle_entries s.lines s.operations))
 oracle_done s good few =
     let done = oracle_entries s.lines s.operations in
     let traced = traced_all s.lines s.operations [] (in_range s good) (traced_none s.lines) in
@@ -99,22 +109,26 @@ oracle_done s good few =
           let end = stamped_of s.lines done line in
           let made = history_short on zero_stamped end (traced.histories line inside) in
           omega (arith, done_long s.lines [] s.operations, text_long s, few, filter_short (is_on_line line) done);
-      serials = λ node lt. all_weaker (λ (entry : Entry). entry.serial < count_by (is_of_node node) done) (λ entry. entry.serial < MAX_OPERATIONS) (λ entry below. omega (arith, below, short node lt, length-filter (is_of_node node) done)) (filter (is_of_node node) done) (traced.counted node);
+      serials = λ node lt. all_weaker (λ (entry : Entry). entry.serial < count_by (is_of_node node) done) (λ entry. entry.serial < MAX_OPERATIONS)
+          (λ entry below. omega (arith, below, short node lt, length-filter (is_of_node node) done)) (filter (is_of_node node) done) (traced.counted node);
       short = short;
     }
 
 -- the oracle's logs and last contents of a script that was read can be written as a text
-oracle_are_logs : (s : ScriptValue) → IsScript s → length (script_text s) ≤ MAX_INPUT_BYTES → AreLogs s.nodes (oracle_logs s.lines s.operations) (oracle_last s.lines s.operations)
+oracle_are_logs : (s : ScriptValue) → IsScript s → length (script_text s) ≤ MAX_INPUT_BYTES
+    → AreLogs s.nodes (oracle_logs s.lines s.operations) (oracle_last s.lines s.operations)
 oracle_are_logs s good few =
     let done = oracle_entries s.lines s.operations in
     let size = good.size in
-    are_logs s.nodes s.lines done (stamped_of s.lines done) (oracle_logs s.lines s.operations) (oracle_last s.lines s.operations) (record { has_node = size.has_node; few_nodes = size.few_nodes; has_line = size.has_line; few_lines = size.few_lines })
+    are_logs s.nodes s.lines done (stamped_of s.lines done) (oracle_logs s.lines s.operations) (oracle_last s.lines s.operations)
+    (record { has_node = size.has_node; few_nodes = size.few_nodes; has_line = size.has_line; few_lines = size.few_lines })
     (oracle_done s good few)
     (record { sixteen = refl; logged = λ node lt. log_of-logs_of done node lt; left = refl })
 
 -- ---- what an oracle writes
 
-pub oracle_is : (text : List ℕ) (s : ScriptValue) → IsScript s → length (script_text s) ≤ MAX_INPUT_BYTES → text ≡ oracle_text s → IsOracleOf (script_text s) text
+pub oracle_is : (text : List ℕ) (s : ScriptValue) → IsScript s → length (script_text s) ≤ MAX_INPUT_BYTES → text ≡ oracle_text s
+    → IsOracleOf (script_text s) text
 oracle_is text s good few written =
     let logs = oracle_logs s.lines s.operations in
     let last = oracle_last s.lines s.operations in

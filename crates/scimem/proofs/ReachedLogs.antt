@@ -37,13 +37,16 @@ led_done size events limits =
     let Low = λ (entry : Entry). entry.serial < MAX_OPERATIONS in
     let few = limits.few_operations in
     record {
-      within = all_weaker (λ entry. Nodes entry × Known entry) (λ entry. IsWithin size.nodes size.lines entry.node entry.op) (λ entry h. record { known_node = h.0; known_line = h.1.0.0; known_word = h.1.0.1; words = operands_fit entry.op.act h.1.1 }) made
+      within = all_weaker (λ entry. Nodes entry × Known entry) (λ entry. IsWithin size.nodes size.lines entry.node entry.op)
+          (λ entry h. record { known_node = h.0; known_line = h.1.0.0; known_word = h.1.0.1; words = operands_fit entry.op.act h.1.1 }) made
           (all_both Nodes Known made entries.nodes entries.known);
       histories = λ line lt. schedule_history size events line any lt;
       small = λ line lt. let last = (reached_contents core line reached (subst (λ (k : Size). line < k.lines) (sym sized) lt)).version in omega arith;
       serials = λ node lt. subst (AllByRecursion Low) (logged node)
-          (all_weaker (IsEntryOf core.size) Low (λ entry of. let below = subst (λ (k : Size). entry.serial < k.limit) sized of.serial in omega arith) (node_at core node).log (reached_entries core node reached));
-      short = λ node lt. subst (λ (log : List Entry). length log ≤ MAX_OPERATIONS) (logged node) (log_short core node (reached_well core reached) reached.size.few_operations);
+          (all_weaker (IsEntryOf core.size) Low (λ entry of. let below = subst (λ (k : Size). entry.serial < k.limit) sized of.serial in
+          omega arith) (node_at core node).log (reached_entries core node reached));
+      short = λ node lt. subst (λ (log : List Entry). length log ≤ MAX_OPERATIONS) (logged node)
+          (log_short core node (reached_well core reached) reached.size.few_operations);
     }
 
 pub run_logs : (size : Size) (events : List Event) → IsMachineSize size → AreLogs size.nodes (logs_of (run size events)) (last_of (run size events))
@@ -51,7 +54,8 @@ run_logs size events limits =
     let core = run size events in
     let any = is_size size limits in
     let extent = limits.extent in
-    are_logs size.nodes size.lines (done size events) (last_at core) (logs_of core) (last_of core) (record { has_node = extent.has_node; few_nodes = extent.few_nodes; has_line = extent.has_line; few_lines = extent.few_lines })
+    are_logs size.nodes size.lines (done size events) (last_at core) (logs_of core) (last_of core)
+    (record { has_node = extent.has_node; few_nodes = extent.few_nodes; has_line = extent.has_line; few_lines = extent.few_lines })
     (led_done size events limits)
     (record {
       sixteen = refl;
@@ -61,4 +65,5 @@ run_logs size events limits =
 
 -- the logs and the last contents of a state where a schedule leads can be written as a text
 pub reached_logs : (core : Core) → IsReached core → AreLogs core.size.nodes (logs_of core) (last_of core)
-reached_logs core reached = subst (λ (c : Core). AreLogs core.size.nodes (logs_of c) (last_of c)) reached.leads (run_logs core.size reached.schedule reached.size)
+reached_logs core reached = subst (λ (c : Core). AreLogs core.size.nodes (logs_of c) (last_of c)) reached.leads
+    (run_logs core.size reached.schedule reached.size)

@@ -20,7 +20,8 @@ replay_is text s is written = record {
   good = is;
   read = refl;
   written = written;
-  says = subst (λ (bytes : List ℕ). IsLogs bytes s.nodes (logs_of (replayed s)) (last_of (replayed s))) (sym written) (written_again s.nodes (logs_of (replayed s)) (last_of (replayed s)) (run_logs (replay_size s) s.events (within_limits s is)));
+  says = subst (λ (bytes : List ℕ). IsLogs bytes s.nodes (logs_of (replayed s)) (last_of (replayed s))) (sym written)
+      (written_again s.nodes (logs_of (replayed s)) (last_of (replayed s)) (run_logs (replay_size s) s.events (within_limits s is)));
   lawful = reached_lawful (replayed s) (run_reached (replay_size s) s.events (within_limits s is));
   consistent = reached_consistent (replayed s) (run_reached (replay_size s) s.events (within_limits s is));
 }

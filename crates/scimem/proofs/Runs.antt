@@ -1,5 +1,6 @@
 -- Packets are read one after another, and their lines are written so.
-use Rattle.std.proofs.Common.{◌≡◌, ℕ, zero, suc, ◌-◌, ◌<◌, ◌≤◌, List, [], ◌∷◌, ◌++◌, length, take, drop, sym, ap, ◌∙◌, append_assoc, arith, length-append, length-drop}
+use Rattle.std.proofs.Common.{◌≡◌, ℕ, zero, suc, ◌-◌, ◌<◌, ◌≤◌, List, [], ◌∷◌, ◌++◌, length, take, drop, sym, ap, ◌∙◌, append_assoc, arith, length-append}
+use Rattle.std.proofs.Common.{length-drop}
 use Rattle.std.specs.List.{flat_map}
 use Rattle.std.proofs.Math.Seq.{take-length}
 use Rattle.std.proofs.lemmas.Grind.{flat_map-append}
@@ -20,7 +21,8 @@ pub record Reads (input rest text : List ℕ) : Type 0 where
 one_more : (f : Packet → List ℕ) (ps : List Packet) (p : Packet) → flat_map f (ps ++ p ∷ []) ≡ flat_map f ps ++ f p
 one_more f ps p = flat_map-append f ps (p ∷ []) ∙ ap (λ (l : List ℕ). flat_map f ps ++ l) (append-nil (f p))
 
-pub reads_more : (input rest text : List ℕ) (p : Packet) (k : ℕ) → Reads input rest text → Spells p (take k rest) → Reads input (drop k rest) (text ++ packet_line p)
+pub reads_more : (input rest text : List ℕ) (p : Packet) (k : ℕ) → Reads input rest text → Spells p (take k rest)
+    → Reads input (drop k rest) (text ++ packet_line p)
 reads_more input rest text p k r s = record {
   packets = r.packets ++ p ∷ [];
   run = record {

@@ -28,10 +28,12 @@ pub record IsRunOf (s : ScriptValue) (logs : List (List Entry)) (last : List Sta
 run_are_logs : (s : ScriptValue) (logs : List (List Entry)) (last : List Stamped) → AreLedTo (size_for s) logs last → AreLogs s.nodes logs last
 run_are_logs s logs last led =
     let core = led.core in
-    let there : AreLogs s.nodes (logs_of core) (last_of core) = subst (λ (z : Size). AreLogs z.nodes (logs_of core) (last_of core)) led.sized (reached_logs core led.reached) in
+    let there : AreLogs s.nodes (logs_of core) (last_of core) =
+    subst (λ (z : Size). AreLogs z.nodes (logs_of core) (last_of core)) led.sized (reached_logs core led.reached) in
     subst (λ (l : List (List Entry)). AreLogs s.nodes l last) (sym led.logs_are) (subst (AreLogs s.nodes (logs_of core)) (sym led.last_are) there)
 
-pub threads_is : (text : List ℕ) (s : ScriptValue) (logs : List (List Entry)) (last : List Stamped) (finished : Bool) (outcome : Outcome) → IsScript s → text ≡ log_text s.nodes logs last → IsRunOf s logs last finished → (outcome ≡ Done → finished ≡ true) → IsThreadsOf (script_text s) text outcome
+pub threads_is : (text : List ℕ) (s : ScriptValue) (logs : List (List Entry)) (last : List Stamped) (finished : Bool) (outcome : Outcome) → IsScript s
+    → text ≡ log_text s.nodes logs last → IsRunOf s logs last finished → (outcome ≡ Done → finished ≡ true) → IsThreadsOf (script_text s) text outcome
 threads_is text s logs last finished outcome good written run ends = record {
   script = s;
   good = good;

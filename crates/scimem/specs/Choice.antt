@@ -7,7 +7,8 @@ use Rattle.scimem.specs.declared.choice.Command.TheVariants.{Oracle, Replay, Thr
 
 -- `threads` alone, for the most turns, or with a number of turns from 1 to that
 abbrev pub ChoosesThreads : List (List ℕ) → ℕ → Type 0
-ChoosesThreads words turns = ((words ≡ codes "threads" ∷ []) × (turns ≡ MAX_TURNS)) ⊎ ((words ≡ codes "threads" ∷ codes "--turns" ∷ number turns ∷ []) × (1 ≤ turns) × (turns ≤ MAX_TURNS))
+ChoosesThreads words turns = ((words ≡ codes "threads" ∷ []) × (turns ≡ MAX_TURNS))
+    ⊎ ((words ≡ codes "threads" ∷ codes "--turns" ∷ number turns ∷ []) × (1 ≤ turns) × (turns ≤ MAX_TURNS))
 
 -- the words choose the command
 abbrev pub Chooses : List (List ℕ) → Command → Type 0

@@ -6,7 +6,8 @@ use Rattle.sci_command.specs.Refusal.{Refuses, IsRefusalBy}
 use Rattle.sci_command.proofs.Refusals.{refused_told}
 use Rattle.sciview.specs.AskedLine.{IsAskedFault}
 
-pub refused_asked : (asked : Option ℕ) (known : Option (List ℕ)) (failed : Bool) (fault : TextFault) (text : List ℕ) → IsAskedFault asked fault.kind known failed fault.line → Refuses fault text → IsRefusalBy (λ kind line. IsAskedFault asked kind known failed line) text
+pub refused_asked : (asked : Option ℕ) (known : Option (List ℕ)) (failed : Bool) (fault : TextFault) (text : List ℕ)
+    → IsAskedFault asked fault.kind known failed fault.line → Refuses fault text → IsRefusalBy (λ kind line. IsAskedFault asked kind known failed line) text
 refused_asked asked known failed fault text (inl told) refuses =
     let is = refused_told IsScheduleFault known failed fault text told refuses in
     record { line = is.line; kind = is.kind; is_told = inl is.is_told; written = is.written }

@@ -6,7 +6,8 @@ use Rattle.sciview.specs.declared.stats.StatsRequest.{StatsRequest}
 use Rattle.sciview.specs.StatsAnswer.{IsStatsFault}
 use Rattle.sciview.proofs.Asked.{refused_asked}
 
-pub refused_stats : (request : StatsRequest) (known : Option (List ℕ)) (failed : Bool) (fault : TextFault) (text : List ℕ) → IsStatsFault request fault.kind known failed fault.line → Refuses fault text → IsRefusalBy (λ kind line. IsStatsFault request kind known failed line) text
+pub refused_stats : (request : StatsRequest) (known : Option (List ℕ)) (failed : Bool) (fault : TextFault) (text : List ℕ)
+    → IsStatsFault request fault.kind known failed fault.line → Refuses fault text → IsRefusalBy (λ kind line. IsStatsFault request kind known failed line) text
 refused_stats request known failed fault text (inl told) refuses =
     let is = refused_asked request.line known failed fault text told refuses in
     record { line = is.line; kind = is.kind; is_told = inl is.is_told; written = is.written }

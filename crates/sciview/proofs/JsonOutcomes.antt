@@ -30,8 +30,10 @@ true_of true e = refl
 true_of false e = cc
 
 -- of an event that isn't enabled
-pub refusal_written : (core : Core) (e : Event) (a b c d : Written) (found : Option Obstacle) (o : Obstacle) (name : List ℕ) (truth : Bool) (n : ℕ) (line : Option ℕ) → found ≡ Some o → found ≡ obstacle_to core e → is_none found ≡ is_some (stepping core e) → is_some found ≡ not truth
-    → n ≡ node_of e → line ≡ line_changed core e → Adds a b (truth_member (codes "enabled") truth) → Adds b c (text_member (codes "obstacle") name) → name ≡ obstacle_name o → Adds c d (standing_members Before core n line) → Adds a d (outcome_members core e (stepping core e))
+pub refusal_written : (core : Core) (e : Event) (a b c d : Written) (found : Option Obstacle) (o : Obstacle) (name : List ℕ) (truth : Bool) (n : ℕ)
+    (line : Option ℕ) → found ≡ Some o → found ≡ obstacle_to core e → is_none found ≡ is_some (stepping core e) → is_some found ≡ not truth
+    → n ≡ node_of e → line ≡ line_changed core e → Adds a b (truth_member (codes "enabled") truth) → Adds b c (text_member (codes "obstacle") name)
+    → name ≡ obstacle_name o → Adds c d (standing_members Before core n line) → Adds a d (outcome_members core e (stepping core e))
 unfolding outcome_members obstacle_member
 refusal_written core e a b c d found o name truth n line is why enabled truth_is n_is line_is one two name_is three =
     let idle = idle_of (stepping core e) (sym enabled ∙ ap is_none is) in
@@ -42,8 +44,11 @@ refusal_written core e a b c d found o name truth n line is why enabled truth_is
     rw (idle, stands) (rw (false_is, n_is, line_is, name_is) at joined)
 
 -- of an event that leads to another state
-pub effect_written : (core next : Core) (e : Event) (a b c d x y : Written) (found : Option Obstacle) (truth : Bool) (n : ℕ) (line : Option ℕ) (entry : Option Entry) → stepping core e ≡ Some next → found ≡ None → is_some found ≡ not truth → n ≡ node_of e → line ≡ line_changed core e → entry ≡ entry_logged next e
-    → Adds a b (truth_member (codes "enabled") truth) → Adds b c (moved_members core e) → Adds c d (standing_members Before core n line) → Adds d x (standing_members After next n line) → Adds x y (logged_member entry) → Adds a y (outcome_members core e (stepping core e))
+pub effect_written : (core next : Core) (e : Event) (a b c d x y : Written) (found : Option Obstacle) (truth : Bool) (n : ℕ) (line : Option ℕ)
+    (entry : Option Entry) → stepping core e ≡ Some next → found ≡ None → is_some found ≡ not truth → n ≡ node_of e → line ≡ line_changed core e
+    → entry ≡ entry_logged next e
+    → Adds a b (truth_member (codes "enabled") truth) → Adds b c (moved_members core e) → Adds c d (standing_members Before core n line)
+    → Adds d x (standing_members After next n line) → Adds x y (logged_member entry) → Adds a y (outcome_members core e (stepping core e))
 unfolding outcome_members
 effect_written core next e a b c d x y found truth n line entry done is truth_is n_is line_is entry_is one two three four five =
     let before = standing_members Before core n line in

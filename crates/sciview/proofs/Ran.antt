@@ -6,7 +6,8 @@ use Rattle.sci_command.specs.Refusal.{Refuses, IsRefusalBy}
 use Rattle.sci_command.proofs.Refusals.{refused_told}
 use Rattle.sciview.specs.RunAnswer.{IsRunRefusal}
 
-pub run_refused : (known : Option (List ℕ)) (failed : Bool) (fault : TextFault) (text : List ℕ) → IsRunRefusal fault.kind known failed fault.line → Refuses fault text → IsRefusalBy (λ kind line. IsRunRefusal kind known failed line) text
+pub run_refused : (known : Option (List ℕ)) (failed : Bool) (fault : TextFault) (text : List ℕ) → IsRunRefusal fault.kind known failed fault.line
+    → Refuses fault text → IsRefusalBy (λ kind line. IsRunRefusal kind known failed line) text
 run_refused known failed fault text (inl told) refuses =
     let is = refused_told IsScriptFault known failed fault text told refuses in
     record { line = is.line; kind = is.kind; is_told = inl is.is_told; written = is.written }

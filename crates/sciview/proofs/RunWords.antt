@@ -28,14 +28,17 @@ abbrev issuing_in : Option (Issuing × Option ℕ) → Option Bool
 issuing_in None = None
 issuing_in (Some pace) = Some (is_in_order pace.0)
 
-pub turns_alone : (words : List (List ℕ)) (said : Option (Option ℕ)) (there : Option ℕ) → said ≡ Some there → ((turns : Option ℕ) → (said ≡ Some turns) ↔ ((words ≡ turns_words turns) × FitsTurns turns)) → (issuing : Issuing) (turns : Option ℕ)
+pub turns_alone : (words : List (List ℕ)) (said : Option (Option ℕ)) (there : Option ℕ) → said ≡ Some there
+    → ((turns : Option ℕ) → (said ≡ Some turns) ↔ ((words ≡ turns_words turns) × FitsTurns turns)) → (issuing : Issuing) (turns : Option ℕ)
     → (let one : Option (Issuing × Option ℕ) = Some (Ahead, there) in one ≡ Some (issuing, turns)) ↔ ChoosesPace words issuing turns
 turns_alone words said there is says Ahead turns = (λ same. (says turns).0 (is ∙ ap turns_in same), λ h. ap (option_map ahead) (sym is ∙ (says turns).1 h))
-turns_alone words said there is says InOrder turns = (λ same. let apart : Some false ≡ Some true = ap issuing_in same in absurd (cc), λ h. absurd (no_in_order words there turns ((says there).0 is).0 h.0))
+turns_alone words said there is says InOrder turns =
+    (λ same. let apart : Some false ≡ Some true = ap issuing_in same in absurd (cc), λ h. absurd (no_in_order words there turns ((says there).0 is).0 h.0))
 
 -- ---- no seed
 
-no_seed : (words rest : List (List ℕ)) (issuing : Issuing) (turns : Option ℕ) → words ≡ flag (codes "--in-order") (is_in_order issuing) ++ turns_words turns → words ≡ codes "--seed" ∷ rest → ⊥
+no_seed : (words rest : List (List ℕ)) (issuing : Issuing) (turns : Option ℕ) → words ≡ flag (codes "--in-order") (is_in_order issuing) ++ turns_words turns
+    → words ≡ codes "--seed" ∷ rest → ⊥
 unfolding turns_words
 no_seed words rest Ahead None a b = let long = ap (λ (ws : List (List ℕ)). length ws) (sym a ∙ b) in absurd (omega arith)
 no_seed words rest Ahead (Some n) a b = let same : codes "--turns" ≡ codes "--seed" = ap first (sym a ∙ b) in absurd (cc)
@@ -52,14 +55,18 @@ abbrev seed_in : Option RunRequest → Option (Option ℕ)
 seed_in None = None
 seed_in (Some request) = Some request.seed
 
-seed_or_none : (words : List (List ℕ)) (said : Option (Issuing × Option ℕ)) (issuing : Issuing) (turns : Option ℕ) → said ≡ Some (issuing, turns) → ((i : Issuing) (t : Option ℕ) → (said ≡ Some (i, t)) ↔ ChoosesPace words i t) → (seed : Option ℕ) (i : Issuing) (t : Option ℕ)
-    → (let one : Option RunRequest = Some record { seed = None; issuing = issuing; turns = turns } in one ≡ Some record { seed = seed; issuing = i; turns = t }) ↔ ChoosesRun words (record { seed = seed; issuing = i; turns = t })
-seed_or_none words said issuing turns is says None i t = (λ same. let h = (says i t).0 (is ∙ ap pace_in same) in (h.0, tt, h.1), λ h. ap (option_map unseeded) (sym is ∙ (says i t).1 (h.0, h.2)))
+seed_or_none : (words : List (List ℕ)) (said : Option (Issuing × Option ℕ)) (issuing : Issuing) (turns : Option ℕ) → said ≡ Some (issuing, turns)
+    → ((i : Issuing) (t : Option ℕ) → (said ≡ Some (i, t)) ↔ ChoosesPace words i t) → (seed : Option ℕ) (i : Issuing) (t : Option ℕ)
+    → (let one : Option RunRequest = Some record { seed = None; issuing = issuing; turns = turns } in one ≡ Some record { seed = seed; issuing = i; turns = t })
+    ↔ ChoosesRun words (record { seed = seed; issuing = i; turns = t })
+seed_or_none words said issuing turns is says None i t =
+    (λ same. let h = (says i t).0 (is ∙ ap pace_in same) in (h.0, tt, h.1), λ h. ap (option_map unseeded) (sym is ∙ (says i t).1 (h.0, h.2)))
 seed_or_none words said issuing turns is says (Some seed) i t = (
   λ same. let no : Option ℕ = None in let apart : Some no ≡ Some (Some seed) = ap seed_in same in absurd (cc),
   λ h. absurd (no_seed words _ issuing turns ((says issuing turns).0 is).0 h.0),
 )
 
-pub pace_alone : (words : List (List ℕ)) (said : Option (Issuing × Option ℕ)) (issuing : Issuing) (turns : Option ℕ) → said ≡ Some (issuing, turns) → ((i : Issuing) (t : Option ℕ) → (said ≡ Some (i, t)) ↔ ChoosesPace words i t) → (request : RunRequest)
+pub pace_alone : (words : List (List ℕ)) (said : Option (Issuing × Option ℕ)) (issuing : Issuing) (turns : Option ℕ) → said ≡ Some (issuing, turns)
+    → ((i : Issuing) (t : Option ℕ) → (said ≡ Some (i, t)) ↔ ChoosesPace words i t) → (request : RunRequest)
     → (let one : Option RunRequest = Some record { seed = None; issuing = issuing; turns = turns } in one ≡ Some request) ↔ ChoosesRun words request
 pace_alone words said issuing turns is says request = seed_or_none words said issuing turns is says request.seed request.issuing request.turns

@@ -24,7 +24,8 @@ letters None = cc
 letters (Some p) = cc
 
 -- one event more
-pub sends_more : (all : List Letter) (core : Core) (events : List Event) (k : ℕ) (d : Event) (bytes : List ℕ) (sent : Option Packet) → k < length events → option_map letter_of sent ≡ letter_sent core (get_or events k d) → HasSent all core (drop k events) bytes
+pub sends_more : (all : List Letter) (core : Core) (events : List Event) (k : ℕ) (d : Event) (bytes : List ℕ) (sent : Option Packet) → k < length events
+    → option_map letter_of sent ≡ letter_sent core (get_or events k d) → HasSent all core (drop k events) bytes
     → HasSent all (step core (get_or events k d)) (drop (k + 1) events) (bytes ++ flat_map spelling (option_to_list sent))
 sends_more all core events k d bytes sent lt is was =
     let e = get_or events k d in
@@ -32,6 +33,9 @@ sends_more all core events k d bytes sent lt is was =
     let here : letters_sent core (drop k events) ≡ map letter_of (option_to_list sent) ++ next =
     ap (letters_sent core) (drop_more events k d lt) ∙ ap (λ (l : List Letter). l ++ next) (sym (letters sent ∙ ap option_to_list is)) in record {
       packets = was.packets ++ option_to_list sent;
-      spelled = ap (λ (b : List ℕ). b ++ flat_map spelling (option_to_list sent)) was.spelled ∙ sym (flat_map-append spelling was.packets (option_to_list sent));
-      rest = was.rest ∙ (ap (λ (l : List Letter). map letter_of was.packets ++ l) here ∙ (sym (append_assoc (map letter_of was.packets) (map letter_of (option_to_list sent)) next) ∙ ap (λ (l : List Letter). l ++ next) (sym (map-append letter_of was.packets (option_to_list sent)))));
+      spelled = ap (λ (b : List ℕ). b ++ flat_map spelling (option_to_list sent)) was.spelled
+          ∙ sym (flat_map-append spelling was.packets (option_to_list sent));
+      rest = was.rest ∙ (ap (λ (l : List Letter). map letter_of was.packets ++ l) here
+          ∙ (sym (append_assoc (map letter_of was.packets) (map letter_of (option_to_list sent)) next)
+          ∙ ap (λ (l : List Letter). l ++ next) (sym (map-append letter_of was.packets (option_to_list sent)))));
     }

@@ -1,5 +1,6 @@
 -- The words and the parts of figures.
-use Rattle.std.proofs.Common.{◌≡◌, ◌↔◌, ◌<◌, ◌≤◌, ◌+◌, ◌-◌, ℕ, arith, length, get_or, take, List, [], ◌∷◌, ◌++◌, map, drop, Option, Some, None, append_assoc, sym, ap, ◌∙◌, refl}
+use Rattle.std.proofs.Common.{◌≡◌, ◌↔◌, ◌<◌, ◌≤◌, ◌+◌, ◌-◌, ℕ, arith, length, get_or, take, List, [], ◌∷◌, ◌++◌, map, drop, Option, Some, None, append_assoc}
+use Rattle.std.proofs.Common.{sym, ap, ◌∙◌, refl}
 use Rattle.std.specs.Prelude.{codes, option_map}
 use Rattle.std.specs.List.{flat_map, range_with_len}
 use Rattle.std.proofs.lemmas.List.{append-nil, length-drop, map-id, take_all}
@@ -13,7 +14,8 @@ use Rattle.sciview.proofs.Words.{two}
 
 -- ---- the node that two words say
 
-pub node_said : {X : Type 0} (f : X → List ℕ) (words : List X) (d : X) (said : Option ℕ) (there : ℕ) → length words ≡ 2 → f (get_or words 0 d) ≡ codes "--node" → said ≡ Some there
+pub node_said : {X : Type 0} (f : X → List ℕ) (words : List X) (d : X) (said : Option ℕ) (there : ℕ) → length words ≡ 2 → f (get_or words 0 d) ≡ codes "--node"
+    → said ≡ Some there
     → ((n : ℕ) → (said ≡ Some n) ↔ ((f (get_or words 1 d) ≡ number n) × (n < MAX_NODES)))
     → (node : Option ℕ) → (let one : Option (Option ℕ) = Some (Some there) in one ≡ Some node) ↔ ((map f words ≡ node_words node) × FitsNode node)
 unfolding node_words
@@ -22,7 +24,8 @@ node_said f words d said there long first is says None =
     (λ same. absurd (cc), λ h. absurd (none h.0))
 node_said f words d said there long first is says (Some n) = (
   λ same. let h = (says n).0 (let e : said ≡ Some n = cc in e) in (two f words d long ∙ rw (first, h.0) refl, h.1),
-  λ h. let word : f (get_or words 1 d) ≡ number n = ap (λ (ws : List (List ℕ)). get_or ws 1 []) (sym (two f words d long) ∙ h.0) in let e = (says n).1 (word, h.1) in cc,
+  λ h. let word : f (get_or words 1 d) ≡ number n = ap (λ (ws : List (List ℕ)). get_or ws 1 []) (sym (two f words d long) ∙ h.0) in let e =
+      (says n).1 (word, h.1) in cc,
 )
 
 -- ---- a line and a node
@@ -52,9 +55,11 @@ abbrev SaysNode : Option (Option ℕ) → List (List ℕ) → Type 0
 SaysNode said words = (node : Option ℕ) → (said ≡ Some node) ↔ ((words ≡ node_words node) × FitsNode node)
 
 alone : (words : List (List ℕ)) (said : Option (Option ℕ)) (there : Option ℕ) → said ≡ Some there → SaysNode said words → (line node : Option ℕ)
-    → (let one : Option StatsRequest = Some record { line = None; node = there } in one ≡ Some record { line = line; node = node }) ↔ ChoosesStats words (record { line = line; node = node })
+    → (let one : Option StatsRequest = Some record { line = None; node = there } in one ≡ Some record { line = line; node = node })
+    ↔ ChoosesStats words (record { line = line; node = node })
 unfolding line_words
-alone words said there is says None shown = (λ same. let h = (says shown).0 (is ∙ ap node_in same) in (h.0, tt, h.1), λ h. ap (option_map on_all_lines) (sym is ∙ (says shown).1 (h.0, h.2)))
+alone words said there is says None shown =
+    (λ same. let h = (says shown).0 (is ∙ ap node_in same) in (h.0, tt, h.1), λ h. ap (option_map on_all_lines) (sym is ∙ (says shown).1 (h.0, h.2)))
 alone words said there is says (Some line) shown = (
   λ same. let no : Option ℕ = None in let apart : Some no ≡ Some (Some line) = ap line_in same in absurd (cc),
   λ h. absurd (no_line words _ there ((says there).0 is).0 h.0),
@@ -64,9 +69,11 @@ pub node_alone : (words : List (List ℕ)) (said : Option (Option ℕ)) (there :
     → (let one : Option StatsRequest = Some record { line = None; node = there } in one ≡ Some request) ↔ ChoosesStats words request
 node_alone words said there is says request = alone words said there is says request.line request.node
 
-lined : (words : List (List ℕ)) (word : List ℕ) (rest : List (List ℕ)) (line_said : Option ℕ) (node_said : Option (Option ℕ)) (line_there : ℕ) (node_there : Option ℕ) → words ≡ codes "--line" ∷ word ∷ rest → line_said ≡ Some line_there → node_said ≡ Some node_there
+lined : (words : List (List ℕ)) (word : List ℕ) (rest : List (List ℕ)) (line_said : Option ℕ) (node_said : Option (Option ℕ)) (line_there : ℕ)
+    (node_there : Option ℕ) → words ≡ codes "--line" ∷ word ∷ rest → line_said ≡ Some line_there → node_said ≡ Some node_there
     → ((line : ℕ) → (line_said ≡ Some line) ↔ ((word ≡ number line) × (line < MAX_LINES))) → SaysNode node_said rest → (line node : Option ℕ)
-    → (let one : Option StatsRequest = Some record { line = Some line_there; node = node_there } in one ≡ Some record { line = line; node = node }) ↔ ChoosesStats words (record { line = line; node = node })
+    → (let one : Option StatsRequest = Some record { line = Some line_there; node = node_there } in one ≡ Some record { line = line; node = node })
+    ↔ ChoosesStats words (record { line = line; node = node })
 unfolding line_words
 lined words word rest line_said node_said line_there node_there are line_is node_is lines nodes None node = (
   λ same. let no : Option ℕ = None in let apart : Some (Some line_there) ≡ Some no = ap line_in same in absurd (cc),
@@ -76,8 +83,11 @@ lined words word rest line_said node_said line_there node_there are line_is node
   λ same.
       let line_same : Some (Some line_there) ≡ Some (Some line) = ap line_in same in
       let from_line = (lines line).0 (let e : line_said ≡ Some line = cc in e) in
-      let from_node = (nodes node).0 (node_is ∙ ap node_in same) in
-      (are ∙ (ap (λ (w : List ℕ). codes "--line" ∷ w ∷ rest) from_line.0 ∙ ap (λ (l : List (List ℕ)). codes "--line" ∷ number line ∷ l) from_node.0), from_line.1, from_node.1),
+      let from_node = (nodes node).0 (node_is ∙ ap node_in same) in (
+        are ∙ (ap (λ (w : List ℕ). codes "--line" ∷ w ∷ rest) from_line.0 ∙ ap (λ (l : List (List ℕ)). codes "--line" ∷ number line ∷ l) from_node.0),
+        from_line.1,
+        from_node.1,
+      ),
   λ h.
       let whole : codes "--line" ∷ word ∷ rest ≡ codes "--line" ∷ number line ∷ node_words node = sym are ∙ h.0 in
       let line_same : line_said ≡ Some line = (lines line).1 (ap (λ (ws : List (List ℕ)). get_or ws 1 []) whole, h.1) in
@@ -87,30 +97,37 @@ lined words word rest line_said node_said line_there node_there are line_is node
       rw (line_at, node_at) refl,
 )
 
-two_first : {X : Type 0} (f : X → List ℕ) (words : List X) (d : X) → 2 ≤ length words → map f words ≡ f (get_or words 0 d) ∷ f (get_or words 1 d) ∷ map f (drop 2 words)
+two_first : {X : Type 0} (f : X → List ℕ) (words : List X) (d : X) → 2 ≤ length words
+    → map f words ≡ f (get_or words 0 d) ∷ f (get_or words 1 d) ∷ map f (drop 2 words)
 two_first f [] d long = absurd (omega arith)
 two_first f (a ∷ []) d long = absurd (omega arith)
 two_first f (a ∷ b ∷ rest) d long = refl
 
 -- the first two words, and those behind them
-pub two_more : {X : Type 0} (f : X → List ℕ) (words : List X) (d : X) → 2 ≤ length words → map f words ≡ f (get_or words 0 d) ∷ f (get_or words 1 d) ∷ map f (take (length words - 2) (drop 2 words))
+pub two_more : {X : Type 0} (f : X → List ℕ) (words : List X) (d : X) → 2 ≤ length words
+    → map f words ≡ f (get_or words 0 d) ∷ f (get_or words 1 d) ∷ map f (take (length words - 2) (drop 2 words))
 two_more f words d long =
     let left = length-drop 2 words in
     let whole : take (length words - 2) (drop 2 words) ≡ drop 2 words = take_all (length words - 2) (drop 2 words) (omega (arith, left)) in
     two_first f words d long ∙ ap (λ rest. f (get_or words 0 d) ∷ f (get_or words 1 d) ∷ map f rest) (sym whole)
 
-pub line_first : (words : List (List ℕ)) (word : List ℕ) (rest : List (List ℕ)) (line_said : Option ℕ) (node_said : Option (Option ℕ)) (line_there : ℕ) (node_there : Option ℕ) → words ≡ codes "--line" ∷ word ∷ rest → line_said ≡ Some line_there → node_said ≡ Some node_there
+pub line_first : (words : List (List ℕ)) (word : List ℕ) (rest : List (List ℕ)) (line_said : Option ℕ) (node_said : Option (Option ℕ)) (line_there : ℕ)
+    (node_there : Option ℕ) → words ≡ codes "--line" ∷ word ∷ rest → line_said ≡ Some line_there → node_said ≡ Some node_there
     → ((line : ℕ) → (line_said ≡ Some line) ↔ ((word ≡ number line) × (line < MAX_LINES))) → SaysNode node_said rest → (request : StatsRequest)
     → (let one : Option StatsRequest = Some record { line = Some line_there; node = node_there } in one ≡ Some request) ↔ ChoosesStats words request
-line_first words word rest line_said node_said line_there node_there are line_is node_is lines nodes request = lined words word rest line_said node_said line_there node_there are line_is node_is lines nodes request.line request.node
+line_first words word rest line_said node_said line_there node_there are line_is node_is lines nodes request =
+    lined words word rest line_said node_said line_there node_there are line_is node_is lines nodes request.line request.node
 
 -- ---- parts, one after another
 
 range_more : (n : ℕ) → range_with_len 0 (n + 1) ≡ range_with_len 0 n ++ n ∷ []
-range_more n = sym (map-id (range_with_len 0 (n + 1))) ∙ (map-range_with_len_more (λ x. x) 0 n n (omega arith) ∙ ap (λ (l : List ℕ). l ++ n ∷ []) (map-id (range_with_len 0 n)))
+range_more n = sym (map-id (range_with_len 0 (n + 1)))
+    ∙ (map-range_with_len_more (λ x. x) 0 n n (omega arith) ∙ ap (λ (l : List ℕ). l ++ n ∷ []) (map-id (range_with_len 0 n)))
 
-pub parts_more : (part : ℕ → List ℕ) (old n1 n2 : List ℕ) (k : ℕ) → n1 ≡ old ++ flat_map part (range_with_len 0 k) → n2 ≡ n1 ++ part k → n2 ≡ old ++ flat_map part (range_with_len 0 (k + 1))
+pub parts_more : (part : ℕ → List ℕ) (old n1 n2 : List ℕ) (k : ℕ) → n1 ≡ old ++ flat_map part (range_with_len 0 k) → n2 ≡ n1 ++ part k
+    → n2 ≡ old ++ flat_map part (range_with_len 0 (k + 1))
 parts_more part old n1 n2 k e1 e2 =
     let before = flat_map part (range_with_len 0 k) in
-    let whole : flat_map part (range_with_len 0 (k + 1)) ≡ before ++ part k = ap (flat_map part) (range_more k) ∙ (flat_map-append part (range_with_len 0 k) (k ∷ []) ∙ ap (λ (l : List ℕ). before ++ l) (append-nil (part k))) in
+    let whole : flat_map part (range_with_len 0 (k + 1)) ≡ before ++ part k =
+    ap (flat_map part) (range_more k) ∙ (flat_map-append part (range_with_len 0 k) (k ∷ []) ∙ ap (λ (l : List ℕ). before ++ l) (append-nil (part k))) in
     e2 ∙ (ap (λ (l : List ℕ). l ++ part k) e1 ∙ (append_assoc old before (part k) ∙ ap (λ (l : List ℕ). old ++ l) (sym whole)))

@@ -23,7 +23,8 @@ fault_line walk dead Read line h = absurd h
 fault_line walk dead Write line h = absurd h
 
 -- what was written as a refusal is that of the walk's fault
-pub walk_refused : (walk : Walk) (dead : Option ℕ) (fault : TextFault) (text : List ℕ) → IsWalkFault walk dead fault.kind fault.line → Refuses fault text → IsRefusalBy (λ kind line. IsWalkFault walk dead kind line) text
+pub walk_refused : (walk : Walk) (dead : Option ℕ) (fault : TextFault) (text : List ℕ) → IsWalkFault walk dead fault.kind fault.line → Refuses fault text
+    → IsRefusalBy (λ kind line. IsWalkFault walk dead kind line) text
 walk_refused walk dead fault text told (inl is) = record { line = fault.line; kind = fault.kind; is_told = told; written = is }
 walk_refused walk dead fault text told (inr m) =
     let none = fault_line walk dead fault.kind fault.line told in
@@ -31,7 +32,8 @@ walk_refused walk dead fault text told (inr m) =
     absurd (omega (arith, none, some))
 
 -- an event of the machine is refused for want of memory alone, if there is room for it
-pub memory_alone : (s : ScheduleValue) (event : Event) (fault : PushFault) → IsEventWithin s.nodes s.lines event → length s.events < MAX_EVENTS → EventRefusal s event fault → kind_of fault ≡ Memory
+pub memory_alone : (s : ScheduleValue) (event : Event) (fault : PushFault) → IsEventWithin s.nodes s.lines event → length s.events < MAX_EVENTS
+    → EventRefusal s event fault → kind_of fault ≡ Memory
 memory_alone s event push.Range within room refused = absurd (refused within)
 memory_alone s event push.TooMany within room refused =
     let full = refused.1 in

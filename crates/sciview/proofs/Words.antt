@@ -1,5 +1,6 @@
 -- The words of a walk, from the words of its numbers and those of its share.
-use Rattle.std.proofs.Common.{◌-◌, ◌≡◌, ◌↔◌, ◌<◌, ◌≤◌, ◌⊎◌, ◌+◌, ◌^◌, ℕ, inl, inr, arith, length, get_or, IfSome, List, [], ◌∷◌, ◌++◌, map, take, drop, Option, Some, None, sym, ap, ◌∙◌, refl, subst}
+use Rattle.std.proofs.Common.{◌-◌, ◌≡◌, ◌↔◌, ◌<◌, ◌≤◌, ◌⊎◌, ◌+◌, ◌^◌, ℕ, inl, inr, arith, length, get_or, IfSome, List, [], ◌∷◌, ◌++◌, map, take, drop, Option}
+use Rattle.std.proofs.Common.{Some, None, sym, ap, ◌∙◌, refl, subst}
 use Rattle.std.proofs.lemmas.List.{length-map, take_all, take-map, drop-map, take-append-drop, map-append}
 use Rattle.std.specs.Prelude.{codes, Bool, true, false, option_map}
 use Rattle.sciview.specs.declared.chart.ChartRequest.{ChartRequest}
@@ -8,18 +9,21 @@ use Rattle.sciview.specs.declared.trace.TraceRequest.{TraceRequest}
 use Rattle.sci_words.specs.declared.limits.TheConstants.{MAX_LINES}
 use Rattle.sci_text.specs.Number.{number}
 use Rattle.sciview.specs.declared.random.Walk.{Walk}
-use Rattle.sciview.specs.Choice.{ChoosesChart, ChoosesTrace, ChoosesWords, FitsDead, FitsEvents, FitsLine, FitsWalk, dead_words, events_words, flag, line_words, walk_words}
+use Rattle.sciview.specs.Choice.{ChoosesChart, ChoosesTrace, ChoosesWords, FitsDead, FitsEvents, FitsLine, FitsWalk, dead_words, events_words, flag, line_words}
+use Rattle.sciview.specs.Choice.{walk_words}
 
 -- the words are those of the first five and those of the rest
 parts : {X : Type 0} (f : X → List ℕ) (words : List X) → map f words ≡ map f (take 5 words) ++ map f (drop 5 words)
 parts f words = ap (map f) (sym (take-append-drop 5 words)) ∙ map-append f (take 5 words) (drop 5 words)
 
 -- if the words are those of a walk and of a share, the first five are those of the walk, and the rest those of the share
-first_five : {X : Type 0} (f : X → List ℕ) (words : List X) (walk : Walk) (dead : Option ℕ) → map f words ≡ walk_words walk ++ dead_words dead → map f (take 5 words) ≡ walk_words walk
+first_five : {X : Type 0} (f : X → List ℕ) (words : List X) (walk : Walk) (dead : Option ℕ) → map f words ≡ walk_words walk ++ dead_words dead
+    → map f (take 5 words) ≡ walk_words walk
 unfolding walk_words
 first_five f words walk dead is = sym (take-map f 5 words) ∙ ap (take 5) is
 
-behind_five : {X : Type 0} (f : X → List ℕ) (words : List X) (walk : Walk) (dead : Option ℕ) → map f words ≡ walk_words walk ++ dead_words dead → map f (drop 5 words) ≡ dead_words dead
+behind_five : {X : Type 0} (f : X → List ℕ) (words : List X) (walk : Walk) (dead : Option ℕ) → map f words ≡ walk_words walk ++ dead_words dead
+    → map f (drop 5 words) ≡ dead_words dead
 unfolding walk_words dead_words
 behind_five f words walk dead is = sym (drop-map f 5 words) ∙ ap (drop 5) is
 
@@ -36,12 +40,17 @@ pub both : {X : Type 0} (f : X → List ℕ) (words : List X) (walk_said : Optio
     → walk_said ≡ Some walk_there → dead_said ≡ Some dead_there
     → ((walk : Walk) → (walk_said ≡ Some walk) ↔ ((map f (take 5 words) ≡ walk_words walk) × FitsWalk walk))
     → ((dead : Option ℕ) → (dead_said ≡ Some dead) ↔ ((map f (drop 5 words) ≡ dead_words dead) × FitsDead dead))
-    → (walk : Walk) (dead : Option ℕ) → (let one : Option (Walk × Option ℕ) = Some (walk_there, dead_there) in one ≡ Some (walk, dead)) ↔ ((map f words ≡ walk_words walk ++ dead_words dead) × FitsWalk walk × FitsDead dead)
+    → (walk : Walk) (dead : Option ℕ)
+    → (let one : Option (Walk × Option ℕ) = Some (walk_there, dead_there) in one ≡ Some (walk, dead))
+    ↔ ((map f words ≡ walk_words walk ++ dead_words dead) × FitsWalk walk × FitsDead dead)
 both f words walk_said dead_said walk_there dead_there walk_is dead_is walks deads walk dead = (
   λ same.
       let from_walk = (walks walk).0 (walk_is ∙ ap walk_in same) in
-      let from_dead = (deads dead).0 (dead_is ∙ ap dead_in same) in
-      (parts f words ∙ ap (λ (l : List (List ℕ)). l ++ map f (drop 5 words)) from_walk.0 ∙ ap (λ (l : List (List ℕ)). walk_words walk ++ l) from_dead.0, from_walk.1, from_dead.1),
+      let from_dead = (deads dead).0 (dead_is ∙ ap dead_in same) in (
+        parts f words ∙ ap (λ (l : List (List ℕ)). l ++ map f (drop 5 words)) from_walk.0 ∙ ap (λ (l : List (List ℕ)). walk_words walk ++ l) from_dead.0,
+        from_walk.1,
+        from_dead.1,
+      ),
   λ said.
       let walk_same : walk_said ≡ Some walk = (walks walk).1 (first_five f words walk dead said.0, said.1) in
       let dead_same : dead_said ≡ Some dead = (deads dead).1 (behind_five f words walk dead said.0, said.2) in
@@ -50,7 +59,8 @@ both f words walk_said dead_said walk_there dead_there walk_is dead_is walks dea
 
 -- ---- five words
 
-five : {X : Type 0} (f : X → List ℕ) (words : List X) (d : X) → length words ≡ 5 → map f words ≡ f (get_or words 0 d) ∷ f (get_or words 1 d) ∷ f (get_or words 2 d) ∷ f (get_or words 3 d) ∷ f (get_or words 4 d) ∷ []
+five : {X : Type 0} (f : X → List ℕ) (words : List X) (d : X) → length words ≡ 5
+    → map f words ≡ f (get_or words 0 d) ∷ f (get_or words 1 d) ∷ f (get_or words 2 d) ∷ f (get_or words 3 d) ∷ f (get_or words 4 d) ∷ []
 five f [] d long = absurd (omega arith)
 five f (a ∷ []) d long = absurd (omega arith)
 five f (a ∷ b ∷ []) d long = absurd (omega arith)
@@ -71,8 +81,10 @@ agree said word there n is says spelled fits = let same : said ≡ Some n = (say
 pub five_said : {X : Type 0} (f : X → List ℕ) (words : List X) (d : X) (n0 n1 n2 n3 n4 : ℕ) (s0 s1 s2 s3 s4 : Option ℕ)
     → length words ≡ 5
     → s0 ≡ Some n0 → s1 ≡ Some n1 → s2 ≡ Some n2 → s3 ≡ Some n3 → s4 ≡ Some n4
-    → Says s0 (f (get_or words 0 d)) → Says s1 (f (get_or words 1 d)) → Says s2 (f (get_or words 2 d)) → Says s3 (f (get_or words 3 d)) → Says s4 (f (get_or words 4 d))
-    → (walk : Walk) → (let one : Option Walk = Some record { nodes = n0; lines = n1; slots = n2; events = n3; seed = n4 } in one ≡ Some walk) ↔ ((map f words ≡ walk_words walk) × FitsWalk walk)
+    → Says s0 (f (get_or words 0 d)) → Says s1 (f (get_or words 1 d)) → Says s2 (f (get_or words 2 d)) → Says s3 (f (get_or words 3 d))
+    → Says s4 (f (get_or words 4 d))
+    → (walk : Walk) → (let one : Option Walk = Some record { nodes = n0; lines = n1; slots = n2; events = n3; seed = n4 } in one ≡ Some walk)
+    ↔ ((map f words ≡ walk_words walk) × FitsWalk walk)
 unfolding walk_words
 five_said f words d n0 n1 n2 n3 n4 s0 s1 s2 s3 s4 long i0 i1 i2 i3 i4 e0 e1 e2 e3 e4 walk =
     let are = five f words d long in
@@ -99,7 +111,8 @@ two f (a ∷ []) d long = absurd (omega arith)
 two f (a ∷ b ∷ []) d long = refl
 two f (a ∷ b ∷ c ∷ rest) d long = absurd (omega arith)
 
-pub line_said : {X : Type 0} (f : X → List ℕ) (words : List X) (d : X) (said : Option ℕ) (there : ℕ) → length words ≡ 2 → f (get_or words 0 d) ≡ codes "--line" → said ≡ Some there
+pub line_said : {X : Type 0} (f : X → List ℕ) (words : List X) (d : X) (said : Option ℕ) (there : ℕ) → length words ≡ 2 → f (get_or words 0 d) ≡ codes "--line"
+    → said ≡ Some there
     → ((line : ℕ) → (said ≡ Some line) ↔ ((f (get_or words 1 d) ≡ number line) × (line < MAX_LINES)))
     → (line : Option ℕ) → (let one : Option (Option ℕ) = Some (Some there) in one ≡ Some line) ↔ ((map f words ≡ line_words line) × FitsLine line)
 unfolding line_words
@@ -108,7 +121,8 @@ line_said f words d said there long first is says None =
     (λ same. absurd (cc), λ h. absurd (none h.0))
 line_said f words d said there long first is says (Some line) = (
   λ same. let h = (says line).0 (let e : said ≡ Some line = cc in e) in (two f words d long ∙ rw (first, h.0) refl, h.1),
-  λ h. let word : f (get_or words 1 d) ≡ number line = ap (λ (ws : List (List ℕ)). get_or ws 1 []) (sym (two f words d long) ∙ h.0) in let e = (says line).1 (word, h.1) in cc,
+  λ h. let word : f (get_or words 1 d) ≡ number line = ap (λ (ws : List (List ℕ)). get_or ws 1 []) (sym (two f words d long) ∙ h.0) in let e =
+      (says line).1 (word, h.1) in cc,
 )
 
 -- ---- words without `--strict`
@@ -138,13 +152,19 @@ abbrev json_of : Option TraceRequest → Option Bool
 json_of None = None
 json_of (Some request) = Some request.json
 
-not_strict : (words : List (List ℕ)) (said : Option (Option ℕ)) (there : Option ℕ) → said ≡ Some there → ((line : Option ℕ) → (said ≡ Some line) ↔ ((words ≡ line_words line) × FitsLine line)) → (json strict : Bool) (line : Option ℕ)
-    → (Some (plain there) ≡ Some record { json = json; strict = strict; line = line }) ↔ ((json ≡ false) × (words ≡ flag (codes "--strict") strict ++ line_words line) × FitsLine line)
-not_strict words said there is says true strict line = (λ same. let apart : Some false ≡ Some true = ap json_of same in absurd (cc), λ h. let apart = h.0 in absurd (cc))
-not_strict words said there is says false false line = (λ same. let h = (says line).0 (is ∙ ap line_of same) in (refl, h.0, h.1), λ h. ap (option_map plain) (sym is ∙ (says line).1 (h.1, h.2)))
-not_strict words said there is says false true line = (λ same. let apart : Some false ≡ Some true = ap strict_of same in absurd (cc), λ h. absurd (no_strict words there line ((says there).0 is).0 h.1))
+not_strict : (words : List (List ℕ)) (said : Option (Option ℕ)) (there : Option ℕ) → said ≡ Some there
+    → ((line : Option ℕ) → (said ≡ Some line) ↔ ((words ≡ line_words line) × FitsLine line)) → (json strict : Bool) (line : Option ℕ)
+    → (Some (plain there) ≡ Some record { json = json; strict = strict; line = line })
+    ↔ ((json ≡ false) × (words ≡ flag (codes "--strict") strict ++ line_words line) × FitsLine line)
+not_strict words said there is says true strict line =
+    (λ same. let apart : Some false ≡ Some true = ap json_of same in absurd (cc), λ h. let apart = h.0 in absurd (cc))
+not_strict words said there is says false false line =
+    (λ same. let h = (says line).0 (is ∙ ap line_of same) in (refl, h.0, h.1), λ h. ap (option_map plain) (sym is ∙ (says line).1 (h.1, h.2)))
+not_strict words said there is says false true line =
+    (λ same. let apart : Some false ≡ Some true = ap strict_of same in absurd (cc), λ h. absurd (no_strict words there line ((says there).0 is).0 h.1))
 
-pub line_alone : (words : List (List ℕ)) (said : Option (Option ℕ)) (there : Option ℕ) → said ≡ Some there → ((line : Option ℕ) → (said ≡ Some line) ↔ ((words ≡ line_words line) × FitsLine line)) → (request : TraceRequest)
+pub line_alone : (words : List (List ℕ)) (said : Option (Option ℕ)) (there : Option ℕ) → said ≡ Some there
+    → ((line : Option ℕ) → (said ≡ Some line) ↔ ((words ≡ line_words line) × FitsLine line)) → (request : TraceRequest)
     → (Some (plain there) ≡ Some request) ↔ ChoosesWords words request
 line_alone words said there is says request = not_strict words said there is says request.json request.strict request.line
 
@@ -172,9 +192,12 @@ rest_of (word ∷ rest) = rest
 abbrev as_json : TraceRequest → TraceRequest
 as_json request = record { json = true; strict = request.strict; line = request.line }
 
-json_choice : (tail : List (List ℕ)) (said : Option TraceRequest) (there : TraceRequest) → said ≡ Some there → ((request : TraceRequest) → (said ≡ Some request) ↔ ChoosesWords tail request) → (json strict : Bool) (line : Option ℕ)
-    → (Some (as_json there) ≡ Some record { json = json; strict = strict; line = line }) ↔ ChoosesTrace (codes "--json" ∷ tail) (record { json = json; strict = strict; line = line })
-json_choice tail said there is says false strict line = (λ same. let apart : Some true ≡ Some false = ap json_of same in absurd (cc), λ h. absurd (no_json tail strict line h.0))
+json_choice : (tail : List (List ℕ)) (said : Option TraceRequest) (there : TraceRequest) → said ≡ Some there
+    → ((request : TraceRequest) → (said ≡ Some request) ↔ ChoosesWords tail request) → (json strict : Bool) (line : Option ℕ)
+    → (Some (as_json there) ≡ Some record { json = json; strict = strict; line = line })
+    ↔ ChoosesTrace (codes "--json" ∷ tail) (record { json = json; strict = strict; line = line })
+json_choice tail said there is says false strict line =
+    (λ same. let apart : Some true ≡ Some false = ap json_of same in absurd (cc), λ h. absurd (no_json tail strict line h.0))
 json_choice tail said there is says true strict line = (
   λ same.
       let h = (says there).0 is in
@@ -186,27 +209,37 @@ json_choice tail said there is says true strict line = (
   λ h. ap (option_map as_json) (sym is ∙ (says (record { json = false; strict = strict; line = line })).1 (refl, ap rest_of h.0, h.1)),
 )
 
-pub json_words : {X : Type 0} (f : X → List ℕ) (words : List X) (d : X) → 1 ≤ length words → f (get_or words 0 d) ≡ codes "--json" → map f words ≡ codes "--json" ∷ map f (take (length words - 1) (drop 1 words))
+pub json_words : {X : Type 0} (f : X → List ℕ) (words : List X) (d : X) → 1 ≤ length words → f (get_or words 0 d) ≡ codes "--json"
+    → map f words ≡ codes "--json" ∷ map f (take (length words - 1) (drop 1 words))
 json_words f [] d some is = absurd (omega arith)
-json_words f (w ∷ words) d some is = ap (λ (v : List ℕ). v ∷ map f words) is ∙ ap (λ ws. codes "--json" ∷ map f ws) (sym (take_all (length (w ∷ words) - 1) words (omega arith)))
+json_words f (w ∷ words) d some is =
+    ap (λ (v : List ℕ). v ∷ map f words) is ∙ ap (λ ws. codes "--json" ∷ map f ws) (sym (take_all (length (w ∷ words) - 1) words (omega arith)))
 
 -- the first word is `--json`
-pub json_first : (words tail : List (List ℕ)) (said : Option TraceRequest) (there : TraceRequest) → words ≡ codes "--json" ∷ tail → said ≡ Some there → ((request : TraceRequest) → (said ≡ Some request) ↔ ChoosesWords tail request) → (request : TraceRequest)
+pub json_first : (words tail : List (List ℕ)) (said : Option TraceRequest) (there : TraceRequest) → words ≡ codes "--json" ∷ tail → said ≡ Some there
+    → ((request : TraceRequest) → (said ≡ Some request) ↔ ChoosesWords tail request) → (request : TraceRequest)
     → (Some (as_json there) ≡ Some request) ↔ ChoosesTrace words request
 json_first words tail said there are is says request = rw are (json_choice tail said there is says request.json request.strict request.line)
 
-json_first_none : (words tail : List (List ℕ)) (said : Option TraceRequest) → words ≡ codes "--json" ∷ tail → said ≡ None → ((request : TraceRequest) → (said ≡ Some request) ↔ ChoosesWords tail request) → (json strict : Bool) (line : Option ℕ)
+json_first_none : (words tail : List (List ℕ)) (said : Option TraceRequest) → words ≡ codes "--json" ∷ tail → said ≡ None
+    → ((request : TraceRequest) → (said ≡ Some request) ↔ ChoosesWords tail request) → (json strict : Bool) (line : Option ℕ)
     → ChoosesTrace words (record { json = json; strict = strict; line = line }) → ⊥
 json_first_none words tail said are none says false strict line h = no_json tail strict line (sym are ∙ h.0)
-json_first_none words tail said are none says true strict line h = let e : said ≡ Some record { json = false; strict = strict; line = line } = (says (record { json = false; strict = strict; line = line })).1 (refl, ap rest_of (sym are ∙ h.0), h.1) in absurd (cc)
+json_first_none words tail said are none says true strict line h = let e : said ≡ Some record { json = false; strict = strict; line = line } =
+    (says (record { json = false; strict = strict; line = line })).1 (refl, ap rest_of (sym are ∙ h.0), h.1) in absurd (cc)
 
 -- the first word is `--json`, and the others say nothing
-pub json_alone : (words tail : List (List ℕ)) (said result : Option TraceRequest) → words ≡ codes "--json" ∷ tail → said ≡ None → result ≡ None → ((request : TraceRequest) → (said ≡ Some request) ↔ ChoosesWords tail request) → (request : TraceRequest) → (result ≡ Some request) ↔ ChoosesTrace words request
-json_alone words tail said result are none gives says request = (λ same. absurd (cc), λ h. absurd (json_first_none words tail said are none says request.json request.strict request.line h))
+pub json_alone : (words tail : List (List ℕ)) (said result : Option TraceRequest) → words ≡ codes "--json" ∷ tail → said ≡ None → result ≡ None
+    → ((request : TraceRequest) → (said ≡ Some request) ↔ ChoosesWords tail request) → (request : TraceRequest)
+    → (result ≡ Some request) ↔ ChoosesTrace words request
+json_alone words tail said result are none gives says request =
+    (λ same. absurd (cc), λ h. absurd (json_first_none words tail said are none says request.json request.strict request.line h))
 
-words_without : (words : List (List ℕ)) (said : Option TraceRequest) (there : TraceRequest) → said ≡ Some there → ((request : TraceRequest) → (said ≡ Some request) ↔ ChoosesWords words request) → (json strict : Bool) (line : Option ℕ)
+words_without : (words : List (List ℕ)) (said : Option TraceRequest) (there : TraceRequest) → said ≡ Some there
+    → ((request : TraceRequest) → (said ≡ Some request) ↔ ChoosesWords words request) → (json strict : Bool) (line : Option ℕ)
     → (Some there ≡ Some record { json = json; strict = strict; line = line }) ↔ ChoosesTrace words (record { json = json; strict = strict; line = line })
-words_without words said there is says false strict line = let two = says (record { json = false; strict = strict; line = line }) in (λ same. let h = two.0 (is ∙ same) in (h.1, h.2), λ h. sym is ∙ two.1 (refl, h.0, h.1))
+words_without words said there is says false strict line = let two = says (record { json = false; strict = strict; line = line }) in
+    (λ same. let h = two.0 (is ∙ same) in (h.1, h.2), λ h. sym is ∙ two.1 (refl, h.0, h.1))
 words_without words said there is says true strict line =
     let h = (says there).0 is in (
       λ same. let apart : Some false ≡ Some true = ap (λ (b : Bool). Some b) (sym h.0) ∙ ap json_of same in absurd (cc),
@@ -214,13 +247,17 @@ words_without words said there is says true strict line =
     )
 
 -- `--json` isn't first
-pub words_alone : (words : List (List ℕ)) (said : Option TraceRequest) (there : TraceRequest) → said ≡ Some there → ((request : TraceRequest) → (said ≡ Some request) ↔ ChoosesWords words request) → (request : TraceRequest) → (Some there ≡ Some request) ↔ ChoosesTrace words request
+pub words_alone : (words : List (List ℕ)) (said : Option TraceRequest) (there : TraceRequest) → said ≡ Some there
+    → ((request : TraceRequest) → (said ≡ Some request) ↔ ChoosesWords words request) → (request : TraceRequest)
+    → (Some there ≡ Some request) ↔ ChoosesTrace words request
 words_alone words said there is says request = words_without words said there is says request.json request.strict request.line
 
 -- ---- the words of a chart
 
 -- the words of a line are two or none, and those of lines of a schedule three or none
-parted : (words : List (List ℕ)) (at : ℕ) (line : Option ℕ) (events : Option TextLines) → (length words < 3 → at ≡ length words) → (3 ≤ length words → at + 3 ≡ length words) → words ≡ line_words line ++ events_words events → (take at words ≡ line_words line) × (drop at words ≡ events_words events)
+parted : (words : List (List ℕ)) (at : ℕ) (line : Option ℕ) (events : Option TextLines) → (length words < 3 → at ≡ length words)
+    → (3 ≤ length words → at + 3 ≡ length words) → words ≡ line_words line ++ events_words events
+    → (take at words ≡ line_words line) × (drop at words ≡ events_words events)
 unfolding line_words events_words
 parted words at None None short long is =
     let none : at ≡ 0 = (let l = ap (λ (ws : List (List ℕ)). length ws) is in short (omega (arith, l)) ∙ l) in
@@ -243,16 +280,22 @@ abbrev chart_line_of : Option ChartRequest → Option (Option ℕ)
 chart_line_of None = None
 chart_line_of (Some request) = Some request.line
 
-pub chart_said : (words : List (List ℕ)) (at : ℕ) (line_said : Option (Option ℕ)) (events_said : Option (Option TextLines)) (line_there : Option ℕ) (events_there : Option TextLines) → (length words < 3 → at ≡ length words) → (3 ≤ length words → at + 3 ≡ length words)
+pub chart_said : (words : List (List ℕ)) (at : ℕ) (line_said : Option (Option ℕ)) (events_said : Option (Option TextLines)) (line_there : Option ℕ)
+    (events_there : Option TextLines) → (length words < 3 → at ≡ length words) → (3 ≤ length words → at + 3 ≡ length words)
     → line_said ≡ Some line_there → events_said ≡ Some events_there
     → ((line : Option ℕ) → (line_said ≡ Some line) ↔ ((take at words ≡ line_words line) × FitsLine line))
     → ((events : Option TextLines) → (events_said ≡ Some events) ↔ ((drop at words ≡ events_words events) × FitsEvents events))
-    → (request : ChartRequest) → (let one : Option ChartRequest = Some record { line = line_there; events = events_there } in one ≡ Some request) ↔ ChoosesChart words request
+    → (request : ChartRequest) → (let one : Option ChartRequest = Some record { line = line_there; events = events_there } in one ≡ Some request)
+    ↔ ChoosesChart words request
 chart_said words at line_said events_said line_there events_there short long line_is events_is lines events request = (
   λ same.
       let from_line = (lines request.line).0 (line_is ∙ ap chart_line_of same) in
-      let from_events = (events request.events).0 (events_is ∙ ap events_of same) in
-      (sym (take-append-drop at words) ∙ ap (λ (l : List (List ℕ)). l ++ drop at words) from_line.0 ∙ ap (λ (l : List (List ℕ)). line_words request.line ++ l) from_events.0, from_line.1, from_events.1),
+      let from_events = (events request.events).0 (events_is ∙ ap events_of same) in (
+        sym (take-append-drop at words) ∙ ap (λ (l : List (List ℕ)). l ++ drop at words) from_line.0
+            ∙ ap (λ (l : List (List ℕ)). line_words request.line ++ l) from_events.0,
+        from_line.1,
+        from_events.1,
+      ),
   λ said.
       let parts = parted words at request.line request.events short long said.0 in
       let line_same : line_said ≡ Some request.line = (lines request.line).1 (parts.0, said.1) in
@@ -263,7 +306,8 @@ chart_said words at line_said events_said line_there events_there short long lin
 )
 
 -- words that don't say a line, or don't say lines of the schedule behind it, choose nothing
-pub chart_not_said : (words : List (List ℕ)) (at : ℕ) (line_said : Option (Option ℕ)) (events_said : Option (Option TextLines)) (result : Option ChartRequest) → (length words < 3 → at ≡ length words) → (3 ≤ length words → at + 3 ≡ length words)
+pub chart_not_said : (words : List (List ℕ)) (at : ℕ) (line_said : Option (Option ℕ)) (events_said : Option (Option TextLines)) (result : Option ChartRequest)
+    → (length words < 3 → at ≡ length words) → (3 ≤ length words → at + 3 ≡ length words)
     → result ≡ None → (line_said ≡ None) ⊎ (events_said ≡ None)
     → ((line : Option ℕ) → (line_said ≡ Some line) ↔ ((take at words ≡ line_words line) × FitsLine line))
     → ((events : Option TextLines) → (events_said ≡ Some events) ↔ ((drop at words ≡ events_words events) × FitsEvents events))
@@ -284,7 +328,8 @@ chart_not_said words at line_said events_said result short long is (inr none) li
 )
 
 -- what the first words say and what the others say, of the texts of the words
-pub chart_parts : {X : Type 0} (f : X → List ℕ) (words front back : List X) (at : ℕ) (line_said : Option (Option ℕ)) (events_said : Option (Option TextLines)) → (length words < 3 → at ≡ length words) → (3 ≤ length words → at + 3 ≡ length words) → front ≡ take at words → back ≡ drop at words
+pub chart_parts : {X : Type 0} (f : X → List ℕ) (words front back : List X) (at : ℕ) (line_said : Option (Option ℕ)) (events_said : Option (Option TextLines))
+    → (length words < 3 → at ≡ length words) → (3 ≤ length words → at + 3 ≡ length words) → front ≡ take at words → back ≡ drop at words
     → ((line : Option ℕ) → (line_said ≡ Some line) ↔ ((map f front ≡ line_words line) × FitsLine line))
     → ((events : Option TextLines) → (events_said ≡ Some events) ↔ ((map f back ≡ events_words events) × FitsEvents events))
     → (length (map f words) < 3 → at ≡ length (map f words)) × (3 ≤ length (map f words) → at + 3 ≡ length (map f words))
@@ -294,6 +339,8 @@ chart_parts f words front back at line_said events_said short long in_front behi
     let same : length (map f words) ≡ length words = length-map words f in (
       λ lt. short (omega (arith, lt, same)) ∙ sym same,
       λ le. long (omega (arith, le, same)) ∙ sym same,
-      subst (λ (l : List (List ℕ)). (line : Option ℕ) → (line_said ≡ Some line) ↔ ((l ≡ line_words line) × FitsLine line)) (ap (map f) in_front ∙ sym (take-map f at words)) lines,
-      subst (λ (l : List (List ℕ)). (events : Option TextLines) → (events_said ≡ Some events) ↔ ((l ≡ events_words events) × FitsEvents events)) (ap (map f) behind ∙ sym (drop-map f at words)) events,
+      subst (λ (l : List (List ℕ)). (line : Option ℕ) → (line_said ≡ Some line) ↔ ((l ≡ line_words line) × FitsLine line))
+          (ap (map f) in_front ∙ sym (take-map f at words)) lines,
+      subst (λ (l : List (List ℕ)). (events : Option TextLines) → (events_said ≡ Some events) ↔ ((l ≡ events_words events) × FitsEvents events))
+          (ap (map f) behind ∙ sym (drop-map f at words)) events,
     )

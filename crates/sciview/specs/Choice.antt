@@ -49,7 +49,8 @@ ChoosesOrder words request = AreOptions words (flag (codes "--by-serial") (asks_
 
 -- what stands behind `trace`
 abbrev pub ChoosesTrace : List (List ℕ) → TraceRequest → Type 0
-ChoosesTrace words request = (words ≡ flag (codes "--json") request.json ++ (flag (codes "--strict") request.strict ++ line_words request.line)) × FitsLine request.line
+ChoosesTrace words request = (words ≡ flag (codes "--json") request.json ++ (flag (codes "--strict") request.strict ++ line_words request.line))
+    × FitsLine request.line
 
 -- the same without `--json`
 abbrev pub ChoosesWords : List (List ℕ) → TraceRequest → Type 0
@@ -141,7 +142,8 @@ FitsSeed (Some seed) = seed < 2 ^ 64
 
 -- what stands behind `run`
 abbrev pub ChoosesRun : List (List ℕ) → RunRequest → Type 0
-ChoosesRun words request = (words ≡ seed_words request.seed ++ (flag (codes "--in-order") (is_in_order request.issuing) ++ turns_words request.turns)) × FitsSeed request.seed × FitsTurns request.turns
+ChoosesRun words request = (words ≡ seed_words request.seed ++ (flag (codes "--in-order") (is_in_order request.issuing) ++ turns_words request.turns))
+    × FitsSeed request.seed × FitsTurns request.turns
 
 -- the words that say how many runs there are, if some do
 abbrev pub runs_words : Option ℕ → List (List ℕ)
@@ -169,7 +171,9 @@ ChoosesTurnOrder words turns issuing = (words ≡ turn_order_words turns ++ flag
 
 -- what stands behind `outcomes`
 abbrev pub ChoosesOutcomes : List (List ℕ) → OutcomesRequest → Type 0
-ChoosesOutcomes words request = (words ≡ runs_words request.runs ++ (turn_order_words request.turns ++ flag (codes "--in-order") (is_in_order request.issuing))) × FitsRuns request.runs × FitsTurnOrder request.turns
+ChoosesOutcomes words request =
+    (words ≡ runs_words request.runs ++ (turn_order_words request.turns ++ flag (codes "--in-order") (is_in_order request.issuing))) × FitsRuns request.runs
+    × FitsTurnOrder request.turns
 
 -- the first word chooses a command, and those behind it what it is asked for
 abbrev pub ChoosesBy : List ℕ → List (List ℕ) → Command → Type 0

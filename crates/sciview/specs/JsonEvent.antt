@@ -7,7 +7,8 @@ use Rattle.sci_words.specs.declared.event.Event.TheVariants as event
 use Rattle.sci_history.specs.declared.entry.Entry.{Entry}
 use Rattle.sci_cache.specs.Cache.{Letter, line_of}
 use Rattle.sci_core.specs.declared.obstacle.Obstacle.{Obstacle}
-use Rattle.sci_core.specs.declared.obstacle.Obstacle.TheVariants.{NoSuchNode, NoSuchSender, NoSuchLine, NoSuchWord, AlreadyPending, NoIssueLeft, NothingPending, NotAllowed, NotAsked, NoSlot, NothingUnderWay, AnswerWaits, SetbackComes, NoAnswerWaits}
+use Rattle.sci_core.specs.declared.obstacle.Obstacle.TheVariants.{NoSuchNode, NoSuchSender, NoSuchLine, NoSuchWord, AlreadyPending, NoIssueLeft, NothingPending}
+use Rattle.sci_core.specs.declared.obstacle.Obstacle.TheVariants.{NotAllowed, NotAsked, NoSlot, NothingUnderWay, AnswerWaits, SetbackComes, NoAnswerWaits}
 use Rattle.sci_core.specs.Node.{home_of, lines_of}
 use Rattle.sci_core.specs.Core.{Core, node_at, node_of, stepping}
 use Rattle.sci_core.specs.Obstacles.{obstacle_to}
@@ -45,7 +46,8 @@ packet_member name (Some letter) = object_member name (packet_members letter)
 -- the state of a line in a node's cache, if there are both
 unfoldable pub cache_member : List ℕ → Core → ℕ → ℕ → List Token
 cache_member name core n line =
-    if nat_lt n core.size.nodes && nat_lt line (lines_of (node_at core n)) then object_member name (state_members (line_of (node_at core n).cache line).state) else []
+    if nat_lt n core.size.nodes && nat_lt line (lines_of (node_at core n)) then object_member name (state_members (line_of (node_at core n).cache line).state)
+    else []
 
 -- the state of a line's home, if it is at this node
 unfoldable pub home_member : List ℕ → Core → ℕ → ℕ → List Token
@@ -106,11 +108,13 @@ changed_members when before core e = standing_members when core (node_of e) (lin
 unfoldable pub outcome_members : Core → Event → Option Core → List Token
 outcome_members core e None = truth_member (codes "enabled") false ++ (obstacle_member (obstacle_to core e) ++ changed_members Before core core e)
 outcome_members core e (Some next) =
-    truth_member (codes "enabled") true ++ (moved_members core e ++ (changed_members Before core core e ++ (changed_members After core next e ++ logged_member (entry_logged next e))))
+    truth_member (codes "enabled") true
+    ++ (moved_members core e ++ (changed_members Before core core e ++ (changed_members After core next e ++ logged_member (entry_logged next e))))
 
 -- the number of the event's line, its word, what it has beside, and what comes of it
 unfoldable pub event_members : Core → ℕ → Event → List Token
-event_members core k e = number_member (codes "number") k ++ (text_member (codes "event") (event_word e) ++ (part_members e ++ outcome_members core e (stepping core e)))
+event_members core k e = number_member (codes "number") k
+    ++ (text_member (codes "event") (event_word e) ++ (part_members e ++ outcome_members core e (stepping core e)))
 
 -- one object, and the line feed
 unfoldable pub json_line : Core → ℕ → Event → List ℕ

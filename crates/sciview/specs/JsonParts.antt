@@ -44,7 +44,10 @@ said_members _ = []
 
 unfoldable pub packet_members : Letter → List Token
 packet_members letter =
-    text_member (codes "command") (name_of letter.body) ++ (number_member (codes "to") letter.target ++ (number_member (codes "from") letter.source ++ (number_member (codes "control") letter.control ++ (number_member (codes "line") letter.line ++ said_members letter.body))))
+    text_member (codes "command") (name_of letter.body)
+    ++ (number_member (codes "to") letter.target
+    ++ (number_member (codes "from") letter.source
+    ++ (number_member (codes "control") letter.control ++ (number_member (codes "line") letter.line ++ said_members letter.body))))
 
 -- ---- states
 
@@ -56,7 +59,9 @@ version_member (Some contents) = number_member (codes "version") contents.versio
 -- a cache's state: its name, its neighbours, whether its request was sent, and the version of its contents
 unfoldable pub state_members : CacheState → List Token
 state_members state =
-    text_member (codes "state") (state_name state) ++ (optional_member (codes "forward") (forward_of state) ++ (optional_member (codes "backward") (backward_of state) ++ (flag_member (codes "sent") (is_sent state) ++ version_member (contents_of state))))
+    text_member (codes "state") (state_name state)
+    ++ (optional_member (codes "forward") (forward_of state)
+    ++ (optional_member (codes "backward") (backward_of state) ++ (flag_member (codes "sent") (is_sent state) ++ version_member (contents_of state))))
 
 -- a home's state: its name, the head of the list, and the version of its contents
 unfoldable pub home_members : HomeState → List Token
@@ -80,7 +85,8 @@ operand_members (Store word) = word_member (codes "datum") word
 operand_members (Lock lock) = lock_members lock
 
 unfoldable pub operation_members : Op → List Token
-operation_members op = text_member (codes "operation") (act_word op.act) ++ (number_member (codes "line") op.line ++ (number_member (codes "word") op.word ++ operand_members op.act))
+operation_members op = text_member (codes "operation") (act_word op.act)
+    ++ (number_member (codes "line") op.line ++ (number_member (codes "word") op.word ++ operand_members op.act))
 
 unfoldable pub reply_member : Reply → List Token
 reply_member Stored = null_member (codes "reply")
@@ -88,4 +94,6 @@ reply_member (Got word) = word_member (codes "reply") word
 
 unfoldable pub entry_members : Entry → List Token
 entry_members entry =
-    number_member (codes "node") entry.node ++ (number_member (codes "serial") entry.serial ++ (operation_members entry.op ++ (reply_member entry.reply ++ number_member (codes "version") entry.version)))
+    number_member (codes "node") entry.node
+    ++ (number_member (codes "serial") entry.serial
+    ++ (operation_members entry.op ++ (reply_member entry.reply ++ number_member (codes "version") entry.version)))

@@ -88,7 +88,8 @@ listed_line asked core e =
 abbrev pub AreListed : Option ℕ → Core → ℕ → List Event → List ℕ → Type 0
 AreListed asked core k [] text = text ≡ []
 AreListed asked core k (e ∷ events) text =
-    (first : List ℕ) × ((rest : List ℕ) × (IsListed k (listed_line asked core e) (stepping core e) first × (AreListed asked (step core e) (k + 1) events rest × (text ≡ first ++ rest))))
+    (first : List ℕ) × ((rest : List ℕ)
+    × (IsListed k (listed_line asked core e) (stepping core e) first × (AreListed asked (step core e) (k + 1) events rest × (text ≡ first ++ rest))))
 
 -- The input is the text of a schedule whose machine has the line that is asked for, and the lists behind its events are
 -- written. The first event stands in line 2.

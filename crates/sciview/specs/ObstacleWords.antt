@@ -3,7 +3,8 @@ use Rattle.std.specs.Prelude.{ℕ, List, [], ◌++◌, codes}
 use Rattle.sci_words.specs.declared.event.Event.{Event}
 use Rattle.sci_words.specs.declared.event.Event.TheVariants as event
 use Rattle.sci_core.specs.declared.obstacle.Obstacle.{Obstacle}
-use Rattle.sci_core.specs.declared.obstacle.Obstacle.TheVariants.{NoSuchNode, NoSuchSender, NoSuchLine, NoSuchWord, AlreadyPending, NoIssueLeft, NothingPending, NotAllowed, NotAsked, NoSlot, NothingUnderWay, AnswerWaits, SetbackComes, NoAnswerWaits}
+use Rattle.sci_core.specs.declared.obstacle.Obstacle.TheVariants.{NoSuchNode, NoSuchSender, NoSuchLine, NoSuchWord, AlreadyPending, NoIssueLeft, NothingPending}
+use Rattle.sci_core.specs.declared.obstacle.Obstacle.TheVariants.{NotAllowed, NotAsked, NoSlot, NothingUnderWay, AnswerWaits, SetbackComes, NoAnswerWaits}
 use Rattle.sci_core.specs.Core.{node_of}
 use Rattle.sci_text.specs.Number.{field}
 use Rattle.sci_text.specs.Schedule.{first_node, kind_word}

@@ -1,7 +1,8 @@
 -- The words for the states of a line, in a node's cache and at its home.
 use Rattle.std.specs.Prelude.{ℕ, Bool, false, List, [], ◌++◌, codes, Option, Some, None, if◌then◌else◌}
 use Rattle.sci_words.specs.declared.stamped.Stamped.{Stamped}
-use Rattle.sci_cache.specs.State.{CacheState, Out, Asking, Joining, FreshJoining, Head, FreshHead, Below, Purging, Claiming, Clearing, Returning, Rolling, Telling, Fading, contents_of}
+use Rattle.sci_cache.specs.State.{CacheState, Out, Asking, Joining, FreshJoining, Head, FreshHead, Below, Purging, Claiming, Clearing, Returning, Rolling}
+use Rattle.sci_cache.specs.State.{Telling, Fading, contents_of}
 use Rattle.sci_home.specs.declared.state.HomeState.{HomeState}
 use Rattle.sci_home.specs.declared.state.HomeState.TheVariants as home
 use Rattle.sci_home.specs.Serving.{current_of, head_of}
@@ -67,7 +68,8 @@ version_text (Some contents) = codes " @" ++ number contents.version
 -- a cache's state: its name, its neighbours, whether its request was sent, and the version of its contents
 unfoldable pub state_text : CacheState → List ℕ
 state_text state =
-    state_name state ++ (node_text (codes " forward") (forward_of state) ++ (node_text (codes " backward") (backward_of state) ++ (sent_text (is_sent state) ++ version_text (contents_of state))))
+    state_name state ++ (node_text (codes " forward") (forward_of state)
+    ++ (node_text (codes " backward") (backward_of state) ++ (sent_text (is_sent state) ++ version_text (contents_of state))))
 
 -- the name of a home's state
 unfoldable pub home_name : HomeState → List ℕ

@@ -117,12 +117,14 @@ node_rows figures =
 -- what happened to a line
 unfoldable pub line_text : ℕ → LineFigures → List ℕ
 line_text line figures =
-    figures_text (group_of (codes "line.") line) (line_rows figures) ++ mean_text (group_of (codes "line.") line) (codes "mean_list") figures.members.total figures.events
+    figures_text (group_of (codes "line.") line) (line_rows figures)
+    ++ mean_text (group_of (codes "line.") line) (codes "mean_list") figures.members.total figures.events
 
 -- the least, the mean and the greatest of some waits
 unfoldable pub wait_text : List ℕ → WaitFigures → List ℕ
 wait_text group waits =
-    figure_text group (codes "least", waits.least) ++ (mean_text group (codes "mean") waits.total waits.count ++ figure_text group (codes "greatest", waits.greatest))
+    figure_text group (codes "least", waits.least)
+    ++ (mean_text group (codes "mean") waits.total waits.count ++ figure_text group (codes "greatest", waits.greatest))
 
 -- the group of some waits of a node
 abbrev pub wait_group : ℕ → List ℕ → List ℕ
@@ -183,7 +185,8 @@ pub record LacksNode (asked : Option ℕ) (input : List ℕ) : Type 0 where
 
 -- why there is no answer: the input has a fault, or its machine doesn't have the line or the node
 abbrev pub IsStatsFault : StatsRequest → TextFaultKind → Option (List ℕ) → Bool → ℕ → Type 0
-IsStatsFault request kind input failed at = IsAskedFault request.line kind input failed at ⊎ ((kind ≡ Range) × (at ≡ 0) × IsReadAs input failed (LacksNode request.node))
+IsStatsFault request kind input failed at =
+    IsAskedFault request.line kind input failed at ⊎ ((kind ≡ Range) × (at ≡ 0) × IsReadAs input failed (LacksNode request.node))
 
 -- what `stats` writes, and how it ends, for the bytes of a reader, which has failed or not
 abbrev pub IsStatsAnswer : StatsRequest → Option (List ℕ) → Bool → List ℕ → Outcome → Type 0

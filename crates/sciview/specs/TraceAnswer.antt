@@ -1,5 +1,6 @@
 -- What `trace` writes for its input.
-use Rattle.std.specs.Prelude.{◌≡◌, ℕ, ◌+◌, ◌-◌, ◌%◌, ◌==◌, nat_lt, Bool, ◌&&◌, List, [], ◌∷◌, ◌++◌, length, codes, bytes_eq, slice_get, Option, Some, None, is_none, if◌then◌else◌}
+use Rattle.std.specs.Prelude.{◌≡◌, ℕ, ◌+◌, ◌-◌, ◌%◌, ◌==◌, nat_lt, Bool, ◌&&◌, List, [], ◌∷◌, ◌++◌, length, codes, bytes_eq, slice_get, Option, Some, None}
+use Rattle.std.specs.Prelude.{is_none, if◌then◌else◌}
 use Rattle.sci_words.specs.declared.event.Event.{Event}
 use Rattle.sci_words.specs.declared.event.Event.TheVariants as event
 use Rattle.sci_history.specs.declared.entry.Entry.{Entry}
@@ -74,7 +75,8 @@ home_label line = codes "  home of line" ++ (field line ++ codes ": ")
 -- what changed of a line at a node: its state in the cache, and at the home, from these words before
 unfoldable pub changes_text : List ℕ → List ℕ → Core → ℕ → Option ℕ → List ℕ
 changes_text cache home next n None = []
-changes_text cache home next n (Some line) = change_text (cache_label n line) cache (cache_text next n line) ++ change_text (home_label line) home (home_words next n line)
+changes_text cache home next n (Some line) =
+    change_text (cache_label n line) cache (cache_text next n line) ++ change_text (home_label line) home (home_words next n line)
 
 -- ---- the entry of an operation that was performed
 
@@ -86,12 +88,14 @@ entry_text (Some entry) = codes "  logged " ++ ((issue_text entry ++ outcome_tex
 
 -- what changed of the line that an event is about, at the event's node
 abbrev pub changes_of : Core → Core → Event → List ℕ
-changes_of core next e = changes_text (cache_on core (node_of e) (line_changed core e)) (home_on core (node_of e) (line_changed core e)) next (node_of e) (line_changed core e)
+changes_of core next e = changes_text (cache_on core (node_of e) (line_changed core e)) (home_on core (node_of e) (line_changed core e)) next (node_of e)
+    (line_changed core e)
 
 -- what an event did that led from one state to the next
 unfoldable pub effect_text : Core → Core → Event → List ℕ
 effect_text core next e =
-    moved_text (codes "  sent ") (letter_sent core e) ++ (moved_text (codes "  took ") (letter_taken core e) ++ (changes_of core next e ++ entry_text (entry_logged next e)))
+    moved_text (codes "  sent ") (letter_sent core e)
+    ++ (moved_text (codes "  took ") (letter_taken core e) ++ (changes_of core next e ++ entry_text (entry_logged next e)))
 
 -- the line that tells what stands in the way of an event, where the line that it names is in this state
 unfoldable pub reason_line : Obstacle → Event → List ℕ → List ℕ

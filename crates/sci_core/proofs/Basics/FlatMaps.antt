@@ -22,7 +22,8 @@ around f (x ∷ xs) (suc i) d below =
     }
 
 -- a part that gives the same leaves all as it was
-pub flat_same : {X Y : Type 0} (f : X → List Y) (xs : List X) (i : ℕ) (d v : X) → i < length xs → f v ≡ f (get_or xs i d) → flat_map f (set xs i v) ≡ flat_map f xs
+pub flat_same : {X Y : Type 0} (f : X → List Y) (xs : List X) (i : ℕ) (d v : X) → i < length xs → f v ≡ f (get_or xs i d)
+    → flat_map f (set xs i v) ≡ flat_map f xs
 flat_same f xs i d v below same =
     let a = around f xs i d below in
     a.then_ v ∙ (ap (λ ys. a.before ++ (ys ++ a.after)) same ∙ sym a.now)
@@ -52,7 +53,8 @@ alone_after : {Y : Type 0} (ys : List Y) (y z : Y) (zs : List Y) → z ∷ zs ++
 alone_after ys y z zs e = grind (arith, nothing_before, nothing_after)
 
 -- if one thing is given, by this part, all that is given then is what the new part gives
-pub flat_from_one : {X Y : Type 0} (f : X → List Y) (xs : List X) (i : ℕ) (d v : X) (y z : Y) (zs : List Y) → i < length xs → flat_map f xs ≡ y ∷ [] → f (get_or xs i d) ≡ z ∷ zs
+pub flat_from_one : {X Y : Type 0} (f : X → List Y) (xs : List X) (i : ℕ) (d v : X) (y z : Y) (zs : List Y) → i < length xs → flat_map f xs ≡ y ∷ []
+    → f (get_or xs i d) ≡ z ∷ zs
     → (flat_map f (set xs i v) ≡ f v) × (zs ≡ []) × (z ≡ y)
 flat_from_one f xs i d v y z zs below one this =
     let a = around f xs i d below in

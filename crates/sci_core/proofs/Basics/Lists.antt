@@ -8,7 +8,8 @@ pub at_set : {X : Type 0} (P : X → Type 0) (xs : List X) (i : ℕ) (x d : X) �
 at_set P xs i x d each here j = grind (arith, cases_eq, cases_lt, get_or-set_same, length-set, get_or_past, get_or-set_other)
 
 -- the same of places, if what holds may differ with the place
-pub at_place_set : {X : Type 0} (P : ℕ → X → Type 0) (xs : List X) (i : ℕ) (x d : X) → ((j : ℕ) → P j (get_or xs j d)) → P i x → (j : ℕ) → P j (get_or (set xs i x) j d)
+pub at_place_set : {X : Type 0} (P : ℕ → X → Type 0) (xs : List X) (i : ℕ) (x d : X) → ((j : ℕ) → P j (get_or xs j d)) → P i x → (j : ℕ)
+    → P j (get_or (set xs i x) j d)
 at_place_set P xs i x d each here j = grind (arith, cases_eq, cases_lt, get_or-set_same, length-set, get_or_past, get_or-set_other)
 
 pub if_either : {X : Type 0} (P : X → Type 0) (b : Bool) (x y : X) → P x → P y → P (if b then x else y)

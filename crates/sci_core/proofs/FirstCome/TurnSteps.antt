@@ -1,6 +1,7 @@
 -- Of every line, the node that is let in waits last, and the first of those who wait becomes the authority: of every step, and of
 -- every schedule.
-use Rattle.std.proofs.Common.{◌≡◌, ◌≢◌, ℕ, zero, suc, ◌+◌, ◌%◌, ◌<◌, ◌≤◌, not, ◌&&◌, Bool, true, false, if◌then◌else◌, List, [], ◌∷◌, ◌++◌, filter, reverse, Option, Some, None, refl, sym, ap, subst, ◌∙◌, arith, inl, inr}
+use Rattle.std.proofs.Common.{◌≡◌, ◌≢◌, ℕ, zero, suc, ◌+◌, ◌%◌, ◌<◌, ◌≤◌, not, ◌&&◌, Bool, true, false, if◌then◌else◌, List, [], ◌∷◌, ◌++◌, filter, reverse}
+use Rattle.std.proofs.Common.{Option, Some, None, refl, sym, ap, subst, ◌∙◌, arith, inl, inr}
 use Rattle.std.specs.Prelude.{IfSome, slice_get, unwrap_or, ◌==◌}
 use Rattle.std.specs.List.{AllByRecursion, range_with_len}
 use Rattle.std.proofs.lemmas.Bool.{cases_Bool, cases_eq, eq-eqb, ne_eqb}
@@ -22,7 +23,8 @@ use Rattle.sci_cache.specs.Cache.{Letter, line_of}
 use Rattle.sci_core.specs.declared.lane.LaneKind.{LaneKind}
 use Rattle.sci_core.specs.declared.lane.LaneKind.TheVariants.{Requests, Answers}
 use Rattle.sci_core.specs.Core.{Core, lane_of, lane_place, node_at, opening, run, run_from, sent_by, step, stepping, with_lane, with_node}
-use Rattle.sci_core.specs.FirstCome.{AreInTurn, AreWaiting, Before, IsInTurn, Nobody, entered, enters, entrant_by, entrants, is_authority, succeeded, successors}
+use Rattle.sci_core.specs.FirstCome.{AreInTurn, AreWaiting, Before, IsInTurn, Nobody, entered, enters, entrant_by, entrants, is_authority, succeeded}
+use Rattle.sci_core.specs.FirstCome.{successors}
 use Rattle.sci_core.specs.Node.{NodeOf, home_of, node_accepting, node_asking, node_issuing, node_performing, node_refusing, node_replying, node_serving}
 use Rattle.sci_core.specs.Reached.{IsReachable}
 use Rattle.sci_core.specs.Sharing.{home_at}
@@ -41,7 +43,8 @@ use Rattle.sci_core.proofs.Shape.PerformShapes.{Moves, made_links, made_view}
 use Rattle.sci_core.proofs.ReachedLaws.{any_shaped}
 use Rattle.sci_core.proofs.Shape.ShapeClauses.{authority_leads, leads_authority, leads_member, member_below, split_parts}
 use Rattle.sci_core.proofs.Shape.Chains.{none_empty}
-use Rattle.sci_core.proofs.Shape.ShapeRuns.{accept_stands, answered, ask_stands, issue_stands, opening_at_home, opening_shaped, operates_so, pending_known, refuse_stands, reply_stands, serve_does}
+use Rattle.sci_core.proofs.Shape.ShapeRuns.{accept_stands, answered, ask_stands, issue_stands, opening_at_home, opening_shaped, operates_so, pending_known}
+use Rattle.sci_core.proofs.Shape.ShapeRuns.{refuse_stands, reply_stands, serve_does}
 use Rattle.sci_core.proofs.Shape.ShapeServes.{Answered, home_turns, other_line, served_shift, told_here, with_home, with_served}
 use Rattle.sci_core.proofs.Shape.ShapeSteps.{SameLine, homes_same, performed_moves, performed_same, view_of}
 use Rattle.sci_core.proofs.Shape.Shapes.{IsShaped}
@@ -49,7 +52,8 @@ use Rattle.sci_core.proofs.Step.Sides.{steps_by_sides}
 use Rattle.sci_core.proofs.Shape.Standings.{Coming, Leading, Leaves, Makes, Performs, Reads, performing_does}
 use Rattle.sci_core.proofs.Step.Steps.{Sent, Taken, lane_below}
 use Rattle.sci_core.proofs.Tidy.TidyRuns.{any_tidy, run_reachable}
-use Rattle.sci_core.proofs.FirstCome.Turns.{HomeTurns, One, Nobody as Unsucceeded, Succeeds, Turned, arrival_by, cache_turned, coming_ends, coming_in, coming_more, home_turned, led_of, turned_alike, turned_same}
+use Rattle.sci_core.proofs.FirstCome.Turns.{HomeTurns, One, Nobody as Unsucceeded, Succeeds, Turned, arrival_by, cache_turned, coming_ends, coming_in}
+use Rattle.sci_core.proofs.FirstCome.Turns.{coming_more, home_turned, led_of, turned_alike, turned_same}
 use Rattle.sci_core.proofs.Shape.Views.{View, link_in}
 use Rattle.sci_core.proofs.Tidy.WaitingNodes.{Answers as AnswersTo, serve_answers}
 use Rattle.sci_core.proofs.WellFormed.WellFormedSteps.{any_well, reachable_stepping, step_well}
@@ -76,7 +80,8 @@ record Split (view : View) (ns : List ℕ) : Type 0 where
 
 led_split : (view : View) (c : Stamped) (must : Bool) (ns : List ℕ) → IsLed view c must ns → Split view ns
 led_split view c must [] led = elim led [ ]
-led_split view c must (n ∷ ns) (front, inl leads) = record { leader = n; after = ns; whole = ap (λ (xs : List ℕ). xs ++ n ∷ ns) (sym (coming_ends view n ns leads.0)); leads = leads.0 }
+led_split view c must (n ∷ ns) (front, inl leads) =
+    record { leader = n; after = ns; whole = ap (λ (xs : List ℕ). xs ++ n ∷ ns) (sym (coming_ends view n ns leads.0)); leads = leads.0 }
 led_split view c must (n ∷ ns) (front, inr comes) =
     let rest = led_split view c _ ns comes.1 in
     let more = coming_more view n ns comes.0 in
@@ -88,11 +93,13 @@ led_split view c must (n ∷ ns) (front, inr comes) =
     }
 
 -- those who come before one that leads
-coming_before : (view : View) (before : List ℕ) (a : ℕ) (after : List ℕ) → AllByRecursion (λ n. role_in view n ≡ Some Coming) before → role_in view a ≡ Some Leading → coming_in view (before ++ a ∷ after) ≡ before
+coming_before : (view : View) (before : List ℕ) (a : ℕ) (after : List ℕ) → AllByRecursion (λ n. role_in view n ≡ Some Coming) before
+    → role_in view a ≡ Some Leading → coming_in view (before ++ a ∷ after) ≡ before
 coming_before view [] a after comes leads = coming_ends view a after leads
 coming_before view (n ∷ before) a after comes leads = let rest = coming_before view before a after comes.1 leads in let here = comes.0 in cc
 
-waiting_of : (core : Core) (line : ℕ) (home : HomeState) (c : Stamped) (ns : List ℕ) → home_at core line ≡ home → IsShaped (view_of core line) home c ns → AreWaiting core line (reverse (coming_in (view_of core line) ns))
+waiting_of : (core : Core) (line : ℕ) (home : HomeState) (c : Stamped) (ns : List ℕ) → home_at core line ≡ home → IsShaped (view_of core line) home c ns
+    → AreWaiting core line (reverse (coming_in (view_of core line) ns))
 waiting_of core line home c [] e is = Nobody (subst (λ (h : HomeState). IsListOf (link_in (view_of core line)) (head_of h) []) (sym e) is.list) refl
 waiting_of core line home c (n ∷ ns) e is =
     let view = view_of core line in
@@ -100,11 +107,13 @@ waiting_of core line home c (n ∷ ns) e is =
     let split = led_split view c led.0 (n ∷ ns) led.1 in
     let coming = coming_in view (n ∷ ns) in
     let list = subst (λ (h : HomeState). IsListOf (link_in view) (head_of h) (n ∷ ns)) (sym e) is.list in
-    let whole : n ∷ ns ≡ reverse (reverse coming) ++ split.leader ∷ split.after = split.whole ∙ ap (λ (xs : List ℕ). xs ++ split.leader ∷ split.after) (sym (reverse-reverse coming)) in
+    let whole : n ∷ ns ≡ reverse (reverse coming) ++ split.leader ∷ split.after =
+    split.whole ∙ ap (λ (xs : List ℕ). xs ++ split.leader ∷ split.after) (sym (reverse-reverse coming)) in
     Before split.leader split.after (subst (IsSharingList core line) whole list) (leads_authority core line split.leader split.leads)
 
 -- who waits is one list
-waiting_are : (core : Core) (line : ℕ) (c : Stamped) (ns waiting : List ℕ) → IsShaped (view_of core line) (home_at core line) c ns → AreWaiting core line waiting → waiting ≡ reverse (coming_in (view_of core line) ns)
+waiting_are : (core : Core) (line : ℕ) (c : Stamped) (ns waiting : List ℕ) → IsShaped (view_of core line) (home_at core line) c ns
+    → AreWaiting core line waiting → waiting ≡ reverse (coming_in (view_of core line) ns)
 waiting_are core line c ns waiting is (Nobody list none) =
     let empty = linked_once (link_in (view_of core line)) (head_of (home_at core line)) ns [] is.list.linked list.linked in
     none ∙ ap (λ (xs : List ℕ). reverse (coming_in (view_of core line) xs)) (sym empty)
@@ -119,14 +128,18 @@ waiting_are core line c ns waiting is (Before a after list authority) =
 
 filter_none : (p : ℕ → Bool) (from count : ℕ) → ((n : ℕ) → p n ≡ false) → filter p (range_with_len from count) ≡ []
 filter_none p from zero none = refl
-filter_none p from (suc count) none = ap (λ (b : Bool). if b then from ∷ filter p (range_with_len (from + 1) count) else filter p (range_with_len (from + 1) count)) (none from) ∙ filter_none p (from + 1) count none
+filter_none p from (suc count) none =
+    ap (λ (b : Bool). if b then from ∷ filter p (range_with_len (from + 1) count) else filter p (range_with_len (from + 1) count)) (none from)
+    ∙ filter_none p (from + 1) count none
 
 filter_past : (p : ℕ → Bool) (from count a : ℕ) → a < from → ((n : ℕ) → n ≢ a → p n ≡ false) → filter p (range_with_len from count) ≡ []
 filter_past p from zero a past others = refl
 filter_past p from (suc count) a past others =
-    ap (λ (b : Bool). if b then from ∷ filter p (range_with_len (from + 1) count) else filter p (range_with_len (from + 1) count)) (others from (λ e. absurd (omega arith))) ∙ filter_past p (from + 1) count a (omega arith) others
+    ap (λ (b : Bool). if b then from ∷ filter p (range_with_len (from + 1) count) else filter p (range_with_len (from + 1) count))
+    (others from (λ e. absurd (omega arith))) ∙ filter_past p (from + 1) count a (omega arith) others
 
-filter_only : (p : ℕ → Bool) (from count a : ℕ) → from ≤ a → a < from + count → p a ≡ true → ((n : ℕ) → n ≢ a → p n ≡ false) → filter p (range_with_len from count) ≡ a ∷ []
+filter_only : (p : ℕ → Bool) (from count a : ℕ) → from ≤ a → a < from + count → p a ≡ true → ((n : ℕ) → n ≢ a → p n ≡ false)
+    → filter p (range_with_len from count) ≡ a ∷ []
 filter_only p from zero a low below here others = absurd (omega arith)
 filter_only p from (suc count) a low below here others =
     let rest = filter p (range_with_len (from + 1) count) in
@@ -149,14 +162,17 @@ never : (b : Bool) → (b && false) ≡ false
 never true = refl
 never false = refl
 
-not_new : (core new : Core) (line n : ℕ) → (role_in (view_of new line) n ≡ Some Leading → role_in (view_of core line) n ≡ Some Leading) → (not (is_authority core line n) && is_authority new line n) ≡ false
+not_new : (core new : Core) (line n : ℕ) → (role_in (view_of new line) n ≡ Some Leading → role_in (view_of core line) n ≡ Some Leading)
+    → (not (is_authority core line n) && is_authority new line n) ≡ false
 not_new core new line n so =
     elim (cases_Bool (is_authority new line n)) [
-      | inl yes_ ↦ let was : is_authority core line n ≡ true = leads_authority core line n (so (authority_leads new line n yes_)) in ap (λ (b : Bool). not b && is_authority new line n) was
+      | inl yes_ ↦ let was : is_authority core line n ≡ true = leads_authority core line n (so (authority_leads new line n yes_)) in
+          ap (λ (b : Bool). not b && is_authority new line n) was
       | inr no_ ↦ ap (λ (b : Bool). not (is_authority core line n) && b) no_ ∙ never (not (is_authority core line n))
     ]
 
-successors_are : (core new : Core) (line : ℕ) (who : List ℕ) → IsWellFormed new → new.size ≡ core.size → Succeeds (view_of core line) (view_of new line) who → successors core new line ≡ who
+successors_are : (core new : Core) (line : ℕ) (who : List ℕ) → IsWellFormed new → new.size ≡ core.size → Succeeds (view_of core line) (view_of new line) who
+    → successors core new line ≡ who
 successors_are core new line who well same (Unsucceeded none so) =
     filter_none (λ n. not (is_authority core line n) && is_authority new line n) 0 core.size.nodes (λ n. not_new core new line n (so n)) ∙ sym none
 successors_are core new line who well same (One a one was now so) =
@@ -165,19 +181,23 @@ successors_are core new line who well same (One a one was now so) =
     let before : is_authority core line a ≡ false = test_of core line a was in
     let after : is_authority new line a ≡ true = leads_authority new line a now in
     let test : (not (is_authority core line a) && is_authority new line a) ≡ true = ap (λ (b : Bool). not b && is_authority new line a) before ∙ after in
-    filter_only (λ n. not (is_authority core line n) && is_authority new line n) 0 core.size.nodes a (omega arith) (omega arith) test (λ n other. not_new core new line n (so n other)) ∙ sym one
+    filter_only (λ n. not (is_authority core line n) && is_authority new line n) 0 core.size.nodes a (omega arith) (omega arith) test
+    (λ n other. not_new core new line n (so n other)) ∙ sym one
 
 -- ---- one event, of one line
 
 abbrev TurnedAt : Core → Core → ℕ → List ℕ → List ℕ → Type 0
 TurnedAt core new line ns arrival = Turned (view_of core line) (view_of new line) (head_of (home_at new line)) ns arrival
 
-stood_turned : (core new : Core) (line : ℕ) (c : Stamped) (ns : List ℕ) → SameLine core new line → IsShaped (view_of core line) (home_at core line) c ns → TurnedAt core new line ns []
+stood_turned : (core new : Core) (line : ℕ) (c : Stamped) (ns : List ℕ) → SameLine core new line → IsShaped (view_of core line) (home_at core line) c ns
+    → TurnedAt core new line ns []
 stood_turned core new line c ns same is =
-    subst (λ (h : HomeState). Turned (view_of core line) (view_of new line) (head_of h) ns []) (sym same.home) (turned_alike (view_of core line) (view_of new line) (head_of (home_at core line)) ns same.alike is.list)
+    subst (λ (h : HomeState). Turned (view_of core line) (view_of new line) (head_of h) ns []) (sym same.home)
+    (turned_alike (view_of core line) (view_of new line) (head_of (home_at core line)) ns same.alike is.list)
 
 -- an operation
-left_turned : (old new : View) (first : Option ℕ) (ns : List ℕ) (q : ℕ) (op : Op) (c : Stamped) (next : CacheState) → Moves old new q next → Leaves (old.state q) op c next → IsListOf (link_in old) first ns → Turned old new first ns []
+left_turned : (old new : View) (first : Option ℕ) (ns : List ℕ) (q : ℕ) (op : Op) (c : Stamped) (next : CacheState) → Moves old new q next
+    → Leaves (old.state q) op c next → IsListOf (link_in old) first ns → Turned old new first ns []
 left_turned old new first ns q op c next moves (Reads load same) list =
     turned_alike old new first ns (λ n. alike_same old new n (elim (cases_eq n q) [
       | inl here ↦ ap new.state here ∙ (moves.here ∙ (same ∙ ap old.state (sym here)))
@@ -190,7 +210,9 @@ left_turned old new first ns q op c next moves (Makes was is) list =
       | inr other ↦ let state = moves.others n other in let answer = moves.answers n in cc
     ]) list
 
-performed_turned : (core : Core) (n at : ℕ) (done : NodeOf × Entry) (does : PerformedAs (node_at core n) at done) → IsWellFormed core → IsTidy core → n < core.size.nodes → (line : ℕ) (c : Stamped) (ns : List ℕ) → IsShaped (view_of core line) (home_at core line) c ns → TurnedAt core (with_node core n done.0) line ns []
+performed_turned : (core : Core) (n at : ℕ) (done : NodeOf × Entry) (does : PerformedAs (node_at core n) at done) → IsWellFormed core → IsTidy core
+    → n < core.size.nodes → (line : ℕ) (c : Stamped) (ns : List ℕ) → IsShaped (view_of core line) (home_at core line) c ns
+    → TurnedAt core (with_node core n done.0) line ns []
 performed_turned core n at done does well tidy lt line c ns is =
     let new = with_node core n done.0 in
     let operates = operates_so core n at done does lt well in
@@ -201,14 +223,18 @@ performed_turned core n at done does well tidy lt line c ns is =
           let performs = of_some (Performs state op) (performing state op) does.did does.performs (performing_does state op) in
           let moves = performed_moves core n op.line op done.0 does.did operates performs lt (pending_known core n at done does lt well) tidy in
           let list = subst (λ (k : ℕ). IsListOf (link_in (view_of core k)) (head_of (home_at core k)) ns) here is.list in
-          let turned = left_turned (view_of core op.line) (view_of new op.line) (head_of (home_at core op.line)) ns n op performs.contents does.did.next moves performs.leaves list in
-          subst (λ (k : ℕ). TurnedAt core new k ns []) (sym here) (subst (λ (h : HomeState). Turned (view_of core op.line) (view_of new op.line) (head_of h) ns []) (sym (homes_same core n done.0 operates.homes op.line)) turned)
+          let turned = left_turned (view_of core op.line) (view_of new op.line) (head_of (home_at core op.line)) ns n op performs.contents does.did.next moves
+          performs.leaves list in
+          subst (λ (k : ℕ). TurnedAt core new k ns []) (sym here)
+          (subst (λ (h : HomeState). Turned (view_of core op.line) (view_of new op.line) (head_of h) ns [])
+          (sym (homes_same core n done.0 operates.homes op.line)) turned)
       | inr other ↦ stood_turned core new line c ns (performed_same core n op.line done.0 does.did operates line other) is
     ]
 
 -- a request about another line lets nobody in
 other_entrant : (line : ℕ) (request : Letter) → line ≢ request.line → entrant_by line (Some request) ≡ []
-other_entrant line request other = ap (λ (b : Bool). if b && enters request.body then request.source ∷ [] else []) (ne_eqb request.line line (λ e. other (sym e)))
+other_entrant line request other =
+    ap (λ (b : Bool). if b && enters request.body then request.source ∷ [] else []) (ne_eqb request.line line (λ e. other (sym e)))
 
 -- and so does one that a cache serves
 cache_entrant : (state : CacheState) (n : ℕ) (request : Body) (served : CacheState × Body) → serving state n request ≡ Some served → enters request ≡ false
@@ -217,14 +243,17 @@ cache_entrant state n body.Fread served e = cc
 cache_entrant state n _ served e = refl
 
 no_entrant : (line : ℕ) (request : Letter) → enters request.body ≡ false → entrant_by line (Some request) ≡ []
-no_entrant line request not = ap (λ (b : Bool). if (request.line == line) && b then request.source ∷ [] else []) not ∙ ap (λ (b : Bool). if b then request.source ∷ [] else []) (never (request.line == line))
+no_entrant line request not = ap (λ (b : Bool). if (request.line == line) && b then request.source ∷ [] else []) not
+    ∙ ap (λ (b : Bool). if b then request.source ∷ [] else []) (never (request.line == line))
 
 this_entrant : (line : ℕ) (request : Letter) → line ≡ request.line → entrant_by line (Some request) ≡ arrival_by request.source request.body
 this_entrant line request here = ap (λ (b : Bool). if b && enters request.body then request.source ∷ [] else []) (eq-eqb request.line line (sym here))
 
 -- a home serves
-home_turned_at : (core : Core) (n place : ℕ) (request : Letter) (rest : List Letter) (served : HomeState × Body) → IsPart core.size n (node_at core n) → request.line % core.size.nodes ≡ n → Answered core n place (with_home (node_at core n) request served.0 served.1) request rest served.1
-    → at_home (home_of (node_at core n) request.line) request.source request.body ≡ Some served → IsTidy core → (line : ℕ) (c : Stamped) (ns : List ℕ) → IsShaped (view_of core line) (home_at core line) c ns
+home_turned_at : (core : Core) (n place : ℕ) (request : Letter) (rest : List Letter) (served : HomeState × Body) → IsPart core.size n (node_at core n)
+    → request.line % core.size.nodes ≡ n → Answered core n place (with_home (node_at core n) request served.0 served.1) request rest served.1
+    → at_home (home_of (node_at core n) request.line) request.source request.body ≡ Some served → IsTidy core → (line : ℕ) (c : Stamped) (ns : List ℕ)
+    → IsShaped (view_of core line) (home_at core line) c ns
     → TurnedAt core (with_lane (with_node core n (with_home (node_at core n) request served.0 served.1)) place rest) line ns (entrant_by line (Some request))
 home_turned_at core n place request rest served part at is serves tidy line c ns shaped =
     let new = with_lane (with_node core n (with_home (node_at core n) request served.0 served.1)) place rest in
@@ -236,20 +265,31 @@ home_turned_at core n place request rest served part at is serves tidy line c ns
           let home = home_of (node_at core n) on in
           let asker = (view_of core on).state a in
           let row = home_turned (on % core.size.nodes) a home (view_of core on) (view_of new on) asker request turn.sent in
-          let turns = subst (λ (o : Option (HomeState × Body)). IfSome o (HomeTurns (view_of core on) (view_of new on) a asker home (arrival_by a request.body))) serves row in
-          let list : IsListOf (link_in (view_of core on)) (head_of home) ns = subst (λ (h : HomeState). IsListOf (link_in (view_of core on)) (head_of h) ns) turn.was (subst (λ (k : ℕ). IsListOf (link_in (view_of core k)) (head_of (home_at core k)) ns) here shaped.list) in
+          let turns = subst (λ (o : Option (HomeState × Body)).
+          IfSome o (HomeTurns (view_of core on) (view_of new on) a asker home (arrival_by a request.body))) serves row in
+          let list : IsListOf (link_in (view_of core on)) (head_of home) ns =
+          subst (λ (h : HomeState). IsListOf (link_in (view_of core on)) (head_of h) ns) turn.was
+          (subst (λ (k : ℕ). IsListOf (link_in (view_of core k)) (head_of (home_at core k)) ns) here shaped.list) in
           let then_ = turns turn.asks ns list in
-          let moved : TurnedAt core new on ns (arrival_by a request.body) = subst (λ (h : HomeState). Turned (view_of core on) (view_of new on) (head_of h) ns (arrival_by a request.body)) (sym turn.now) then_ in
-          subst (λ (xs : List ℕ). TurnedAt core new line ns xs) (sym (this_entrant line request here)) (subst (λ (k : ℕ). TurnedAt core new k ns (arrival_by a request.body)) (sym here) moved)
-      | inr other ↦ subst (λ (xs : List ℕ). TurnedAt core new line ns xs) (sym (other_entrant line request other)) (stood_turned core new line c ns (turn.others line other) shaped)
+          let moved : TurnedAt core new on ns (arrival_by a request.body) =
+          subst (λ (h : HomeState). Turned (view_of core on) (view_of new on) (head_of h) ns (arrival_by a request.body)) (sym turn.now) then_ in
+          subst (λ (xs : List ℕ). TurnedAt core new line ns xs) (sym (this_entrant line request here))
+          (subst (λ (k : ℕ). TurnedAt core new k ns (arrival_by a request.body)) (sym here) moved)
+      | inr other ↦ subst (λ (xs : List ℕ). TurnedAt core new line ns xs) (sym (other_entrant line request other))
+          (stood_turned core new line c ns (turn.others line other) shaped)
     ]
 
 -- a cache serves
-served_apart : (core : Core) (n : ℕ) (request : Letter) (served : CacheState × Body) (j : ℕ) → j ≢ request.line → (line_of (with_served (node_at core n) request served.0 served.1).cache j).state ≡ (line_of (node_at core n).cache j).state
-served_apart core n request served j apart = ap (λ (l : LineState). l.state) (get_or-set_other (node_at core n).cache.lines request.line j (line_in (line_of (node_at core n).cache request.line) served.0) untouched apart)
+served_apart : (core : Core) (n : ℕ) (request : Letter) (served : CacheState × Body) (j : ℕ) → j ≢ request.line
+    → (line_of (with_served (node_at core n) request served.0 served.1).cache j).state ≡ (line_of (node_at core n).cache j).state
+served_apart core n request served j apart =
+    ap (λ (l : LineState). l.state)
+    (get_or-set_other (node_at core n).cache.lines request.line j (line_in (line_of (node_at core n).cache request.line) served.0) untouched apart)
 
-cache_turned_at : (core : Core) (n place : ℕ) (request : Letter) (rest : List Letter) (served : CacheState × Body) → IsPart core.size n (node_at core n) → Answered core n place (with_served (node_at core n) request served.0 served.1) request rest served.1
-    → serving (line_of (node_at core n).cache request.line).state request.source request.body ≡ Some served → IsTidy core → (line : ℕ) (c : Stamped) (ns : List ℕ) → IsShaped (view_of core line) (home_at core line) c ns
+cache_turned_at : (core : Core) (n place : ℕ) (request : Letter) (rest : List Letter) (served : CacheState × Body) → IsPart core.size n (node_at core n)
+    → Answered core n place (with_served (node_at core n) request served.0 served.1) request rest served.1
+    → serving (line_of (node_at core n).cache request.line).state request.source request.body ≡ Some served → IsTidy core
+    → (line : ℕ) (c : Stamped) (ns : List ℕ) → IsShaped (view_of core line) (home_at core line) c ns
     → TurnedAt core (with_lane (with_node core n (with_served (node_at core n) request served.0 served.1)) place rest) line ns []
 cache_turned_at core n place request rest served part is serves tidy line c ns shaped =
     let old = node_at core n in
@@ -266,11 +306,14 @@ cache_turned_at core n place request rest served part is serves tidy line c ns s
           let shift = served_shift core n place request rest served part is tidy in
           let shaped_on = subst (λ (k : ℕ). IsShaped (view_of core k) (home_at core k) c ns) here shaped in
           let then_ = cache_turned (view_of core on) (view_of new on) request.source n served (home_at core on) c ns shift serves_as shaped_on in
-          subst (λ (k : ℕ). TurnedAt core new k ns []) (sym here) (subst (λ (h : HomeState). Turned (view_of core on) (view_of new on) (head_of h) ns []) (sym (homes on)) then_)
-      | inr other ↦ stood_turned core new line c ns (other_line core n place next request rest served.1 is (served_apart core n request served) (λ j apart. homes j) line other) shaped
+          subst (λ (k : ℕ). TurnedAt core new k ns []) (sym here)
+          (subst (λ (h : HomeState). Turned (view_of core on) (view_of new on) (head_of h) ns []) (sym (homes on)) then_)
+      | inr other ↦ stood_turned core new line c ns
+          (other_line core n place next request rest served.1 is (served_apart core n request served) (λ j apart. homes j) line other) shaped
     ]
 
-served_turned : (core new : Core) (t : Taken core new Requests node_serving) → IsWellFormed core → IsTidy core → IsPart core.size t.node t.next → ServedAs (node_at core t.node) t.letter t.next → (line : ℕ) (c : Stamped) (ns : List ℕ) → IsShaped (view_of core line) (home_at core line) c ns
+served_turned : (core new : Core) (t : Taken core new Requests node_serving) → IsWellFormed core → IsTidy core → IsPart core.size t.node t.next
+    → ServedAs (node_at core t.node) t.letter t.next → (line : ℕ) (c : Stamped) (ns : List ℕ) → IsShaped (view_of core line) (home_at core line) c ns
     → TurnedAt core (with_lane (with_node core t.node t.next) t.place t.rest) line ns (entrant_by line (Some t.letter))
 served_turned core new t well tidy is (At_home served asks serves e) line c ns shaped =
     let part = node_at core t.node in
@@ -278,19 +321,23 @@ served_turned core new t well tidy is (At_home served asks serves e) line c ns s
     let next = subst (IsPart core.size t.node) (sym e) is in
     let home = t.comes.0.home asks ∙ t.comes.1 in
     subst (λ (x : NodeOf). TurnedAt core (with_lane (with_node core t.node x) t.place t.rest) line ns (entrant_by line (Some t.letter))) e
-    (home_turned_at core t.node t.place t.letter t.rest served (well.each_part t.node t.some) home (answered core new node_serving t _ served.1 well answers.free refl next) serves tidy line c ns shaped)
+    (home_turned_at core t.node t.place t.letter t.rest served (well.each_part t.node t.some) home
+    (answered core new node_serving t _ served.1 well answers.free refl next) serves tidy line c ns shaped)
 served_turned core new t well tidy is (In_cache served serves e) line c ns shaped =
     let part = node_at core t.node in
     let answers = of_some (AnswersTo core.size.nodes t.letter part) (node_serving part t.letter) t.next t.takes (serve_answers core.size.nodes part t.letter) in
     let next = subst (IsPart core.size t.node) (sym e) is in
     let none = no_entrant line t.letter (cache_entrant (line_of part.cache t.letter.line).state t.letter.source t.letter.body served serves) in
     subst (λ (x : NodeOf). TurnedAt core (with_lane (with_node core t.node x) t.place t.rest) line ns (entrant_by line (Some t.letter))) e
-    (subst (λ (xs : List ℕ). TurnedAt core (with_lane (with_node core t.node (with_served part t.letter served.0 served.1)) t.place t.rest) line ns xs) (sym none)
-    (cache_turned_at core t.node t.place t.letter t.rest served (well.each_part t.node t.some) (answered core new node_serving t _ served.1 well answers.free refl next) serves tidy line c ns shaped))
+    (subst (λ (xs : List ℕ). TurnedAt core (with_lane (with_node core t.node (with_served part t.letter served.0 served.1)) t.place t.rest) line ns xs)
+    (sym none)
+    (cache_turned_at core t.node t.place t.letter t.rest served (well.each_part t.node t.some)
+    (answered core new node_serving t _ served.1 well answers.free refl next) serves tidy line c ns shaped))
 
 -- ---- every event
 
-abbrev taken_of : (core new : Core) (kind : LaneKind) (n from : ℕ) (taking : NodeOf → Letter → Option NodeOf) → IsWellFormed core → n < core.size.nodes → from < core.size.nodes → Took core new kind n from taking → Taken core new kind taking
+abbrev taken_of : (core new : Core) (kind : LaneKind) (n from : ℕ) (taking : NodeOf → Letter → Option NodeOf) → IsWellFormed core → n < core.size.nodes
+    → from < core.size.nodes → Took core new kind n from taking → Taken core new kind taking
 taken_of core new kind n from taking well lt f took = record {
   node = n;
   place = lane_place core.size.nodes kind from n;
@@ -305,47 +352,61 @@ taken_of core new kind n from taking well lt f took = record {
   then_ = sym took.then_;
 }
 
-turned : (core new : Core) (e : Event) → IsWellFormed core → IsTidy core → stepping core e ≡ Some new → (line : ℕ) → line < core.size.lines → (c : Stamped) (ns : List ℕ) → IsShaped (view_of core line) (home_at core line) c ns → TurnedAt core new line ns (entrants core e line)
+turned : (core new : Core) (e : Event) → IsWellFormed core → IsTidy core → stepping core e ≡ Some new → (line : ℕ) → line < core.size.lines
+    → (c : Stamped) (ns : List ℕ) → IsShaped (view_of core line) (home_at core line) c ns → TurnedAt core new line ns (entrants core e line)
 turned core new (event.Issue n op) well tidy steps line inside c ns is =
     let lt = some_node core new (event.Issue n op) steps in
     let made = made_by (with_node core n) (node_issuing (node_at core n) op) new (sym ((steps_by_sides core n lt).issue op) ∙ steps) in
     stood_turned core new line c ns (subst (λ (x : Core). SameLine core x line) (sym made.2) (issue_stands core n op made.0 well lt made.1 line)) is
 turned core new (event.Perform n at) well tidy steps line inside c ns is =
     let lt = some_node core new (event.Perform n at) steps in
-    let made = made_by (λ (done : NodeOf × Entry). with_node core n done.0) (node_performing (node_at core n) at) new (sym ((steps_by_sides core n lt).perform at) ∙ steps) in
+    let made = made_by (λ (done : NodeOf × Entry). with_node core n done.0) (node_performing (node_at core n) at) new
+    (sym ((steps_by_sides core n lt).perform at) ∙ steps) in
     let does = of_some (PerformedAs (node_at core n) at) (node_performing (node_at core n) at) made.0 made.1 (perform_as (node_at core n) at) in
     subst (λ (x : Core). TurnedAt core x line ns []) (sym made.2) (performed_turned core n at made.0 does well tidy lt line c ns is)
 turned core new (event.Ask n at kind) well tidy steps line inside c ns is =
     let lt = some_node core new (event.Ask n at kind) steps in
-    let made = made_by (λ (s : NodeOf × Letter). sent_by core n Requests s.0 s.1) (node_asking (node_at core n) at kind) new (sym ((steps_by_sides core n lt).ask at kind) ∙ steps) in
-    let sends_well = of_some (SendsWell core.size n) (node_asking (node_at core n) at kind) made.0 made.1 (part_asking core.size n (node_at core n) at kind well.sizes.some_node lt (well.each_part n lt)) in
-    let sent : Sent core new Requests n made.0 = record { some = lt; within = lane_below core Requests n made.0.1.target well lt sends_well.request.letter_ok.target; then_ = sym made.2 } in
+    let made = made_by (λ (s : NodeOf × Letter). sent_by core n Requests s.0 s.1) (node_asking (node_at core n) at kind) new
+    (sym ((steps_by_sides core n lt).ask at kind) ∙ steps) in
+    let sends_well = of_some (SendsWell core.size n) (node_asking (node_at core n) at kind) made.0 made.1
+    (part_asking core.size n (node_at core n) at kind well.sizes.some_node lt (well.each_part n lt)) in
+    let sent : Sent core new Requests n made.0 =
+    record { some = lt; within = lane_below core Requests n made.0.1.target well lt sends_well.request.letter_ok.target; then_ = sym made.2 } in
     stood_turned core new line c ns (ask_stands core new n at kind made.0 well tidy made.1 sends_well sent line) is
 turned core new (event.Serve from n) well tidy steps line inside c ns is =
     let lt = some_node core new (event.Serve from n) steps in
     let f = some_sender core new (event.Serve from n) Requests from (node_serving (node_at core n)) lt refl steps in
-    let took = took_along core new Requests n from node_serving (event.Serve from n) (lane_of core Requests from n) ((steps_by_sides core n lt).serve from f) refl steps in
+    let took = took_along core new Requests n from node_serving (event.Serve from n) (lane_of core Requests from n) ((steps_by_sides core n lt).serve from f)
+    refl steps in
     let t = taken_of core new Requests n from node_serving well lt f took in
     let does = serve_does core new t well in
     let then_ = served_turned core new t well tidy does.0 does.1 line c ns is in
-    let enabled : entrants core (event.Serve from n) line ≡ entrant_by line (slice_get (lane_of core Requests from n) 0) = ap (λ (o : Option Core). elim o as (λ _. List ℕ) [ None ↦ [] | Some x ↦ entrant_by line (slice_get (lane_of core Requests from n) 0) ]) steps in
-    let who : entrants core (event.Serve from n) line ≡ entrant_by line (Some took.letter) = enabled ∙ ap (λ (lane : List Letter). entrant_by line (slice_get lane 0)) took.front in
-    subst (λ (xs : List ℕ). TurnedAt core new line ns xs) (sym who) (subst (λ (x : Core). TurnedAt core x line ns (entrant_by line (Some took.letter))) (sym took.then_) then_)
+    let enabled : entrants core (event.Serve from n) line ≡ entrant_by line (slice_get (lane_of core Requests from n) 0) =
+    ap (λ (o : Option Core). elim o as (λ _. List ℕ) [ None ↦ [] | Some x ↦ entrant_by line (slice_get (lane_of core Requests from n) 0) ]) steps in
+    let who : entrants core (event.Serve from n) line ≡ entrant_by line (Some took.letter) =
+    enabled ∙ ap (λ (lane : List Letter). entrant_by line (slice_get lane 0)) took.front in
+    subst (λ (xs : List ℕ). TurnedAt core new line ns xs) (sym who)
+    (subst (λ (x : Core). TurnedAt core x line ns (entrant_by line (Some took.letter))) (sym took.then_) then_)
 turned core new (event.Refuse from n) well tidy steps line inside c ns is =
     let lt = some_node core new (event.Refuse from n) steps in
     let f = some_sender core new (event.Refuse from n) Requests from (node_refusing (node_at core n)) lt refl steps in
-    let took = took_along core new Requests n from node_refusing (event.Refuse from n) (lane_of core Requests from n) ((steps_by_sides core n lt).refuse from f) refl steps in
+    let took = took_along core new Requests n from node_refusing (event.Refuse from n) (lane_of core Requests from n) ((steps_by_sides core n lt).refuse from f)
+    refl steps in
     stood_turned core new line c ns (refuse_stands core new (taken_of core new Requests n from node_refusing well lt f took) well tidy line) is
 turned core new (event.Reply n) well tidy steps line inside c ns is =
     let lt = some_node core new (event.Reply n) steps in
-    let made = made_by (λ (s : NodeOf × Letter). sent_by core n Answers s.0 s.1) (node_replying (node_at core n)) new (sym (steps_by_sides core n lt).reply ∙ steps) in
-    let sends_well = of_some (RepliesWell core.size n) (node_replying (node_at core n)) made.0 made.1 (part_replying core.size n (node_at core n) (well.each_part n lt)) in
-    let sent : Sent core new Answers n made.0 = record { some = lt; within = lane_below core Answers n made.0.1.target well lt sends_well.answer.letter_ok.target; then_ = sym made.2 } in
+    let made = made_by (λ (s : NodeOf × Letter). sent_by core n Answers s.0 s.1) (node_replying (node_at core n)) new
+    (sym (steps_by_sides core n lt).reply ∙ steps) in
+    let sends_well = of_some (RepliesWell core.size n) (node_replying (node_at core n)) made.0 made.1
+    (part_replying core.size n (node_at core n) (well.each_part n lt)) in
+    let sent : Sent core new Answers n made.0 =
+    record { some = lt; within = lane_below core Answers n made.0.1.target well lt sends_well.answer.letter_ok.target; then_ = sym made.2 } in
     stood_turned core new line c ns (reply_stands core new n made.0 well tidy made.1 sends_well sent line inside) is
 turned core new (event.Accept from n) well tidy steps line inside c ns is =
     let lt = some_node core new (event.Accept from n) steps in
     let f = some_sender core new (event.Accept from n) Answers from (node_accepting (node_at core n)) lt refl steps in
-    let took = took_along core new Answers n from node_accepting (event.Accept from n) (lane_of core Answers from n) ((steps_by_sides core n lt).accept from f) refl steps in
+    let took = took_along core new Answers n from node_accepting (event.Accept from n) (lane_of core Answers from n) ((steps_by_sides core n lt).accept from f)
+    refl steps in
     stood_turned core new line c ns (accept_stands core new (taken_of core new Answers n from node_accepting well lt f took) well tidy line) is
 
 -- ---- steps
@@ -358,7 +419,9 @@ reverse_arrival : (line : ℕ) (letter : Option Letter) → reverse (entrant_by 
 reverse_arrival line None = refl
 reverse_arrival line (Some request) = either ((request.line == line) && enters request.body) request.source
 
-reverse_served : (next : Option Core) (line : ℕ) (letter : Option Letter) → reverse (elim next as (λ _. List ℕ) [ None ↦ [] | Some new ↦ entrant_by line letter ]) ≡ (elim next as (λ _. List ℕ) [ None ↦ [] | Some new ↦ entrant_by line letter ])
+reverse_served : (next : Option Core) (line : ℕ) (letter : Option Letter)
+    → reverse (elim next as (λ _. List ℕ) [ None ↦ [] | Some new ↦ entrant_by line letter ])
+    ≡ (elim next as (λ _. List ℕ) [ None ↦ [] | Some new ↦ entrant_by line letter ])
 reverse_served None line letter = refl
 reverse_served (Some new) line letter = reverse_arrival line letter
 
@@ -376,32 +439,39 @@ reverse_successor old new who (Unsucceeded none so) = ap (λ (xs : List ℕ). re
 reverse_successor old new who (One a one was now so) = ap (λ (xs : List ℕ). reverse xs) one ∙ sym one
 
 -- the queue, its first first
-turned_round : (old new : View) (first : Option ℕ) (ns arrival : List ℕ) (t : Turned old new first ns arrival) → reverse arrival ≡ arrival → reverse (coming_in old ns) ++ arrival ≡ t.successor ++ reverse (coming_in new t.nodes)
+turned_round : (old new : View) (first : Option ℕ) (ns arrival : List ℕ) (t : Turned old new first ns arrival) → reverse arrival ≡ arrival
+    → reverse (coming_in old ns) ++ arrival ≡ t.successor ++ reverse (coming_in new t.nodes)
 turned_round old new first ns arrival t single =
     let round = ap (λ (xs : List ℕ). reverse xs) t.turn in
     let left = reverse-append arrival (coming_in old ns) in
     let right = reverse-append (coming_in new t.nodes) t.successor in
     let who = reverse_successor old new t.successor t.succeeds in
-    ap (λ (xs : List ℕ). reverse (coming_in old ns) ++ xs) (sym single) ∙ (sym left ∙ (round ∙ (right ∙ ap (λ (xs : List ℕ). xs ++ reverse (coming_in new t.nodes)) who)))
+    ap (λ (xs : List ℕ). reverse (coming_in old ns) ++ xs) (sym single)
+    ∙ (sym left ∙ (round ∙ (right ∙ ap (λ (xs : List ℕ). xs ++ reverse (coming_in new t.nodes)) who)))
 
-stepped_turn : (core new : Core) (e : Event) (line : ℕ) (waiting then_ : List ℕ) → IsReachable core → stepping core e ≡ Some new → IsReachable new → line < core.size.lines → new.size ≡ core.size → AreWaiting core line waiting → AreWaiting new line then_
+stepped_turn : (core new : Core) (e : Event) (line : ℕ) (waiting then_ : List ℕ) → IsReachable core → stepping core e ≡ Some new → IsReachable new
+    → line < core.size.lines → new.size ≡ core.size → AreWaiting core line waiting → AreWaiting new line then_
     → waiting ++ entrants core e line ≡ successors core new line ++ then_
 stepped_turn core new e line waiting then_ reached steps next inside same are now =
     let well = any_well core reached in
     let was = any_shaped core reached line inside in
     let is = any_shaped new next line (subst (λ (size : Size). line < size.lines) (sym same) inside) in
     let t = turned core new e well (any_tidy core reached) steps line inside was.0 was.1.0 was.1.1 in
-    let round = turned_round (view_of core line) (view_of new line) (head_of (home_at new line)) was.1.0 (entrants core e line) t (reverse_entrants core e line) in
+    let round = turned_round (view_of core line) (view_of new line) (head_of (home_at new line)) was.1.0 (entrants core e line) t
+    (reverse_entrants core e line) in
     let one = linked_once (link_in (view_of new line)) (head_of (home_at new line)) is.1.0 t.nodes is.1.1.list.linked t.list.linked in
     let before = waiting_are core line was.0 was.1.0 waiting was.1.1 are in
     let after = waiting_are new line is.0 is.1.0 then_ is.1.1 now in
     let who = successors_are core new line t.successor (any_well new next) same t.succeeds in
     let there : then_ ≡ reverse (coming_in (view_of new line) t.nodes) = after ∙ ap (λ (xs : List ℕ). reverse (coming_in (view_of new line) xs)) one in
-    ap (λ (xs : List ℕ). xs ++ entrants core e line) before ∙ (round ∙ (ap (λ (xs : List ℕ). xs ++ reverse (coming_in (view_of new line) t.nodes)) (sym who) ∙ ap (λ (xs : List ℕ). successors core new line ++ xs) (sym there)))
+    ap (λ (xs : List ℕ). xs ++ entrants core e line) before
+    ∙ (round ∙ (ap (λ (xs : List ℕ). xs ++ reverse (coming_in (view_of new line) t.nodes)) (sym who)
+    ∙ ap (λ (xs : List ℕ). successors core new line ++ xs) (sym there)))
 
 -- an event that isn't enabled lets nobody in
 unmoved_entrants : (core : Core) (e : Event) (line : ℕ) → stepping core e ≡ None → entrants core e line ≡ []
-unmoved_entrants core (event.Serve from n) line none = ap (λ (o : Option Core). elim o as (λ _. List ℕ) [ None ↦ [] | Some x ↦ entrant_by line (slice_get (lane_of core Requests from n) 0) ]) none
+unmoved_entrants core (event.Serve from n) line none =
+    ap (λ (o : Option Core). elim o as (λ _. List ℕ) [ None ↦ [] | Some x ↦ entrant_by line (slice_get (lane_of core Requests from n) 0) ]) none
 unmoved_entrants core (event.Issue n op) line none = refl
 unmoved_entrants core (event.Perform n at) line none = refl
 unmoved_entrants core (event.Ask n at kind) line none = refl
@@ -409,15 +479,18 @@ unmoved_entrants core (event.Refuse from n) line none = refl
 unmoved_entrants core (event.Reply n) line none = refl
 unmoved_entrants core (event.Accept from n) line none = refl
 
-unmoved_turn : (core : Core) (e : Event) (line : ℕ) (waiting then_ : List ℕ) → IsReachable core → stepping core e ≡ None → line < core.size.lines → AreWaiting core line waiting → AreWaiting core line then_ → waiting ++ entrants core e line ≡ successors core core line ++ then_
+unmoved_turn : (core : Core) (e : Event) (line : ℕ) (waiting then_ : List ℕ) → IsReachable core → stepping core e ≡ None → line < core.size.lines
+    → AreWaiting core line waiting → AreWaiting core line then_ → waiting ++ entrants core e line ≡ successors core core line ++ then_
 unmoved_turn core e line waiting then_ reached none inside are now =
     let shaped = any_shaped core reached line inside in
     let before = waiting_are core line shaped.0 shaped.1.0 waiting shaped.1.1 are in
     let after = waiting_are core line shaped.0 shaped.1.0 then_ shaped.1.1 now in
     let who = successors_are core core line [] (any_well core reached) refl (Unsucceeded refl (λ n leads. leads)) in
-    ap (λ (xs : List ℕ). waiting ++ xs) (unmoved_entrants core e line none) ∙ (append-nil waiting ∙ (before ∙ (sym after ∙ ap (λ (xs : List ℕ). xs ++ then_) (sym who))))
+    ap (λ (xs : List ℕ). waiting ++ xs) (unmoved_entrants core e line none)
+    ∙ (append-nil waiting ∙ (before ∙ (sym after ∙ ap (λ (xs : List ℕ). xs ++ then_) (sym who))))
 
-any_turn : (core : Core) (e : Event) (line : ℕ) (waiting then_ : List ℕ) (next : Option Core) → IsReachable core → stepping core e ≡ next → line < core.size.lines → AreWaiting core line waiting → AreWaiting (unwrap_or next core) line then_
+any_turn : (core : Core) (e : Event) (line : ℕ) (waiting then_ : List ℕ) (next : Option Core) → IsReachable core → stepping core e ≡ next
+    → line < core.size.lines → AreWaiting core line waiting → AreWaiting (unwrap_or next core) line then_
     → waiting ++ entrants core e line ≡ successors core (unwrap_or next core) line ++ then_
 any_turn core e line waiting then_ None reached is inside are now = unmoved_turn core e line waiting then_ reached is inside are now
 any_turn core e line waiting then_ (Some new) reached is inside are now =
@@ -425,7 +498,8 @@ any_turn core e line waiting then_ (Some new) reached is inside are now =
     let same : new.size ≡ core.size = ap (λ (o : Option Core). (unwrap_or o core).size) (sym is) ∙ kept.same in
     stepped_turn core new e line waiting then_ reached is (reachable_stepping core new e reached is) inside same are now
 
-pub step_turns : (core : Core) (e : Event) (line : ℕ) (waiting then_ : List ℕ) → IsReachable core → line < core.size.lines → AreWaiting core line waiting → AreWaiting (step core e) line then_ → IsInTurn core e line waiting then_
+pub step_turns : (core : Core) (e : Event) (line : ℕ) (waiting then_ : List ℕ) → IsReachable core → line < core.size.lines → AreWaiting core line waiting
+    → AreWaiting (step core e) line then_ → IsInTurn core e line waiting then_
 step_turns core e line waiting then_ reached inside are now = any_turn core e line waiting then_ (stepping core e) reached refl inside are now
 
 -- ---- schedules
@@ -441,10 +515,12 @@ reachable_next core e None reached is = reached
 reachable_next core e (Some new) reached is = reachable_stepping core new e reached is
 
 -- from any state on
-run_turns : (core : Core) (events : List Event) (line : ℕ) (waiting then_ : List ℕ) → IsReachable core → line < core.size.lines → AreWaiting core line waiting → AreWaiting (run_from core events) line then_ → waiting ++ entered core events line ≡ succeeded core events line ++ then_
+run_turns : (core : Core) (events : List Event) (line : ℕ) (waiting then_ : List ℕ) → IsReachable core → line < core.size.lines → AreWaiting core line waiting
+    → AreWaiting (run_from core events) line then_ → waiting ++ entered core events line ≡ succeeded core events line ++ then_
 run_turns core [] line waiting then_ reached inside are now =
     let shaped = any_shaped core reached line inside in
-    append-nil waiting ∙ (waiting_are core line shaped.0 shaped.1.0 waiting shaped.1.1 are ∙ sym (waiting_are core line shaped.0 shaped.1.0 then_ shaped.1.1 now))
+    append-nil waiting ∙ (waiting_are core line shaped.0 shaped.1.0 waiting shaped.1.1 are
+    ∙ sym (waiting_are core line shaped.0 shaped.1.0 then_ shaped.1.1 now))
 run_turns core (e ∷ events) line waiting then_ reached inside are now =
     let next = reachable_next core e (stepping core e) reached refl in
     let kept = step_well core e (any_well core reached) in
@@ -453,11 +529,15 @@ run_turns core (e ∷ events) line waiting then_ reached inside are now =
     let first = step_turns core e line waiting mid.0 reached inside are mid.1 in
     let rest = run_turns (step core e) events line mid.0 then_ next below mid.1 now in
     let who = successors core (step core e) line in
-    sym (append_assoc waiting (entrants core e line) (entered (step core e) events line)) ∙ (ap (λ (xs : List ℕ). xs ++ entered (step core e) events line) first ∙ (append_assoc who mid.0 (entered (step core e) events line)
+    sym (append_assoc waiting (entrants core e line) (entered (step core e) events line))
+    ∙ (ap (λ (xs : List ℕ). xs ++ entered (step core e) events line) first ∙ (append_assoc who mid.0 (entered (step core e) events line)
     ∙ (ap (λ (xs : List ℕ). who ++ xs) rest ∙ sym (append_assoc who (succeeded (step core e) events line) then_))))
 
-pub all_turns : (size : Size) (schedule : List Event) (line : ℕ) (waiting : List ℕ) → IsSize size → line < size.lines → AreWaiting (run size schedule) line waiting → AreInTurn size schedule line waiting
+pub all_turns : (size : Size) (schedule : List Event) (line : ℕ) (waiting : List ℕ) → IsSize size → line < size.lines
+    → AreWaiting (run size schedule) line waiting → AreInTurn size schedule line waiting
 all_turns size schedule line waiting sizes inside now =
     let shaped = opening_shaped size line in
-    let empty = none_empty (link_in (view_of (opening size) line)) (head_of (home_at (opening size) line)) shaped.0 (ap head_of (opening_at_home size (line % size.nodes) line)) shaped.1.list in
-    run_turns (opening size) schedule line [] waiting (run_reachable size [] sizes) inside (Nobody (subst (IsSharingList (opening size) line) empty shaped.1.list) refl) now
+    let empty = none_empty (link_in (view_of (opening size) line)) (head_of (home_at (opening size) line)) shaped.0
+    (ap head_of (opening_at_home size (line % size.nodes) line)) shaped.1.list in
+    run_turns (opening size) schedule line [] waiting (run_reachable size [] sizes) inside
+    (Nobody (subst (IsSharingList (opening size) line) empty shaped.1.list) refl) now

@@ -14,7 +14,8 @@ use Rattle.sci_history.specs.History.{IsHistory}
 use Rattle.sci_history.specs.Placed.{is_of_node, is_on_line}
 use Rattle.sci_history.proofs.Order.{filter_yes, filter_no}
 use Rattle.sci_cache.specs.Cache.{Letter}
-use Rattle.sci_core.specs.Node.{NodeOf, node_issuing, node_performing, node_asking, node_serving, node_refusing, node_replying, node_accepting, pending_on, IsPendingOn, no_node}
+use Rattle.sci_core.specs.Node.{NodeOf, node_issuing, node_performing, node_asking, node_serving, node_refusing, node_replying, node_accepting, pending_on}
+use Rattle.sci_core.specs.Node.{IsPendingOn, no_node}
 use Rattle.sci_core.specs.Core.{Core, node_at, with_node, stepping, step, run_from}
 use Rattle.sci_core.specs.Done.{performed, ChangesBy, made_by, done_from}
 use Rattle.sci_core.specs.Tidy.{IsTidy}
@@ -25,7 +26,8 @@ use Rattle.sci_core.proofs.WellFormed.WellFormedSteps.{step_well}
 use Rattle.sci_core.proofs.Tidy.TidyRuns.{node_below, step_tidy}
 use Rattle.sci_core.proofs.Step.Steps.{Stepped, By_issue, By_perform, By_ask, By_serve, By_refuse, By_reply, By_accept, stepping_stepped}
 use Rattle.sci_core.proofs.Step.NodeSides.{PerformedAs, ServedAs, RefusedAs, perform_as, serve_as, refuse_as, reply_as}
-use Rattle.sci_core.proofs.History.Works.{SameWork, HasSerials, same_serials, issue_serials, issue_log, perform_serials, perform_logs, perform_owns, ask_work, serve_work, accept_work}
+use Rattle.sci_core.proofs.History.Works.{SameWork, HasSerials, same_serials, issue_serials, issue_log, perform_serials, perform_logs, perform_owns, ask_work}
+use Rattle.sci_core.proofs.History.Works.{serve_work, accept_work}
 use Rattle.sci_core.proofs.Shape.ShapeSteps.{ShapedAt}
 use Rattle.sci_core.proofs.Shape.ShapeRuns.{step_follows, pending_known}
 use Rattle.sci_core.specs.Size.{Size}
@@ -34,17 +36,20 @@ use Rattle.sci_words.specs.Operation.{has_words}
 -- ---- a line's history
 
 -- an entry on the line comes first in its history, and any other isn't in it
-history_made : (made : Option Entry) (line : ℕ) (c d e : Stamped) (rest : List Entry) → ChangesBy made line c d → IsHistory (filter (is_on_line line) rest) d e → IsHistory (filter (is_on_line line) (option_to_list made ++ rest)) c e
+history_made : (made : Option Entry) (line : ℕ) (c d e : Stamped) (rest : List Entry) → ChangesBy made line c d → IsHistory (filter (is_on_line line) rest) d e
+    → IsHistory (filter (is_on_line line) (option_to_list made ++ rest)) c e
 history_made None line c d e rest changes history = subst (λ (s : Stamped). IsHistory (filter (is_on_line line) rest) s e) changes history
 history_made (Some entry) line c d e rest changes history = grind (arith, cases_eq, filter_yes, eq-eqb, filter_no, ne_eqb)
 
-pub run_follows : (core : Core) (events : List Event) → IsWellFormed core → IsTidy core → (line : ℕ) → line < core.size.lines → (c : Stamped) → ShapedAt core line c
+pub run_follows : (core : Core) (events : List Event) → IsWellFormed core → IsTidy core → (line : ℕ) → line < core.size.lines → (c : Stamped)
+    → ShapedAt core line c
     → (d : Stamped) × ShapedAt (run_from core events) line d × IsHistory (filter (is_on_line line) (done_from core events)) c d
 run_follows core [] well tidy line inside c shaped = (c, shaped, refl)
 run_follows core (e ∷ events) well tidy line inside c shaped =
     let one = step_follows core e well tidy line inside c shaped in
     let next = step_well core e well in
-    let rest = run_follows (step core e) events next.well (step_tidy core e well tidy) line (subst (λ (size : Size). line < size.lines) (sym next.same) inside) one.0 one.1 in
+    let rest = run_follows (step core e) events next.well (step_tidy core e well tidy) line (subst (λ (size : Size). line < size.lines) (sym next.same) inside)
+    one.0 one.1 in
     (rest.0, rest.1, history_made (made_by core e) line c one.0 rest.0 (done_from (step core e) events) one.2 rest.2)
 
 -- ---- logs
@@ -59,35 +64,44 @@ pub record Logged (core : Core) (made : Option Entry) (new : Core) : Type 0 wher
   pub logs : (n : ℕ) → (node_at new n).log ≡ (node_at core n).log ++ filter (is_of_node n) (option_to_list made)
   pub within : IfSome made (λ entry. (entry.node < core.size.nodes) × IsKnown core.size.lines entry)
 
-node_serials : (core : Core) (n : ℕ) (next : NodeOf) → (((j : ℕ) → HasSerials (node_at core j)) → HasSerials next) → ((j : ℕ) → HasSerials (node_at core j)) → (j : ℕ) → HasSerials (node_at (with_node core n next) j)
+node_serials : (core : Core) (n : ℕ) (next : NodeOf) → (((j : ℕ) → HasSerials (node_at core j)) → HasSerials next) → ((j : ℕ) → HasSerials (node_at core j))
+    → (j : ℕ) → HasSerials (node_at (with_node core n next) j)
 node_serials core n next h all = at_place_set (λ (j : ℕ) (part : NodeOf). HasSerials part) core.parts n next no_node all (h all)
 
-none_logged : (core : Core) (n : ℕ) (next : NodeOf) (made : Option Entry) → made ≡ None → next.log ≡ (node_at core n).log → (((j : ℕ) → HasSerials (node_at core j)) → HasSerials next) → Logged core made (with_node core n next)
+none_logged : (core : Core) (n : ℕ) (next : NodeOf) (made : Option Entry) → made ≡ None → next.log ≡ (node_at core n).log
+    → (((j : ℕ) → HasSerials (node_at core j)) → HasSerials next) → Logged core made (with_node core n next)
 none_logged core n next made none log serials =
     subst (λ (m : Option Entry). Logged core m (with_node core n next)) (sym none) (record {
       serials = node_serials core n next serials;
-      logs = λ j. at_place_set (λ (i : ℕ) (part : NodeOf). part.log ≡ (node_at core i).log) core.parts n next no_node (λ i. refl) log j ∙ sym (append-nil (node_at core j).log);
+      logs = λ j. at_place_set (λ (i : ℕ) (part : NodeOf). part.log ≡ (node_at core i).log) core.parts n next no_node (λ i. refl) log j
+          ∙ sym (append-nil (node_at core j).log);
       within = tt;
     })
 
-same_logged : (core : Core) (n : ℕ) (next : NodeOf) (made : Option Entry) → made ≡ None → SameWork (node_at core n) next → Logged core made (with_node core n next)
+same_logged : (core : Core) (n : ℕ) (next : NodeOf) (made : Option Entry) → made ≡ None → SameWork (node_at core n) next
+    → Logged core made (with_node core n next)
 same_logged core n next made none same = none_logged core n next made none same.log (λ all. same_serials (node_at core n) next same (all n))
 
-some_logged : (core : Core) (n : ℕ) (next : NodeOf) (entry : Entry) → n < length core.parts → n < core.size.nodes → entry.node ≡ n → IsKnown core.size.lines entry → next.log ≡ (node_at core n).log ++ entry ∷ [] → (((j : ℕ) → HasSerials (node_at core j)) → HasSerials next) → Logged core (Some entry) (with_node core n next)
-some_logged core n next entry below lt own known log serials = grind (arith, node_serials, cases_eq, get_or-set_same, filter_yes, eq-eqb, get_or-set_other, filter_no, ne_eqb, append-nil)
+some_logged : (core : Core) (n : ℕ) (next : NodeOf) (entry : Entry) → n < length core.parts → n < core.size.nodes → entry.node ≡ n
+    → IsKnown core.size.lines entry → next.log ≡ (node_at core n).log ++ entry ∷ [] → (((j : ℕ) → HasSerials (node_at core j)) → HasSerials next)
+    → Logged core (Some entry) (with_node core n next)
+some_logged core n next entry below lt own known log serials =
+    grind (arith, node_serials, cases_eq, get_or-set_same, filter_yes, eq-eqb, get_or-set_other, filter_no, ne_eqb, append-nil)
 
 stepped_logged : (core new : Core) (e : Event) (made : Option Entry) → IsWellFormed core → Stepped core e made new → Logged core made new
 stepped_logged core new e made well (By_issue n op next event lt is then_ none) =
     let part = node_at core n in
     let log = of_some (λ (x : NodeOf). x.log ≡ part.log) (node_issuing part op) next is (issue_log part op) in
-    subst (Logged core made) then_ (none_logged core n next made none log (λ all. of_some HasSerials (node_issuing part op) next is (issue_serials part op (all n))))
+    subst (Logged core made) then_
+    (none_logged core n next made none log (λ all. of_some HasSerials (node_issuing part op) next is (issue_serials part op (all n))))
 stepped_logged core new e made well (By_perform n line done lt is then_ some) =
     let part = node_at core n in
     let does = of_some (PerformedAs part line) (node_performing part line) done is (perform_as part line) in
     let own = perform_owns part line done does ∙ (well.each_part n lt).me in
     let pends = of_some (IsPendingOn part.issued line) (pending_on part line) does.pending does.here ((well.each_part n lt).fits.each line) in
     let known = subst (IsKnown core.size.lines) does.entry ((pending_known core n line done does lt well, pends.word), pends.words) in
-    let logged = some_logged core n done.0 done.1 (node_below core n well lt) lt own known (perform_logs part line done does) (λ all. perform_serials part line done does (well.each_part n lt).fits (all n)) in
+    let logged = some_logged core n done.0 done.1 (node_below core n well lt) lt own known (perform_logs part line done does)
+    (λ all. perform_serials part line done does (well.each_part n lt).fits (all n)) in
     subst (Logged core made) then_ (subst (λ (m : Option Entry). Logged core m (with_node core n done.0)) (sym some) logged)
 stepped_logged core new e made well (By_ask n line kind sent is sends_well s none) =
     let part = node_at core n in
@@ -118,7 +132,8 @@ stepped_logged core new e made well (By_accept t none) =
 nothing_logged : (core : Core) → Logged core None core
 nothing_logged core = record { serials = λ all. all; logs = λ n. sym (append-nil (node_at core n).log); within = tt }
 
-after_logged : (core : Core) (e : Event) (next : Option Core) (made : Option Entry) → IsWellFormed core → IfSome next (Stepped core e made) → Logged core (elim next as (λ _. Option Entry) [ None ↦ None | Some new ↦ made ]) (unwrap_or next core)
+after_logged : (core : Core) (e : Event) (next : Option Core) (made : Option Entry) → IsWellFormed core → IfSome next (Stepped core e made)
+    → Logged core (elim next as (λ _. Option Entry) [ None ↦ None | Some new ↦ made ]) (unwrap_or next core)
 after_logged core e None made well stepped = nothing_logged core
 after_logged core e (Some new) made well stepped = stepped_logged core new e made well stepped
 
@@ -133,11 +148,13 @@ pub record RunLogged (core : Core) (done : List Entry) (new : Core) : Type 0 whe
   pub nodes : AllByRecursion (λ entry. entry.node < core.size.nodes) done
   pub known : AllByRecursion (IsKnown core.size.lines) done
 
-one_within : (made : Option Entry) (P : Entry → Type 0) (rest : List Entry) → IfSome made P → AllByRecursion P rest → AllByRecursion P (option_to_list made ++ rest)
+one_within : (made : Option Entry) (P : Entry → Type 0) (rest : List Entry) → IfSome made P → AllByRecursion P rest
+    → AllByRecursion P (option_to_list made ++ rest)
 one_within None P rest h all = all
 one_within (Some entry) P rest h all = (h, all)
 
-pub run_logged : (core : Core) (events : List Event) → IsWellFormed core → ((n : ℕ) → HasSerials (node_at core n)) → RunLogged core (done_from core events) (run_from core events)
+pub run_logged : (core : Core) (events : List Event) → IsWellFormed core → ((n : ℕ) → HasSerials (node_at core n))
+    → RunLogged core (done_from core events) (run_from core events)
 run_logged core [] well serials = record { serials = serials; logs = λ n. sym (append-nil (node_at core n).log); nodes = tt; known = tt }
 run_logged core (e ∷ events) well serials =
     let next = step_well core e well in
@@ -147,9 +164,13 @@ run_logged core (e ∷ events) well serials =
     let more = done_from (step core e) events in
     record {
       serials = rest.serials;
-      logs = λ n. rest.logs n ∙ (ap (λ (log : List Entry). log ++ filter (is_of_node n) more) (one.logs n) ∙ (append_assoc (node_at core n).log (filter (is_of_node n) (option_to_list made)) (filter (is_of_node n) more) ∙ ap (λ (es : List Entry). (node_at core n).log ++ es) (sym (filter-append (is_of_node n) (option_to_list made) more))));
-      nodes = one_within made (λ entry. entry.node < core.size.nodes) more (IfSome_then made one.within (λ entry h. h.0)) (subst (λ (size : Size). AllByRecursion (λ (entry : Entry). entry.node < size.nodes) more) next.same rest.nodes);
-      known = one_within made (IsKnown core.size.lines) more (IfSome_then made one.within (λ entry h. h.1)) (subst (λ (size : Size). AllByRecursion (IsKnown size.lines) more) next.same rest.known);
+      logs = λ n. rest.logs n ∙ (ap (λ (log : List Entry). log ++ filter (is_of_node n) more) (one.logs n)
+          ∙ (append_assoc (node_at core n).log (filter (is_of_node n) (option_to_list made)) (filter (is_of_node n) more)
+          ∙ ap (λ (es : List Entry). (node_at core n).log ++ es) (sym (filter-append (is_of_node n) (option_to_list made) more))));
+      nodes = one_within made (λ entry. entry.node < core.size.nodes) more (IfSome_then made one.within (λ entry h. h.0))
+          (subst (λ (size : Size). AllByRecursion (λ (entry : Entry). entry.node < size.nodes) more) next.same rest.nodes);
+      known = one_within made (IsKnown core.size.lines) more (IfSome_then made one.within (λ entry h. h.1))
+          (subst (λ (size : Size). AllByRecursion (IsKnown size.lines) more) next.same rest.known);
     }
 
 -- ---- how many

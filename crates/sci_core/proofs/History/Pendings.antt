@@ -32,7 +32,8 @@ none_is : (pending : Option Pending) → is_none pending ≡ true → pending �
 none_is None e = refl
 none_is (Some p) e = cc
 
-issued_if : (node next : NodeOf) (op : Op) (may : Bool) → may_issue node op ≡ may → IsNode node → (if may then Some (node_issued node op) else None) ≡ Some next → IsIssued node next op
+issued_if : (node next : NodeOf) (op : Op) (may : Bool) → may_issue node op ≡ may → IsNode node → (if may then Some (node_issued node op) else None) ≡ Some next
+    → IsIssued node next op
 issued_if node next op false e is some = cc
 issued_if node next op true e is some = grind (arith, and_parts, ltb-true, none_is, get_or-set_same, get_or-set_other)
 
@@ -43,16 +44,20 @@ issue_puts node next op is some = issued_if node next op (may_issue node op) ref
 -- ---- Perform
 
 -- an entry ends the log, with the operation and the serial that were pending
-pub perform_puts : (node next : NodeOf) (line : ℕ) (entry : Entry) → IsNode node → node_performing node line ≡ Some (next, entry) → IsLogged node next line entry
+pub perform_puts : (node next : NodeOf) (line : ℕ) (entry : Entry) → IsNode node → node_performing node line ≡ Some (next, entry)
+    → IsLogged node next line entry
 perform_puts node next line entry is some = grind (arith, of_some, perform_as, some_below, get_or-set_same, get_or-set_other)
 
 is_done : (node : NodeOf) (line : ℕ) (pending : Pending) (done : Option Performed)
-    → is_some (performed_by node line pending (option_map (λ d. (with_line node.cache pending.op.line (line_in (line_of node.cache pending.op.line) d.next), d.reply, d.version)) done)) ≡ is_some done
+    → is_some (performed_by node line pending
+    (option_map (λ d. (with_line node.cache pending.op.line (line_in (line_of node.cache pending.op.line) d.next), d.reply, d.version)) done)) ≡ is_some
+    done
 is_done node line pending None = refl
 is_done node line pending (Some done) = refl
 
 -- whether a pending operation can be performed is for its line's state to say
-pub performs_where : (node : NodeOf) (line : ℕ) (pending : Pending) → pending_on node line ≡ Some pending → is_some (node_performing node line) ≡ is_some (performing (line_of node.cache pending.op.line).state pending.op)
+pub performs_where : (node : NodeOf) (line : ℕ) (pending : Pending) → pending_on node line ≡ Some pending
+    → is_some (node_performing node line) ≡ is_some (performing (line_of node.cache pending.op.line).state pending.op)
 performs_where node line pending at = grind (arith, is_done)
 
 -- ---- a node that has a line alone
@@ -63,15 +68,20 @@ made_or_read true false made read e = cc
 made_or_read false room made read e = refl
 
 -- any operation that is pending on a line of which the node has the only copy can be performed
-pub sole_performs : (core : Core) (n line : ℕ) (pending : Pending) (c : Stamped) → IsReached core → n < core.size.nodes → line < core.size.lines → pending_on (node_at core n) line ≡ Some pending → (line_of (node_at core n).cache line).state ≡ Head None c
+pub sole_performs : (core : Core) (n line : ℕ) (pending : Pending) (c : Stamped) → IsReached core → n < core.size.nodes → line < core.size.lines
+    → pending_on (node_at core n) line ≡ Some pending → (line_of (node_at core n).cache line).state ≡ Head None c
     → IsSome (node_performing (node_at core n) line)
 sole_performs core n line pending c reached lt inside at sole =
     let node = node_at core n in
     let here = (of_some (IsPendingOn node.issued line) (pending_on node line) pending at (((reached_well core reached).each_part n lt).fits.each line)).here in
-    let quiet = idle_has_none (line % core.size.nodes) (line_of node.cache line) (packets_of core n line) (ap waits sole) (reached_tidy core reached n line lt inside) in
+    let quiet = idle_has_none (line % core.size.nodes) (line_of node.cache line) (packets_of core n line) (ap waits sole)
+    (reached_tidy core reached n line lt inside) in
     let told : answer_to core n line ≡ None = ap answer_in quiet in
-    let held : authority_contents (sharer_of core line n) ≡ Some c = ap (λ (s : CacheState). contents_held s (answer_to core n line)) sole ∙ ap (contents_held (Head None c)) told in
-    let last : c ≡ last_at core line = of_some (λ (d : Stamped). d ≡ last_at core line) (authority_contents (sharer_of core line n)) c held ((reached_shapes core reached line inside).contents.authority n) in
+    let held : authority_contents (sharer_of core line n) ≡ Some c =
+    ap (λ (s : CacheState). contents_held s (answer_to core n line)) sole ∙ ap (contents_held (Head None c)) told in
+    let last : c ≡ last_at core line =
+    of_some (λ (d : Stamped). d ≡ last_at core line) (authority_contents (sharer_of core line n)) c held
+    ((reached_shapes core reached line inside).contents.authority n) in
     let few = (reached_contents core line reached inside).version in
     let version = ap (λ (s : Stamped). s.version) last in
     let room : nat_lt c.version (2 ^ 64 - 1) ≡ true = lt-ltb c.version (2 ^ 64 - 1) (omega arith) in

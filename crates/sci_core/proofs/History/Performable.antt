@@ -19,11 +19,13 @@ has_contents (FreshHead f c) op e = refl
 has_contents (Below f b c) op e = refl
 has_contents _ op e = cc
 
-pending_performs : (node : NodeOf) (line : ℕ) (pending : Option Pending) → IfSome pending (IsPendingOn node.issued line) → IsSome (performing_pending node line pending) → could_give_way (line_of node.cache line).state ≡ true
+pending_performs : (node : NodeOf) (line : ℕ) (pending : Option Pending) → IfSome pending (IsPendingOn node.issued line)
+    → IsSome (performing_pending node line pending) → could_give_way (line_of node.cache line).state ≡ true
 pending_performs node line None is e = cc
 pending_performs node line (Some p) is e =
     ap (λ (l : ℕ). could_give_way (line_of node.cache l).state) (sym is.here)
     ∙ has_contents (line_of node.cache p.op.line).state p.op (mapped_twice _ _ (performing (line_of node.cache p.op.line).state p.op) e)
 
-pub performs_with_contents : (node : NodeOf) → IsNode node → (line : ℕ) → IsSome (node_performing node line) → could_give_way (line_of node.cache line).state ≡ true
+pub performs_with_contents : (node : NodeOf) → IsNode node → (line : ℕ) → IsSome (node_performing node line)
+    → could_give_way (line_of node.cache line).state ≡ true
 performs_with_contents node is line e = pending_performs node line (pending_on node line) (is.each line) e

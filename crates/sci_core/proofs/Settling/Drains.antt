@@ -1,5 +1,6 @@
 -- Every event that moves a packet on lowers the weight by one, and while it is above 0 one is enabled.
-use Rattle.std.proofs.Common.{◌≡◌, ℕ, suc, ◌+◌, ◌-◌, ◌*◌, ◌/◌, ◌%◌, ◌<◌, ◌≤◌, ◌&&◌, Bool, true, false, if◌then◌else◌, List, [], ◌∷◌, ◌++◌, length, get_or, Option, Some, None, refl, sym, ap, subst, ◌∙◌, zero, arith, inl, inr}
+use Rattle.std.proofs.Common.{◌≡◌, ℕ, suc, ◌+◌, ◌-◌, ◌*◌, ◌/◌, ◌%◌, ◌<◌, ◌≤◌, ◌&&◌, Bool, true, false, if◌then◌else◌, List, [], ◌∷◌, ◌++◌, length, get_or}
+use Rattle.std.proofs.Common.{Option, Some, None, refl, sym, ap, subst, ◌∙◌, zero, arith, inl, inr}
 use Rattle.std.specs.Prelude.{◌⊎◌, IfSome, IsSome, is_some, option_map, slice_get, unwrap_or}
 use Rattle.std.specs.List.{sum_by}
 use Rattle.std.proofs.lemmas.Bool.{cases_lt}
@@ -13,8 +14,10 @@ use Rattle.sci_packets.specs.Table.{IsRequest, is_request}
 use Rattle.sci_cache.specs.Cache.{Letter}
 use Rattle.sci_core.specs.declared.lane.LaneKind.{LaneKind}
 use Rattle.sci_core.specs.declared.lane.LaneKind.TheVariants.{Requests, Answers}
-use Rattle.sci_core.specs.Core.{Core, IsEnabled, Takes, lane_at, lane_of, lane_place, node_at, node_of, run_from, sent_by, side, step, stepping, with_lane, with_node}
-use Rattle.sci_core.specs.Draining.{AskNothing, CanDrain, Drained, Drains, IsDrained, answer_weight, is_asking, lane_weight, letter_weight, moves_made, moves_on, one_if, weight}
+use Rattle.sci_core.specs.Core.{Core, IsEnabled, Takes, lane_at, lane_of, lane_place, node_at, node_of, run_from, sent_by, side, step, stepping, with_lane}
+use Rattle.sci_core.specs.Core.{with_node}
+use Rattle.sci_core.specs.Draining.{AskNothing, CanDrain, Drained, Drains, IsDrained, answer_weight, is_asking, lane_weight, letter_weight, moves_made}
+use Rattle.sci_core.specs.Draining.{moves_on, one_if, weight}
 use Rattle.sci_core.specs.Node.{NodeOf, no_node, node_accepting, node_asking, node_issuing, node_performing, node_refusing, node_replying, node_serving}
 use Rattle.sci_core.specs.Reached.{IsReachable}
 use Rattle.sci_core.specs.Sides.{TakesFront, taken_to}
@@ -27,20 +30,23 @@ use Rattle.sci_core.proofs.Step.Sides.{steps_by_sides}
 use Rattle.sci_core.proofs.Step.Stepping.{stepping_from_nobody, stepping_nobody}
 use Rattle.sci_core.proofs.Step.Steps.{lane_below}
 use Rattle.sci_core.proofs.Tidy.TidyRuns.{node_below}
-use Rattle.sci_core.proofs.Tidy.WaitingNodes.{Accepts, Answers as AnswersTo, AsksOnce, Replies, Stays, ask_once, accept_accepts, issue_stays, perform_stays, refuse_answers, reply_replies, serve_answers}
+use Rattle.sci_core.proofs.Tidy.WaitingNodes.{Accepts, Answers as AnswersTo, AsksOnce, Replies, Stays, ask_once, accept_accepts, issue_stays, perform_stays}
+use Rattle.sci_core.proofs.Tidy.WaitingNodes.{refuse_answers, reply_replies, serve_answers}
 use Rattle.sci_core.proofs.WellFormed.WellFormedSteps.{any_well, reachable_stepping}
 
 -- ---- weights after a change
 
 -- a node changes
-weighs_node : (core : Core) (n : ℕ) (next : NodeOf) → n < length core.parts → weight (with_node core n next) + answer_weight (node_at core n).waiting ≡ weight core + answer_weight next.waiting
+weighs_node : (core : Core) (n : ℕ) (next : NodeOf) → n < length core.parts
+    → weight (with_node core n next) + answer_weight (node_at core n).waiting ≡ weight core + answer_weight next.waiting
 weighs_node core n next below =
     let changed = sum_by-set (λ (part : NodeOf). answer_weight part.waiting) core.parts n next no_node below in
     omega arith
 
 -- a node and a lane change
 weighs_both : (core : Core) (n place : ℕ) (next : NodeOf) (lane : List Letter) → n < length core.parts → place < length core.lanes
-    → weight (with_lane (with_node core n next) place lane) + (answer_weight (node_at core n).waiting + lane_weight (lane_at core place)) ≡ weight core + (answer_weight next.waiting + lane_weight lane)
+    → weight (with_lane (with_node core n next) place lane) + (answer_weight (node_at core n).waiting + lane_weight (lane_at core place)) ≡ weight
+    core + (answer_weight next.waiting + lane_weight lane)
 weighs_both core n place next lane below within =
     let changed = sum_by-set (λ (part : NodeOf). answer_weight part.waiting) core.parts n next no_node below in
     let carried = sum_by-set lane_weight core.lanes place lane [] within in
@@ -71,7 +77,8 @@ pub record Took (core new : Core) (kind : LaneKind) (n from : ℕ) (taking : Nod
   pub takes : taking (node_at core n) letter ≡ Some next
   pub then_ : new ≡ taken_to core n kind from rest next
 
-pub took_along : (core new : Core) (kind : LaneKind) (n from : ℕ) (taking : NodeOf → Letter → Option NodeOf) (e : Event) (lane : List Letter) → TakesFront core n kind taking from e → lane_of core kind from n ≡ lane → stepping core e ≡ Some new → Took core new kind n from taking
+pub took_along : (core new : Core) (kind : LaneKind) (n from : ℕ) (taking : NodeOf → Letter → Option NodeOf) (e : Event) (lane : List Letter)
+    → TakesFront core n kind taking from e → lane_of core kind from n ≡ lane → stepping core e ≡ Some new → Took core new kind n from taking
 took_along core new kind n from taking e [] takes is steps = let none = takes.empty is in let clash : None ≡ Some new = sym none ∙ steps in cc
 took_along core new kind n from taking e (letter ∷ rest) takes is steps =
     let made = made_by (taken_to core n kind from rest) (taking (node_at core n) letter) new (sym (takes.front letter rest is) ∙ steps) in
@@ -85,7 +92,8 @@ some_node core new e steps =
       | inr past ↦ (let none = stepping_nobody core e past in let clash : None ≡ Some new = sym none ∙ steps in cc)
     ]
 
-pub some_sender : (core new : Core) (e : Event) (kind : LaneKind) (from : ℕ) (taking : Letter → Option NodeOf) → node_of e < core.size.nodes → side (node_at core (node_of e)) e ≡ Takes kind from taking → stepping core e ≡ Some new → from < core.size.nodes
+pub some_sender : (core new : Core) (e : Event) (kind : LaneKind) (from : ℕ) (taking : Letter → Option NodeOf) → node_of e < core.size.nodes
+    → side (node_at core (node_of e)) e ≡ Takes kind from taking → stepping core e ≡ Some new → from < core.size.nodes
 some_sender core new e kind from taking lt is steps =
     elim (cases_lt from core.size.nodes) [
       | inl below ↦ below
@@ -93,39 +101,49 @@ some_sender core new e kind from taking lt is steps =
     ]
 
 -- a request is taken, and its answer waits
-weighs_served : (core new : Core) (n from : ℕ) (taking : NodeOf → Letter → Option NodeOf) → IsWellFormed core → n < core.size.nodes → from < core.size.nodes → Took core new Requests n from taking
+weighs_served : (core new : Core) (n from : ℕ) (taking : NodeOf → Letter → Option NodeOf) → IsWellFormed core → n < core.size.nodes → from < core.size.nodes
+    → Took core new Requests n from taking
     → ((letter : Letter) → IfSome (taking (node_at core n) letter) (AnswersTo core.size.nodes letter (node_at core n))) → weight core ≡ weight new + 1
 weighs_served core new n from taking well lt f took answers =
     let comes = front_comes core from n Requests took.letter well f lt (ap (λ (lane : List Letter). slice_get lane 0) took.front) in
-    let does = of_some (AnswersTo core.size.nodes took.letter (node_at core n)) (taking (node_at core n) took.letter) took.next took.takes (answers took.letter) in
+    let does = of_some (AnswersTo core.size.nodes took.letter (node_at core n)) (taking (node_at core n) took.letter) took.next took.takes
+    (answers took.letter) in
     let place = lane_place core.size.nodes Requests from n in
     let both = weighs_both core n place took.next took.rest (node_below core n well lt) (lane_below core Requests from n well f lt) in
     let old : answer_weight (node_at core n).waiting ≡ 0 = ap answer_weight does.free in
     let now : answer_weight took.next.waiting ≡ 2 = ap answer_weight does.waiting in
-    let lane : lane_weight (lane_at core place) ≡ letter_weight took.letter + lane_weight took.rest = ap lane_weight took.front ∙ sum_by-cons letter_weight took.letter took.rest in
+    let lane : lane_weight (lane_at core place) ≡ letter_weight took.letter + lane_weight took.rest =
+    ap lane_weight took.front ∙ sum_by-cons letter_weight took.letter took.rest in
     let heavy = request_weighs took.letter comes.0.asks in
     let then_ : weight new ≡ weight (taken_to core n Requests from took.rest took.next) = ap weight took.then_ in
     omega arith
 
-weighs_accepted : (core new : Core) (n from : ℕ) → IsWellFormed core → n < core.size.nodes → from < core.size.nodes → Took core new Answers n from node_accepting → weight core ≡ weight new + 1
+weighs_accepted : (core new : Core) (n from : ℕ) → IsWellFormed core → n < core.size.nodes → from < core.size.nodes
+    → Took core new Answers n from node_accepting → weight core ≡ weight new + 1
 weighs_accepted core new n from well lt f took =
     let comes = front_comes core from n Answers took.letter well f lt (ap (λ (lane : List Letter). slice_get lane 0) took.front) in
-    let does = of_some (Accepts took.letter.line (node_at core n)) (node_accepting (node_at core n) took.letter) took.next took.takes (accept_accepts (node_at core n) took.letter) in
+    let does = of_some (Accepts took.letter.line (node_at core n)) (node_accepting (node_at core n) took.letter) took.next took.takes
+    (accept_accepts (node_at core n) took.letter) in
     let place = lane_place core.size.nodes Answers from n in
     let both = weighs_both core n place took.next took.rest (node_below core n well lt) (lane_below core Answers from n well f lt) in
     let same : answer_weight took.next.waiting ≡ answer_weight (node_at core n).waiting = ap answer_weight does.waiting in
-    let lane : lane_weight (lane_at core place) ≡ letter_weight took.letter + lane_weight took.rest = ap lane_weight took.front ∙ sum_by-cons letter_weight took.letter took.rest in
+    let lane : lane_weight (lane_at core place) ≡ letter_weight took.letter + lane_weight took.rest =
+    ap lane_weight took.front ∙ sum_by-cons letter_weight took.letter took.rest in
     let light = answer_weighs took.letter comes.0.answers in
     let then_ : weight new ≡ weight (taken_to core n Answers from took.rest took.next) = ap weight took.then_ in
     omega arith
 
-weighs_replied : (core new : Core) (n : ℕ) (sent : NodeOf × Letter) → IsWellFormed core → n < core.size.nodes → node_replying (node_at core n) ≡ Some sent → new ≡ sent_by core n Answers sent.0 sent.1 → weight core ≡ weight new + 1
+weighs_replied : (core new : Core) (n : ℕ) (sent : NodeOf × Letter) → IsWellFormed core → n < core.size.nodes → node_replying (node_at core n) ≡ Some sent
+    → new ≡ sent_by core n Answers sent.0 sent.1 → weight core ≡ weight new + 1
 weighs_replied core new n sent well lt replies then_ =
-    let does = of_some (Replies core.size.nodes (node_at core n)) (node_replying (node_at core n)) sent replies (reply_replies core.size.nodes (node_at core n)) in
-    let answers = (of_some (λ (l : Letter). IsAnswerLetter core.size.nodes core.size.lines l × (l.source ≡ n)) (node_at core n).waiting sent.1 does.waited (well.each_part n lt).answer).0 in
+    let does = of_some (Replies core.size.nodes (node_at core n)) (node_replying (node_at core n)) sent replies
+    (reply_replies core.size.nodes (node_at core n)) in
+    let answers = (of_some (λ (l : Letter). IsAnswerLetter core.size.nodes core.size.lines l × (l.source ≡ n)) (node_at core n).waiting sent.1 does.waited
+    (well.each_part n lt).answer).0 in
     let place = lane_place core.size.nodes Answers n sent.1.target in
     let lane = lane_at core place in
-    let both = weighs_both core n place sent.0 (lane ++ sent.1 ∷ []) (node_below core n well lt) (lane_below core Answers n sent.1.target well lt answers.letter_ok.target) in
+    let both = weighs_both core n place sent.0 (lane ++ sent.1 ∷ []) (node_below core n well lt)
+    (lane_below core Answers n sent.1.target well lt answers.letter_ok.target) in
     let old : answer_weight (node_at core n).waiting ≡ 2 = ap answer_weight does.waited in
     let now : answer_weight sent.0.waiting ≡ 0 = ap answer_weight does.gone in
     let more = sum_by_push letter_weight lane sent.1 in
@@ -134,24 +152,30 @@ weighs_replied core new n sent well lt replies then_ =
     omega arith
 
 -- an Ask adds a request
-pub weighs_asked : (core new : Core) (n line : ℕ) (kind : AskKind) → IsWellFormed core → stepping core (event.Ask n line kind) ≡ Some new → weight new ≡ weight core + 3
+pub weighs_asked : (core new : Core) (n line : ℕ) (kind : AskKind) → IsWellFormed core → stepping core (event.Ask n line kind) ≡ Some new
+    → weight new ≡ weight core + 3
 weighs_asked core new n line kind well steps =
     let lt = some_node core new (event.Ask n line kind) steps in
     let part = node_at core n in
-    let made = made_by (λ (s : NodeOf × Letter). sent_by core n Requests s.0 s.1) (node_asking part line kind) new (sym ((steps_by_sides core n lt).ask line kind) ∙ steps) in
+    let made = made_by (λ (s : NodeOf × Letter). sent_by core n Requests s.0 s.1) (node_asking part line kind) new
+    (sym ((steps_by_sides core n lt).ask line kind) ∙ steps) in
     let sent = made.0 in
-    let sends = of_some (SendsWell core.size n) (node_asking part line kind) sent made.1 (part_asking core.size n part line kind well.sizes.some_node lt (well.each_part n lt)) in
-    let once = of_some (AsksOnce core.size.nodes line part) (node_asking part line kind) sent made.1 (ask_once core.size.nodes part line kind (well.each_part n lt).all ((well.each_part n lt).asks line)) in
+    let sends = of_some (SendsWell core.size n) (node_asking part line kind) sent made.1
+    (part_asking core.size n part line kind well.sizes.some_node lt (well.each_part n lt)) in
+    let once = of_some (AsksOnce core.size.nodes line part) (node_asking part line kind) sent made.1
+    (ask_once core.size.nodes part line kind (well.each_part n lt).all ((well.each_part n lt).asks line)) in
     let place = lane_place core.size.nodes Requests n sent.1.target in
     let lane = lane_at core place in
-    let both = weighs_both core n place sent.0 (lane ++ sent.1 ∷ []) (node_below core n well lt) (lane_below core Requests n sent.1.target well lt sends.request.letter_ok.target) in
+    let both = weighs_both core n place sent.0 (lane ++ sent.1 ∷ []) (node_below core n well lt)
+    (lane_below core Requests n sent.1.target well lt sends.request.letter_ok.target) in
     let same : answer_weight sent.0.waiting ≡ answer_weight part.waiting = ap answer_weight once.waiting in
     let more = sum_by_push letter_weight lane sent.1 in
     let heavy_ = request_weighs sent.1 sends.request.asks in
     let is : weight new ≡ weight (sent_by core n Requests sent.0 sent.1) = ap weight made.2 in
     omega arith
 
-weighs_stayed : (core new : Core) (n : ℕ) (next : NodeOf) → IsWellFormed core → n < core.size.nodes → next.waiting ≡ (node_at core n).waiting → new ≡ with_node core n next → weight core ≡ weight new + 0
+weighs_stayed : (core new : Core) (n : ℕ) (next : NodeOf) → IsWellFormed core → n < core.size.nodes → next.waiting ≡ (node_at core n).waiting
+    → new ≡ with_node core n next → weight core ≡ weight new + 0
 weighs_stayed core new n next well lt waiting then_ =
     let changed = weighs_node core n next (node_below core n well lt) in
     let same : answer_weight next.waiting ≡ answer_weight (node_at core n).waiting = ap answer_weight waiting in
@@ -159,32 +183,45 @@ weighs_stayed core new n next well lt waiting then_ =
     omega arith
 
 -- every event but an Ask: the weight falls by one if it moves a packet on, and stays if it doesn't
-pub weighs : (core new : Core) (e : Event) → IsWellFormed core → stepping core e ≡ Some new → is_asking e ≡ false → weight core ≡ weight new + one_if (moves_on e)
+pub weighs : (core new : Core) (e : Event) → IsWellFormed core → stepping core e ≡ Some new → is_asking e ≡ false
+    → weight core ≡ weight new + one_if (moves_on e)
 weighs core new (event.Issue n op) well steps asks =
     let lt = some_node core new (event.Issue n op) steps in
     let made = made_by (with_node core n) (node_issuing (node_at core n) op) new (sym ((steps_by_sides core n lt).issue op) ∙ steps) in
-    weighs_stayed core new n made.0 well lt (of_some (Stays core.size.nodes (node_at core n)) (node_issuing (node_at core n) op) made.0 made.1 (issue_stays core.size.nodes (node_at core n) op)).waiting made.2
+    weighs_stayed core new n made.0 well lt
+    (of_some (Stays core.size.nodes (node_at core n)) (node_issuing (node_at core n) op) made.0 made.1
+    (issue_stays core.size.nodes (node_at core n) op)).waiting made.2
 weighs core new (event.Perform n line) well steps asks =
     let lt = some_node core new (event.Perform n line) steps in
-    let made = made_by (λ (done : NodeOf × Entry). with_node core n done.0) (node_performing (node_at core n) line) new (sym ((steps_by_sides core n lt).perform line) ∙ steps) in
-    weighs_stayed core new n made.0.0 well lt (of_some (λ (x : NodeOf × Entry). Stays core.size.nodes (node_at core n) x.0) (node_performing (node_at core n) line) made.0 made.1 (perform_stays core.size.nodes (node_at core n) line)).waiting made.2
+    let made = made_by (λ (done : NodeOf × Entry). with_node core n done.0) (node_performing (node_at core n) line) new
+    (sym ((steps_by_sides core n lt).perform line) ∙ steps) in
+    weighs_stayed core new n made.0.0 well lt
+    (of_some (λ (x : NodeOf × Entry). Stays core.size.nodes (node_at core n) x.0) (node_performing (node_at core n) line) made.0 made.1
+    (perform_stays core.size.nodes (node_at core n) line)).waiting made.2
 weighs core new (event.Ask n line kind) well steps asks = cc
 weighs core new (event.Serve from n) well steps asks =
     let lt = some_node core new (event.Serve from n) steps in
     let f = some_sender core new (event.Serve from n) Requests from (node_serving (node_at core n)) lt refl steps in
-    weighs_served core new n from node_serving well lt f (took_along core new Requests n from node_serving (event.Serve from n) (lane_of core Requests from n) ((steps_by_sides core n lt).serve from f) refl steps) (λ letter. serve_answers core.size.nodes (node_at core n) letter)
+    weighs_served core new n from node_serving well lt f
+    (took_along core new Requests n from node_serving (event.Serve from n) (lane_of core Requests from n) ((steps_by_sides core n lt).serve from f) refl
+    steps) (λ letter. serve_answers core.size.nodes (node_at core n) letter)
 weighs core new (event.Refuse from n) well steps asks =
     let lt = some_node core new (event.Refuse from n) steps in
     let f = some_sender core new (event.Refuse from n) Requests from (node_refusing (node_at core n)) lt refl steps in
-    weighs_served core new n from node_refusing well lt f (took_along core new Requests n from node_refusing (event.Refuse from n) (lane_of core Requests from n) ((steps_by_sides core n lt).refuse from f) refl steps) (λ letter. refuse_answers core.size.nodes (node_at core n) letter)
+    weighs_served core new n from node_refusing well lt f
+    (took_along core new Requests n from node_refusing (event.Refuse from n) (lane_of core Requests from n) ((steps_by_sides core n lt).refuse from f) refl
+    steps) (λ letter. refuse_answers core.size.nodes (node_at core n) letter)
 weighs core new (event.Reply n) well steps asks =
     let lt = some_node core new (event.Reply n) steps in
-    let made = made_by (λ (s : NodeOf × Letter). sent_by core n Answers s.0 s.1) (node_replying (node_at core n)) new (sym (steps_by_sides core n lt).reply ∙ steps) in
+    let made = made_by (λ (s : NodeOf × Letter). sent_by core n Answers s.0 s.1) (node_replying (node_at core n)) new
+    (sym (steps_by_sides core n lt).reply ∙ steps) in
     weighs_replied core new n made.0 well lt made.1 made.2
 weighs core new (event.Accept from n) well steps asks =
     let lt = some_node core new (event.Accept from n) steps in
     let f = some_sender core new (event.Accept from n) Answers from (node_accepting (node_at core n)) lt refl steps in
-    weighs_accepted core new n from well lt f (took_along core new Answers n from node_accepting (event.Accept from n) (lane_of core Answers from n) ((steps_by_sides core n lt).accept from f) refl steps)
+    weighs_accepted core new n from well lt f
+    (took_along core new Answers n from node_accepting (event.Accept from n) (lane_of core Answers from n) ((steps_by_sides core n lt).accept from f) refl
+    steps)
 
 -- ---- runs
 
@@ -196,7 +233,8 @@ not_made : (b : Bool) → one_if (b && false) ≡ 0
 not_made true = refl
 not_made false = refl
 
-step_weighs : (core : Core) (e : Event) (next : Option Core) → IsReachable core → is_asking e ≡ false → stepping core e ≡ next → weight core ≡ weight (unwrap_or next core) + one_if (moves_on e && is_some next)
+step_weighs : (core : Core) (e : Event) (next : Option Core) → IsReachable core → is_asking e ≡ false → stepping core e ≡ next
+    → weight core ≡ weight (unwrap_or next core) + one_if (moves_on e && is_some next)
 step_weighs core e None reached asks is = let none = not_made (moves_on e) in omega arith
 step_weighs core e (Some new) reached asks is =
     let falls = weighs core new e (any_well core reached) is asks in
@@ -211,7 +249,8 @@ step_reachable : (core : Core) (e : Event) → IsReachable core → IsReachable 
 step_reachable core e reached = next_reachable core e (stepping core e) reached refl
 
 -- what is made of a list of events lowers the weight, each by one
-pub run_weighs : (core : Core) (events : List Event) → IsReachable core → AskNothing events → weight core ≡ weight (run_from core events) + moves_made core events
+pub run_weighs : (core : Core) (events : List Event) → IsReachable core → AskNothing events
+    → weight core ≡ weight (run_from core events) + moves_made core events
 run_weighs core [] reached asks = omega arith
 run_weighs core (e ∷ events) reached asks =
     let first = step_weighs core e (stepping core e) reached asks.0 refl in
@@ -277,7 +316,8 @@ pub record IsPlace (nodes place : ℕ) (kind : LaneKind) : Type 0 where
   pub receiver : to < nodes
   pub here : lane_place nodes kind from to ≡ place
 
-parted : (nodes place base : ℕ) (kind : LaneKind) → 0 < nodes → place < nodes * nodes → ((from to : ℕ) → lane_place nodes kind from to ≡ base + (from * nodes + to)) → IsPlace nodes (base + place) kind
+parted : (nodes place base : ℕ) (kind : LaneKind) → 0 < nodes → place < nodes * nodes
+    → ((from to : ℕ) → lane_place nodes kind from to ≡ base + (from * nodes + to)) → IsPlace nodes (base + place) kind
 parted nodes place base kind some below is =
     let whole = div-add-mod place nodes in
     let turned : nodes * (place / nodes) ≡ place / nodes * nodes = mul_comm nodes (place / nodes) in
@@ -298,11 +338,13 @@ after_requests nodes from to = grind arith
 pub place_of : (nodes place : ℕ) → 0 < nodes → place < 2 * nodes * nodes → IsPlace nodes place Requests ⊎ IsPlace nodes place Answers
 place_of nodes place some below =
     elim (cases_lt place (nodes * nodes)) [
-      | inl first ↦ inl (let same : 0 + place ≡ place = omega arith in subst (λ (p : ℕ). IsPlace nodes p Requests) same (parted nodes place 0 Requests some first (λ from to. omega arith)))
+      | inl first ↦ inl (let same : 0 + place ≡ place = omega arith in
+          subst (λ (p : ℕ). IsPlace nodes p Requests) same (parted nodes place 0 Requests some first (λ from to. omega arith)))
       | inr second ↦
           let twice : 2 * nodes * nodes ≡ nodes * nodes + nodes * nodes = two_squares nodes in
           let back : nodes * nodes + (place - nodes * nodes) ≡ place = omega arith in
-          inr (subst (λ (p : ℕ). IsPlace nodes p Answers) back (parted nodes (place - nodes * nodes) (nodes * nodes) Answers some (omega arith) (λ from to. after_requests nodes from to)))
+          inr (subst (λ (p : ℕ). IsPlace nodes p Answers) back
+          (parted nodes (place - nodes * nodes) (nodes * nodes) Answers some (omega arith) (λ from to. after_requests nodes from to)))
     ]
 
 -- ---- while something is under way, some of it can be brought on
@@ -312,22 +354,30 @@ none_waiting core none n = none_waits (node_at core n).waiting (none_of_sum (λ 
 
 pub reply_on : (core : Core) (n : ℕ) (answer : Letter) → n < core.size.nodes → (node_at core n).waiting ≡ Some answer → IsEnabled core (event.Reply n)
 reply_on core n answer lt waits =
-    subst IsSome (sym ((steps_by_sides core n lt).reply ∙ ap (option_map (λ (s : NodeOf × Letter). sent_by core n Answers s.0 s.1)) (waits_replying (node_at core n) answer waits))) refl
+    subst IsSome (sym ((steps_by_sides core n lt).reply
+    ∙ ap (option_map (λ (s : NodeOf × Letter). sent_by core n Answers s.0 s.1)) (waits_replying (node_at core n) answer waits))) refl
 
-taken_on : (core : Core) (n from : ℕ) (kind : LaneKind) (taking : NodeOf → Letter → Option NodeOf) (e : Event) (letter : Letter) (rest : List Letter) → TakesFront core n kind taking from e → lane_of core kind from n ≡ letter ∷ rest → IsSome (taking (node_at core n) letter) → IsEnabled core e
-taken_on core n from kind taking e letter rest takes is some = subst IsSome (sym (takes.front letter rest is)) (there (taken_to core n kind from rest) (taking (node_at core n) letter) some)
+taken_on : (core : Core) (n from : ℕ) (kind : LaneKind) (taking : NodeOf → Letter → Option NodeOf) (e : Event) (letter : Letter) (rest : List Letter)
+    → TakesFront core n kind taking from e → lane_of core kind from n ≡ letter ∷ rest → IsSome (taking (node_at core n) letter) → IsEnabled core e
+taken_on core n from kind taking e letter rest takes is some =
+    subst IsSome (sym (takes.front letter rest is)) (there (taken_to core n kind from rest) (taking (node_at core n) letter) some)
 
 -- a request is served if no answer waits, and an answer is accepted
-pub serve_on : (core : Core) (from n : ℕ) (letter : Letter) (rest : List Letter) → IsReachable core → from < core.size.nodes → n < core.size.nodes → (node_at core n).waiting ≡ None → lane_of core Requests from n ≡ letter ∷ rest → IsEnabled core (event.Serve from n)
+pub serve_on : (core : Core) (from n : ℕ) (letter : Letter) (rest : List Letter) → IsReachable core → from < core.size.nodes → n < core.size.nodes
+    → (node_at core n).waiting ≡ None → lane_of core Requests from n ≡ letter ∷ rest → IsEnabled core (event.Serve from n)
 serve_on core from n letter rest reached f lt free is =
     let comes = front_comes core from n Requests letter (any_well core reached) f lt (ap (λ (lane : List Letter). slice_get lane 0) is) in
-    taken_on core n from Requests node_serving (event.Serve from n) letter rest ((steps_by_sides core n lt).serve from f) is (serve_enabled (node_at core n) letter comes.0.asks free)
+    taken_on core n from Requests node_serving (event.Serve from n) letter rest ((steps_by_sides core n lt).serve from f) is
+    (serve_enabled (node_at core n) letter comes.0.asks free)
 
-pub accept_on : (core : Core) (from n : ℕ) (letter : Letter) (rest : List Letter) → IsReachable core → from < core.size.nodes → n < core.size.nodes → lane_of core Answers from n ≡ letter ∷ rest → IsEnabled core (event.Accept from n)
+pub accept_on : (core : Core) (from n : ℕ) (letter : Letter) (rest : List Letter) → IsReachable core → from < core.size.nodes → n < core.size.nodes
+    → lane_of core Answers from n ≡ letter ∷ rest → IsEnabled core (event.Accept from n)
 accept_on core from n letter rest reached f lt is =
-    taken_on core n from Answers node_accepting (event.Accept from n) letter rest ((steps_by_sides core n lt).accept from f) is (any_accept_enabled core from n reached f lt letter rest is)
+    taken_on core n from Answers node_accepting (event.Accept from n) letter rest ((steps_by_sides core n lt).accept from f) is
+    (any_accept_enabled core from n reached f lt letter rest is)
 
-lane_drains : (core : Core) (place : ℕ) → IsReachable core → ((n : ℕ) → (node_at core n).waiting ≡ None) → 0 < lane_weight (lane_at core place) → IsPlace core.size.nodes place Requests ⊎ IsPlace core.size.nodes place Answers → CanDrain core
+lane_drains : (core : Core) (place : ℕ) → IsReachable core → ((n : ℕ) → (node_at core n).waiting ≡ None) → 0 < lane_weight (lane_at core place)
+    → IsPlace core.size.nodes place Requests ⊎ IsPlace core.size.nodes place Answers → CanDrain core
 lane_drains core place reached free some (inl at) =
     let front = some_lane (lane_at core place) some in
     let is : lane_of core Requests at.from at.to ≡ front.0 ∷ front.1 = ap (lane_at core) at.here ∙ front.2 in

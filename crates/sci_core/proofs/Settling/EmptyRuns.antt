@@ -29,16 +29,24 @@ pub record Emptied (old new : Core) (count : ℕ) : Type 0 where
   pub pending : pending_count new ≡ pending_count old
 
 -- what is pending stays
-pub pending_same : (core new : Core) → ((m : ℕ) → (node_at new m).pending ≡ (node_at core m).pending) → new.size ≡ core.size → pending_count new ≡ pending_count core
+pub pending_same : (core new : Core) → ((m : ℕ) → (node_at new m).pending ≡ (node_at core m).pending) → new.size ≡ core.size
+    → pending_count new ≡ pending_count core
 pending_same core new same size =
-    let one = sum_same (λ n. count_by is_some (node_at core n).pending) (λ n. count_by is_some (node_at new n).pending) 0 core.size.nodes (λ n lo hi. ap (λ (ps : List (Option Pending)). count_by is_some ps) (same n)) in
+    let one = sum_same (λ n. count_by is_some (node_at core n).pending) (λ n. count_by is_some (node_at new n).pending) 0 core.size.nodes
+    (λ n lo hi. ap (λ (ps : List (Option Pending)). count_by is_some ps) (same n)) in
     subst (λ (s : Size). sum_over (λ n. count_by is_some (node_at new n).pending) 0 s.nodes ≡ pending_count core) (sym size) one
 
-pub emptied_more : (old mid new : Core) (n line : ℕ) (ask : AskKind) (count : ℕ) → Emptied old mid count → IsReached mid → n < mid.size.nodes → line < mid.size.lines → IsNext mid line n ask → IsRound mid new n line ask → Leads settles mid new 4 → IsDrained new → Emptied old new (count + 4)
+pub emptied_more : (old mid new : Core) (n line : ℕ) (ask : AskKind) (count : ℕ) → Emptied old mid count → IsReached mid → n < mid.size.nodes
+    → line < mid.size.lines → IsNext mid line n ask → IsRound mid new n line ask → Leads settles mid new 4 → IsDrained new → Emptied old new (count + 4)
 emptied_more old mid new n line ask count so reached lt inside next round leads drained =
     let less = (next_lowers mid n line ask reached so.drained lt inside next).lowers new round in
     let few = so.few in
-    record { leads = leads_join settles old mid new count 4 so.leads leads; drained = drained; few = omega arith; pending = pending_same mid new round.pending round.size ∙ so.pending }
+    record {
+      leads = leads_join settles old mid new count 4 so.leads leads;
+      drained = drained;
+      few = omega arith;
+      pending = pending_same mid new round.pending round.size ∙ so.pending;
+    }
 
 -- the rounds are few
 pub few_events : (core : Core) → IsReached core → rank core ≤ 2048

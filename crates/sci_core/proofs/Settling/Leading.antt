@@ -33,16 +33,20 @@ leads_one may old new e is steps = record {
   then_ = ap (λ (o : Option Core). unwrap_or o old) steps;
 }
 
-pub leads_more : (may : Event → Bool) (old mid new : Core) (e : Event) (count : ℕ) → Leads may old mid count → may e ≡ true → stepping mid e ≡ Some new → Leads may old new (count + 1)
+pub leads_more : (may : Event → Bool) (old mid new : Core) (e : Event) (count : ℕ) → Leads may old mid count → may e ≡ true → stepping mid e ≡ Some new
+    → Leads may old new (count + 1)
 leads_more may old mid new e count leads is steps = leads_join may old mid new count 1 leads (leads_one may mid new e is steps)
 
 -- events that pass one test pass another
-made_weaker : (may also : Event → Bool) (core : Core) (events : List Event) → ((e : Event) → may e ≡ true → also e ≡ true) → AreMade may core events → AreMade also core events
+made_weaker : (may also : Event → Bool) (core : Core) (events : List Event) → ((e : Event) → may e ≡ true → also e ≡ true) → AreMade may core events
+    → AreMade also core events
 made_weaker may also core [] so made = tt
 made_weaker may also core (e ∷ events) so made = (so e made.0, made.1, made_weaker may also (step core e) events so made.2)
 
-pub leads_weaker : (may also : Event → Bool) (old new : Core) (count : ℕ) → ((e : Event) → may e ≡ true → also e ≡ true) → Leads may old new count → Leads also old new count
-leads_weaker may also old new count so leads = record { events = leads.events; made = made_weaker may also old leads.events so leads.made; counted = leads.counted; then_ = leads.then_ }
+pub leads_weaker : (may also : Event → Bool) (old new : Core) (count : ℕ) → ((e : Event) → may e ≡ true → also e ≡ true) → Leads may old new count
+    → Leads also old new count
+leads_weaker may also old new count so leads =
+    record { events = leads.events; made = made_weaker may also old leads.events so leads.made; counted = leads.counted; then_ = leads.then_ }
 
 pub leads_on : (may : Event → Bool) (old new : Core) (count : ℕ) → Leads may old new count → LeadsOn may old new
 leads_on may old new count leads = record { count = count; leads = leads }

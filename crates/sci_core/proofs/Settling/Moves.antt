@@ -1,5 +1,6 @@
 -- What is found under way can be brought on; if nothing is found, nothing is under way.
-use Rattle.std.proofs.Common.{◌≡◌, ℕ, suc, get_or, ◌*◌, ◌+◌, ◌<◌, ◌≤◌, true, false, List, [], ◌∷◌, length, Option, Some, None, refl, sym, ap, subst, ◌∙◌, arith, inl, inr}
+use Rattle.std.proofs.Common.{◌≡◌, ℕ, suc, get_or, ◌*◌, ◌+◌, ◌<◌, ◌≤◌, true, false, List, [], ◌∷◌, length, Option, Some, None, refl, sym, ap, subst, ◌∙◌, arith}
+use Rattle.std.proofs.Common.{inl, inr}
 use Rattle.std.specs.Prelude.{IsSome}
 use Rattle.std.proofs.Math.Nat.{mul-le-mul_left}
 use Rattle.std.proofs.lemmas.Bool.{cases_lt}
@@ -34,7 +35,8 @@ no_letter : (lane : List Letter) → length lane ≡ 0 → lane ≡ []
 no_letter [] none = refl
 no_letter (letter ∷ rest) none = cc
 
-none_carried : (core : Core) → IsWellFormed core → ((from to : ℕ) → from < core.size.nodes → to < core.size.nodes → length (lane_of core Requests from to) ≡ 0) → ((from to : ℕ) → from < core.size.nodes → to < core.size.nodes → length (lane_of core Answers from to) ≡ 0) → (place : ℕ) → lane_at core place ≡ []
+none_carried : (core : Core) → IsWellFormed core → ((from to : ℕ) → from < core.size.nodes → to < core.size.nodes → length (lane_of core Requests from to) ≡ 0)
+    → ((from to : ℕ) → from < core.size.nodes → to < core.size.nodes → length (lane_of core Answers from to) ≡ 0) → (place : ℕ) → lane_at core place ≡ []
 none_carried core well requests answers place =
     elim (cases_lt place (2 * core.size.nodes * core.size.nodes)) [
       | inl below ↦ elim (place_of core.size.nodes place well.sizes.some_node below) [
@@ -44,7 +46,9 @@ none_carried core well requests answers place =
       | inr past ↦ get_or_past core.lanes place [] (subst (λ (k : ℕ). k ≤ place) (sym well.sizes.lanes_long) past)
     ]
 
-pub nothing_found : (core : Core) → IsReached core → ((n : ℕ) → n < core.size.nodes → (node_at core n).waiting ≡ None) → ((from to : ℕ) → from < core.size.nodes → to < core.size.nodes → length (lane_of core Answers from to) ≡ 0) → ((from to : ℕ) → from < core.size.nodes → to < core.size.nodes → length (lane_of core Requests from to) ≡ 0)
+pub nothing_found : (core : Core) → IsReached core → ((n : ℕ) → n < core.size.nodes → (node_at core n).waiting ≡ None)
+    → ((from to : ℕ) → from < core.size.nodes → to < core.size.nodes → length (lane_of core Answers from to) ≡ 0)
+    → ((from to : ℕ) → from < core.size.nodes → to < core.size.nodes → length (lane_of core Requests from to) ≡ 0)
     → IsDrained core
 nothing_found core reached waiting answers requests =
     let well = reached_well core reached in
@@ -63,11 +67,15 @@ found (Some x) some = (x, refl)
 pub reply_found : (core : Core) (n : ℕ) → n < core.size.nodes → IsSome (node_at core n).waiting → IsEnabled core (event.Reply n)
 reply_found core n lt some = let answer = found (node_at core n).waiting some in reply_on core n answer.0 lt answer.1
 
-pub accept_found : (core : Core) (from n : ℕ) → IsReached core → from < core.size.nodes → n < core.size.nodes → 0 < length (lane_of core Answers from n) → IsEnabled core (event.Accept from n)
-accept_found core from n reached f lt not = let front = some_letter (lane_of core Answers from n) not in accept_on core from n front.0 front.1 (reachable core reached) f lt front.2
+pub accept_found : (core : Core) (from n : ℕ) → IsReached core → from < core.size.nodes → n < core.size.nodes → 0 < length (lane_of core Answers from n)
+    → IsEnabled core (event.Accept from n)
+accept_found core from n reached f lt not = let front = some_letter (lane_of core Answers from n) not in
+    accept_on core from n front.0 front.1 (reachable core reached) f lt front.2
 
-pub serve_found : (core : Core) (from n : ℕ) → IsReached core → from < core.size.nodes → n < core.size.nodes → ((m : ℕ) → m < core.size.nodes → (node_at core m).waiting ≡ None) → 0 < length (lane_of core Requests from n) → IsEnabled core (event.Serve from n)
-serve_found core from n reached f lt free not = let front = some_letter (lane_of core Requests from n) not in serve_on core from n front.0 front.1 (reachable core reached) f lt (free n lt) front.2
+pub serve_found : (core : Core) (from n : ℕ) → IsReached core → from < core.size.nodes → n < core.size.nodes
+    → ((m : ℕ) → m < core.size.nodes → (node_at core m).waiting ≡ None) → 0 < length (lane_of core Requests from n) → IsEnabled core (event.Serve from n)
+serve_found core from n reached f lt free not = let front = some_letter (lane_of core Requests from n) not in
+    serve_on core from n front.0 front.1 (reachable core reached) f lt (free n lt) front.2
 
 -- ---- each move lowers the weight by one
 
@@ -118,7 +126,8 @@ pub record Drained (old new : Core) (count : ℕ) : Type 0 where
   pub leads : Leads brings_on old new count
   pub weighs : count + weight new ≡ weight old
 
-pub drained_more : (old mid new : Core) (e : Event) (count : ℕ) → Drained old mid count → IsReached mid → brings_on e ≡ true → stepping mid e ≡ Some new → Drained old new (count + 1)
+pub drained_more : (old mid new : Core) (e : Event) (count : ℕ) → Drained old mid count → IsReached mid → brings_on e ≡ true → stepping mid e ≡ Some new
+    → Drained old new (count + 1)
 drained_more old mid new e count so reached is steps =
     let falls = move_weighs mid new e reached is steps in
     let before = so.weighs in

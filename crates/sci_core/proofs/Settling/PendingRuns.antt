@@ -1,5 +1,6 @@
 -- Pending operations: each is performed by one read, the operation itself and one write-back.
-use Rattle.std.proofs.Common.{◌≡◌, ◌≢◌, ℕ, suc, ◌+◌, ◌*◌, ◌<◌, ◌≤◌, not, ◌&&◌, Bool, true, false, List, [], ◌∷◌, length, get_or, Option, Some, None, refl, sym, ap, subst, ◌∙◌, arith, inl, inr}
+use Rattle.std.proofs.Common.{◌≡◌, ◌≢◌, ℕ, suc, ◌+◌, ◌*◌, ◌<◌, ◌≤◌, not, ◌&&◌, Bool, true, false, List, [], ◌∷◌, length, get_or, Option, Some, None, refl, sym}
+use Rattle.std.proofs.Common.{ap, subst, ◌∙◌, arith, inl, inr}
 use Rattle.std.specs.Prelude.{IsSome, slice_index_or, count_by, is_some, option_map, unwrap_or}
 use Rattle.std.proofs.Math.Nat.{mul-le-mul_left}
 use Rattle.std.proofs.lemmas.Bool.{cases_eq, cases_lt, lt-ltb}
@@ -55,7 +56,8 @@ served_pending part request next (At_home served asks serves e) = ap (λ (p : No
 served_pending part request next (In_cache served serves e) = ap (λ (p : NodeOf). p.pending) (sym e)
 
 -- one node of a state becomes another, with the same operations pending
-one_pending : (core : Core) (n : ℕ) (next : NodeOf) → next.pending ≡ (node_at core n).pending → (m : ℕ) → (node_at (with_node core n next) m).pending ≡ (node_at core m).pending
+one_pending : (core : Core) (n : ℕ) (next : NodeOf) → next.pending ≡ (node_at core n).pending → (m : ℕ)
+    → (node_at (with_node core n next) m).pending ≡ (node_at core m).pending
 one_pending core n next same m = at_place_set (λ (j : ℕ) (part : NodeOf). part.pending ≡ (node_at core j).pending) core.parts n next no_node (λ j. refl) same m
 
 move_pending : (core new : Core) (e : Event) → brings_on e ≡ true → stepping core e ≡ Some new → (m : ℕ) → (node_at new m).pending ≡ (node_at core m).pending
@@ -63,18 +65,22 @@ move_pending core new (event.Serve from n) is steps m =
     let lt = some_node core new (event.Serve from n) steps in
     let f = some_sender core new (event.Serve from n) Requests from (node_serving (node_at core n)) lt refl steps in
     let took = took_along core new Requests n from node_serving (event.Serve from n) _ ((steps_by_sides core n lt).serve from f) refl steps in
-    let as_ = of_some (ServedAs (node_at core n) took.letter) (node_serving (node_at core n) took.letter) took.next took.takes (serve_as (node_at core n) took.letter) in
+    let as_ = of_some (ServedAs (node_at core n) took.letter) (node_serving (node_at core n) took.letter) took.next took.takes
+    (serve_as (node_at core n) took.letter) in
     ap (λ (x : Core). (node_at x m).pending) took.then_ ∙ one_pending core n took.next (served_pending (node_at core n) took.letter took.next as_) m
 move_pending core new (event.Reply n) is steps m =
     let lt = some_node core new (event.Reply n) steps in
-    let made = made_by (λ (s : NodeOf × Letter). sent_by core n Answers s.0 s.1) (node_replying (node_at core n)) new (sym (steps_by_sides core n lt).reply ∙ steps) in
-    let as_ = of_some (λ (x : NodeOf × Letter). (record (node_at core n) { waiting = None }) ≡ x.0) (node_replying (node_at core n)) made.0 made.1 (reply_as (node_at core n)) in
+    let made = made_by (λ (s : NodeOf × Letter). sent_by core n Answers s.0 s.1) (node_replying (node_at core n)) new
+    (sym (steps_by_sides core n lt).reply ∙ steps) in
+    let as_ = of_some (λ (x : NodeOf × Letter). (record (node_at core n) { waiting = None }) ≡ x.0) (node_replying (node_at core n)) made.0 made.1
+    (reply_as (node_at core n)) in
     ap (λ (x : Core). (node_at x m).pending) made.2 ∙ one_pending core n made.0.0 (ap (λ (p : NodeOf). p.pending) (sym as_)) m
 move_pending core new (event.Accept from n) is steps m =
     let lt = some_node core new (event.Accept from n) steps in
     let f = some_sender core new (event.Accept from n) Answers from (node_accepting (node_at core n)) lt refl steps in
     let took = took_along core new Answers n from node_accepting (event.Accept from n) _ ((steps_by_sides core n lt).accept from f) refl steps in
-    let as_ = of_some (AcceptedAs (node_at core n) took.letter) (node_accepting (node_at core n) took.letter) took.next took.takes (accepted_as (node_at core n) took.letter) in
+    let as_ = of_some (AcceptedAs (node_at core n) took.letter) (node_accepting (node_at core n) took.letter) took.next took.takes
+    (accepted_as (node_at core n) took.letter) in
     ap (λ (x : Core). (node_at x m).pending) took.then_ ∙ one_pending core n took.next (ap (λ (p : NodeOf). p.pending) as_.then_) m
 move_pending core new _ is steps m = cc
 
@@ -91,7 +97,8 @@ moved_kept core (e ∷ events) reached made =
     let reached_next = subst IsReached (sym is) (reached_stepping core next.0 e reached next.1) in
     let rest = moved_kept (step core e) events reached_next made.2 in
     let size = (step_well core e (reached_well core reached)).same in
-    let pending : (m : ℕ) → (node_at (step core e) m).pending ≡ (node_at core m).pending = λ m. ap (λ (x : Core). (node_at x m).pending) is ∙ move_pending core next.0 e made.0 next.1 m in
+    let pending : (m : ℕ) → (node_at (step core e) m).pending ≡ (node_at core m).pending =
+    λ m. ap (λ (x : Core). (node_at x m).pending) is ∙ move_pending core next.0 e made.0 next.1 m in
     record { size = rest.size ∙ size; pending = λ m. rest.pending m ∙ pending m }
 
 pub drained_kept : (old new : Core) (count : ℕ) → IsReached old → Leads brings_on old new count → Kept old new
@@ -122,7 +129,9 @@ count_none p (x ∷ xs) d none =
 slot_free : (core : Core) (n : ℕ) → IsReached core → AreOut core → n < core.size.nodes → has_slot (node_at core n).cache ≡ true
 slot_free core n reached out lt =
     let part = (reached_well core reached).each_part n lt in
-    let none : slots_taken (node_at core n).cache.lines ≡ 0 = count_none (λ (line : LineState). not (is_out line.state)) (node_at core n).cache.lines untouched (λ i. ap (λ (s : CacheState). not (is_out s)) (out i n)) in
+    let none : slots_taken (node_at core n).cache.lines ≡ 0 =
+    count_none (λ (line : LineState). not (is_out line.state)) (node_at core n).cache.lines untouched
+    (λ i. ap (λ (s : CacheState). not (is_out s)) (out i n)) in
     let room = part.room in
     let some = reached.size.extent.has_slot in
     lt-ltb (slots_taken (node_at core n).cache.lines) (node_at core n).cache.slots (omega arith)
@@ -130,10 +139,12 @@ slot_free core n reached out lt =
 abbrev reads : Asked
 reads = record { to = None; request = body.Mread; next = Asking }
 
-pub can_read : (core : Core) (n line : ℕ) → IsReached core → AreOut core → n < core.size.nodes → line < core.size.lines → IsSome (node_asking (node_at core n) line kind.Mread)
+pub can_read : (core : Core) (n line : ℕ) → IsReached core → AreOut core → n < core.size.nodes → line < core.size.lines
+    → IsSome (node_asking (node_at core n) line kind.Mread)
 can_read core n line reached out lt inside =
     let slot = slot_free core n reached out lt in
-    asks_if (node_at core n) line kind.Mread reads (line_known core n line (node_at core n) reached lt inside refl) (ap (λ (s : CacheState). asking s kind.Mread) (out line n))
+    asks_if (node_at core n) line kind.Mread reads (line_known core n line (node_at core n) reached lt inside refl)
+    (ap (λ (s : CacheState). asking s kind.Mread) (out line n))
     (ap (λ (s : CacheState). is_out s && not (has_slot (node_at core n).cache)) (out line n) ∙ ap (λ (b : Bool). not b) slot)
 
 -- the node has the line alone
@@ -141,22 +152,30 @@ pub record Read (core new : Core) (n line : ℕ) : Type 0 where
   pub contents : Stamped
   pub shift : Shifts core new n line (Head None contents)
 
-pub has_read : (core new : Core) (n line : ℕ) → IsReached core → IsDrained core → AreOut core → line < core.size.lines → IsRound core new n line kind.Mread → Read core new n line
+pub has_read : (core new : Core) (n line : ℕ) → IsReached core → IsDrained core → AreOut core → line < core.size.lines → IsRound core new n line kind.Mread
+    → Read core new n line
 has_read core new n line reached none out inside round =
     let home = home_alone core line (quiet core line reached none inside) (λ m. out line m) in
     let d = home.0 in
     let k = known core new n line kind.Mread reads round (ap (λ (s : CacheState). asking s kind.Mread) (out line n)) in
     let serves = ap (λ h. home_serving h n body.Mread) home.1 in
-    record { contents = d; shift = home_round core new n line reads (Head None d) k (record { home = at.Gone n; answer = body.Mdata d; serves = serves; alone = λ s. refl; accepts = refl }) }
+    record {
+      contents = d;
+      shift =
+          home_round core new n line reads (Head None d) k
+          (record { home = at.Gone n; answer = body.Mdata d; serves = serves; alone = λ s. refl; accepts = refl });
+    }
 
 -- ---- and the operation is performed
 
-pub can_perform : (core new : Core) (n line : ℕ) → IsReached new → Read core new n line → n < core.size.nodes → line < core.size.lines → IsSome (pending_on (node_at core n) line) → IsEnabled new (event.Perform n line)
+pub can_perform : (core new : Core) (n line : ℕ) → IsReached new → Read core new n line → n < core.size.nodes → line < core.size.lines
+    → IsSome (pending_on (node_at core n) line) → IsEnabled new (event.Perform n line)
 can_perform core new n line reached read lt inside some =
     let pending = found (pending_on (node_at core n) line) some in
     let below : n < new.size.nodes = subst (λ (s : Size). n < s.nodes) (sym read.shift.size) lt in
     let here : line < new.size.lines = subst (λ (s : Size). line < s.lines) (sym read.shift.size) inside in
-    let still : pending_on (node_at new n) line ≡ Some pending.0 = ap (λ (ps : List (Option Pending)). slice_index_or ps line None) (read.shift.pending n) ∙ pending.1 in
+    let still : pending_on (node_at new n) line ≡ Some pending.0 =
+    ap (λ (ps : List (Option Pending)). slice_index_or ps line None) (read.shift.pending n) ∙ pending.1 in
     let performs = found (node_performing (node_at new n) line) (sole_performs new n line pending.0 read.contents reached below here still read.shift.here) in
     subst IsSome (sym ((steps_by_sides new n below).perform line ∙ ap (option_map (λ (done : NodeOf × Entry). with_node new n done.0)) performs.1)) refl
 
@@ -172,7 +191,9 @@ pub record Performs_one (core new : Core) : Type 0 where
   pub size : new.size ≡ core.size
 
 -- where one node's line was the only copy, it is so still, and no other state changes
-performed_one : (core new : Core) (n line : ℕ) (c : Stamped) (done : NodeOf × Entry) (does : PerformedAs (node_at core n) line done) → IsReached core → IsReached new → IsDrained core → n < core.size.nodes → line < core.size.lines → state_at core line n ≡ Head None c → new ≡ with_node core n done.0 → stepping core (event.Perform n line) ≡ Some new
+performed_one : (core new : Core) (n line : ℕ) (c : Stamped) (done : NodeOf × Entry) (does : PerformedAs (node_at core n) line done) → IsReached core
+    → IsReached new → IsDrained core → n < core.size.nodes → line < core.size.lines → state_at core line n ≡ Head None c → new ≡ with_node core n done.0
+    → stepping core (event.Perform n line) ≡ Some new
     → does.pending.op.line ≡ line → Performs_one core new
 performed_one core new n line c done does reached next none lt inside sole is steps here =
     let well = reached_well core reached in
@@ -183,10 +204,14 @@ performed_one core new n line c done does reached next none lt inside sole is st
     let performs = of_some (Performs state op) (performing state op) does.did does.performs (performing_does state op) in
     let left = left_alone state op performs.contents c does.did.next (ap (λ (k : ℕ). (line_of part.cache k).state) here ∙ sole) performs.leaves in
     let at : node_at new n ≡ done.0 = ap (λ (x : Core). node_at x n) is ∙ get_or-set_same core.parts n done.0 no_node operates.below in
-    let apart : (m : ℕ) → m ≢ n → node_at new m ≡ node_at core m = λ m other. ap (λ (x : Core). node_at x m) is ∙ get_or-set_other core.parts n m done.0 no_node other in
-    let now : state_at new line n ≡ Head None left.0 = ap (λ (p : NodeOf). (line_of p.cache line).state) at ∙ (ap (λ (k : ℕ). (line_of done.0.cache k).state) (sym here) ∙ (operates.state ∙ left.1)) in
+    let apart : (m : ℕ) → m ≢ n → node_at new m ≡ node_at core m =
+    λ m other. ap (λ (x : Core). node_at x m) is ∙ get_or-set_other core.parts n m done.0 no_node other in
+    let now : state_at new line n ≡ Head None left.0 =
+    ap (λ (p : NodeOf). (line_of p.cache line).state) at ∙ (ap (λ (k : ℕ). (line_of done.0.cache k).state) (sym here) ∙ (operates.state ∙ left.1)) in
     let others : (m k : ℕ) → ((m ≡ n) × (k ≡ line) → ⊥) → state_at new k m ≡ state_at core k m = λ m k not. elim (cases_eq m n) [
-      | inl e ↦ ap (state_at new k) e ∙ (ap (λ (p : NodeOf). (line_of p.cache k).state) at ∙ (ap (λ (l : LineState). l.state) (operates.others k (λ on. not (e, on ∙ here))) ∙ ap (state_at core k) (sym e)))
+      | inl e ↦ ap (state_at new k) e
+          ∙ (ap (λ (p : NodeOf). (line_of p.cache k).state) at
+          ∙ (ap (λ (l : LineState). l.state) (operates.others k (λ on. not (e, on ∙ here))) ∙ ap (state_at core k) (sym e)))
       | inr other ↦ ap (λ (p : NodeOf). (line_of p.cache k).state) (apart m other)
     ] in
     let size : new.size ≡ core.size = ap (λ (x : Core). x.size) is in
@@ -196,32 +221,41 @@ performed_one core new n line c done does reached next none lt inside sole is st
     let zero_ = drained_weighs core none in
     let old_fits = (well.each_part n lt).fits in
     let new_fits = ((reached_well new next).each_part n (subst (λ (s : Size). n < s.nodes) (sym size) lt)).fits in
-    let log : length (node_at new n).log ≡ length part.log + 1 = ap (λ (p : NodeOf). length p.log) at ∙ (ap (λ (p : NodeOf). length p.log) (sym does.next) ∙ length-append part.log (entry_of part does.pending does.did.reply does.did.version ∷ [])) in
+    let log : length (node_at new n).log ≡ length part.log + 1 =
+    ap (λ (p : NodeOf). length p.log) at
+    ∙ (ap (λ (p : NodeOf). length p.log) (sym does.next) ∙ length-append part.log (entry_of part does.pending does.did.reply does.did.version ∷ [])) in
     let issued : (node_at new n).issued ≡ part.issued = ap (λ (p : NodeOf). p.issued) at ∙ ap (λ (p : NodeOf). p.issued) (sym does.next) in
     let was = old_fits.logged in
     let now_logged = new_fits.logged in
     let one : count_by is_some part.pending ≡ count_by is_some (node_at new n).pending + 1 = omega arith in
-    let sum = sum_one (λ m. count_by is_some (node_at core m).pending) (λ m. count_by is_some (node_at new m).pending) 0 core.size.nodes n (omega arith) (omega arith) (λ m other. ap (λ (p : NodeOf). count_by is_some p.pending) (apart m other)) in
-    let whole : pending_count new ≡ sum_over (λ m. count_by is_some (node_at new m).pending) 0 core.size.nodes = ap (λ (s : Size). sum_over (λ m. count_by is_some (node_at new m).pending) 0 s.nodes) size in
+    let sum = sum_one (λ m. count_by is_some (node_at core m).pending) (λ m. count_by is_some (node_at new m).pending) 0 core.size.nodes n (omega arith)
+    (omega arith) (λ m other. ap (λ (p : NodeOf). count_by is_some p.pending) (apart m other)) in
+    let whole : pending_count new ≡ sum_over (λ m. count_by is_some (node_at new m).pending) 0 core.size.nodes =
+    ap (λ (s : Size). sum_over (λ m. count_by is_some (node_at new m).pending) 0 s.nodes) size in
     record { drained = drained new (omega arith); rank = omega arith; pending = omega arith; size = size }
 
-pub performs_one : (core new : Core) (n line : ℕ) (c : Stamped) → IsReached core → IsDrained core → n < core.size.nodes → line < core.size.lines → state_at core line n ≡ Head None c → stepping core (event.Perform n line) ≡ Some new → Performs_one core new
+pub performs_one : (core new : Core) (n line : ℕ) (c : Stamped) → IsReached core → IsDrained core → n < core.size.nodes → line < core.size.lines
+    → state_at core line n ≡ Head None c → stepping core (event.Perform n line) ≡ Some new → Performs_one core new
 performs_one core new n line c reached none lt inside sole steps =
-    let made = made_by (λ (done : NodeOf × Entry). with_node core n done.0) (node_performing (node_at core n) line) new (sym ((steps_by_sides core n lt).perform line) ∙ steps) in
+    let made = made_by (λ (done : NodeOf × Entry). with_node core n done.0) (node_performing (node_at core n) line) new
+    (sym ((steps_by_sides core n lt).perform line) ∙ steps) in
     let does = of_some (PerformedAs (node_at core n) line) (node_performing (node_at core n) line) made.0 made.1 (perform_as (node_at core n) line) in
     let each = ((reached_well core reached).each_part n lt).fits.each line in
     let here = (of_some (IsPendingOn (node_at core n).issued line) (pending_on (node_at core n) line) does.pending does.here each).here in
     performed_one core new n line c made.0 does reached (reached_stepping core new (event.Perform n line) reached steps) none lt inside sole made.2 steps here
 
-pub performs_one_read : (old core new : Core) (n line : ℕ) → IsReached core → IsDrained core → n < old.size.nodes → line < old.size.lines → (read : Read old core n line) → stepping core (event.Perform n line) ≡ Some new → Performs_one core new
+pub performs_one_read : (old core new : Core) (n line : ℕ) → IsReached core → IsDrained core → n < old.size.nodes → line < old.size.lines
+    → (read : Read old core n line) → stepping core (event.Perform n line) ≡ Some new → Performs_one core new
 performs_one_read old core new n line reached none lt inside read steps =
-    performs_one core new n line read.contents reached none (subst (λ (s : Size). n < s.nodes) (sym read.shift.size) lt) (subst (λ (s : Size). line < s.lines) (sym read.shift.size) inside) read.shift.here steps
+    performs_one core new n line read.contents reached none (subst (λ (s : Size). n < s.nodes) (sym read.shift.size) lt)
+    (subst (λ (s : Size). line < s.lines) (sym read.shift.size) inside) read.shift.here steps
 
 -- the events so far
 pub after_perform : (old mid new : Core) (n line : ℕ) → Leads settles old mid 4 → stepping mid (event.Perform n line) ≡ Some new → Leads settles old new 5
 after_perform old mid new n line leads steps = leads_more settles old mid new (event.Perform n line) 4 leads refl steps
 
-pub worked_one : (old mid after_ new : Core) (n line rest : ℕ) → Leads settles old mid 4 → stepping mid (event.Perform n line) ≡ Some after_ → Leads settles after_ new rest → Leads settles old new (rest + 5)
+pub worked_one : (old mid after_ new : Core) (n line rest : ℕ) → Leads settles old mid 4 → stepping mid (event.Perform n line) ≡ Some after_
+    → Leads settles after_ new rest → Leads settles old new (rest + 5)
 worked_one old mid after_ new n line rest leads steps last =
     let sum : 5 + rest ≡ rest + 5 = omega arith in
     subst (Leads settles old new) sum (leads_join settles old after_ new 5 rest (after_perform old mid after_ n line leads steps) last)
@@ -235,7 +269,8 @@ pub record Done (old new : Core) (rest : ℕ) : Type 0 where
   pub few : rest + 5 ≤ 9
   pub pending : pending_count old ≡ pending_count new + 1
 
-pub done_so : (old mid after_ new : Core) (n line : ℕ) (rest : ℕ) → AreOut old → n < old.size.nodes → line < old.size.lines → Read old mid n line → Performs_one mid after_ → rest ≤ 4 * rank after_ → pending_count new ≡ pending_count after_ → Done old new rest
+pub done_so : (old mid after_ new : Core) (n line : ℕ) (rest : ℕ) → AreOut old → n < old.size.nodes → line < old.size.lines → Read old mid n line
+    → Performs_one mid after_ → rest ≤ 4 * rank after_ → pending_count new ≡ pending_count after_ → Done old new rest
 done_so old mid after_ new n line rest out lt inside read one few pending =
     let none = none_left old out in
     let was = ap entry_rank (out line n) in
@@ -255,7 +290,8 @@ pub record Worked (old new : Core) (count : ℕ) : Type 0 where
   pub lines : count + 9 * pending_count new ≤ 11 * (old.size.nodes * old.size.lines) + 9 * pending_count old
   pub slots : count + 9 * pending_count new ≤ 11 * (old.size.nodes * old.size.slots) + 9 * pending_count old
 
-pub worked_first : (old mid new : Core) (a b : ℕ) → IsReached old → IsReached mid → Leads brings_on old mid a → a ≡ weight old → Leads settles mid new b → b ≤ 4 * rank mid → pending_count new ≡ pending_count mid → IsDrained new → AreOut new → Worked old new (a + b)
+pub worked_first : (old mid new : Core) (a b : ℕ) → IsReached old → IsReached mid → Leads brings_on old mid a → a ≡ weight old → Leads settles mid new b
+    → b ≤ 4 * rank mid → pending_count new ≡ pending_count mid → IsDrained new → AreOut new → Worked old new (a + b)
 worked_first old mid new a b reached next drains weighs_ empties few pending none out =
     let kept = drained_kept old mid a reached drains in
     let first = light old (reachable old reached) in
@@ -276,7 +312,8 @@ worked_first old mid new a b reached next drains weighs_ empties few pending non
       slots = omega arith;
     }
 
-pub worked_more : (old mid new : Core) (count k : ℕ) → Worked old mid count → Leads settles mid new k → k ≤ 9 → pending_count mid ≡ pending_count new + 1 → IsDrained new → AreOut new → Worked old new (count + k)
+pub worked_more : (old mid new : Core) (count k : ℕ) → Worked old mid count → Leads settles mid new k → k ≤ 9 → pending_count mid ≡ pending_count new + 1
+    → IsDrained new → AreOut new → Worked old new (count + k)
 worked_more old mid new count k so leads few pending none out =
     let lines = so.lines in
     let slots = so.slots in
@@ -307,19 +344,22 @@ few_worked old new count reached so =
     omega arith
 
 -- a line of a node where nothing is pending
-none_pending : (core : Core) (n line : ℕ) → IsReached core → ((m k : ℕ) → m < core.size.nodes → k < core.size.lines → pending_on (node_at core m) k ≡ None) → pending_on (node_at core n) line ≡ None
+none_pending : (core : Core) (n line : ℕ) → IsReached core → ((m k : ℕ) → m < core.size.nodes → k < core.size.lines → pending_on (node_at core m) k ≡ None)
+    → pending_on (node_at core n) line ≡ None
 none_pending core n line reached none =
     let well = reached_well core reached in
     elim (cases_lt n core.size.nodes) [
       | inl below ↦ elim (cases_lt line core.size.lines) [
         | inl inside ↦ none n line below inside
-        | inr past ↦ (let all = (well.each_part n below).each in let long = (well.each_part n below).fits.pending in get_or_past (node_at core n).pending line None (omega arith))
+        | inr past ↦ (let all = (well.each_part n below).each in let long = (well.each_part n below).fits.pending in
+            get_or_past (node_at core n).pending line None (omega arith))
       ]
       | inr beyond ↦ (let long = well.sizes.parts_long in ap (λ (p : NodeOf). pending_on p line) (get_or_past core.parts n no_node (omega arith)))
     ]
 
 -- at rest
-pub settled_so : (core : Core) → IsReached core → IsDrained core → AreOut core → ((m k : ℕ) → m < core.size.nodes → k < core.size.lines → pending_on (node_at core m) k ≡ None) → IsSettled core
+pub settled_so : (core : Core) → IsReached core → IsDrained core → AreOut core
+    → ((m k : ℕ) → m < core.size.nodes → k < core.size.lines → pending_on (node_at core m) k ≡ None) → IsSettled core
 settled_so core reached none out pending = record {
   drained = none;
   rest = λ n. record { none_pending = λ line. none_pending core n line reached pending; none_held = λ line. ap is_out (out line n) };

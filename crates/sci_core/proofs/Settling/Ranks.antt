@@ -1,5 +1,6 @@
 -- How the number of rounds that are left changes with the states of one line.
-use Rattle.std.proofs.Common.{◌≡◌, ◌≢◌, ◌⊎◌, ℕ, zero, suc, ◌+◌, ◌*◌, ◌<◌, ◌≤◌, not, false, List, length, take, get_or, refl, sym, ap, subst, ◌∙◌, arith, inl, inr}
+use Rattle.std.proofs.Common.{◌≡◌, ◌≢◌, ◌⊎◌, ℕ, zero, suc, ◌+◌, ◌*◌, ◌<◌, ◌≤◌, not, false, List, length, take, get_or, refl, sym, ap, subst, ◌∙◌, arith, inl}
+use Rattle.std.proofs.Common.{inr}
 use Rattle.std.specs.Prelude.{count_by}
 use Rattle.std.specs.List.{range_with_len, sum_by}
 use Rattle.std.proofs.lemmas.Bool.{cases_Bool, cases_eq}
@@ -35,7 +36,8 @@ sum_same f g from (suc count) same =
     omega arith
 
 -- one changes
-pub sum_one : (f g : ℕ → ℕ) (from count a : ℕ) → from ≤ a → a < from + count → ((i : ℕ) → i ≢ a → g i ≡ f i) → sum_over g from count + f a ≡ sum_over f from count + g a
+pub sum_one : (f g : ℕ → ℕ) (from count a : ℕ) → from ≤ a → a < from + count → ((i : ℕ) → i ≢ a → g i ≡ f i)
+    → sum_over g from count + f a ≡ sum_over f from count + g a
 sum_one f g from zero a low high same = absurd (omega arith)
 sum_one f g from (suc count) a low high same =
     let x = sum_more f from count in
@@ -53,7 +55,8 @@ sum_one f g from (suc count) a low high same =
     ]
 
 -- one changes, and one that is past may
-sum_past : (f g : ℕ → ℕ) (from count a b : ℕ) → a < from → from ≤ b → b < from + count → ((i : ℕ) → i ≢ a → i ≢ b → g i ≡ f i) → sum_over g from count + f b ≡ sum_over f from count + g b
+sum_past : (f g : ℕ → ℕ) (from count a b : ℕ) → a < from → from ≤ b → b < from + count → ((i : ℕ) → i ≢ a → i ≢ b → g i ≡ f i)
+    → sum_over g from count + f b ≡ sum_over f from count + g b
 sum_past f g from zero a b past low high same = absurd (omega arith)
 sum_past f g from (suc count) a b past low high same =
     let x = sum_more f from count in
@@ -71,7 +74,8 @@ sum_past f g from (suc count) a b past low high same =
     ]
 
 -- two change
-pub sum_two : (f g : ℕ → ℕ) (from count a b : ℕ) → from ≤ a → a < from + count → from ≤ b → b < from + count → a ≢ b → ((i : ℕ) → i ≢ a → i ≢ b → g i ≡ f i) → sum_over g from count + (f a + f b) ≡ sum_over f from count + (g a + g b)
+pub sum_two : (f g : ℕ → ℕ) (from count a b : ℕ) → from ≤ a → a < from + count → from ≤ b → b < from + count → a ≢ b → ((i : ℕ) → i ≢ a → i ≢ b → g i ≡ f i)
+    → sum_over g from count + (f a + f b) ≡ sum_over f from count + (g a + g b)
 sum_two f g from zero a b la ha lb hb apart same = absurd (omega arith)
 sum_two f g from (suc count) a b la ha lb hb apart same =
     let x = sum_more f from count in
@@ -102,25 +106,32 @@ abbrev node_rank : Core → ℕ → ℕ
 node_rank core n = sum_over (λ line. entry_rank (state_at core line n)) 0 core.size.lines
 
 -- one line of a node changes
-one_node : (core new : Core) (n line : ℕ) → line < core.size.lines → new.size ≡ core.size → ((k : ℕ) → k ≢ line → state_at new k n ≡ state_at core k n) → node_rank new n + entry_rank (state_at core line n) ≡ node_rank core n + entry_rank (state_at new line n)
+one_node : (core new : Core) (n line : ℕ) → line < core.size.lines → new.size ≡ core.size → ((k : ℕ) → k ≢ line → state_at new k n ≡ state_at core k n)
+    → node_rank new n + entry_rank (state_at core line n) ≡ node_rank core n + entry_rank (state_at new line n)
 one_node core new n line inside size same =
-    let one = sum_one (λ k. entry_rank (state_at core k n)) (λ k. entry_rank (state_at new k n)) 0 core.size.lines line (omega arith) (omega arith) (λ k other. ap entry_rank (same k other)) in
-    subst (λ (s : Size). sum_over (λ k. entry_rank (state_at new k n)) 0 s.lines + entry_rank (state_at core line n) ≡ node_rank core n + entry_rank (state_at new line n)) (sym size) one
+    let one = sum_one (λ k. entry_rank (state_at core k n)) (λ k. entry_rank (state_at new k n)) 0 core.size.lines line (omega arith) (omega arith)
+    (λ k other. ap entry_rank (same k other)) in
+    subst (λ (s : Size). sum_over (λ k. entry_rank (state_at new k n)) 0 s.lines + entry_rank (state_at core line n) ≡ node_rank core n + entry_rank
+    (state_at new line n)) (sym size) one
 
 same_node : (core new : Core) (n : ℕ) → new.size ≡ core.size → ((k : ℕ) → state_at new k n ≡ state_at core k n) → node_rank new n ≡ node_rank core n
 same_node core new n size same =
     let one = sum_same (λ k. entry_rank (state_at core k n)) (λ k. entry_rank (state_at new k n)) 0 core.size.lines (λ k lo hi. ap entry_rank (same k)) in
     subst (λ (s : Size). sum_over (λ k. entry_rank (state_at new k n)) 0 s.lines ≡ node_rank core n) (sym size) one
 
-pub rank_one : (core new : Core) (n line : ℕ) (state : CacheState) → n < core.size.nodes → line < core.size.lines → state_at new line n ≡ state → ((m k : ℕ) → ((m ≡ n) × (k ≡ line) → ⊥) → state_at new k m ≡ state_at core k m) → new.size ≡ core.size → rank new + entry_rank (state_at core line n) ≡ rank core + entry_rank state
+pub rank_one : (core new : Core) (n line : ℕ) (state : CacheState) → n < core.size.nodes → line < core.size.lines → state_at new line n ≡ state
+    → ((m k : ℕ) → ((m ≡ n) × (k ≡ line) → ⊥) → state_at new k m ≡ state_at core k m) → new.size ≡ core.size
+    → rank new + entry_rank (state_at core line n) ≡ rank core + entry_rank state
 rank_one core new n line state lt inside is others size =
     let here = one_node core new n line inside size (λ k other. others n k (λ h. other h.1)) in
-    let all = sum_one (node_rank core) (node_rank new) 0 core.size.nodes n (omega arith) (omega arith) (λ m other. same_node core new m size (λ k. others m k (λ h. other h.0))) in
+    let all = sum_one (node_rank core) (node_rank new) 0 core.size.nodes n (omega arith) (omega arith)
+    (λ m other. same_node core new m size (λ k. others m k (λ h. other h.0))) in
     let whole : rank new ≡ sum_over (node_rank new) 0 core.size.nodes = ap (λ (s : Size). sum_over (node_rank new) 0 s.nodes) size in
     let then_ = ap entry_rank is in
     omega arith
 
-pub rank_shift : (core new : Core) (n line : ℕ) (state : CacheState) → n < core.size.nodes → line < core.size.lines → Shifts core new n line state → rank new + entry_rank (state_at core line n) ≡ rank core + entry_rank state
+pub rank_shift : (core new : Core) (n line : ℕ) (state : CacheState) → n < core.size.nodes → line < core.size.lines → Shifts core new n line state
+    → rank new + entry_rank (state_at core line n) ≡ rank core + entry_rank state
 rank_shift core new n line state lt inside shift = rank_one core new n line state lt inside shift.here shift.others shift.size
 
 -- one line of two nodes changes
@@ -130,12 +141,14 @@ pub record Pair (core new : Core) (n q line : ℕ) (a b : CacheState) : Type 0 w
   pub others : (m k : ℕ) → (k ≡ line → (m ≡ n) ⊎ (m ≡ q) → ⊥) → state_at new k m ≡ state_at core k m
   pub size : new.size ≡ core.size
 
-pub rank_two : (core new : Core) (n q line : ℕ) (a b : CacheState) → n < core.size.nodes → q < core.size.nodes → line < core.size.lines → n ≢ q → Pair core new n q line a b
+pub rank_two : (core new : Core) (n q line : ℕ) (a b : CacheState) → n < core.size.nodes → q < core.size.nodes → line < core.size.lines → n ≢ q
+    → Pair core new n q line a b
     → rank new + (entry_rank (state_at core line n) + entry_rank (state_at core line q)) ≡ rank core + (entry_rank a + entry_rank b)
 rank_two core new n q line a b lt below inside apart pair =
     let here = one_node core new n line inside pair.size (λ k other. pair.others n k (λ e h. other e)) in
     let there = one_node core new q line inside pair.size (λ k other. pair.others q k (λ e h. other e)) in
-    let all = sum_two (node_rank core) (node_rank new) 0 core.size.nodes n q (omega arith) (omega arith) (omega arith) (omega arith) apart (λ m not_n not_q. same_node core new m pair.size (λ k. pair.others m k (λ e h. elim h [ inl x ↦ not_n x | inr y ↦ not_q y ]))) in
+    let all = sum_two (node_rank core) (node_rank new) 0 core.size.nodes n q (omega arith) (omega arith) (omega arith) (omega arith) apart
+    (λ m not_n not_q. same_node core new m pair.size (λ k. pair.others m k (λ e h. elim h [ inl x ↦ not_n x | inr y ↦ not_q y ]))) in
     let whole : rank new ≡ sum_over (node_rank new) 0 core.size.nodes = ap (λ (s : Size). sum_over (node_rank new) 0 s.nodes) pair.size in
     let one = ap entry_rank pair.first in
     let two = ap entry_rank pair.second in
@@ -173,7 +186,8 @@ sum_last f from (suc count) =
     let here : f (from + 1 + count) ≡ f (from + suc count) = ap f (omega arith) in
     omega arith
 
-entries_rank : (lines : List LineState) (n : ℕ) → n ≤ length lines → sum_over (λ i. entry_rank (get_or lines i untouched).state) 0 n ≤ 2 * count_by (λ line. not (is_out line.state)) (take n lines)
+entries_rank : (lines : List LineState) (n : ℕ) → n ≤ length lines
+    → sum_over (λ i. entry_rank (get_or lines i untouched).state) 0 n ≤ 2 * count_by (λ line. not (is_out line.state)) (take n lines)
 entries_rank lines zero le = omega arith
 entries_rank lines (suc n) le =
     let p = λ (line : LineState). not (is_out line.state) in
@@ -186,10 +200,12 @@ entries_rank lines (suc n) le =
     let at : f (0 + n) ≡ f n = ap f (omega arith) in
     elim (cases_Bool (not (is_out (get_or lines n untouched).state))) [
       | inl entry ↦
-          let more : count_by p (take (suc n) lines) ≡ count_by p (take n lines) + 1 = subst (λ (k : ℕ). count_by p (take k lines) ≡ count_by p (take n lines) + 1) next (count_by_more_yes p lines n untouched below entry) in
+          let more : count_by p (take (suc n) lines) ≡ count_by p (take n lines) + 1 =
+          subst (λ (k : ℕ). count_by p (take k lines) ≡ count_by p (take n lines) + 1) next (count_by_more_yes p lines n untouched below entry) in
           omega arith
       | inr out ↦
-          let more : count_by p (take (suc n) lines) ≡ count_by p (take n lines) = subst (λ (k : ℕ). count_by p (take k lines) ≡ count_by p (take n lines)) next (count_by_more_no p lines n untouched below out) in
+          let more : count_by p (take (suc n) lines) ≡ count_by p (take n lines) =
+          subst (λ (k : ℕ). count_by p (take k lines) ≡ count_by p (take n lines)) next (count_by_more_no p lines n untouched below out) in
           let none = none_out (get_or lines n untouched).state out in
           omega arith
     ]
@@ -200,7 +216,8 @@ node_few core n reached lt =
     let lines = (node_at core n).cache.lines in
     let long : length lines ≡ core.size.lines = part.each in
     let entries = entries_rank lines core.size.lines (omega arith) in
-    let whole : count_by (λ line. not (is_out line.state)) (take core.size.lines lines) ≡ slots_taken lines = ap (count_by (λ line. not (is_out line.state))) (take_all core.size.lines lines (omega arith)) in
+    let whole : count_by (λ line. not (is_out line.state)) (take core.size.lines lines) ≡ slots_taken lines =
+    ap (count_by (λ line. not (is_out line.state))) (take_all core.size.lines lines (omega arith)) in
     let few = part.few in
     let room = part.room in
     omega arith
@@ -211,7 +228,8 @@ pub record IsFew (core : Core) : Type 0 where
 
 pub few_rounds : (core : Core) → IsReached core → IsFew core
 few_rounds core reached =
-    let by_lines = sum_less (node_rank core) (core.size.lines * 2) 0 core.size.nodes (λ n below. sum_less (λ line. entry_rank (state_at core line n)) 2 0 core.size.lines (λ line inside. small (state_at core line n))) in
+    let by_lines = sum_less (node_rank core) (core.size.lines * 2) 0 core.size.nodes
+    (λ n below. sum_less (λ line. entry_rank (state_at core line n)) 2 0 core.size.lines (λ line inside. small (state_at core line n))) in
     let by_slots = sum_less (node_rank core) (2 * core.size.slots) 0 core.size.nodes (λ n below. node_few core n reached (omega arith)) in
     let one : core.size.nodes * (core.size.lines * 2) ≡ 2 * (core.size.nodes * core.size.lines) = grind arith in
     let other : core.size.nodes * (2 * core.size.slots) ≡ 2 * (core.size.nodes * core.size.slots) = grind arith in
@@ -221,7 +239,8 @@ few_rounds core reached =
 pub none_left : (core : Core) → AreOut core → rank core ≡ 0
 none_left core out =
     let all = sum_less (node_rank core) 0 0 core.size.nodes (λ n below. (
-    let lines = sum_less (λ line. entry_rank (state_at core line n)) 0 0 core.size.lines (λ line inside. (let none = ap entry_rank (out line n) in omega arith)) in
+    let lines = sum_less (λ line. entry_rank (state_at core line n)) 0 0 core.size.lines
+    (λ line inside. (let none = ap entry_rank (out line n) in omega arith)) in
     let zero_ : core.size.lines * 0 ≡ 0 = grind arith in
     omega arith)) in
     let none : core.size.nodes * 0 ≡ 0 = grind arith in

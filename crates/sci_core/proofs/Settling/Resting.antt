@@ -1,5 +1,6 @@
 -- A line of a state where nothing is under way: who leads its list, and what its home has.
-use Rattle.std.proofs.Common.{◌≡◌, ℕ, ◌%◌, ◌<◌, ◌≤◌, ◌⊎◌, Bool, true, false, List, [], ◌∷◌, ◌++◌, filter, get_or, suc, Option, Some, None, refl, sym, ap, subst, ◌∙◌, arith, inl, inr}
+use Rattle.std.proofs.Common.{◌≡◌, ℕ, ◌%◌, ◌<◌, ◌≤◌, ◌⊎◌, Bool, true, false, List, [], ◌∷◌, ◌++◌, filter, get_or, suc, Option, Some, None, refl, sym, ap, subst}
+use Rattle.std.proofs.Common.{◌∙◌, arith, inl, inr}
 use Rattle.std.specs.Prelude.{option_to_list}
 use Rattle.std.specs.List.{flat_map}
 use Rattle.std.proofs.lemmas.Bool.{cases_lt, eq-eqb}
@@ -44,7 +45,8 @@ flat_none f (x ∷ xs) d none = ap (λ (l : List Letter). l ++ flat_map f xs) (n
 
 nothing_way : (core : Core) → IsDrained core → under_way core ≡ []
 nothing_way core drained =
-    ap (λ (l : List Letter). l ++ flat_map (λ (lane : List Letter). lane) core.lanes) (flat_none (λ (part : NodeOf). option_to_list part.waiting) core.parts no_node (λ n. ap option_to_list (drained.waiting n)))
+    ap (λ (l : List Letter). l ++ flat_map (λ (lane : List Letter). lane) core.lanes)
+    (flat_none (λ (part : NodeOf). option_to_list part.waiting) core.parts no_node (λ n. ap option_to_list (drained.waiting n)))
     ∙ flat_none (λ (lane : List Letter). lane) core.lanes [] drained.lanes
 
 no_packets : (core : Core) (n line : ℕ) → IsDrained core → packets_of core n line ≡ []
@@ -62,7 +64,8 @@ out_beyond core line n reached past =
 pub idle : (core : Core) (line n : ℕ) → IsReached core → IsDrained core → line < core.size.lines → waits (state_at core line n) ≡ false
 idle core line n reached drained inside =
     elim (cases_lt n core.size.nodes) [
-      | inl below ↦ subst (HasItsPackets (line % core.size.nodes) (line_of (node_at core n).cache line)) (no_packets core n line drained) (reached_tidy core reached n line below inside)
+      | inl below ↦ subst (HasItsPackets (line % core.size.nodes) (line_of (node_at core n).cache line)) (no_packets core n line drained)
+          (reached_tidy core reached n line below inside)
       | inr past ↦ ap waits (out_beyond core line n reached past)
     ]
 
@@ -89,22 +92,26 @@ quiet core line reached drained inside =
     }
 
 -- what a function of state and answer gives
-pub seen : {X : Type 0} (f : CacheState → Option Body → X) (core : Core) (line n : ℕ) (s : CacheState) → Quiet core line → state_at core line n ≡ s → f ((view_of core line).state n) ((view_of core line).answer n) ≡ f s None
+pub seen : {X : Type 0} (f : CacheState → Option Body → X) (core : Core) (line n : ℕ) (s : CacheState) → Quiet core line → state_at core line n ≡ s
+    → f ((view_of core line).state n) ((view_of core line).answer n) ≡ f s None
 seen f core line n s q is = ap (f (state_at core line n)) (q.none n) ∙ ap (λ (x : CacheState). f x None) is
 
 -- ---- lists
 
 -- the node that leads is the first, if none that comes links to it
-first_leads : (view : View) (c : Stamped) (must : Bool) (first : Option ℕ) (ns : List ℕ) (n : ℕ) → IsLed view c must ns → LinkedFrom (link_in view) first ns → IsAmong n ns → role_in view n ≡ Some Leading → ((m : ℕ) → role_in view m ≡ Some Coming → link_in view m ≡ Some (Some n) → ⊥) → first ≡ Some n
+first_leads : (view : View) (c : Stamped) (must : Bool) (first : Option ℕ) (ns : List ℕ) (n : ℕ) → IsLed view c must ns → LinkedFrom (link_in view) first ns
+    → IsAmong n ns → role_in view n ≡ Some Leading → ((m : ℕ) → role_in view m ≡ Some Coming → link_in view m ≡ Some (Some n) → ⊥) → first ≡ Some n
 first_leads view c must first [] n led linked h leads none = elim led [ ]
 first_leads view c must first (x ∷ xs) n led linked (inl e) leads none = linked.0 ∙ ap Some (sym e)
-first_leads view c must first (x ∷ xs) n (front, inl ahead) linked (inr h) leads none = absurd (roles_differ Following Leading (role_in view n) (following_in view c xs n ahead.1 h) leads (λ s. cc))
+first_leads view c must first (x ∷ xs) n (front, inl ahead) linked (inr h) leads none =
+    absurd (roles_differ Following Leading (role_in view n) (following_in view c xs n ahead.1 h) leads (λ s. cc))
 first_leads view c must first (x ∷ xs) n (front, inr comes) linked (inr h) leads none =
     let rest = first_leads view c _ linked.1.0 xs n comes.1 linked.1.2 h leads none in
     absurd (none x comes.0 (linked.1.1 ∙ ap Some rest))
 
 -- a node behind the one that leads follows
-after_leader : (view : View) (c : Stamped) (must : Bool) (first : Option ℕ) (ns : List ℕ) (n q : ℕ) → IsLed view c must ns → LinkedFrom (link_in view) first ns → IsAmong n ns → role_in view n ≡ Some Leading → link_in view n ≡ Some (Some q) → role_in view q ≡ Some Following
+after_leader : (view : View) (c : Stamped) (must : Bool) (first : Option ℕ) (ns : List ℕ) (n q : ℕ) → IsLed view c must ns → LinkedFrom (link_in view) first ns
+    → IsAmong n ns → role_in view n ≡ Some Leading → link_in view n ≡ Some (Some q) → role_in view q ≡ Some Following
 after_leader view c must first [] n q led linked h leads link = elim led [ ]
 after_leader view c must first (x ∷ []) n q (front, inl ahead) linked (inl e) leads link =
     let next = next_of (link_in view) x n linked.1.0 q e linked.1.1 link in let none = linked.1.2 in cc
@@ -112,21 +119,28 @@ after_leader view c must first (x ∷ (y ∷ ys)) n q (front, inl ahead) linked 
     let next = next_of (link_in view) x n linked.1.0 q e linked.1.1 link in
     let here : y ≡ q = (let is = linked.1.2.0 in cc) in
     ap (role_in view) (sym here) ∙ ahead.1.0
-after_leader view c must first (x ∷ xs) n q (front, inl ahead) linked (inr h) leads link = absurd (roles_differ Following Leading (role_in view n) (following_in view c xs n ahead.1 h) leads (λ s. cc))
-after_leader view c must first (x ∷ xs) n q (front, inr comes) linked (inl e) leads link = absurd (roles_differ Coming Leading (role_in view x) comes.0 (ap (role_in view) (sym e) ∙ leads) (λ s. cc))
-after_leader view c must first (x ∷ xs) n q (front, inr comes) linked (inr h) leads link = after_leader view c _ linked.1.0 xs n q comes.1 linked.1.2 h leads link
+after_leader view c must first (x ∷ xs) n q (front, inl ahead) linked (inr h) leads link =
+    absurd (roles_differ Following Leading (role_in view n) (following_in view c xs n ahead.1 h) leads (λ s. cc))
+after_leader view c must first (x ∷ xs) n q (front, inr comes) linked (inl e) leads link =
+    absurd (roles_differ Coming Leading (role_in view x) comes.0 (ap (role_in view) (sym e) ∙ leads) (λ s. cc))
+after_leader view c must first (x ∷ xs) n q (front, inr comes) linked (inr h) leads link =
+    after_leader view c _ linked.1.0 xs n q comes.1 linked.1.2 h leads link
 
 -- a node behind a fresh one that comes is fresh
-fresh_behind : (view : View) (c : Stamped) (must : Bool) (first : Option ℕ) (ns : List ℕ) (n q : ℕ) → IsLed view c must ns → LinkedFrom (link_in view) first ns → IsAmong n ns → role_in view n ≡ Some Coming → fresh_in view n ≡ true → link_in view n ≡ Some (Some q) → fresh_in view q ≡ true
+fresh_behind : (view : View) (c : Stamped) (must : Bool) (first : Option ℕ) (ns : List ℕ) (n q : ℕ) → IsLed view c must ns → LinkedFrom (link_in view) first ns
+    → IsAmong n ns → role_in view n ≡ Some Coming → fresh_in view n ≡ true → link_in view n ≡ Some (Some q) → fresh_in view q ≡ true
 fresh_behind view c must first [] n q led linked h coming fresh link = elim led [ ]
-fresh_behind view c must first (x ∷ xs) n q (front, inl ahead) linked (inl e) coming fresh link = absurd (roles_differ Leading Coming (role_in view x) ahead.0 (ap (role_in view) (sym e) ∙ coming) (λ s. cc))
-fresh_behind view c must first (x ∷ xs) n q (front, inl ahead) linked (inr h) coming fresh link = absurd (roles_differ Following Coming (role_in view n) (following_in view c xs n ahead.1 h) coming (λ s. cc))
+fresh_behind view c must first (x ∷ xs) n q (front, inl ahead) linked (inl e) coming fresh link =
+    absurd (roles_differ Leading Coming (role_in view x) ahead.0 (ap (role_in view) (sym e) ∙ coming) (λ s. cc))
+fresh_behind view c must first (x ∷ xs) n q (front, inl ahead) linked (inr h) coming fresh link =
+    absurd (roles_differ Following Coming (role_in view n) (following_in view c xs n ahead.1 h) coming (λ s. cc))
 fresh_behind view c must first (x ∷ []) n q (front, inr comes) linked (inl e) coming fresh link = elim comes.1 [ ]
 fresh_behind view c must first (x ∷ (y ∷ ys)) n q (front, inr comes) linked (inl e) coming fresh link =
     let next = next_of (link_in view) x n linked.1.0 q e linked.1.1 link in
     let here : y ≡ q = (let is = linked.1.2.0 in cc) in
     ap (fresh_in view) (sym here) ∙ comes.1.0.0 (ap (fresh_in view) (sym e) ∙ fresh)
-fresh_behind view c must first (x ∷ xs) n q (front, inr comes) linked (inr h) coming fresh link = fresh_behind view c _ linked.1.0 xs n q comes.1 linked.1.2 h coming fresh link
+fresh_behind view c must first (x ∷ xs) n q (front, inr comes) linked (inr h) coming fresh link =
+    fresh_behind view c _ linked.1.0 xs n q comes.1 linked.1.2 h coming fresh link
 
 -- ---- of a line at rest
 
@@ -157,7 +171,9 @@ linked_if (Telling r w sent) quiet not = cc
 linked_if _ quiet not = cc
 
 -- if nobody tells and nobody leads, no node has an entry
-pub all_out : (core : Core) (line : ℕ) → IsReached core → IsDrained core → line < core.size.lines → ((n : ℕ) → n < core.size.nodes → is_telling (state_at core line n) ≡ false) → ((n : ℕ) → n < core.size.nodes → is_head (state_at core line n) ≡ false) → (n : ℕ) → state_at core line n ≡ Out
+pub all_out : (core : Core) (line : ℕ) → IsReached core → IsDrained core → line < core.size.lines
+    → ((n : ℕ) → n < core.size.nodes → is_telling (state_at core line n) ≡ false) → ((n : ℕ) → n < core.size.nodes → is_head (state_at core line n) ≡ false)
+    → (n : ℕ) → state_at core line n ≡ Out
 all_out core line reached drained inside tellers heads n =
     let q = quiet core line reached drained inside in
     let view = view_of core line in
@@ -170,7 +186,8 @@ all_out core line reached drained inside tellers heads n =
             let leader = led_leader view q.contents led.0 q.nodes led.1 in
             let member = leads_member core line leader.0 leader.1 in
             let some = member_below core line leader.0 member.0 (reached_well core reached) member.1 in
-            let head = leading_is (state_at core line leader.0) (sym (seen role_of core line leader.0 (state_at core line leader.0) q refl) ∙ leader.1) (q.waits leader.0) in
+            let head = leading_is (state_at core line leader.0) (sym (seen role_of core line leader.0 (state_at core line leader.0) q refl) ∙ leader.1)
+            (q.waits leader.0) in
             let none = heads leader.0 some in
             let clash : true ≡ false = sym head ∙ none in
             cc
@@ -179,7 +196,8 @@ all_out core line reached drained inside tellers heads n =
     ]
 
 -- the head of a list with nobody before it is what the home keeps
-pub head_first : (core : Core) (line n : ℕ) → IsReached core → Quiet core line → is_head (state_at core line n) ≡ true → ((m : ℕ) → m < core.size.nodes → joins_before (state_at core line m) n ≡ false) → head_of (home_at core line) ≡ Some n
+pub head_first : (core : Core) (line n : ℕ) → IsReached core → Quiet core line → is_head (state_at core line n) ≡ true
+    → ((m : ℕ) → m < core.size.nodes → joins_before (state_at core line m) n ≡ false) → head_of (home_at core line) ≡ Some n
 head_first core line n reached q head none =
     let view = view_of core line in
     let leads : role_in view n ≡ Some Leading = seen role_of core line n (state_at core line n) q refl ∙ head_leads (state_at core line n) head in
@@ -200,7 +218,8 @@ below_is (Below f b c) role quiet = (f, b, c, refl)
 below_is (Rolling f b c) role quiet = cc
 below_is _ role quiet = cc
 
-pub next_below : (core : Core) (line n m : ℕ) → Quiet core line → role_of (state_at core line n) None ≡ Some Leading → link_of (state_at core line n) None ≡ Some (Some m) → (f : Option ℕ) × (b : ℕ) × (c : Stamped) × (state_at core line m ≡ Below f b c)
+pub next_below : (core : Core) (line n m : ℕ) → Quiet core line → role_of (state_at core line n) None ≡ Some Leading
+    → link_of (state_at core line n) None ≡ Some (Some m) → (f : Option ℕ) × (b : ℕ) × (c : Stamped) × (state_at core line m ≡ Below f b c)
 next_below core line n m q role link =
     let view = view_of core line in
     let leads : role_in view n ≡ Some Leading = seen role_of core line n (state_at core line n) q refl ∙ role in
@@ -211,7 +230,8 @@ next_below core line n m q role link =
     below_is (state_at core line m) (sym (seen role_of core line m (state_at core line m) q refl) ∙ follows) (q.waits m)
 
 -- the next after a fresh member that comes is fresh
-pub next_fresh : (core : Core) (line n m : ℕ) → Quiet core line → role_of (state_at core line n) None ≡ Some Coming → link_of (state_at core line n) None ≡ Some (Some m) → is_fresh (state_at core line n) None ≡ true → is_fresh (state_at core line m) None ≡ true
+pub next_fresh : (core : Core) (line n m : ℕ) → Quiet core line → role_of (state_at core line n) None ≡ Some Coming
+    → link_of (state_at core line n) None ≡ Some (Some m) → is_fresh (state_at core line n) None ≡ true → is_fresh (state_at core line m) None ≡ true
 next_fresh core line n m q role link fresh =
     let view = view_of core line in
     let comes : role_in view n ≡ Some Coming = seen role_of core line n (state_at core line n) q refl ∙ role in
@@ -219,16 +239,19 @@ next_fresh core line n m q role link fresh =
     let is : fresh_in view n ≡ true = seen is_fresh core line n (state_at core line n) q refl ∙ fresh in
     let among = q.is.list.all n (Some m) links in
     let led = led_of view (home_at core line) q.contents q.nodes n q.is among in
-    sym (seen is_fresh core line m (state_at core line m) q refl) ∙ fresh_behind view q.contents led.0 (head_of (home_at core line)) q.nodes n m led.1 q.is.list.linked among comes is links
+    sym (seen is_fresh core line m (state_at core line m) q refl)
+    ∙ fresh_behind view q.contents led.0 (head_of (home_at core line)) q.nodes n m led.1 q.is.list.linked among comes is links
 
 -- ---- the home of a line whose head is known
 
-front_fresh : (view : View) (c : Stamped) (p n : ℕ) (first : Option ℕ) (ns : List ℕ) → first ≡ Some n → IsLed view c true ns → LinkedFrom (link_in view) first ns → fresh_in view n ≡ true
+front_fresh : (view : View) (c : Stamped) (p n : ℕ) (first : Option ℕ) (ns : List ℕ) → first ≡ Some n → IsLed view c true ns
+    → LinkedFrom (link_in view) first ns → fresh_in view n ≡ true
 front_fresh view c p n first [] head led linked = elim led [ ]
 front_fresh view c p n first (x ∷ xs) head led linked = (let here : x ≡ n = (let e = linked.0 in cc) in ap (fresh_in view) (sym here) ∙ led.0.0 refl)
 
 -- a head that isn't fresh, under a home whose contents are gone
-gone_so : (core : Core) (line n : ℕ) (home : HomeState) → Quiet core line → home_at core line ≡ home → head_of home ≡ Some n → is_fresh (state_at core line n) None ≡ false → home ≡ at.Gone n
+gone_so : (core : Core) (line n : ℕ) (home : HomeState) → Quiet core line → home_at core line ≡ home → head_of home ≡ Some n
+    → is_fresh (state_at core line n) None ≡ false → home ≡ at.Gone n
 gone_so core line n (at.Home d) q is head stale = cc
 gone_so core line n (at.Fresh p d) q is head stale =
     let view = view_of core line in
@@ -239,25 +262,30 @@ gone_so core line n (at.Fresh p d) q is head stale =
     cc
 gone_so core line n (at.Gone p) q is head stale = (let same : p ≡ n = cc in ap at.Gone same)
 
-pub home_gone : (core : Core) (line n : ℕ) → Quiet core line → head_of (home_at core line) ≡ Some n → is_fresh (state_at core line n) None ≡ false → home_at core line ≡ at.Gone n
+pub home_gone : (core : Core) (line n : ℕ) → Quiet core line → head_of (home_at core line) ≡ Some n → is_fresh (state_at core line n) None ≡ false
+    → home_at core line ≡ at.Gone n
 home_gone core line n q head stale = gone_so core line n (home_at core line) q refl head stale
 
 -- a fresh head, under a fresh home
-fresh_so : (core : Core) (line n : ℕ) (home : HomeState) → Quiet core line → home_at core line ≡ home → head_of home ≡ Some n → is_fresh (state_at core line n) None ≡ true → (d : Stamped) × (home ≡ at.Fresh n d)
+fresh_so : (core : Core) (line n : ℕ) (home : HomeState) → Quiet core line → home_at core line ≡ home → head_of home ≡ Some n
+    → is_fresh (state_at core line n) None ≡ true → (d : Stamped) × (home ≡ at.Fresh n d)
 fresh_so core line n (at.Home d) q is head fresh = cc
 fresh_so core line n (at.Fresh p d) q is head fresh = (let same : p ≡ n = cc in (d, ap (λ (k : ℕ). at.Fresh k d) same))
 fresh_so core line n (at.Gone p) q is head fresh =
     let same : p ≡ n = cc in
     let stale = subst (IsGoneStale core line) is q.stale in
-    let not : is_fresh (state_at core line n) None ≡ false = sym (seen is_fresh core line n (state_at core line n) q refl) ∙ (ap (fresh_in (view_of core line)) (sym same) ∙ stale) in
+    let not : is_fresh (state_at core line n) None ≡ false =
+    sym (seen is_fresh core line n (state_at core line n) q refl) ∙ (ap (fresh_in (view_of core line)) (sym same) ∙ stale) in
     let clash : true ≡ false = sym fresh ∙ not in
     cc
 
-pub home_fresh : (core : Core) (line n : ℕ) → Quiet core line → head_of (home_at core line) ≡ Some n → is_fresh (state_at core line n) None ≡ true → (d : Stamped) × (home_at core line ≡ at.Fresh n d)
+pub home_fresh : (core : Core) (line n : ℕ) → Quiet core line → head_of (home_at core line) ≡ Some n → is_fresh (state_at core line n) None ≡ true
+    → (d : Stamped) × (home_at core line ≡ at.Fresh n d)
 home_fresh core line n q head fresh = fresh_so core line n (home_at core line) q refl head fresh
 
 -- if no node has an entry, the home has the line alone
-alone_so : (core : Core) (line : ℕ) (home : HomeState) → Quiet core line → home_at core line ≡ home → ((n : ℕ) → state_at core line n ≡ Out) → (d : Stamped) × (home ≡ at.Home d)
+alone_so : (core : Core) (line : ℕ) (home : HomeState) → Quiet core line → home_at core line ≡ home → ((n : ℕ) → state_at core line n ≡ Out)
+    → (d : Stamped) × (home ≡ at.Home d)
 alone_so core line (at.Home d) q is out = (d, refl)
 alone_so core line (at.Fresh p d) q is out =
     let shaped = subst (λ (h : HomeState). IsShaped (view_of core line) h q.contents q.nodes) is q.is in
@@ -274,7 +302,8 @@ pub home_alone : (core : Core) (line : ℕ) → Quiet core line → ((n : ℕ) �
 home_alone core line q out = alone_so core line (home_at core line) q refl out
 
 -- a line of the machine is a line of each node
-pub line_known : (core : Core) (n line : ℕ) (node : NodeOf) → IsReached core → n < core.size.nodes → line < core.size.lines → node ≡ node_at core n → line < lines_of node
+pub line_known : (core : Core) (n line : ℕ) (node : NodeOf) → IsReached core → n < core.size.nodes → line < core.size.lines → node ≡ node_at core n
+    → line < lines_of node
 line_known core n line node reached lt inside here =
     let lines = ((reached_well core reached).each_part n lt).each in
     subst (λ (p : NodeOf). line < lines_of p) (sym here) (omega arith)

@@ -20,20 +20,27 @@ use Rattle.sci_core.proofs.Settling.Rounds.{Rounds, rounds}
 use Rattle.sci_core.proofs.WellFormed.WellFormedSteps.{reached_stepping, reached_well}
 
 -- the target of a request is a node of the machine, so a small number
-small_target : (core : Core) (n line : ℕ) (kind : AskKind) (next : NodeOf) (letter : Letter) → IsReached core → n < core.size.nodes → node_asking (node_at core n) line kind ≡ Some (next, letter) → letter.target < 256
+small_target : (core : Core) (n line : ℕ) (kind : AskKind) (next : NodeOf) (letter : Letter) → IsReached core → n < core.size.nodes
+    → node_asking (node_at core n) line kind ≡ Some (next, letter) → letter.target < 256
 small_target core n line kind next letter reached lt is =
     let well = reached_well core reached in
-    let sends = of_some (SendsWell core.size n) (node_asking (node_at core n) line kind) (next, letter) is (part_asking core.size n (node_at core n) line kind well.sizes.some_node lt (well.each_part n lt)) in
+    let sends = of_some (SendsWell core.size n) (node_asking (node_at core n) line kind) (next, letter) is
+    (part_asking core.size n (node_at core n) line kind well.sizes.some_node lt (well.each_part n lt)) in
     let few = reached.size.extent.few_nodes in
     let below = sends.request.letter_ok.target in
     omega arith
 
 -- the round of a request that a call has told
-pub rounds_told : (core : Core) (n line : ℕ) (kind : AskKind) (t : ℕ) (node : NodeOf) (letter : Letter) → IsReached core → IsDrained core → n < core.size.nodes → line < core.size.lines → node ≡ node_at core n → (next : NodeOf) × (node_asking node line kind ≡ Some (next, letter)) → t ≡ letter.target → Rounds core n line kind t
-rounds_told core n line kind t node letter reached none lt inside here (next, is) target = rounds core n line kind t next letter reached none lt inside (ap (λ (p : NodeOf). node_asking p line kind) (sym here) ∙ is) (sym target)
+pub rounds_told : (core : Core) (n line : ℕ) (kind : AskKind) (t : ℕ) (node : NodeOf) (letter : Letter) → IsReached core → IsDrained core → n < core.size.nodes
+    → line < core.size.lines → node ≡ node_at core n → (next : NodeOf) × (node_asking node line kind ≡ Some (next, letter)) → t ≡ letter.target
+    → Rounds core n line kind t
+rounds_told core n line kind t node letter reached none lt inside here (next, is) target =
+    rounds core n line kind t next letter reached none lt inside (ap (λ (p : NodeOf). node_asking p line kind) (sym here) ∙ is) (sym target)
 
-pub small_told : (core : Core) (n line : ℕ) (kind : AskKind) (t : ℕ) (node : NodeOf) (letter : Letter) → IsReached core → n < core.size.nodes → node ≡ node_at core n → (next : NodeOf) × (node_asking node line kind ≡ Some (next, letter)) → t ≡ letter.target → t < 256
-small_told core n line kind t node letter reached lt here (next, is) target = let small = small_target core n line kind next letter reached lt (ap (λ (p : NodeOf). node_asking p line kind) (sym here) ∙ is) in omega arith
+pub small_told : (core : Core) (n line : ℕ) (kind : AskKind) (t : ℕ) (node : NodeOf) (letter : Letter) → IsReached core → n < core.size.nodes
+    → node ≡ node_at core n → (next : NodeOf) × (node_asking node line kind ≡ Some (next, letter)) → t ≡ letter.target → t < 256
+small_told core n line kind t node letter reached lt here (next, is) target = let small =
+    small_target core n line kind next letter reached lt (ap (λ (p : NodeOf). node_asking p line kind) (sym here) ∙ is) in omega arith
 
 same_step : (old new other : Core) (e : Event) → stepping old e ≡ Some new → stepping old e ≡ Some other → other ≡ new
 same_step old new other e one two = let both : Some new ≡ Some other = sym one ∙ two in cc
@@ -50,49 +57,66 @@ pub record Made (core : Core) (n line : ℕ) (kind : AskKind) (t : ℕ) (a b c :
   pub serve : stepping a (event.Serve n t) ≡ Some b
   pub reply : stepping b (event.Reply t) ≡ Some c
 
-first_is : (core : Core) (n line : ℕ) (kind : AskKind) (t : ℕ) (a : Core) (r : Rounds core n line kind t) → stepping core (event.Ask n line kind) ≡ Some a → a ≡ r.first
+first_is : (core : Core) (n line : ℕ) (kind : AskKind) (t : ℕ) (a : Core) (r : Rounds core n line kind t) → stepping core (event.Ask n line kind) ≡ Some a
+    → a ≡ r.first
 first_is core n line kind t a r one = same_step core r.first a (event.Ask n line kind) r.ask one
 
-second_is : (core : Core) (n line : ℕ) (kind : AskKind) (t : ℕ) (a b : Core) (r : Rounds core n line kind t) → stepping core (event.Ask n line kind) ≡ Some a → stepping a (event.Serve n t) ≡ Some b → b ≡ r.second
-second_is core n line kind t a b r one two = same_step r.first r.second b (event.Serve n t) r.serve (subst (λ (x : Core). stepping x (event.Serve n t) ≡ Some b) (first_is core n line kind t a r one) two)
+second_is : (core : Core) (n line : ℕ) (kind : AskKind) (t : ℕ) (a b : Core) (r : Rounds core n line kind t) → stepping core (event.Ask n line kind) ≡ Some a
+    → stepping a (event.Serve n t) ≡ Some b → b ≡ r.second
+second_is core n line kind t a b r one two =
+    same_step r.first r.second b (event.Serve n t) r.serve
+    (subst (λ (x : Core). stepping x (event.Serve n t) ≡ Some b) (first_is core n line kind t a r one) two)
 
 third_is : (core : Core) (n line : ℕ) (kind : AskKind) (t : ℕ) (a b c : Core) (r : Rounds core n line kind t) → Made core n line kind t a b c → c ≡ r.third
-third_is core n line kind t a b c r m = same_step r.second r.third c (event.Reply t) r.reply (subst (λ (x : Core). stepping x (event.Reply t) ≡ Some c) (second_is core n line kind t a b r m.ask m.serve) m.reply)
+third_is core n line kind t a b c r m =
+    same_step r.second r.third c (event.Reply t) r.reply
+    (subst (λ (x : Core). stepping x (event.Reply t) ≡ Some c) (second_is core n line kind t a b r m.ask m.serve) m.reply)
 
-pub serve_enabled_next : (core : Core) (n line : ℕ) (kind : AskKind) (t : ℕ) (a : Core) → Rounds core n line kind t → stepping core (event.Ask n line kind) ≡ Some a → IsEnabled a (event.Serve n t)
-serve_enabled_next core n line kind t a r one = subst (λ (x : Core). IsEnabled x (event.Serve n t)) (sym (first_is core n line kind t a r one)) (enabled_at r.first r.second (event.Serve n t) r.serve)
+pub serve_enabled_next : (core : Core) (n line : ℕ) (kind : AskKind) (t : ℕ) (a : Core) → Rounds core n line kind t
+    → stepping core (event.Ask n line kind) ≡ Some a → IsEnabled a (event.Serve n t)
+serve_enabled_next core n line kind t a r one =
+    subst (λ (x : Core). IsEnabled x (event.Serve n t)) (sym (first_is core n line kind t a r one)) (enabled_at r.first r.second (event.Serve n t) r.serve)
 
-pub reply_enabled_next : (core : Core) (n line : ℕ) (kind : AskKind) (t : ℕ) (a b : Core) → Rounds core n line kind t → stepping core (event.Ask n line kind) ≡ Some a → stepping a (event.Serve n t) ≡ Some b → IsEnabled b (event.Reply t)
-reply_enabled_next core n line kind t a b r one two = subst (λ (x : Core). IsEnabled x (event.Reply t)) (sym (second_is core n line kind t a b r one two)) (enabled_at r.second r.third (event.Reply t) r.reply)
+pub reply_enabled_next : (core : Core) (n line : ℕ) (kind : AskKind) (t : ℕ) (a b : Core) → Rounds core n line kind t
+    → stepping core (event.Ask n line kind) ≡ Some a → stepping a (event.Serve n t) ≡ Some b → IsEnabled b (event.Reply t)
+reply_enabled_next core n line kind t a b r one two =
+    subst (λ (x : Core). IsEnabled x (event.Reply t)) (sym (second_is core n line kind t a b r one two)) (enabled_at r.second r.third (event.Reply t) r.reply)
 
-pub accept_enabled_next : (core : Core) (n line : ℕ) (kind : AskKind) (t : ℕ) (a b c : Core) → Rounds core n line kind t → Made core n line kind t a b c → IsEnabled c (event.Accept t n)
-accept_enabled_next core n line kind t a b c r m = subst (λ (x : Core). IsEnabled x (event.Accept t n)) (sym (third_is core n line kind t a b c r m)) (enabled_at r.third r.last (event.Accept t n) r.accept)
+pub accept_enabled_next : (core : Core) (n line : ℕ) (kind : AskKind) (t : ℕ) (a b c : Core) → Rounds core n line kind t → Made core n line kind t a b c
+    → IsEnabled c (event.Accept t n)
+accept_enabled_next core n line kind t a b c r m =
+    subst (λ (x : Core). IsEnabled x (event.Accept t n)) (sym (third_is core n line kind t a b c r m)) (enabled_at r.third r.last (event.Accept t n) r.accept)
 
 -- ---- what the events lead to
 
 pub after_one : (core : Core) (n line : ℕ) (kind : AskKind) (a : Core) → stepping core (event.Ask n line kind) ≡ Some a → Leads settles core a 1
 after_one core n line kind a one = leads_one settles core a (event.Ask n line kind) refl one
 
-pub after_two : (core : Core) (n line : ℕ) (kind : AskKind) (t : ℕ) (a b : Core) → stepping core (event.Ask n line kind) ≡ Some a → stepping a (event.Serve n t) ≡ Some b → Leads settles core b 2
+pub after_two : (core : Core) (n line : ℕ) (kind : AskKind) (t : ℕ) (a b : Core) → stepping core (event.Ask n line kind) ≡ Some a
+    → stepping a (event.Serve n t) ≡ Some b → Leads settles core b 2
 after_two core n line kind t a b one two = leads_more settles core a b (event.Serve n t) 1 (after_one core n line kind a one) refl two
 
 pub after_three : (core : Core) (n line : ℕ) (kind : AskKind) (t : ℕ) (a b c : Core) → Made core n line kind t a b c → Leads settles core c 3
 after_three core n line kind t a b c m = leads_more settles core b c (event.Reply t) 2 (after_two core n line kind t a b m.ask m.serve) refl m.reply
 
-pub after_four : (core : Core) (n line : ℕ) (kind : AskKind) (t : ℕ) (a b c new : Core) → Made core n line kind t a b c → stepping c (event.Accept t n) ≡ Some new → Leads settles core new 4
+pub after_four : (core : Core) (n line : ℕ) (kind : AskKind) (t : ℕ) (a b c new : Core) → Made core n line kind t a b c
+    → stepping c (event.Accept t n) ≡ Some new → Leads settles core new 4
 after_four core n line kind t a b c new m four = leads_more settles core c new (event.Accept t n) 3 (after_three core n line kind t a b c m) refl four
 
 -- memory was refused, and the state stands
 pub stands : (core mid new : Core) (count : ℕ) → Leads settles core mid count → new ≡ mid → LeadsOn settles core new
 stands core mid new count leads same = leads_on settles core new count (subst (λ (x : Core). Leads settles core x count) (sym same) leads)
 
-pub round_made : (core : Core) (n line : ℕ) (kind : AskKind) (t : ℕ) (a b c new : Core) → Rounds core n line kind t → Made core n line kind t a b c → stepping c (event.Accept t n) ≡ Some new → IsRound core new n line kind
+pub round_made : (core : Core) (n line : ℕ) (kind : AskKind) (t : ℕ) (a b c new : Core) → Rounds core n line kind t → Made core n line kind t a b c
+    → stepping c (event.Accept t n) ≡ Some new → IsRound core new n line kind
 round_made core n line kind t a b c new r m four =
-    let last : new ≡ r.last = same_step r.third r.last new (event.Accept t n) r.accept (subst (λ (x : Core). stepping x (event.Accept t n) ≡ Some new) (third_is core n line kind t a b c r m) four) in
+    let last : new ≡ r.last = same_step r.third r.last new (event.Accept t n) r.accept
+    (subst (λ (x : Core). stepping x (event.Accept t n) ≡ Some new) (third_is core n line kind t a b c r m) four) in
     subst (λ (x : Core). IsRound core x n line kind) (sym last) r.round
 
 -- nothing is under way again
-pub round_drained : (core : Core) (n line : ℕ) (kind : AskKind) (t : ℕ) (a b c new : Core) → IsReached core → IsDrained core → Made core n line kind t a b c → stepping c (event.Accept t n) ≡ Some new → IsDrained new
+pub round_drained : (core : Core) (n line : ℕ) (kind : AskKind) (t : ℕ) (a b c new : Core) → IsReached core → IsDrained core → Made core n line kind t a b c
+    → stepping c (event.Accept t n) ≡ Some new → IsDrained new
 round_drained core n line kind t a b c new reached none m four =
     let ra = reached_stepping core a (event.Ask n line kind) reached m.ask in
     let rb = reached_stepping a b (event.Serve n t) ra m.serve in

@@ -1,5 +1,6 @@
 -- What one event of a round does to the states of all lines: one line of one node changes at most.
-use Rattle.std.proofs.Common.{◌≡◌, ◌≢◌, ℕ, ◌<◌, not, ◌&&◌, ◌==◌, Bool, true, false, if◌then◌else◌, List, length, set, slice_index_or, Option, Some, None, refl, sym, ap, ◌∙◌, inl, inr}
+use Rattle.std.proofs.Common.{◌≡◌, ◌≢◌, ℕ, ◌<◌, not, ◌&&◌, ◌==◌, Bool, true, false, if◌then◌else◌, List, length, set, slice_index_or, Option, Some, None, refl}
+use Rattle.std.proofs.Common.{sym, ap, ◌∙◌, inl, inr}
 use Rattle.std.specs.Prelude.{IfSome}
 use Rattle.std.proofs.lemmas.Bool.{cases_eq}
 use Rattle.std.proofs.lemmas.List.{get_or-set_same, get_or-set_other}
@@ -24,7 +25,9 @@ pub record AskedAs (part : NodeOf) (line : ℕ) (kind : AskKind) (sent : NodeOf 
   pub next : sent.0 ≡ (record part { cache = with_line part.cache line (line_asked (line_of part.cache line) asked) })
   pub letter : sent.1 ≡ letter_asking part.cache line asked
 
-made_as : (part : NodeOf) (line : ℕ) (kind : AskKind) (lacks : Bool) (made : Option Asked) → line < lines_of part → asking (line_of part.cache line).state kind ≡ made → IfSome (asked_by part (cache_asked part.cache line (ask_or_fault made lacks))) (AskedAs part line kind)
+made_as : (part : NodeOf) (line : ℕ) (kind : AskKind) (lacks : Bool) (made : Option Asked) → line < lines_of part
+    → asking (line_of part.cache line).state kind ≡ made
+    → IfSome (asked_by part (cache_asked part.cache line (ask_or_fault made lacks))) (AskedAs part line kind)
 made_as part line kind lacks None below is = tt
 made_as part line kind true (Some asked) below is = tt
 made_as part line kind false (Some asked) below is = record { asked = asked; asks = is; below = below; next = refl; letter = refl }
@@ -41,13 +44,17 @@ pub record AcceptedAs (part : NodeOf) (answer : Letter) (next : NodeOf) : Type 0
   pub then_ : next ≡ (record part { cache = with_line part.cache answer.line (line_in (line_of part.cache answer.line) state) })
 
 took_as : (part : NodeOf) (answer : Letter) (awaits : Bool) (state : Option CacheState) → accepting (line_of part.cache answer.line).state answer.body ≡ state
-    → IfSome (accepted_by part (elim (if awaits then state else None) as (λ _. Option CacheOf) [ None ↦ None | Some s ↦ Some (with_line part.cache answer.line (line_in (line_of part.cache answer.line) s)) ])) (AcceptedAs part answer)
+    → IfSome (accepted_by part (elim (if awaits then state else None) as (λ _. Option CacheOf) [
+      | None ↦ None
+      | Some s ↦ Some (with_line part.cache answer.line (line_in (line_of part.cache answer.line) s))
+    ])) (AcceptedAs part answer)
 took_as part answer false state is = tt
 took_as part answer true None is = tt
 took_as part answer true (Some s) is = record { state = s; accepts = is; then_ = refl }
 
 pub accepted_as : (part : NodeOf) (answer : Letter) → IfSome (node_accepting part answer) (AcceptedAs part answer)
-accepted_as part answer = took_as part answer (answer.control == last_control (line_of part.cache answer.line)) (accepting (line_of part.cache answer.line).state answer.body) refl
+accepted_as part answer = took_as part answer (answer.control == last_control (line_of part.cache answer.line))
+    (accepting (line_of part.cache answer.line).state answer.body) refl
 
 -- ---- the states of all nodes
 
@@ -59,40 +66,52 @@ pub record Shifts (core new : Core) (n line : ℕ) (state : CacheState) : Type 0
   pub size : new.size ≡ core.size
 
 -- the node's cache gets that line
-pub shifts : (core new : Core) (n line : ℕ) (next : NodeOf) (l : LineState) → n < length core.parts → line < lines_of (node_at core n) → next.cache ≡ with_line (node_at core n).cache line l → next.pending ≡ (node_at core n).pending → new.parts ≡ set core.parts n next → new.size ≡ core.size → Shifts core new n line l.state
+pub shifts : (core new : Core) (n line : ℕ) (next : NodeOf) (l : LineState) → n < length core.parts → line < lines_of (node_at core n)
+    → next.cache ≡ with_line (node_at core n).cache line l → next.pending ≡ (node_at core n).pending → new.parts ≡ set core.parts n next → new.size ≡ core.size
+    → Shifts core new n line l.state
 shifts core new n line next l below inside cache pending parts size =
     let at : node_at new n ≡ next = ap (λ (ps : List NodeOf). slice_index_or ps n no_node) parts ∙ get_or-set_same core.parts n next no_node below in
-    let apart : (m : ℕ) → m ≢ n → node_at new m ≡ node_at core m = λ m other. ap (λ (ps : List NodeOf). slice_index_or ps m no_node) parts ∙ get_or-set_other core.parts n m next no_node other in
+    let apart : (m : ℕ) → m ≢ n → node_at new m ≡ node_at core m =
+    λ m other. ap (λ (ps : List NodeOf). slice_index_or ps m no_node) parts ∙ get_or-set_other core.parts n m next no_node other in
     record {
-      here = ap (λ (p : NodeOf). (line_of p.cache line).state) at ∙ (ap (λ (c : CacheOf). (line_of c line).state) cache ∙ ap (λ (x : LineState). x.state) (get_or-set_same (node_at core n).cache.lines line l untouched inside));
+      here = ap (λ (p : NodeOf). (line_of p.cache line).state) at
+          ∙ (ap (λ (c : CacheOf). (line_of c line).state) cache
+          ∙ ap (λ (x : LineState). x.state) (get_or-set_same (node_at core n).cache.lines line l untouched inside));
       others = λ m k not. elim (cases_eq m n) [
         | inl here ↦
             let other : k ≢ line = λ e. not (here, e) in
             ap (λ (j : ℕ). state_at new k j) here ∙ (ap (λ (p : NodeOf). (line_of p.cache k).state) at ∙ (ap (λ (c : CacheOf). (line_of c k).state) cache
-            ∙ (ap (λ (x : LineState). x.state) (get_or-set_other (node_at core n).cache.lines line k l untouched other) ∙ ap (λ (j : ℕ). state_at core k j) (sym here))))
+            ∙ (ap (λ (x : LineState). x.state) (get_or-set_other (node_at core n).cache.lines line k l untouched other)
+            ∙ ap (λ (j : ℕ). state_at core k j) (sym here))))
         | inr other ↦ ap (λ (p : NodeOf). (line_of p.cache k).state) (apart m other)
       ];
       pending = λ m. elim (cases_eq m n) [
-        | inl here ↦ ap (λ (j : ℕ). (node_at new j).pending) here ∙ (ap (λ (p : NodeOf). p.pending) at ∙ (pending ∙ ap (λ (j : ℕ). (node_at core j).pending) (sym here)))
+        | inl here ↦ ap (λ (j : ℕ). (node_at new j).pending) here
+            ∙ (ap (λ (p : NodeOf). p.pending) at ∙ (pending ∙ ap (λ (j : ℕ). (node_at core j).pending) (sym here)))
         | inr other ↦ ap (λ (p : NodeOf). p.pending) (apart m other)
       ];
       size = size;
     }
 
 -- no line changes: so one line of a node becomes what it is
-pub stays : (core new : Core) (n q line : ℕ) (next : NodeOf) → n < length core.parts → next.cache ≡ (node_at core n).cache → next.pending ≡ (node_at core n).pending → new.parts ≡ set core.parts n next → new.size ≡ core.size → Shifts core new q line (state_at core line q)
+pub stays : (core new : Core) (n q line : ℕ) (next : NodeOf) → n < length core.parts → next.cache ≡ (node_at core n).cache
+    → next.pending ≡ (node_at core n).pending → new.parts ≡ set core.parts n next → new.size ≡ core.size → Shifts core new q line (state_at core line q)
 stays core new n q line next below cache pending parts size =
     let at : node_at new n ≡ next = ap (λ (ps : List NodeOf). slice_index_or ps n no_node) parts ∙ get_or-set_same core.parts n next no_node below in
-    let apart : (m : ℕ) → m ≢ n → node_at new m ≡ node_at core m = λ m other. ap (λ (ps : List NodeOf). slice_index_or ps m no_node) parts ∙ get_or-set_other core.parts n m next no_node other in
+    let apart : (m : ℕ) → m ≢ n → node_at new m ≡ node_at core m =
+    λ m other. ap (λ (ps : List NodeOf). slice_index_or ps m no_node) parts ∙ get_or-set_other core.parts n m next no_node other in
     let states : (m k : ℕ) → state_at new k m ≡ state_at core k m = λ m k. elim (cases_eq m n) [
-      | inl here ↦ ap (λ (j : ℕ). state_at new k j) here ∙ (ap (λ (p : NodeOf). (line_of p.cache k).state) at ∙ (ap (λ (c : CacheOf). (line_of c k).state) cache ∙ ap (λ (j : ℕ). state_at core k j) (sym here)))
+      | inl here ↦ ap (λ (j : ℕ). state_at new k j) here
+          ∙ (ap (λ (p : NodeOf). (line_of p.cache k).state) at
+          ∙ (ap (λ (c : CacheOf). (line_of c k).state) cache ∙ ap (λ (j : ℕ). state_at core k j) (sym here)))
       | inr other ↦ ap (λ (p : NodeOf). (line_of p.cache k).state) (apart m other)
     ] in
     record {
       here = states q line;
       others = λ m k not. states m k;
       pending = λ m. elim (cases_eq m n) [
-        | inl here ↦ ap (λ (j : ℕ). (node_at new j).pending) here ∙ (ap (λ (p : NodeOf). p.pending) at ∙ (pending ∙ ap (λ (j : ℕ). (node_at core j).pending) (sym here)))
+        | inl here ↦ ap (λ (j : ℕ). (node_at new j).pending) here
+            ∙ (ap (λ (p : NodeOf). p.pending) at ∙ (pending ∙ ap (λ (j : ℕ). (node_at core j).pending) (sym here)))
         | inr other ↦ ap (λ (p : NodeOf). p.pending) (apart m other)
       ];
       size = size;

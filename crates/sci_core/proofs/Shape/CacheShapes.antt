@@ -8,7 +8,8 @@ use Rattle.sci_packets.specs.declared.body.Body.TheVariants as body
 use Rattle.sci_home.specs.declared.state.HomeState.{HomeState}
 use Rattle.sci_home.specs.declared.state.HomeState.TheVariants as at
 use Rattle.sci_home.specs.Serving.{head_of}
-use Rattle.sci_cache.specs.State.{CacheState, Out, Asking, Joining, FreshJoining, Head, FreshHead, Below, Purging, Claiming, Clearing, Returning, Rolling, Telling, Fading, waits}
+use Rattle.sci_cache.specs.State.{CacheState, Out, Asking, Joining, FreshJoining, Head, FreshHead, Below, Purging, Claiming, Clearing, Returning, Rolling}
+use Rattle.sci_cache.specs.State.{Telling, Fading, waits}
 use Rattle.sci_cache.specs.Accepting.{accepting}
 use Rattle.sci_cache.specs.Serving.{serving, is_next, serving_cread, serving_purge, serving_roll, serving_setback}
 use Rattle.sci_cache.specs.Member.{link_of}
@@ -20,7 +21,8 @@ use Rattle.sci_core.proofs.Shape.Chains.{TakenOut, without, not_in_without, chai
 use Rattle.sci_core.proofs.Shape.Heads.{if_head, next_either}
 use Rattle.sci_core.proofs.Shape.Views.{View, link_in, Shift}
 use Rattle.sci_core.proofs.Shape.Standings.{Coming, Leading, Following, role_of, Agrees, Alike, alike_itself}
-use Rattle.sci_core.proofs.Shape.Led.{role_in, AgreesIn, IsLed, AlikeIn, alike_moved, same_link, Stands, alike_stands, led_stands, led_without, Joins, led_joins}
+use Rattle.sci_core.proofs.Shape.Led.{role_in, AgreesIn, IsLed, AlikeIn, alike_moved, same_link, Stands, alike_stands, led_stands, led_without, Joins}
+use Rattle.sci_core.proofs.Shape.Led.{led_joins}
 use Rattle.sci_core.proofs.Shape.Shapes.{AcceptsIn, IsLedFrom, IsShaped, Shaped, shaped_alike}
 
 -- stands as it stood, but for the link
@@ -95,10 +97,28 @@ record Joiner (asker : CacheState) (p : ℕ) : Type 0 where
   pub waiting : waits asker ≡ true
 
 joining : (p : ℕ) → Joiner (Joining p true) p
-joining p = record { link = λ answer. refl; coming = refl; leads = λ d. refl; fresh = λ d. refl; takes = λ c d e h. (tt, e); accepted = λ d. refl; refused = record { sight = refl; agrees = λ c h. h; accepts = λ h. refl }; waiting = refl }
+joining p = record {
+  link = λ answer. refl;
+  coming = refl;
+  leads = λ d. refl;
+  fresh = λ d. refl;
+  takes = λ c d e h. (tt, e);
+  accepted = λ d. refl;
+  refused = record { sight = refl; agrees = λ c h. h; accepts = λ h. refl };
+  waiting = refl;
+}
 
 fresh_joining : (p : ℕ) (e : Stamped) → Joiner (FreshJoining p true e) p
-fresh_joining p e = record { link = λ answer. refl; coming = refl; leads = λ d. refl; fresh = λ d. refl; takes = λ c d same h. (h.0, same); accepted = λ d. refl; refused = record { sight = refl; agrees = λ c h. h; accepts = λ h. refl }; waiting = refl }
+fresh_joining p e = record {
+  link = λ answer. refl;
+  coming = refl;
+  leads = λ d. refl;
+  fresh = λ d. refl;
+  takes = λ c d same h. (h.0, same);
+  accepted = λ d. refl;
+  refused = record { sight = refl; agrees = λ c h. h; accepts = λ h. refl };
+  waiting = refl;
+}
 
 idle_differs : (asker old : CacheState) → waits asker ≡ true → waits old ≡ false → asker ≡ old → ⊥
 idle_differs asker old w i e = let both : waits old ≡ true = ap waits (sym e) ∙ w in cc
@@ -149,11 +169,13 @@ cread_as a q asker Fading joins = refuses a q asker Fading joins.refused
 
 -- ---- Purge
 
-below_as : (f : Option ℕ) (b : ℕ) (c : Stamped) (answer : Option Body) (next : Option ℕ) → link_of (Below f b c) answer ≡ Some next → (next ≡ f) × (role_of (Below f b c) answer ≡ Some Following)
+below_as : (f : Option ℕ) (b : ℕ) (c : Stamped) (answer : Option Body) (next : Option ℕ) → link_of (Below f b c) answer ≡ Some next
+    → (next ≡ f) × (role_of (Below f b c) answer ≡ Some Following)
 below_as f b c None next e = (cc, refl)
 below_as f b c (Some body) next e = cc
 
-rolling_as : (f : Option ℕ) (b : ℕ) (c : Stamped) (answer : Option Body) (next : Option ℕ) → link_of (Rolling f b c) answer ≡ Some next → (next ≡ f) × (role_of (Rolling f b c) answer ≡ Some Following)
+rolling_as : (f : Option ℕ) (b : ℕ) (c : Stamped) (answer : Option Body) (next : Option ℕ) → link_of (Rolling f b c) answer ≡ Some next
+    → (next ≡ f) × (role_of (Rolling f b c) answer ≡ Some Following)
 rolling_as f b c None next e = (cc, refl)
 rolling_as f b c (Some body.Busy) next e = (cc, refl)
 rolling_as f b c (Some _) next e = cc
@@ -162,7 +184,8 @@ below_still : (f : Option ℕ) (b : ℕ) (c : Stamped) (answer : Option Body) (n
 below_still f b c None next e = tt
 below_still f b c (Some body) next e = cc
 
-rolling_still : (f : Option ℕ) (b : ℕ) (c : Stamped) (answer : Option Body) (next : Option ℕ) → link_of (Rolling f b c) answer ≡ Some next → IsAccepted Fading answer
+rolling_still : (f : Option ℕ) (b : ℕ) (c : Stamped) (answer : Option Body) (next : Option ℕ) → link_of (Rolling f b c) answer ≡ Some next
+    → IsAccepted Fading answer
 rolling_still f b c None next e = tt
 rolling_still f b c (Some body.Busy) next e = refl
 rolling_still f b c (Some _) next e = cc
@@ -228,21 +251,50 @@ rolling_ends None b c = refl
 rolling_ends (Some r) b c = refl
 
 rolling : (f : Option ℕ) (b : ℕ) (c : Stamped) → Leaver (Rolling f b c) f
-rolling f b c = record { link = λ next e. cc; follows = λ next e. refl; gone = refl; ends = λ next e. rolling_ends f b c; refused = rolling_busy f b c; waiting = refl }
+rolling f b c = record {
+  link = λ next e. cc;
+  follows = λ next e. refl;
+  gone = refl;
+  ends = λ next e. rolling_ends f b c;
+  refused = rolling_busy f b c;
+  waiting = refl;
+}
 
 fading : (f : Option ℕ) → Leaver Fading f
-fading f = record { link = λ next e. cc; follows = λ next e. cc; gone = refl; ends = λ next e. cc; refused = record { sight = refl; agrees = λ c_ h. h; accepts = λ h. refl }; waiting = refl }
+fading f = record {
+  link = λ next e. cc;
+  follows = λ next e. cc;
+  gone = refl;
+  ends = λ next e. cc;
+  refused = record { sight = refl; agrees = λ c_ h. h; accepts = λ h. refl };
+  waiting = refl;
+}
 
-rolls_as : (a q : ℕ) (m : Option ℕ) (asker old next : CacheState) (f : Option ℕ) → Leaver asker m → waits old ≡ false → link_of old None ≡ Some f → link_of next None ≡ Some m → Stood old None next None → ServesAs a q asker old (if is_next f a then (next, body.Rolled) else (old, body.Busy))
+rolls_as : (a q : ℕ) (m : Option ℕ) (asker old next : CacheState) (f : Option ℕ) → Leaver asker m → waits old ≡ false → link_of old None ≡ Some f
+    → link_of next None ≡ Some m → Stood old None next None → ServesAs a q asker old (if is_next f a then (next, body.Rolled) else (old, body.Busy))
 rolls_as a q m asker old next f leaves idle here then_ stood =
     next_either (ServesAs a q asker old) f a (next, body.Rolled) (old, body.Busy)
-    (λ e. Rolled (record { next = m; idle = idle; before = here ∙ ap Some e; behind = then_; link = leaves.link; follows = leaves.follows; gone = leaves.gone; stood = stood; accepted = leaves.ends; differ = idle_differs asker old leaves.waiting idle }))
+    (λ e. Rolled (record {
+      next = m;
+      idle = idle;
+      before = here ∙ ap Some e;
+      behind = then_;
+      link = leaves.link;
+      follows = leaves.follows;
+      gone = leaves.gone;
+      stood = stood;
+      accepted = leaves.ends;
+      differ = idle_differs asker old leaves.waiting idle;
+    }))
     (refuses a q asker old leaves.refused)
 
 roll_as : (a q : ℕ) (m : Option ℕ) (asker old : CacheState) → Leaver asker m → ServesAs a q asker old (serving_roll old a m)
-roll_as a q m asker (Head f c) leaves = rolls_as a q m asker (Head f c) (Head m c) f leaves refl refl refl (record { role = refl; fresh = refl; agrees = λ c_ h. h })
-roll_as a q m asker (FreshHead f c) leaves = rolls_as a q m asker (FreshHead f c) (FreshHead m c) f leaves refl refl refl (record { role = refl; fresh = refl; agrees = λ c_ h. h })
-roll_as a q m asker (Below f b c) leaves = rolls_as a q m asker (Below f b c) (Below m b c) f leaves refl refl refl (record { role = refl; fresh = refl; agrees = λ c_ h. h })
+roll_as a q m asker (Head f c) leaves =
+    rolls_as a q m asker (Head f c) (Head m c) f leaves refl refl refl (record { role = refl; fresh = refl; agrees = λ c_ h. h })
+roll_as a q m asker (FreshHead f c) leaves =
+    rolls_as a q m asker (FreshHead f c) (FreshHead m c) f leaves refl refl refl (record { role = refl; fresh = refl; agrees = λ c_ h. h })
+roll_as a q m asker (Below f b c) leaves =
+    rolls_as a q m asker (Below f b c) (Below m b c) f leaves refl refl refl (record { role = refl; fresh = refl; agrees = λ c_ h. h })
 roll_as a q m asker Out leaves = refuses a q asker Out leaves.refused
 roll_as a q m asker Asking leaves = refuses a q asker Asking leaves.refused
 roll_as a q m asker (Joining r sent) leaves = refuses a q asker (Joining r sent) leaves.refused
@@ -273,8 +325,13 @@ rolling_told (Some r) b w d (Some body.Rolled) = record { sight = refl; agrees =
 rolling_told (Some r) b w d (Some _) = record { sight = refl; agrees = λ c h. h; accepts = λ h. h }
 
 setback_as : (a q r v w : ℕ) (old : CacheState) → ServesAs a q (Telling r v true) old (serving_setback old a w)
-setback_as a q r v w (Below f b c) = if_head (ServesAs a q (Telling r v true) (Below f b c)) b a (Below f w c, body.Told) (Below f b c, body.Told) (λ same. tells a q r v (Below f b c) (Below f w c) (below_told f b w c)) (tells a q r v (Below f b c) (Below f b c) (alike_itself (Below f b c)))
-setback_as a q r v w (Rolling f b c) = if_head (ServesAs a q (Telling r v true) (Rolling f b c)) b a (Rolling f w c, body.Told) (Rolling f b c, body.Told) (λ same. tells a q r v (Rolling f b c) (Rolling f w c) (rolling_told f b w c)) (tells a q r v (Rolling f b c) (Rolling f b c) (alike_itself (Rolling f b c)))
+setback_as a q r v w (Below f b c) =
+    if_head (ServesAs a q (Telling r v true) (Below f b c)) b a (Below f w c, body.Told) (Below f b c, body.Told)
+    (λ same. tells a q r v (Below f b c) (Below f w c) (below_told f b w c)) (tells a q r v (Below f b c) (Below f b c) (alike_itself (Below f b c)))
+setback_as a q r v w (Rolling f b c) =
+    if_head (ServesAs a q (Telling r v true) (Rolling f b c)) b a (Rolling f w c, body.Told) (Rolling f b c, body.Told)
+    (λ same. tells a q r v (Rolling f b c) (Rolling f w c) (rolling_told f b w c))
+    (tells a q r v (Rolling f b c) (Rolling f b c) (alike_itself (Rolling f b c)))
 setback_as a q r v w Out = tells a q r v Out Out (alike_itself Out)
 setback_as a q r v w Asking = tells a q r v Asking Asking (alike_itself Asking)
 setback_as a q r v w (Joining p sent) = tells a q r v (Joining p sent) (Joining p sent) (alike_itself (Joining p sent))
@@ -296,9 +353,14 @@ CacheServes a q asker old request = IfSome (serving old a request) (ServesAs a q
 pub cache_serves : (h a q : ℕ) (old asker : CacheState) (letter : Letter) → IsSentIn h asker letter → letter.target ≡ q → CacheServes a q asker old letter.body
 cache_serves h a q old Asking letter (inl e, to) here = subst (CacheServes a q Asking old) (sym e) tt
 cache_serves h a q old Asking letter (inr e, to) here = subst (CacheServes a q Asking old) (sym e) tt
-cache_serves h a q old (Joining p true) letter (e, to) here = subst (CacheServes a q (Joining p true) old) (sym e) (cread_as a q (Joining p true) old (subst (Joiner (Joining p true)) (sym to ∙ here) (joining p)))
-cache_serves h a q old (FreshJoining p true c) letter (e, to) here = subst (CacheServes a q (FreshJoining p true c) old) (sym e) (cread_as a q (FreshJoining p true c) old (subst (Joiner (FreshJoining p true c)) (sym to ∙ here) (fresh_joining p c)))
-cache_serves h a q old (Purging r c) letter (e, to) here = subst (CacheServes a q (Purging r c) old) (sym e) (subst (λ (n : ℕ). ServesAs a q (Purging n c) old (serving_purge old)) (sym here ∙ to) (purge_as a q c old))
+cache_serves h a q old (Joining p true) letter (e, to) here =
+    subst (CacheServes a q (Joining p true) old) (sym e) (cread_as a q (Joining p true) old (subst (Joiner (Joining p true)) (sym to ∙ here) (joining p)))
+cache_serves h a q old (FreshJoining p true c) letter (e, to) here =
+    subst (CacheServes a q (FreshJoining p true c) old) (sym e)
+    (cread_as a q (FreshJoining p true c) old (subst (Joiner (FreshJoining p true c)) (sym to ∙ here) (fresh_joining p c)))
+cache_serves h a q old (Purging r c) letter (e, to) here =
+    subst (CacheServes a q (Purging r c) old) (sym e)
+    (subst (λ (n : ℕ). ServesAs a q (Purging n c) old (serving_purge old)) (sym here ∙ to) (purge_as a q c old))
 cache_serves h a q old (Claiming f c) letter (e, to) here = subst (CacheServes a q (Claiming f c) old) (sym e) tt
 cache_serves h a q old (Clearing c) letter (e, to) here = subst (CacheServes a q (Clearing c) old) (sym e) tt
 cache_serves h a q old (Returning c) letter (e, to) here = subst (CacheServes a q (Returning c) old) (sym e) tt
@@ -318,26 +380,32 @@ cache_serves h a q old (Telling r w false) letter sent here = elim sent [ ]
 -- neither asker nor server
 pub other_alike : (old new : View) (a q : ℕ) (next : CacheState) (body : Body) → Shift old new a q next body → (n : ℕ) → n ≢ a → n ≢ q → AlikeIn old new n
 other_alike old new a q next body shift n not_asker not_server =
-    alike_moved old new n (old.answer n) (old.state n) (old.answer n) refl (shift.others n not_server) (shift.other_answers n not_asker) (alike_itself (old.state n) (old.answer n))
+    alike_moved old new n (old.answer n) (old.state n) (old.answer n) refl (shift.others n not_server) (shift.other_answers n not_asker)
+    (alike_itself (old.state n) (old.answer n))
 
-asker_alike : (old new : View) (a q : ℕ) (served : CacheState × Body) → Shift old new a q served.0 served.1 → ((answer : Option Body) → Alike (old.state q) answer served.0 answer) → Alike (old.state a) None (old.state a) (Some served.1) → AlikeIn old new a
+asker_alike : (old new : View) (a q : ℕ) (served : CacheState × Body) → Shift old new a q served.0 served.1
+    → ((answer : Option Body) → Alike (old.state q) answer served.0 answer) → Alike (old.state a) None (old.state a) (Some served.1) → AlikeIn old new a
 asker_alike old new a q served shift keeps asks =
     elim (cases_eq a q) [
       | inl here ↦
-          let now : Alike (old.state a) (Some served.1) served.0 (Some served.1) = subst (λ (n : ℕ). Alike (old.state n) (Some served.1) served.0 (Some served.1)) (sym here) (keeps (Some served.1)) in
+          let now : Alike (old.state a) (Some served.1) served.0 (Some served.1) =
+          subst (λ (n : ℕ). Alike (old.state n) (Some served.1) served.0 (Some served.1)) (sym here) (keeps (Some served.1)) in
           alike_moved old new a None served.0 (Some served.1) shift.unanswered (ap new.state here ∙ shift.here) shift.answered
           (record { sight = now.sight ∙ asks.sight; agrees = λ c h. now.agrees c (asks.agrees c h); accepts = λ h. now.accepts (asks.accepts h) })
       | inr apart ↦ alike_moved old new a None (old.state a) (Some served.1) shift.unanswered (shift.others a apart) shift.answered asks
     ]
 
-pub kept_alike : (old new : View) (a q : ℕ) (served : CacheState × Body) → Shift old new a q served.0 served.1 → ((answer : Option Body) → Alike (old.state q) answer served.0 answer) → Alike (old.state a) None (old.state a) (Some served.1) → (n : ℕ) → AlikeIn old new n
+pub kept_alike : (old new : View) (a q : ℕ) (served : CacheState × Body) → Shift old new a q served.0 served.1
+    → ((answer : Option Body) → Alike (old.state q) answer served.0 answer) → Alike (old.state a) None (old.state a) (Some served.1) → (n : ℕ)
+    → AlikeIn old new n
 kept_alike old new a q served shift keeps asks n =
     elim (cases_eq n a) [
       | inl asker ↦ subst (AlikeIn old new) (sym asker) (asker_alike old new a q served shift keeps asks)
       | inr not_asker ↦ elim (cases_eq n q) [
         | inl server ↦
             let apart : q ≢ a = λ e. not_asker (server ∙ e) in
-            subst (AlikeIn old new) (sym server) (alike_moved old new q (old.answer q) served.0 (old.answer q) refl shift.here (shift.other_answers q apart) (keeps (old.answer q)))
+            subst (AlikeIn old new) (sym server)
+            (alike_moved old new q (old.answer q) served.0 (old.answer q) refl shift.here (shift.other_answers q apart) (keeps (old.answer q)))
         | inr other ↦ other_alike old new a q served.0 served.1 shift n not_asker other
       ]
     ]
@@ -355,28 +423,38 @@ sights old new a q served shift apart = record {
   server_is = λ f. ap (f (new.state q)) (shift.other_answers q (λ e. apart (sym e))) ∙ ap (λ (s : CacheState). f s (old.answer q)) shift.here;
 }
 
-asker_agrees : (old new : View) (a q : ℕ) (served : CacheState × Body) (c : Stamped) → Shift old new a q served.0 served.1 → a ≢ q → Agrees c (old.state a) (Some served.1) → AgreesIn c new a
-asker_agrees old new a q served c shift apart h = subst (Agrees c (new.state a)) (sym shift.answered) (subst (λ (s : CacheState). Agrees c s (Some served.1)) (sym (shift.others a apart)) h)
+asker_agrees : (old new : View) (a q : ℕ) (served : CacheState × Body) (c : Stamped) → Shift old new a q served.0 served.1 → a ≢ q
+    → Agrees c (old.state a) (Some served.1) → AgreesIn c new a
+asker_agrees old new a q served c shift apart h =
+    subst (Agrees c (new.state a)) (sym shift.answered) (subst (λ (s : CacheState). Agrees c s (Some served.1)) (sym (shift.others a apart)) h)
 
-server_agrees : (old new : View) (a q : ℕ) (served : CacheState × Body) (c : Stamped) → Shift old new a q served.0 served.1 → a ≢ q → Agrees c served.0 (old.answer q) → AgreesIn c new q
-server_agrees old new a q served c shift apart h = subst (Agrees c (new.state q)) (sym (shift.other_answers q (λ e. apart (sym e)))) (subst (λ (s : CacheState). Agrees c s (old.answer q)) (sym shift.here) h)
+server_agrees : (old new : View) (a q : ℕ) (served : CacheState × Body) (c : Stamped) → Shift old new a q served.0 served.1 → a ≢ q
+    → Agrees c served.0 (old.answer q) → AgreesIn c new q
+server_agrees old new a q served c shift apart h =
+    subst (Agrees c (new.state q)) (sym (shift.other_answers q (λ e. apart (sym e)))) (subst (λ (s : CacheState). Agrees c s (old.answer q)) (sym shift.here) h)
 
 asker_agreed : (old : View) (a : ℕ) (c : Stamped) → old.answer a ≡ None → AgreesIn c old a → Agrees c (old.state a) None
 asker_agreed old a c none h = subst (Agrees c (old.state a)) none h
 
 -- a list that is led stays so
-map_led : (old new : View) (home : HomeState) (c : Stamped) (ns ms : List ℕ) → ((must : Bool) → IsLed old c must ns → IsLed new c must ms) → IsLedFrom old home c ns → IsLedFrom new home c ms
+map_led : (old new : View) (home : HomeState) (c : Stamped) (ns ms : List ℕ) → ((must : Bool) → IsLed old c must ns → IsLed new c must ms)
+    → IsLedFrom old home c ns → IsLedFrom new home c ms
 map_led old new (at.Home d) c ns ms f led = led
 map_led old new (at.Fresh p d) c ns ms f led = (led.0, f true led.1)
 map_led old new (at.Gone p) c ns ms f led = f false led
 
 -- the asker takes its answer, and the server takes what it took
-accepts_both : (old new : View) (a q : ℕ) (served : CacheState × Body) → Shift old new a q served.0 served.1 → a ≢ q → IsSome (accepting (old.state a) served.1) → IsAccepted served.0 (old.answer q) → ((n : ℕ) → AcceptsIn old n) → (n : ℕ) → AcceptsIn new n
+accepts_both : (old new : View) (a q : ℕ) (served : CacheState × Body) → Shift old new a q served.0 served.1 → a ≢ q → IsSome (accepting (old.state a) served.1)
+    → IsAccepted served.0 (old.answer q) → ((n : ℕ) → AcceptsIn old n) → (n : ℕ) → AcceptsIn new n
 accepts_both old new a q served shift apart accepted still all n =
     elim (cases_eq n a) [
-      | inl asker ↦ subst (AcceptsIn new) (sym asker) (subst (IsAccepted (new.state a)) (sym shift.answered) (subst (λ (s : CacheState). IsSome (accepting s served.1)) (sym (shift.others a apart)) accepted))
+      | inl asker ↦ subst (AcceptsIn new) (sym asker)
+          (subst (IsAccepted (new.state a)) (sym shift.answered)
+          (subst (λ (s : CacheState). IsSome (accepting s served.1)) (sym (shift.others a apart)) accepted))
       | inr not_asker ↦ elim (cases_eq n q) [
-        | inl server ↦ subst (AcceptsIn new) (sym server) (subst (IsAccepted (new.state q)) (sym (shift.other_answers q (λ e. apart (sym e)))) (subst (λ (s : CacheState). IsAccepted s (old.answer q)) (sym shift.here) still))
+        | inl server ↦ subst (AcceptsIn new) (sym server)
+            (subst (IsAccepted (new.state q)) (sym (shift.other_answers q (λ e. apart (sym e))))
+            (subst (λ (s : CacheState). IsAccepted s (old.answer q)) (sym shift.here) still))
         | inr other ↦ (other_alike old new a q served.0 served.1 shift n not_asker other).accepts (all n)
       ]
     ]
@@ -386,13 +464,15 @@ pub record JoinedAt (old new : View) (a q : ℕ) : Type 0 where
   pub joins : Joins old new a q
   pub links : (n : ℕ) → link_in new n ≡ link_in old n
 
-pub joined_at : (old new : View) (a q : ℕ) (served : CacheState × Body) → Shift old new a q served.0 served.1 → JoinsAs a q (old.state a) (old.state q) served → JoinedAt old new a q
+pub joined_at : (old new : View) (a q : ℕ) (served : CacheState × Body) → Shift old new a q served.0 served.1 → JoinsAs a q (old.state a) (old.state q) served
+    → JoinedAt old new a q
 joined_at old new a q served shift joins =
     let apart : a ≢ q = λ e. joins.differ (ap old.state e) in
     let see = sights old new a q served shift apart in
     let none = shift.idle joins.idle in
     let was : link_in old a ≡ Some (Some q) = see.asker_was link_of ∙ joins.before in
-    let server_same : link_in new q ≡ link_in old q = see.server_is link_of ∙ (ap (link_of served.0) none ∙ (joins.link ∙ ap (link_of (old.state q)) (sym none))) in
+    let server_same : link_in new q ≡ link_in old q =
+    see.server_is link_of ∙ (ap (link_of served.0) none ∙ (joins.link ∙ ap (link_of (old.state q)) (sym none))) in
     let server_agreed : (d : Stamped) → AgreesIn d old q → Agrees d (old.state q) None = λ d h. subst (Agrees d (old.state q)) none h in
     record {
       links = λ n. elim (cases_eq n a) [
@@ -415,7 +495,8 @@ joined_at old new a q served shift joins =
       };
     }
 
-joined_shaped : (old new : View) (a q : ℕ) (served : CacheState × Body) (home : HomeState) (c : Stamped) → Shift old new a q served.0 served.1 → JoinsAs a q (old.state a) (old.state q) served → Shaped old home c → Shaped new home c
+joined_shaped : (old new : View) (a q : ℕ) (served : CacheState × Body) (home : HomeState) (c : Stamped) → Shift old new a q served.0 served.1
+    → JoinsAs a q (old.state a) (old.state q) served → Shaped old home c → Shaped new home c
 joined_shaped old new a q served home c shift joins (ns, is) =
     let apart : a ≢ q = λ e. joins.differ (ap old.state e) in
     let none = shift.idle joins.idle in
@@ -436,24 +517,28 @@ pub record LeftAt (old new : View) (x y : ℕ) : Type 0 where
   pub stand : (n : ℕ) → n ≢ y → Stands old new n
 
 -- a list without the one that left
-left_shaped : (old new : View) (x y : ℕ) (home : HomeState) (c : Stamped) (ns : List ℕ) → LeftAt old new x y → IsShaped old home c ns → ((n : ℕ) → AcceptsIn new n) → Shaped new home c
+left_shaped : (old new : View) (x y : ℕ) (home : HomeState) (c : Stamped) (ns : List ℕ) → LeftAt old new x y → IsShaped old home c ns
+    → ((n : ℕ) → AcceptsIn new n) → Shaped new home c
 left_shaped old new x y home c ns left is accepts =
     let stand : (n : ℕ) → IsAmong n (without y ns) → Stands old new n = λ n h. left.stand n (not_in_without y n ns h) in (
       without y ns,
       record {
         list = chain_taken_out (link_in old) (link_in new) (head_of home) (head_of home) x y ns refl left.out is.list;
-        led = map_led old new home c ns (without y ns) (λ must led. led_stands old new c must (without y ns) stand (led_without old c must y ns left.follows led)) is.led;
+        led = map_led old new home c ns (without y ns)
+            (λ must led. led_stands old new c must (without y ns) stand (led_without old c must y ns left.follows led)) is.led;
         accepts = accepts;
       },
     )
 
 -- the next after the one that is purged
-purged_next : (old new : View) (a q : ℕ) (served : CacheState × Body) (home : HomeState) (c : Stamped) (ns : List ℕ) → Shift old new a q served.0 served.1 → PurgesAs q (old.state a) (old.state q) served → IsShaped old home c ns → (f : Option ℕ) × (link_in old q ≡ Some f)
+purged_next : (old new : View) (a q : ℕ) (served : CacheState × Body) (home : HomeState) (c : Stamped) (ns : List ℕ) → Shift old new a q served.0 served.1
+    → PurgesAs q (old.state a) (old.state q) served → IsShaped old home c ns → (f : Option ℕ) × (link_in old q ≡ Some f)
 purged_next old new a q served home c ns shift purges is =
     let see = sights old new a q served shift (λ e. purges.differ (ap old.state e)) in
     next_is_member (link_in old) (head_of home) a q ns is.list (see.asker_was link_of ∙ purges.before)
 
-pub purged_at : (old new : View) (a q : ℕ) (served : CacheState × Body) (home : HomeState) (c : Stamped) (ns : List ℕ) → Shift old new a q served.0 served.1 → PurgesAs q (old.state a) (old.state q) served → IsShaped old home c ns → LeftAt old new a q
+pub purged_at : (old new : View) (a q : ℕ) (served : CacheState × Body) (home : HomeState) (c : Stamped) (ns : List ℕ) → Shift old new a q served.0 served.1
+    → PurgesAs q (old.state a) (old.state q) served → IsShaped old home c ns → LeftAt old new a q
 purged_at old new a q served home c ns shift purges is =
     let apart : a ≢ q = λ e. purges.differ (ap old.state e) in
     let see = sights old new a q served shift apart in
@@ -479,17 +564,22 @@ purged_at old new a q served home c ns shift purges is =
       ];
     }
 
-purged_shaped : (old new : View) (a q : ℕ) (served : CacheState × Body) (home : HomeState) (c : Stamped) → Shift old new a q served.0 served.1 → PurgesAs q (old.state a) (old.state q) served → Shaped old home c → Shaped new home c
+purged_shaped : (old new : View) (a q : ℕ) (served : CacheState × Body) (home : HomeState) (c : Stamped) → Shift old new a q served.0 served.1
+    → PurgesAs q (old.state a) (old.state q) served → Shaped old home c → Shaped new home c
 purged_shaped old new a q served home c shift purges (ns, is) =
     let apart : a ≢ q = λ e. purges.differ (ap old.state e) in
     let next = purged_next old new a q served home c ns shift purges is in
-    left_shaped old new a q home c ns (purged_at old new a q served home c ns shift purges is) is (accepts_both old new a q served shift apart purges.accepted (purges.still (old.answer q) next.0 next.1) is.accepts)
+    left_shaped old new a q home c ns (purged_at old new a q served home c ns shift purges is) is
+    (accepts_both old new a q served shift apart purges.accepted (purges.still (old.answer q) next.0 next.1) is.accepts)
 
 -- the next after the one that rolls out
-rolled_next : (old new : View) (a q : ℕ) (served : CacheState × Body) (home : HomeState) (c : Stamped) (ns : List ℕ) → Shift old new a q served.0 served.1 → RollsAs a (old.state a) (old.state q) served → IsShaped old home c ns → (f : Option ℕ) × (link_in old a ≡ Some f)
-rolled_next old new a q served home c ns shift rolls is = next_is_member (link_in old) (head_of home) q a ns is.list (ap (link_of (old.state q)) (shift.idle rolls.idle) ∙ rolls.before)
+rolled_next : (old new : View) (a q : ℕ) (served : CacheState × Body) (home : HomeState) (c : Stamped) (ns : List ℕ) → Shift old new a q served.0 served.1
+    → RollsAs a (old.state a) (old.state q) served → IsShaped old home c ns → (f : Option ℕ) × (link_in old a ≡ Some f)
+rolled_next old new a q served home c ns shift rolls is =
+    next_is_member (link_in old) (head_of home) q a ns is.list (ap (link_of (old.state q)) (shift.idle rolls.idle) ∙ rolls.before)
 
-pub rolled_at : (old new : View) (a q : ℕ) (served : CacheState × Body) (home : HomeState) (c : Stamped) (ns : List ℕ) → Shift old new a q served.0 served.1 → RollsAs a (old.state a) (old.state q) served → IsShaped old home c ns → LeftAt old new q a
+pub rolled_at : (old new : View) (a q : ℕ) (served : CacheState × Body) (home : HomeState) (c : Stamped) (ns : List ℕ) → Shift old new a q served.0 served.1
+    → RollsAs a (old.state a) (old.state q) served → IsShaped old home c ns → LeftAt old new q a
 rolled_at old new a q served home c ns shift rolls is =
     let apart : a ≢ q = λ e. rolls.differ (ap old.state e) in
     let see = sights old new a q served shift apart in
@@ -500,7 +590,8 @@ rolled_at old new a q served home c ns shift rolls is =
     let server : Stands old new q = record {
       role = see.server_is role_of ∙ (ap (role_of served.0) none ∙ (rolls.stood.role ∙ ap (role_of (old.state q)) (sym none)));
       fresh = see.server_is is_fresh ∙ (ap (is_fresh served.0) none ∙ (rolls.stood.fresh ∙ ap (is_fresh (old.state q)) (sym none)));
-      agrees = λ d h. server_agrees old new a q served d shift apart (subst (Agrees d served.0) (sym none) (rolls.stood.agrees d (subst (Agrees d (old.state q)) none h)));
+      agrees = λ d h. server_agrees old new a q served d shift apart
+          (subst (Agrees d served.0) (sym none) (rolls.stood.agrees d (subst (Agrees d (old.state q)) none h)));
     } in
     record {
       out = record {
@@ -517,15 +608,18 @@ rolled_at old new a q served home c ns shift rolls is =
       ];
     }
 
-rolled_shaped : (old new : View) (a q : ℕ) (served : CacheState × Body) (home : HomeState) (c : Stamped) → Shift old new a q served.0 served.1 → RollsAs a (old.state a) (old.state q) served → Shaped old home c → Shaped new home c
+rolled_shaped : (old new : View) (a q : ℕ) (served : CacheState × Body) (home : HomeState) (c : Stamped) → Shift old new a q served.0 served.1
+    → RollsAs a (old.state a) (old.state q) served → Shaped old home c → Shaped new home c
 rolled_shaped old new a q served home c shift rolls (ns, is) =
     let apart : a ≢ q = λ e. rolls.differ (ap old.state e) in
     let see = sights old new a q served shift apart in
     let next = rolled_next old new a q served home c ns shift rolls is in
     left_shaped old new q a home c ns (rolled_at old new a q served home c ns shift rolls is) is
-    (accepts_both old new a q served shift apart (rolls.accepted next.0 (sym (see.asker_was link_of) ∙ next.1)) (subst (IsAccepted served.0) (sym (shift.idle rolls.idle)) tt) is.accepts)
+    (accepts_both old new a q served shift apart (rolls.accepted next.0 (sym (see.asker_was link_of) ∙ next.1))
+    (subst (IsAccepted served.0) (sym (shift.idle rolls.idle)) tt) is.accepts)
 
-pub cache_shaped : (old new : View) (a q : ℕ) (served : CacheState × Body) (home : HomeState) (c : Stamped) → Shift old new a q served.0 served.1 → ServesAs a q (old.state a) (old.state q) served → Shaped old home c → Shaped new home c
+pub cache_shaped : (old new : View) (a q : ℕ) (served : CacheState × Body) (home : HomeState) (c : Stamped) → Shift old new a q served.0 served.1
+    → ServesAs a q (old.state a) (old.state q) served → Shaped old home c → Shaped new home c
 cache_shaped old new a q served home c shift (Keeps keeps asks) shaped = shaped_alike old new home c (kept_alike old new a q served shift keeps asks) shaped
 cache_shaped old new a q served home c shift (Joined joins) shaped = joined_shaped old new a q served home c shift joins shaped
 cache_shaped old new a q served home c shift (Purged purges) shaped = purged_shaped old new a q served home c shift purges shaped

@@ -78,13 +78,15 @@ once_without y (n ∷ ns) once =
 -- ---- links
 
 -- the same links
-pub linked_same : (old new : ℕ → Option (Option ℕ)) (first : Option ℕ) (ns : List ℕ) → ((n : ℕ) → IsAmong n ns → new n ≡ old n) → LinkedFrom old first ns → LinkedFrom new first ns
+pub linked_same : (old new : ℕ → Option (Option ℕ)) (first : Option ℕ) (ns : List ℕ) → ((n : ℕ) → IsAmong n ns → new n ≡ old n) → LinkedFrom old first ns
+    → LinkedFrom new first ns
 linked_same old new first [] same linked = linked
 linked_same old new first (n ∷ ns) same linked =
     (linked.0, (linked.1.0, same n (inl refl) ∙ linked.1.1, linked_same old new linked.1.0 ns (λ m h. same m (inr h)) linked.1.2))
 
 -- each node of a list has a link
-pub linked_has : (link : ℕ → Option (Option ℕ)) (first : Option ℕ) (ns : List ℕ) (n : ℕ) → LinkedFrom link first ns → IsAmong n ns → (next : Option ℕ) × (link n ≡ Some next)
+pub linked_has : (link : ℕ → Option (Option ℕ)) (first : Option ℕ) (ns : List ℕ) (n : ℕ) → LinkedFrom link first ns → IsAmong n ns
+    → (next : Option ℕ) × (link n ≡ Some next)
 linked_has link first [] n linked h = elim h [ ]
 linked_has link first (m ∷ ns) n linked (inl e) = (linked.1.0, ap link e ∙ linked.1.1)
 linked_has link first (m ∷ ns) n linked (inr h) = linked_has link linked.1.0 ns n linked.1.2 h
@@ -99,7 +101,8 @@ next_of link n x next y same at e =
     cc
 
 -- what a node of a list links to is in the list
-pub next_in : (link : ℕ → Option (Option ℕ)) (first : Option ℕ) (ns : List ℕ) (x y : ℕ) → LinkedFrom link first ns → IsAmong x ns → link x ≡ Some (Some y) → IsAmong y ns
+pub next_in : (link : ℕ → Option (Option ℕ)) (first : Option ℕ) (ns : List ℕ) (x y : ℕ) → LinkedFrom link first ns → IsAmong x ns → link x ≡ Some (Some y)
+    → IsAmong y ns
 next_in link first [] x y linked h e = elim h [ ]
 next_in link first (n ∷ ns) x y linked (inl same) e =
     let next : linked.1.0 ≡ Some y = next_of link n x (linked.1.0) y same linked.1.1 e in
@@ -116,13 +119,15 @@ pub record TakenOut (old new : ℕ → Option (Option ℕ)) (x y : ℕ) : Type 0
   pub others : (n : ℕ) → n ≢ x → n ≢ y → new n ≡ old n
 
 -- the node that is taken out isn't before the one that links to it
-not_first : (link : ℕ → Option (Option ℕ)) (first : Option ℕ) (x y n : ℕ) (ns : List ℕ) → link x ≡ Some (Some y) → x ≢ y → LinkedFrom link first (n ∷ ns) → IsOnce (n ∷ ns) → IsAmong x (n ∷ ns) → n ≢ y
+not_first : (link : ℕ → Option (Option ℕ)) (first : Option ℕ) (x y n : ℕ) (ns : List ℕ) → link x ≡ Some (Some y) → x ≢ y → LinkedFrom link first (n ∷ ns)
+    → IsOnce (n ∷ ns) → IsAmong x (n ∷ ns) → n ≢ y
 not_first link first x y n ns before apart linked once (inl e) = λ same. apart (e ∙ same)
 not_first link first x y n ns before apart linked once (inr h) = λ same.
     once.0 (subst (λ (m : ℕ). IsAmong m ns) (sym same) (next_in link linked.1.0 ns x y linked.1.2 h before))
 
 -- at the node that links to it
-behind_taken_out : (old new : ℕ → Option (Option ℕ)) (x y n : ℕ) (ns : List ℕ) → TakenOut old new x y → x ≡ n → LinkedFrom old (Some y) ns → IsOnce (n ∷ ns) → (next : Option ℕ) × (new n ≡ Some next) × LinkedFrom new next (without y ns)
+behind_taken_out : (old new : ℕ → Option (Option ℕ)) (x y n : ℕ) (ns : List ℕ) → TakenOut old new x y → x ≡ n → LinkedFrom old (Some y) ns → IsOnce (n ∷ ns)
+    → (next : Option ℕ) × (new n ≡ Some next) × LinkedFrom new next (without y ns)
 behind_taken_out old new x y n [] out at linked once = cc
 behind_taken_out old new x y n (m ∷ ns) out at linked once =
     let same : m ≡ y = cc in
@@ -130,10 +135,12 @@ behind_taken_out old new x y n (m ∷ ns) out at linked once =
     let behind : new n ≡ Some f = ap new (sym at) ∙ (out.behind ∙ (ap old (sym same) ∙ linked.1.1)) in
     let absent : IsAmong y ns → ⊥ = λ h. once.1.0 (subst (λ (k : ℕ). IsAmong k ns) (sym same) h) in
     let rest : without y (m ∷ ns) ≡ ns = without_this y m ns same ∙ without_absent y ns absent in
-    let links = linked_same old new f ns (λ k h. out.others k (λ e. once.0 (inr (subst (λ (j : ℕ). IsAmong j ns) (e ∙ at) h))) (λ e. absent (subst (λ (j : ℕ). IsAmong j ns) e h))) linked.1.2 in
+    let links = linked_same old new f ns
+    (λ k h. out.others k (λ e. once.0 (inr (subst (λ (j : ℕ). IsAmong j ns) (e ∙ at) h))) (λ e. absent (subst (λ (j : ℕ). IsAmong j ns) e h))) linked.1.2 in
     (f, behind, subst (LinkedFrom new f) (sym rest) links)
 
-pub linked_taken_out : (old new : ℕ → Option (Option ℕ)) (first : Option ℕ) (x y : ℕ) (ns : List ℕ) → TakenOut old new x y → LinkedFrom old first ns → IsOnce ns → IsAmong x ns → LinkedFrom new first (without y ns)
+pub linked_taken_out : (old new : ℕ → Option (Option ℕ)) (first : Option ℕ) (x y : ℕ) (ns : List ℕ) → TakenOut old new x y → LinkedFrom old first ns → IsOnce ns
+    → IsAmong x ns → LinkedFrom new first (without y ns)
 linked_taken_out old new first x y [] out linked once h = elim h [ ]
 linked_taken_out old new first x y (n ∷ ns) out linked once (inl e) =
     let other : n ≢ y = not_first old first x y n ns out.before out.apart linked once (inl e) in
@@ -148,7 +155,8 @@ linked_taken_out old new first x y (n ∷ ns) out linked once (inr h) =
 
 -- ---- lists that have all members
 
-pub chain_same : (old new : ℕ → Option (Option ℕ)) (first then_ : Option ℕ) (ns : List ℕ) → then_ ≡ first → ((n : ℕ) → new n ≡ old n) → IsListOf old first ns → IsListOf new then_ ns
+pub chain_same : (old new : ℕ → Option (Option ℕ)) (first then_ : Option ℕ) (ns : List ℕ) → then_ ≡ first → ((n : ℕ) → new n ≡ old n) → IsListOf old first ns
+    → IsListOf new then_ ns
 chain_same old new first then_ ns e same is = record {
   linked = subst (λ (f : Option ℕ). LinkedFrom new f ns) (sym e) (linked_same old new first ns (λ n h. same n) is.linked);
   once = is.once;
@@ -160,7 +168,8 @@ pub not_in : (link : ℕ → Option (Option ℕ)) (first : Option ℕ) (ns : Lis
 not_in link first ns a none is h = let has = linked_has link first ns a is.linked h in let at = has.1 in cc
 
 -- a new front
-pub chain_front : (old new : ℕ → Option (Option ℕ)) (first then_ : Option ℕ) (a : ℕ) (ns : List ℕ) → old a ≡ None → new a ≡ Some first → then_ ≡ Some a → ((n : ℕ) → n ≢ a → new n ≡ old n) → IsListOf old first ns → IsListOf new then_ (a ∷ ns)
+pub chain_front : (old new : ℕ → Option (Option ℕ)) (first then_ : Option ℕ) (a : ℕ) (ns : List ℕ) → old a ≡ None → new a ≡ Some first → then_ ≡ Some a
+    → ((n : ℕ) → n ≢ a → new n ≡ old n) → IsListOf old first ns → IsListOf new then_ (a ∷ ns)
 chain_front old new first then_ a ns none joins head others is =
     let absent : IsAmong a ns → ⊥ = not_in old first ns a none is in
     let links = linked_same old new first ns (λ n h. others n (λ e. absent (subst (λ (k : ℕ). IsAmong k ns) e h))) is.linked in
@@ -176,19 +185,22 @@ none_empty link first [] e is = refl
 none_empty link first (n ∷ ns) e is = let head = is.linked.0 in cc
 
 -- the only one is gone
-only_front : (link : ℕ → Option (Option ℕ)) (next : Option ℕ) (ns : List ℕ) (m a n : ℕ) → m ≡ a → next ≡ None → LinkedFrom link next ns → IsAmong n (m ∷ ns) → n ≡ a
+only_front : (link : ℕ → Option (Option ℕ)) (next : Option ℕ) (ns : List ℕ) (m a n : ℕ) → m ≡ a → next ≡ None → LinkedFrom link next ns → IsAmong n (m ∷ ns)
+    → n ≡ a
 only_front link next ns m a n same none linked (inl e) = e ∙ same
 only_front link next [] m a n same none linked (inr h) = elim h [ ]
 only_front link next (k ∷ ns) m a n same none linked (inr h) = let e = linked.0 in cc
 
-only_one : (link : ℕ → Option (Option ℕ)) (first : Option ℕ) (ns : List ℕ) (a n : ℕ) → first ≡ Some a → link a ≡ Some None → LinkedFrom link first ns → IsAmong n ns → n ≡ a
+only_one : (link : ℕ → Option (Option ℕ)) (first : Option ℕ) (ns : List ℕ) (a n : ℕ) → first ≡ Some a → link a ≡ Some None → LinkedFrom link first ns
+    → IsAmong n ns → n ≡ a
 only_one link first [] a n head ends linked h = elim h [ ]
 only_one link first (m ∷ ns) a n head ends linked h =
     let same : m ≡ a = let e = linked.0 in cc in
     let next : linked.1.0 ≡ None = let here : link m ≡ Some None = ap link same ∙ ends in let at = linked.1.1 in cc in
     only_front link linked.1.0 ns m a n same next linked.1.2 h
 
-pub chain_gone : (old new : ℕ → Option (Option ℕ)) (first then_ : Option ℕ) (a : ℕ) (ns : List ℕ) → first ≡ Some a → old a ≡ Some None → new a ≡ None → then_ ≡ None → ((n : ℕ) → n ≢ a → new n ≡ old n) → IsListOf old first ns → IsListOf new then_ []
+pub chain_gone : (old new : ℕ → Option (Option ℕ)) (first then_ : Option ℕ) (a : ℕ) (ns : List ℕ) → first ≡ Some a → old a ≡ Some None → new a ≡ None
+    → then_ ≡ None → ((n : ℕ) → n ≢ a → new n ≡ old n) → IsListOf old first ns → IsListOf new then_ []
 chain_gone old new first then_ a ns head ends gone none others is = record {
   linked = none;
   once = tt;
@@ -199,7 +211,8 @@ chain_gone old new first then_ a ns head ends gone none others is = record {
 }
 
 -- one is taken out behind the one that links to it
-pub chain_taken_out : (old new : ℕ → Option (Option ℕ)) (first then_ : Option ℕ) (x y : ℕ) (ns : List ℕ) → then_ ≡ first → TakenOut old new x y → IsListOf old first ns → IsListOf new then_ (without y ns)
+pub chain_taken_out : (old new : ℕ → Option (Option ℕ)) (first then_ : Option ℕ) (x y : ℕ) (ns : List ℕ) → then_ ≡ first → TakenOut old new x y
+    → IsListOf old first ns → IsListOf new then_ (without y ns)
 chain_taken_out old new first then_ x y ns e out is =
     let at = is.all x (Some y) out.before in
     record {
@@ -215,5 +228,6 @@ chain_taken_out old new first then_ x y ns e out is =
     }
 
 -- what a member links to is a member
-pub next_is_member : (link : ℕ → Option (Option ℕ)) (first : Option ℕ) (x y : ℕ) (ns : List ℕ) → IsListOf link first ns → link x ≡ Some (Some y) → (next : Option ℕ) × (link y ≡ Some next)
+pub next_is_member : (link : ℕ → Option (Option ℕ)) (first : Option ℕ) (x y : ℕ) (ns : List ℕ) → IsListOf link first ns → link x ≡ Some (Some y)
+    → (next : Option ℕ) × (link y ≡ Some next)
 next_is_member link first x y ns is e = linked_has link first ns y is.linked (next_in link first ns x y is.linked (is.all x (Some y) e) e)

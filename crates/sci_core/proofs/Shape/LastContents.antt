@@ -19,23 +19,27 @@ or_assoc (Some x) y z = refl
 
 authority_append : (xs ys : List Sharer) → first_authority (xs ++ ys) ≡ option_or (first_authority xs) (first_authority ys)
 authority_append [] ys = refl
-authority_append (x ∷ xs) ys = ap (option_or (authority_contents x)) (authority_append xs ys) ∙ or_assoc (authority_contents x) (first_authority xs) (first_authority ys)
+authority_append (x ∷ xs) ys =
+    ap (option_or (authority_contents x)) (authority_append xs ys) ∙ or_assoc (authority_contents x) (first_authority xs) (first_authority ys)
 
 or_none : (x : Option Stamped) → option_or x None ≡ x
 or_none None = refl
 or_none (Some x) = refl
 
-pub authority_more : (core : Core) (line i : ℕ) → i < core.size.nodes → first_authority (take i (sharers core line)) ≡ None → first_authority (take (i + 1) (sharers core line)) ≡ authority_contents (sharer_of core line i)
+pub authority_more : (core : Core) (line i : ℕ) → i < core.size.nodes → first_authority (take i (sharers core line)) ≡ None
+    → first_authority (take (i + 1) (sharers core line)) ≡ authority_contents (sharer_of core line i)
 authority_more core line i below none =
     let d = sharer_of core line i in
     let long : i < length (sharers core line) = let all = length-map-range_with_len (sharer_of core line) 0 core.size.nodes in omega arith in
-    let at : get_or (sharers core line) i d ≡ sharer_of core line i = get_or-map-range_with_len (sharer_of core line) 0 core.size.nodes i i d below (omega arith) in
+    let at : get_or (sharers core line) i d ≡ sharer_of core line i =
+    get_or-map-range_with_len (sharer_of core line) 0 core.size.nodes i i d below (omega arith) in
     ap first_authority (take_more (sharers core line) i d long) ∙
     (authority_append (take i (sharers core line)) (get_or (sharers core line) i d ∷ []) ∙
     (after_none (first_authority (take i (sharers core line))) _ none ∙
     (or_none (authority_contents (get_or (sharers core line) i d)) ∙ ap authority_contents at)))
 
-authority_whole : (core : Core) (line i : ℕ) (c : Stamped) → first_authority (take i (sharers core line)) ≡ Some c → first_authority (sharers core line) ≡ Some c
+authority_whole : (core : Core) (line i : ℕ) (c : Stamped) → first_authority (take i (sharers core line)) ≡ Some c
+    → first_authority (sharers core line) ≡ Some c
 authority_whole core line i c e =
     ap first_authority (sym (take-append-drop i (sharers core line))) ∙
     (authority_append (take i (sharers core line)) (drop i (sharers core line)) ∙ found_first (first_authority (take i (sharers core line))) _ c e)
@@ -45,10 +49,13 @@ authority_whole core line i c e =
 pub last_home : (core : Core) (line : ℕ) (c : Stamped) → current_of (home_at core line) ≡ Some c → c ≡ last_at core line
 last_home core line c e = ap (λ (o : Option Stamped). unwrap_or (option_or o (first_authority (sharers core line))) zero_stamped) (sym e)
 
-pub last_authority : (core : Core) (line i : ℕ) (c : Stamped) → i < core.size.nodes → current_of (home_at core line) ≡ None → first_authority (take i (sharers core line)) ≡ None → authority_contents (sharer_of core line i) ≡ Some c → c ≡ last_at core line
+pub last_authority : (core : Core) (line i : ℕ) (c : Stamped) → i < core.size.nodes → current_of (home_at core line) ≡ None
+    → first_authority (take i (sharers core line)) ≡ None → authority_contents (sharer_of core line i) ≡ Some c → c ≡ last_at core line
 last_authority core line i c below home none here =
     let found = authority_whole core line (i + 1) c (authority_more core line i below none ∙ here) in
-    sym (ap (λ (o : Option Stamped). unwrap_or (option_or o (first_authority (sharers core line))) zero_stamped) home ∙ ap (λ (o : Option Stamped). unwrap_or o zero_stamped) found)
+    sym (ap (λ (o : Option Stamped). unwrap_or (option_or o (first_authority (sharers core line))) zero_stamped) home
+    ∙ ap (λ (o : Option Stamped). unwrap_or o zero_stamped) found)
 
-pub last_nowhere : (core : Core) (line i : ℕ) → i ≡ core.size.nodes → current_of (home_at core line) ≡ None → first_authority (take i (sharers core line)) ≡ None → zero_stamped ≡ last_at core line
+pub last_nowhere : (core : Core) (line i : ℕ) → i ≡ core.size.nodes → current_of (home_at core line) ≡ None
+    → first_authority (take i (sharers core line)) ≡ None → zero_stamped ≡ last_at core line
 last_nowhere core line i all home none = grind (arith, length-map-range_with_len, take_all)

@@ -29,7 +29,8 @@ AreFollowing view c (n ∷ ns) = (role_in view n ≡ Some Following) × AgreesIn
 abbrev pub IsLed : View → Stamped → Bool → List ℕ → Type 0
 IsLed view c must [] = ⊥
 IsLed view c must (n ∷ ns) =
-    ((must ≡ true → fresh_in view n ≡ true) × AgreesIn c view n) × (((role_in view n ≡ Some Leading) × AreFollowing view c ns) ⊎ ((role_in view n ≡ Some Coming) × IsLed view c (fresh_in view n) ns))
+    ((must ≡ true → fresh_in view n ≡ true) × AgreesIn c view n)
+    × (((role_in view n ≡ Some Leading) × AreFollowing view c ns) ⊎ ((role_in view n ≡ Some Coming) × IsLed view c (fresh_in view n) ns))
 
 -- ---- every member of a list that is led has its contents
 
@@ -49,9 +50,11 @@ led_agrees view c must (m ∷ ns) n (front, inr comes) (inr h) = led_agrees view
 abbrev pub AlikeIn : View → View → ℕ → Type 0
 AlikeIn old new n = Alike (old.state n) (old.answer n) (new.state n) (new.answer n)
 
-pub alike_moved : (old new : View) (n : ℕ) (was : Option Body) (state : CacheState) (now : Option Body) → old.answer n ≡ was → new.state n ≡ state → new.answer n ≡ now → Alike (old.state n) was state now → AlikeIn old new n
+pub alike_moved : (old new : View) (n : ℕ) (was : Option Body) (state : CacheState) (now : Option Body) → old.answer n ≡ was → new.state n ≡ state
+    → new.answer n ≡ now → Alike (old.state n) was state now → AlikeIn old new n
 alike_moved old new n was state now e f g alike =
-    subst (λ (w : Option Body). Alike (old.state n) w (new.state n) (new.answer n)) (sym e) (subst (λ (s : CacheState). Alike (old.state n) was s (new.answer n)) (sym f) (subst (Alike (old.state n) was state) (sym g) alike))
+    subst (λ (w : Option Body). Alike (old.state n) w (new.state n) (new.answer n)) (sym e)
+    (subst (λ (s : CacheState). Alike (old.state n) was s (new.answer n)) (sym f) (subst (Alike (old.state n) was state) (sym g) alike))
 
 -- its state and what is under way to it are the same
 pub alike_same : (old new : View) (n : ℕ) → new.state n ≡ old.state n → new.answer n ≡ old.answer n → AlikeIn old new n
@@ -86,10 +89,12 @@ pub led_weaker : (view : View) (c : Stamped) (must : Bool) (ns : List ℕ) → I
 led_weaker view c must [] led = led
 led_weaker view c must (n ∷ ns) led = ((λ e. cc, led.0.1), led.1)
 
-front_stands : (old new : View) (c : Stamped) (must : Bool) (n : ℕ) → Stands old new n → (must ≡ true → fresh_in old n ≡ true) × AgreesIn c old n → (must ≡ true → fresh_in new n ≡ true) × AgreesIn c new n
+front_stands : (old new : View) (c : Stamped) (must : Bool) (n : ℕ) → Stands old new n → (must ≡ true → fresh_in old n ≡ true) × AgreesIn c old n
+    → (must ≡ true → fresh_in new n ≡ true) × AgreesIn c new n
 front_stands old new c must n this h = (λ e. this.fresh ∙ h.0 e, this.agrees c h.1)
 
-pub led_stands : (old new : View) (c : Stamped) (must : Bool) (ns : List ℕ) → ((n : ℕ) → IsAmong n ns → Stands old new n) → IsLed old c must ns → IsLed new c must ns
+pub led_stands : (old new : View) (c : Stamped) (must : Bool) (ns : List ℕ) → ((n : ℕ) → IsAmong n ns → Stands old new n) → IsLed old c must ns
+    → IsLed new c must ns
 led_stands old new c must [] stands led = led
 led_stands old new c must (n ∷ ns) stands (front, inl leads) =
     let this = stands n (inl refl) in
@@ -112,7 +117,8 @@ following_without view c y (n ∷ ns) f =
 another : (view : View) (y n : ℕ) (r : Role) → role_in view y ≡ Some Following → role_in view n ≡ Some r → (r ≡ Following → ⊥) → n ≢ y
 another view y n r follows is not e = let both : Some r ≡ Some Following = sym is ∙ (ap (role_in view) e ∙ follows) in not cc
 
-pub led_without : (view : View) (c : Stamped) (must : Bool) (y : ℕ) (ns : List ℕ) → role_in view y ≡ Some Following → IsLed view c must ns → IsLed view c must (without y ns)
+pub led_without : (view : View) (c : Stamped) (must : Bool) (y : ℕ) (ns : List ℕ) → role_in view y ≡ Some Following → IsLed view c must ns
+    → IsLed view c must (without y ns)
 led_without view c must y [] follows led = elim led [ ]
 led_without view c must y (n ∷ ns) follows (front, inl leads) =
     let other : n ≢ y = another view y n Leading follows leads.0 (λ e. cc) in
@@ -143,18 +149,22 @@ pub roles_differ : (r s : Role) (role : Option Role) → role ≡ Some r → rol
 roles_differ r s role is also not = let both : Some r ≡ Some s = sym is ∙ also in not cc
 
 -- the one that led stands directly behind
-led_behind : (old new : View) (a q : ℕ) (c : Stamped) (b : Bool) (next : Option ℕ) (ns : List ℕ) → Joins old new a q → next ≡ Some q → LinkedFrom (link_in old) next ns → IsOnce ns → (IsAmong a ns → ⊥) → IsLed old c b ns → AgreesIn c old q × AreFollowing new c ns
+led_behind : (old new : View) (a q : ℕ) (c : Stamped) (b : Bool) (next : Option ℕ) (ns : List ℕ) → Joins old new a q → next ≡ Some q
+    → LinkedFrom (link_in old) next ns → IsOnce ns → (IsAmong a ns → ⊥) → IsLed old c b ns → AgreesIn c old q × AreFollowing new c ns
 led_behind old new a q c b next [] joins e linked once absent led = elim led [ ]
 led_behind old new a q c b next (m ∷ ns) joins e linked once absent (front, inl leads) =
     let here : m ≡ q = (let at = linked.0 in cc) in
     let agrees = subst (AgreesIn c old) here front.1 in
-    let rest = following_stand old new c ns (λ n h. joins.others n (λ s. absent (inr (subst (λ (k : ℕ). IsAmong k ns) s h))) (λ s. once.0 (subst (λ (k : ℕ). IsAmong k ns) (s ∙ sym here) h))) leads.1 in
+    let rest = following_stand old new c ns
+    (λ n h. joins.others n (λ s. absent (inr (subst (λ (k : ℕ). IsAmong k ns) s h))) (λ s. once.0 (subst (λ (k : ℕ). IsAmong k ns) (s ∙ sym here) h)))
+    leads.1 in
     (agrees, (ap (role_in new) here ∙ joins.follows, subst (AgreesIn c new) (sym here) (joins.keeps c agrees), rest))
 led_behind old new a q c b next (m ∷ ns) joins e linked once absent (front, inr comes) =
     let here : m ≡ q = (let at = linked.0 in cc) in
     absurd (roles_differ Coming Leading (role_in old m) comes.0 (ap (role_in old) here ∙ joins.leading) (λ s. cc))
 
-pub led_joins : (old new : View) (a q : ℕ) (c : Stamped) (must : Bool) (first : Option ℕ) (ns : List ℕ) → Joins old new a q → LinkedFrom (link_in old) first ns → IsOnce ns → IsAmong a ns → IsLed old c must ns → IsLed new c must ns
+pub led_joins : (old new : View) (a q : ℕ) (c : Stamped) (must : Bool) (first : Option ℕ) (ns : List ℕ) → Joins old new a q → LinkedFrom (link_in old) first ns
+    → IsOnce ns → IsAmong a ns → IsLed old c must ns → IsLed new c must ns
 led_joins old new a q c must first [] joins linked once h led = elim led [ ]
 led_joins old new a q c must first (n ∷ ns) joins linked once (inl e) (front, inl leads) =
     absurd (roles_differ Leading Coming (role_in old n) leads.0 (ap (role_in old) (sym e) ∙ joins.coming) (λ s. cc))
@@ -196,14 +206,17 @@ empty_agrees old new q n c made apart comes stale =
     let here = coming_empty (old.state n) (old.answer n) c comes stale in
     subst (λ (s : CacheState). Agrees c s (new.answer n)) (sym (made.same_state n apart)) (subst (Agrees c (old.state n)) (sym (made.same_answer n apart)) here)
 
-reading_same : {X : Type 0} (f : CacheState → Option Body → X) (old new : View) (q n : ℕ) (c : Stamped) → Made old new q c → n ≢ q → f (new.state n) (new.answer n) ≡ f (old.state n) (old.answer n)
-reading_same f old new q n c made apart = ap (f (new.state n)) (made.same_answer n apart) ∙ ap (λ (s : CacheState). f s (old.answer n)) (made.same_state n apart)
+reading_same : {X : Type 0} (f : CacheState → Option Body → X) (old new : View) (q n : ℕ) (c : Stamped) → Made old new q c → n ≢ q
+    → f (new.state n) (new.answer n) ≡ f (old.state n) (old.answer n)
+reading_same f old new q n c made apart =
+    ap (f (new.state n)) (made.same_answer n apart) ∙ ap (λ (s : CacheState). f s (old.answer n)) (made.same_state n apart)
 
 not_true : (b : Bool) → (b ≡ true → ⊥) → b ≡ false
 not_true true not = absurd (not refl)
 not_true false not = refl
 
-pub led_made : (old new : View) (q : ℕ) (b c : Stamped) (must : Bool) (first : Option ℕ) (ns : List ℕ) → Made old new q c → LinkedFrom (link_in old) first ns → IsAmong q ns → IsLed old b must ns → (must ≡ true → ⊥) × IsLed new c must ns
+pub led_made : (old new : View) (q : ℕ) (b c : Stamped) (must : Bool) (first : Option ℕ) (ns : List ℕ) → Made old new q c → LinkedFrom (link_in old) first ns
+    → IsAmong q ns → IsLed old b must ns → (must ≡ true → ⊥) × IsLed new c must ns
 led_made old new q b c must first [] made linked h led = elim led [ ]
 led_made old new q b c must first (n ∷ ns) made linked (inl e) (front, inl leads) =
     let ends : link_in old n ≡ Some None = ap (link_in old) (sym e) ∙ made.ends in
@@ -221,5 +234,10 @@ led_made old new q b c must first (n ∷ ns) made linked (inr h) (front, inr com
     let rest = led_made old new q b c (fresh_in old n) linked.1.0 ns made linked.1.2 h comes.1 in
     let stale : fresh_in old n ≡ false = not_true (fresh_in old n) rest.0 in
     let not : must ≡ true → ⊥ = λ m. rest.0 (front.0 m) in
-    let fresh : fresh_in new n ≡ fresh_in old n = reading_same is_fresh old new q n c made apart in
-    (not, ((λ m. absurd (not m), empty_agrees old new q n c made apart comes.0 stale), inr (reading_same role_of old new q n c made apart ∙ comes.0, subst (λ (f : Bool). IsLed new c f ns) (sym fresh) rest.1)))
+    let fresh : fresh_in new n ≡ fresh_in old n = reading_same is_fresh old new q n c made apart in (
+      not,
+      (
+        (λ m. absurd (not m), empty_agrees old new q n c made apart comes.0 stale),
+        inr (reading_same role_of old new q n c made apart ∙ comes.0, subst (λ (f : Bool). IsLed new c f ns) (sym fresh) rest.1),
+      ),
+    )

@@ -42,13 +42,15 @@ load_leaves c op e =
 -- ---- a member's contents
 
 -- a line whose home has it alone has no members
-pub no_members : (view : View) (d : Stamped) (ns : List ℕ) (n : ℕ) (behind : Option ℕ) → link_in view n ≡ Some behind → (c : Stamped) → IsShaped view (at.Home d) c ns → ⊥
+pub no_members : (view : View) (d : Stamped) (ns : List ℕ) (n : ℕ) (behind : Option ℕ) → link_in view n ≡ Some behind → (c : Stamped)
+    → IsShaped view (at.Home d) c ns → ⊥
 no_members view d ns n behind member c is =
     let empty = none_empty (link_in view) None ns refl is.list in
     subst (IsAmong n) empty (is.list.all n behind member)
 
 -- every member has the last contents, and has them coming
-pub member_agrees : (view : View) (home : HomeState) (c : Stamped) (ns : List ℕ) (n : ℕ) (behind : Option ℕ) → link_in view n ≡ Some behind → IsShaped view home c ns → AgreesIn c view n
+pub member_agrees : (view : View) (home : HomeState) (c : Stamped) (ns : List ℕ) (n : ℕ) (behind : Option ℕ) → link_in view n ≡ Some behind
+    → IsShaped view home c ns → AgreesIn c view n
 member_agrees view (at.Home d) c ns n behind member is = absurd (no_members view d ns n behind member c is)
 member_agrees view (at.Fresh p d) c ns n behind member is = led_agrees view c true ns n is.led.1 (is.list.all n behind member)
 member_agrees view (at.Gone p) c ns n behind member is = led_agrees view c false ns n is.led (is.list.all n behind member)
@@ -71,7 +73,8 @@ pub record Did (new : View) (home : HomeState) (c : Stamped) (op : Op) (done : P
   pub version : done.version ≡ (after c op).version
   pub shaped : Shaped new home (after c op)
 
-read_shaped : (old new : View) (home : HomeState) (c : Stamped) (q : ℕ) (next : CacheState) → Moves old new q next → next ≡ old.state q → Shaped old home c → Shaped new home c
+read_shaped : (old new : View) (home : HomeState) (c : Stamped) (q : ℕ) (next : CacheState) → Moves old new q next → next ≡ old.state q → Shaped old home c
+    → Shaped new home c
 read_shaped old new home c q next moves e shaped =
     shaped_alike old new home c (λ n. alike_same old new n (elim (cases_eq n q) [
       | inl here ↦ ap new.state here ∙ (moves.here ∙ (e ∙ ap old.state (sym here)))
@@ -79,13 +82,16 @@ read_shaped old new home c q next moves e shaped =
     ]) (moves.answers n)) shaped
 
 -- what a function of state and answer gives at the maker, before and after
-seen_before : {X : Type 0} (f : CacheState → Option Body → X) (old new : View) (q : ℕ) (state next : CacheState) → Moves old new q next → old.state q ≡ state → f (old.state q) (old.answer q) ≡ f state None
+seen_before : {X : Type 0} (f : CacheState → Option Body → X) (old new : View) (q : ℕ) (state next : CacheState) → Moves old new q next → old.state q ≡ state
+    → f (old.state q) (old.answer q) ≡ f state None
 seen_before f old new q state next moves is = ap (f (old.state q)) moves.none ∙ ap (λ (s : CacheState). f s None) is
 
-seen_after : {X : Type 0} (f : CacheState → Option Body → X) (old new : View) (q : ℕ) (state next : CacheState) → Moves old new q state → state ≡ next → f (new.state q) (new.answer q) ≡ f next None
+seen_after : {X : Type 0} (f : CacheState → Option Body → X) (old new : View) (q : ℕ) (state next : CacheState) → Moves old new q state → state ≡ next
+    → f (new.state q) (new.answer q) ≡ f next None
 seen_after f old new q state next moves is = ap (f (new.state q)) (moves.answers q ∙ moves.none) ∙ ap (λ (s : CacheState). f s None) (moves.here ∙ is)
 
-pub made_view : (old new : View) (q : ℕ) (c d : Stamped) (next : CacheState) → Moves old new q next → old.state q ≡ Head None c → next ≡ Head None d → Made old new q d
+pub made_view : (old new : View) (q : ℕ) (c d : Stamped) (next : CacheState) → Moves old new q next → old.state q ≡ Head None c → next ≡ Head None d
+    → Made old new q d
 made_view old new q c d next moves was is = record {
   ends = seen_before link_of old new q (Head None c) next moves was;
   leading = seen_before role_of old new q (Head None c) next moves was;
@@ -96,10 +102,13 @@ made_view old new q c d next moves was is = record {
   same_answer = λ n other. moves.answers n;
 }
 
-pub made_links : (old new : View) (q : ℕ) (c d : Stamped) (next : CacheState) → Moves old new q next → old.state q ≡ Head None c → next ≡ Head None d → (n : ℕ) → link_in new n ≡ link_in old n
+pub made_links : (old new : View) (q : ℕ) (c d : Stamped) (next : CacheState) → Moves old new q next → old.state q ≡ Head None c → next ≡ Head None d → (n : ℕ)
+    → link_in new n ≡ link_in old n
 made_links old new q c d next moves was is n =
     elim (cases_eq n q) [
-      | inl here ↦ ap (link_in new) here ∙ (seen_after link_of old new q next (Head None d) moves is ∙ (sym (seen_before link_of old new q (Head None c) next moves was) ∙ ap (link_in old) (sym here)))
+      | inl here ↦ ap (link_in new) here
+          ∙ (seen_after link_of old new q next (Head None d) moves is
+          ∙ (sym (seen_before link_of old new q (Head None c) next moves was) ∙ ap (link_in old) (sym here)))
       | inr other ↦ ap (link_of (new.state n)) (moves.answers n) ∙ ap (λ (s : CacheState). link_of s (old.answer n)) (moves.others n other)
     ]
 
@@ -107,7 +116,8 @@ made_accepts : (old new : View) (q : ℕ) (next : CacheState) → Moves old new 
 made_accepts old new q next moves all n =
     elim (cases_eq n q) [
       | inl here ↦ subst (AcceptsIn new) (sym here) (subst (IsAccepted (new.state q)) (sym (moves.answers q ∙ moves.none)) tt)
-      | inr other ↦ subst (λ (s : CacheState). IsAccepted s (new.answer n)) (sym (moves.others n other)) (subst (IsAccepted (old.state n)) (sym (moves.answers n)) (all n))
+      | inr other ↦ subst (λ (s : CacheState). IsAccepted s (new.answer n)) (sym (moves.others n other))
+          (subst (IsAccepted (old.state n)) (sym (moves.answers n)) (all n))
     ]
 
 -- a maker makes contents only if no home has the old ones
@@ -118,7 +128,8 @@ made_led old new (at.Fresh p e) q c d ns made is =
     absurd (led.0 refl)
 made_led old new (at.Gone p) q c d ns made is = (led_made old new q c d false (Some p) ns made is.list.linked (is.list.all q None made.ends) is.led).1
 
-made_shaped : (old new : View) (home : HomeState) (c b d : Stamped) (q : ℕ) (next : CacheState) → Moves old new q next → old.state q ≡ Head None b → next ≡ Head None d → Shaped old home c → Shaped new home d
+made_shaped : (old new : View) (home : HomeState) (c b d : Stamped) (q : ℕ) (next : CacheState) → Moves old new q next → old.state q ≡ Head None b
+    → next ≡ Head None d → Shaped old home c → Shaped new home d
 made_shaped old new home c b d q next moves was is (ns, shaped) = (
   ns,
   record {
@@ -128,11 +139,14 @@ made_shaped old new home c b d q next moves was is (ns, shaped) = (
   },
 )
 
-left_shaped : (old new : View) (home : HomeState) (c : Stamped) (q : ℕ) (op : Op) (next : CacheState) → Moves old new q next → Leaves (old.state q) op c next → Shaped old home c → Shaped new home (after c op)
-left_shaped old new home c q op next moves (Reads load same) shaped = subst (Shaped new home) (sym (load_leaves c op load)) (read_shaped old new home c q next moves same shaped)
+left_shaped : (old new : View) (home : HomeState) (c : Stamped) (q : ℕ) (op : Op) (next : CacheState) → Moves old new q next → Leaves (old.state q) op c next
+    → Shaped old home c → Shaped new home (after c op)
+left_shaped old new home c q op next moves (Reads load same) shaped =
+    subst (Shaped new home) (sym (load_leaves c op load)) (read_shaped old new home c q next moves same shaped)
 left_shaped old new home c q op next moves (Makes was is) shaped = made_shaped old new home c c (after c op) q next moves was is shaped
 
-pub performed_shaped : (old new : View) (home : HomeState) (c : Stamped) (q : ℕ) (op : Op) (done : Performed) → Performs (old.state q) op done → Moves old new q done.next → Shaped old home c → Did new home c op done
+pub performed_shaped : (old new : View) (home : HomeState) (c : Stamped) (q : ℕ) (op : Op) (done : Performed) → Performs (old.state q) op done
+    → Moves old new q done.next → Shaped old home c → Did new home c op done
 performed_shaped old new home c q op done performs moves shaped =
     let member : link_in old q ≡ Some performs.behind = ap (link_of (old.state q)) moves.none ∙ performs.member in
     let agrees = member_agrees old home c shaped.0 q performs.behind member shaped.1 in

@@ -1,5 +1,6 @@
 -- What a line's shape says, clause by clause, from its list that is led.
-use Rattle.std.proofs.Common.{◌≡◌, ◌⊎◌, ℕ, zero, suc, ◌%◌, ◌<◌, Bool, true, false, List, [], ◌∷◌, ◌++◌, length, get_or, Option, Some, None, refl, sym, ap, subst, ◌∙◌, arith, inl, inr}
+use Rattle.std.proofs.Common.{◌≡◌, ◌⊎◌, ℕ, zero, suc, ◌%◌, ◌<◌, Bool, true, false, List, [], ◌∷◌, ◌++◌, length, get_or, Option, Some, None, refl, sym, ap}
+use Rattle.std.proofs.Common.{subst, ◌∙◌, arith, inl, inr}
 use Rattle.std.specs.Prelude.{IfSome, IsSome, is_some, unwrap_or}
 use Rattle.std.specs.Option.{option_or}
 use Rattle.std.specs.List.{AllByRecursion}
@@ -14,13 +15,16 @@ use Rattle.sci_packets.specs.Table.{is_request}
 use Rattle.sci_home.specs.declared.state.HomeState.{HomeState}
 use Rattle.sci_home.specs.declared.state.HomeState.TheVariants as at
 use Rattle.sci_home.specs.Serving.{current_of}
-use Rattle.sci_cache.specs.State.{CacheState, Out, Asking, Joining, FreshJoining, Head, FreshHead, Below, Purging, Claiming, Clearing, Returning, Rolling, Telling, Fading, contents_of}
+use Rattle.sci_cache.specs.State.{CacheState, Out, Asking, Joining, FreshJoining, Head, FreshHead, Below, Purging, Claiming, Clearing, Returning, Rolling}
+use Rattle.sci_cache.specs.State.{Telling, Fading, contents_of}
 use Rattle.sci_cache.specs.Accepting.{accepting}
 use Rattle.sci_cache.specs.Member.{link_of}
 use Rattle.sci_cache.specs.Cache.{Letter, line_of}
 use Rattle.sci_core.specs.Core.{Core, node_at}
-use Rattle.sci_core.specs.Shape.{comes, follows, state_at, IsAuthority, IsSplit, HasOneAuthority, HasAuthorities, HaveContents, is_home_fresh, IsGoneStale, HasShape}
-use Rattle.sci_core.specs.Sharing.{contents_held, packets_of, answer_in, Sharer, sharer_of, sharers, home_at, authority_contents, first_authority, last_at, answer_to as told}
+use Rattle.sci_core.specs.Shape.{comes, follows, state_at, IsAuthority, IsSplit, HasOneAuthority, HasAuthorities, HaveContents, is_home_fresh, IsGoneStale}
+use Rattle.sci_core.specs.Shape.{HasShape}
+use Rattle.sci_core.specs.Sharing.{contents_held, packets_of, answer_in, Sharer, sharer_of, sharers, home_at, authority_contents, first_authority, last_at}
+use Rattle.sci_core.specs.Sharing.{answer_to as told}
 use Rattle.sci_history.specs.Seen.{IsAmong}
 use Rattle.sci_core.specs.Tidy.{IsSentIn, HasItsPackets, IsTidy, IsAccepted}
 use Rattle.sci_core.specs.WellFormed.{IsWellFormed}
@@ -149,13 +153,18 @@ led_leader view c must [] led = elim led [ ]
 led_leader view c must (n ∷ ns) (front, inl leads) = (n, leads.0)
 led_leader view c must (n ∷ ns) (front, inr comes) = led_leader view c (fresh_in view n) ns comes.1
 
-led_only : (view : View) (c : Stamped) (must : Bool) (ns : List ℕ) (a b : ℕ) → IsLed view c must ns → role_in view a ≡ Some Leading → role_in view b ≡ Some Leading → IsAmong a ns → IsAmong b ns → b ≡ a
+led_only : (view : View) (c : Stamped) (must : Bool) (ns : List ℕ) (a b : ℕ) → IsLed view c must ns → role_in view a ≡ Some Leading
+    → role_in view b ≡ Some Leading → IsAmong a ns → IsAmong b ns → b ≡ a
 led_only view c must [] a b led la lb ha hb = elim led [ ]
 led_only view c must (n ∷ ns) a b (front, inl leads) la lb (inl ea) (inl eb) = eb ∙ sym ea
-led_only view c must (n ∷ ns) a b (front, inl leads) la lb (inr ha) hb = absurd (roles_differ Following Leading (role_in view a) (following_in view c ns a leads.1 ha) la (λ s. cc))
-led_only view c must (n ∷ ns) a b (front, inl leads) la lb (inl ea) (inr hb) = absurd (roles_differ Following Leading (role_in view b) (following_in view c ns b leads.1 hb) lb (λ s. cc))
-led_only view c must (n ∷ ns) a b (front, inr comes) la lb (inl ea) hb = absurd (roles_differ Coming Leading (role_in view a) (ap (role_in view) ea ∙ comes.0) la (λ s. cc))
-led_only view c must (n ∷ ns) a b (front, inr comes) la lb (inr ha) (inl eb) = absurd (roles_differ Coming Leading (role_in view b) (ap (role_in view) eb ∙ comes.0) lb (λ s. cc))
+led_only view c must (n ∷ ns) a b (front, inl leads) la lb (inr ha) hb =
+    absurd (roles_differ Following Leading (role_in view a) (following_in view c ns a leads.1 ha) la (λ s. cc))
+led_only view c must (n ∷ ns) a b (front, inl leads) la lb (inl ea) (inr hb) =
+    absurd (roles_differ Following Leading (role_in view b) (following_in view c ns b leads.1 hb) lb (λ s. cc))
+led_only view c must (n ∷ ns) a b (front, inr comes) la lb (inl ea) hb =
+    absurd (roles_differ Coming Leading (role_in view a) (ap (role_in view) ea ∙ comes.0) la (λ s. cc))
+led_only view c must (n ∷ ns) a b (front, inr comes) la lb (inr ha) (inl eb) =
+    absurd (roles_differ Coming Leading (role_in view b) (ap (role_in view) eb ∙ comes.0) lb (λ s. cc))
 led_only view c must (n ∷ ns) a b (front, inr comes) la lb (inr ha) (inr hb) = led_only view c (fresh_in view n) ns a b comes.1 la lb ha hb
 
 -- ---- what stands before and behind it
@@ -169,20 +178,27 @@ behind : (before : List ℕ) (a : ℕ) (after : List ℕ) → IsAmong a (before 
 behind [] a after = inl refl
 behind (n ∷ before) a after = inr (behind before a after)
 
-led_parts : (view : View) (c : Stamped) (must : Bool) (before : List ℕ) (a : ℕ) (after : List ℕ) → role_in view a ≡ Some Leading → IsLed view c must (before ++ a ∷ after) → Parts view c must before a after
+led_parts : (view : View) (c : Stamped) (must : Bool) (before : List ℕ) (a : ℕ) (after : List ℕ) → role_in view a ≡ Some Leading
+    → IsLed view c must (before ++ a ∷ after) → Parts view c must before a after
 led_parts view c must [] a after leading (front, inl leads) = record { coming = tt; following = leads.1; fresh = λ e. (front.0 e, tt) }
 led_parts view c must [] a after leading (front, inr comes) = absurd (roles_differ Coming Leading (role_in view a) comes.0 leading (λ s. cc))
-led_parts view c must (n ∷ before) a after leading (front, inl leads) = absurd (roles_differ Following Leading (role_in view a) (following_in view c (before ++ a ∷ after) a leads.1 (behind before a after)) leading (λ s. cc))
-led_parts view c must (n ∷ before) a after leading (front, inr comes) = grind (arith, fresh_in, led_parts view c (fresh_in view n) before a after leading comes.1)
+led_parts view c must (n ∷ before) a after leading (front, inl leads) =
+    absurd (roles_differ Following Leading (role_in view a) (following_in view c (before ++ a ∷ after) a leads.1 (behind before a after)) leading (λ s. cc))
+led_parts view c must (n ∷ before) a after leading (front, inr comes) =
+    grind (arith, fresh_in, led_parts view c (fresh_in view n) before a after leading comes.1)
 
 -- below a fresh member
-led_below : (view : View) (c : Stamped) (must : Bool) (before : List ℕ) (m : ℕ) (middle : List ℕ) (a : ℕ) (after : List ℕ) → role_in view a ≡ Some Leading → fresh_in view m ≡ true → IsLed view c must (before ++ m ∷ (middle ++ a ∷ after)) → AllByRecursion (λ n. fresh_in view n ≡ true) (middle ++ a ∷ [])
-led_below view c must [] m middle a after leading fresh (front, inl leads) = absurd (roles_differ Following Leading (role_in view a) (following_in view c (middle ++ a ∷ after) a leads.1 (behind middle a after)) leading (λ s. cc))
+led_below : (view : View) (c : Stamped) (must : Bool) (before : List ℕ) (m : ℕ) (middle : List ℕ) (a : ℕ) (after : List ℕ) → role_in view a ≡ Some Leading
+    → fresh_in view m ≡ true → IsLed view c must (before ++ m ∷ (middle ++ a ∷ after)) → AllByRecursion (λ n. fresh_in view n ≡ true) (middle ++ a ∷ [])
+led_below view c must [] m middle a after leading fresh (front, inl leads) =
+    absurd (roles_differ Following Leading (role_in view a) (following_in view c (middle ++ a ∷ after) a leads.1 (behind middle a after)) leading (λ s. cc))
 led_below view c must [] m middle a after leading fresh (front, inr comes) = (led_parts view c (fresh_in view m) middle a after leading comes.1).fresh fresh
 led_below view c must (n ∷ before) m middle a after leading fresh (front, inl leads) =
-    let there : IsAmong a (before ++ m ∷ (middle ++ a ∷ after)) = subst (IsAmong a) (append_assoc before (m ∷ middle) (a ∷ after)) (behind (before ++ m ∷ middle) a after) in
+    let there : IsAmong a (before ++ m ∷ (middle ++ a ∷ after)) =
+    subst (IsAmong a) (append_assoc before (m ∷ middle) (a ∷ after)) (behind (before ++ m ∷ middle) a after) in
     absurd (roles_differ Following Leading (role_in view a) (following_in view c (before ++ m ∷ (middle ++ a ∷ after)) a leads.1 there) leading (λ s. cc))
-led_below view c must (n ∷ before) m middle a after leading fresh (front, inr comes) = led_below view c (fresh_in view n) before m middle a after leading fresh comes.1
+led_below view c must (n ∷ before) m middle a after leading fresh (front, inr comes) =
+    led_below view c (fresh_in view n) before m middle a after leading fresh comes.1
 
 -- ---- a line of a machine
 
@@ -196,12 +212,14 @@ record Authority (core : Core) (line n : ℕ) : Type 0 where
   pub are : authority_contents (sharer_of core line n) ≡ Some contents
   pub holds : Holds (state_at core line n) (told core n line) contents
 
-authority_so : (core : Core) (line n : ℕ) (o : Option Stamped) → authority_contents (sharer_of core line n) ≡ o → IfSome o (Holds (state_at core line n) (told core n line)) → IsSome o → Authority core line n
+authority_so : (core : Core) (line n : ℕ) (o : Option Stamped) → authority_contents (sharer_of core line n) ≡ o
+    → IfSome o (Holds (state_at core line n) (told core n line)) → IsSome o → Authority core line n
 authority_so core line n None is holds some = cc
 authority_so core line n (Some d) is holds some = record { contents = d; are = is; holds = holds }
 
 authority_of : (core : Core) (line n : ℕ) → IsAuthority core line n → Authority core line n
-authority_of core line n authority = authority_so core line n (authority_contents (sharer_of core line n)) refl (held (state_at core line n) (told core n line)) authority
+authority_of core line n authority =
+    authority_so core line n (authority_contents (sharer_of core line n)) refl (held (state_at core line n) (told core n line)) authority
 
 pub authority_leads : (core : Core) (line n : ℕ) → IsAuthority core line n → role_in (view_of core line) n ≡ Some Leading
 authority_leads core line n authority = (authority_of core line n authority).holds.leads
@@ -217,7 +235,8 @@ same_if None c h = tt
 same_if (Some d) c h = h d refl
 
 -- every authority has the last contents
-authority_same : (core : Core) (line : ℕ) (home : HomeState) (c : Stamped) (ns : List ℕ) (n : ℕ) → IsShaped (view_of core line) home c ns → IfSome (authority_contents (sharer_of core line n)) (λ d. d ≡ c)
+authority_same : (core : Core) (line : ℕ) (home : HomeState) (c : Stamped) (ns : List ℕ) (n : ℕ) → IsShaped (view_of core line) home c ns
+    → IfSome (authority_contents (sharer_of core line n)) (λ d. d ≡ c)
 authority_same core line home c ns n is =
     same_if (authority_contents (sharer_of core line n)) c (λ d e. (
     let some : IsAuthority core line n = ap (λ (o : Option Stamped). is_some o) e in
@@ -236,26 +255,33 @@ first_or (Some d) rest c same some = ap Some same
 first_or None rest c same (inl some) = cc
 first_or None rest c same (inr there) = there
 
-first_held : (xs : List Sharer) (c : Stamped) (d : Sharer) (i : ℕ) → ((j : ℕ) → j < length xs → IfSome (authority_contents (get_or xs j d)) (λ e. e ≡ c)) → i < length xs → IsSome (authority_contents (get_or xs i d)) → first_authority xs ≡ Some c
+first_held : (xs : List Sharer) (c : Stamped) (d : Sharer) (i : ℕ) → ((j : ℕ) → j < length xs → IfSome (authority_contents (get_or xs j d)) (λ e. e ≡ c))
+    → i < length xs → IsSome (authority_contents (get_or xs i d)) → first_authority xs ≡ Some c
 first_held [] c d i all within some = absurd (omega arith)
 first_held (x ∷ xs) c d zero all within some = first_or (authority_contents x) (first_authority xs) c (all 0 within) (inl some)
 first_held (x ∷ xs) c d (suc i) all within some =
     let rest = first_held xs c d i (λ j lt. all (suc j) (omega arith)) (omega arith) some in
     first_or (authority_contents x) (first_authority xs) c (all 0 (omega arith)) (inr rest)
 
-last_led : (core : Core) (line : ℕ) (home : HomeState) (c : Stamped) (ns : List ℕ) (a : ℕ) → IsWellFormed core → current_of (home_at core line) ≡ None → IsShaped (view_of core line) home c ns → role_in (view_of core line) a ≡ Some Leading → last_at core line ≡ c
+last_led : (core : Core) (line : ℕ) (home : HomeState) (c : Stamped) (ns : List ℕ) (a : ℕ) → IsWellFormed core → current_of (home_at core line) ≡ None
+    → IsShaped (view_of core line) home c ns → role_in (view_of core line) a ≡ Some Leading → last_at core line ≡ c
 last_led core line home c ns a well none is leads =
     let d = sharer_of core line a in
     let member = leads_member core line a leads in
     let below = member_below core line a member.0 well member.1 in
     let all = length-map-range_with_len (sharer_of core line) 0 core.size.nodes in
-    let at : (j : ℕ) → j < core.size.nodes → get_or (sharers core line) j d ≡ sharer_of core line j = λ j lt. get_or-map-range_with_len (sharer_of core line) 0 core.size.nodes j j d lt (omega arith) in
-    let same : (j : ℕ) → j < length (sharers core line) → IfSome (authority_contents (get_or (sharers core line) j d)) (λ e. e ≡ c) = λ j lt. subst (λ (s : Sharer). IfSome (authority_contents s) (λ e. e ≡ c)) (sym (at j (omega arith))) (authority_same core line home c ns j is) in
-    let some : IsSome (authority_contents (get_or (sharers core line) a d)) = subst (λ (s : Sharer). IsSome (authority_contents s)) (sym (at a below)) (leads_authority core line a leads) in
+    let at : (j : ℕ) → j < core.size.nodes → get_or (sharers core line) j d ≡ sharer_of core line j =
+    λ j lt. get_or-map-range_with_len (sharer_of core line) 0 core.size.nodes j j d lt (omega arith) in
+    let same : (j : ℕ) → j < length (sharers core line) → IfSome (authority_contents (get_or (sharers core line) j d)) (λ e. e ≡ c) =
+    λ j lt. subst (λ (s : Sharer). IfSome (authority_contents s) (λ e. e ≡ c)) (sym (at j (omega arith))) (authority_same core line home c ns j is) in
+    let some : IsSome (authority_contents (get_or (sharers core line) a d)) =
+    subst (λ (s : Sharer). IsSome (authority_contents s)) (sym (at a below)) (leads_authority core line a leads) in
     let found = first_held (sharers core line) c d a same (omega arith) some in
-    ap (λ (o : Option Stamped). unwrap_or (option_or o (first_authority (sharers core line))) zero_stamped) none ∙ ap (λ (o : Option Stamped). unwrap_or o zero_stamped) found
+    ap (λ (o : Option Stamped). unwrap_or (option_or o (first_authority (sharers core line))) zero_stamped) none
+    ∙ ap (λ (o : Option Stamped). unwrap_or o zero_stamped) found
 
-last_so : (core : Core) (line : ℕ) (home : HomeState) (c : Stamped) → IsWellFormed core → home_at core line ≡ home → Shaped (view_of core line) home c → last_at core line ≡ c
+last_so : (core : Core) (line : ℕ) (home : HomeState) (c : Stamped) → IsWellFormed core → home_at core line ≡ home → Shaped (view_of core line) home c
+    → last_at core line ≡ c
 last_so core line (at.Home d) c well is (ns, shaped) = sym (last_home core line d (ap current_of is)) ∙ shaped.led
 last_so core line (at.Fresh p d) c well is (ns, shaped) = sym (last_home core line d (ap current_of is)) ∙ shaped.led.0
 last_so core line (at.Gone p) c well is (ns, shaped) =
@@ -273,7 +299,8 @@ no_authority core line d c ns is n authority =
     let member = leads_member core line n (authority_leads core line n authority) in
     no_members (view_of core line) d ns n member.0 member.1 c is
 
-one_authority : (core : Core) (line : ℕ) (home : HomeState) (c : Stamped) (must : Bool) (ns : List ℕ) → IsWellFormed core → IsShaped (view_of core line) home c ns → IsLed (view_of core line) c must ns → HasOneAuthority core line ns
+one_authority : (core : Core) (line : ℕ) (home : HomeState) (c : Stamped) (must : Bool) (ns : List ℕ) → IsWellFormed core
+    → IsShaped (view_of core line) home c ns → IsLed (view_of core line) c must ns → HasOneAuthority core line ns
 one_authority core line home c must ns well is led =
     let view = view_of core line in
     let first = led_leader view c must ns led in
@@ -289,52 +316,63 @@ one_authority core line home c must ns well is led =
           led_only view c must ns first.0 n led first.1 leads (is.list.all first.0 member.0 member.1) (is.list.all n other.0 other.1));
     }
 
-authorities_so : (core : Core) (line : ℕ) (home : HomeState) (c : Stamped) (ns : List ℕ) → IsWellFormed core → IsShaped (view_of core line) home c ns → HasAuthorities core line ns home
+authorities_so : (core : Core) (line : ℕ) (home : HomeState) (c : Stamped) (ns : List ℕ) → IsWellFormed core → IsShaped (view_of core line) home c ns
+    → HasAuthorities core line ns home
 authorities_so core line (at.Home d) c ns well is = no_authority core line d c ns is
 authorities_so core line (at.Fresh p d) c ns well is = one_authority core line (at.Fresh p d) c true ns well is is.led.1
 authorities_so core line (at.Gone p) c ns well is = one_authority core line (at.Gone p) c false ns well is is.led
 
 -- a list with an authority is led: from the front on by fresh members if the home is fresh
-split_led : (core : Core) (line : ℕ) (home : HomeState) (c : Stamped) (ns : List ℕ) (a : ℕ) → IsAuthority core line a → IsShaped (view_of core line) home c ns → IsLed (view_of core line) c (is_home_fresh home) ns
+split_led : (core : Core) (line : ℕ) (home : HomeState) (c : Stamped) (ns : List ℕ) (a : ℕ) → IsAuthority core line a → IsShaped (view_of core line) home c ns
+    → IsLed (view_of core line) c (is_home_fresh home) ns
 split_led core line (at.Home d) c ns a authority is = absurd (no_authority core line d c ns is a authority)
 split_led core line (at.Fresh p d) c ns a authority is = is.led.1
 split_led core line (at.Gone p) c ns a authority is = is.led
 
-pub split_parts : (core : Core) (line : ℕ) (home : HomeState) (c : Stamped) (ns before : List ℕ) (a : ℕ) (after : List ℕ) → IsShaped (view_of core line) home c ns → IsSplit core line ns before a after → Parts (view_of core line) c (is_home_fresh home) before a after
+pub split_parts : (core : Core) (line : ℕ) (home : HomeState) (c : Stamped) (ns before : List ℕ) (a : ℕ) (after : List ℕ)
+    → IsShaped (view_of core line) home c ns → IsSplit core line ns before a after → Parts (view_of core line) c (is_home_fresh home) before a after
 split_parts core line home c ns before a after is split =
     led_parts (view_of core line) c (is_home_fresh home) before a after (authority_leads core line a split.authority)
     (subst (IsLed (view_of core line) c (is_home_fresh home)) split.whole (split_led core line home c ns a split.authority is))
 
-all_coming : (core : Core) (line : ℕ) (ns : List ℕ) → AllByRecursion (λ n. role_in (view_of core line) n ≡ Some Coming) ns → AllByRecursion (λ n. comes (state_at core line n) ≡ true) ns
+all_coming : (core : Core) (line : ℕ) (ns : List ℕ) → AllByRecursion (λ n. role_in (view_of core line) n ≡ Some Coming) ns
+    → AllByRecursion (λ n. comes (state_at core line n) ≡ true) ns
 all_coming core line [] all = tt
 all_coming core line (n ∷ ns) all = (stands_as (state_at core line n) (told core n line) (Some Coming) all.0, all_coming core line ns all.1)
 
-all_following : (core : Core) (line : ℕ) (c : Stamped) (ns : List ℕ) → AreFollowing (view_of core line) c ns → AllByRecursion (λ n. follows (state_at core line n) ≡ true) ns × AllByRecursion (λ n. contents_of (state_at core line n) ≡ Some c) ns
+all_following : (core : Core) (line : ℕ) (c : Stamped) (ns : List ℕ) → AreFollowing (view_of core line) c ns
+    → AllByRecursion (λ n. follows (state_at core line n) ≡ true) ns × AllByRecursion (λ n. contents_of (state_at core line n) ≡ Some c) ns
 all_following core line c [] all = (tt, tt)
 all_following core line c (n ∷ ns) all = grind (arith, stands_as, all_following core line c ns all.2)
 
 -- ---- contents under way
 
-told_same : (core : Core) (line : ℕ) (home : HomeState) (c : Stamped) (ns : List ℕ) (n : ℕ) (p : Option ℕ) (d : Stamped) → IsShaped (view_of core line) home c ns → told core n line ≡ Some (body.Fdata p d) → d ≡ c
+told_same : (core : Core) (line : ℕ) (home : HomeState) (c : Stamped) (ns : List ℕ) (n : ℕ) (p : Option ℕ) (d : Stamped)
+    → IsShaped (view_of core line) home c ns → told core n line ≡ Some (body.Fdata p d) → d ≡ c
 told_same core line home c ns n p d is e =
     let accepted = subst (IsAccepted (state_at core line n)) e (is.accepts n) in
     let asks = fdata_asks (state_at core line n) p d accepted in
-    let link : link_in (view_of core line) n ≡ Some p = ap (link_of (state_at core line n)) e ∙ ap (λ (s : CacheState). link_of s (Some (body.Fdata p d))) asks in
+    let link : link_in (view_of core line) n ≡ Some p =
+    ap (link_of (state_at core line n)) e ∙ ap (λ (s : CacheState). link_of s (Some (body.Fdata p d))) asks in
     let agrees = member_agrees (view_of core line) home c ns n p link is in
-    let here : Agrees c Asking (Some (body.Fdata p d)) = subst (λ (s : CacheState). Agrees c s (Some (body.Fdata p d))) asks (subst (Agrees c (state_at core line n)) e agrees) in
+    let here : Agrees c Asking (Some (body.Fdata p d)) =
+    subst (λ (s : CacheState). Agrees c s (Some (body.Fdata p d))) asks (subst (Agrees c (state_at core line n)) e agrees) in
     here.1
 
-joining_same : (core : Core) (line : ℕ) (home : HomeState) (c : Stamped) (ns : List ℕ) (n p : ℕ) (sent : Bool) (d : Stamped) → IsShaped (view_of core line) home c ns → state_at core line n ≡ FreshJoining p sent d → d ≡ c
+joining_same : (core : Core) (line : ℕ) (home : HomeState) (c : Stamped) (ns : List ℕ) (n p : ℕ) (sent : Bool) (d : Stamped)
+    → IsShaped (view_of core line) home c ns → state_at core line n ≡ FreshJoining p sent d → d ≡ c
 joining_same core line home c ns n p sent d is e =
     let link : link_in (view_of core line) n ≡ Some (Some p) = ap (λ (s : CacheState). link_of s (told core n line)) e in
     has_last c d (state_at core line n) (told core n line) (ap contents_of e) (member_agrees (view_of core line) home c ns n (Some p) link is)
 
-returning_same : (core : Core) (line : ℕ) (home : HomeState) (c : Stamped) (ns : List ℕ) (n : ℕ) (d : Stamped) → IsShaped (view_of core line) home c ns → state_at core line n ≡ Returning d → told core n line ≡ None → d ≡ c
+returning_same : (core : Core) (line : ℕ) (home : HomeState) (c : Stamped) (ns : List ℕ) (n : ℕ) (d : Stamped) → IsShaped (view_of core line) home c ns
+    → state_at core line n ≡ Returning d → told core n line ≡ None → d ≡ c
 returning_same core line home c ns n d is e none =
     let link : link_in (view_of core line) n ≡ Some None = ap (link_of (state_at core line n)) none ∙ ap (λ (s : CacheState). link_of s None) e in
     has_last c d (state_at core line n) (told core n line) (ap contents_of e) (member_agrees (view_of core line) home c ns n None link is)
 
-back_same : (core : Core) (line : ℕ) (home : HomeState) (c : Stamped) (ns : List ℕ) (n : ℕ) (letters : List Letter) → IsShaped (view_of core line) home c ns → packets_of core n line ≡ letters → HasItsPackets (line % core.size.nodes) (line_of (node_at core n).cache line) letters
+back_same : (core : Core) (line : ℕ) (home : HomeState) (c : Stamped) (ns : List ℕ) (n : ℕ) (letters : List Letter) → IsShaped (view_of core line) home c ns
+    → packets_of core n line ≡ letters → HasItsPackets (line % core.size.nodes) (line_of (node_at core n).cache line) letters
     → AllByRecursion (λ letter. (d : Stamped) → letter.body ≡ body.Wback d → d ≡ c) letters
 back_same core line home c ns n [] is are has = tt
 back_same core line home c ns n (letter ∷ []) is are has = (
@@ -351,7 +389,8 @@ home_same view (at.Home d) c ns led = led
 home_same view (at.Fresh p d) c ns led = led.0
 home_same view (at.Gone p) c ns led = tt
 
-pub shape_of : (core : Core) (line : ℕ) (c : Stamped) → IsWellFormed core → IsTidy core → line < core.size.lines → ShapedAt core line c → IsGoneStale core line (home_at core line) → HasShape core line
+pub shape_of : (core : Core) (line : ℕ) (c : Stamped) → IsWellFormed core → IsTidy core → line < core.size.lines → ShapedAt core line c
+    → IsGoneStale core line (home_at core line) → HasShape core line
 shape_of core line c well tidy inside (ns, is) stale =
     let home = home_at core line in
     let last = last_is core line c well (ns, is) in
@@ -374,8 +413,10 @@ shape_of core line c well tidy inside (ns, is) stale =
       contents = subst (HaveContents core line ns) (sym last) contents;
       fresh = record {
         home = λ before after a split fresh. (split_parts core line home c ns before a after is split).fresh fresh;
-        below = λ before middle after m a split fresh. led_below (view_of core line) c (is_home_fresh home) before m middle a after (authority_leads core line a split.authority) fresh
-            (subst (IsLed (view_of core line) c (is_home_fresh home)) (split.whole ∙ append_assoc before (m ∷ middle) (a ∷ after)) (split_led core line home c ns a split.authority is));
+        below = λ before middle after m a split fresh.
+            led_below (view_of core line) c (is_home_fresh home) before m middle a after (authority_leads core line a split.authority) fresh
+            (subst (IsLed (view_of core line) c (is_home_fresh home)) (split.whole ∙ append_assoc before (m ∷ middle) (a ∷ after))
+            (split_led core line home c ns a split.authority is));
       };
       stale = stale;
     }

@@ -1,5 +1,6 @@
 -- A request that is served, or refused, leaves each line its shape and its last contents.
-use Rattle.std.proofs.Common.{◌≡◌, ◌≢◌, ℕ, ◌+◌, ◌*◌, ◌/◌, ◌%◌, ◌<◌, true, false, List, [], ◌∷◌, length, filter, Option, Some, None, refl, sym, ap, subst, ◌∙◌, inl, inr}
+use Rattle.std.proofs.Common.{◌≡◌, ◌≢◌, ℕ, ◌+◌, ◌*◌, ◌/◌, ◌%◌, ◌<◌, true, false, List, [], ◌∷◌, length, filter, Option, Some, None, refl, sym, ap, subst, ◌∙◌}
+use Rattle.std.proofs.Common.{inl, inr}
 use Rattle.std.specs.Prelude.{IfSome, option_to_list, slice_set, slice_index_or}
 use Rattle.std.proofs.Math.Nat.{div-add-mod}
 use Rattle.std.proofs.lemmas.Bool.{cases_Bool, cases_eq}
@@ -52,17 +53,21 @@ pub record Told (core new : Core) (a k : ℕ) (body : Body) (request : Letter) :
   pub waiting : waits ((view_of core k).state a) ≡ true
   pub sent : IsSentIn (k % core.size.nodes) ((view_of core k).state a) request
 
-pub told_here : (core : Core) (n place : ℕ) (next : NodeOf) (request : Letter) (rest : List Letter) (body : Body) → Answered core n place next request rest body → IsTidy core
+pub told_here : (core : Core) (n place : ℕ) (next : NodeOf) (request : Letter) (rest : List Letter) (body : Body) → Answered core n place next request rest body
+    → IsTidy core
     → Told core (with_lane (with_node core n next) place rest) request.source request.line body request
 told_here core n place next request rest body is tidy =
     let a = request.source in
     let k = request.line in
     let about = about_from a k request refl (request_asker request is.asks) in
     let answer = answering request body in
-    let one = some_has_one (k % core.size.nodes) (line_of (node_at core a).cache k) (packets_of core a k) (lane_has core place request rest a k is.within is.front about) (tidy a k is.asker is.known) in
-    let moved = packets_served core n next place request answer one.letter rest a k is.below is.within is.front is.free is.waiting about (about_answer a k request body is.asks is.answers ∙ about) one.one in
+    let one = some_has_one (k % core.size.nodes) (line_of (node_at core a).cache k) (packets_of core a k)
+    (lane_has core place request rest a k is.within is.front about) (tidy a k is.asker is.known) in
+    let moved = packets_served core n next place request answer one.letter rest a k is.below is.within is.front is.free is.waiting about
+    (about_answer a k request body is.asks is.answers ∙ about) one.one in
     let there : packets_of core a k ≡ request ∷ [] = one.one ∙ ap (λ (l : Letter). l ∷ []) (sym moved.same) in
-    let sent = subst (λ (l : Letter). is_request l.body ≡ true → IsSentIn (k % core.size.nodes) ((view_of core k).state a) l) (sym moved.same) one.awaited.sent in
+    let sent = subst (λ (l : Letter). is_request l.body ≡ true → IsSentIn (k % core.size.nodes) ((view_of core k).state a) l) (sym moved.same)
+    one.awaited.sent in
     record {
       unanswered = ap answer_in there ∙ request_tells request is.asks;
       answered = ap answer_in moved.then_ ∙ answer_tells answer is.answers;
@@ -71,7 +76,9 @@ told_here core n place next request rest body is tidy =
     }
 
 -- what is under way to another node, or about another line, stays
-pub told_other : (core : Core) (n place : ℕ) (next : NodeOf) (request : Letter) (rest : List Letter) (body : Body) → Answered core n place next request rest body → (m k : ℕ) → ((m ≡ request.source) × (k ≡ request.line) → ⊥) → told (with_lane (with_node core n next) place rest) m k ≡ told core m k
+pub told_other : (core : Core) (n place : ℕ) (next : NodeOf) (request : Letter) (rest : List Letter) (body : Body)
+    → Answered core n place next request rest body → (m k : ℕ) → ((m ≡ request.source) × (k ≡ request.line) → ⊥)
+    → told (with_lane (with_node core n next) place rest) m k ≡ told core m k
 told_other core n place next request rest body is m k not =
     let answer = answering request body in
     elim (cases_Bool (is_about m k request)) [
@@ -79,31 +86,39 @@ told_other core n place next request rest body is m k not =
       | inr other ↦
           let answer_other : is_about m k answer ≡ false = about_answer m k request body is.asks is.answers ∙ other in
           let waits : filter (is_about m k) (option_to_list next.waiting) ≡ filter (is_about m k) (option_to_list (node_at core n).waiting) =
-          ap (λ (w : Option Letter). filter (is_about m k) (option_to_list w)) is.waiting ∙ (filter_one m k answer answer_other ∙ ap (λ (w : Option Letter). filter (is_about m k) (option_to_list w)) (sym is.free)) in
+          ap (λ (w : Option Letter). filter (is_about m k) (option_to_list w)) is.waiting
+          ∙ (filter_one m k answer answer_other ∙ ap (λ (w : Option Letter). filter (is_about m k) (option_to_list w)) (sym is.free)) in
           ap answer_in (packets_same core n next place rest m k is.below is.within waits (filter_left m k (lane_at core place) rest request is.front other))
     ]
 
 -- ---- if no state changes
 
-state_same : (core : Core) (n : ℕ) (next : NodeOf) → ((k : ℕ) → (line_of next.cache k).state ≡ (line_of (node_at core n).cache k).state) → (m k : ℕ) → (line_of (node_at (with_node core n next) m).cache k).state ≡ (line_of (node_at core m).cache k).state
+state_same : (core : Core) (n : ℕ) (next : NodeOf) → ((k : ℕ) → (line_of next.cache k).state ≡ (line_of (node_at core n).cache k).state) → (m k : ℕ)
+    → (line_of (node_at (with_node core n next) m).cache k).state ≡ (line_of (node_at core m).cache k).state
 state_same core n next states m k =
-    at_place_set (λ (j : ℕ) (part : NodeOf). (line_of part.cache k).state ≡ (line_of (node_at core j).cache k).state) core.parts n next no_node (λ j. refl) (states k) m
+    at_place_set (λ (j : ℕ) (part : NodeOf). (line_of part.cache k).state ≡ (line_of (node_at core j).cache k).state) core.parts n next no_node (λ j. refl)
+    (states k) m
 
 -- another line stands as it stood
-pub other_line : (core : Core) (n place : ℕ) (next : NodeOf) (request : Letter) (rest : List Letter) (body : Body) → Answered core n place next request rest body → ((k : ℕ) → k ≢ request.line → (line_of next.cache k).state ≡ (line_of (node_at core n).cache k).state)
-    → ((k : ℕ) → k ≢ request.line → home_at (with_node core n next) k ≡ home_at core k) → (k : ℕ) → k ≢ request.line → SameLine core (with_lane (with_node core n next) place rest) k
+pub other_line : (core : Core) (n place : ℕ) (next : NodeOf) (request : Letter) (rest : List Letter) (body : Body)
+    → Answered core n place next request rest body → ((k : ℕ) → k ≢ request.line → (line_of next.cache k).state ≡ (line_of (node_at core n).cache k).state)
+    → ((k : ℕ) → k ≢ request.line → home_at (with_node core n next) k ≡ home_at core k) → (k : ℕ) → k ≢ request.line
+    → SameLine core (with_lane (with_node core n next) place rest) k
 other_line core n place next request rest body is states homes k other =
     let new = with_lane (with_node core n next) place rest in
     record {
       home = homes k other;
       alike = λ m. alike_same (view_of core k) (view_of new k) m
-          (at_place_set (λ (j : ℕ) (part : NodeOf). (line_of part.cache k).state ≡ (line_of (node_at core j).cache k).state) core.parts n next no_node (λ j. refl) (states k other) m)
+          (at_place_set (λ (j : ℕ) (part : NodeOf). (line_of part.cache k).state ≡ (line_of (node_at core j).cache k).state) core.parts n next no_node
+          (λ j. refl) (states k other) m)
           (told_other core n place next request rest body is m k (λ h. other h.1));
     }
 
 -- the asker's line, if no state changes
-asks_now : (core : Core) (n place : ℕ) (next : NodeOf) (request : Letter) (rest : List Letter) (body : Body) → Answered core n place next request rest body → IsTidy core → ((k : ℕ) → (line_of next.cache k).state ≡ (line_of (node_at core n).cache k).state)
-    → Asks (view_of core request.line) (view_of (with_lane (with_node core n next) place rest) request.line) request.source ((view_of core request.line).state request.source) body
+asks_now : (core : Core) (n place : ℕ) (next : NodeOf) (request : Letter) (rest : List Letter) (body : Body) → Answered core n place next request rest body
+    → IsTidy core → ((k : ℕ) → (line_of next.cache k).state ≡ (line_of (node_at core n).cache k).state)
+    → Asks (view_of core request.line) (view_of (with_lane (with_node core n next) place rest) request.line) request.source
+    ((view_of core request.line).state request.source) body
 asks_now core n place next request rest body is tidy states =
     let new = with_lane (with_node core n next) place rest in
     let line = request.line in
@@ -113,12 +128,14 @@ asks_now core n place next request rest body is tidy states =
       state = state_same core n next states request.source line;
       unanswered = told_a.unanswered;
       answered = told_a.answered;
-      others = λ m apart. alike_same (view_of core line) (view_of new line) m (state_same core n next states m line) (told_other core n place next request rest body is m line (λ h. apart h.0));
+      others = λ m apart. alike_same (view_of core line) (view_of new line) m (state_same core n next states m line)
+          (told_other core n place next request rest body is m line (λ h. apart h.0));
     }
 
 -- ---- a refusal
 
-pub refused_same : (core : Core) (n place : ℕ) (request : Letter) (rest : List Letter) → is_setback request.body ≡ false → Answered core n place (with_answer (node_at core n) request Busy) request rest Busy → IsTidy core
+pub refused_same : (core : Core) (n place : ℕ) (request : Letter) (rest : List Letter) → is_setback request.body ≡ false
+    → Answered core n place (with_answer (node_at core n) request Busy) request rest Busy → IsTidy core
     → (k : ℕ) → SameLine core (with_lane (with_node core n (with_answer (node_at core n) request Busy)) place rest) k
 refused_same core n place request rest not_setback is tidy k =
     let next = with_answer (node_at core n) request Busy in
@@ -131,7 +148,9 @@ refused_same core n place request rest not_setback is tidy k =
           let asks = asks_now core n place next request rest Busy is tidy (λ j. refl) in
           let busy = busy_alike (line % core.size.nodes) ((view_of core line).state request.source) request told_a.sent not_setback in
           let alike : (m : ℕ) → AlikeIn (view_of core line) (view_of new line) m = λ m. elim (cases_eq m request.source) [
-            | inl asker ↦ subst (AlikeIn (view_of core line) (view_of new line)) (sym asker) (alike_moved (view_of core line) (view_of new line) request.source None ((view_of core line).state request.source) (Some Busy) asks.unanswered asks.state asks.answered busy)
+            | inl asker ↦ subst (AlikeIn (view_of core line) (view_of new line)) (sym asker)
+                (alike_moved (view_of core line) (view_of new line) request.source None ((view_of core line).state request.source) (Some Busy) asks.unanswered
+                asks.state asks.answered busy)
             | inr other ↦ asks.others m other
           ] in
           subst (SameLine core new) (sym here) (record { home = homes line; alike = alike })
@@ -148,31 +167,42 @@ places_apart c k line same other e =
     let d : c * (k / c) + k % c ≡ c * (line / c) + line % c = ap (λ (i : ℕ). c * i + k % c) e ∙ ap (λ (i : ℕ). c * (line / c) + i) same in
     other (sym a ∙ (d ∙ b))
 
-home_changed : (core : Core) (n line : ℕ) (next : NodeOf) (home : HomeState) → n < length core.parts → (node_at core n).cache.nodes ≡ core.size.nodes → line % core.size.nodes ≡ n → next.cache.nodes ≡ core.size.nodes → next.homes ≡ slice_set (node_at core n).homes (home_place (node_at core n) line) home
+home_changed : (core : Core) (n line : ℕ) (next : NodeOf) (home : HomeState) → n < length core.parts → (node_at core n).cache.nodes ≡ core.size.nodes
+    → line % core.size.nodes ≡ n → next.cache.nodes ≡ core.size.nodes → next.homes ≡ slice_set (node_at core n).homes (home_place (node_at core n) line) home
     → (k : ℕ) → k ≢ line → home_at (with_node core n next) k ≡ home_at core k
 home_changed core n line next home below all at same homes k other =
     elim (cases_eq (k % core.size.nodes) n) [
       | inl here ↦
           let part = node_at core n in
-          let node : node_at (with_node core n next) (k % core.size.nodes) ≡ next = ap (node_at (with_node core n next)) here ∙ get_or-set_same core.parts n next no_node below in
+          let node : node_at (with_node core n next) (k % core.size.nodes) ≡ next =
+          ap (node_at (with_node core n next)) here ∙ get_or-set_same core.parts n next no_node below in
           let apart : k / core.size.nodes ≢ line / core.size.nodes = places_apart core.size.nodes k line (here ∙ sym at) other in
           let place : home_place part line ≡ line / core.size.nodes = ap (λ (c : ℕ). line / c) all in
-          let there : home_of next k ≡ slice_index_or next.homes (k / core.size.nodes) opening_home = ap (λ (c : ℕ). slice_index_or next.homes (k / c) opening_home) same in
-          let set_ : slice_index_or next.homes (k / core.size.nodes) opening_home ≡ slice_index_or (slice_set part.homes (line / core.size.nodes) home) (k / core.size.nodes) opening_home =
+          let there : home_of next k ≡ slice_index_or next.homes (k / core.size.nodes) opening_home =
+          ap (λ (c : ℕ). slice_index_or next.homes (k / c) opening_home) same in
+          let set_ : slice_index_or next.homes (k / core.size.nodes) opening_home ≡ slice_index_or (slice_set part.homes (line / core.size.nodes) home)
+          (k / core.size.nodes) opening_home =
           ap (λ (hs : List HomeState). slice_index_or hs (k / core.size.nodes) opening_home) (homes ∙ ap (λ (p : ℕ). slice_set part.homes p home) place) in
-          let rest : slice_index_or (slice_set part.homes (line / core.size.nodes) home) (k / core.size.nodes) opening_home ≡ slice_index_or part.homes (k / core.size.nodes) opening_home = get_or-set_other part.homes (line / core.size.nodes) (k / core.size.nodes) home opening_home apart in
-          let was : slice_index_or part.homes (k / core.size.nodes) opening_home ≡ home_of part k = ap (λ (c : ℕ). slice_index_or part.homes (k / c) opening_home) (sym all) in
+          let rest : slice_index_or (slice_set part.homes (line / core.size.nodes) home) (k / core.size.nodes) opening_home ≡ slice_index_or part.homes
+          (k / core.size.nodes) opening_home = get_or-set_other part.homes (line / core.size.nodes) (k / core.size.nodes) home opening_home apart in
+          let was : slice_index_or part.homes (k / core.size.nodes) opening_home ≡ home_of part k =
+          ap (λ (c : ℕ). slice_index_or part.homes (k / c) opening_home) (sym all) in
           ap (λ (p : NodeOf). home_of p k) node ∙ (there ∙ (set_ ∙ (rest ∙ (was ∙ ap (λ (j : ℕ). home_of (node_at core j) k) (sym here)))))
       | inr elsewhere ↦ ap (λ (p : NodeOf). home_of p k) (get_or-set_other core.parts n (k % core.size.nodes) next no_node elsewhere)
     ]
 
-home_now : (core : Core) (n line : ℕ) (next : NodeOf) (home : HomeState) → n < length core.parts → line % core.size.nodes ≡ n → next.cache.nodes ≡ (node_at core n).cache.nodes → next.homes ≡ slice_set (node_at core n).homes (home_place (node_at core n) line) home
+home_now : (core : Core) (n line : ℕ) (next : NodeOf) (home : HomeState) → n < length core.parts → line % core.size.nodes ≡ n
+    → next.cache.nodes ≡ (node_at core n).cache.nodes → next.homes ≡ slice_set (node_at core n).homes (home_place (node_at core n) line) home
     → home_place (node_at core n) line < length (node_at core n).homes → home_at (with_node core n next) line ≡ home
 home_now core n line next home below at same homes within =
     let part = node_at core n in
-    let node : node_at (with_node core n next) (line % core.size.nodes) ≡ next = ap (node_at (with_node core n next)) at ∙ get_or-set_same core.parts n next no_node below in
-    let there : home_of next line ≡ slice_index_or next.homes (home_place part line) opening_home = ap (λ (c : ℕ). slice_index_or next.homes (line / c) opening_home) same in
-    ap (λ (p : NodeOf). home_of p line) node ∙ (there ∙ (ap (λ (hs : List HomeState). slice_index_or hs (home_place part line) opening_home) homes ∙ get_or-set_same part.homes (home_place part line) home opening_home within))
+    let node : node_at (with_node core n next) (line % core.size.nodes) ≡ next =
+    ap (node_at (with_node core n next)) at ∙ get_or-set_same core.parts n next no_node below in
+    let there : home_of next line ≡ slice_index_or next.homes (home_place part line) opening_home =
+    ap (λ (c : ℕ). slice_index_or next.homes (line / c) opening_home) same in
+    ap (λ (p : NodeOf). home_of p line) node
+    ∙ (there ∙ (ap (λ (hs : List HomeState). slice_index_or hs (home_place part line) opening_home) homes
+    ∙ get_or-set_same part.homes (home_place part line) home opening_home within))
 
 -- the node after its home has served
 abbrev pub with_home : NodeOf → Letter → HomeState → Body → NodeOf
@@ -186,8 +216,10 @@ pub record HomeTurn (core new : Core) (request : Letter) (home : HomeState) (ser
   pub asks : Asks (view_of core request.line) (view_of new request.line) request.source ((view_of core request.line).state request.source) served.1
   pub others : (k : ℕ) → k ≢ request.line → SameLine core new k
 
-pub home_turns : (core : Core) (n place : ℕ) (request : Letter) (rest : List Letter) (served : HomeState × Body) → IsPart core.size n (node_at core n) → request.line % core.size.nodes ≡ n → Answered core n place (with_home (node_at core n) request served.0 served.1) request rest served.1 → IsTidy core
-    → HomeTurn core (with_lane (with_node core n (with_home (node_at core n) request served.0 served.1)) place rest) request (home_of (node_at core n) request.line) served
+pub home_turns : (core : Core) (n place : ℕ) (request : Letter) (rest : List Letter) (served : HomeState × Body) → IsPart core.size n (node_at core n)
+    → request.line % core.size.nodes ≡ n → Answered core n place (with_home (node_at core n) request served.0 served.1) request rest served.1 → IsTidy core
+    → HomeTurn core (with_lane (with_node core n (with_home (node_at core n) request served.0 served.1)) place rest) request
+    (home_of (node_at core n) request.line) served
 home_turns core n place request rest served part at is tidy =
     let old = node_at core n in
     let next = with_home old request served.0 served.1 in
@@ -204,11 +236,16 @@ home_turns core n place request rest served part at is tidy =
     }
 
 -- What a home's serving keeps of every line: what is kept of the asker's line, and of one that stands as it stood.
-pub home_keeps : (P : View → HomeState → Type 0) → ((old new : Core) (k : ℕ) → SameLine old new k → P (view_of old k) (home_at old k) → P (view_of new k) (home_at new k))
-    → ((h a : ℕ) (home : HomeState) (old new : View) (asker : CacheState) (letter : Letter) → IsSentIn h asker letter → IfSome (serving_of_home home a letter.body) (λ (served : HomeState × Body). Asks old new a asker served.1 → P old home → P new served.0))
-    → (core : Core) (n place : ℕ) (request : Letter) (rest : List Letter) (served : HomeState × Body) → IsPart core.size n (node_at core n) → request.line % core.size.nodes ≡ n → Answered core n place (with_home (node_at core n) request served.0 served.1) request rest served.1
-    → serving_of_home (home_of (node_at core n) request.line) request.source request.body ≡ Some served → IsTidy core → (k : ℕ) → P (view_of core k) (home_at core k)
-    → P (view_of (with_lane (with_node core n (with_home (node_at core n) request served.0 served.1)) place rest) k) (home_at (with_lane (with_node core n (with_home (node_at core n) request served.0 served.1)) place rest) k)
+pub home_keeps : (P : View → HomeState → Type 0)
+    → ((old new : Core) (k : ℕ) → SameLine old new k → P (view_of old k) (home_at old k) → P (view_of new k) (home_at new k))
+    → ((h a : ℕ) (home : HomeState) (old new : View) (asker : CacheState) (letter : Letter) → IsSentIn h asker letter
+    → IfSome (serving_of_home home a letter.body) (λ (served : HomeState × Body). Asks old new a asker served.1 → P old home → P new served.0))
+    → (core : Core) (n place : ℕ) (request : Letter) (rest : List Letter) (served : HomeState × Body) → IsPart core.size n (node_at core n)
+    → request.line % core.size.nodes ≡ n → Answered core n place (with_home (node_at core n) request served.0 served.1) request rest served.1
+    → serving_of_home (home_of (node_at core n) request.line) request.source request.body ≡ Some served → IsTidy core → (k : ℕ)
+    → P (view_of core k) (home_at core k)
+    → P (view_of (with_lane (with_node core n (with_home (node_at core n) request served.0 served.1)) place rest) k)
+    (home_at (with_lane (with_node core n (with_home (node_at core n) request served.0 served.1)) place rest) k)
 home_keeps P stood row core n place request rest served part at is serves tidy k has =
     let new = with_lane (with_node core n (with_home (node_at core n) request served.0 served.1)) place rest in
     let line = request.line in
@@ -219,26 +256,36 @@ home_keeps P stood row core n place request rest served part at is serves tidy k
           let home = home_of (node_at core n) line in
           let asker = (view_of core line).state a in
           let this = row (line % core.size.nodes) a home (view_of core line) (view_of new line) asker request turn.sent in
-          let keeps = subst (λ (o : Option (HomeState × Body)). IfSome o (λ (x : HomeState × Body). Asks (view_of core line) (view_of new line) a asker x.1 → P (view_of core line) home → P (view_of new line) x.0)) serves this in
-          let has_here : P (view_of core line) home = subst (P (view_of core line)) turn.was (subst (λ (j : ℕ). P (view_of core j) (home_at core j)) here has) in
+          let keeps = subst (λ (o : Option (HomeState × Body)).
+          IfSome o (λ (x : HomeState × Body). Asks (view_of core line) (view_of new line) a asker x.1 → P (view_of core line) home
+          → P (view_of new line) x.0)) serves this in
+          let has_here : P (view_of core line) home =
+          subst (P (view_of core line)) turn.was (subst (λ (j : ℕ). P (view_of core j) (home_at core j)) here has) in
           subst (λ (j : ℕ). P (view_of new j) (home_at new j)) (sym here) (subst (P (view_of new line)) (sym turn.now) (keeps turn.asks has_here))
       | inr other ↦ stood core new k (turn.others k other) has
     ]
 
-pub home_kept : (core : Core) (n place : ℕ) (request : Letter) (rest : List Letter) (served : HomeState × Body) → IsPart core.size n (node_at core n) → request.line % core.size.nodes ≡ n → Answered core n place (with_home (node_at core n) request served.0 served.1) request rest served.1
-    → serving_of_home (home_of (node_at core n) request.line) request.source request.body ≡ Some served → IsTidy core → (k : ℕ) (c : Stamped) → ShapedAt core k c → ShapedAt (with_lane (with_node core n (with_home (node_at core n) request served.0 served.1)) place rest) k c
+pub home_kept : (core : Core) (n place : ℕ) (request : Letter) (rest : List Letter) (served : HomeState × Body) → IsPart core.size n (node_at core n)
+    → request.line % core.size.nodes ≡ n → Answered core n place (with_home (node_at core n) request served.0 served.1) request rest served.1
+    → serving_of_home (home_of (node_at core n) request.line) request.source request.body ≡ Some served → IsTidy core → (k : ℕ) (c : Stamped)
+    → ShapedAt core k c → ShapedAt (with_lane (with_node core n (with_home (node_at core n) request served.0 served.1)) place rest) k c
 home_kept core n place request rest served part at is serves tidy k c shaped =
-    home_keeps (λ view home. Shaped view home c) (λ old new j same has. same_shaped old new j c same has) (λ h a home old new asker letter sent. home_shaped h a home c old new asker letter sent)
+    home_keeps (λ view home. Shaped view home c) (λ old new j same has. same_shaped old new j c same has)
+    (λ h a home old new asker letter sent. home_shaped h a home c old new asker letter sent)
     core n place request rest served part at is serves tidy k shaped
 
 -- ---- a cache serves
 
 abbrev pub with_served : NodeOf → Letter → CacheState → Body → NodeOf
-with_served part request state body = with_answer (record part { cache = with_line part.cache request.line (line_in (line_of part.cache request.line) state) }) request body
+with_served part request state body =
+    with_answer (record part { cache = with_line part.cache request.line (line_in (line_of part.cache request.line) state) }) request body
 
 -- the line of the asker and of the server, before and after
-pub served_shift : (core : Core) (n place : ℕ) (request : Letter) (rest : List Letter) (served : CacheState × Body) → IsPart core.size n (node_at core n) → Answered core n place (with_served (node_at core n) request served.0 served.1) request rest served.1 → IsTidy core
-    → Shift (view_of core request.line) (view_of (with_lane (with_node core n (with_served (node_at core n) request served.0 served.1)) place rest) request.line) request.source n served.0 served.1
+pub served_shift : (core : Core) (n place : ℕ) (request : Letter) (rest : List Letter) (served : CacheState × Body) → IsPart core.size n (node_at core n)
+    → Answered core n place (with_served (node_at core n) request served.0 served.1) request rest served.1 → IsTidy core
+    → Shift (view_of core request.line)
+    (view_of (with_lane (with_node core n (with_served (node_at core n) request served.0 served.1)) place rest) request.line) request.source n served.0
+    served.1
 served_shift core n place request rest served part is tidy =
     let old = node_at core n in
     let next = with_served old request served.0 served.1 in
@@ -246,18 +293,22 @@ served_shift core n place request rest served part is tidy =
     let line_below : line < lines_of old = subst (λ (i : ℕ). line < i) (sym part.each) is.known in
     let told_a = told_here core n place next request rest served.1 is tidy in
     let at : node_at (with_node core n next) n ≡ next = get_or-set_same core.parts n next no_node is.below in
-    let state : (line_of next.cache line).state ≡ served.0 = ap (λ (l : LineState). l.state) (get_or-set_same old.cache.lines line (line_in (line_of old.cache line) served.0) untouched line_below) in
+    let state : (line_of next.cache line).state ≡ served.0 =
+    ap (λ (l : LineState). l.state) (get_or-set_same old.cache.lines line (line_in (line_of old.cache line) served.0) untouched line_below) in
     record {
       unanswered = told_a.unanswered;
       answered = told_a.answered;
       other_answers = λ m apart. told_other core n place next request rest served.1 is m line (λ h. apart h.0);
       here = ap (λ (p : NodeOf). (line_of p.cache line).state) at ∙ state;
       others = λ m apart. ap (λ (p : NodeOf). (line_of p.cache line).state) (get_or-set_other core.parts n m next no_node apart);
-      idle = λ idle. ap answer_in (idle_has_none (line % core.size.nodes) (line_of (node_at core n).cache line) (packets_of core n line) idle (tidy n line is.some is.known));
+      idle = λ idle. ap answer_in (idle_has_none (line % core.size.nodes) (line_of (node_at core n).cache line) (packets_of core n line) idle
+          (tidy n line is.some is.known));
     }
 
-pub cache_kept : (core : Core) (n place : ℕ) (request : Letter) (rest : List Letter) (served : CacheState × Body) → IsPart core.size n (node_at core n) → Answered core n place (with_served (node_at core n) request served.0 served.1) request rest served.1
-    → serving (line_of (node_at core n).cache request.line).state request.source request.body ≡ Some served → IsTidy core → (k : ℕ) (c : Stamped) → ShapedAt core k c → ShapedAt (with_lane (with_node core n (with_served (node_at core n) request served.0 served.1)) place rest) k c
+pub cache_kept : (core : Core) (n place : ℕ) (request : Letter) (rest : List Letter) (served : CacheState × Body) → IsPart core.size n (node_at core n)
+    → Answered core n place (with_served (node_at core n) request served.0 served.1) request rest served.1
+    → serving (line_of (node_at core n).cache request.line).state request.source request.body ≡ Some served → IsTidy core → (k : ℕ) (c : Stamped)
+    → ShapedAt core k c → ShapedAt (with_lane (with_node core n (with_served (node_at core n) request served.0 served.1)) place rest) k c
 cache_kept core n place request rest served part is serves tidy k c shaped =
     let old = node_at core n in
     let next = with_served old request served.0 served.1 in
@@ -272,9 +323,12 @@ cache_kept core n place request rest served part is serves tidy k c shaped =
           let row = cache_serves (line % core.size.nodes) a n ((view_of core line).state n) asker request told_a.sent is.to in
           let serves_as = subst (λ (o : Option (CacheState × Body)). IfSome o (ServesAs a n asker ((view_of core line).state n))) serves row in
           let shift = served_shift core n place request rest served part is tidy in
-          let then_ = cache_shaped (view_of core line) (view_of new line) a n served (home_at core line) c shift serves_as (subst (λ (j : ℕ). ShapedAt core j c) here shaped) in
+          let then_ = cache_shaped (view_of core line) (view_of new line) a n served (home_at core line) c shift serves_as
+          (subst (λ (j : ℕ). ShapedAt core j c) here shaped) in
           subst (λ (j : ℕ). ShapedAt new j c) (sym here) (subst (λ (h : HomeState). Shaped (view_of new line) h c) (sym (homes line)) then_)
       | inr other ↦
-          let others : (j : ℕ) → j ≢ line → (line_of next.cache j).state ≡ (line_of old.cache j).state = λ j apart. ap (λ (l : LineState). l.state) (get_or-set_other old.cache.lines line j (line_in (line_of old.cache line) served.0) untouched apart) in
+          let others : (j : ℕ) → j ≢ line → (line_of next.cache j).state ≡ (line_of old.cache j).state =
+          λ j apart. ap (λ (l : LineState). l.state)
+          (get_or-set_other old.cache.lines line j (line_in (line_of old.cache line) served.0) untouched apart) in
           same_shaped core new k c (other_line core n place next request rest served.1 is others (λ j apart. homes j) k other) shaped
     ]

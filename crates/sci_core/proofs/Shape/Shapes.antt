@@ -8,7 +8,8 @@ use Rattle.sci_packets.specs.declared.body.Body.TheVariants as body
 use Rattle.sci_home.specs.declared.state.HomeState.{HomeState}
 use Rattle.sci_home.specs.declared.state.HomeState.TheVariants as at
 use Rattle.sci_home.specs.Serving.{head_of, serving_mread, serving_fread, serving_claim, serving_clear, serving_wback, home_serving as at_home}
-use Rattle.sci_cache.specs.State.{CacheState, Out, Asking, Joining, FreshJoining, Head, FreshHead, Below, Purging, Claiming, Clearing, Returning, Rolling, Telling, Fading}
+use Rattle.sci_cache.specs.State.{CacheState, Out, Asking, Joining, FreshJoining, Head, FreshHead, Below, Purging, Claiming, Clearing, Returning, Rolling}
+use Rattle.sci_cache.specs.State.{Telling, Fading}
 use Rattle.sci_cache.specs.Accepting.{accepting}
 use Rattle.sci_cache.specs.Member.{link_of}
 use Rattle.sci_cache.specs.Cache.{Letter}
@@ -20,7 +21,8 @@ use Rattle.sci_core.proofs.Shape.Chains.{chain_same, chain_front, chain_gone, no
 use Rattle.sci_core.proofs.Shape.Heads.{if_head}
 use Rattle.sci_core.proofs.Shape.Views.{View, link_in}
 use Rattle.sci_core.proofs.Shape.Standings.{Coming, Leading, role_of, Agrees, sight_of, Alike}
-use Rattle.sci_core.proofs.Shape.Led.{role_in, AgreesIn, AreFollowing, IsLed, AlikeIn, same_link, Stands, alike_stands, following_stand, led_weaker, led_stands, led_agrees}
+use Rattle.sci_core.proofs.Shape.Led.{role_in, AgreesIn, AreFollowing, IsLed, AlikeIn, same_link, Stands, alike_stands, following_stand, led_weaker, led_stands}
+use Rattle.sci_core.proofs.Shape.Led.{led_agrees}
 
 -- ---- shapes
 
@@ -43,7 +45,8 @@ pub record IsShaped (view : View) (home : HomeState) (c : Stamped) (ns : List �
 abbrev pub Shaped : View → HomeState → Stamped → Type 0
 Shaped view home c = (ns : List ℕ) × IsShaped view home c ns
 
-led_from_stands : (old new : View) (home : HomeState) (c : Stamped) (ns : List ℕ) → ((n : ℕ) → IsAmong n ns → Stands old new n) → IsLedFrom old home c ns → IsLedFrom new home c ns
+led_from_stands : (old new : View) (home : HomeState) (c : Stamped) (ns : List ℕ) → ((n : ℕ) → IsAmong n ns → Stands old new n) → IsLedFrom old home c ns
+    → IsLedFrom new home c ns
 led_from_stands old new (at.Home d) c ns stands led = led
 led_from_stands old new (at.Fresh p d) c ns stands led = (led.0, led_stands old new c true ns stands led.1)
 led_from_stands old new (at.Gone p) c ns stands led = led_stands old new c false ns stands led
@@ -68,28 +71,35 @@ pub record Asks (old new : View) (a : ℕ) (asker : CacheState) (body : Body) : 
   pub answered : new.answer a ≡ Some body
   pub others : (n : ℕ) → n ≢ a → AlikeIn old new n
 
-pub before : {X : Type 0} (f : CacheState → Option Body → X) (old new : View) (a : ℕ) (asker : CacheState) (body : Body) → Asks old new a asker body → f (old.state a) (old.answer a) ≡ f asker None
+pub before : {X : Type 0} (f : CacheState → Option Body → X) (old new : View) (a : ℕ) (asker : CacheState) (body : Body) → Asks old new a asker body
+    → f (old.state a) (old.answer a) ≡ f asker None
 before f old new a asker body asks = ap (f (old.state a)) asks.unanswered ∙ ap (λ (s : CacheState). f s None) asks.was
 
-pub after : {X : Type 0} (f : CacheState → Option Body → X) (old new : View) (a : ℕ) (asker : CacheState) (body : Body) → Asks old new a asker body → f (new.state a) (new.answer a) ≡ f asker (Some body)
+pub after : {X : Type 0} (f : CacheState → Option Body → X) (old new : View) (a : ℕ) (asker : CacheState) (body : Body) → Asks old new a asker body
+    → f (new.state a) (new.answer a) ≡ f asker (Some body)
 after f old new a asker body asks = ap (f (new.state a)) asks.answered ∙ ap (λ (s : CacheState). f s (Some body)) asks.state
 
 agrees_before : (c : Stamped) (old new : View) (a : ℕ) (asker : CacheState) (body : Body) → Asks old new a asker body → AgreesIn c old a → Agrees c asker None
 agrees_before c old new a asker body asks h = subst (λ (s : CacheState). Agrees c s None) asks.was (subst (Agrees c (old.state a)) asks.unanswered h)
 
-agrees_after : (c : Stamped) (old new : View) (a : ℕ) (asker : CacheState) (body : Body) → Asks old new a asker body → Agrees c asker (Some body) → AgreesIn c new a
-agrees_after c old new a asker body asks h = subst (Agrees c (new.state a)) (sym asks.answered) (subst (λ (s : CacheState). Agrees c s (Some body)) (sym asks.state) h)
+agrees_after : (c : Stamped) (old new : View) (a : ℕ) (asker : CacheState) (body : Body) → Asks old new a asker body → Agrees c asker (Some body)
+    → AgreesIn c new a
+agrees_after c old new a asker body asks h =
+    subst (Agrees c (new.state a)) (sym asks.answered) (subst (λ (s : CacheState). Agrees c s (Some body)) (sym asks.state) h)
 
 -- the answer is one that the asker takes
-accepts_after : (old new : View) (a : ℕ) (asker : CacheState) (body : Body) → Asks old new a asker body → IsSome (accepting asker body) → ((n : ℕ) → AcceptsIn old n) → (n : ℕ) → AcceptsIn new n
+accepts_after : (old new : View) (a : ℕ) (asker : CacheState) (body : Body) → Asks old new a asker body → IsSome (accepting asker body)
+    → ((n : ℕ) → AcceptsIn old n) → (n : ℕ) → AcceptsIn new n
 accepts_after old new a asker body asks accepted all n =
     elim (cases_eq n a) [
-      | inl here ↦ subst (AcceptsIn new) (sym here) (subst (IsAccepted (new.state a)) (sym asks.answered) (subst (λ (s : CacheState). IsSome (accepting s body)) (sym asks.state) accepted))
+      | inl here ↦ subst (AcceptsIn new) (sym here)
+          (subst (IsAccepted (new.state a)) (sym asks.answered) (subst (λ (s : CacheState). IsSome (accepting s body)) (sym asks.state) accepted))
       | inr other ↦ (asks.others n other).accepts (all n)
     ]
 
 -- refused by the home: the asker stands as it stood
-pub stays_alike : (old new : View) (a : ℕ) (asker : CacheState) (body : Body) → Asks old new a asker body → Alike asker None asker (Some body) → (n : ℕ) → AlikeIn old new n
+pub stays_alike : (old new : View) (a : ℕ) (asker : CacheState) (body : Body) → Asks old new a asker body → Alike asker None asker (Some body) → (n : ℕ)
+    → AlikeIn old new n
 stays_alike old new a asker body asks alike n =
     elim (cases_eq n a) [
       | inl here ↦ subst (λ (m : ℕ). AlikeIn old new m) (sym here) (record {
@@ -102,38 +112,51 @@ stays_alike old new a asker body asks alike n =
       | inr other ↦ asks.others n other
     ]
 
-stays : (old new : View) (home : HomeState) (c : Stamped) (a : ℕ) (asker : CacheState) (body : Body) → Asks old new a asker body → Alike asker None asker (Some body) → Shaped old home c → Shaped new home c
+stays : (old new : View) (home : HomeState) (c : Stamped) (a : ℕ) (asker : CacheState) (body : Body) → Asks old new a asker body
+    → Alike asker None asker (Some body) → Shaped old home c → Shaped new home c
 stays old new home c a asker body asks alike shaped = shaped_alike old new home c (stays_alike old new a asker body asks alike) shaped
 
 -- ---- a new front
 
 -- the asker, which was no member, is the front now
-pub fronts_list : (old new : View) (home home' : HomeState) (a : ℕ) (asker : CacheState) (body : Body) (ns : List ℕ) → Asks old new a asker body → link_of asker None ≡ None → link_of asker (Some body) ≡ Some (head_of home) → head_of home' ≡ Some a
+pub fronts_list : (old new : View) (home home' : HomeState) (a : ℕ) (asker : CacheState) (body : Body) (ns : List ℕ) → Asks old new a asker body
+    → link_of asker None ≡ None → link_of asker (Some body) ≡ Some (head_of home) → head_of home' ≡ Some a
     → IsListOf (link_in old) (head_of home) ns → IsListOf (link_in new) (head_of home') (a ∷ ns)
 fronts_list old new home home' a asker body ns asks none joins head list =
-    chain_front (link_in old) (link_in new) (head_of home) (head_of home') a ns (before link_of old new a asker body asks ∙ none) (after link_of old new a asker body asks ∙ joins) head
+    chain_front (link_in old) (link_in new) (head_of home) (head_of home') a ns (before link_of old new a asker body asks ∙ none)
+    (after link_of old new a asker body asks ∙ joins) head
     (λ n other. same_link old new n (asks.others n other)) list
 
-others_stand : (old new : View) (first : Option ℕ) (a : ℕ) (asker : CacheState) (body : Body) (ns : List ℕ) → Asks old new a asker body → link_of asker None ≡ None → IsListOf (link_in old) first ns → (n : ℕ) → IsAmong n ns → Stands old new n
+others_stand : (old new : View) (first : Option ℕ) (a : ℕ) (asker : CacheState) (body : Body) (ns : List ℕ) → Asks old new a asker body
+    → link_of asker None ≡ None → IsListOf (link_in old) first ns → (n : ℕ) → IsAmong n ns → Stands old new n
 others_stand old new first a asker body ns asks none list n h =
-    alike_stands old new n (asks.others n (λ e. not_in (link_in old) first ns a (before link_of old new a asker body asks ∙ none) list (subst (λ (m : ℕ). IsAmong m ns) e h)))
+    alike_stands old new n (asks.others n
+    (λ e. not_in (link_in old) first ns a (before link_of old new a asker body asks ∙ none) list (subst (λ (m : ℕ). IsAmong m ns) e h)))
 
 -- it comes before the old head
-comes_first : (old new : View) (first : Option ℕ) (a : ℕ) (asker : CacheState) (body : Body) (c : Stamped) (must : Bool) (ns : List ℕ) → Asks old new a asker body → link_of asker None ≡ None → IsListOf (link_in old) first ns
-    → role_of asker (Some body) ≡ Some Coming → (must ≡ true → is_fresh asker (Some body) ≡ true) → Agrees c asker (Some body) → IsLed old c (is_fresh asker (Some body)) ns → IsLed new c must (a ∷ ns)
+comes_first : (old new : View) (first : Option ℕ) (a : ℕ) (asker : CacheState) (body : Body) (c : Stamped) (must : Bool) (ns : List ℕ)
+    → Asks old new a asker body → link_of asker None ≡ None → IsListOf (link_in old) first ns
+    → role_of asker (Some body) ≡ Some Coming → (must ≡ true → is_fresh asker (Some body) ≡ true) → Agrees c asker (Some body)
+    → IsLed old c (is_fresh asker (Some body)) ns → IsLed new c must (a ∷ ns)
 comes_first old new first a asker body c must ns asks none list role fresh agrees led =
     let fresh_now = after is_fresh old new a asker body asks in
-    let rest = led_stands old new c (is_fresh asker (Some body)) ns (others_stand old new first a asker body ns asks none list) led in
-    ((λ e. fresh_now ∙ fresh e, agrees_after c old new a asker body asks agrees), inr (after role_of old new a asker body asks ∙ role, subst (λ (b : Bool). IsLed new c b ns) (sym fresh_now) rest))
+    let rest = led_stands old new c (is_fresh asker (Some body)) ns (others_stand old new first a asker body ns asks none list) led in (
+      (λ e. fresh_now ∙ fresh e, agrees_after c old new a asker body asks agrees),
+      inr (after role_of old new a asker body asks ∙ role, subst (λ (b : Bool). IsLed new c b ns) (sym fresh_now) rest),
+    )
 
 -- it is the only one, and leads
-leads_alone : (old new : View) (a : ℕ) (asker : CacheState) (body : Body) (c : Stamped) (must : Bool) (ns : List ℕ) → Asks old new a asker body → ns ≡ [] → role_of asker (Some body) ≡ Some Leading → (must ≡ true → is_fresh asker (Some body) ≡ true) → Agrees c asker (Some body)
+leads_alone : (old new : View) (a : ℕ) (asker : CacheState) (body : Body) (c : Stamped) (must : Bool) (ns : List ℕ) → Asks old new a asker body → ns ≡ []
+    → role_of asker (Some body) ≡ Some Leading → (must ≡ true → is_fresh asker (Some body) ≡ true) → Agrees c asker (Some body)
     → IsLed new c must (a ∷ ns)
 leads_alone old new a asker body c must ns asks empty role fresh agrees =
-    let follow : AreFollowing new c ns = subst (AreFollowing new c) (sym empty) tt in
-    ((λ e. after is_fresh old new a asker body asks ∙ fresh e, agrees_after c old new a asker body asks agrees), inl (after role_of old new a asker body asks ∙ role, follow))
+    let follow : AreFollowing new c ns = subst (AreFollowing new c) (sym empty) tt in (
+      (λ e. after is_fresh old new a asker body asks ∙ fresh e, agrees_after c old new a asker body asks agrees),
+      inl (after role_of old new a asker body asks ∙ role, follow),
+    )
 
-mread_shaped : (old new : View) (home : HomeState) (c : Stamped) (a : ℕ) → Asks old new a Asking (serving_mread home a).1 → Shaped old home c → Shaped new (serving_mread home a).0 c
+mread_shaped : (old new : View) (home : HomeState) (c : Stamped) (a : ℕ) → Asks old new a Asking (serving_mread home a).1 → Shaped old home c
+    → Shaped new (serving_mread home a).0 c
 mread_shaped old new (at.Home d) c a asks (ns, is) =
     let body = (serving_mread (at.Home d) a).1 in
     let empty = none_empty (link_in old) None ns refl is.list in (
@@ -163,7 +186,8 @@ mread_shaped old new (at.Gone p) c a asks (ns, is) =
       },
     )
 
-fread_shaped : (old new : View) (home : HomeState) (c : Stamped) (a : ℕ) → Asks old new a Asking (serving_fread home a).1 → Shaped old home c → Shaped new (serving_fread home a).0 c
+fread_shaped : (old new : View) (home : HomeState) (c : Stamped) (a : ℕ) → Asks old new a Asking (serving_fread home a).1 → Shaped old home c
+    → Shaped new (serving_fread home a).0 c
 fread_shaped old new (at.Home d) c a asks (ns, is) =
     let body = (serving_fread (at.Home d) a).1 in
     let empty = none_empty (link_in old) None ns refl is.list in (
@@ -199,32 +223,41 @@ abbrev pub HomeShapes : View → View → ℕ → CacheState → HomeState → S
 HomeShapes old new a asker home c served = Asks old new a asker served.1 → Shaped old home c → Shaped new served.0 c
 
 -- the front of a fresh list comes to write, and need not be fresh any more
-claimed_led : (old new : View) (a n : ℕ) (f : Option ℕ) (c d : Stamped) (ns : List ℕ) → Asks old new a (Claiming f d) body.Wbok → n ≡ a → (IsAmong n ns → ⊥) → IsLed old c true (n ∷ ns) → IsLed new c false (n ∷ ns)
+claimed_led : (old new : View) (a n : ℕ) (f : Option ℕ) (c d : Stamped) (ns : List ℕ) → Asks old new a (Claiming f d) body.Wbok → n ≡ a → (IsAmong n ns → ⊥)
+    → IsLed old c true (n ∷ ns) → IsLed new c false (n ∷ ns)
 claimed_led old new a n f c d ns asks here absent (front, inl leads) =
-    let agrees = agrees_after c old new a (Claiming f d) body.Wbok asks (agrees_before c old new a (Claiming f d) body.Wbok asks (subst (AgreesIn c old) here front.1)) in
+    let agrees = agrees_after c old new a (Claiming f d) body.Wbok asks
+    (agrees_before c old new a (Claiming f d) body.Wbok asks (subst (AgreesIn c old) here front.1)) in
     let role : role_in new a ≡ Some Leading = after role_of old new a (Claiming f d) body.Wbok asks in
-    let stand : (m : ℕ) → IsAmong m ns → Stands old new m = λ m h. alike_stands old new m (asks.others m (λ e. absent (subst (λ (k : ℕ). IsAmong k ns) (e ∙ sym here) h))) in
+    let stand : (m : ℕ) → IsAmong m ns → Stands old new m =
+    λ m h. alike_stands old new m (asks.others m (λ e. absent (subst (λ (k : ℕ). IsAmong k ns) (e ∙ sym here) h))) in
     ((λ e. cc, subst (AgreesIn c new) (sym here) agrees), inl (ap (role_in new) here ∙ role, following_stand old new c ns stand leads.1))
 claimed_led old new a n f c d ns asks here absent (front, inr comes) =
     let was : role_in old a ≡ Some Leading = before role_of old new a (Claiming f d) body.Wbok asks in
     let both : Some Leading ≡ Some Coming = sym was ∙ (ap (role_in old) (sym here) ∙ comes.0) in
     absurd cc
 
-pub claimed_list : (old new : View) (a p : ℕ) (f : Option ℕ) (d : Stamped) (ns : List ℕ) → Asks old new a (Claiming f d) body.Wbok → p ≡ a → IsListOf (link_in old) (Some p) ns → IsListOf (link_in new) (Some a) ns
+pub claimed_list : (old new : View) (a p : ℕ) (f : Option ℕ) (d : Stamped) (ns : List ℕ) → Asks old new a (Claiming f d) body.Wbok → p ≡ a
+    → IsListOf (link_in old) (Some p) ns → IsListOf (link_in new) (Some a) ns
 claimed_list old new a p f d ns asks same list =
     chain_same (link_in old) (link_in new) (Some p) (Some a) ns (ap Some (sym same)) (λ n. elim (cases_eq n a) [
-      | inl here ↦ ap (link_in new) here ∙ (after link_of old new a (Claiming f d) body.Wbok asks ∙ (sym (before link_of old new a (Claiming f d) body.Wbok asks) ∙ ap (link_in old) (sym here)))
+      | inl here ↦ ap (link_in new) here
+          ∙ (after link_of old new a (Claiming f d) body.Wbok asks
+          ∙ (sym (before link_of old new a (Claiming f d) body.Wbok asks) ∙ ap (link_in old) (sym here)))
       | inr other ↦ same_link old new n (asks.others n other)
     ]) list
 
-claimed_shaped : (old new : View) (a p : ℕ) (f : Option ℕ) (c d : Stamped) (ns : List ℕ) → Asks old new a (Claiming f d) body.Wbok → p ≡ a → IsListOf (link_in old) (Some p) ns → IsLed old c true ns → IsLed new c false ns
+claimed_shaped : (old new : View) (a p : ℕ) (f : Option ℕ) (c d : Stamped) (ns : List ℕ) → Asks old new a (Claiming f d) body.Wbok → p ≡ a
+    → IsListOf (link_in old) (Some p) ns → IsLed old c true ns → IsLed new c false ns
 claimed_shaped old new a p f c d [] asks same list led = elim led [ ]
 claimed_shaped old new a p f c d (n ∷ ns) asks same list led =
     let front : n ≡ a = (let e = list.linked.0 in let here : n ≡ p = cc in here ∙ same) in
     claimed_led old new a n f c d ns asks front list.once.0 led
 
-claim_shaped : (old new : View) (home : HomeState) (c : Stamped) (a : ℕ) (f : Option ℕ) (d : Stamped) → Asks old new a (Claiming f d) (serving_claim home a).1 → Shaped old home c → Shaped new (serving_claim home a).0 c
-claim_shaped old new (at.Home e) c a f d asks shaped = stays old new (at.Home e) c a (Claiming f d) body.Wbno asks (record { sight = refl; agrees = λ c_ h. h; accepts = λ h. refl }) shaped
+claim_shaped : (old new : View) (home : HomeState) (c : Stamped) (a : ℕ) (f : Option ℕ) (d : Stamped) → Asks old new a (Claiming f d) (serving_claim home a).1
+    → Shaped old home c → Shaped new (serving_claim home a).0 c
+claim_shaped old new (at.Home e) c a f d asks shaped =
+    stays old new (at.Home e) c a (Claiming f d) body.Wbno asks (record { sight = refl; agrees = λ c_ h. h; accepts = λ h. refl }) shaped
 claim_shaped old new (at.Fresh p e) c a f d asks shaped =
     if_head (HomeShapes old new a (Claiming f d) (at.Fresh p e) c) p a (at.Gone a, body.Wbok) (at.Fresh p e, body.Wbno)
     (λ head is fresh. (
@@ -235,40 +268,52 @@ claim_shaped old new (at.Fresh p e) c a f d asks shaped =
         accepts = accepts_after old new a (Claiming f d) body.Wbok is refl fresh.1.accepts;
       },
     ))
-    (λ is fresh. stays old new (at.Fresh p e) c a (Claiming f d) body.Wbno is (record { sight = refl; agrees = λ c_ h. h; accepts = λ h. refl }) fresh) asks shaped
-claim_shaped old new (at.Gone p) c a f d asks shaped = stays old new (at.Gone p) c a (Claiming f d) body.Wbno asks (record { sight = refl; agrees = λ c_ h. h; accepts = λ h. refl }) shaped
+    (λ is fresh. stays old new (at.Fresh p e) c a (Claiming f d) body.Wbno is (record { sight = refl; agrees = λ c_ h. h; accepts = λ h. refl }) fresh) asks
+    shaped
+claim_shaped old new (at.Gone p) c a f d asks shaped =
+    stays old new (at.Gone p) c a (Claiming f d) body.Wbno asks (record { sight = refl; agrees = λ c_ h. h; accepts = λ h. refl }) shaped
 
 -- the only one leaves, and the home has the line alone
-leaves_shaped : (old new : View) (home : HomeState) (c : Stamped) (p a : ℕ) (asker : CacheState) (back : Stamped) → head_of home ≡ Some p → p ≡ a → Asks old new a asker body.Wbok → link_of asker None ≡ Some None → link_of asker (Some body.Wbok) ≡ None
+leaves_shaped : (old new : View) (home : HomeState) (c : Stamped) (p a : ℕ) (asker : CacheState) (back : Stamped) → head_of home ≡ Some p → p ≡ a
+    → Asks old new a asker body.Wbok → link_of asker None ≡ Some None → link_of asker (Some body.Wbok) ≡ None
     → IsSome (accepting asker body.Wbok) → ((ns : List ℕ) → IsShaped old home c ns → back ≡ c) → Shaped old home c → Shaped new (at.Home back) c
 leaves_shaped old new home c p a asker back head same asks ends gone accepted contents (ns, is) = (
   [],
   record {
-    list = chain_gone (link_in old) (link_in new) (head_of home) None a ns (head ∙ ap Some same) (before link_of old new a asker body.Wbok asks ∙ ends) (after link_of old new a asker body.Wbok asks ∙ gone) refl
+    list = chain_gone (link_in old) (link_in new) (head_of home) None a ns (head ∙ ap Some same) (before link_of old new a asker body.Wbok asks ∙ ends)
+        (after link_of old new a asker body.Wbok asks ∙ gone) refl
         (λ n other. same_link old new n (asks.others n other)) is.list;
     led = contents ns is;
     accepts = accepts_after old new a asker body.Wbok asks accepted is.accepts;
   },
 )
 
-clear_shaped : (old new : View) (home : HomeState) (c : Stamped) (a : ℕ) (d : Stamped) → Asks old new a (Clearing d) (serving_clear home a).1 → Shaped old home c → Shaped new (serving_clear home a).0 c
-clear_shaped old new (at.Home e) c a d asks shaped = stays old new (at.Home e) c a (Clearing d) body.Wbno asks (record { sight = refl; agrees = λ c_ h. h; accepts = λ h. refl }) shaped
+clear_shaped : (old new : View) (home : HomeState) (c : Stamped) (a : ℕ) (d : Stamped) → Asks old new a (Clearing d) (serving_clear home a).1
+    → Shaped old home c → Shaped new (serving_clear home a).0 c
+clear_shaped old new (at.Home e) c a d asks shaped =
+    stays old new (at.Home e) c a (Clearing d) body.Wbno asks (record { sight = refl; agrees = λ c_ h. h; accepts = λ h. refl }) shaped
 clear_shaped old new (at.Fresh p e) c a d asks shaped =
     if_head (HomeShapes old new a (Clearing d) (at.Fresh p e) c) p a (at.Home e, body.Wbok) (at.Fresh p e, body.Wbno)
     (λ head is fresh. leaves_shaped old new (at.Fresh p e) c p a (Clearing d) e refl head is refl refl refl (λ ns h. h.led.0) fresh)
-    (λ is fresh. stays old new (at.Fresh p e) c a (Clearing d) body.Wbno is (record { sight = refl; agrees = λ c_ h. h; accepts = λ h. refl }) fresh) asks shaped
-clear_shaped old new (at.Gone p) c a d asks shaped = stays old new (at.Gone p) c a (Clearing d) body.Wbno asks (record { sight = refl; agrees = λ c_ h. h; accepts = λ h. refl }) shaped
+    (λ is fresh. stays old new (at.Fresh p e) c a (Clearing d) body.Wbno is (record { sight = refl; agrees = λ c_ h. h; accepts = λ h. refl }) fresh) asks
+    shaped
+clear_shaped old new (at.Gone p) c a d asks shaped =
+    stays old new (at.Gone p) c a (Clearing d) body.Wbno asks (record { sight = refl; agrees = λ c_ h. h; accepts = λ h. refl }) shaped
 
 -- what the front of a list writes back are the last contents
-returned : (old new : View) (c : Stamped) (p a : ℕ) (d : Stamped) → Asks old new a (Returning d) body.Wbok → (ns : List ℕ) → IsShaped old (at.Gone p) c ns → d ≡ c
+returned : (old new : View) (c : Stamped) (p a : ℕ) (d : Stamped) → Asks old new a (Returning d) body.Wbok → (ns : List ℕ) → IsShaped old (at.Gone p) c ns
+    → d ≡ c
 returned old new c p a d asks ns is =
     let member = is.list.all a None (before link_of old new a (Returning d) body.Wbok asks) in
     let agrees = agrees_before c old new a (Returning d) body.Wbok asks (led_agrees old c false ns a is.led member) in
     agrees.0
 
-wback_shaped : (old new : View) (home : HomeState) (c : Stamped) (a : ℕ) (d : Stamped) → Asks old new a (Returning d) (serving_wback home a d).1 → Shaped old home c → Shaped new (serving_wback home a d).0 c
-wback_shaped old new (at.Home e) c a d asks shaped = stays old new (at.Home e) c a (Returning d) body.Wbno asks (record { sight = refl; agrees = λ c_ h. h; accepts = λ h. refl }) shaped
-wback_shaped old new (at.Fresh p e) c a d asks shaped = stays old new (at.Fresh p e) c a (Returning d) body.Wbno asks (record { sight = refl; agrees = λ c_ h. h; accepts = λ h. refl }) shaped
+wback_shaped : (old new : View) (home : HomeState) (c : Stamped) (a : ℕ) (d : Stamped) → Asks old new a (Returning d) (serving_wback home a d).1
+    → Shaped old home c → Shaped new (serving_wback home a d).0 c
+wback_shaped old new (at.Home e) c a d asks shaped =
+    stays old new (at.Home e) c a (Returning d) body.Wbno asks (record { sight = refl; agrees = λ c_ h. h; accepts = λ h. refl }) shaped
+wback_shaped old new (at.Fresh p e) c a d asks shaped =
+    stays old new (at.Fresh p e) c a (Returning d) body.Wbno asks (record { sight = refl; agrees = λ c_ h. h; accepts = λ h. refl }) shaped
 wback_shaped old new (at.Gone p) c a d asks shaped =
     if_head (HomeShapes old new a (Returning d) (at.Gone p) c) p a (at.Home d, body.Wbok) (at.Gone p, body.Wbno)
     (λ head is gone. leaves_shaped old new (at.Gone p) c p a (Returning d) d refl head is refl refl refl (returned old new c p a d is) gone)
@@ -279,7 +324,8 @@ wback_shaped old new (at.Gone p) c a d asks shaped =
 abbrev HomeShapesIf : View → View → ℕ → CacheState → HomeState → Stamped → Body → Type 0
 HomeShapesIf old new a asker home c request = IfSome (at_home home a request) (HomeShapes old new a asker home c)
 
-pub home_shaped : (h a : ℕ) (home : HomeState) (c : Stamped) (old new : View) (asker : CacheState) (letter : Letter) → IsSentIn h asker letter → HomeShapesIf old new a asker home c letter.body
+pub home_shaped : (h a : ℕ) (home : HomeState) (c : Stamped) (old new : View) (asker : CacheState) (letter : Letter) → IsSentIn h asker letter
+    → HomeShapesIf old new a asker home c letter.body
 home_shaped h a home c old new Asking letter (inl e, to) = subst (HomeShapesIf old new a Asking home c) (sym e) (mread_shaped old new home c a)
 home_shaped h a home c old new Asking letter (inr e, to) = subst (HomeShapesIf old new a Asking home c) (sym e) (fread_shaped old new home c a)
 home_shaped h a home c old new (Joining p true) letter (e, to) = subst (HomeShapesIf old new a (Joining p true) home c) (sym e) tt

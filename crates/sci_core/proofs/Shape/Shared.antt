@@ -43,19 +43,24 @@ pub has_last : (core : Core) (line n : ℕ) (c : Stamped) → HasShape core line
 has_last core line n c shape is = same_contents (authority_contents (sharer_of core line n)) c (last_at core line) (shape.contents.authority n) is
 
 -- one authority of a list would stand in every list of the line
-one_is_listed : (core : Core) (line : ℕ) (nodes listed : List ℕ) → LinkedFrom (link_at core line) (head_of (home_at core line)) listed → HasOneAuthority core line listed → IsSharingList core line nodes → All (HasNone core line) nodes → ⊥
+one_is_listed : (core : Core) (line : ℕ) (nodes listed : List ℕ) → LinkedFrom (link_at core line) (head_of (home_at core line)) listed
+    → HasOneAuthority core line listed → IsSharingList core line nodes → All (HasNone core line) nodes → ⊥
 one_is_listed core line nodes listed linked one list none =
     let link = linked_has (link_at core line) (head_of (home_at core line)) listed one.node linked one.listed in
     let among = list.all one.node link.0 link.1 in
-    not_both (authority_contents (sharer_of core line one.node)) one.authority (among_all (HasNone core line) nodes one.node (recursion_from_All (HasNone core line) nodes none) among)
+    not_both (authority_contents (sharer_of core line one.node)) one.authority
+    (among_all (HasNone core line) nodes one.node (recursion_from_All (HasNone core line) nodes none) among)
 
 -- if no authority stands in the list, there is none, and the home has the contents
-none_if : (core : Core) (line : ℕ) (nodes listed : List ℕ) (home : HomeState) → LinkedFrom (link_at core line) (head_of (home_at core line)) listed → HasAuthorities core line listed home → IsSharingList core line nodes → All (HasNone core line) nodes → ((n : ℕ) → IsAuthority core line n → ⊥) × (current_of home ≡ None → ⊥)
+none_if : (core : Core) (line : ℕ) (nodes listed : List ℕ) (home : HomeState) → LinkedFrom (link_at core line) (head_of (home_at core line)) listed
+    → HasAuthorities core line listed home → IsSharingList core line nodes → All (HasNone core line) nodes
+    → ((n : ℕ) → IsAuthority core line n → ⊥) × (current_of home ≡ None → ⊥)
 none_if core line nodes listed (at.Home c) linked may list none = (may, λ (no : Some c ≡ None). cc)
 none_if core line nodes listed (at.Fresh p c) linked one list none = absurd (one_is_listed core line nodes listed linked one list none)
 none_if core line nodes listed (at.Gone p) linked one list none = absurd (one_is_listed core line nodes listed linked one list none)
 
-pub none_may_change : (core : Core) (line : ℕ) (nodes : List ℕ) → HasShape core line → IsSharingList core line nodes → All (HasNone core line) nodes → ((n : ℕ) → IsAuthority core line n → ⊥) × (current_of (home_at core line) ≡ None → ⊥)
+pub none_may_change : (core : Core) (line : ℕ) (nodes : List ℕ) → HasShape core line → IsSharingList core line nodes → All (HasNone core line) nodes
+    → ((n : ℕ) → IsAuthority core line n → ⊥) × (current_of (home_at core line) ≡ None → ⊥)
 none_may_change core line nodes shape list none = none_if core line nodes shape.nodes (home_at core line) shape.list.linked shape.authorities list none
 
 -- ---- the walk for it
@@ -69,18 +74,22 @@ pub record Sought (core : Core) (line : ℕ) (nodes : List ℕ) (found : Option 
 pub sought_first : (core : Core) (line : ℕ) → Sought core line [] None
 sought_first core line = record { below = tt; has = tt; none = λ e. All-nil (HasNone core line) }
 
-found_here : (core : Core) (line node : ℕ) (nodes : List ℕ) (result : Option Authority) (c : Stamped) → node < core.size.nodes → Some c ≡ authority_contents (sharer_of core line node)
+found_here : (core : Core) (line node : ℕ) (nodes : List ℕ) (result : Option Authority) (c : Stamped) → node < core.size.nodes
+    → Some c ≡ authority_contents (sharer_of core line node)
     → IfSome result (λ at. (at.node ≡ node) × (at.contents ≡ c)) → IsSome result → Sought core line nodes result
 found_here core line node nodes None c lt is here some = absurd (cc)
 found_here core line node nodes (Some at) c lt is here some = record {
   below = subst (λ (n : ℕ). n < core.size.nodes) (sym here.0) lt;
-  has = subst (λ (n : ℕ). authority_contents (sharer_of core line n) ≡ Some at.contents) (sym here.0) (sym is ∙ subst (λ (d : Stamped). Some d ≡ Some at.contents) here.1 refl);
+  has = subst (λ (n : ℕ). authority_contents (sharer_of core line n) ≡ Some at.contents) (sym here.0)
+      (sym is ∙ subst (λ (d : Stamped). Some d ≡ Some at.contents) here.1 refl);
   none = λ (no : Some at ≡ None). absurd (cc);
 }
 
 -- one node more
-pub sought_more : (core : Core) (line node : ℕ) (nodes : List ℕ) (found result : Option Authority) (contents : Option Stamped) → Sought core line nodes found → node < core.size.nodes → contents ≡ authority_contents (sharer_of core line node)
-    → IfSome contents (λ c. IfSome result (λ at. (at.node ≡ node) × (at.contents ≡ c)) × IsSome result) → (contents ≡ None → result ≡ found) → Sought core line (nodes ++ node ∷ []) result
+pub sought_more : (core : Core) (line node : ℕ) (nodes : List ℕ) (found result : Option Authority) (contents : Option Stamped) → Sought core line nodes found
+    → node < core.size.nodes → contents ≡ authority_contents (sharer_of core line node)
+    → IfSome contents (λ c. IfSome result (λ at. (at.node ≡ node) × (at.contents ≡ c)) × IsSome result) → (contents ≡ None → result ≡ found)
+    → Sought core line (nodes ++ node ∷ []) result
 sought_more core line node nodes found result None was lt is here before =
     let same = before refl in record {
       below = subst (λ (o : Option Authority). IfSome o (λ at. at.node < core.size.nodes)) (sym same) was.below;

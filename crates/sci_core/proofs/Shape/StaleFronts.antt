@@ -12,7 +12,8 @@ use Rattle.sci_packets.specs.declared.body.Body.TheVariants as body
 use Rattle.sci_home.specs.declared.state.HomeState.{HomeState}
 use Rattle.sci_home.specs.declared.state.HomeState.TheVariants as at
 use Rattle.sci_home.specs.Serving.{serving_clear, serving_claim, serving_fread, serving_mread, serving_wback, home_serving as at_home}
-use Rattle.sci_cache.specs.State.{CacheState, Out, Asking, Joining, FreshJoining, Head, FreshHead, Below, Purging, Claiming, Clearing, Returning, Rolling, Telling, Fading}
+use Rattle.sci_cache.specs.State.{CacheState, Out, Asking, Joining, FreshJoining, Head, FreshHead, Below, Purging, Claiming, Clearing, Returning, Rolling}
+use Rattle.sci_cache.specs.State.{Telling, Fading}
 use Rattle.sci_cache.specs.Performing.{performing}
 use Rattle.sci_cache.specs.Serving.{serving}
 use Rattle.sci_cache.specs.Line.{LineState, line_in, untouched}
@@ -76,7 +77,8 @@ fresh_after old new a asker b asks = ap (is_fresh (new.state a)) asks.answered �
 fresh_before : (old new : View) (a : ℕ) (asker : CacheState) (b : Body) → Asks old new a asker b → fresh_in old a ≡ is_fresh asker None
 fresh_before old new a asker b asks = ap (is_fresh (old.state a)) asks.unanswered ∙ ap (λ (s : CacheState). is_fresh s None) asks.was
 
-asker_no_fresher : (old new : View) (a : ℕ) (asker : CacheState) (b : Body) → Asks old new a asker b → (is_fresh asker (Some b) ≡ true → is_fresh asker None ≡ true) → NoFresher old new
+asker_no_fresher : (old new : View) (a : ℕ) (asker : CacheState) (b : Body) → Asks old new a asker b
+    → (is_fresh asker (Some b) ≡ true → is_fresh asker None ≡ true) → NoFresher old new
 asker_no_fresher old new a asker b asks so n fresh =
     elim (cases_eq n a) [
       | inl here ↦
@@ -109,7 +111,8 @@ claim_stale old new a f d (at.Gone p) asks stale = still_stale old new p (asker_
 clear_stale : (old new : View) (a : ℕ) (d : Stamped) (home : HomeState) → Leaves_stale old new a (Clearing d) home (serving_clear home a)
 clear_stale old new a d (at.Home c) asks stale = tt
 clear_stale old new a d (at.Fresh p c) asks stale =
-    if_head (Leaves_stale old new a (Clearing d) (at.Fresh p c)) p a (at.Home c, body.Wbok) (at.Fresh p c, body.Wbno) (λ head is was. tt) (λ is was. tt) asks stale
+    if_head (Leaves_stale old new a (Clearing d) (at.Fresh p c)) p a (at.Home c, body.Wbok) (at.Fresh p c, body.Wbno) (λ head is was. tt) (λ is was. tt) asks
+    stale
 clear_stale old new a d (at.Gone p) asks stale = still_stale old new p (asker_no_fresher old new a (Clearing d) body.Wbno asks (λ e. refl)) stale
 
 wback_stale : (old new : View) (a : ℕ) (d : Stamped) (home : HomeState) → Leaves_stale old new a (Returning d) home (serving_wback home a d)
@@ -122,7 +125,8 @@ wback_stale old new a d (at.Gone p) asks stale =
 abbrev LeavesIf : View → View → ℕ → CacheState → HomeState → Body → Type 0
 LeavesIf old new a asker home request = IfSome (at_home home a request) (Leaves_stale old new a asker home)
 
-home_stale : (h a : ℕ) (home : HomeState) (old new : View) (asker : CacheState) (letter : Letter) → IsSentIn h asker letter → LeavesIf old new a asker home letter.body
+home_stale : (h a : ℕ) (home : HomeState) (old new : View) (asker : CacheState) (letter : Letter) → IsSentIn h asker letter
+    → LeavesIf old new a asker home letter.body
 home_stale h a home old new Asking letter (inl e, to) = subst (LeavesIf old new a Asking home) (sym e) (mread_stale old new a home)
 home_stale h a home old new Asking letter (inr e, to) = subst (LeavesIf old new a Asking home) (sym e) (fread_stale old new a home)
 home_stale h a home old new (Joining p true) letter (e, to) = subst (LeavesIf old new a (Joining p true) home) (sym e) tt
@@ -175,20 +179,32 @@ serving_freshens state n body.Cread = same_freshens _ body.Busy refl
 serving_freshens (Below f b c) n body.Purge = record { keeps = λ answer e. cc; told = refl }
 serving_freshens (Rolling f b c) n body.Purge = record { keeps = λ answer e. cc; told = refl }
 serving_freshens state n body.Purge = same_freshens _ body.Busy refl
-serving_freshens (Head f c) n (body.Roll m) = next_either (Freshens (Head f c)) f n (Head m c, body.Rolled) (Head f c, body.Busy) (λ is. record { keeps = λ answer e. cc; told = refl }) (same_freshens (Head f c) body.Busy refl)
-serving_freshens (FreshHead f c) n (body.Roll m) = next_either (Freshens (FreshHead f c)) f n (FreshHead m c, body.Rolled) (FreshHead f c, body.Busy) (λ is. record { keeps = λ answer e. refl; told = refl }) (same_freshens (FreshHead f c) body.Busy refl)
-serving_freshens (Below f b c) n (body.Roll m) = next_either (Freshens (Below f b c)) f n (Below m b c, body.Rolled) (Below f b c, body.Busy) (λ is. record { keeps = λ answer e. cc; told = refl }) (same_freshens (Below f b c) body.Busy refl)
+serving_freshens (Head f c) n (body.Roll m) =
+    next_either (Freshens (Head f c)) f n (Head m c, body.Rolled) (Head f c, body.Busy) (λ is. record { keeps = λ answer e. cc; told = refl })
+    (same_freshens (Head f c) body.Busy refl)
+serving_freshens (FreshHead f c) n (body.Roll m) =
+    next_either (Freshens (FreshHead f c)) f n (FreshHead m c, body.Rolled) (FreshHead f c, body.Busy) (λ is. record { keeps = λ answer e. refl; told = refl })
+    (same_freshens (FreshHead f c) body.Busy refl)
+serving_freshens (Below f b c) n (body.Roll m) =
+    next_either (Freshens (Below f b c)) f n (Below m b c, body.Rolled) (Below f b c, body.Busy) (λ is. record { keeps = λ answer e. cc; told = refl })
+    (same_freshens (Below f b c) body.Busy refl)
 serving_freshens state n (body.Roll m) = same_freshens _ body.Busy refl
-serving_freshens (Below f b c) n (body.Setback w) = if_head (Freshens (Below f b c)) b n (Below f w c, body.Told) (Below f b c, body.Told) (λ is. record { keeps = λ answer e. cc; told = refl }) (same_freshens (Below f b c) body.Told refl)
-serving_freshens (Rolling f b c) n (body.Setback w) = if_head (Freshens (Rolling f b c)) b n (Rolling f w c, body.Told) (Rolling f b c, body.Told) (λ is. record { keeps = λ answer e. cc; told = refl }) (same_freshens (Rolling f b c) body.Told refl)
+serving_freshens (Below f b c) n (body.Setback w) =
+    if_head (Freshens (Below f b c)) b n (Below f w c, body.Told) (Below f b c, body.Told) (λ is. record { keeps = λ answer e. cc; told = refl })
+    (same_freshens (Below f b c) body.Told refl)
+serving_freshens (Rolling f b c) n (body.Setback w) =
+    if_head (Freshens (Rolling f b c)) b n (Rolling f w c, body.Told) (Rolling f b c, body.Told) (λ is. record { keeps = λ answer e. cc; told = refl })
+    (same_freshens (Rolling f b c) body.Told refl)
 serving_freshens state n (body.Setback w) = same_freshens _ body.Told refl
 serving_freshens state n _ = tt
 
-shifted_state : (old new : View) (a q : ℕ) (next : CacheState) (b : Body) → Shift old new a q next b → Freshens (old.state q) (next, b) → (n : ℕ) (answer : Option Body) → is_fresh (new.state n) answer ≡ true → is_fresh (old.state n) answer ≡ true
+shifted_state : (old new : View) (a q : ℕ) (next : CacheState) (b : Body) → Shift old new a q next b → Freshens (old.state q) (next, b)
+    → (n : ℕ) (answer : Option Body) → is_fresh (new.state n) answer ≡ true → is_fresh (old.state n) answer ≡ true
 shifted_state old new a q next b shift freshens n answer fresh =
     elim (cases_eq n q) [
       | inl here ↦
-          let now : is_fresh next answer ≡ true = ap (λ (s : CacheState). is_fresh s answer) (sym shift.here) ∙ (ap (λ (m : ℕ). is_fresh (new.state m) answer) (sym here) ∙ fresh) in
+          let now : is_fresh next answer ≡ true =
+          ap (λ (s : CacheState). is_fresh s answer) (sym shift.here) ∙ (ap (λ (m : ℕ). is_fresh (new.state m) answer) (sym here) ∙ fresh) in
           ap (λ (m : ℕ). is_fresh (old.state m) answer) here ∙ freshens.keeps answer now
       | inr other ↦ ap (λ (s : CacheState). is_fresh s answer) (sym (shift.others n other)) ∙ fresh
     ]
@@ -212,29 +228,38 @@ StaleAt core line = IsStale (view_of core line) (home_at core line)
 
 stood_stale : (core new : Core) (line : ℕ) → SameLine core new line → StaleAt core line → StaleAt new line
 stood_stale core new line same stale =
-    subst (IsStale (view_of new line)) (sym same.home) (keeps_stale (view_of core line) (view_of new line) (home_at core line) (λ n fresh. sym (same_fresh (view_of core line) (view_of new line) n (same.alike n)) ∙ fresh) stale)
+    subst (IsStale (view_of new line)) (sym same.home)
+    (keeps_stale (view_of core line) (view_of new line) (home_at core line)
+    (λ n fresh. sym (same_fresh (view_of core line) (view_of new line) n (same.alike n)) ∙ fresh) stale)
 
 -- an operation makes nobody fresh
-left_fresh : (state : CacheState) (op : Op) (c : Stamped) (next : CacheState) → Leaves state op c next → (answer : Option Body) → is_fresh next answer ≡ true → is_fresh state answer ≡ true
+left_fresh : (state : CacheState) (op : Op) (c : Stamped) (next : CacheState) → Leaves state op c next → (answer : Option Body) → is_fresh next answer ≡ true
+    → is_fresh state answer ≡ true
 left_fresh state op c next (Reads not same) answer fresh = ap (λ (s : CacheState). is_fresh s answer) (sym same) ∙ fresh
 left_fresh state op c next (Makes here then_) answer fresh = let stale : false ≡ true = ap (λ (s : CacheState). is_fresh s answer) (sym then_) ∙ fresh in cc
 
-performed_stale : (core : Core) (n at : ℕ) (done : NodeOf × Entry) (does : PerformedAs (node_at core n) at done) → IsWellFormed core → n < core.size.nodes → (line : ℕ) → StaleAt core line → StaleAt (with_node core n done.0) line
+performed_stale : (core : Core) (n at : ℕ) (done : NodeOf × Entry) (does : PerformedAs (node_at core n) at done) → IsWellFormed core → n < core.size.nodes
+    → (line : ℕ) → StaleAt core line → StaleAt (with_node core n done.0) line
 performed_stale core n at done does well lt line stale =
     let new = with_node core n done.0 in
     let operates = operates_so core n at done does lt well in
     let op = does.pending.op in
     let old_state = (line_of (node_at core n).cache op.line).state in
     let performs = of_some (Performs old_state op) (performing old_state op) does.did does.performs (performing_does old_state op) in
-    let states : (m : ℕ) (answer : Option Body) → is_fresh ((view_of new line).state m) answer ≡ true → is_fresh ((view_of core line).state m) answer ≡ true = λ m answer fresh.
+    let states : (m : ℕ) (answer : Option Body) → is_fresh ((view_of new line).state m) answer ≡ true → is_fresh ((view_of core line).state m) answer ≡ true =
+    λ m answer fresh.
     elim (cases_eq m n) [
       | inl here ↦
           let node : node_at new m ≡ done.0 = ap (node_at new) here ∙ get_or-set_same core.parts n done.0 no_node operates.below in
-          let now : is_fresh (line_of done.0.cache line).state answer ≡ true = ap (λ (p : NodeOf). is_fresh (line_of p.cache line).state answer) (sym node) ∙ fresh in
+          let now : is_fresh (line_of done.0.cache line).state answer ≡ true =
+          ap (λ (p : NodeOf). is_fresh (line_of p.cache line).state answer) (sym node) ∙ fresh in
           ap (λ (j : ℕ). is_fresh (line_of (node_at core j).cache line).state answer) here ∙ (elim (cases_eq line op.line) [
             | inl on ↦
-                let there : is_fresh does.did.next answer ≡ true = ap (λ (s : CacheState). is_fresh s answer) (sym operates.state) ∙ (ap (λ (k : ℕ). is_fresh (line_of done.0.cache k).state answer) (sym on) ∙ now) in
-                ap (λ (k : ℕ). is_fresh (line_of (node_at core n).cache k).state answer) on ∙ left_fresh old_state op performs.contents does.did.next performs.leaves answer there
+                let there : is_fresh does.did.next answer ≡ true =
+                ap (λ (s : CacheState). is_fresh s answer) (sym operates.state)
+                ∙ (ap (λ (k : ℕ). is_fresh (line_of done.0.cache k).state answer) (sym on) ∙ now) in
+                ap (λ (k : ℕ). is_fresh (line_of (node_at core n).cache k).state answer) on
+                ∙ left_fresh old_state op performs.contents does.did.next performs.leaves answer there
             | inr off ↦ ap (λ (l : LineState). is_fresh l.state answer) (sym (operates.others line off)) ∙ now
           ])
       | inr other ↦ ap (λ (p : NodeOf). is_fresh (line_of p.cache line).state answer) (sym (get_or-set_other core.parts n m done.0 no_node other)) ∙ fresh
@@ -242,11 +267,14 @@ performed_stale core n at done does well lt line stale =
     let none : NoFresher (view_of core line) (view_of new line) = λ m fresh.
     let same : told new m line ≡ told core m line = ap answer_in (packets_changed core n done.0 m line operates.below operates.waiting) in
     states m (told core m line) (ap (is_fresh ((view_of new line).state m)) (sym same) ∙ fresh) in
-    subst (IsStale (view_of new line)) (sym (homes_same core n done.0 operates.homes line)) (keeps_stale (view_of core line) (view_of new line) (home_at core line) none stale)
+    subst (IsStale (view_of new line)) (sym (homes_same core n done.0 operates.homes line))
+    (keeps_stale (view_of core line) (view_of new line) (home_at core line) none stale)
 
 -- a cache serves
-cache_served : (core : Core) (n place : ℕ) (request : Letter) (rest : List Letter) (served : CacheState × Body) → IsPart core.size n (node_at core n) → Answered core n place (with_served (node_at core n) request served.0 served.1) request rest served.1
-    → serving (line_of (node_at core n).cache request.line).state request.source request.body ≡ Some served → IsTidy core → (k : ℕ) → StaleAt core k → StaleAt (with_lane (with_node core n (with_served (node_at core n) request served.0 served.1)) place rest) k
+cache_served : (core : Core) (n place : ℕ) (request : Letter) (rest : List Letter) (served : CacheState × Body) → IsPart core.size n (node_at core n)
+    → Answered core n place (with_served (node_at core n) request served.0 served.1) request rest served.1
+    → serving (line_of (node_at core n).cache request.line).state request.source request.body ≡ Some served → IsTidy core → (k : ℕ) → StaleAt core k
+    → StaleAt (with_lane (with_node core n (with_served (node_at core n) request served.0 served.1)) place rest) k
 cache_served core n place request rest served part is serves tidy k stale =
     let old = node_at core n in
     let next = with_served old request served.0 served.1 in
@@ -257,41 +285,55 @@ cache_served core n place request rest served part is serves tidy k stale =
     elim (cases_eq k line) [
       | inl here ↦
           let shift = served_shift core n place request rest served part is tidy in
-          let freshens = of_some (Freshens state) (serving state request.source request.body) served serves (serving_freshens state request.source request.body) in
+          let freshens = of_some (Freshens state) (serving state request.source request.body) served serves
+          (serving_freshens state request.source request.body) in
           let none = shift_no_fresher (view_of core line) (view_of new line) request.source n served.0 served.1 shift freshens in
-          subst (StaleAt new) (sym here) (subst (IsStale (view_of new line)) (sym (homes line)) (keeps_stale (view_of core line) (view_of new line) (home_at core line) none (subst (StaleAt core) here stale)))
+          subst (StaleAt new) (sym here)
+          (subst (IsStale (view_of new line)) (sym (homes line))
+          (keeps_stale (view_of core line) (view_of new line) (home_at core line) none (subst (StaleAt core) here stale)))
       | inr other ↦
-          let states : (j : ℕ) → j ≢ line → (line_of next.cache j).state ≡ (line_of old.cache j).state = λ j apart. ap (λ (l : LineState). l.state) (get_or-set_other old.cache.lines line j (line_in (line_of old.cache line) served.0) untouched apart) in
+          let states : (j : ℕ) → j ≢ line → (line_of next.cache j).state ≡ (line_of old.cache j).state =
+          λ j apart. ap (λ (l : LineState). l.state)
+          (get_or-set_other old.cache.lines line j (line_in (line_of old.cache line) served.0) untouched apart) in
           stood_stale core new k (other_line core n place next request rest served.1 is states (λ j apart. homes j) k other) stale
     ]
 
-served_stale : (core new : Core) (t : Taken core new Requests node_serving) → IsWellFormed core → IsTidy core → IsPart core.size t.node t.next → ServedAs (node_at core t.node) t.letter t.next → (line : ℕ) → StaleAt core line → StaleAt (with_lane (with_node core t.node t.next) t.place t.rest) line
+served_stale : (core new : Core) (t : Taken core new Requests node_serving) → IsWellFormed core → IsTidy core → IsPart core.size t.node t.next
+    → ServedAs (node_at core t.node) t.letter t.next → (line : ℕ) → StaleAt core line → StaleAt (with_lane (with_node core t.node t.next) t.place t.rest) line
 served_stale core new t well tidy is (At_home served asks serves e) line stale =
     let part = node_at core t.node in
     let answers = of_some (Answers core.size.nodes t.letter part) (node_serving part t.letter) t.next t.takes (serve_answers core.size.nodes part t.letter) in
     let next = subst (IsPart core.size t.node) (sym e) is in
     let home = t.comes.0.home asks ∙ t.comes.1 in
     subst (λ (x : NodeOf). StaleAt (with_lane (with_node core t.node x) t.place t.rest) line) e
-    (home_keeps IsStale stood_stale home_stale core t.node t.place t.letter t.rest served (well.each_part t.node t.some) home (answered core new node_serving t _ served.1 well answers.free refl next) serves tidy line stale)
+    (home_keeps IsStale stood_stale home_stale core t.node t.place t.letter t.rest served (well.each_part t.node t.some) home
+    (answered core new node_serving t _ served.1 well answers.free refl next) serves tidy line stale)
 served_stale core new t well tidy is (In_cache served serves e) line stale =
     let part = node_at core t.node in
     let answers = of_some (Answers core.size.nodes t.letter part) (node_serving part t.letter) t.next t.takes (serve_answers core.size.nodes part t.letter) in
     let next = subst (IsPart core.size t.node) (sym e) is in
     subst (λ (x : NodeOf). StaleAt (with_lane (with_node core t.node x) t.place t.rest) line) e
-    (cache_served core t.node t.place t.letter t.rest served (well.each_part t.node t.some) (answered core new node_serving t _ served.1 well answers.free refl next) serves tidy line stale)
+    (cache_served core t.node t.place t.letter t.rest served (well.each_part t.node t.some)
+    (answered core new node_serving t _ served.1 well answers.free refl next) serves tidy line stale)
 
-line_stale : (core new : Core) (made : Option Entry) (line : ℕ) → IsWellFormed core → IsTidy core → LineStep core new made line → StaleAt core line → StaleAt new line
+line_stale : (core new : Core) (made : Option Entry) (line : ℕ) → IsWellFormed core → IsTidy core → LineStep core new made line → StaleAt core line
+    → StaleAt new line
 line_stale core new made line well tidy (Stood none same) stale = stood_stale core new line same stale
-line_stale core new made line well tidy (Performed n at done lt does then_ some) stale = subst (λ (x : Core). StaleAt x line) then_ (performed_stale core n at done does well lt line stale)
-line_stale core new made line well tidy (Served t none is served) stale = subst (λ (x : Core). StaleAt x line) t.then_ (served_stale core new t well tidy is served line stale)
+line_stale core new made line well tidy (Performed n at done lt does then_ some) stale =
+    subst (λ (x : Core). StaleAt x line) then_ (performed_stale core n at done does well lt line stale)
+line_stale core new made line well tidy (Served t none is served) stale =
+    subst (λ (x : Core). StaleAt x line) t.then_ (served_stale core new t well tidy is served line stale)
 
-after_stale : (core : Core) (e : Event) (made : Option Entry) (next : Option Core) → IsWellFormed core → IsTidy core → IfSome next (Stepped core e made) → (line : ℕ) → line < core.size.lines → StaleAt core line → StaleAt (unwrap_or next core) line
+after_stale : (core : Core) (e : Event) (made : Option Entry) (next : Option Core) → IsWellFormed core → IsTidy core → IfSome next (Stepped core e made)
+    → (line : ℕ) → line < core.size.lines → StaleAt core line → StaleAt (unwrap_or next core) line
 after_stale core e made None well tidy stepped line inside stale = stale
-after_stale core e made (Some new) well tidy stepped line inside stale = line_stale core new made line well tidy (line_steps core new e made well tidy stepped line inside) stale
+after_stale core e made (Some new) well tidy stepped line inside stale =
+    line_stale core new made line well tidy (line_steps core new e made well tidy stepped line inside) stale
 
 -- ---- every reached state
 
-run_stale : (core : Core) (events : List Event) (line : ℕ) → IsWellFormed core → IsTidy core → line < core.size.lines → StaleAt core line → StaleAt (run_from core events) line
+run_stale : (core : Core) (events : List Event) (line : ℕ) → IsWellFormed core → IsTidy core → line < core.size.lines → StaleAt core line
+    → StaleAt (run_from core events) line
 run_stale core [] line well tidy inside stale = stale
 run_stale core (e ∷ events) line well tidy inside stale =
     let then_ = step_well core e well in
@@ -308,5 +350,6 @@ gone_so core line (at.Gone p) stale = stale
 
 pub any_stale : (core : Core) (line : ℕ) → IsReachable core → line < core.size.lines → IsGoneStale core line (home_at core line)
 any_stale core line reached inside =
-    let run_ = run_stale (opening core.size) reached.schedule line (opened core.size reached.size) (opening_tidy core.size) inside (opening_stale core.size line) in
+    let run_ = run_stale (opening core.size) reached.schedule line (opened core.size reached.size) (opening_tidy core.size) inside
+    (opening_stale core.size line) in
     gone_so core line (home_at core line) (subst (λ (x : Core). StaleAt x line) reached.leads run_)

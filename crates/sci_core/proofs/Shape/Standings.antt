@@ -10,7 +10,8 @@ use Rattle.sci_words.specs.Operation.{is_maker}
 use Rattle.sci_words.specs.Stamped.{after, reply_of}
 use Rattle.sci_packets.specs.declared.body.Body.{Body}
 use Rattle.sci_packets.specs.declared.body.Body.TheVariants as body
-use Rattle.sci_cache.specs.State.{CacheState, Out, Asking, Joining, FreshJoining, Head, FreshHead, Below, Purging, Claiming, Clearing, Returning, Rolling, Telling, Fading, waits, contents_of}
+use Rattle.sci_cache.specs.State.{CacheState, Out, Asking, Joining, FreshJoining, Head, FreshHead, Below, Purging, Claiming, Clearing, Returning, Rolling}
+use Rattle.sci_cache.specs.State.{Telling, Fading, waits, contents_of}
 use Rattle.sci_cache.specs.Asking.{Asked, asking}
 use Rattle.sci_cache.specs.Accepting.{accepting}
 use Rattle.sci_cache.specs.Performing.{Performed, performing}
@@ -170,7 +171,8 @@ pub record Performs (state : CacheState) (op : Op) (done : Performed) : Type 0 w
 version_read : (c : Stamped) (op : Op) → is_maker op ≡ false → c.version ≡ (after c op).version
 version_read c op e = ap (λ (b : Bool). if b then c.version + 1 else c.version) (sym e)
 
-reads : (state : CacheState) (op : Op) (c : Stamped) (f : Option ℕ) (makes : Bool) → contents_of state ≡ Some c → waits state ≡ false → link_of state None ≡ Some f → is_maker op ≡ makes
+reads : (state : CacheState) (op : Op) (c : Stamped) (f : Option ℕ) (makes : Bool) → contents_of state ≡ Some c → waits state ≡ false
+    → link_of state None ≡ Some f → is_maker op ≡ makes
     → IfSome (if makes then None else Some (record { reply = reply_of c.line op; version = c.version; next = state })) (Performs state op)
 reads state op c f true has idle member is = tt
 reads state op c f false has idle member is = record {
@@ -185,7 +187,8 @@ reads state op c f false has idle member is = record {
 }
 
 makes_or_reads : (op : Op) (c : Stamped) (makes room : Bool) → is_maker op ≡ makes
-    → IfSome (if makes then (if room then Some (record { reply = reply_of c.line op; version = (after c op).version; next = Head None (after c op) }) else None) else Some (record { reply = reply_of c.line op; version = c.version; next = Head None c })) (Performs (Head None c) op)
+    → IfSome (if makes then (if room then Some (record { reply = reply_of c.line op; version = (after c op).version; next = Head None (after c op) }) else None)
+    else Some (record { reply = reply_of c.line op; version = c.version; next = Head None c })) (Performs (Head None c) op)
 makes_or_reads op c true true is = record {
   contents = c;
   has = refl;
@@ -250,11 +253,13 @@ rolling_follows f b d None e = cc
 rolling_follows f b d (Some body.Busy) e = cc
 rolling_follows f b d (Some _) e = cc
 
-idle_comes : (state : CacheState) (answer : Option Body) → (role_of state None ≡ Some Coming → ⊥) → ((b : Body) → role_of state (Some b) ≡ None) → role_of state answer ≡ Some Coming → ⊥
+idle_comes : (state : CacheState) (answer : Option Body) → (role_of state None ≡ Some Coming → ⊥) → ((b : Body) → role_of state (Some b) ≡ None)
+    → role_of state answer ≡ Some Coming → ⊥
 idle_comes state None here there e = here e
 idle_comes state (Some b) here there e = let none = there b in cc
 
-pub coming_empty : (state : CacheState) (answer : Option Body) (c : Stamped) → role_of state answer ≡ Some Coming → is_fresh state answer ≡ false → Agrees c state answer
+pub coming_empty : (state : CacheState) (answer : Option Body) (c : Stamped) → role_of state answer ≡ Some Coming → is_fresh state answer ≡ false
+    → Agrees c state answer
 coming_empty (Joining p sent) answer c comes stale = joining_empty p sent answer c comes
 coming_empty Asking answer c comes stale = asking_empty answer c comes stale
 coming_empty (FreshJoining p sent d) answer c comes stale = cc

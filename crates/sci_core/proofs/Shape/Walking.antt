@@ -1,5 +1,6 @@
 -- A walk along the links of a sharing list, from its head.
-use Rattle.std.proofs.Common.{◌≡◌, ℕ, ◌<◌, ◌≤◌, List, [], ◌∷◌, ◌++◌, length, Option, Some, None, true, false, sym, ap, subst, ◌∙◌, append_assoc, arith, inl, inr, length-append}
+use Rattle.std.proofs.Common.{◌≡◌, ℕ, ◌<◌, ◌≤◌, List, [], ◌∷◌, ◌++◌, length, Option, Some, None, true, false, sym, ap, subst, ◌∙◌, append_assoc, arith, inl}
+use Rattle.std.proofs.Common.{inr, length-append}
 use Rattle.std.specs.List.{AllByRecursion, IsDistinct, list_any}
 use Rattle.std.proofs.lemmas.Bool.{cases_eq, ne_eqb}
 use Rattle.std.proofs.lemmas.List.{append-nil}
@@ -24,7 +25,8 @@ pub walk_begins : (core : Core) (line : ℕ) → HasShape core line → IsWalked
 walk_begins core line shape = record { rest = shape.nodes; whole = shape.list; linked = shape.list.linked }
 
 -- at the end of the links the list is whole
-ended : (link : ℕ → Option (Option ℕ)) (first : Option ℕ) (so_far rest : List ℕ) → LinkedFrom link None rest → IsListOf link first (so_far ++ rest) → IsListOf link first so_far
+ended : (link : ℕ → Option (Option ℕ)) (first : Option ℕ) (so_far rest : List ℕ) → LinkedFrom link None rest → IsListOf link first (so_far ++ rest)
+    → IsListOf link first so_far
 ended link first so_far [] linked whole = subst (IsListOf link first) (append-nil so_far) whole
 ended link first so_far (n ∷ ns) linked whole = let no : None ≡ Some n = linked.0 in absurd (cc)
 
@@ -43,7 +45,8 @@ pub walk_goes_on : (link : ℕ → Option (Option ℕ)) (first : Option ℕ) (so
 walk_goes_on link first so_far n walked none = linked_on link n walked.rest walked.linked none
 
 -- one node more
-more : (link : ℕ → Option (Option ℕ)) (first : Option ℕ) (so_far : List ℕ) (n : ℕ) (next : Option ℕ) (rest : List ℕ) → LinkedFrom link (Some n) rest → IsListOf link first (so_far ++ rest) → link n ≡ Some next → IsWalked link first (so_far ++ n ∷ []) next
+more : (link : ℕ → Option (Option ℕ)) (first : Option ℕ) (so_far : List ℕ) (n : ℕ) (next : Option ℕ) (rest : List ℕ) → LinkedFrom link (Some n) rest
+    → IsListOf link first (so_far ++ rest) → link n ≡ Some next → IsWalked link first (so_far ++ n ∷ []) next
 more link first so_far n next [] linked whole is = let no : Some n ≡ None = linked in absurd (cc)
 more link first so_far n next (m ∷ ms) linked whole is =
     let same : Some n ≡ Some m = linked.0 in
@@ -55,13 +58,15 @@ more link first so_far n next (m ∷ ms) linked whole is =
       linked = subst (λ (x : Option ℕ). LinkedFrom link x ms) on linked.1.2;
     }
 
-pub walks_more : (link : ℕ → Option (Option ℕ)) (first : Option ℕ) (so_far : List ℕ) (n : ℕ) (next : Option ℕ) → IsWalked link first so_far (Some n) → link n ≡ Some next → IsWalked link first (so_far ++ n ∷ []) next
+pub walks_more : (link : ℕ → Option (Option ℕ)) (first : Option ℕ) (so_far : List ℕ) (n : ℕ) (next : Option ℕ) → IsWalked link first so_far (Some n)
+    → link n ≡ Some next → IsWalked link first (so_far ++ n ∷ []) next
 walks_more link first so_far n next walked is = more link first so_far n next walked.rest walked.linked walked.whole is
 
 -- ---- how long a list is
 
 -- a node that stands in a list has a link
-listed : (link : ℕ → Option (Option ℕ)) (first : Option ℕ) (nodes : List ℕ) (n : ℕ) → LinkedFrom link first nodes → IsAmong n nodes → (next : Option ℕ) × (link n ≡ Some next)
+listed : (link : ℕ → Option (Option ℕ)) (first : Option ℕ) (nodes : List ℕ) (n : ℕ) → LinkedFrom link first nodes → IsAmong n nodes
+    → (next : Option ℕ) × (link n ≡ Some next)
 listed link first [] n linked h = elim h [ ]
 listed link first (m ∷ ms) n linked (inl e) = (linked.1.0, ap link e ∙ linked.1.1)
 listed link first (m ∷ ms) n linked (inr h) = listed link linked.1.0 ms n linked.1.2 h
@@ -84,13 +89,15 @@ found n (m ∷ ms) h =
     ]
 
 -- a list of nodes that are all below a number isn't longer
-pub lists_are_short : (link : ℕ → Option (Option ℕ)) (first : Option ℕ) (nodes : List ℕ) (size : ℕ) → ((n : ℕ) (next : Option ℕ) → link n ≡ Some next → n < size) → IsListOf link first nodes → length nodes ≤ size
+pub lists_are_short : (link : ℕ → Option (Option ℕ)) (first : Option ℕ) (nodes : List ℕ) (size : ℕ)
+    → ((n : ℕ) (next : Option ℕ) → link n ≡ Some next → n < size) → IsListOf link first nodes → length nodes ≤ size
 lists_are_short link first nodes size below list =
     length-le_from_distinct_below nodes size (distinct nodes list.once) (λ n h.
     let has = listed link first nodes n list.linked (found n nodes h) in below n has.0 has.1)
 
 -- the nodes so far and the next one are no more than the machine's
-begun : (link : ℕ → Option (Option ℕ)) (first : Option ℕ) (so_far rest : List ℕ) (n size : ℕ) → ((m : ℕ) (next : Option ℕ) → link m ≡ Some next → m < size) → LinkedFrom link (Some n) rest → IsListOf link first (so_far ++ rest) → (length so_far < size) × (n < size)
+begun : (link : ℕ → Option (Option ℕ)) (first : Option ℕ) (so_far rest : List ℕ) (n size : ℕ) → ((m : ℕ) (next : Option ℕ) → link m ≡ Some next → m < size)
+    → LinkedFrom link (Some n) rest → IsListOf link first (so_far ++ rest) → (length so_far < size) × (n < size)
 begun link first so_far [] n size below linked whole = let no : Some n ≡ None = linked in absurd (cc)
 begun link first so_far (m ∷ ms) n size below linked whole =
     let same : Some n ≡ Some m = linked.0 in
@@ -99,15 +106,20 @@ begun link first so_far (m ∷ ms) n size below linked whole =
     let next : m < size = below m linked.1.0 linked.1.1 in
     (omega (arith, length-append so_far (m ∷ ms)), omega arith)
 
-pub walk_fits : (core : Core) (line : ℕ) (first : Option ℕ) (so_far : List ℕ) (n : ℕ) → IsWellFormed core → IsWalked (link_at core line) first so_far (Some n) → (length so_far < core.size.nodes) × (n < core.size.nodes)
+pub walk_fits : (core : Core) (line : ℕ) (first : Option ℕ) (so_far : List ℕ) (n : ℕ) → IsWellFormed core → IsWalked (link_at core line) first so_far (Some n)
+    → (length so_far < core.size.nodes) × (n < core.size.nodes)
 walk_fits core line first so_far n well walked =
     begun (link_at core line) first so_far walked.rest n core.size.nodes (λ m next is. member_below core line m next well is) walked.linked walked.whole
 
 -- after as many steps as there are nodes the list is whole
-pub walk_done : (core : Core) (line : ℕ) (first : Option ℕ) (so_far : List ℕ) (next : Option ℕ) → IsWellFormed core → length so_far ≡ core.size.nodes → IsWalked (link_at core line) first so_far next → IsListOf (link_at core line) first so_far
+pub walk_done : (core : Core) (line : ℕ) (first : Option ℕ) (so_far : List ℕ) (next : Option ℕ) → IsWellFormed core → length so_far ≡ core.size.nodes
+    → IsWalked (link_at core line) first so_far next → IsListOf (link_at core line) first so_far
 walk_done core line first so_far None well long walked = walk_ends (link_at core line) first so_far walked
-walk_done core line first so_far (Some n) well long walked = let fits = walk_fits core line first so_far n well walked in let less : length so_far < core.size.nodes = fits.0 in absurd (omega arith)
+walk_done core line first so_far (Some n) well long walked = let fits = walk_fits core line first so_far n well walked in
+    let less : length so_far < core.size.nodes = fits.0 in absurd (omega arith)
 
 -- the walk at a node that is next, by its number
-pub walked_at : (link : ℕ → Option (Option ℕ)) (first : Option ℕ) (so_far : List ℕ) (next : Option ℕ) (id n : ℕ) → next ≡ Some id → n ≡ id → IsWalked link first so_far next → IsWalked link first so_far (Some n)
-walked_at link first so_far next id n is same walked = subst (IsWalked link first so_far) (is ∙ ap (λ (x : ℕ). let o : Option ℕ = Some x in o) (sym same)) walked
+pub walked_at : (link : ℕ → Option (Option ℕ)) (first : Option ℕ) (so_far : List ℕ) (next : Option ℕ) (id n : ℕ) → next ≡ Some id → n ≡ id
+    → IsWalked link first so_far next → IsWalked link first so_far (Some n)
+walked_at link first so_far next id n is same walked =
+    subst (IsWalked link first so_far) (is ∙ ap (λ (x : ℕ). let o : Option ℕ = Some x in o) (sym same)) walked

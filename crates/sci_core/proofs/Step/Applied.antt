@@ -22,11 +22,15 @@ pub front_holds : (P : Letter → Type 0) (lane : List Letter) (letter : Letter)
 front_holds P [] letter e all = cc
 front_holds P (first ∷ rest) letter e all = let same : first ≡ letter = cc in subst P same (All-head P first rest all)
 
-pub front_comes : (core : Core) (from n : ℕ) (kind : LaneKind) (letter : Letter) → IsWellFormed core → from < core.size.nodes → n < core.size.nodes → slice_get (lane_of core kind from n) 0 ≡ Some letter → Comes core n kind letter
+pub front_comes : (core : Core) (from n : ℕ) (kind : LaneKind) (letter : Letter) → IsWellFormed core → from < core.size.nodes → n < core.size.nodes
+    → slice_get (lane_of core kind from n) 0 ≡ Some letter → Comes core n kind letter
 front_comes core from n kind letter well f lt front =
-    comes_from_lane core from n kind letter f lt (front_holds (IsInLane core.size.nodes core.size.lines (lane_place core.size.nodes kind from n)) (lane_of core kind from n) letter front (well.each_lane (lane_place core.size.nodes kind from n)))
+    comes_from_lane core from n kind letter f lt
+    (front_holds (IsInLane core.size.nodes core.size.lines (lane_place core.size.nodes kind from n)) (lane_of core kind from n) letter front
+    (well.each_lane (lane_place core.size.nodes kind from n)))
 
-pub servable : (core : Core) (from n : ℕ) (letter : Letter) → IsWellFormed core → from < core.size.nodes → n < core.size.nodes → slice_get (lane_of core Requests from n) 0 ≡ Some letter → IsServable (node_at core n) letter
+pub servable : (core : Core) (from n : ℕ) (letter : Letter) → IsWellFormed core → from < core.size.nodes → n < core.size.nodes
+    → slice_get (lane_of core Requests from n) 0 ≡ Some letter → IsServable (node_at core n) letter
 servable core from n letter well f lt front =
     let part = well.each_part n lt in
     let comes = front_comes core from n Requests letter well f lt front in
@@ -36,7 +40,8 @@ servable core from n letter well f lt front =
       home = λ for_home. ap (λ (k : ℕ). letter.line % k) part.all ∙ (comes.0.home for_home ∙ (comes.1 ∙ sym part.me));
     }
 
-pub acceptable : (core : Core) (from n : ℕ) (letter : Letter) → IsWellFormed core → from < core.size.nodes → n < core.size.nodes → slice_get (lane_of core Answers from n) 0 ≡ Some letter → IsForNode (node_at core n) letter
+pub acceptable : (core : Core) (from n : ℕ) (letter : Letter) → IsWellFormed core → from < core.size.nodes → n < core.size.nodes
+    → slice_get (lane_of core Answers from n) 0 ≡ Some letter → IsForNode (node_at core n) letter
 acceptable core from n letter well f lt front =
     let part = well.each_part n lt in
     let comes = front_comes core from n Answers letter well f lt front in
@@ -44,27 +49,32 @@ acceptable core from n letter well f lt front =
 
 -- ---- packets that are sent
 
-pub target_below : (core : Core) (n line : ℕ) (kind : AskKind) (next : NodeOf) (letter : Letter) → IsWellFormed core → n < core.size.nodes → node_asking (node_at core n) line kind ≡ Some (next, letter) → letter.target < core.size.nodes
+pub target_below : (core : Core) (n line : ℕ) (kind : AskKind) (next : NodeOf) (letter : Letter) → IsWellFormed core → n < core.size.nodes
+    → node_asking (node_at core n) line kind ≡ Some (next, letter) → letter.target < core.size.nodes
 target_below core n line kind next letter well lt e =
     let sent = subst (λ (o : Option (NodeOf × Letter)). IfSome o (SendsWell core.size n)) e
     (part_asking core.size n (node_at core n) line kind well.sizes.some_node lt (well.each_part n lt)) in
     sent.request.letter_ok.target
 
 -- the node that sends is the same once its packet is in the lane
-pub read_sent : (core mid : Core) (kind : LaneKind) (i n : ℕ) (letter : Letter) (old : NodeOf) → mid ≡ with_sent core kind n letter → i ≡ n → n < length mid.parts → old ≡ get_or mid.parts i old → old ≡ node_at core n
+pub read_sent : (core mid : Core) (kind : LaneKind) (i n : ℕ) (letter : Letter) (old : NodeOf) → mid ≡ with_sent core kind n letter → i ≡ n
+    → n < length mid.parts → old ≡ get_or mid.parts i old → old ≡ node_at core n
 read_sent core mid kind i n letter old sent is below read = subst (λ (m : Core). old ≡ node_at m n) sent (read_node mid i n old is below read)
 
 -- the packet ends its lane, and then the node changes
-pub sent_done : (core mid : Core) (e : Event) (kind : LaneKind) (sending : NodeOf → Option (NodeOf × Letter)) (i : ℕ) (old new next : NodeOf) (letter : Letter) → node_of e < core.size.nodes
+pub sent_done : (core mid : Core) (e : Event) (kind : LaneKind) (sending : NodeOf → Option (NodeOf × Letter)) (i : ℕ) (old new next : NodeOf) (letter : Letter)
+    → node_of e < core.size.nodes
     → ((node : NodeOf) → side node e ≡ sends kind (sending node))
     → sending (node_at core (node_of e)) ≡ Some (next, letter) → mid ≡ with_sent core kind (node_of e) letter → i ≡ node_of e
     → old ≡ node_at core (node_of e) → IfSome (sending old) (λ sent. new ≡ sent.0)
     → stepping core e ≡ Some (record mid { parts = set mid.parts i new })
 sent_done core mid e kind sending i old new next letter lt is made sent at here done =
     let same : new ≡ next = subst (λ (o : Option (NodeOf × Letter)). IfSome o (λ x. new ≡ x.0)) (ap sending here ∙ made) done in
-    stepping_sent core (record mid { parts = set mid.parts i new }) e kind next letter lt (is (node_at core (node_of e)) ∙ ap (sends kind) made) (rw (sent, at, same) refl)
+    stepping_sent core (record mid { parts = set mid.parts i new }) e kind next letter lt (is (node_at core (node_of e)) ∙ ap (sends kind) made)
+    (rw (sent, at, same) refl)
 
-pub sent_enabled : (core : Core) (e : Event) (kind : LaneKind) (sending : NodeOf → Option (NodeOf × Letter)) → node_of e < core.size.nodes → ((node : NodeOf) → side node e ≡ sends kind (sending node))
+pub sent_enabled : (core : Core) (e : Event) (kind : LaneKind) (sending : NodeOf → Option (NodeOf × Letter)) → node_of e < core.size.nodes
+    → ((node : NodeOf) → side node e ≡ sends kind (sending node))
     → (x : NodeOf) (request : Letter) → sending (node_at core (node_of e)) ≡ Some (x, request) → IsSome (stepping core e)
 sent_enabled core e kind sending lt is x request made =
     subst IsSome (sym (stepping_sent core _ e kind x request lt (is (node_at core (node_of e)) ∙ ap (sends kind) made) refl)) refl

@@ -13,7 +13,8 @@ use Rattle.sci_cache.specs.Cache.{CacheOf, Letter, letter_of, cache_asking}
 use Rattle.sci_core.specs.Node.{NodeOf, lines_of, home_of, home_place, asked_by, node_asking, served_at_home, serving_at_home}
 use Rattle.sci_core.proofs.Step.Stepping.{if_true}
 
-pub asked_node : (node : NodeOf) (line : ℕ) (kind : AskKind) (next : CacheOf) (letter : Letter) → line < lines_of node → cache_asking node.cache line kind ≡ Ok (next, letter)
+pub asked_node : (node : NodeOf) (line : ℕ) (kind : AskKind) (next : CacheOf) (letter : Letter) → line < lines_of node
+    → cache_asking node.cache line kind ≡ Ok (next, letter)
     → node_asking node line kind ≡ Some (record node { cache = next }, letter)
 asked_node node line kind next letter below e =
     if_true _ (asked_by node (cache_asking node.cache line kind)) None (lt-ltb line (lines_of node) below) ∙ ap (asked_by node) e
@@ -25,25 +26,30 @@ asked_some node line kind None below h = h
 asked_some node line kind (Some packet) below h = (record node { cache = h.0 }, asked_node node line kind h.0 (letter_of packet) below h.1)
 
 -- an ask that a node may make is about a line of its cache, which makes it
-may_ask_by : (node : NodeOf) (below : Bool) (made : Result (CacheOf × Letter) AskFault) → IsSome (if below then asked_by node made else None) → (below ≡ true) × IsOk made
+may_ask_by : (node : NodeOf) (below : Bool) (made : Result (CacheOf × Letter) AskFault) → IsSome (if below then asked_by node made else None)
+    → (below ≡ true) × IsOk made
 may_ask_by node true (Ok asked) h = (refl, refl)
 may_ask_by node true (Err fault) h = cc
 may_ask_by node false made h = cc
 
-pub may_ask : (node : NodeOf) (line : ℕ) (kind : AskKind) → IsSome (node_asking node line kind) → (line < lines_of node) × IsOk (cache_asking node.cache line kind)
+pub may_ask : (node : NodeOf) (line : ℕ) (kind : AskKind) → IsSome (node_asking node line kind)
+    → (line < lines_of node) × IsOk (cache_asking node.cache line kind)
 may_ask node line kind h =
     let by = may_ask_by node (nat_lt line (lines_of node)) (cache_asking node.cache line kind) h in
     (ltb-true line (lines_of node) by.0, by.1)
 
-asked_as : (node : NodeOf) (below : Bool) (made : Result (CacheOf × Letter) AskFault) (cache : CacheOf) → IfOk made (λ asked. cache ≡ asked.0) → IfSome (if below then asked_by node made else None) (λ asked. record node { cache = cache } ≡ asked.0)
+asked_as : (node : NodeOf) (below : Bool) (made : Result (CacheOf × Letter) AskFault) (cache : CacheOf) → IfOk made (λ asked. cache ≡ asked.0)
+    → IfSome (if below then asked_by node made else None) (λ asked. record node { cache = cache } ≡ asked.0)
 asked_as node true (Ok asked) cache h = ap (λ (next : CacheOf). record node { cache = next }) h
 asked_as node true (Err fault) cache h = tt
 asked_as node false made cache h = tt
 
-pub asked_with : (node : NodeOf) (line : ℕ) (kind : AskKind) (cache : CacheOf) → IfOk (cache_asking node.cache line kind) (λ asked. cache ≡ asked.0) → IfSome (node_asking node line kind) (λ asked. record node { cache = cache } ≡ asked.0)
+pub asked_with : (node : NodeOf) (line : ℕ) (kind : AskKind) (cache : CacheOf) → IfOk (cache_asking node.cache line kind) (λ asked. cache ≡ asked.0)
+    → IfSome (node_asking node line kind) (λ asked. record node { cache = cache } ≡ asked.0)
 asked_with node line kind = asked_as node (nat_lt line (lines_of node)) (cache_asking node.cache line kind)
 
-pub home_served : (node : NodeOf) (request : Letter) (home next : HomeState) (answer : Body) → home ≡ home_of node request.line → home_serving home request.source request.body ≡ Some (next, answer)
+pub home_served : (node : NodeOf) (request : Letter) (home next : HomeState) (answer : Body) → home ≡ home_of node request.line
+    → home_serving home request.source request.body ≡ Some (next, answer)
     → serving_at_home node request ≡ Some (record node { homes = set node.homes (home_place node request.line) next }, answer)
 home_served node request home next answer is e =
     ap (served_at_home node request.line) (ap (λ (h : HomeState). home_serving h request.source request.body) (sym is) ∙ e)

@@ -30,18 +30,24 @@ accepted_same cache line (Some s) new e =
     let same : with_line cache line (line_in (line_of cache line) s) ≡ new = cc in
     subst (SameSizes cache) same (same_line cache line _)
 
-pub same_accepting : (cache : CacheOf) (line control : ℕ) (body : Body) (new : CacheOf) → cache_accepting cache line control body ≡ Some new → SameSizes cache new
+pub same_accepting : (cache : CacheOf) (line control : ℕ) (body : Body) (new : CacheOf) → cache_accepting cache line control body ≡ Some new
+    → SameSizes cache new
 same_accepting cache line control body = accepted_same cache line (line_accepting (line_of cache line) control body)
 
 performed_same : (cache : CacheOf) (line : ℕ) (done : Option Performed) (new : CacheOf) (reply : Reply) (version : ℕ)
-    → option_map {U = CacheOf × Reply × ℕ} (λ d. (with_line cache line (line_in (line_of cache line) d.next), d.reply, d.version)) done ≡ Some (new, reply, version)
+    → option_map {U = CacheOf × Reply × ℕ} (λ d. (with_line cache line (line_in (line_of cache line) d.next), d.reply, d.version)) done ≡ Some (
+      new,
+      reply,
+      version,
+    )
     → SameSizes cache new
 performed_same cache line None new reply version e = cc
 performed_same cache line (Some d) new reply version e =
     let same : ◌≡◌ {A = CacheOf × Reply × ℕ} (with_line cache line (line_in (line_of cache line) d.next), d.reply, d.version) (new, reply, version) = cc in
     subst (λ (p : CacheOf × Reply × ℕ). SameSizes cache p.0) same (same_line cache line _)
 
-pub same_performing : (cache : CacheOf) (op : Op) (new : CacheOf) (reply : Reply) (version : ℕ) → cache_performing cache op ≡ Some (new, reply, version) → SameSizes cache new
+pub same_performing : (cache : CacheOf) (op : Op) (new : CacheOf) (reply : Reply) (version : ℕ) → cache_performing cache op ≡ Some (new, reply, version)
+    → SameSizes cache new
 same_performing cache op = performed_same cache op.line (performing (line_of cache op.line).state op)
 
 asked_same : (cache : CacheOf) (line : ℕ) (made : Result Asked AskFault) (new : CacheOf) (letter : Letter)
@@ -52,20 +58,24 @@ asked_same cache line (Ok a) new letter e =
     let same : ◌≡◌ {A = CacheOf × Letter} (with_line cache line (line_asked (line_of cache line) a), letter_asking cache line a) (new, letter) = cc in
     subst (λ (p : CacheOf × Letter). SameSizes cache p.0) same (same_line cache line _)
 
-pub same_asking : (cache : CacheOf) (line : ℕ) (kind : AskKind) (new : CacheOf) (letter : Letter) → cache_asking cache line kind ≡ Ok (new, letter) → SameSizes cache new
+pub same_asking : (cache : CacheOf) (line : ℕ) (kind : AskKind) (new : CacheOf) (letter : Letter) → cache_asking cache line kind ≡ Ok (new, letter)
+    → SameSizes cache new
 same_asking cache line kind = asked_same cache line (line_asking (line_of cache line) kind (has_slot cache))
 
-same_made : (cache : CacheOf) (line : ℕ) (kind : AskKind) (made : Result (CacheOf × Letter) AskFault) (new : CacheOf) → cache_asking cache line kind ≡ made → IsOk made → IfOk made (λ asked. new ≡ asked.0) → SameSizes cache new
+same_made : (cache : CacheOf) (line : ℕ) (kind : AskKind) (made : Result (CacheOf × Letter) AskFault) (new : CacheOf) → cache_asking cache line kind ≡ made
+    → IsOk made → IfOk made (λ asked. new ≡ asked.0) → SameSizes cache new
 same_made cache line kind (Ok asked) new e ok is = subst (SameSizes cache) (sym is) (same_asking cache line kind asked.0 asked.1 e)
 same_made cache line kind (Err fault) new e ok is = cc
 
-pub same_asked : (cache : CacheOf) (line : ℕ) (kind : AskKind) (new : CacheOf) → IsOk (cache_asking cache line kind) → IfOk (cache_asking cache line kind) (λ asked. new ≡ asked.0) → SameSizes cache new
+pub same_asked : (cache : CacheOf) (line : ℕ) (kind : AskKind) (new : CacheOf) → IsOk (cache_asking cache line kind)
+    → IfOk (cache_asking cache line kind) (λ asked. new ≡ asked.0) → SameSizes cache new
 same_asked cache line kind new = same_made cache line kind (cache_asking cache line kind) new refl
 
 pub same_itself : (cache : CacheOf) → SameSizes cache cache
 same_itself cache = record { me = refl; nodes = refl; slots = refl; lines = refl }
 
 -- a call that keeps the sizes if it succeeds, and leaves the cache as it was if it doesn't
-pub same_either : {T E : Type 0} (result : Result T E) (Q : T → Type 0) (old new : CacheOf) → IfOk result Q → ((x : T) → Q x → SameSizes old new) → (IsErr result → new ≡ old) → SameSizes old new
+pub same_either : {T E : Type 0} (result : Result T E) (Q : T → Type 0) (old new : CacheOf) → IfOk result Q → ((x : T) → Q x → SameSizes old new)
+    → (IsErr result → new ≡ old) → SameSizes old new
 same_either (Ok x) Q old new taken keeps same = keeps x taken
 same_either (Err e) Q old new taken keeps same = subst (SameSizes old) (sym (same refl)) (same_itself old)

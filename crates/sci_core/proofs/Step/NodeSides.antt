@@ -18,7 +18,10 @@ use Rattle.sci_cache.specs.Performing.{Performed, performing}
 use Rattle.sci_cache.specs.Line.{LineState, untouched, last_control, line_in, line_asked, ask_or_fault}
 use Rattle.sci_cache.specs.Cache.{CacheOf, Letter, line_of, with_line, has_slot, cache_asking, cache_asked}
 use Rattle.sci_core.specs.declared.pending.Pending.{Pending}
-use Rattle.sci_core.specs.Node.{NodeOf, lines_of, home_place, home_of, pending_on, entry_of, node_logged, may_issue, node_issued, node_issuing, performed_by, performing_pending, node_performing, asked_by, node_asking, with_answer, served_at_home, served_in_cache, serving_at_home, serving_in_cache, serving_request, answered_by, node_serving, is_setback, node_refusing, replied_by, node_replying, accepted_by, node_accepting}
+use Rattle.sci_core.specs.Node.{NodeOf, lines_of, home_place, home_of, pending_on, entry_of, node_logged, may_issue, node_issued, node_issuing, performed_by}
+use Rattle.sci_core.specs.Node.{performing_pending, node_performing, asked_by, node_asking, with_answer, served_at_home, served_in_cache, serving_at_home}
+use Rattle.sci_core.specs.Node.{serving_in_cache, serving_request, answered_by, node_serving, is_setback, node_refusing, replied_by, node_replying, accepted_by}
+use Rattle.sci_core.specs.Node.{node_accepting}
 use Rattle.sci_core.proofs.Basics.Lists.{if_either, at_place_set}
 use Rattle.sci_core.proofs.Shape.Standings.{Alike, alike_itself, asking_alike, accepting_alike}
 
@@ -39,7 +42,8 @@ pub record Unmoved (old new : NodeOf) : Type 0 where
 
 pub issue_unmoved : (part : NodeOf) (op : Op) → IfSome (node_issuing part op) (Unmoved part)
 issue_unmoved part op =
-    if_either (λ (o : Option NodeOf). IfSome o (Unmoved part)) (may_issue part op) (Some (node_issued part op)) None (record { alike = λ k. alike_itself (line_of part.cache k).state; same = record { homes = refl; nodes = refl } }) tt
+    if_either (λ (o : Option NodeOf). IfSome o (Unmoved part)) (may_issue part op) (Some (node_issued part op)) None
+    (record { alike = λ k. alike_itself (line_of part.cache k).state; same = record { homes = refl; nodes = refl } }) tt
 
 -- ---- Perform
 
@@ -49,16 +53,20 @@ pub record PerformedAs (part : NodeOf) (line : ℕ) (done : NodeOf × Entry) : T
   pub here : pending_on part line ≡ Some pending
   pub did : Performed
   pub performs : performing (line_of part.cache pending.op.line).state pending.op ≡ Some did
-  pub next : node_logged part line (with_line part.cache pending.op.line (line_in (line_of part.cache pending.op.line) did.next)) (entry_of part pending did.reply did.version) ≡ done.0
+  pub next : node_logged part line (with_line part.cache pending.op.line (line_in (line_of part.cache pending.op.line) did.next))
+      (entry_of part pending did.reply did.version) ≡ done.0
   pub entry : entry_of part pending did.reply did.version ≡ done.1
 
-performed_as : (part : NodeOf) (line : ℕ) (pending : Pending) (done : Option Performed) → pending_on part line ≡ Some pending → performing (line_of part.cache pending.op.line).state pending.op ≡ done
-    → IfSome (performed_by part line pending (option_map (λ d. (with_line part.cache pending.op.line (line_in (line_of part.cache pending.op.line) d.next), d.reply, d.version)) done))
+performed_as : (part : NodeOf) (line : ℕ) (pending : Pending) (done : Option Performed) → pending_on part line ≡ Some pending
+    → performing (line_of part.cache pending.op.line).state pending.op ≡ done
+    → IfSome (performed_by part line pending
+    (option_map (λ d. (with_line part.cache pending.op.line (line_in (line_of part.cache pending.op.line) d.next), d.reply, d.version)) done))
     (PerformedAs part line)
 performed_as part line pending None here is = tt
 performed_as part line pending (Some d) here is = record { pending = pending; here = here; did = d; performs = is; next = refl; entry = refl }
 
-pending_as : (part : NodeOf) (line : ℕ) (pending : Option Pending) → pending_on part line ≡ pending → IfSome (performing_pending part line pending) (PerformedAs part line)
+pending_as : (part : NodeOf) (line : ℕ) (pending : Option Pending) → pending_on part line ≡ pending
+    → IfSome (performing_pending part line pending) (PerformedAs part line)
 pending_as part line None here = tt
 pending_as part line (Some pending) here = performed_as part line pending (performing (line_of part.cache pending.op.line).state pending.op) here refl
 
@@ -71,36 +79,44 @@ pub record AsksAlike (part : NodeOf) (sent : NodeOf × Letter) : Type 0 where
   pub alike : (k : ℕ) → Alike (line_of part.cache k).state None (line_of sent.0.cache k).state None
   pub same : SameHomes part sent.0
 
-asked_alike : (part : NodeOf) (line : ℕ) (lacks : Bool) (made : Option Asked) → IfSome made (λ (a : Asked). Alike (line_of part.cache line).state None a.next None)
+asked_alike : (part : NodeOf) (line : ℕ) (lacks : Bool) (made : Option Asked)
+    → IfSome made (λ (a : Asked). Alike (line_of part.cache line).state None a.next None)
     → IfSome (asked_by part (cache_asked part.cache line (ask_or_fault made lacks))) (AsksAlike part)
 asked_alike part line lacks None keeps = tt
 asked_alike part line true (Some asked) keeps = tt
 asked_alike part line false (Some asked) keeps = record {
-  alike = at_place_set (λ (k : ℕ) (l : LineState). Alike (line_of part.cache k).state None l.state None) part.cache.lines line (line_asked (line_of part.cache line) asked) untouched (λ k. alike_itself (line_of part.cache k).state None) keeps;
+  alike = at_place_set (λ (k : ℕ) (l : LineState). Alike (line_of part.cache k).state None l.state None) part.cache.lines line
+      (line_asked (line_of part.cache line) asked) untouched (λ k. alike_itself (line_of part.cache k).state None) keeps;
   same = record { homes = refl; nodes = refl };
 }
 
 pub ask_alike : (part : NodeOf) (line : ℕ) (kind : AskKind) → IfSome (node_asking part line kind) (AsksAlike part)
 ask_alike part line kind =
-    if_either (λ (o : Option (NodeOf × Letter)). IfSome o (AsksAlike part)) (nat_lt line (lines_of part)) (asked_by part (cache_asking part.cache line kind)) None
-    (asked_alike part line (is_out (line_of part.cache line).state && not (has_slot part.cache)) (asking (line_of part.cache line).state kind) (asking_alike (line_of part.cache line).state kind)) tt
+    if_either (λ (o : Option (NodeOf × Letter)). IfSome o (AsksAlike part)) (nat_lt line (lines_of part)) (asked_by part (cache_asking part.cache line kind))
+    None
+    (asked_alike part line (is_out (line_of part.cache line).state && not (has_slot part.cache)) (asking (line_of part.cache line).state kind)
+    (asking_alike (line_of part.cache line).state kind)) tt
 
 -- ---- Serve and Refuse
 
 -- how a request was served: by the home, in the cache, or not
 pub data ServedAs (part : NodeOf) (request : Letter) (next : NodeOf) : Type 0 where
-  At_home : (served : HomeState × Body) → is_for_home request.body ≡ true → serving_of_home (home_of part request.line) request.source request.body ≡ Some served
+  At_home : (served : HomeState × Body) → is_for_home request.body ≡ true
+      → serving_of_home (home_of part request.line) request.source request.body ≡ Some served
       → with_answer (record part { homes = slice_set part.homes (home_place part request.line) served.0 }) request served.1 ≡ next → ServedAs part request next
   In_cache : (served : CacheState × Body) → serving (line_of part.cache request.line).state request.source request.body ≡ Some served
       → with_answer (with_state part request.line served.0) request served.1 ≡ next → ServedAs part request next
 
-home_served : (part : NodeOf) (request : Letter) (served : Option (HomeState × Body)) → is_for_home request.body ≡ true → serving_of_home (home_of part request.line) request.source request.body ≡ served
+home_served : (part : NodeOf) (request : Letter) (served : Option (HomeState × Body)) → is_for_home request.body ≡ true
+    → serving_of_home (home_of part request.line) request.source request.body ≡ served
     → IfSome (answered_by request (served_at_home part request.line served)) (ServedAs part request)
 home_served part request None asks is = tt
 home_served part request (Some served) asks is = At_home served asks is refl
 
-cache_served : (part : NodeOf) (request : Letter) (served : Option (CacheState × Body)) → serving (line_of part.cache request.line).state request.source request.body ≡ served
-    → IfSome (answered_by request (served_in_cache part (option_map (λ s. (with_line part.cache request.line (line_in (line_of part.cache request.line) s.0), s.1)) served))) (ServedAs part request)
+cache_served : (part : NodeOf) (request : Letter) (served : Option (CacheState × Body))
+    → serving (line_of part.cache request.line).state request.source request.body ≡ served
+    → IfSome (answered_by request (served_in_cache part
+    (option_map (λ s. (with_line part.cache request.line (line_in (line_of part.cache request.line) s.0), s.1)) served))) (ServedAs part request)
 cache_served part request None is = tt
 cache_served part request (Some served) is = In_cache served is refl
 
@@ -109,31 +125,38 @@ request_served part request =
     let at_home = home_served part request (serving_of_home (home_of part request.line) request.source request.body) in
     let in_cache = cache_served part request (serving (line_of part.cache request.line).state request.source request.body) refl in
     elim (cases_Bool (is_for_home request.body)) [
-      | inl yes_ ↦ subst (λ (b : Bool). IfSome (answered_by request (if b then serving_at_home part request else serving_in_cache part request)) (ServedAs part request)) (sym yes_) (at_home yes_ refl)
-      | inr no_ ↦ subst (λ (b : Bool). IfSome (answered_by request (if b then serving_at_home part request else serving_in_cache part request)) (ServedAs part request)) (sym no_) in_cache
+      | inl yes_ ↦ subst (λ (b : Bool).
+          IfSome (answered_by request (if b then serving_at_home part request else serving_in_cache part request)) (ServedAs part request)) (sym yes_)
+          (at_home yes_ refl)
+      | inr no_ ↦ subst (λ (b : Bool).
+          IfSome (answered_by request (if b then serving_at_home part request else serving_in_cache part request)) (ServedAs part request)) (sym no_) in_cache
     ]
 
 pub serve_as : (part : NodeOf) (request : Letter) → IfSome (node_serving part request) (ServedAs part request)
 serve_as part request =
-    if_either (λ (o : Option NodeOf). IfSome o (ServedAs part request)) (is_some part.waiting) None (answered_by request (serving_request part request)) tt (request_served part request)
+    if_either (λ (o : Option NodeOf). IfSome o (ServedAs part request)) (is_some part.waiting) None (answered_by request (serving_request part request)) tt
+    (request_served part request)
 
 -- a request that isn't Setback is answered busy
 pub record RefusedAs (part : NodeOf) (request : Letter) (next : NodeOf) : Type 0 where
   pub other : is_setback request.body ≡ false
   pub then_ : with_answer part request Busy ≡ next
 
-refused_as : (part : NodeOf) (request : Letter) (setback : Bool) → is_setback request.body ≡ setback → IfSome (if setback then None else Some (with_answer part request Busy)) (RefusedAs part request)
+refused_as : (part : NodeOf) (request : Letter) (setback : Bool) → is_setback request.body ≡ setback
+    → IfSome (if setback then None else Some (with_answer part request Busy)) (RefusedAs part request)
 refused_as part request true is = tt
 refused_as part request false is = record { other = is; then_ = refl }
 
 pub refuse_as : (part : NodeOf) (request : Letter) → IfSome (node_refusing part request) (RefusedAs part request)
 refuse_as part request =
-    if_either (λ (o : Option NodeOf). IfSome o (RefusedAs part request)) (is_some part.waiting) None (if is_setback request.body then None else Some (with_answer part request Busy)) tt
+    if_either (λ (o : Option NodeOf). IfSome o (RefusedAs part request)) (is_some part.waiting) None
+    (if is_setback request.body then None else Some (with_answer part request Busy)) tt
     (refused_as part request (is_setback request.body) refl)
 
 -- ---- Reply
 
-replied_as : (part : NodeOf) (waiting : Option Letter) → IfSome (replied_by part waiting) (λ (sent : NodeOf × Letter). (record part { waiting = None }) ≡ sent.0)
+replied_as : (part : NodeOf) (waiting : Option Letter)
+    → IfSome (replied_by part waiting) (λ (sent : NodeOf × Letter). (record part { waiting = None }) ≡ sent.0)
 replied_as part None = tt
 replied_as part (Some answer) = refl
 
@@ -146,15 +169,21 @@ pub record AcceptsAlike (answer : Letter) (part next : NodeOf) : Type 0 where
   pub alike : answer.line < lines_of part → Alike (line_of part.cache answer.line).state (Some answer.body) (line_of next.cache answer.line).state None
   pub same : SameHomes part next
 
-accepted_alike : (part : NodeOf) (answer : Letter) (awaits : Bool) (state : Option CacheState) → IfSome state (λ (s : CacheState). Alike (line_of part.cache answer.line).state (Some answer.body) s None)
-    → IfSome (accepted_by part (elim (if awaits then state else None) as (λ _. Option CacheOf) [ None ↦ None | Some s ↦ Some (with_line part.cache answer.line (line_in (line_of part.cache answer.line) s)) ])) (AcceptsAlike answer part)
+accepted_alike : (part : NodeOf) (answer : Letter) (awaits : Bool) (state : Option CacheState)
+    → IfSome state (λ (s : CacheState). Alike (line_of part.cache answer.line).state (Some answer.body) s None)
+    → IfSome (accepted_by part (elim (if awaits then state else None) as (λ _. Option CacheOf) [
+      | None ↦ None
+      | Some s ↦ Some (with_line part.cache answer.line (line_in (line_of part.cache answer.line) s))
+    ])) (AcceptsAlike answer part)
 accepted_alike part answer false state keeps = tt
 accepted_alike part answer true None keeps = tt
 accepted_alike part answer true (Some s) keeps = record {
-  alike = λ below. subst (λ (l : LineState). Alike (line_of part.cache answer.line).state (Some answer.body) l.state None) (sym (get_or-set_same part.cache.lines answer.line (line_in (line_of part.cache answer.line) s) untouched below)) keeps;
+  alike = λ below. subst (λ (l : LineState). Alike (line_of part.cache answer.line).state (Some answer.body) l.state None)
+      (sym (get_or-set_same part.cache.lines answer.line (line_in (line_of part.cache answer.line) s) untouched below)) keeps;
   same = record { homes = refl; nodes = refl };
 }
 
 pub accept_alike : (part : NodeOf) (answer : Letter) → IfSome (node_accepting part answer) (AcceptsAlike answer part)
 accept_alike part answer =
-    accepted_alike part answer (answer.control == last_control (line_of part.cache answer.line)) (accepting (line_of part.cache answer.line).state answer.body) (accepting_alike (line_of part.cache answer.line).state answer.body)
+    accepted_alike part answer (answer.control == last_control (line_of part.cache answer.line)) (accepting (line_of part.cache answer.line).state answer.body)
+    (accepting_alike (line_of part.cache answer.line).state answer.body)

@@ -20,7 +20,8 @@ use Rattle.sci_core.specs.Inside.{FitsInside}
 use Rattle.sci_core.proofs.Step.Caches.{SameSizes}
 use Rattle.sci_core.specs.Size.{Size}
 
-pub fits_kept : (number : ℕ) (extent : Extent) (old new : CacheOf) (space limit : ℕ) → SameSizes old new → FitsInside number extent old space limit → FitsInside number extent new space limit
+pub fits_kept : (number : ℕ) (extent : Extent) (old new : CacheOf) (space limit : ℕ) → SameSizes old new → FitsInside number extent old space limit
+    → FitsInside number extent new space limit
 fits_kept number extent old new space limit same fits = grind arith
 
 -- another cache of the same sizes
@@ -29,23 +30,28 @@ node_with_cache node cache same is = grind arith
 
 -- an answer waits, or none
 pub node_with_waiting : (node : NodeOf) (waiting : Option Letter) → IsNode node → IsNode (record node { waiting = waiting })
-node_with_waiting node waiting is = record { homes = is.homes; some_node = is.some_node; pending = is.pending; each = is.each; logged = is.logged; issued = is.issued }
+node_with_waiting node waiting is =
+    record { homes = is.homes; some_node = is.some_node; pending = is.pending; each = is.each; logged = is.logged; issued = is.issued }
 
 -- a home in another state
 pub node_with_homes : (node : NodeOf) (homes : List HomeState) → length homes ≡ length node.homes → IsNode node → IsNode (record node { homes = homes })
-node_with_homes node homes same is = record { homes = same ∙ is.homes; some_node = is.some_node; pending = is.pending; each = is.each; logged = is.logged; issued = is.issued }
+node_with_homes node homes same is =
+    record { homes = same ∙ is.homes; some_node = is.some_node; pending = is.pending; each = is.each; logged = is.logged; issued = is.issued }
 
 -- if something is pending, there is such a line
 pub some_below : (pending : List (Option Pending)) (line : ℕ) (p : Pending) → get_or pending line None ≡ Some p → line < length pending
 some_below pending line p e = grind (arith, cases_lt, get_or_past)
 
-count_without : (pending : List (Option Pending)) (line : ℕ) (p : Pending) → get_or pending line None ≡ Some p → count_by is_some (set pending line None) + 1 ≡ count_by is_some pending
+count_without : (pending : List (Option Pending)) (line : ℕ) (p : Pending) → get_or pending line None ≡ Some p
+    → count_by is_some (set pending line None) + 1 ≡ count_by is_some pending
 count_without pending line p at = grind (arith, some_below, sum_by-set)
 
 -- an operation is performed: it is no longer pending, and its entry ends the log
-pub node_with_entry : (node : NodeOf) (line : ℕ) (p : Pending) (cache : CacheOf) (entry : Entry) → SameSizes node.cache cache → pending_on node line ≡ Some p → IsNode node
+pub node_with_entry : (node : NodeOf) (line : ℕ) (p : Pending) (cache : CacheOf) (entry : Entry) → SameSizes node.cache cache → pending_on node line ≡ Some p
+    → IsNode node
     → IsNode (record node { cache = cache; pending = set node.pending line None; log = node.log ++ entry ∷ [] })
-node_with_entry node line p cache entry same at is = grind (arith, some_below, count_without, length_push, length-set, cases_eq, get_or-set_same, get_or-set_other)
+node_with_entry node line p cache entry same at is =
+    grind (arith, some_below, count_without, length_push, length-set, cases_eq, get_or-set_same, get_or-set_other)
 
 -- the home of a line stands among the homes
 pub home_below : (node : NodeOf) (line : ℕ) → line < lines_of node → IsNode node → line / node.cache.nodes < length node.homes
@@ -55,7 +61,8 @@ weaker_serial : (issued line : ℕ) (pending : Option Pending) → IfSome pendin
 weaker_serial issued line None h = tt
 weaker_serial issued line (Some p) h = let serial = h.serial in record { here = h.here; word = h.word; words = h.words; serial = omega arith }
 
-count_with : (pending : List (Option Pending)) (line : ℕ) (p : Pending) → line < length pending → is_none (get_or pending line None) ≡ true → count_by is_some (set pending line (Some p)) ≡ count_by is_some pending + 1
+count_with : (pending : List (Option Pending)) (line : ℕ) (p : Pending) → line < length pending → is_none (get_or pending line None) ≡ true
+    → count_by is_some (set pending line (Some p)) ≡ count_by is_some pending + 1
 count_with pending line p below none = grind (arith, sum_by-set, not-true)
 
 -- an operation is issued: it is pending, with the next serial

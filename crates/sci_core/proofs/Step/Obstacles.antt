@@ -1,5 +1,6 @@
 -- Nothing stands in the way of an event exactly if it is enabled.
-use Rattle.std.proofs.Common.{◌≡◌, ℕ, ◌<◌, Bool, true, false, not, nat_lt, ◌&&◌, if◌then◌else◌, List, [], ◌∷◌, Option, Some, None, refl, sym, ap, ◌∙◌, inl, inr, arith}
+use Rattle.std.proofs.Common.{◌≡◌, ℕ, ◌<◌, Bool, true, false, not, nat_lt, ◌&&◌, if◌then◌else◌, List, [], ◌∷◌, Option, Some, None, refl, sym, ap, ◌∙◌, inl, inr}
+use Rattle.std.proofs.Common.{arith}
 use Rattle.std.specs.Prelude.{option_map, IfSome, IsSome, is_some, is_none, is_ok, Result, Ok, Err, slice_get}
 use Rattle.std.proofs.lemmas.Bool.{cases_Bool, lt-ltb, ltb-true, ltb-false}
 use Rattle.sci_words.specs.declared.limits.TheConstants.{WORDS_PER_LINE}
@@ -16,13 +17,16 @@ use Rattle.sci_cache.specs.Cache.{CacheOf, Letter, letter_of, line_of, has_slot,
 use Rattle.sci_cache.specs.Line.{ask_or_fault, line_asking}
 use Rattle.sci_cache.specs.State.{CacheState, Out, is_out}
 use Rattle.sci_core.specs.declared.obstacle.Obstacle.{Obstacle}
-use Rattle.sci_core.specs.declared.obstacle.Obstacle.TheVariants.{NoSuchSender, NoSuchLine, NoSuchWord, AlreadyPending, NoIssueLeft, NothingPending, NotAllowed, NotAsked, NoSlot, NoAnswerWaits}
+use Rattle.sci_core.specs.declared.obstacle.Obstacle.TheVariants.{NoSuchSender, NoSuchLine, NoSuchWord, AlreadyPending, NoIssueLeft, NothingPending, NotAllowed}
+use Rattle.sci_core.specs.declared.obstacle.Obstacle.TheVariants.{NotAsked, NoSlot, NoAnswerWaits}
 use Rattle.sci_core.specs.declared.pending.Pending.{Pending}
 use Rattle.sci_core.specs.declared.taking.Taking.{Taking}
 use Rattle.sci_core.specs.declared.taking.Taking.TheVariants.{Serve, Refuse, Accept}
-use Rattle.sci_core.specs.Node.{NodeOf, node_issuing, node_performing, node_asking, node_serving, node_refusing, node_replying, node_accepting, is_setback, answered_by, serving_request, lines_of, pending_on, node_issued, performing_pending, asked_by, replied_by}
+use Rattle.sci_core.specs.Node.{NodeOf, node_issuing, node_performing, node_asking, node_serving, node_refusing, node_replying, node_accepting, is_setback}
+use Rattle.sci_core.specs.Node.{answered_by, serving_request, lines_of, pending_on, node_issued, performing_pending, asked_by, replied_by}
 use Rattle.sci_core.specs.Core.{Core, node_at, node_of, lane_of, stepping}
-use Rattle.sci_core.specs.Obstacles.{unless, issue_obstacle, perform_obstacle, asked_obstacle, ask_obstacle, reply_obstacle, packet_obstacle, front_obstacle, take_obstacle}
+use Rattle.sci_core.specs.Obstacles.{unless, issue_obstacle, perform_obstacle, asked_obstacle, ask_obstacle, reply_obstacle, packet_obstacle, front_obstacle}
+use Rattle.sci_core.specs.Obstacles.{take_obstacle}
 use Rattle.sci_core.specs.Reached.{IsReached}
 use Rattle.sci_core.specs.Taking.{lane_kind, taking_event}
 use Rattle.sci_core.proofs.Tidy.Enabled.{accept_enabled, request_enabled}
@@ -43,45 +47,61 @@ if_not false x y e = refl
 issue_here : (core : Core) (n : ℕ) (op : Op) → n < core.size.nodes → is_some (node_issuing (node_at core n) op) ≡ is_some (stepping core (event.Issue n op))
 issue_here core n op lt = sym (ap is_some ((steps_by_sides core n lt).issue op) ∙ mapped _ (node_issuing (node_at core n) op))
 
-perform_here : (core : Core) (n line : ℕ) → n < core.size.nodes → is_some (node_performing (node_at core n) line) ≡ is_some (stepping core (event.Perform n line))
+perform_here : (core : Core) (n line : ℕ) → n < core.size.nodes
+    → is_some (node_performing (node_at core n) line) ≡ is_some (stepping core (event.Perform n line))
 perform_here core n line lt = sym (ap is_some ((steps_by_sides core n lt).perform line) ∙ mapped _ (node_performing (node_at core n) line))
 
-ask_here : (core : Core) (n line : ℕ) (kind : AskKind) → n < core.size.nodes → is_some (node_asking (node_at core n) line kind) ≡ is_some (stepping core (event.Ask n line kind))
+ask_here : (core : Core) (n line : ℕ) (kind : AskKind) → n < core.size.nodes
+    → is_some (node_asking (node_at core n) line kind) ≡ is_some (stepping core (event.Ask n line kind))
 ask_here core n line kind lt = sym (ap is_some ((steps_by_sides core n lt).ask line kind) ∙ mapped _ (node_asking (node_at core n) line kind))
 
 reply_here : (core : Core) (n : ℕ) → n < core.size.nodes → is_some (node_replying (node_at core n)) ≡ is_some (stepping core (event.Reply n))
 reply_here core n lt = sym (ap is_some (steps_by_sides core n lt).reply ∙ mapped _ (node_replying (node_at core n)))
 
 -- an event, by the side of the node that was looked at
-by_side : (core : Core) (e of : Event) (n : ℕ) (node : NodeOf) (side : NodeOf → Bool) (free : Bool) → e ≡ of → node ≡ node_at core n → side (node_at core n) ≡ is_some (stepping core of) → free ≡ side node → free ≡ is_some (stepping core e)
+by_side : (core : Core) (e of : Event) (n : ℕ) (node : NodeOf) (side : NodeOf → Bool) (free : Bool) → e ≡ of → node ≡ node_at core n
+    → side (node_at core n) ≡ is_some (stepping core of) → free ≡ side node → free ≡ is_some (stepping core e)
 by_side core e of n node side free is here step told = told ∙ ap side here ∙ step ∙ ap (λ (k : Event). is_some (stepping core k)) (sym is)
 
-pub issue_free : (core : Core) (e : Event) (n : ℕ) (op : Op) (node : NodeOf) (free : Bool) → e ≡ event.Issue n op → node_of e < core.size.nodes → node ≡ node_at core n → free ≡ is_some (node_issuing node op) → free ≡ is_some (stepping core e)
-issue_free core e n op node free is lt here told = by_side core e (event.Issue n op) n node (λ k. is_some (node_issuing k op)) free is here (issue_here core n op (omega (arith, ap node_of is))) told
+pub issue_free : (core : Core) (e : Event) (n : ℕ) (op : Op) (node : NodeOf) (free : Bool) → e ≡ event.Issue n op → node_of e < core.size.nodes
+    → node ≡ node_at core n → free ≡ is_some (node_issuing node op) → free ≡ is_some (stepping core e)
+issue_free core e n op node free is lt here told =
+    by_side core e (event.Issue n op) n node (λ k. is_some (node_issuing k op)) free is here (issue_here core n op (omega (arith, ap node_of is))) told
 
-pub perform_free : (core : Core) (e : Event) (n line : ℕ) (node : NodeOf) (free : Bool) → e ≡ event.Perform n line → node_of e < core.size.nodes → node ≡ node_at core n → free ≡ is_some (node_performing node line) → free ≡ is_some (stepping core e)
-perform_free core e n line node free is lt here told = by_side core e (event.Perform n line) n node (λ k. is_some (node_performing k line)) free is here (perform_here core n line (omega (arith, ap node_of is))) told
+pub perform_free : (core : Core) (e : Event) (n line : ℕ) (node : NodeOf) (free : Bool) → e ≡ event.Perform n line → node_of e < core.size.nodes
+    → node ≡ node_at core n → free ≡ is_some (node_performing node line) → free ≡ is_some (stepping core e)
+perform_free core e n line node free is lt here told =
+    by_side core e (event.Perform n line) n node (λ k. is_some (node_performing k line)) free is here (perform_here core n line (omega (arith, ap node_of is)))
+    told
 
-pub ask_free : (core : Core) (e : Event) (n line : ℕ) (kind : AskKind) (node : NodeOf) (free : Bool) → e ≡ event.Ask n line kind → node_of e < core.size.nodes → node ≡ node_at core n → free ≡ is_some (node_asking node line kind) → free ≡ is_some (stepping core e)
-ask_free core e n line kind node free is lt here told = by_side core e (event.Ask n line kind) n node (λ k. is_some (node_asking k line kind)) free is here (ask_here core n line kind (omega (arith, ap node_of is))) told
+pub ask_free : (core : Core) (e : Event) (n line : ℕ) (kind : AskKind) (node : NodeOf) (free : Bool) → e ≡ event.Ask n line kind → node_of e < core.size.nodes
+    → node ≡ node_at core n → free ≡ is_some (node_asking node line kind) → free ≡ is_some (stepping core e)
+ask_free core e n line kind node free is lt here told =
+    by_side core e (event.Ask n line kind) n node (λ k. is_some (node_asking k line kind)) free is here
+    (ask_here core n line kind (omega (arith, ap node_of is))) told
 
-pub reply_free : (core : Core) (e : Event) (n : ℕ) (node : NodeOf) (free : Bool) → e ≡ event.Reply n → node_of e < core.size.nodes → node ≡ node_at core n → free ≡ is_some (node_replying node) → free ≡ is_some (stepping core e)
-reply_free core e n node free is lt here told = by_side core e (event.Reply n) n node (λ k. is_some (node_replying k)) free is here (reply_here core n (omega (arith, ap node_of is))) told
+pub reply_free : (core : Core) (e : Event) (n : ℕ) (node : NodeOf) (free : Bool) → e ≡ event.Reply n → node_of e < core.size.nodes → node ≡ node_at core n
+    → free ≡ is_some (node_replying node) → free ≡ is_some (stepping core e)
+reply_free core e n node free is lt here told =
+    by_side core e (event.Reply n) n node (λ k. is_some (node_replying k)) free is here (reply_here core n (omega (arith, ap node_of is))) told
 
 -- ---- the events that take a packet
 
-serve_free : (node : NodeOf) (letter : Letter) (waiting : Option Letter) → node.waiting ≡ waiting → (node.waiting ≡ None → IsSome (node_serving node letter)) → is_none (packet_obstacle Serve node letter) ≡ is_some (node_serving node letter)
+serve_free : (node : NodeOf) (letter : Letter) (waiting : Option Letter) → node.waiting ≡ waiting → (node.waiting ≡ None → IsSome (node_serving node letter))
+    → is_none (packet_obstacle Serve node letter) ≡ is_some (node_serving node letter)
 serve_free node letter None is some = ap (λ (w : Option Letter). is_none (packet_obstacle Serve (record node { waiting = w }) letter)) is ∙ sym (some is)
 serve_free node letter (Some answer) is some =
     ap (λ (w : Option Letter). is_none (packet_obstacle Serve (record node { waiting = w }) letter)) is
     ∙ sym (ap (λ (w : Option Letter). is_some (if is_some w then None else answered_by letter (serving_request node letter))) is)
 
-refuse_free : (node : NodeOf) (letter : Letter) (waiting : Option Letter) (back : Bool) → node.waiting ≡ waiting → is_setback letter.body ≡ back → is_none (packet_obstacle Refuse node letter) ≡ is_some (node_refusing node letter)
+refuse_free : (node : NodeOf) (letter : Letter) (waiting : Option Letter) (back : Bool) → node.waiting ≡ waiting → is_setback letter.body ≡ back
+    → is_none (packet_obstacle Refuse node letter) ≡ is_some (node_refusing node letter)
 refuse_free node letter None true is sets = grind (arith, is, sets)
 refuse_free node letter None false is sets = grind (arith, is, sets)
 refuse_free node letter (Some answer) back is sets = grind (arith, is, sets)
 
-taken_free : (core : Core) (taking : Taking) (from n : ℕ) (lane : List Letter) → IsReached core → from < core.size.nodes → n < core.size.nodes → lane_of core (lane_kind taking) from n ≡ lane
+taken_free : (core : Core) (taking : Taking) (from n : ℕ) (lane : List Letter) → IsReached core → from < core.size.nodes → n < core.size.nodes
+    → lane_of core (lane_kind taking) from n ≡ lane
     → is_none (front_obstacle taking (node_at core n) (slice_get lane 0)) ≡ is_some (stepping core (taking_event taking from n))
 taken_free core Serve from n [] reached f lt is = sym (ap is_some (((steps_by_sides core n lt).serve from f).empty is))
 taken_free core Refuse from n [] reached f lt is = sym (ap is_some (((steps_by_sides core n lt).refuse from f).empty is))
@@ -99,7 +119,8 @@ taken_free core Accept from n (letter ∷ rest) reached f lt is =
     sym (accept_enabled core from n reached f lt letter rest is)
     ∙ sym (ap is_some (((steps_by_sides core n lt).accept from f).front letter rest is) ∙ mapped _ (node_accepting node letter))
 
-take_told : (core : Core) (taking : Taking) (from n : ℕ) → IsReached core → n < core.size.nodes → is_none (take_obstacle core taking from n) ≡ is_some (stepping core (taking_event taking from n))
+take_told : (core : Core) (taking : Taking) (from n : ℕ) → IsReached core → n < core.size.nodes
+    → is_none (take_obstacle core taking from n) ≡ is_some (stepping core (taking_event taking from n))
 take_told core taking from n reached lt =
     let front = front_obstacle taking (node_at core n) (slice_get (lane_of core (lane_kind taking) from n) 0) in
     elim (cases_Bool (nat_lt from core.size.nodes)) [
@@ -117,14 +138,17 @@ taker_here Serve from n = refl
 taker_here Refuse from n = refl
 taker_here Accept from n = refl
 
-pub take_free : (core : Core) (e : Event) (taking : Taking) (from n : ℕ) (o : Option Obstacle) → e ≡ taking_event taking from n → IsReached core → node_of e < core.size.nodes → o ≡ take_obstacle core taking from n → is_none o ≡ is_some (stepping core e)
+pub take_free : (core : Core) (e : Event) (taking : Taking) (from n : ℕ) (o : Option Obstacle) → e ≡ taking_event taking from n → IsReached core
+    → node_of e < core.size.nodes → o ≡ take_obstacle core taking from n → is_none o ≡ is_some (stepping core e)
 take_free core e taking from n o is reached lt told =
-    ap is_none told ∙ take_told core taking from n reached (omega (arith, ap node_of is, taker_here taking from n)) ∙ ap (λ (k : Event). is_some (stepping core k)) (sym is)
+    ap is_none told ∙ take_told core taking from n reached (omega (arith, ap node_of is, taker_here taking from n))
+    ∙ ap (λ (k : Event). is_some (stepping core k)) (sym is)
 
 -- ---- the sides of a node
 
 issue_bits : {X : Type 0} (line word words unpending left : Bool) (x : X) → words ≡ true
-    → is_none (unless line NoSuchLine (unless word NoSuchWord (unless unpending AlreadyPending (unless left NoIssueLeft None)))) ≡ is_some (if (((line && word) && words) && (unpending && left)) then Some x else None)
+    → is_none (unless line NoSuchLine (unless word NoSuchWord (unless unpending AlreadyPending (unless left NoIssueLeft None)))) ≡ is_some
+    (if (((line && word) && words) && (unpending && left)) then Some x else None)
 issue_bits line word false unpending left x e = cc
 issue_bits false word true unpending left x e = refl
 issue_bits true false true unpending left x e = refl
@@ -133,13 +157,16 @@ issue_bits true true true true false x e = refl
 issue_bits true true true true true x e = refl
 
 pub issue_told : (node : NodeOf) (op : Op) → has_words op.act ≡ true → is_none (issue_obstacle node op) ≡ is_some (node_issuing node op)
-issue_told node op words = issue_bits (nat_lt op.line (lines_of node)) (nat_lt op.word WORDS_PER_LINE) (has_words op.act) (is_none (pending_on node op.line)) (nat_lt node.issued node.limit) (node_issued node op) words
+issue_told node op words = issue_bits (nat_lt op.line (lines_of node)) (nat_lt op.word WORDS_PER_LINE) (has_words op.act) (is_none (pending_on node op.line))
+    (nat_lt node.issued node.limit) (node_issued node op) words
 
 allowed : (b : Bool) → is_none (unless b NotAllowed None) ≡ b
 allowed true = refl
 allowed false = refl
 
-perform_of : (node : NodeOf) (line : ℕ) (pending : Option Pending) → is_none (unless (is_some pending) NothingPending (unless (is_some (performing_pending node line pending)) NotAllowed None)) ≡ is_some (performing_pending node line pending)
+perform_of : (node : NodeOf) (line : ℕ) (pending : Option Pending)
+    → is_none (unless (is_some pending) NothingPending (unless (is_some (performing_pending node line pending)) NotAllowed None)) ≡ is_some
+    (performing_pending node line pending)
 perform_of node line None = refl
 perform_of node line (Some pending) = allowed (is_some (performing_pending node line (Some pending)))
 
@@ -151,7 +178,8 @@ asked_is node (Ok asked) = refl
 asked_is node (Err fault.NotNow) = refl
 asked_is node (Err fault.NoSlot) = refl
 
-ask_of : (node : NodeOf) (made : Result (CacheOf × Letter) AskFault) (below : Bool) → is_none (unless below NoSuchLine (asked_obstacle made)) ≡ is_some (if below then asked_by node made else None)
+ask_of : (node : NodeOf) (made : Result (CacheOf × Letter) AskFault) (below : Bool)
+    → is_none (unless below NoSuchLine (asked_obstacle made)) ≡ is_some (if below then asked_by node made else None)
 ask_of node made true = asked_is node made
 ask_of node made false = refl
 
@@ -194,43 +222,56 @@ asked_ok cache line (Ok asked) = refl
 asked_ok cache line (Err why) = refl
 
 -- a refused ask of a line of the machine
-refused_line : (node : NodeOf) (line : ℕ) (kind : AskKind) → line < lines_of node → node_asking node line kind ≡ None → is_ok (line_asking (line_of node.cache line) kind (has_slot node.cache)) ≡ false
+refused_line : (node : NodeOf) (line : ℕ) (kind : AskKind) → line < lines_of node → node_asking node line kind ≡ None
+    → is_ok (line_asking (line_of node.cache line) kind (has_slot node.cache)) ≡ false
 refused_line node line kind below none =
     sym (asked_ok node.cache line (line_asking (line_of node.cache line) kind (has_slot node.cache)))
-    ∙ is_err_by node (cache_asking node.cache line kind) (sym (if_true (nat_lt line (lines_of node)) (asked_by node (cache_asking node.cache line kind)) None (lt-ltb line (lines_of node) below)) ∙ none)
+    ∙ is_err_by node (cache_asking node.cache line kind)
+    (sym (if_true (nat_lt line (lines_of node)) (asked_by node (cache_asking node.cache line kind)) None (lt-ltb line (lines_of node) below)) ∙ none)
 
-told_as : (node : NodeOf) (line : ℕ) (kind : AskKind) (why : AskFault) (o : Option Obstacle) → line < lines_of node → line_asking (line_of node.cache line) kind (has_slot node.cache) ≡ Err why → asked_obstacle (cache_asked node.cache line (Err why)) ≡ o → ask_obstacle node line kind ≡ o
+told_as : (node : NodeOf) (line : ℕ) (kind : AskKind) (why : AskFault) (o : Option Obstacle) → line < lines_of node
+    → line_asking (line_of node.cache line) kind (has_slot node.cache) ≡ Err why → asked_obstacle (cache_asked node.cache line (Err why)) ≡ o
+    → ask_obstacle node line kind ≡ o
 told_as node line kind why o below e is =
     if_true (nat_lt line (lines_of node)) (asked_obstacle (cache_asking node.cache line kind)) (Some NoSuchLine) (lt-ltb line (lines_of node) below)
     ∙ ap (λ (made : Result Asked AskFault). asked_obstacle (cache_asked node.cache line made)) e ∙ is
 
 -- a line without an entry that would ask this lacks a slot
-pub slot_lacks : (node : NodeOf) (line : ℕ) (kind : AskKind) → line < lines_of node → node_asking node line kind ≡ None → is_out (line_of node.cache line).state ≡ true → is_some (asking Out kind) ≡ true → ask_obstacle node line kind ≡ Some NoSlot
+pub slot_lacks : (node : NodeOf) (line : ℕ) (kind : AskKind) → line < lines_of node → node_asking node line kind ≡ None
+    → is_out (line_of node.cache line).state ≡ true → is_some (asking Out kind) ≡ true → ask_obstacle node line kind ≡ Some NoSlot
 slot_lacks node line kind below none out begins =
     let part = line_of node.cache line in
     let made = ap (λ (s : CacheState). is_some (asking s kind)) (out_only part.state out) ∙ begins in
-    told_as node line kind fault.NoSlot (Some NoSlot) below (slot_of (asking part.state kind) (is_out part.state && not (has_slot node.cache)) made (refused_line node line kind below none)) refl
+    told_as node line kind fault.NoSlot (Some NoSlot) below
+    (slot_of (asking part.state kind) (is_out part.state && not (has_slot node.cache)) made (refused_line node line kind below none)) refl
 
 -- any other refused ask is one that the state doesn't make
-pub state_lacks : (node : NodeOf) (line : ℕ) (kind : AskKind) (out : Bool) → line < lines_of node → node_asking node line kind ≡ None → is_out (line_of node.cache line).state ≡ out → (out && is_some (asking Out kind)) ≡ false → ask_obstacle node line kind ≡ Some NotAsked
+pub state_lacks : (node : NodeOf) (line : ℕ) (kind : AskKind) (out : Bool) → line < lines_of node → node_asking node line kind ≡ None
+    → is_out (line_of node.cache line).state ≡ out → (out && is_some (asking Out kind)) ≡ false → ask_obstacle node line kind ≡ Some NotAsked
 state_lacks node line kind true below none is other =
     let part = line_of node.cache line in
     let made = ap (λ (s : CacheState). is_some (asking s kind)) (out_only part.state is) ∙ other in
     told_as node line kind fault.NotNow (Some NotAsked) below (now_of (asking part.state kind) (is_out part.state && not (has_slot node.cache)) made) refl
 state_lacks node line kind false below none is other =
     let part = line_of node.cache line in
-    told_as node line kind fault.NotNow (Some NotAsked) below (now_free (asking part.state kind) (is_out part.state && not (has_slot node.cache)) (ap (λ (b : Bool). b && not (has_slot node.cache)) is) (refused_line node line kind below none)) refl
+    told_as node line kind fault.NotNow (Some NotAsked) below
+    (now_free (asking part.state kind) (is_out part.state && not (has_slot node.cache)) (ap (λ (b : Bool). b && not (has_slot node.cache)) is)
+    (refused_line node line kind below none)) refl
 
 free_of : (node : NodeOf) (made : Result (CacheOf × Letter) AskFault) (sent : NodeOf × Letter) → asked_by node made ≡ Some sent → asked_obstacle made ≡ None
 free_of node (Ok asked) sent e = refl
 free_of node (Err why) sent e = cc
 
 -- nothing is in the way of an ask that is made
-ask_made : (node : NodeOf) (line : ℕ) (kind : AskKind) (sent : NodeOf × Letter) → line < lines_of node → node_asking node line kind ≡ Some sent → ask_obstacle node line kind ≡ None
+ask_made : (node : NodeOf) (line : ℕ) (kind : AskKind) (sent : NodeOf × Letter) → line < lines_of node → node_asking node line kind ≡ Some sent
+    → ask_obstacle node line kind ≡ None
 ask_made node line kind sent below some =
     if_true (nat_lt line (lines_of node)) (asked_obstacle (cache_asking node.cache line kind)) (Some NoSuchLine) (lt-ltb line (lines_of node) below)
-    ∙ free_of node (cache_asking node.cache line kind) sent (sym (if_true (nat_lt line (lines_of node)) (asked_by node (cache_asking node.cache line kind)) None (lt-ltb line (lines_of node) below)) ∙ some)
+    ∙ free_of node (cache_asking node.cache line kind) sent
+    (sym (if_true (nat_lt line (lines_of node)) (asked_by node (cache_asking node.cache line kind)) None (lt-ltb line (lines_of node) below)) ∙ some)
 
-pub ask_found : (node : NodeOf) (line : ℕ) (kind : AskKind) (found : Option Packet) → line < lines_of node → IfSome found (λ packet. (next : NodeOf) × (node_asking node line kind ≡ Some (next, letter_of packet))) → is_some found ≡ true → ask_obstacle node line kind ≡ None
+pub ask_found : (node : NodeOf) (line : ℕ) (kind : AskKind) (found : Option Packet) → line < lines_of node
+    → IfSome found (λ packet. (next : NodeOf) × (node_asking node line kind ≡ Some (next, letter_of packet))) → is_some found ≡ true
+    → ask_obstacle node line kind ≡ None
 ask_found node line kind None below h some = cc
 ask_found node line kind (Some packet) below h some = ask_made node line kind (h.0, letter_of packet) below h.1

@@ -17,7 +17,8 @@ pub place_to : (nodes : ℕ) (kind : LaneKind) (from to : ℕ) → to < nodes �
 place_to nodes kind from to t = mod-mul-add (kind_number kind * nodes + from) nodes to t
 
 pub place_from : (nodes : ℕ) (kind : LaneKind) (from to : ℕ) → from < nodes → to < nodes → lane_place nodes kind from to / nodes % nodes ≡ from
-place_from nodes kind from to f t = ap (λ (k : ℕ). k % nodes) (div-mul-add (kind_number kind * nodes + from) nodes to t) ∙ mod-mul-add (kind_number kind) nodes from f
+place_from nodes kind from to f t =
+    ap (λ (k : ℕ). k % nodes) (div-mul-add (kind_number kind * nodes + from) nodes to t) ∙ mod-mul-add (kind_number kind) nodes from f
 
 pub place_requests : (nodes from to : ℕ) → from < nodes → to < nodes → lane_place nodes Requests from to < nodes * nodes
 place_requests nodes from to f t = rw zero-mul (rw zero-add (mul-add-lt from nodes to nodes f t))

@@ -20,11 +20,13 @@ did : (core : Core) (n : ℕ) (done : Option (NodeOf × Entry)) → step_by core
 did core n None = refl
 did core n (Some done) = refl
 
-sends_as : (core : Core) (n : ℕ) (kind : LaneKind) (given : Option (NodeOf × Letter)) → step_by core n (sends kind given) ≡ option_map (λ (s : NodeOf × Letter). sent_by core n kind s.0 s.1) given
+sends_as : (core : Core) (n : ℕ) (kind : LaneKind) (given : Option (NodeOf × Letter))
+    → step_by core n (sends kind given) ≡ option_map (λ (s : NodeOf × Letter). sent_by core n kind s.0 s.1) given
 sends_as core n kind None = refl
 sends_as core n kind (Some given) = refl
 
-took : (core : Core) (n : ℕ) (kind : LaneKind) (from : ℕ) (rest : List Letter) (next : Option NodeOf) → taken_as core n (lane_place core.size.nodes kind from n) rest next ≡ option_map (taken_to core n kind from rest) next
+took : (core : Core) (n : ℕ) (kind : LaneKind) (from : ℕ) (rest : List Letter) (next : Option NodeOf)
+    → taken_as core n (lane_place core.size.nodes kind from n) rest next ≡ option_map (taken_to core n kind from rest) next
 took core n kind from rest None = refl
 took core n kind from rest (Some next) = refl
 
@@ -35,7 +37,8 @@ takes core e kind taking from lt f is =
     let place = lane_place core.size.nodes kind from n in
     let step = stepping_takes core e kind from (taking (node_at core n)) lt f is in
     record {
-      front = λ letter rest front. step ∙ (ap (taken_from core n place (taking (node_at core n))) front ∙ took core n kind from rest (taking (node_at core n) letter));
+      front = λ letter rest front. step
+          ∙ (ap (taken_from core n place (taking (node_at core n))) front ∙ took core n kind from rest (taking (node_at core n) letter));
       empty = λ none. step ∙ ap (taken_from core n place (taking (node_at core n))) none;
     }
 

@@ -14,7 +14,8 @@ read_node core i n old is below e = get_or_read core.parts n old below (subst (�
 abbrev pub Gives : {X : Type 0} → (NodeOf → X → NodeOf → Type 0) → Core → Core → ℕ → X → Type 0
 Gives side core after n x = (next : NodeOf) × side (node_at core n) x next × (after ≡ with_node core n next)
 
-pub gives_some : {X : Type 0} (side : NodeOf → X → NodeOf → Type 0) (core : Core) (i n : ℕ) (old new : NodeOf) (result : Option X) → i ≡ n → n < length core.parts → old ≡ get_or core.parts i old
+pub gives_some : {X : Type 0} (side : NodeOf → X → NodeOf → Type 0) (core : Core) (i n : ℕ) (old new : NodeOf) (result : Option X) → i ≡ n
+    → n < length core.parts → old ≡ get_or core.parts i old
     → IfSome result (λ x. side old x new) → IfSome result (Gives side core (record core { parts = set core.parts i new }) n)
 gives_some side core i n old new None is below e done = done
 gives_some side core i n old new (Some x) is below e done =
@@ -24,18 +25,23 @@ gives_some side core i n old new (Some x) is below e done =
 pub both_nodes : (P : NodeOf → NodeOf → Type 0) (core : Core) (i n : ℕ) (old new : NodeOf) → i ≡ n → n < length core.parts → old ≡ get_or core.parts i old
     → P old new → P (node_at core n) (node_at (record core { parts = set core.parts i new }) n)
 both_nodes P core i n old new is below read so =
-    let there : node_at (record core { parts = set core.parts i new }) n ≡ new = ap (λ (k : ℕ). get_or (set core.parts k new) n no_node) is ∙ get_or-set_same core.parts n new no_node below in
-    subst (λ (node : NodeOf). P node (node_at (record core { parts = set core.parts i new }) n)) (read_node core i n old is below read) (subst (P old) (sym there) so)
+    let there : node_at (record core { parts = set core.parts i new }) n ≡ new =
+    ap (λ (k : ℕ). get_or (set core.parts k new) n no_node) is ∙ get_or-set_same core.parts n new no_node below in
+    subst (λ (node : NodeOf). P node (node_at (record core { parts = set core.parts i new }) n)) (read_node core i n old is below read)
+    (subst (P old) (sym there) so)
 
 -- a call that changes its node alone, and gives something, is the step of its event
-pub changed_by : {X : Type 0} (core : Core) (e : Event) (i : ℕ) (old new : NodeOf) (result : Option X) → i ≡ node_of e → node_of e < core.size.nodes → node_of e < length core.parts → old ≡ get_or core.parts i old
+pub changed_by : {X : Type 0} (core : Core) (e : Event) (i : ℕ) (old new : NodeOf) (result : Option X) → i ≡ node_of e → node_of e < core.size.nodes
+    → node_of e < length core.parts → old ≡ get_or core.parts i old
     → IfSome result (λ x. side old e ≡ Changes new) → IfSome result (λ x. stepping core e ≡ Some (record core { parts = set core.parts i new }))
 changed_by core e i old new None is lt below read done = done
 changed_by core e i old new (Some x) is lt below read done =
-    stepping_changed core (record core { parts = set core.parts i new }) e new lt (ap (λ (node : NodeOf). side node e) (sym (read_node core i (node_of e) old is below read)) ∙ done) (ap (λ (k : ℕ). with_node core k new) is)
+    stepping_changed core (record core { parts = set core.parts i new }) e new lt
+    (ap (λ (node : NodeOf). side node e) (sym (read_node core i (node_of e) old is below read)) ∙ done) (ap (λ (k : ℕ). with_node core k new) is)
 
 -- and one that gives nothing is none
-pub idle_by : {X : Type 0} (core : Core) (e : Event) (i : ℕ) (old : NodeOf) (result : Option X) → i ≡ node_of e → node_of e < core.size.nodes → node_of e < length core.parts → old ≡ get_or core.parts i old
+pub idle_by : {X : Type 0} (core : Core) (e : Event) (i : ℕ) (old : NodeOf) (result : Option X) → i ≡ node_of e → node_of e < core.size.nodes
+    → node_of e < length core.parts → old ≡ get_or core.parts i old
     → (result ≡ None → side old e ≡ Idle) → result ≡ None → stepping core e ≡ None
 idle_by core e i old result is lt below read idle none =
     stepping_idle core e lt (ap (λ (node : NodeOf). side node e) (sym (read_node core i (node_of e) old is below read)) ∙ idle none)

@@ -10,7 +10,8 @@ use Rattle.sci_core.specs.Core.{Core, run_from, stepping}
 use Rattle.sci_core.specs.Fault.{IsFaultOf}
 use Rattle.sci_core.specs.Stopped.{IsStoppedAt}
 
-pub stopped : (old now new : Core) (events : List Event) (i : ℕ) (d : Event) (fault : ApplyFault) (refused : AllocError) → i < length events → now ≡ run_from old (take i events) → new ≡ now
+pub stopped : (old now new : Core) (events : List Event) (i : ℕ) (d : Event) (fault : ApplyFault) (refused : AllocError) → i < length events
+    → now ≡ run_from old (take i events) → new ≡ now
     → IsFaultOf (stepping now (get_or events i d)) (get_or events i d) fault → fault ≡ Memory refused → IsStoppedAt old new events
 stopped old now new events i d fault refused below stands same is memory =
     let told = subst (λ (f : ApplyFault). IsFaultOf (stepping now (get_or events i d)) (get_or events i d) f) memory is in

@@ -1,5 +1,6 @@
 -- How much can be under way: one packet for each line of a node that waits.
-use Rattle.std.proofs.Common.{◌≡◌, ℕ, zero, suc, ◌+◌, ◌*◌, ◌%◌, ◌<◌, ◌≤◌, not, Bool, true, false, if◌then◌else◌, List, [], ◌∷◌, length, get_or, filter, take, Option, Some, None, refl, sym, ap, subst, arith, inl, inr}
+use Rattle.std.proofs.Common.{◌≡◌, ℕ, zero, suc, ◌+◌, ◌*◌, ◌%◌, ◌<◌, ◌≤◌, not, Bool, true, false, if◌then◌else◌, List, [], ◌∷◌, length, get_or, filter, take}
+use Rattle.std.proofs.Common.{Option, Some, None, refl, sym, ap, subst, arith, inl, inr}
 use Rattle.std.specs.Prelude.{count_by, IfSome, option_to_list}
 use Rattle.std.specs.List.{AllByRecursion, flat_map, sum_by}
 use Rattle.std.proofs.lemmas.List.Elements.{All-weaker, recursion_from_All}
@@ -80,7 +81,8 @@ answer_heavy : (waiting : Option Letter) → answer_weight waiting ≤ 3 * lengt
 answer_heavy None = omega arith
 answer_heavy (Some answer) = omega arith
 
-parts_heavy : (parts : List NodeOf) → sum_by (λ (part : NodeOf). answer_weight part.waiting) parts ≤ 3 * length (flat_map (λ (part : NodeOf). option_to_list part.waiting) parts)
+parts_heavy : (parts : List NodeOf)
+    → sum_by (λ (part : NodeOf). answer_weight part.waiting) parts ≤ 3 * length (flat_map (λ (part : NodeOf). option_to_list part.waiting) parts)
 parts_heavy [] = omega arith
 parts_heavy (part ∷ rest) =
     let sum = sum_by-cons (λ (p : NodeOf). answer_weight p.waiting) part rest in
@@ -109,9 +111,11 @@ one_more : (q : Bool) (letter : Letter) (rest : List Letter) → length (if q th
 one_more true letter rest = omega arith
 one_more false letter rest = omega arith
 
-counted_more : (nodes lines : ℕ) (letter : Letter) (rest : List Letter) → counted nodes lines (letter ∷ rest) ≡ sum_to (λ n. sum_to (one_about letter n) lines) nodes + counted nodes lines rest
+counted_more : (nodes lines : ℕ) (letter : Letter) (rest : List Letter)
+    → counted nodes lines (letter ∷ rest) ≡ sum_to (λ n. sum_to (one_about letter n) lines) nodes + counted nodes lines rest
 counted_more nodes lines letter rest =
-    sum_to_more (λ n. sum_to (λ line. length (filter (is_about n line) (letter ∷ rest))) lines) (λ n. sum_to (one_about letter n) lines) (λ n. sum_to (λ line. length (filter (is_about n line) rest)) lines) nodes
+    sum_to_more (λ n. sum_to (λ line. length (filter (is_about n line) (letter ∷ rest))) lines) (λ n. sum_to (one_about letter n) lines)
+    (λ n. sum_to (λ line. length (filter (is_about n line) rest)) lines) nodes
     (λ n. sum_to_more (λ line. length (filter (is_about n line) (letter ∷ rest))) (one_about letter n) (λ line. length (filter (is_about n line) rest)) lines
     (λ line. one_more (is_about n line letter) letter (filter (is_about n line) rest)))
 
@@ -154,7 +158,8 @@ letter_one nodes lines letter is = record {
   line = is.about;
 }
 
-flat_all : {X : Type 0} (P : Letter → Type 0) (f : X → List Letter) (xs : List X) (d : X) → ((i : ℕ) → i < length xs → AllByRecursion P (f (get_or xs i d))) → AllByRecursion P (flat_map f xs)
+flat_all : {X : Type 0} (P : Letter → Type 0) (f : X → List Letter) (xs : List X) (d : X) → ((i : ℕ) → i < length xs → AllByRecursion P (f (get_or xs i d)))
+    → AllByRecursion P (flat_map f xs)
 flat_all P f [] d each = tt
 flat_all P f (x ∷ xs) d each = all-append P (f x) (flat_map f xs) (each 0 (omega arith)) (flat_all P f xs d (λ i below. each (suc i) (omega arith)))
 
@@ -162,7 +167,8 @@ waiting_one : (P : Letter → Type 0) (waiting : Option Letter) → IfSome waiti
 waiting_one P None h = tt
 waiting_one P (Some answer) h = (h, tt)
 
-waiting_answer : (nodes lines n : ℕ) (waiting : Option Letter) → IfSome waiting (λ letter. IsAnswerLetter nodes lines letter × (letter.source ≡ n)) → IfSome waiting (IsOneOf nodes lines)
+waiting_answer : (nodes lines n : ℕ) (waiting : Option Letter) → IfSome waiting (λ letter. IsAnswerLetter nodes lines letter × (letter.source ≡ n))
+    → IfSome waiting (IsOneOf nodes lines)
 waiting_answer nodes lines n None h = tt
 waiting_answer nodes lines n (Some answer) h = answer_one nodes lines answer h.0
 
@@ -180,7 +186,10 @@ all_one core well =
     (flat_all P (λ (part : NodeOf). option_to_list part.waiting) core.parts no_node (λ i below.
     let lt : i < core.size.nodes = let long = well.sizes.parts_long in omega arith in
     waiting_one P (node_at core i).waiting (waiting_answer core.size.nodes core.size.lines i (node_at core i).waiting (well.each_part i lt).answer)))
-    (flat_all P (λ (lane : List Letter). lane) core.lanes [] (λ i below. recursion_from_All P (lane_at core i) (All-weaker (IsInLane core.size.nodes core.size.lines i) P (λ letter is. in_lane_one core.size.nodes core.size.lines i letter is) (lane_at core i) (well.each_lane i))))
+    (flat_all P (λ (lane : List Letter). lane) core.lanes []
+    (λ i below. recursion_from_All P (lane_at core i)
+    (All-weaker (IsInLane core.size.nodes core.size.lines i) P (λ letter is. in_lane_one core.size.nodes core.size.lines i letter is) (lane_at core i)
+    (well.each_lane i))))
 
 -- ---- lines that wait
 
@@ -198,7 +207,8 @@ waits_in : (state : CacheState) → not (is_out state) ≡ false → waits state
 waits_in Out e = refl
 waits_in _ e = cc
 
-waiting_lines : (lines : List LineState) (n : ℕ) → n ≤ length lines → sum_to (λ i. one_if (waits (get_or lines i untouched).state)) n ≤ count_by (λ line. not (is_out line.state)) (take n lines)
+waiting_lines : (lines : List LineState) (n : ℕ) → n ≤ length lines
+    → sum_to (λ i. one_if (waits (get_or lines i untouched).state)) n ≤ count_by (λ line. not (is_out line.state)) (take n lines)
 waiting_lines lines zero le = omega arith
 waiting_lines lines (suc n) le =
     let p = λ (line : LineState). not (is_out line.state) in
@@ -207,11 +217,13 @@ waiting_lines lines (suc n) le =
     let next : n + 1 ≡ suc n = omega arith in
     elim (cases_Bool (not (is_out (get_or lines n untouched).state))) [
       | inl entry ↦
-          let more : count_by p (take (suc n) lines) ≡ count_by p (take n lines) + 1 = subst (λ (k : ℕ). count_by p (take k lines) ≡ count_by p (take n lines) + 1) next (count_by_more_yes p lines n untouched below entry) in
+          let more : count_by p (take (suc n) lines) ≡ count_by p (take n lines) + 1 =
+          subst (λ (k : ℕ). count_by p (take k lines) ≡ count_by p (take n lines) + 1) next (count_by_more_yes p lines n untouched below entry) in
           let one = few_if (waits (get_or lines n untouched).state) in
           omega arith
       | inr out ↦
-          let more : count_by p (take (suc n) lines) ≡ count_by p (take n lines) = subst (λ (k : ℕ). count_by p (take k lines) ≡ count_by p (take n lines)) next (count_by_more_no p lines n untouched below out) in
+          let more : count_by p (take (suc n) lines) ≡ count_by p (take n lines) =
+          subst (λ (k : ℕ). count_by p (take k lines) ≡ count_by p (take n lines)) next (count_by_more_no p lines n untouched below out) in
           let none : one_if (waits (get_or lines n untouched).state) ≡ 0 = ap one_if (waits_in (get_or lines n untouched).state out) in
           omega arith
     ]
@@ -229,7 +241,8 @@ node_packets core n reached lt =
     (λ line inside. one_packet (line % core.size.nodes) (line_of (node_at core n).cache line) (packets_of core n line) (any_tidy core reached n line lt inside))
 
 node_lines : (core : Core) (n : ℕ) → waiting_of core n ≤ core.size.lines * 1
-node_lines core n = sum_to_less (λ line. one_if (waits (line_of (node_at core n).cache line).state)) 1 core.size.lines (λ line inside. few_if (waits (line_of (node_at core n).cache line).state))
+node_lines core n = sum_to_less (λ line. one_if (waits (line_of (node_at core n).cache line).state)) 1 core.size.lines
+    (λ line inside. few_if (waits (line_of (node_at core n).cache line).state))
 
 node_slots : (core : Core) (n : ℕ) → IsReachable core → n < core.size.nodes → waiting_of core n ≤ core.size.slots
 node_slots core n reached lt =
@@ -237,7 +250,8 @@ node_slots core n reached lt =
     let lines = (node_at core n).cache.lines in
     let long : length lines ≡ core.size.lines = part.each in
     let entries = waiting_lines lines core.size.lines (omega arith) in
-    let whole : count_by (λ line. not (is_out line.state)) (take core.size.lines lines) ≡ slots_taken lines = ap (count_by (λ line. not (is_out line.state))) (take_all core.size.lines lines (omega arith)) in
+    let whole : count_by (λ line. not (is_out line.state)) (take core.size.lines lines) ≡ slots_taken lines =
+    ap (count_by (λ line. not (is_out line.state))) (take_all core.size.lines lines (omega arith)) in
     let few = part.few in
     let room = part.room in
     omega arith
@@ -247,6 +261,8 @@ pub light : (core : Core) → IsReachable core → IsLight core
 light core reached =
     let heavy_ = weight_under_way core in
     let each = all_counted core.size.nodes core.size.lines (under_way core) (all_one core (any_well core reached)) in
-    let by_lines = sum_to_less (of_node core) core.size.lines core.size.nodes (λ n lt. (let packets = node_packets core n reached lt in let all = node_lines core n in omega arith)) in
-    let by_slots = sum_to_less (of_node core) core.size.slots core.size.nodes (λ n lt. (let packets = node_packets core n reached lt in let all = node_slots core n reached lt in omega arith)) in
+    let by_lines = sum_to_less (of_node core) core.size.lines core.size.nodes
+    (λ n lt. (let packets = node_packets core n reached lt in let all = node_lines core n in omega arith)) in
+    let by_slots = sum_to_less (of_node core) core.size.slots core.size.nodes
+    (λ n lt. (let packets = node_packets core n reached lt in let all = node_slots core n reached lt in omega arith)) in
     record { lines = omega arith; slots = omega arith }

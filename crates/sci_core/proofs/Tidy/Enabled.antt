@@ -14,7 +14,8 @@ use Rattle.sci_cache.specs.Line.{last_control, line_in}
 use Rattle.sci_cache.specs.Cache.{Letter, line_of, with_line}
 use Rattle.sci_core.specs.declared.lane.LaneKind.{LaneKind}
 use Rattle.sci_core.specs.declared.lane.LaneKind.TheVariants.{Requests, Answers}
-use Rattle.sci_core.specs.Node.{NodeOf, home_of, served_at_home, served_in_cache, serving_at_home, serving_in_cache, serving_request, answered_by, node_serving, node_refusing, with_answer, is_setback, accepted_by}
+use Rattle.sci_core.specs.Node.{NodeOf, home_of, served_at_home, served_in_cache, serving_at_home, serving_in_cache, serving_request, answered_by, node_serving}
+use Rattle.sci_core.specs.Node.{node_refusing, with_answer, is_setback, accepted_by}
 use Rattle.sci_core.specs.Core.{Core, node_at, lane_place, lane_of}
 use Rattle.sci_core.specs.Enabled.{IsAcceptedAt, AreServedAt}
 use Rattle.sci_core.specs.Reached.{IsReachable, IsReached}
@@ -62,10 +63,12 @@ request_served node request asks =
     elim (cases_Bool (is_for_home request.body)) [
       | inl home ↦
           subst (λ (b : Bool). IsSome (if b then serving_at_home node request else serving_in_cache node request)) (sym home)
-          (home_served node request.line (home_serving (home_of node request.line) request.source request.body) (home_serves (home_of node request.line) request.source request.body home))
+          (home_served node request.line (home_serving (home_of node request.line) request.source request.body)
+          (home_serves (home_of node request.line) request.source request.body home))
       | inr cache ↦
           subst (λ (b : Bool). IsSome (if b then serving_at_home node request else serving_in_cache node request)) (sym cache)
-          (cache_served node request.line (serving (line_of node.cache request.line).state request.source request.body) (cache_serves (line_of node.cache request.line).state request.source request.body cache asks))
+          (cache_served node request.line (serving (line_of node.cache request.line).state request.source request.body)
+          (cache_serves (line_of node.cache request.line).state request.source request.body cache asks))
     ]
 
 answered : (request : Letter) (served : Option (NodeOf × Body)) → IsSome served → IsSome (answered_by request served)
@@ -81,7 +84,8 @@ serve_enabled node request asks free =
 -- and refused, unless it is a Setback
 pub refuse_enabled : (node : NodeOf) (request : Letter) → is_setback request.body ≡ false → node.waiting ≡ None → IsSome (node_refusing node request)
 refuse_enabled node request other free =
-    subst (λ (w : Option Letter). IsSome (if is_some w then None else (if is_setback request.body then None else Some (with_answer node request body.Busy)))) (sym free)
+    subst (λ (w : Option Letter). IsSome (if is_some w then None else (if is_setback request.body then None else Some (with_answer node request body.Busy))))
+    (sym free)
     (subst (λ (b : Bool). IsSome (if b then None else Some (with_answer node request body.Busy))) (sym other) refl)
 
 -- ---- the packets of a line
@@ -94,7 +98,8 @@ pub record IsOnly (core : Core) (n : ℕ) (letter : Letter) : Type 0 where
   pub waiting : waits (line_of (node_at core n).cache letter.line).state ≡ true
   pub numbered : letter.control ≡ last_control (line_of (node_at core n).cache letter.line)
 
-only_packet : (core : Core) (kind : LaneKind) (from to n : ℕ) (letter : Letter) (rest : List Letter) → IsReachable core → from < core.size.nodes → to < core.size.nodes → n < core.size.nodes → letter.line < core.size.lines
+only_packet : (core : Core) (kind : LaneKind) (from to n : ℕ) (letter : Letter) (rest : List Letter) → IsReachable core → from < core.size.nodes
+    → to < core.size.nodes → n < core.size.nodes → letter.line < core.size.lines
     → lane_of core kind from to ≡ letter ∷ rest → asker_of letter ≡ n → IsOnly core n letter
 only_packet core kind from to n letter rest reached f t lt about front asker =
     let well = any_well core reached in
@@ -102,8 +107,10 @@ only_packet core kind from to n letter rest reached f t lt about front asker =
     let place = lane_place core.size.nodes kind from to in
     let within = lane_below core kind from to well f t in
     let about_it = about_from n line letter refl asker in
-    let has = some_has_one (line % core.size.nodes) (line_of (node_at core n).cache line) (packets_of core n line) (lane_has core place letter rest n line within front about_it) (any_tidy core reached n line lt about) in
-    let same = (packets_accepted core n (node_at core n) place letter has.letter rest n line (node_below core n well lt) within front refl about_it has.one).same in
+    let has = some_has_one (line % core.size.nodes) (line_of (node_at core n).cache line) (packets_of core n line)
+    (lane_has core place letter rest n line within front about_it) (any_tidy core reached n line lt about) in
+    let same = (packets_accepted core n (node_at core n) place letter has.letter rest n line (node_below core n well lt) within front refl about_it
+    has.one).same in
     record {
       below = lt;
       about = about;
@@ -114,7 +121,9 @@ only_packet core kind from to n letter rest reached f t lt about front asker =
 
 -- ---- answers
 
-accepts_it : (node : NodeOf) (line control : ℕ) (answer : Body) → control ≡ last_control (line_of node.cache line) → IsSome (accepting (line_of node.cache line).state answer) → (awaited : Bool) → (control == last_control (line_of node.cache line)) ≡ awaited → (next : Option CacheState) → accepting (line_of node.cache line).state answer ≡ next
+accepts_it : (node : NodeOf) (line control : ℕ) (answer : Body) → control ≡ last_control (line_of node.cache line)
+    → IsSome (accepting (line_of node.cache line).state answer) → (awaited : Bool) → (control == last_control (line_of node.cache line)) ≡ awaited
+    → (next : Option CacheState) → accepting (line_of node.cache line).state answer ≡ next
     → IsSome (accepted_by node (option_map (λ s. with_line node.cache line (line_in (line_of node.cache line) s)) (if awaited then next else None)))
 accepts_it node line control answer numbered some true e (Some next) is = refl
 accepts_it node line control answer numbered some true e None is = let not = subst IsSome is some in cc
@@ -127,24 +136,30 @@ any_accept_enabled core from n reached f lt letter rest front =
     let comes = front_comes core from n Answers letter well f lt (ap (λ (lane : List Letter). slice_get lane 0) front) in
     let only = only_packet core Answers from n n letter rest reached f lt lt comes.0.letter_ok.about front (answer_asker letter comes.0.answers ∙ comes.1) in
     let node = node_at core n in
-    let told : answer_to core n letter.line ≡ Some letter.body = ap answer_in only.one ∙ ap (λ (b : Bool). if b then None else Some letter.body) comes.0.answers in
+    let told : answer_to core n letter.line ≡ Some letter.body =
+    ap answer_in only.one ∙ ap (λ (b : Bool). if b then None else Some letter.body) comes.0.answers in
     let accepted = subst (IsAccepted (line_of node.cache letter.line).state) told (any_accepted core reached n letter.line only.about) in
-    accepts_it node letter.line letter.control letter.body only.numbered accepted (letter.control == last_control (line_of node.cache letter.line)) refl (accepting (line_of node.cache letter.line).state letter.body) refl
+    accepts_it node letter.line letter.control letter.body only.numbered accepted (letter.control == last_control (line_of node.cache letter.line)) refl
+    (accepting (line_of node.cache letter.line).state letter.body) refl
 
 -- a request at the front of a lane is served, or refused, and its sender waits
 pub any_request_enabled : (core : Core) (from n : ℕ) → IsReachable core → from < core.size.nodes → n < core.size.nodes → AreServedAt core from n
 any_request_enabled core from n reached f lt =
     let well = any_well core reached in
-    let front_of = λ (letter : Letter) (rest : List Letter) (front : lane_of core Requests from n ≡ letter ∷ rest). ap (λ (lane : List Letter). slice_get lane 0) front in
+    let front_of = λ (letter : Letter) (rest : List Letter) (front : lane_of core Requests from n ≡ letter ∷ rest).
+    ap (λ (lane : List Letter). slice_get lane 0) front in
     record {
-      served = λ letter rest front free. serve_enabled (node_at core n) letter (front_comes core from n Requests letter well f lt (front_of letter rest front)).0.asks free;
+      served = λ letter rest front free.
+          serve_enabled (node_at core n) letter (front_comes core from n Requests letter well f lt (front_of letter rest front)).0.asks free;
       refused = λ letter rest front free other. refuse_enabled (node_at core n) letter other free;
       waited = λ letter rest front. (
           let comes = front_comes core from n Requests letter well f lt (front_of letter rest front) in
           let place = lane_place core.size.nodes Requests from n in
-          let in_lane = front_holds (IsInLane core.size.nodes core.size.lines place) (lane_of core Requests from n) letter (front_of letter rest front) (well.each_lane place) in
+          let in_lane = front_holds (IsInLane core.size.nodes core.size.lines place) (lane_of core Requests from n) letter (front_of letter rest front)
+          (well.each_lane place) in
           let source = in_lane.from ∙ place_from core.size.nodes Requests from n f lt in
-          let only = only_packet core Requests from n from letter rest reached f lt f comes.0.letter_ok.about front (request_asker letter comes.0.asks ∙ source) in
+          let only = only_packet core Requests from n from letter rest reached f lt f comes.0.letter_ok.about front
+          (request_asker letter comes.0.asks ∙ source) in
           (only.about, only.waiting));
     }
 

@@ -1,5 +1,6 @@
 -- How each kind of event moves the packets of a node's asks about a line.
-use Rattle.std.proofs.Common.{◌≡◌, ℕ, ◌<◌, Bool, true, false, cond, List, [], ◌∷◌, ◌++◌, length, get_or, set, filter, Option, Some, None, refl, sym, ap, ◌∙◌, append-nil, append_assoc}
+use Rattle.std.proofs.Common.{◌≡◌, ℕ, ◌<◌, Bool, true, false, cond, List, [], ◌∷◌, ◌++◌, length, get_or, set, filter, Option, Some, None, refl, sym, ap, ◌∙◌}
+use Rattle.std.proofs.Common.{append-nil, append_assoc}
 use Rattle.std.specs.Prelude.{option_to_list}
 use Rattle.std.specs.List.{flat_map}
 use Rattle.std.proofs.lemmas.List.Elements.{filter-append}
@@ -24,7 +25,8 @@ packets_are : (core : Core) (m k : ℕ) → packets_of core m k ≡ two_parts (i
 packets_are core m k =
     let q = is_about m k in
     filter-append q (flat_map (λ (part : NodeOf). option_to_list part.waiting) core.parts) (flat_map (λ (lane : List Letter). lane) core.lanes) ∙
-    (ap (λ ys. ys ++ filter q (flat_map (λ (lane : List Letter). lane) core.lanes)) (filter_flat q (λ (part : NodeOf). option_to_list part.waiting) core.parts) ∙
+    (ap (λ ys. ys ++ filter q (flat_map (λ (lane : List Letter). lane) core.lanes)) (filter_flat q (λ (part : NodeOf). option_to_list part.waiting) core.parts)
+    ∙
     ap (λ ys. flat_map (waits_in q) core.parts ++ ys) (filter_flat q (λ (lane : List Letter). lane) core.lanes))
 
 -- ---- filters
@@ -59,18 +61,21 @@ first_alone (y ∷ xs) ys zs x z e f =
     none_second xs ys rest
 
 -- the only packet is in this lane
-pub record LaneAlone (q : Letter → Bool) (parts : List NodeOf) (lanes : List (List Letter)) (place : ℕ) (v : List Letter) (x z : Letter) (zs : List Letter) : Type 0 where
+pub record LaneAlone (q : Letter → Bool) (parts : List NodeOf) (lanes : List (List Letter)) (place : ℕ) (v : List Letter) (x z : Letter)
+    (zs : List Letter) : Type 0 where
   pub waits : flat_map (waits_in q) parts ≡ []
   pub lanes_then : flat_map (filter q) (set lanes place v) ≡ filter q v
   pub rest : zs ≡ []
   pub same : z ≡ x
 
-lane_alone : (q : Letter → Bool) (parts : List NodeOf) (lanes : List (List Letter)) (place : ℕ) (v : List Letter) (x z : Letter) (zs : List Letter) → place < length lanes
+lane_alone : (q : Letter → Bool) (parts : List NodeOf) (lanes : List (List Letter)) (place : ℕ) (v : List Letter) (x z : Letter) (zs : List Letter)
+    → place < length lanes
     → two_parts q parts lanes ≡ x ∷ [] → filter q (get_or lanes place []) ≡ z ∷ zs → LaneAlone q parts lanes place v x z zs
 lane_alone q parts lanes place v x z zs below one this =
     let a = around (filter q) lanes place [] below in
     let here : flat_map (filter q) lanes ≡ a.before ++ (z ∷ zs ++ a.after) = a.now ∙ ap (λ ys. a.before ++ (ys ++ a.after)) this in
-    let all : (flat_map (waits_in q) parts ++ a.before) ++ (z ∷ zs ++ a.after) ≡ x ∷ [] = append_assoc (flat_map (waits_in q) parts) a.before _ ∙ (ap (λ ys. flat_map (waits_in q) parts ++ ys) (sym here) ∙ one) in
+    let all : (flat_map (waits_in q) parts ++ a.before) ++ (z ∷ zs ++ a.after) ≡ x ∷ [] =
+    append_assoc (flat_map (waits_in q) parts) a.before _ ∙ (ap (λ ys. flat_map (waits_in q) parts ++ ys) (sym here) ∙ one) in
     let before = middle_alone (flat_map (waits_in q) parts ++ a.before) (zs ++ a.after) x z all in
     let none = none_first (flat_map (waits_in q) parts) a.before before in
     let only : flat_map (filter q) lanes ≡ x ∷ [] = ap (λ ys. ys ++ flat_map (filter q) lanes) (sym none) ∙ one in
@@ -89,22 +94,26 @@ node_alone q parts lanes n v x z below one this =
     let d = no_node in
     let a = around (waits_in q) parts n d below in
     let here : flat_map (waits_in q) parts ≡ a.before ++ (z ∷ a.after) = a.now ∙ ap (λ ys. a.before ++ (ys ++ a.after)) this in
-    let all : a.before ++ (z ∷ (a.after ++ flat_map (filter q) lanes)) ≡ x ∷ [] = sym (append_assoc a.before (z ∷ a.after) (flat_map (filter q) lanes)) ∙ (ap (λ ys. ys ++ flat_map (filter q) lanes) (sym here) ∙ one) in
+    let all : a.before ++ (z ∷ (a.after ++ flat_map (filter q) lanes)) ≡ x ∷ [] =
+    sym (append_assoc a.before (z ∷ a.after) (flat_map (filter q) lanes)) ∙ (ap (λ ys. ys ++ flat_map (filter q) lanes) (sym here) ∙ one) in
     let before = middle_alone a.before (a.after ++ flat_map (filter q) lanes) x z all in
     let starts : flat_map (waits_in q) parts ≡ z ∷ a.after = here ∙ ap (λ ys. ys ++ (z ∷ a.after)) before in
     let carried = first_alone (flat_map (waits_in q) parts) (flat_map (filter q) lanes) a.after x z starts one in
-    let only : flat_map (waits_in q) parts ≡ x ∷ [] = sym (append-nil (flat_map (waits_in q) parts)) ∙ (ap (λ ys. flat_map (waits_in q) parts ++ ys) (sym carried) ∙ one) in
+    let only : flat_map (waits_in q) parts ≡ x ∷ [] =
+    sym (append-nil (flat_map (waits_in q) parts)) ∙ (ap (λ ys. flat_map (waits_in q) parts ++ ys) (sym carried) ∙ one) in
     let then_ = flat_from_one (waits_in q) parts n d v x z [] below only this in
     record { carried = carried; parts_then = then_.0; same = then_.2 }
 
 -- ---- the moves
 
 -- a node changes, and what waits at it doesn't
-pub packets_changed : (core : Core) (n : ℕ) (next : NodeOf) (m k : ℕ) → n < length core.parts → next.waiting ≡ (node_at core n).waiting → packets_of (with_node core n next) m k ≡ packets_of core m k
+pub packets_changed : (core : Core) (n : ℕ) (next : NodeOf) (m k : ℕ) → n < length core.parts → next.waiting ≡ (node_at core n).waiting
+    → packets_of (with_node core n next) m k ≡ packets_of core m k
 packets_changed core n next m k below same =
     let q = is_about m k in
     packets_are (with_node core n next) m k ∙
-    (ap (λ ys. ys ++ flat_map (filter q) core.lanes) (flat_same (waits_in q) core.parts n no_node next below (ap (λ (w : Option Letter). filter q (option_to_list w)) same)) ∙ sym (packets_are core m k))
+    (ap (λ ys. ys ++ flat_map (filter q) core.lanes)
+    (flat_same (waits_in q) core.parts n no_node next below (ap (λ (w : Option Letter). filter q (option_to_list w)) same)) ∙ sym (packets_are core m k))
 
 -- a node and a lane change
 abbrev moved : Core → ℕ → NodeOf → ℕ → List Letter → Core
@@ -112,7 +121,8 @@ moved core n next place lane = with_lane (with_node core n next) place lane
 
 -- what gives the same packets, of those that are looked for
 pub packets_same : (core : Core) (n : ℕ) (next : NodeOf) (place : ℕ) (lane : List Letter) (m k : ℕ) → n < length core.parts → place < length core.lanes
-    → filter (is_about m k) (option_to_list next.waiting) ≡ filter (is_about m k) (option_to_list (node_at core n).waiting) → filter (is_about m k) lane ≡ filter (is_about m k) (lane_at core place)
+    → filter (is_about m k) (option_to_list next.waiting) ≡ filter (is_about m k) (option_to_list (node_at core n).waiting)
+    → filter (is_about m k) lane ≡ filter (is_about m k) (lane_at core place)
     → packets_of (with_lane (with_node core n next) place lane) m k ≡ packets_of core m k
 packets_same core n next place lane m k below within same along =
     let q = is_about m k in
@@ -121,8 +131,10 @@ packets_same core n next place lane m k below within same along =
     (ap (λ ys. flat_map (waits_in q) core.parts ++ ys) (flat_same (filter q) core.lanes place [] lane within along) ∙ sym (packets_are core m k)))
 
 -- a request is sent, if nothing was under way
-pub packets_asked : (core : Core) (n : ℕ) (next : NodeOf) (place : ℕ) (letter : Letter) (m k : ℕ) → n < length core.parts → place < length core.lanes → next.waiting ≡ (node_at core n).waiting
-    → is_about m k letter ≡ true → packets_of core m k ≡ [] → packets_of (with_lane (with_node core n next) place (lane_at core place ++ letter ∷ [])) m k ≡ letter ∷ []
+pub packets_asked : (core : Core) (n : ℕ) (next : NodeOf) (place : ℕ) (letter : Letter) (m k : ℕ) → n < length core.parts → place < length core.lanes
+    → next.waiting ≡ (node_at core n).waiting
+    → is_about m k letter ≡ true → packets_of core m k ≡ []
+    → packets_of (with_lane (with_node core n next) place (lane_at core place ++ letter ∷ [])) m k ≡ letter ∷ []
 packets_asked core n next place letter m k below within same about none =
     let q = is_about m k in
     let both = sym (packets_are core m k) ∙ none in
@@ -132,14 +144,18 @@ packets_asked core n next place letter m k below within same about none =
     let middle = none_second a.before _ (sym a.now ∙ lanes) in
     let here : filter q (lane_at core place) ≡ [] = none_first (filter q (lane_at core place)) a.after middle in
     let lane = lane_at core place ++ letter ∷ [] in
-    let last : filter q lane ≡ letter ∷ [] = filter-append q (lane_at core place) (letter ∷ []) ∙ (ap (λ ys. ys ++ filter q (letter ∷ [])) here ∙ kept q letter [] about) in
+    let last : filter q lane ≡ letter ∷ [] =
+    filter-append q (lane_at core place) (letter ∷ []) ∙ (ap (λ ys. ys ++ filter q (letter ∷ [])) here ∙ kept q letter [] about) in
     packets_are (moved core n next place lane) m k ∙
-    (ap (λ ys. ys ++ flat_map (filter q) (set core.lanes place lane)) (flat_same (waits_in q) core.parts n no_node next below (ap (λ (w : Option Letter). filter q (option_to_list w)) same) ∙ waits) ∙
+    (ap (λ ys. ys ++ flat_map (filter q) (set core.lanes place lane))
+    (flat_same (waits_in q) core.parts n no_node next below (ap (λ (w : Option Letter). filter q (option_to_list w)) same) ∙ waits) ∙
     (flat_from_none (filter q) core.lanes place [] lane within lanes ∙ last))
 
 -- the answer that waited is sent
-pub packets_replied : (core : Core) (n : ℕ) (next : NodeOf) (place : ℕ) (letter x : Letter) (m k : ℕ) → n < length core.parts → place < length core.lanes → (node_at core n).waiting ≡ Some letter → next.waiting ≡ None
-    → is_about m k letter ≡ true → packets_of core m k ≡ x ∷ [] → packets_of (with_lane (with_node core n next) place (lane_at core place ++ letter ∷ [])) m k ≡ x ∷ []
+pub packets_replied : (core : Core) (n : ℕ) (next : NodeOf) (place : ℕ) (letter x : Letter) (m k : ℕ) → n < length core.parts → place < length core.lanes
+    → (node_at core n).waiting ≡ Some letter → next.waiting ≡ None
+    → is_about m k letter ≡ true → packets_of core m k ≡ x ∷ []
+    → packets_of (with_lane (with_node core n next) place (lane_at core place ++ letter ∷ [])) m k ≡ x ∷ []
 packets_replied core n next place letter x m k below within waited gone about one =
     let q = is_about m k in
     let this : waits_in q (node_at core n) ≡ letter ∷ [] = ap (λ (w : Option Letter). filter q (option_to_list w)) waited ∙ kept q letter [] about in
@@ -148,7 +164,8 @@ packets_replied core n next place letter x m k below within waited gone about on
     let middle = none_second a.before _ (sym a.now ∙ alone.carried) in
     let here : filter q (lane_at core place) ≡ [] = none_first (filter q (lane_at core place)) a.after middle in
     let lane = lane_at core place ++ letter ∷ [] in
-    let last : filter q lane ≡ letter ∷ [] = filter-append q (lane_at core place) (letter ∷ []) ∙ (ap (λ ys. ys ++ filter q (letter ∷ [])) here ∙ kept q letter [] about) in
+    let last : filter q lane ≡ letter ∷ [] =
+    filter-append q (lane_at core place) (letter ∷ []) ∙ (ap (λ ys. ys ++ filter q (letter ∷ [])) here ∙ kept q letter [] about) in
     let empty : waits_in q next ≡ [] = ap (λ (w : Option Letter). filter q (option_to_list w)) gone in
     packets_are (moved core n next place lane) m k ∙
     (ap (λ ys. ys ++ flat_map (filter q) (set core.lanes place lane)) (alone.parts_then ∙ empty) ∙
@@ -159,8 +176,10 @@ pub record Served (core new : Core) (m k : ℕ) (request answer x : Letter) : Ty
   pub same : request ≡ x
 
 -- a request is taken, and its answer waits
-pub packets_served : (core : Core) (n : ℕ) (next : NodeOf) (place : ℕ) (request answer x : Letter) (rest : List Letter) (m k : ℕ) → n < length core.parts → place < length core.lanes → lane_at core place ≡ request ∷ rest → (node_at core n).waiting ≡ None → next.waiting ≡ Some answer
-    → is_about m k request ≡ true → is_about m k answer ≡ true → packets_of core m k ≡ x ∷ [] → Served core (with_lane (with_node core n next) place rest) m k request answer x
+pub packets_served : (core : Core) (n : ℕ) (next : NodeOf) (place : ℕ) (request answer x : Letter) (rest : List Letter) (m k : ℕ) → n < length core.parts
+    → place < length core.lanes → lane_at core place ≡ request ∷ rest → (node_at core n).waiting ≡ None → next.waiting ≡ Some answer
+    → is_about m k request ≡ true → is_about m k answer ≡ true → packets_of core m k ≡ x ∷ []
+    → Served core (with_lane (with_node core n next) place rest) m k request answer x
 packets_served core n next place request answer x rest m k below within front free waits about about_answer one =
     let q = is_about m k in
     let this : filter q (lane_at core place) ≡ request ∷ filter q rest = ap (filter q) front ∙ kept q request rest about in
@@ -179,7 +198,8 @@ pub record Accepted (core new : Core) (m k : ℕ) (answer x : Letter) : Type 0 w
   pub same : answer ≡ x
 
 -- an answer is accepted
-pub packets_accepted : (core : Core) (n : ℕ) (next : NodeOf) (place : ℕ) (answer x : Letter) (rest : List Letter) (m k : ℕ) → n < length core.parts → place < length core.lanes → lane_at core place ≡ answer ∷ rest → next.waiting ≡ (node_at core n).waiting
+pub packets_accepted : (core : Core) (n : ℕ) (next : NodeOf) (place : ℕ) (answer x : Letter) (rest : List Letter) (m k : ℕ) → n < length core.parts
+    → place < length core.lanes → lane_at core place ≡ answer ∷ rest → next.waiting ≡ (node_at core n).waiting
     → is_about m k answer ≡ true → packets_of core m k ≡ x ∷ [] → Accepted core (with_lane (with_node core n next) place rest) m k answer x
 packets_accepted core n next place answer x rest m k below within front same about one =
     let q = is_about m k in
@@ -188,16 +208,20 @@ packets_accepted core n next place answer x rest m k below within front same abo
     record {
       then_ =
           packets_are (moved core n next place rest) m k ∙
-          (ap (λ ys. ys ++ flat_map (filter q) (set core.lanes place rest)) (flat_same (waits_in q) core.parts n no_node next below (ap (λ (w : Option Letter). filter q (option_to_list w)) same) ∙ alone.waits) ∙
+          (ap (λ ys. ys ++ flat_map (filter q) (set core.lanes place rest))
+          (flat_same (waits_in q) core.parts n no_node next below (ap (λ (w : Option Letter). filter q (option_to_list w)) same) ∙ alone.waits) ∙
           (alone.lanes_then ∙ alone.rest));
       same = alone.same;
     }
 
 -- a packet that isn't looked for joins or leaves a lane
-pub filter_joined : (m k : ℕ) (lane : List Letter) (letter : Letter) → is_about m k letter ≡ false → filter (is_about m k) (lane ++ letter ∷ []) ≡ filter (is_about m k) lane
-filter_joined m k lane letter other = filter-append (is_about m k) lane (letter ∷ []) ∙ (ap (λ ys. filter (is_about m k) lane ++ ys) (dropped (is_about m k) letter [] other) ∙ append-nil _)
+pub filter_joined : (m k : ℕ) (lane : List Letter) (letter : Letter) → is_about m k letter ≡ false
+    → filter (is_about m k) (lane ++ letter ∷ []) ≡ filter (is_about m k) lane
+filter_joined m k lane letter other =
+    filter-append (is_about m k) lane (letter ∷ []) ∙ (ap (λ ys. filter (is_about m k) lane ++ ys) (dropped (is_about m k) letter [] other) ∙ append-nil _)
 
-pub filter_left : (m k : ℕ) (lane rest : List Letter) (letter : Letter) → lane ≡ letter ∷ rest → is_about m k letter ≡ false → filter (is_about m k) rest ≡ filter (is_about m k) lane
+pub filter_left : (m k : ℕ) (lane rest : List Letter) (letter : Letter) → lane ≡ letter ∷ rest → is_about m k letter ≡ false
+    → filter (is_about m k) rest ≡ filter (is_about m k) lane
 filter_left m k lane rest letter front other = sym (ap (filter (is_about m k)) front ∙ dropped (is_about m k) letter rest other)
 
 pub filter_one : (m k : ℕ) (letter : Letter) → is_about m k letter ≡ false → filter (is_about m k) (letter ∷ []) ≡ []
@@ -205,7 +229,8 @@ filter_one m k letter other = dropped (is_about m k) letter [] other
 
 -- ---- packets that are there
 
-pub lane_has : (core : Core) (place : ℕ) (letter : Letter) (rest : List Letter) (m k : ℕ) → place < length core.lanes → lane_at core place ≡ letter ∷ rest → is_about m k letter ≡ true → packets_of core m k ≡ [] → ⊥
+pub lane_has : (core : Core) (place : ℕ) (letter : Letter) (rest : List Letter) (m k : ℕ) → place < length core.lanes → lane_at core place ≡ letter ∷ rest
+    → is_about m k letter ≡ true → packets_of core m k ≡ [] → ⊥
 lane_has core place letter rest m k within front about none =
     let q = is_about m k in
     let lanes = none_second (flat_map (waits_in q) core.parts) _ (sym (packets_are core m k) ∙ none) in
@@ -214,7 +239,8 @@ lane_has core place letter rest m k within front about none =
     let this : filter q (lane_at core place) ≡ letter ∷ filter q rest = ap (filter q) front ∙ kept q letter rest about in
     cc
 
-pub node_has : (core : Core) (n : ℕ) (letter : Letter) (m k : ℕ) → n < length core.parts → (node_at core n).waiting ≡ Some letter → is_about m k letter ≡ true → packets_of core m k ≡ [] → ⊥
+pub node_has : (core : Core) (n : ℕ) (letter : Letter) (m k : ℕ) → n < length core.parts → (node_at core n).waiting ≡ Some letter → is_about m k letter ≡ true
+    → packets_of core m k ≡ [] → ⊥
 node_has core n letter m k below waited about none =
     let q = is_about m k in
     let parts = none_first (flat_map (waits_in q) core.parts) _ (sym (packets_are core m k) ∙ none) in

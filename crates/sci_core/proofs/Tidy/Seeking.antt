@@ -1,5 +1,6 @@
 -- Finding the first answer among packets, part by part.
-use Rattle.std.proofs.Common.{◌≡◌, ℕ, ◌+◌, ◌<◌, ◌&&◌, not, Bool, true, false, if◌then◌else◌, cond, List, [], ◌∷◌, ◌++◌, length, map, filter, get_or, take, drop, Option, Some, None, append-nil, refl, sym, ap, ◌∙◌}
+use Rattle.std.proofs.Common.{◌≡◌, ℕ, ◌+◌, ◌<◌, ◌&&◌, not, Bool, true, false, if◌then◌else◌, cond, List, [], ◌∷◌, ◌++◌, length, map, filter, get_or, take, drop}
+use Rattle.std.proofs.Common.{Option, Some, None, append-nil, refl, sym, ap, ◌∙◌}
 use Rattle.std.specs.Option.{option_or}
 use Rattle.sci_core.proofs.Basics.Options.{after_none, found_first}
 use Rattle.std.specs.List.{flat_map}
@@ -22,16 +23,19 @@ or_if false x xs ys = refl
 answer_in_append : (xs ys : List Letter) → answer_in (xs ++ ys) ≡ option_or (answer_in xs) (answer_in ys)
 answer_in_append [] ys = refl
 answer_in_append (x ∷ xs) ys =
-    ap (λ (o : Option Body). if is_request x.body then o else Some x.body) (answer_in_append xs ys) ∙ or_if (is_request x.body) x.body (answer_in xs) (answer_in ys)
+    ap (λ (o : Option Body). if is_request x.body then o else Some x.body) (answer_in_append xs ys)
+    ∙ or_if (is_request x.body) x.body (answer_in xs) (answer_in ys)
 
 pub seek_append : (n line : ℕ) (xs ys : List Letter) → seek n line (xs ++ ys) ≡ option_or (seek n line xs) (seek n line ys)
 seek_append n line xs ys = ap answer_in (filter-append (is_about n line) xs ys) ∙ answer_in_append (filter (is_about n line) xs) (filter (is_about n line) ys)
 
-one_of : (about asks : Bool) (letter : Letter) → answer_in (cond about (letter ∷ []) []) ≡ (if about then (if is_request letter.body then None else Some letter.body) else None)
+one_of : (about asks : Bool) (letter : Letter)
+    → answer_in (cond about (letter ∷ []) []) ≡ (if about then (if is_request letter.body then None else Some letter.body) else None)
 one_of true asks letter = refl
 one_of false asks letter = refl
 
-seek_one : (n line : ℕ) (letter : Letter) → seek n line (letter ∷ []) ≡ (if is_about n line letter then (if is_request letter.body then None else Some letter.body) else None)
+seek_one : (n line : ℕ) (letter : Letter)
+    → seek n line (letter ∷ []) ≡ (if is_about n line letter then (if is_request letter.body then None else Some letter.body) else None)
 seek_one n line letter = one_of (is_about n line letter) (is_request letter.body) letter
 
 no_answer : (about asks : Bool) (x : Option Body) → (about && not asks) ≡ false → (if about then (if asks then None else x) else None) ≡ None
@@ -56,10 +60,12 @@ pub seek_more : (n line : ℕ) (packets : List Packet) (i : ℕ) (d : Packet) �
 seek_more n line packets i d below none =
     ap (λ (ps : List Packet). seek n line (map letter_of ps)) (take_more packets i d below) ∙
     (ap (seek n line) (map-append letter_of (take i packets) (get_or packets i d ∷ [])) ∙
-    (seek_append n line (map letter_of (take i packets)) (letter_of (get_or packets i d) ∷ []) ∙ after_none (seek n line (map letter_of (take i packets))) _ none))
+    (seek_append n line (map letter_of (take i packets)) (letter_of (get_or packets i d) ∷ [])
+    ∙ after_none (seek n line (map letter_of (take i packets))) _ none))
 
 -- what is found in a front is found in the whole
-pub seek_whole : (n line : ℕ) (packets : List Packet) (i : ℕ) (b : Body) → seek n line (map letter_of (take i packets)) ≡ Some b → seek n line (map letter_of packets) ≡ Some b
+pub seek_whole : (n line : ℕ) (packets : List Packet) (i : ℕ) (b : Body) → seek n line (map letter_of (take i packets)) ≡ Some b
+    → seek n line (map letter_of packets) ≡ Some b
 seek_whole n line packets i b e =
     ap (λ (ps : List Packet). seek n line (map letter_of ps)) (sym (take-append-drop i packets)) ∙
     (ap (seek n line) (map-append letter_of (take i packets) (drop i packets)) ∙
@@ -67,9 +73,11 @@ seek_whole n line packets i b e =
 
 -- ---- packets in parts
 
-pub flat_more : {X : Type 0} (f : X → List Letter) (xs : List X) (i : ℕ) (d : X) → i < length xs → flat_map f (take (i + 1) xs) ≡ flat_map f (take i xs) ++ f (get_or xs i d)
+pub flat_more : {X : Type 0} (f : X → List Letter) (xs : List X) (i : ℕ) (d : X) → i < length xs
+    → flat_map f (take (i + 1) xs) ≡ flat_map f (take i xs) ++ f (get_or xs i d)
 flat_more f xs i d below =
-    ap (flat_map f) (take_more xs i d below) ∙ (flat_map-append f (take i xs) (get_or xs i d ∷ []) ∙ ap (λ (ys : List Letter). flat_map f (take i xs) ++ ys) (append-nil (f (get_or xs i d))))
+    ap (flat_map f) (take_more xs i d below)
+    ∙ (flat_map-append f (take i xs) (get_or xs i d ∷ []) ∙ ap (λ (ys : List Letter). flat_map f (take i xs) ++ ys) (append-nil (f (get_or xs i d))))
 
 pub seek_first : (n line : ℕ) (xs ys : List Letter) (b : Body) → seek n line xs ≡ Some b → seek n line (xs ++ ys) ≡ Some b
 seek_first n line xs ys b e = seek_append n line xs ys ∙ found_first (seek n line xs) (seek n line ys) b e

@@ -10,7 +10,8 @@ use Rattle.sci_cache.specs.State.{waits}
 use Rattle.sci_cache.specs.Cache.{Letter}
 use Rattle.sci_packets.specs.Table.{is_request}
 use Rattle.sci_core.specs.declared.lane.LaneKind.TheVariants.{Requests, Answers as AnswerLane}
-use Rattle.sci_core.specs.Node.{NodeOf, opening_node, node_issuing, node_performing, node_asking, node_serving, node_refusing, node_replying, node_accepting, lines_of}
+use Rattle.sci_core.specs.Node.{NodeOf, opening_node, node_issuing, node_performing, node_asking, node_serving, node_refusing, node_replying, node_accepting}
+use Rattle.sci_core.specs.Node.{lines_of}
 use Rattle.sci_core.specs.Core.{Core, node_at, lane_place, stepping, step, opening, run_from, run}
 use Rattle.sci_core.specs.Done.{performed}
 use Rattle.sci_core.specs.Reached.{IsReachable, IsReached}
@@ -20,7 +21,8 @@ use Rattle.sci_core.specs.WellFormed.{IsPart, IsWellFormed}
 use Rattle.sci_core.proofs.Basics.Options.{of_some}
 use Rattle.sci_core.proofs.WellFormed.Parts.{part_serving, part_refusing}
 use Rattle.sci_core.proofs.WellFormed.WellFormedSteps.{step_well, run_well, is_size, reachable, opened}
-use Rattle.sci_core.proofs.Tidy.WaitingNodes.{Stays, AsksOnce, Answers, Replies, Accepts, issue_stays, perform_stays, ask_once, serve_answers, refuse_answers, reply_replies, accept_accepts}
+use Rattle.sci_core.proofs.Tidy.WaitingNodes.{Stays, AsksOnce, Answers, Replies, Accepts, issue_stays, perform_stays, ask_once, serve_answers, refuse_answers}
+use Rattle.sci_core.proofs.Tidy.WaitingNodes.{reply_replies, accept_accepts}
 use Rattle.sci_core.proofs.Step.Steps.{Taken, Stepped, By_issue, By_perform, By_ask, By_serve, By_refuse, By_reply, By_accept, stepping_stepped}
 use Rattle.sci_core.proofs.Tidy.TidySteps.{changed_tidy, asked_tidy, replied_tidy, served_tidy, accepted_tidy}
 use Rattle.sci_core.specs.Size.{Size}
@@ -36,42 +38,54 @@ waiting_answers size n next answer waits is = grind arith
 -- ---- each way of stepping
 
 -- a request is taken, and its answer waits
-took_tidy : (core new : Core) (taking : NodeOf → Letter → Option NodeOf) (t : Taken core new Requests taking) → IsWellFormed core → IsTidy core → Answers core.size.nodes t.letter (node_at core t.node) t.next → IsPart core.size t.node t.next → IsTidy new
+took_tidy : (core new : Core) (taking : NodeOf → Letter → Option NodeOf) (t : Taken core new Requests taking) → IsWellFormed core → IsTidy core
+    → Answers core.size.nodes t.letter (node_at core t.node) t.next → IsPart core.size t.node t.next → IsTidy new
 took_tidy core new taking t well tidy answers is = grind (arith, served_tidy, node_below, waiting_answers)
 
 stepped_tidy : (core new : Core) (e : Event) (made : Option Entry) → IsWellFormed core → IsTidy core → Stepped core e made new → IsTidy new
 stepped_tidy core new e made well tidy (By_issue n op next event lt is then_ none) =
     let part = node_at core n in
-    subst IsTidy then_ (changed_tidy core n next lt well (of_some (Stays core.size.nodes part) (node_issuing part op) next is (issue_stays core.size.nodes part op)) tidy)
+    subst IsTidy then_ (changed_tidy core n next lt well
+    (of_some (Stays core.size.nodes part) (node_issuing part op) next is (issue_stays core.size.nodes part op)) tidy)
 stepped_tidy core new e made well tidy (By_perform n line done lt is then_ some) =
     let part = node_at core n in
-    subst IsTidy then_ (changed_tidy core n done.0 lt well (of_some (λ (x : NodeOf × Entry). Stays core.size.nodes part x.0) (node_performing part line) done is (perform_stays core.size.nodes part line)) tidy)
+    subst IsTidy then_ (changed_tidy core n done.0 lt well
+    (of_some (λ (x : NodeOf × Entry). Stays core.size.nodes part x.0) (node_performing part line) done is (perform_stays core.size.nodes part line)) tidy)
 stepped_tidy core new e made well tidy (By_ask n line kind sent is sends_well s none) =
     let node = node_at core n in
     let part = well.each_part n s.some in
-    let once = of_some (AsksOnce core.size.nodes line node) (node_asking node line kind) sent is (ask_once core.size.nodes node line kind part.all (part.asks line)) in
-    subst IsTidy s.then_ (asked_tidy core n line (lane_place core.size.nodes Requests n sent.1.target) sent.0 sent.1 (node_below core n well s.some) s.within sends_well.request.asks sends_well.from once tidy)
+    let once = of_some (AsksOnce core.size.nodes line node) (node_asking node line kind) sent is
+    (ask_once core.size.nodes node line kind part.all (part.asks line)) in
+    subst IsTidy s.then_ (asked_tidy core n line (lane_place core.size.nodes Requests n sent.1.target) sent.0 sent.1 (node_below core n well s.some) s.within
+    sends_well.request.asks sends_well.from once tidy)
 stepped_tidy core new e made well tidy (By_serve t none) =
     let part = node_at core t.node in
-    took_tidy core new node_serving t well tidy (of_some (Answers core.size.nodes t.letter part) (node_serving part t.letter) t.next t.takes (serve_answers core.size.nodes part t.letter))
-    (of_some (IsPart core.size t.node) (node_serving part t.letter) t.next t.takes (part_serving core.size t.node part t.letter t.comes.0 t.comes.1 (well.each_part t.node t.some)))
+    took_tidy core new node_serving t well tidy
+    (of_some (Answers core.size.nodes t.letter part) (node_serving part t.letter) t.next t.takes (serve_answers core.size.nodes part t.letter))
+    (of_some (IsPart core.size t.node) (node_serving part t.letter) t.next t.takes
+    (part_serving core.size t.node part t.letter t.comes.0 t.comes.1 (well.each_part t.node t.some)))
 stepped_tidy core new e made well tidy (By_refuse t none) =
     let part = node_at core t.node in
-    took_tidy core new node_refusing t well tidy (of_some (Answers core.size.nodes t.letter part) (node_refusing part t.letter) t.next t.takes (refuse_answers core.size.nodes part t.letter))
-    (of_some (IsPart core.size t.node) (node_refusing part t.letter) t.next t.takes (part_refusing core.size t.node part t.letter t.comes.0 t.comes.1 (well.each_part t.node t.some)))
+    took_tidy core new node_refusing t well tidy
+    (of_some (Answers core.size.nodes t.letter part) (node_refusing part t.letter) t.next t.takes (refuse_answers core.size.nodes part t.letter))
+    (of_some (IsPart core.size t.node) (node_refusing part t.letter) t.next t.takes
+    (part_refusing core.size t.node part t.letter t.comes.0 t.comes.1 (well.each_part t.node t.some)))
 stepped_tidy core new e made well tidy (By_reply n sent is sends_well s none) =
     let part = node_at core n in
     let replies = of_some (Replies core.size.nodes part) (node_replying part) sent is (reply_replies core.size.nodes part) in
-    subst IsTidy s.then_ (replied_tidy core n (lane_place core.size.nodes AnswerLane n sent.1.target) sent.0 sent.1 (node_below core n well s.some) s.within replies tidy)
+    subst IsTidy s.then_ (replied_tidy core n (lane_place core.size.nodes AnswerLane n sent.1.target) sent.0 sent.1 (node_below core n well s.some) s.within
+    replies tidy)
 stepped_tidy core new e made well tidy (By_accept t none) =
     let part = node_at core t.node in
     let on_line : t.letter.line < lines_of part = subst (λ (k : ℕ). t.letter.line < k) (sym (well.each_part t.node t.some).each) t.comes.0.letter_ok.about in
     let accepts = of_some (Accepts t.letter.line part) (node_accepting part t.letter) t.next t.takes (accept_accepts part t.letter) in
-    subst IsTidy t.then_ (accepted_tidy core t.node t.place t.next t.letter t.rest (node_below core t.node well t.some) t.within t.front t.comes.0.answers t.comes.1 on_line accepts tidy)
+    subst IsTidy t.then_ (accepted_tidy core t.node t.place t.next t.letter t.rest (node_below core t.node well t.some) t.within t.front t.comes.0.answers
+    t.comes.1 on_line accepts tidy)
 
 -- ---- runs
 
-after_tidy : (core : Core) (e : Event) (made : Option Entry) (next : Option Core) → IsWellFormed core → IsTidy core → IfSome next (Stepped core e made) → IsTidy (unwrap_or next core)
+after_tidy : (core : Core) (e : Event) (made : Option Entry) (next : Option Core) → IsWellFormed core → IsTidy core → IfSome next (Stepped core e made)
+    → IsTidy (unwrap_or next core)
 after_tidy core e made None well tidy stepped = tidy
 after_tidy core e made (Some new) well tidy stepped = stepped_tidy core new e made well tidy stepped
 
@@ -84,7 +98,8 @@ run_tidy core (e ∷ events) well tidy = run_tidy (step core e) events (step_wel
 
 -- ---- the opening
 
-nothing_waits : (size : Size) (a count : ℕ) → flat_map (λ (part : NodeOf). option_to_list part.waiting) (map (λ (n : ℕ). opening_node n size) (range_with_len a count)) ≡ []
+nothing_waits : (size : Size) (a count : ℕ)
+    → flat_map (λ (part : NodeOf). option_to_list part.waiting) (map (λ (n : ℕ). opening_node n size) (range_with_len a count)) ≡ []
 nothing_waits size a zero = refl
 nothing_waits size a (suc count) = nothing_waits size (a + 1) count
 

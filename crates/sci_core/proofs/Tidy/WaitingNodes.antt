@@ -18,11 +18,14 @@ use Rattle.sci_cache.specs.Performing.{Performed, performing}
 use Rattle.sci_cache.specs.Line.{LineState, untouched, last_control, line_in, line_asked, ask_or_fault}
 use Rattle.sci_cache.specs.Cache.{CacheOf, Letter, line_of, with_line, has_slot, target_of, letter_asking, cache_asking, cache_asked}
 use Rattle.sci_core.specs.declared.pending.Pending.{Pending}
-use Rattle.sci_core.specs.Node.{NodeOf, lines_of, home_of, pending_on, may_issue, node_issued, node_issuing, performed_by, performing_pending, node_performing, asked_by, node_asking, answering, served_at_home, served_in_cache, serving_at_home, serving_in_cache, serving_request, answered_by, node_serving, is_setback, with_answer, node_refusing, replied_by, node_replying, accepted_by, node_accepting}
+use Rattle.sci_core.specs.Node.{NodeOf, lines_of, home_of, pending_on, may_issue, node_issued, node_issuing, performed_by, performing_pending, node_performing}
+use Rattle.sci_core.specs.Node.{asked_by, node_asking, answering, served_at_home, served_in_cache, serving_at_home, serving_in_cache, serving_request}
+use Rattle.sci_core.specs.Node.{answered_by, node_serving, is_setback, with_answer, node_refusing, replied_by, node_replying, accepted_by, node_accepting}
 use Rattle.sci_core.specs.Tidy.{IsAwaited}
 use Rattle.sci_core.proofs.Basics.Lists.{if_either, at_place_set}
 use Rattle.sci_core.proofs.Basics.Options.{if_below}
-use Rattle.sci_core.proofs.Tidy.Waits.{BeginsToWait, asking_waits, Keeps, keeps_itself, KeepsWait, serving_waits, performing_waits, EndsToWait, accepting_waits, asked_number}
+use Rattle.sci_core.proofs.Tidy.Waits.{BeginsToWait, asking_waits, Keeps, keeps_itself, KeepsWait, serving_waits, performing_waits, EndsToWait, accepting_waits}
+use Rattle.sci_core.proofs.Tidy.Waits.{asked_number}
 
 -- every line of the node is awaited as it was
 abbrev pub KeepsLines : ℕ → CacheOf → CacheOf → Type 0
@@ -31,9 +34,11 @@ KeepsLines nodes old new = (k : ℕ) → Keeps (k % nodes) (line_of old k) (line
 keeps_all : (nodes : ℕ) (cache : CacheOf) → KeepsLines nodes cache cache
 keeps_all nodes cache k = keeps_itself (k % nodes) (line_of cache k)
 
-keeps_line : (nodes : ℕ) (cache : CacheOf) (line : ℕ) (state : CacheState) → KeepsWait (line_of cache line).state state → KeepsLines nodes cache (with_line cache line (line_in (line_of cache line) state))
+keeps_line : (nodes : ℕ) (cache : CacheOf) (line : ℕ) (state : CacheState) → KeepsWait (line_of cache line).state state
+    → KeepsLines nodes cache (with_line cache line (line_in (line_of cache line) state))
 keeps_line nodes cache line state wait =
-    at_place_set (λ (k : ℕ) (l : LineState). Keeps (k % nodes) (line_of cache k) l) cache.lines line (line_in (line_of cache line) state) untouched (λ k. keeps_itself (k % nodes) (line_of cache k))
+    at_place_set (λ (k : ℕ) (l : LineState). Keeps (k % nodes) (line_of cache k) l) cache.lines line (line_in (line_of cache line) state) untouched
+    (λ k. keeps_itself (k % nodes) (line_of cache k))
     (record { wait = wait.wait; asks = refl; sent = wait.sent (line % nodes) })
 
 -- ---- Issue and Perform
@@ -44,17 +49,23 @@ pub record Stays (nodes : ℕ) (old new : NodeOf) : Type 0 where
 
 pub issue_stays : (nodes : ℕ) (part : NodeOf) (op : Op) → IfSome (node_issuing part op) (Stays nodes part)
 issue_stays nodes part op =
-    if_either (λ (o : Option NodeOf). IfSome o (Stays nodes part)) (may_issue part op) (Some (node_issued part op)) None (record { lines = keeps_all nodes part.cache; waiting = refl }) tt
+    if_either (λ (o : Option NodeOf). IfSome o (Stays nodes part)) (may_issue part op) (Some (node_issued part op)) None
+    (record { lines = keeps_all nodes part.cache; waiting = refl }) tt
 
-performed_stays : (nodes : ℕ) (part : NodeOf) (line : ℕ) (pending : Pending) (done : Option Performed) → IfSome done (λ (d : Performed). KeepsWait (line_of part.cache pending.op.line).state d.next)
-    → IfSome (performed_by part line pending (option_map (λ d. (with_line part.cache pending.op.line (line_in (line_of part.cache pending.op.line) d.next), d.reply, d.version)) done))
+performed_stays : (nodes : ℕ) (part : NodeOf) (line : ℕ) (pending : Pending) (done : Option Performed)
+    → IfSome done (λ (d : Performed). KeepsWait (line_of part.cache pending.op.line).state d.next)
+    → IfSome (performed_by part line pending
+    (option_map (λ d. (with_line part.cache pending.op.line (line_in (line_of part.cache pending.op.line) d.next), d.reply, d.version)) done))
     (λ (x : NodeOf × Entry). Stays nodes part x.0)
 performed_stays nodes part line pending None wait = tt
 performed_stays nodes part line pending (Some d) wait = record { lines = keeps_line nodes part.cache pending.op.line d.next wait; waiting = refl }
 
-pending_stays : (nodes : ℕ) (part : NodeOf) (line : ℕ) (pending : Option Pending) → IfSome (performing_pending part line pending) (λ (x : NodeOf × Entry). Stays nodes part x.0)
+pending_stays : (nodes : ℕ) (part : NodeOf) (line : ℕ) (pending : Option Pending)
+    → IfSome (performing_pending part line pending) (λ (x : NodeOf × Entry). Stays nodes part x.0)
 pending_stays nodes part line None = tt
-pending_stays nodes part line (Some pending) = performed_stays nodes part line pending (performing (line_of part.cache pending.op.line).state pending.op) (performing_waits (line_of part.cache pending.op.line).state pending.op)
+pending_stays nodes part line (Some pending) =
+    performed_stays nodes part line pending (performing (line_of part.cache pending.op.line).state pending.op)
+    (performing_waits (line_of part.cache pending.op.line).state pending.op)
 
 pub perform_stays : (nodes : ℕ) (part : NodeOf) (line : ℕ) → IfSome (node_performing part line) (λ (x : NodeOf × Entry). Stays nodes part x.0)
 perform_stays nodes part line = pending_stays nodes part line (pending_on part line)
@@ -77,8 +88,12 @@ target_named : (line p : ℕ) (cache : CacheOf) (to : Option ℕ) → to ≡ Som
 target_named line p cache None e = cc
 target_named line p cache (Some q) e = cc
 
-asked_once : (nodes line : ℕ) (part : NodeOf) (asked : Asked) → line < lines_of part → part.cache.nodes ≡ nodes → (line_of part.cache line).asks < CONTROLS → BeginsToWait (line_of part.cache line).state asked
-    → AsksOnce nodes line part (record part { cache = with_line part.cache line (line_asked (line_of part.cache line) asked) }, letter_asking part.cache line asked)
+asked_once : (nodes line : ℕ) (part : NodeOf) (asked : Asked) → line < lines_of part → part.cache.nodes ≡ nodes → (line_of part.cache line).asks < CONTROLS
+    → BeginsToWait (line_of part.cache line).state asked
+    → AsksOnce nodes line part (
+      record part { cache = with_line part.cache line (line_asked (line_of part.cache line) asked) },
+      letter_asking part.cache line asked,
+    )
 asked_once nodes line part asked below all small begins =
     let new = line_asked (line_of part.cache line) asked in
     let at : line_of (with_line part.cache line new) line ≡ new = get_or-set_same part.cache.lines line new untouched below in
@@ -86,7 +101,11 @@ asked_once nodes line part asked below all small begins =
     let awaited : IsAwaited (line % nodes) new letter = record {
       waiting = begins.waiting;
       numbered = asked_number (line_of part.cache line).asks small;
-      sent = λ asks. begins.sent (line % nodes) letter (λ home. target_home nodes line part.cache asked.to all home, λ p named. target_named line p part.cache asked.to named, refl);
+      sent = λ asks. begins.sent (line % nodes) letter (
+        λ home. target_home nodes line part.cache asked.to all home,
+        λ p named. target_named line p part.cache asked.to named,
+        refl,
+      );
     } in
     record {
       below = below;
@@ -97,16 +116,19 @@ asked_once nodes line part asked below all small begins =
       waiting = refl;
     }
 
-made_once : (nodes line : ℕ) (part : NodeOf) (lacks : Bool) (made : Option Asked) → line < lines_of part → part.cache.nodes ≡ nodes → (line_of part.cache line).asks < CONTROLS → IfSome made (BeginsToWait (line_of part.cache line).state)
+made_once : (nodes line : ℕ) (part : NodeOf) (lacks : Bool) (made : Option Asked) → line < lines_of part → part.cache.nodes ≡ nodes
+    → (line_of part.cache line).asks < CONTROLS → IfSome made (BeginsToWait (line_of part.cache line).state)
     → IfSome (asked_by part (cache_asked part.cache line (ask_or_fault made lacks))) (AsksOnce nodes line part)
 made_once nodes line part lacks None below all small begins = tt
 made_once nodes line part true (Some asked) below all small begins = tt
 made_once nodes line part false (Some asked) below all small begins = asked_once nodes line part asked below all small begins
 
-pub ask_once : (nodes : ℕ) (part : NodeOf) (line : ℕ) (kind : AskKind) → part.cache.nodes ≡ nodes → (line_of part.cache line).asks < CONTROLS → IfSome (node_asking part line kind) (AsksOnce nodes line part)
+pub ask_once : (nodes : ℕ) (part : NodeOf) (line : ℕ) (kind : AskKind) → part.cache.nodes ≡ nodes → (line_of part.cache line).asks < CONTROLS
+    → IfSome (node_asking part line kind) (AsksOnce nodes line part)
 ask_once nodes part line kind all small =
     if_below line (lines_of part) (AsksOnce nodes line part) (asked_by part (cache_asking part.cache line kind)) (λ below.
-    made_once nodes line part (is_out (line_of part.cache line).state && not (has_slot part.cache)) (asking (line_of part.cache line).state kind) below all small (asking_waits (line_of part.cache line).state kind))
+    made_once nodes line part (is_out (line_of part.cache line).state && not (has_slot part.cache)) (asking (line_of part.cache line).state kind) below all
+    small (asking_waits (line_of part.cache line).state kind))
 
 -- ---- Serve and Refuse
 
@@ -123,32 +145,40 @@ home_serves : (nodes : ℕ) (part : NodeOf) (line : ℕ) (served : Option (HomeS
 home_serves nodes part line None = tt
 home_serves nodes part line (Some served) = record { lines = keeps_all nodes part.cache }
 
-cache_serves : (nodes : ℕ) (part : NodeOf) (line : ℕ) (served : Option (CacheState × Body)) → IfSome served (λ (s : CacheState × Body). KeepsWait (line_of part.cache line).state s.0)
+cache_serves : (nodes : ℕ) (part : NodeOf) (line : ℕ) (served : Option (CacheState × Body))
+    → IfSome served (λ (s : CacheState × Body). KeepsWait (line_of part.cache line).state s.0)
     → IfSome (served_in_cache part (option_map (λ s. (with_line part.cache line (line_in (line_of part.cache line) s.0), s.1)) served)) (ServesLines nodes part)
 cache_serves nodes part line None wait = tt
 cache_serves nodes part line (Some served) wait = record { lines = keeps_line nodes part.cache line served.0 wait }
 
 request_serves : (nodes : ℕ) (part : NodeOf) (request : Letter) → IfSome (serving_request part request) (ServesLines nodes part)
 request_serves nodes part request =
-    if_either (λ (o : Option (NodeOf × Body)). IfSome o (ServesLines nodes part)) (is_for_home request.body) (serving_at_home part request) (serving_in_cache part request)
+    if_either (λ (o : Option (NodeOf × Body)). IfSome o (ServesLines nodes part)) (is_for_home request.body) (serving_at_home part request)
+    (serving_in_cache part request)
     (home_serves nodes part request.line (serving_at_home_of (home_of part request.line) request.source request.body))
-    (cache_serves nodes part request.line (serving (line_of part.cache request.line).state request.source request.body) (serving_waits (line_of part.cache request.line).state request.source request.body))
+    (cache_serves nodes part request.line (serving (line_of part.cache request.line).state request.source request.body)
+    (serving_waits (line_of part.cache request.line).state request.source request.body))
 
-answered : (nodes : ℕ) (part : NodeOf) (request : Letter) (served : Option (NodeOf × Body)) → part.waiting ≡ None → IfSome served (ServesLines nodes part) → IfSome (answered_by request served) (Answers nodes request part)
+answered : (nodes : ℕ) (part : NodeOf) (request : Letter) (served : Option (NodeOf × Body)) → part.waiting ≡ None → IfSome served (ServesLines nodes part)
+    → IfSome (answered_by request served) (Answers nodes request part)
 answered nodes part request None free lines = tt
 answered nodes part request (Some served) free lines = record { lines = lines.lines; free = free; body = served.1; waiting = refl }
 
-free_first : (nodes : ℕ) (part : NodeOf) (request : Letter) (waiting : Option Letter) (next : Option NodeOf) → part.waiting ≡ waiting → (part.waiting ≡ None → IfSome next (Answers nodes request part)) → IfSome (if is_some waiting then None else next) (Answers nodes request part)
+free_first : (nodes : ℕ) (part : NodeOf) (request : Letter) (waiting : Option Letter) (next : Option NodeOf) → part.waiting ≡ waiting
+    → (part.waiting ≡ None → IfSome next (Answers nodes request part)) → IfSome (if is_some waiting then None else next) (Answers nodes request part)
 free_first nodes part request (Some answer) next is h = tt
 free_first nodes part request None next is h = h is
 
 pub serve_answers : (nodes : ℕ) (part : NodeOf) (request : Letter) → IfSome (node_serving part request) (Answers nodes request part)
-serve_answers nodes part request = free_first nodes part request part.waiting (answered_by request (serving_request part request)) refl (λ free. answered nodes part request (serving_request part request) free (request_serves nodes part request))
+serve_answers nodes part request =
+    free_first nodes part request part.waiting (answered_by request (serving_request part request)) refl
+    (λ free. answered nodes part request (serving_request part request) free (request_serves nodes part request))
 
 pub refuse_answers : (nodes : ℕ) (part : NodeOf) (request : Letter) → IfSome (node_refusing part request) (Answers nodes request part)
 refuse_answers nodes part request =
     free_first nodes part request part.waiting (if is_setback request.body then None else Some (with_answer part request Busy)) refl (λ free.
-    if_either (λ (o : Option NodeOf). IfSome o (Answers nodes request part)) (is_setback request.body) None (Some (with_answer part request Busy)) tt (record { lines = keeps_all nodes part.cache; free = free; body = Busy; waiting = refl }))
+    if_either (λ (o : Option NodeOf). IfSome o (Answers nodes request part)) (is_setback request.body) None (Some (with_answer part request Busy)) tt
+    (record { lines = keeps_all nodes part.cache; free = free; body = Busy; waiting = refl }))
 
 -- ---- Reply
 
@@ -173,16 +203,21 @@ pub record Accepts (line : ℕ) (old new : NodeOf) : Type 0 where
   pub waiting : new.waiting ≡ old.waiting
 
 accepted : (part : NodeOf) (line : ℕ) (awaits : Bool) (state : Option CacheState) → IfSome state (EndsToWait (line_of part.cache line).state)
-    → IfSome (accepted_by part (elim (if awaits then state else None) as (λ _. Option CacheOf) [ None ↦ None | Some s ↦ Some (with_line part.cache line (line_in (line_of part.cache line) s)) ])) (Accepts line part)
+    → IfSome (accepted_by part (elim (if awaits then state else None) as (λ _. Option CacheOf) [
+      | None ↦ None
+      | Some s ↦ Some (with_line part.cache line (line_in (line_of part.cache line) s))
+    ])) (Accepts line part)
 accepted part line false state ends = tt
 accepted part line true None ends = tt
 accepted part line true (Some s) ends = record {
   waited = ends.waiting;
-  idle = λ below. ap (λ (l : LineState). waits l.state) (get_or-set_same part.cache.lines line (line_in (line_of part.cache line) s) untouched below) ∙ ends.idle;
+  idle = λ below. ap (λ (l : LineState). waits l.state) (get_or-set_same part.cache.lines line (line_in (line_of part.cache line) s) untouched below)
+      ∙ ends.idle;
   others = λ k other. get_or-set_other part.cache.lines line k (line_in (line_of part.cache line) s) untouched other;
   waiting = refl;
 }
 
 pub accept_accepts : (part : NodeOf) (answer : Letter) → IfSome (node_accepting part answer) (Accepts answer.line part)
 accept_accepts part answer =
-    accepted part answer.line (answer.control == last_control (line_of part.cache answer.line)) (accepting (line_of part.cache answer.line).state answer.body) (accepting_waits (line_of part.cache answer.line).state answer.body)
+    accepted part answer.line (answer.control == last_control (line_of part.cache answer.line)) (accepting (line_of part.cache answer.line).state answer.body)
+    (accepting_waits (line_of part.cache answer.line).state answer.body)

@@ -9,7 +9,8 @@ use Rattle.sci_words.specs.Operation.{is_maker}
 use Rattle.sci_words.specs.Stamped.{reply_of}
 use Rattle.sci_packets.specs.declared.body.Body.{Body}
 use Rattle.sci_packets.specs.declared.body.Body.TheVariants as body
-use Rattle.sci_cache.specs.State.{CacheState, Out, Asking, Joining, FreshJoining, Head, FreshHead, Below, Purging, Claiming, Clearing, Returning, Rolling, Telling, Fading, waits}
+use Rattle.sci_cache.specs.State.{CacheState, Out, Asking, Joining, FreshJoining, Head, FreshHead, Below, Purging, Claiming, Clearing, Returning, Rolling}
+use Rattle.sci_cache.specs.State.{Telling, Fading, waits}
 use Rattle.sci_cache.specs.Asking.{Asked, asking}
 use Rattle.sci_cache.specs.Serving.{serving, is_next}
 use Rattle.sci_cache.specs.Accepting.{accepting}
@@ -70,16 +71,27 @@ serving_waits state n body.Cread = same_wait _
 serving_waits (Below f b c) n body.Purge = record { wait = refl; sent = λ home letter h. elim h [ ] }
 serving_waits (Rolling f b c) n body.Purge = record { wait = refl; sent = λ home letter h. (f, h) }
 serving_waits state n body.Purge = same_wait _
-serving_waits (Head f c) n (body.Roll m) = if_either (Waits (Head f c)) (is_next f n) (Head m c, body.Rolled) (Head f c, body.Busy) (record { wait = refl; sent = λ home letter h. elim h [ ] }) (same_wait (Head f c))
-serving_waits (FreshHead f c) n (body.Roll m) = if_either (Waits (FreshHead f c)) (is_next f n) (FreshHead m c, body.Rolled) (FreshHead f c, body.Busy) (record { wait = refl; sent = λ home letter h. elim h [ ] }) (same_wait (FreshHead f c))
-serving_waits (Below f b c) n (body.Roll m) = if_either (Waits (Below f b c)) (is_next f n) (Below m b c, body.Rolled) (Below f b c, body.Busy) (record { wait = refl; sent = λ home letter h. elim h [ ] }) (same_wait (Below f b c))
+serving_waits (Head f c) n (body.Roll m) =
+    if_either (Waits (Head f c)) (is_next f n) (Head m c, body.Rolled) (Head f c, body.Busy) (record { wait = refl; sent = λ home letter h. elim h [ ] })
+    (same_wait (Head f c))
+serving_waits (FreshHead f c) n (body.Roll m) =
+    if_either (Waits (FreshHead f c)) (is_next f n) (FreshHead m c, body.Rolled) (FreshHead f c, body.Busy)
+    (record { wait = refl; sent = λ home letter h. elim h [ ] }) (same_wait (FreshHead f c))
+serving_waits (Below f b c) n (body.Roll m) =
+    if_either (Waits (Below f b c)) (is_next f n) (Below m b c, body.Rolled) (Below f b c, body.Busy)
+    (record { wait = refl; sent = λ home letter h. elim h [ ] }) (same_wait (Below f b c))
 serving_waits state n (body.Roll m) = same_wait _
-serving_waits (Below f b c) n (body.Setback w) = if_either (Waits (Below f b c)) (b == n) (Below f w c, body.Told) (Below f b c, body.Told) (record { wait = refl; sent = λ home letter h. elim h [ ] }) (same_wait (Below f b c))
-serving_waits (Rolling f b c) n (body.Setback w) = if_either (Waits (Rolling f b c)) (b == n) (Rolling f w c, body.Told) (Rolling f b c, body.Told) (record { wait = refl; sent = λ home letter h. h }) (same_wait (Rolling f b c))
+serving_waits (Below f b c) n (body.Setback w) =
+    if_either (Waits (Below f b c)) (b == n) (Below f w c, body.Told) (Below f b c, body.Told) (record { wait = refl; sent = λ home letter h. elim h [ ] })
+    (same_wait (Below f b c))
+serving_waits (Rolling f b c) n (body.Setback w) =
+    if_either (Waits (Rolling f b c)) (b == n) (Rolling f w c, body.Told) (Rolling f b c, body.Told) (record { wait = refl; sent = λ home letter h. h })
+    (same_wait (Rolling f b c))
 serving_waits state n (body.Setback w) = same_wait _
 serving_waits state n _ = tt
 
-loads : (state : CacheState) (makes : Bool) (done : Performed) → KeepsWait state done.next → IfSome (if makes then None else Some done) (λ (d : Performed). KeepsWait state d.next)
+loads : (state : CacheState) (makes : Bool) (done : Performed) → KeepsWait state done.next
+    → IfSome (if makes then None else Some done) (λ (d : Performed). KeepsWait state d.next)
 loads state true done h = tt
 loads state false done h = h
 
@@ -91,9 +103,12 @@ makes_or_loads state false room made read h k = k
 
 pub performing_waits : (state : CacheState) (op : Op) → IfSome (performing state op) (λ (done : Performed). KeepsWait state done.next)
 performing_waits (Head None c) op = grind (arith, makes_or_loads, same_wait)
-performing_waits (Head (Some q) c) op = loads (Head (Some q) c) (is_maker op) (record { reply = reply_of c.line op; version = c.version; next = Head (Some q) c }) (same_wait (Head (Some q) c))
-performing_waits (FreshHead f c) op = loads (FreshHead f c) (is_maker op) (record { reply = reply_of c.line op; version = c.version; next = FreshHead f c }) (same_wait (FreshHead f c))
-performing_waits (Below f b c) op = loads (Below f b c) (is_maker op) (record { reply = reply_of c.line op; version = c.version; next = Below f b c }) (same_wait (Below f b c))
+performing_waits (Head (Some q) c) op =
+    loads (Head (Some q) c) (is_maker op) (record { reply = reply_of c.line op; version = c.version; next = Head (Some q) c }) (same_wait (Head (Some q) c))
+performing_waits (FreshHead f c) op =
+    loads (FreshHead f c) (is_maker op) (record { reply = reply_of c.line op; version = c.version; next = FreshHead f c }) (same_wait (FreshHead f c))
+performing_waits (Below f b c) op =
+    loads (Below f b c) (is_maker op) (record { reply = reply_of c.line op; version = c.version; next = Below f b c }) (same_wait (Below f b c))
 performing_waits _ op = tt
 
 -- ---- accepting
@@ -132,7 +147,8 @@ accepting_waits _ _ = tt
 
 -- ---- the packets of a line
 
-pub keeps_packets : (home : ℕ) (old new : LineState) (packets : List Letter) → Keeps home old new → HasItsPackets home old packets → HasItsPackets home new packets
+pub keeps_packets : (home : ℕ) (old new : LineState) (packets : List Letter) → Keeps home old new → HasItsPackets home old packets
+    → HasItsPackets home new packets
 keeps_packets home old new [] keeps has = keeps.wait ∙ has
 keeps_packets home old new (letter ∷ []) keeps has = grind arith
 keeps_packets home old new (letter ∷ another ∷ letters) keeps has = has

@@ -18,7 +18,10 @@ use Rattle.sci_cache.specs.Performing.{Performed, performing}
 use Rattle.sci_cache.specs.Line.{LineState, untouched, line_in, line_asked, last_control, ask_or_fault}
 use Rattle.sci_cache.specs.Cache.{CacheOf, Letter, line_of, with_line, target_of, letter_asking, cache_asked, has_slot, cache_asking}
 use Rattle.sci_core.specs.declared.pending.Pending.{Pending}
-use Rattle.sci_core.specs.Node.{NodeOf, home_of, home_place, pending_on, may_issue, node_issued, node_issuing, node_logged, entry_of, performed_by, performing_pending, node_performing, asked_by, node_asking, answering, served_at_home, served_in_cache, serving_at_home, serving_in_cache, serving_request, answered_by, node_serving, node_refusing, replied_by, node_replying, accepted_by, node_accepting, lines_of}
+use Rattle.sci_core.specs.Node.{NodeOf, home_of, home_place, pending_on, may_issue, node_issued, node_issuing, node_logged, entry_of, performed_by}
+use Rattle.sci_core.specs.Node.{performing_pending, node_performing, asked_by, node_asking, answering, served_at_home, served_in_cache, serving_at_home}
+use Rattle.sci_core.specs.Node.{serving_in_cache, serving_request, answered_by, node_serving, node_refusing, replied_by, node_replying, accepted_by}
+use Rattle.sci_core.specs.Node.{node_accepting, lines_of}
 use Rattle.sci_core.specs.WellFormed.{IsBelow, NamesNodes, HomeNamesNodes, BodyNamesNodes, IsRequestLetter, IsAnswerLetter, IsPart}
 use Rattle.sci_core.proofs.Basics.Lists.{at_set, if_either}
 use Rattle.sci_core.proofs.Basics.Options.{if_below}
@@ -26,12 +29,14 @@ use Rattle.std.proofs.lemmas.List.Elements.{All-push}
 use Rattle.sci_core.proofs.Step.Caches.{same_line}
 use Rattle.sci_core.proofs.WellFormed.Slots.{GetsSlot, StaysOut, slots_with_line, gets_none, performing_stays, serving_stays, accepting_stays}
 use Rattle.sci_core.proofs.Step.Nodes.{node_with_cache, node_with_homes, node_with_waiting, node_with_issue, node_with_entry}
-use Rattle.sci_core.proofs.WellFormed.Identifiers.{AsksWell, asking_names, ServesWell, serving_names, HomeServesWell, home_names, accepting_names, performing_names}
+use Rattle.sci_core.proofs.WellFormed.Identifiers.{AsksWell, asking_names, ServesWell, serving_names, HomeServesWell, home_names, accepting_names}
+use Rattle.sci_core.proofs.WellFormed.Identifiers.{performing_names}
 use Rattle.sci_core.specs.Size.{Size}
 
 -- ---- parts in which one thing is another
 
-pub part_with_line : (size : Size) (n : ℕ) (part : NodeOf) (line : ℕ) (state : LineState) → NamesNodes size.nodes state.state → state.asks < CONTROLS → GetsSlot part.cache line state.state → IsPart size n part
+pub part_with_line : (size : Size) (n : ℕ) (part : NodeOf) (line : ℕ) (state : LineState) → NamesNodes size.nodes state.state → state.asks < CONTROLS
+    → GetsSlot part.cache line state.state → IsPart size n part
     → IsPart size n (record part { cache = with_line part.cache line state })
 part_with_line size n part line state names small gets is = record {
   few = slots_with_line part.cache line state gets is.few;
@@ -65,13 +70,15 @@ part_with_home size n part place home names is = record {
   homes = at_set (HomeNamesNodes size.nodes) part.homes place home opening_home is.homes names;
 }
 
-pub part_with_waiting : (size : Size) (n : ℕ) (part : NodeOf) (waiting : Option Letter) → IfSome waiting (λ (letter : Letter). IsAnswerLetter size.nodes size.lines letter × (letter.source ≡ n)) → IsPart size n part
+pub part_with_waiting : (size : Size) (n : ℕ) (part : NodeOf) (waiting : Option Letter)
+    → IfSome waiting (λ (letter : Letter). IsAnswerLetter size.nodes size.lines letter × (letter.source ≡ n)) → IsPart size n part
     → IsPart size n (record part { waiting = waiting })
 part_with_waiting size n part waiting answer is = grind (arith, node_with_waiting)
 
 -- ---- the answer to a request
 
-pub answer_letter : (nodes lines n : ℕ) (request : Letter) (answer : Body) → IsRequestLetter nodes lines request → request.target ≡ n → BodyNamesNodes nodes answer → is_request answer ≡ false
+pub answer_letter : (nodes lines n : ℕ) (request : Letter) (answer : Body) → IsRequestLetter nodes lines request → request.target ≡ n
+    → BodyNamesNodes nodes answer → is_request answer ≡ false
     → IsAnswerLetter nodes lines (answering request answer) × ((answering request answer).source ≡ n)
 answer_letter nodes lines n request answer asks to names not_asks = grind arith
 
@@ -93,7 +100,8 @@ issued_part size n part op may is = record {
   fits = node_with_issue part op may is.fits;
 }
 
-issuing_if : (size : Size) (n : ℕ) (part : NodeOf) (op : Op) (may : Bool) → may_issue part op ≡ may → IsPart size n part → IfSome (if may then Some (node_issued part op) else None) (IsPart size n)
+issuing_if : (size : Size) (n : ℕ) (part : NodeOf) (op : Op) (may : Bool) → may_issue part op ≡ may → IsPart size n part
+    → IfSome (if may then Some (node_issued part op) else None) (IsPart size n)
 issuing_if size n part op true e is = issued_part size n part op e is
 issuing_if size n part op false e is = tt
 
@@ -102,7 +110,9 @@ part_issuing size n part op is = issuing_if size n part op (may_issue part op) r
 
 -- ---- Perform
 
-logged_part : (size : Size) (n : ℕ) (part : NodeOf) (line : ℕ) (pending : Pending) (place : ℕ) (state : LineState) (entry : Entry) → pending_on part line ≡ Some pending → NamesNodes size.nodes state.state → state.asks < CONTROLS → GetsSlot part.cache place state.state → entry.node ≡ n → IsPart size n part
+logged_part : (size : Size) (n : ℕ) (part : NodeOf) (line : ℕ) (pending : Pending) (place : ℕ) (state : LineState) (entry : Entry)
+    → pending_on part line ≡ Some pending → NamesNodes size.nodes state.state → state.asks < CONTROLS → GetsSlot part.cache place state.state → entry.node ≡ n
+    → IsPart size n part
     → IsPart size n (node_logged part line (with_line part.cache place state) entry)
 logged_part size n part line pending place state entry at names small gets mine is =
     let changed = part_with_line size n part place state names small gets is in
@@ -121,12 +131,16 @@ logged_part size n part line pending place state entry at names small gets mine 
       own = All-push (λ (e : Entry). e.node ≡ n) part.log entry is.own mine;
     }
 
-performed_part : (size : Size) (n : ℕ) (part : NodeOf) (line : ℕ) (pending : Pending) (done : Option Performed) → pending_on part line ≡ Some pending → IsPart size n part → IfSome done (λ (d : Performed). NamesNodes size.nodes d.next) → IfSome done (λ (d : Performed). StaysOut (line_of part.cache pending.op.line).state d.next)
-    → IfSome (performed_by part line pending (option_map (λ d. (with_line part.cache pending.op.line (line_in (line_of part.cache pending.op.line) d.next), d.reply, d.version)) done))
+performed_part : (size : Size) (n : ℕ) (part : NodeOf) (line : ℕ) (pending : Pending) (done : Option Performed) → pending_on part line ≡ Some pending
+    → IsPart size n part → IfSome done (λ (d : Performed). NamesNodes size.nodes d.next)
+    → IfSome done (λ (d : Performed). StaysOut (line_of part.cache pending.op.line).state d.next)
+    → IfSome (performed_by part line pending
+    (option_map (λ d. (with_line part.cache pending.op.line (line_in (line_of part.cache pending.op.line) d.next), d.reply, d.version)) done))
     (λ (x : NodeOf × Entry). IsPart size n x.0)
 performed_part size n part line pending None at is names stays = tt
 performed_part size n part line pending (Some d) at is names stays =
-    logged_part size n part line pending pending.op.line (line_in (line_of part.cache pending.op.line) d.next) (entry_of part pending d.reply d.version) at names (is.asks pending.op.line) (gets_none part.cache pending.op.line d.next stays) is.me is
+    logged_part size n part line pending pending.op.line (line_in (line_of part.cache pending.op.line) d.next) (entry_of part pending d.reply d.version) at
+    names (is.asks pending.op.line) (gets_none part.cache pending.op.line d.next stays) is.me is
 
 pending_part : (size : Size) (n : ℕ) (part : NodeOf) (line : ℕ) (pending : Option Pending) → pending_on part line ≡ pending → IsPart size n part
     → IfSome (performing_pending part line pending) (λ (x : NodeOf × Entry). IsPart size n x.0)
@@ -155,10 +169,12 @@ home_target : (nodes line : ℕ) (cache : CacheOf) (to : Option ℕ) → cache.n
 home_target nodes line cache None all e = rw all refl
 home_target nodes line cache (Some q) all e = cc
 
-asked_part : (size : Size) (n : ℕ) (part : NodeOf) (line : ℕ) (asked : Asked) → 0 < size.nodes → n < size.nodes → line < size.lines → AsksWell size.nodes asked → GetsSlot part.cache line asked.next → IsPart size n part
+asked_part : (size : Size) (n : ℕ) (part : NodeOf) (line : ℕ) (asked : Asked) → 0 < size.nodes → n < size.nodes → line < size.lines → AsksWell size.nodes asked
+    → GetsSlot part.cache line asked.next → IsPart size n part
     → SendsWell size n (record part { cache = with_line part.cache line (line_asked (line_of part.cache line) asked) }, letter_asking part.cache line asked)
 asked_part size n part line asked some lt below asks gets is = record {
-  next = part_with_line size n part line (line_asked (line_of part.cache line) asked) asks.next (mod-lt ((line_of part.cache line).asks + 1) (omega arith)) gets is;
+  next = part_with_line size n part line (line_asked (line_of part.cache line) asked) asks.next (mod-lt ((line_of part.cache line).asks + 1) (omega arith)) gets
+      is;
   request = record {
     letter_ok = record {
       target = target_below size.nodes line part.cache asked.to some is.all asks.to;
@@ -178,18 +194,22 @@ free_slot true true lack e = refl
 free_slot true false lack e = cc
 free_slot false free lack e = cc
 
-made_part : (size : Size) (n : ℕ) (part : NodeOf) (line : ℕ) (lacks : Bool) (made : Option Asked) → (is_out (line_of part.cache line).state && not (has_slot part.cache)) ≡ lacks → 0 < size.nodes → n < size.nodes → line < size.lines → IfSome made (AsksWell size.nodes) → IsPart size n part
+made_part : (size : Size) (n : ℕ) (part : NodeOf) (line : ℕ) (lacks : Bool) (made : Option Asked)
+    → (is_out (line_of part.cache line).state && not (has_slot part.cache)) ≡ lacks → 0 < size.nodes → n < size.nodes → line < size.lines
+    → IfSome made (AsksWell size.nodes) → IsPart size n part
     → IfSome (asked_by part (cache_asked part.cache line (ask_or_fault made lacks))) (SendsWell size n)
 made_part size n part line lacks None lack some lt below asks is = tt
 made_part size n part line true (Some asked) lack some lt below asks is = tt
-made_part size n part line false (Some asked) lack some lt below asks is = asked_part size n part line asked some lt below asks (λ out gets. free_slot (is_out (line_of part.cache line).state) (has_slot part.cache) lack out) is
+made_part size n part line false (Some asked) lack some lt below asks is =
+    asked_part size n part line asked some lt below asks (λ out gets. free_slot (is_out (line_of part.cache line).state) (has_slot part.cache) lack out) is
 
 pub part_asking : (size : Size) (n : ℕ) (part : NodeOf) (line : ℕ) (kind : AskKind) → 0 < size.nodes → n < size.nodes → IsPart size n part
     → IfSome (node_asking part line kind) (SendsWell size n)
 part_asking size n part line kind some lt is =
     if_below line (lines_of part) (SendsWell size n) (asked_by part (cache_asking part.cache line kind)) (λ below.
     let all = is.each in
-    made_part size n part line (is_out (line_of part.cache line).state && not (has_slot part.cache)) (asking (line_of part.cache line).state kind) refl some lt (omega arith)
+    made_part size n part line (is_out (line_of part.cache line).state && not (has_slot part.cache)) (asking (line_of part.cache line).state kind) refl some lt
+    (omega arith)
     (asking_names size.nodes (line_of part.cache line).state kind (is.states line)) is)
 
 -- ---- Serve
@@ -198,7 +218,8 @@ pub record ServedWell (size : Size) (n : ℕ) (request : Letter) (served : NodeO
   pub next : IsPart size n served.0
   pub answer : IsAnswerLetter size.nodes size.lines (answering request served.1) × ((answering request served.1).source ≡ n)
 
-home_served_part : (size : Size) (n : ℕ) (part : NodeOf) (request : Letter) (served : Option (HomeState × Body)) → IsRequestLetter size.nodes size.lines request → request.target ≡ n → IfSome served (HomeServesWell size.nodes) → IsPart size n part
+home_served_part : (size : Size) (n : ℕ) (part : NodeOf) (request : Letter) (served : Option (HomeState × Body)) → IsRequestLetter size.nodes size.lines request
+    → request.target ≡ n → IfSome served (HomeServesWell size.nodes) → IsPart size n part
     → IfSome (served_at_home part request.line served) (ServedWell size n request)
 home_served_part size n part request None asks to well is = tt
 home_served_part size n part request (Some served) asks to well is = record {
@@ -206,22 +227,29 @@ home_served_part size n part request (Some served) asks to well is = record {
   answer = answer_letter size.nodes size.lines n request served.1 asks to well.names well.answers;
 }
 
-cache_served_part : (size : Size) (n : ℕ) (part : NodeOf) (request : Letter) (served : Option (CacheState × Body)) → IsRequestLetter size.nodes size.lines request → request.target ≡ n → IfSome served (ServesWell size.nodes) → IfSome served (λ (s : CacheState × Body). StaysOut (line_of part.cache request.line).state s.0) → IsPart size n part
-    → IfSome (served_in_cache part (option_map (λ s. (with_line part.cache request.line (line_in (line_of part.cache request.line) s.0), s.1)) served)) (ServedWell size n request)
+cache_served_part : (size : Size) (n : ℕ) (part : NodeOf) (request : Letter) (served : Option (CacheState × Body))
+    → IsRequestLetter size.nodes size.lines request → request.target ≡ n → IfSome served (ServesWell size.nodes)
+    → IfSome served (λ (s : CacheState × Body). StaysOut (line_of part.cache request.line).state s.0) → IsPart size n part
+    → IfSome (served_in_cache part (option_map (λ s. (with_line part.cache request.line (line_in (line_of part.cache request.line) s.0), s.1)) served))
+    (ServedWell size n request)
 cache_served_part size n part request None asks to well stays is = tt
 cache_served_part size n part request (Some served) asks to well stays is = record {
-  next = part_with_line size n part request.line (line_in (line_of part.cache request.line) served.0) well.next (is.asks request.line) (gets_none part.cache request.line served.0 stays) is;
+  next = part_with_line size n part request.line (line_in (line_of part.cache request.line) served.0) well.next (is.asks request.line)
+      (gets_none part.cache request.line served.0 stays) is;
   answer = answer_letter size.nodes size.lines n request served.1 asks to well.names well.answers;
 }
 
-request_part : (size : Size) (n : ℕ) (part : NodeOf) (request : Letter) → IsRequestLetter size.nodes size.lines request → request.target ≡ n → IsPart size n part
+request_part : (size : Size) (n : ℕ) (part : NodeOf) (request : Letter) → IsRequestLetter size.nodes size.lines request → request.target ≡ n
+    → IsPart size n part
     → IfSome (serving_request part request) (ServedWell size n request)
 request_part size n part request asks to is =
-    if_either (λ (o : Option (NodeOf × Body)). IfSome o (ServedWell size n request)) (is_for_home request.body) (serving_at_home part request) (serving_in_cache part request)
+    if_either (λ (o : Option (NodeOf × Body)). IfSome o (ServedWell size n request)) (is_for_home request.body) (serving_at_home part request)
+    (serving_in_cache part request)
     (home_served_part size n part request (serving_at_home_of (home_of part request.line) request.source request.body) asks to
     (home_names size.nodes (home_of part request.line) request.source request.body asks.letter_ok.source (is.homes (home_place part request.line))) is)
     (cache_served_part size n part request (serving (line_of part.cache request.line).state request.source request.body) asks to
-    (serving_names size.nodes (line_of part.cache request.line).state request.source request.body asks.letter_ok.source (is.states request.line) asks.letter_ok.names)
+    (serving_names size.nodes (line_of part.cache request.line).state request.source request.body asks.letter_ok.source (is.states request.line)
+    asks.letter_ok.names)
     (serving_stays (line_of part.cache request.line).state request.source request.body) is)
 
 answered_part : (size : Size) (n : ℕ) (request : Letter) (served : Option (NodeOf × Body)) → IfSome served (ServedWell size n request)
@@ -229,13 +257,15 @@ answered_part : (size : Size) (n : ℕ) (request : Letter) (served : Option (Nod
 answered_part size n request None well = tt
 answered_part size n request (Some served) well = part_with_waiting size n served.0 (Some (answering request served.1)) well.answer well.next
 
-pub part_serving : (size : Size) (n : ℕ) (part : NodeOf) (request : Letter) → IsRequestLetter size.nodes size.lines request → request.target ≡ n → IsPart size n part
+pub part_serving : (size : Size) (n : ℕ) (part : NodeOf) (request : Letter) → IsRequestLetter size.nodes size.lines request → request.target ≡ n
+    → IsPart size n part
     → IfSome (node_serving part request) (IsPart size n)
 part_serving size n part request asks to is = grind (arith, if_either, answered_part, request_part)
 
 -- ---- Refuse
 
-pub part_refusing : (size : Size) (n : ℕ) (part : NodeOf) (request : Letter) → IsRequestLetter size.nodes size.lines request → request.target ≡ n → IsPart size n part
+pub part_refusing : (size : Size) (n : ℕ) (part : NodeOf) (request : Letter) → IsRequestLetter size.nodes size.lines request → request.target ≡ n
+    → IsPart size n part
     → IfSome (node_refusing part request) (IsPart size n)
 part_refusing size n part request asks to is = grind (arith, if_either, part_with_waiting, answer_letter)
 
@@ -246,7 +276,8 @@ pub record RepliesWell (size : Size) (n : ℕ) (sent : NodeOf × Letter) : Type 
   pub answer : IsAnswerLetter size.nodes size.lines sent.1
   pub from : sent.1.source ≡ n
 
-replied_part : (size : Size) (n : ℕ) (part : NodeOf) (waiting : Option Letter) → IfSome waiting (λ (letter : Letter). IsAnswerLetter size.nodes size.lines letter × (letter.source ≡ n)) → IsPart size n part
+replied_part : (size : Size) (n : ℕ) (part : NodeOf) (waiting : Option Letter)
+    → IfSome waiting (λ (letter : Letter). IsAnswerLetter size.nodes size.lines letter × (letter.source ≡ n)) → IsPart size n part
     → IfSome (replied_by part waiting) (RepliesWell size n)
 replied_part size n part None h is = tt
 replied_part size n part (Some letter) h is = record { next = part_with_waiting size n part None tt is; answer = h.0; from = h.1 }
@@ -256,15 +287,21 @@ part_replying size n part is = replied_part size n part part.waiting is.answer i
 
 -- ---- Accept
 
-accepted_part : (size : Size) (n : ℕ) (part : NodeOf) (line : ℕ) (awaited : Bool) (state : Option CacheState) → IfSome state (NamesNodes size.nodes) → IfSome state (λ (s : CacheState). StaysOut (line_of part.cache line).state s) → IsPart size n part
-    → IfSome (accepted_by part (elim (if awaited then state else None) as (λ _. Option CacheOf) [ None ↦ None | Some s ↦ Some (with_line part.cache line (line_in (line_of part.cache line) s)) ])) (IsPart size n)
+accepted_part : (size : Size) (n : ℕ) (part : NodeOf) (line : ℕ) (awaited : Bool) (state : Option CacheState) → IfSome state (NamesNodes size.nodes)
+    → IfSome state (λ (s : CacheState). StaysOut (line_of part.cache line).state s) → IsPart size n part
+    → IfSome (accepted_by part (elim (if awaited then state else None) as (λ _. Option CacheOf) [
+      | None ↦ None
+      | Some s ↦ Some (with_line part.cache line (line_in (line_of part.cache line) s))
+    ])) (IsPart size n)
 accepted_part size n part line false state names stays is = tt
 accepted_part size n part line true None names stays is = tt
-accepted_part size n part line true (Some s) names stays is = part_with_line size n part line (line_in (line_of part.cache line) s) names (is.asks line) (gets_none part.cache line s stays) is
+accepted_part size n part line true (Some s) names stays is =
+    part_with_line size n part line (line_in (line_of part.cache line) s) names (is.asks line) (gets_none part.cache line s stays) is
 
 pub part_accepting : (size : Size) (n : ℕ) (part : NodeOf) (answer : Letter) → IsAnswerLetter size.nodes size.lines answer → IsPart size n part
     → IfSome (node_accepting part answer) (IsPart size n)
 part_accepting size n part answer answers is =
-    accepted_part size n part answer.line (answer.control == last_control (line_of part.cache answer.line)) (accepting (line_of part.cache answer.line).state answer.body)
+    accepted_part size n part answer.line (answer.control == last_control (line_of part.cache answer.line))
+    (accepting (line_of part.cache answer.line).state answer.body)
     (accepting_names size.nodes (line_of part.cache answer.line).state answer.body (is.states answer.line) answers.letter_ok.names)
     (accepting_stays (line_of part.cache answer.line).state answer.body) is

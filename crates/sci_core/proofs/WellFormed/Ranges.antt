@@ -1,5 +1,6 @@
 -- In every reached state words are below 2^64, and versions no more than the operations that may be issued.
-use Rattle.std.proofs.Common.{◌≡◌, ℕ, zero, suc, ◌+◌, ◌*◌, ◌^◌, ◌<◌, ◌≤◌, List, [], ◌∷◌, All, length, map, filter, get_or, replicate, length-set, length-append, refl, sym, ap, subst, ◌∙◌, arith, inl, inr}
+use Rattle.std.proofs.Common.{◌≡◌, ℕ, zero, suc, ◌+◌, ◌*◌, ◌^◌, ◌<◌, ◌≤◌, List, [], ◌∷◌, All, length, map, filter, get_or, replicate, length-set, length-append}
+use Rattle.std.proofs.Common.{refl, sym, ap, subst, ◌∙◌, arith, inl, inr}
 use Rattle.std.specs.Prelude.{◌==◌, ◌&&◌, bit_and, IsTrue}
 use Rattle.std.specs.Int.{bit_not, w64}
 use Rattle.std.specs.List.{AllByRecursion, flat_map, range_with_len}
@@ -71,7 +72,8 @@ act_gives (Lock lock) old fits lt = (lock_fits lock old fits lt, lt)
 abbrev pub HasWords : Entry → Type 0
 HasWords entry = (entry.op.word < WORDS_PER_LINE) × IsTrue (has_words entry.op.act)
 
-op_gives : (words : List ℕ) (op : Op) → IsLine words → op.word < WORDS_PER_LINE → IsTrue (has_words op.act) → ((effect_of_act op.act (get_or words op.word 0)).0 < 2 ^ 64) × IsReply (effect_of_act op.act (get_or words op.word 0)).1
+op_gives : (words : List ℕ) (op : Op) → IsLine words → op.word < WORDS_PER_LINE → IsTrue (has_words op.act)
+    → ((effect_of_act op.act (get_or words op.word 0)).0 < 2 ^ 64) × IsReply (effect_of_act op.act (get_or words op.word 0)).1
 op_gives words op line lt fits = let long = line.eight in act_gives op.act (get_or words op.word 0) fits (line.words_fit op.word 0 (omega arith))
 
 line_fits : (words : List ℕ) (op : Op) → IsLine words → op.word < WORDS_PER_LINE → IsTrue (has_words op.act) → IsLine (line_after words op)
@@ -80,9 +82,11 @@ line_fits words op line lt fits = record {
   words_fit = All-set (λ word. word < 2 ^ 64) words op.word (effect_of_act op.act (get_or words op.word 0)).0 (op_gives words op line lt fits).0 line.words_fit;
 }
 
-pub history_fits : (entries : List Entry) (c d : Stamped) → IsHistory entries c d → IsLine c.line → AllByRecursion HasWords entries → IsLine d.line × AllByRecursion (λ entry. IsReply entry.reply) entries
+pub history_fits : (entries : List Entry) (c d : Stamped) → IsHistory entries c d → IsLine c.line → AllByRecursion HasWords entries
+    → IsLine d.line × AllByRecursion (λ entry. IsReply entry.reply) entries
 history_fits [] c d history line all = (subst (λ (s : Stamped). IsLine s.line) (sym history) line, tt)
-history_fits (entry ∷ entries) c d history line all = grind (arith, op_gives, line_fits, history_fits entries (after c entry.op) d history.2 (line_fits c.line entry.op line all.0.0 all.0.1) all.1)
+history_fits (entry ∷ entries) c d history line all =
+    grind (arith, op_gives, line_fits, history_fits entries (after c entry.op) d history.2 (line_fits c.line entry.op line all.0.0 all.0.1) all.1)
 
 zeros_fit : (count : ℕ) → AllByRecursion (λ (word : ℕ). word < 2 ^ 64) (replicate count 0)
 zeros_fit zero = tt
@@ -93,7 +97,8 @@ zero_is_line = record { eight = refl; words_fit = All-from_recursion (λ (word :
 
 -- ---- how many versions
 
-flat_short : (logs : List (List Entry)) → AllByRecursion (λ log. length log ≤ MAX_OPERATIONS) logs → length (flat_map (λ (log : List Entry). log) logs) ≤ length logs * MAX_OPERATIONS
+flat_short : (logs : List (List Entry)) → AllByRecursion (λ log. length log ≤ MAX_OPERATIONS) logs
+    → length (flat_map (λ (log : List Entry). log) logs) ≤ length logs * MAX_OPERATIONS
 flat_short [] all = omega arith
 flat_short (log ∷ logs) all =
     let rest = flat_short logs all.1 in
@@ -111,10 +116,12 @@ no_log core node well past = grind (arith, get_or_past)
 pub log_short : (core : Core) (node : ℕ) → IsWellFormed core → core.size.limit ≤ MAX_OPERATIONS → length (node_at core node).log ≤ MAX_OPERATIONS
 log_short core node well few = grind (arith, cases_lt, short_log, no_log)
 
-makers_few : (core : Core) (line : ℕ) → IsWellFormed core → core.size.limit ≤ MAX_OPERATIONS → maker_count (on_line line (logs_of core)) ≤ MAX_NODES * MAX_OPERATIONS
+makers_few : (core : Core) (line : ℕ) → IsWellFormed core → core.size.limit ≤ MAX_OPERATIONS
+    → maker_count (on_line line (logs_of core)) ≤ MAX_NODES * MAX_OPERATIONS
 makers_few core line well most =
     let logs = logs_of core in
-    let each = all_mapped (λ (log : List Entry). length log ≤ MAX_OPERATIONS) (λ (n : ℕ). (node_at core n).log) MAX_NODES (λ n lt. log_short core n well most) in
+    let each = all_mapped (λ (log : List Entry). length log ≤ MAX_OPERATIONS) (λ (n : ℕ). (node_at core n).log) MAX_NODES
+    (λ n lt. log_short core n well most) in
     let all = flat_short logs (recursion_from_All (λ (log : List Entry). length log ≤ MAX_OPERATIONS) logs each) in
     let sixteen : length logs ≡ 16 = length-map-range_with_len (λ (n : ℕ). (node_at core n).log) 0 16 in
     let flat = flat_map (λ (log : List Entry). log) logs in
@@ -126,8 +133,10 @@ makers_few core line well most =
 -- ---- the last contents, and each entry
 
 -- the version of each line is the number of its makers
-pub last_counts : (core : Core) (line : ℕ) → IsReachable core → core.size.nodes ≤ MAX_NODES → line < core.size.lines → (last_at core line).version ≡ maker_count (on_line line (logs_of core))
-last_counts core line reached few inside = ap (λ (s : Stamped). s.version) (sym (last_within core line inside)) ∙ (any_lawful core reached few line).contents.version
+pub last_counts : (core : Core) (line : ℕ) → IsReachable core → core.size.nodes ≤ MAX_NODES → line < core.size.lines
+    → (last_at core line).version ≡ maker_count (on_line line (logs_of core))
+last_counts core line reached few inside =
+    ap (λ (s : Stamped). s.version) (sym (last_within core line inside)) ∙ (any_lawful core reached few line).contents.version
 
 record LineIsRight (core : Core) (entries : List Entry) (line : ℕ) : Type 0 where
   pub last : IsStamped (last_at core line)
@@ -148,7 +157,8 @@ line_right core reached line inside =
     record {
       last = record { line = right.0; version = most };
       replies = right.1;
-      versions = all_weaker (λ (entry : Entry). entry.version ≤ last.version) (λ entry. entry.version ≤ MAX_NODES * MAX_OPERATIONS) (λ entry le. omega arith) on (versions-within on zero_stamped last history);
+      versions = all_weaker (λ (entry : Entry). entry.version ≤ last.version) (λ entry. entry.version ≤ MAX_NODES * MAX_OPERATIONS) (λ entry le. omega arith) on
+          (versions-within on zero_stamped last history);
     }
 
 pub reached_contents : (core : Core) (line : ℕ) → IsReached core → line < core.size.lines → IsStamped (last_at core line)
@@ -156,16 +166,21 @@ reached_contents core line reached inside = (line_right core reached line inside
 
 -- ---- from each line to all
 
-head_of_line : (P : Entry → Type 0) (line : ℕ) (entry : Entry) (entries : List Entry) → entry.op.line ≡ line → AllByRecursion P (filter (is_on_line line) (entry ∷ entries)) → P entry × AllByRecursion P (filter (is_on_line line) entries)
+head_of_line : (P : Entry → Type 0) (line : ℕ) (entry : Entry) (entries : List Entry) → entry.op.line ≡ line
+    → AllByRecursion P (filter (is_on_line line) (entry ∷ entries)) → P entry × AllByRecursion P (filter (is_on_line line) entries)
 head_of_line P line entry entries here all = subst (AllByRecursion P) (filter_yes (is_on_line line) entry entries (eq-eqb entry.op.line line here)) all
 
-rest_of_line : (P : Entry → Type 0) (line : ℕ) (entry : Entry) (entries : List Entry) → AllByRecursion P (filter (is_on_line line) (entry ∷ entries)) → AllByRecursion P (filter (is_on_line line) entries)
+rest_of_line : (P : Entry → Type 0) (line : ℕ) (entry : Entry) (entries : List Entry) → AllByRecursion P (filter (is_on_line line) (entry ∷ entries))
+    → AllByRecursion P (filter (is_on_line line) entries)
 rest_of_line P line entry entries all = grind (arith, cases_eq, head_of_line, filter_no, ne_eqb)
 
-pub from_lines : (P : Entry → Type 0) (lines : ℕ) (entries : List Entry) → AllByRecursion (λ entry. entry.op.line < lines) entries → ((line : ℕ) → line < lines → AllByRecursion P (filter (is_on_line line) entries)) → AllByRecursion P entries
+pub from_lines : (P : Entry → Type 0) (lines : ℕ) (entries : List Entry) → AllByRecursion (λ entry. entry.op.line < lines) entries
+    → ((line : ℕ) → line < lines → AllByRecursion P (filter (is_on_line line) entries)) → AllByRecursion P entries
 from_lines P lines [] within each = tt
-from_lines P lines (entry ∷ entries) within each =
-    ((head_of_line P entry.op.line entry entries refl (each entry.op.line within.0)).0, from_lines P lines entries within.1 (λ line lt. rest_of_line P line entry entries (each line lt)))
+from_lines P lines (entry ∷ entries) within each = (
+  (head_of_line P entry.op.line entry entries refl (each entry.op.line within.0)).0,
+  from_lines P lines entries within.1 (λ line lt. rest_of_line P line entry entries (each line lt)),
+)
 
 -- what is right in an entry beside its serial
 record IsRight (size : Size) (entry : Entry) : Type 0 where
@@ -186,8 +201,10 @@ made_right core reached =
     let versions = from_lines Versions size.lines entries on (λ line lt. (line_right core reached line lt).versions) in
     let Nodes = λ (entry : Entry). entry.node < size.nodes in
     let Known = IsKnown size.lines in
-    all_weaker (λ entry. (Nodes entry × Known entry) × (Replies entry × Versions entry)) (IsRight size) (λ entry h. record { node = h.0.0; known = h.0.1; reply = h.1.0; version = h.1.1 }) entries
-    (all_both (λ entry. Nodes entry × Known entry) (λ entry. Replies entry × Versions entry) entries (all_both Nodes Known entries logged.nodes logged.known) (all_both Replies Versions entries replies versions))
+    all_weaker (λ entry. (Nodes entry × Known entry) × (Replies entry × Versions entry)) (IsRight size)
+    (λ entry h. record { node = h.0.0; known = h.0.1; reply = h.1.0; version = h.1.1 }) entries
+    (all_both (λ entry. Nodes entry × Known entry) (λ entry. Replies entry × Versions entry) entries (all_both Nodes Known entries logged.nodes logged.known)
+    (all_both Replies Versions entries replies versions))
 
 -- each entry of a node's log
 pub reached_entries : (core : Core) (node : ℕ) → IsReached core → AllByRecursion (IsEntryOf core.size) (node_at core node).log
@@ -196,14 +213,16 @@ reached_entries core node reached =
     let well = reached_well core reached in
     let log = (node_at core node).log in
     let entries = done size reached.schedule in
-    let right = subst (AllByRecursion (IsRight size)) (sym (reached_log core reached node)) (all-filter (IsRight size) (is_of_node node) entries (made_right core reached)) in
+    let right = subst (AllByRecursion (IsRight size)) (sym (reached_log core reached node))
+    (all-filter (IsRight size) (is_of_node node) entries (made_right core reached)) in
     let Serial = λ (entry : Entry). entry.serial < size.limit in
     let serials : AllByRecursion Serial log = elim (cases_lt node size.nodes) [
       | inl lt ↦
           let part = well.each_part node lt in
           let issued = part.fits.issued in
           let most = part.most in
-          all_weaker (λ (entry : Entry). entry.serial < (node_at core node).issued) Serial (λ entry below. omega arith) log ((reached_logged core reached).serials node).below
+          all_weaker (λ (entry : Entry). entry.serial < (node_at core node).issued) Serial (λ entry below. omega arith) log
+          ((reached_logged core reached).serials node).below
       | inr past ↦ subst (AllByRecursion Serial) (sym (no_log core node well past)) tt
     ] in
     all_weaker (λ entry. IsRight size entry × Serial entry) (IsEntryOf size) (λ entry h. record {

@@ -1,5 +1,6 @@
 -- Every step leaves a state well formed, and keeps the machine's sizes. So every reached state is.
-use Rattle.std.proofs.Common.{◌≡◌, ℕ, ◌+◌, ◌*◌, ◌/◌, ◌<◌, List, [], ◌∷◌, ◌++◌, replicate, cond, not, Option, Some, None, refl, sym, ap, subst, ◌∙◌, inl, inr, arith}
+use Rattle.std.proofs.Common.{◌≡◌, ℕ, ◌+◌, ◌*◌, ◌/◌, ◌<◌, List, [], ◌∷◌, ◌++◌, replicate, cond, not, Option, Some, None, refl, sym, ap, subst, ◌∙◌, inl, inr}
+use Rattle.std.proofs.Common.{arith}
 use Rattle.std.specs.Prelude.{IfSome, unwrap_or, Result, Ok, Err, IfOk, IsErr}
 use Rattle.std.specs.List.{All}
 use Rattle.std.proofs.lemmas.Bool.{cases_lt}
@@ -18,7 +19,8 @@ use Rattle.sci_cache.specs.Cache.{Letter, slots_taken}
 use Rattle.sci_core.specs.declared.lane.LaneKind.{LaneKind}
 use Rattle.sci_core.specs.declared.lane.LaneKind.TheVariants.{Requests, Answers}
 use Rattle.sci_core.specs.Node.{NodeOf, opening_node, node_issuing, node_performing, node_asking, node_replying, no_node}
-use Rattle.sci_core.specs.Core.{Core, with_node, lane_place, lane_of, with_lane, Side, Idle, Changes, Sends, Takes, changes, performs, sends, side, node_of, sent_by, taken_as, taken_from, step_by, stepping, step, opening, run_from, run}
+use Rattle.sci_core.specs.Core.{Core, with_node, lane_place, lane_of, with_lane, Side, Idle, Changes, Sends, Takes, changes, performs, sends, side, node_of}
+use Rattle.sci_core.specs.Core.{sent_by, taken_as, taken_from, step_by, stepping, step, opening, run_from, run}
 use Rattle.sci_core.specs.Reached.{IsReachable, IsReachableNode, IsReached, IsReachedNode}
 use Rattle.sci_core.specs.WellFormed.{NamesNodes, HomeNamesNodes, IsRequestLetter, IsAnswerLetter, IsInLane, IsPart, IsWellFormed}
 use Rattle.sci_words.specs.declared.limits.TheConstants.{CONTROLS}
@@ -26,7 +28,8 @@ use Rattle.sci_core.proofs.Step.Nodes.{opening_is_node}
 use Rattle.sci_core.proofs.Basics.Lists.{at_place_set}
 use Rattle.sci_core.proofs.Basics.Options.{if_below}
 use Rattle.sci_core.proofs.Step.Places.{place_to, place_from, place_requests, place_answers}
-use Rattle.sci_core.proofs.WellFormed.Parts.{SendsWell, RepliesWell, part_issuing, part_performing, part_asking, part_serving, part_refusing, part_replying, part_accepting}
+use Rattle.sci_core.proofs.WellFormed.Parts.{SendsWell, RepliesWell, part_issuing, part_performing, part_asking, part_serving, part_refusing, part_replying}
+use Rattle.sci_core.proofs.WellFormed.Parts.{part_accepting}
 use Rattle.sci_core.specs.Size.{Size}
 use Rattle.sci_core.specs.Size.{IsSize, IsMachineSize}
 
@@ -47,7 +50,8 @@ well_with_node core n next is well = record {
   each_lane = well.each_lane;
 }
 
-well_with_lane : (core : Core) (place : ℕ) (lane : List Letter) → All (IsInLane core.size.nodes core.size.lines place) lane → IsWellFormed core → IsWellFormed (with_lane core place lane)
+well_with_lane : (core : Core) (place : ℕ) (lane : List Letter) → All (IsInLane core.size.nodes core.size.lines place) lane → IsWellFormed core
+    → IsWellFormed (with_lane core place lane)
 well_with_lane core place lane all well = record {
   sizes = record {
     some_node = well.sizes.some_node;
@@ -79,7 +83,8 @@ IsWellSide core n (Changes next) = IsPartOf core n next
 IsWellSide core n (Sends kind next letter) = IsPartOf core n next × IsSent core n kind letter
 IsWellSide core n (Takes kind from taking) = (letter : Letter) → Comes core n kind letter → IfSome (taking letter) (IsPartOf core n)
 
-in_lane_sent : (core : Core) (n : ℕ) (kind : LaneKind) (letter : Letter) → n < core.size.nodes → IsSent core n kind letter → IsInLane core.size.nodes core.size.lines (lane_place core.size.nodes kind n letter.target) letter
+in_lane_sent : (core : Core) (n : ℕ) (kind : LaneKind) (letter : Letter) → n < core.size.nodes → IsSent core n kind letter
+    → IsInLane core.size.nodes core.size.lines (lane_place core.size.nodes kind n letter.target) letter
 in_lane_sent core n Requests letter lt sent = record {
   from = sent.1 ∙ sym (place_from core.size.nodes Requests n letter.target lt sent.0.letter_ok.target);
   to = sym (place_to core.size.nodes Requests n letter.target sent.0.letter_ok.target);
@@ -93,17 +98,22 @@ in_lane_sent core n Answers letter lt sent = record {
   answer = λ _. sent.0;
 }
 
-pub comes_from_lane : (core : Core) (from n : ℕ) (kind : LaneKind) (letter : Letter) → from < core.size.nodes → n < core.size.nodes → IsInLane core.size.nodes core.size.lines (lane_place core.size.nodes kind from n) letter → Comes core n kind letter
-comes_from_lane core from n Requests letter f lt is = (is.request (place_requests core.size.nodes from n f lt), is.to ∙ place_to core.size.nodes Requests from n lt)
+pub comes_from_lane : (core : Core) (from n : ℕ) (kind : LaneKind) (letter : Letter) → from < core.size.nodes → n < core.size.nodes
+    → IsInLane core.size.nodes core.size.lines (lane_place core.size.nodes kind from n) letter → Comes core n kind letter
+comes_from_lane core from n Requests letter f lt is =
+    (is.request (place_requests core.size.nodes from n f lt), is.to ∙ place_to core.size.nodes Requests from n lt)
 comes_from_lane core from n Answers letter f lt is = (is.answer (place_answers core.size.nodes from n), is.to ∙ place_to core.size.nodes Answers from n lt)
 
-sent_well : (core : Core) (n : ℕ) (kind : LaneKind) (next : NodeOf) (letter : Letter) → n < core.size.nodes → IsPartOf core n next → IsSent core n kind letter → IsWellFormed core → IsWellFormed (sent_by core n kind next letter)
+sent_well : (core : Core) (n : ℕ) (kind : LaneKind) (next : NodeOf) (letter : Letter) → n < core.size.nodes → IsPartOf core n next → IsSent core n kind letter
+    → IsWellFormed core → IsWellFormed (sent_by core n kind next letter)
 sent_well core n kind next letter lt is sent well =
     well_with_lane (with_node core n next) (lane_place core.size.nodes kind n letter.target) (lane_of core kind n letter.target ++ letter ∷ [])
-    (All-push (IsInLane core.size.nodes core.size.lines (lane_place core.size.nodes kind n letter.target)) (lane_of core kind n letter.target) letter (well.each_lane (lane_place core.size.nodes kind n letter.target)) (in_lane_sent core n kind letter lt sent))
+    (All-push (IsInLane core.size.nodes core.size.lines (lane_place core.size.nodes kind n letter.target)) (lane_of core kind n letter.target) letter
+    (well.each_lane (lane_place core.size.nodes kind n letter.target)) (in_lane_sent core n kind letter lt sent))
     (well_with_node core n next is well)
 
-taken_as_well : (core : Core) (n place : ℕ) (rest : List Letter) (taken : Option NodeOf) → IfSome taken (IsPartOf core n) → All (IsInLane core.size.nodes core.size.lines place) rest → IsWellFormed core
+taken_as_well : (core : Core) (n place : ℕ) (rest : List Letter) (taken : Option NodeOf) → IfSome taken (IsPartOf core n)
+    → All (IsInLane core.size.nodes core.size.lines place) rest → IsWellFormed core
     → IfSome (taken_as core n place rest taken) (StepsWell core)
 taken_as_well core n place rest None is all well = tt
 taken_as_well core n place rest (Some next) is all well = record {
@@ -116,7 +126,8 @@ taken_from_well : (core : Core) (n place : ℕ) (taking : Letter → Option Node
     → IfSome (taken_from core n place taking lane) (StepsWell core)
 taken_from_well core n place taking [] all takes well = tt
 taken_from_well core n place taking (letter ∷ rest) all takes well =
-    taken_as_well core n place rest (taking letter) (takes letter (All-head (IsInLane core.size.nodes core.size.lines place) letter rest all)) (All-tail (IsInLane core.size.nodes core.size.lines place) letter rest all) well
+    taken_as_well core n place rest (taking letter) (takes letter (All-head (IsInLane core.size.nodes core.size.lines place) letter rest all))
+    (All-tail (IsInLane core.size.nodes core.size.lines place) letter rest all) well
 
 step_by_well : (core : Core) (n : ℕ) (s : Side) → n < core.size.nodes → IsWellSide core n s → IsWellFormed core → IfSome (step_by core n s) (StepsWell core)
 step_by_well core n Idle lt is well = tt
@@ -133,7 +144,8 @@ changes_well : (core : Core) (n : ℕ) (next : Option NodeOf) → IfSome next (I
 changes_well core n None is = tt
 changes_well core n (Some next) is = is
 
-performs_well : (core : Core) (n : ℕ) (done : Option (NodeOf × Entry)) → IfSome done (λ (x : NodeOf × Entry). IsPartOf core n x.0) → IsWellSide core n (performs done)
+performs_well : (core : Core) (n : ℕ) (done : Option (NodeOf × Entry)) → IfSome done (λ (x : NodeOf × Entry). IsPartOf core n x.0)
+    → IsWellSide core n (performs done)
 performs_well core n None is = tt
 performs_well core n (Some done) is = is
 
@@ -145,7 +157,8 @@ replies_well : (core : Core) (n : ℕ) (sent : Option (NodeOf × Letter)) → If
 replies_well core n None is = tt
 replies_well core n (Some sent) is = (is.next, (is.answer, is.from))
 
-pub side_well : (core : Core) (part : NodeOf) (e : Event) → 0 < core.size.nodes → node_of e < core.size.nodes → IsPartOf core (node_of e) part → IsWellSide core (node_of e) (side part e)
+pub side_well : (core : Core) (part : NodeOf) (e : Event) → 0 < core.size.nodes → node_of e < core.size.nodes → IsPartOf core (node_of e) part
+    → IsWellSide core (node_of e) (side part e)
 side_well core part (event.Issue n op) some lt is = changes_well core n (node_issuing part op) (part_issuing core.size n part op is)
 side_well core part (event.Perform n line) some lt is = performs_well core n (node_performing part line) (part_performing core.size n part line is)
 side_well core part (event.Ask n line kind) some lt is = asks_well core n (node_asking part line kind) (part_asking core.size n part line kind some lt is)
@@ -183,7 +196,8 @@ opening_part : (me : ℕ) (size : Size) → 0 < size.nodes → IsPart size me (o
 opening_part me size some = record {
   fits = opening_is_node me size some;
   own = All-nil (λ (e : Entry). e.node ≡ me);
-  few = let none : slots_taken (replicate size.lines untouched) ≡ size.lines * 0 = sum_by-replicate (λ (l : LineState). cond {A = ℕ} (not (is_out l.state)) 1 0) size.lines untouched in omega (arith, none);
+  few = let none : slots_taken (replicate size.lines untouched) ≡ size.lines * 0 =
+      sum_by-replicate (λ (l : LineState). cond {A = ℕ} (not (is_out l.state)) 1 0) size.lines untouched in omega (arith, none);
   me = refl;
   all = refl;
   room = refl;
@@ -191,15 +205,18 @@ opening_part me size some = record {
   most = refl;
   states = λ line. elim (cases_lt line size.lines) [
     | inl below ↦ subst (λ (l : LineState). NamesNodes size.nodes l.state) (sym (get_or-replicate size.lines line untouched untouched below)) tt
-    | inr past ↦ subst (λ (l : LineState). NamesNodes size.nodes l.state) (sym (get_or_past (replicate size.lines untouched) line untouched (rw length-replicate past))) tt
+    | inr past ↦ subst (λ (l : LineState). NamesNodes size.nodes l.state)
+        (sym (get_or_past (replicate size.lines untouched) line untouched (rw length-replicate past))) tt
   ];
   asks = λ line. elim (cases_lt line size.lines) [
     | inl below ↦ subst (λ (l : LineState). l.asks < CONTROLS) (sym (get_or-replicate size.lines line untouched untouched below)) (omega arith)
-    | inr past ↦ subst (λ (l : LineState). l.asks < CONTROLS) (sym (get_or_past (replicate size.lines untouched) line untouched (rw length-replicate past))) (omega arith)
+    | inr past ↦ subst (λ (l : LineState). l.asks < CONTROLS) (sym (get_or_past (replicate size.lines untouched) line untouched (rw length-replicate past)))
+        (omega arith)
   ];
   homes = λ place. elim (cases_lt place (size.lines / size.nodes + 1)) [
     | inl below ↦ subst (HomeNamesNodes size.nodes) (sym (get_or-replicate (size.lines / size.nodes + 1) place opening_home opening_home below)) tt
-    | inr past ↦ subst (HomeNamesNodes size.nodes) (sym (get_or_past (replicate (size.lines / size.nodes + 1) opening_home) place opening_home (rw length-replicate past))) tt
+    | inr past ↦ subst (HomeNamesNodes size.nodes)
+        (sym (get_or_past (replicate (size.lines / size.nodes + 1) opening_home) place opening_home (rw length-replicate past))) tt
   ];
   answer = tt;
 }
@@ -211,17 +228,25 @@ opening_well size some = record {
     parts_long = length-map-range_with_len (λ (n : ℕ). opening_node n size) 0 size.nodes;
     lanes_long = length-replicate (2 * size.nodes * size.nodes) [];
   };
-  each_part = λ n lt. subst (IsPart size n) (sym (get_or-map-range_with_len (λ (m : ℕ). opening_node m size) 0 size.nodes n n no_node lt (omega arith))) (opening_part n size some);
+  each_part = λ n lt. subst (IsPart size n) (sym (get_or-map-range_with_len (λ (m : ℕ). opening_node m size) 0 size.nodes n n no_node lt (omega arith)))
+      (opening_part n size some);
   each_lane = λ place. elim (cases_lt place (2 * size.nodes * size.nodes)) [
-    | inl below ↦ subst (All (IsInLane size.nodes size.lines place)) (sym (get_or-replicate (2 * size.nodes * size.nodes) place [] [] below)) (All-nil (IsInLane size.nodes size.lines place))
-    | inr past ↦ subst (All (IsInLane size.nodes size.lines place)) (sym (get_or_past (replicate (2 * size.nodes * size.nodes) []) place [] (rw length-replicate past))) (All-nil (IsInLane size.nodes size.lines place))
+    | inl below ↦ subst (All (IsInLane size.nodes size.lines place)) (sym (get_or-replicate (2 * size.nodes * size.nodes) place [] [] below))
+        (All-nil (IsInLane size.nodes size.lines place))
+    | inr past ↦ subst (All (IsInLane size.nodes size.lines place))
+        (sym (get_or_past (replicate (2 * size.nodes * size.nodes) []) place [] (rw length-replicate past))) (All-nil (IsInLane size.nodes size.lines place))
   ];
 }
 
 -- ---- where a schedule leads
 
 pub is_size : (size : Size) → IsMachineSize size → IsSize size
-is_size size sizes = record { has_node = sizes.extent.has_node; has_line = sizes.extent.has_line; has_slot = sizes.extent.has_slot; has_operation = sizes.some_operation }
+is_size size sizes = record {
+  has_node = sizes.extent.has_node;
+  has_line = sizes.extent.has_line;
+  has_slot = sizes.extent.has_slot;
+  has_operation = sizes.some_operation;
+}
 
 abbrev pub reachable : (core : Core) → IsReached core → IsReachable core
 reachable core reached = record { size = is_size core.size reached.size; schedule = reached.schedule; leads = reached.leads }
@@ -241,7 +266,8 @@ reachable_stepping core next e reached steps =
     let kept = subst (λ (o : Option Core). IfSome o (StepsWell core)) steps (stepping_well core e (any_well core reached)) in
     let all = reached.schedule ++ e ∷ [] in
     let leads : run core.size all ≡ next =
-    fold-append step (opening core.size) reached.schedule (e ∷ []) ∙ (ap (λ (k : Core). step k e) reached.leads ∙ ap (λ (o : Option Core). unwrap_or o core) steps) in
+    fold-append step (opening core.size) reached.schedule (e ∷ [])
+    ∙ (ap (λ (k : Core). step k e) reached.leads ∙ ap (λ (o : Option Core). unwrap_or o core) steps) in
     record {
       size = subst IsSize (sym kept.same) reached.size;
       schedule = all;
@@ -255,22 +281,28 @@ reached_stepping core next e reached steps =
     record { size = subst IsMachineSize (sym kept.same) reached.size; schedule = more.schedule; leads = more.leads }
 
 -- a call that steps, or leaves the state as it was
-pub reached_either : {T E : Type 0} (result : Result T E) (old new : Core) (e : Event) → IsReached old → IfOk result (λ _. stepping old e ≡ Some new) → (IsErr result → new ≡ old) → IsReached new
+pub reached_either : {T E : Type 0} (result : Result T E) (old new : Core) (e : Event) → IsReached old → IfOk result (λ _. stepping old e ≡ Some new)
+    → (IsErr result → new ≡ old) → IsReached new
 reached_either (Ok x) old new e reached done same = reached_stepping old new e reached done
 reached_either (Err f) old new e reached done same = subst IsReached (sym (same refl)) reached
 
 -- and the machine keeps its size
-pub size_either : {T E : Type 0} (result : Result T E) (old new : Core) (e : Event) → IsReached old → IfOk result (λ _. stepping old e ≡ Some new) → (IsErr result → new ≡ old) → new.size ≡ old.size
-size_either (Ok x) old new e reached done same = (subst (λ (o : Option Core). IfSome o (StepsWell old)) done (stepping_well old e (reached_well old reached))).same
+pub size_either : {T E : Type 0} (result : Result T E) (old new : Core) (e : Event) → IsReached old → IfOk result (λ _. stepping old e ≡ Some new)
+    → (IsErr result → new ≡ old) → new.size ≡ old.size
+size_either (Ok x) old new e reached done same =
+    (subst (λ (o : Option Core). IfSome o (StepsWell old)) done (stepping_well old e (reached_well old reached))).same
 size_either (Err f) old new e reached done same = ap (λ (core : Core). core.size) (same refl)
 
 -- the same, where a step that isn't enabled gives nothing
-pub reached_maybe : {T : Type 0} (result : Option T) (old new : Core) (e : Event) → IsReached old → IfSome result (λ _. stepping old e ≡ Some new) → (result ≡ None → new ≡ old) → IsReached new
+pub reached_maybe : {T : Type 0} (result : Option T) (old new : Core) (e : Event) → IsReached old → IfSome result (λ _. stepping old e ≡ Some new)
+    → (result ≡ None → new ≡ old) → IsReached new
 reached_maybe (Some x) old new e reached done same = reached_stepping old new e reached done
 reached_maybe None old new e reached done same = subst IsReached (sym (same refl)) reached
 
-pub size_maybe : {T : Type 0} (result : Option T) (old new : Core) (e : Event) → IsReached old → IfSome result (λ _. stepping old e ≡ Some new) → (result ≡ None → new ≡ old) → new.size ≡ old.size
-size_maybe (Some x) old new e reached done same = (subst (λ (o : Option Core). IfSome o (StepsWell old)) done (stepping_well old e (reached_well old reached))).same
+pub size_maybe : {T : Type 0} (result : Option T) (old new : Core) (e : Event) → IsReached old → IfSome result (λ _. stepping old e ≡ Some new)
+    → (result ≡ None → new ≡ old) → new.size ≡ old.size
+size_maybe (Some x) old new e reached done same =
+    (subst (λ (o : Option Core). IfSome o (StepsWell old)) done (stepping_well old e (reached_well old reached))).same
 size_maybe None old new e reached done same = ap (λ (core : Core). core.size) (same refl)
 
 -- a node of a reached state fits its machine

@@ -7,7 +7,10 @@ use Rattle.sci_station.specs.Station.{node_in}
 use Rattle.sci_circle.proofs.circle.all_answered.Goals as goal
 
 pub returns-in_err-round : goal.returns-in_err-round
-returns-in_err-round c = record { driven = All-set (λ (r : Runner). IsDriven r.driver (node_in r.station)) c.loop-n.runners c.loop-n.n c.round.new.self c.round.ensures.driven c.loop-n.invariant.0 }
+returns-in_err-round c = record {
+  driven =
+      All-set (λ (r : Runner). IsDriven r.driver (node_in r.station)) c.loop-n.runners c.loop-n.n c.round.new.self c.round.ensures.driven c.loop-n.invariant.0;
+}
 
 pub loop-n-preserved : goal.loop-n-preserved
 loop-n-preserved c = (

@@ -16,9 +16,13 @@ pub loop-station-preserved : goal.loop-station-preserved
 loop-station-preserved c =
     let inv = c.loop-station.invariant in
     let steps = c.in-Some.ensures.steps in (
-      subst (All (λ (r : Runner). IsDriven r.driver (node_in r.station))) (sym c.in_ok-push.ensures.items) (All-push (λ (r : Runner). IsDriven r.driver (node_in r.station)) c.loop-station.runners.items c.new-in-loop-station.result inv.0 c.new-in-loop-station.ensures.driven),
-      all_rest (λ (s : StationOf). HasSubmittedNothing (node_in s)) c.in-Some.station c.next.new.self.a.rest.items (subst (All (λ (s : StationOf). HasSubmittedNothing (node_in s))) steps.0.0 inv.1),
-      all_rest (λ (own : Vec Op _). length own.items ≤ MAX_OPERATIONS) c.in-Some.own.now c.next.new.self.b.rest.now (subst (All (λ (own : Vec Op _). length own.items ≤ MAX_OPERATIONS)) steps.1 inv.2),
+      subst (All (λ (r : Runner). IsDriven r.driver (node_in r.station))) (sym c.in_ok-push.ensures.items)
+          (All-push (λ (r : Runner). IsDriven r.driver (node_in r.station)) c.loop-station.runners.items c.new-in-loop-station.result inv.0
+          c.new-in-loop-station.ensures.driven),
+      all_rest (λ (s : StationOf). HasSubmittedNothing (node_in s)) c.in-Some.station c.next.new.self.a.rest.items
+          (subst (All (λ (s : StationOf). HasSubmittedNothing (node_in s))) steps.0.0 inv.1),
+      all_rest (λ (own : Vec Op _). length own.items ≤ MAX_OPERATIONS) c.in-Some.own.now c.next.new.self.b.rest.now
+          (subst (All (λ (own : Vec Op _). length own.items ≤ MAX_OPERATIONS)) steps.1 inv.2),
     )
   where
     all_rest : {X : Type 0} (P : X → Type 0) (x : X) (xs : List X) → All P (x ∷ xs) → All P xs

@@ -26,7 +26,8 @@ loop-done-preserved c =
     let behind : 7 - done + 1 ≡ 8 - done = omega (arith, c.loop-done-test.true) in
     let more = ap (λ k. drop k words) before ∙ drop_more words (7 - done) 0 within ∙ ap (λ k. slice_index_or words (7 - done) 0 ∷ drop k words) behind in
     let put = c.put_field.ensures.text ∙ ap (λ l. field (slice_index_or words (7 - done) 0) ++ l) c.loop-done.invariant.written in record {
-      written = put ∙ sym (append_assoc (field (slice_index_or words (7 - done) 0)) (flat_map field (drop (8 - done) words)) c.args.end.now) ∙ sym (ap (λ left. flat_map field left ++ c.args.end.now) more);
+      written = put ∙ sym (append_assoc (field (slice_index_or words (7 - done) 0)) (flat_map field (drop (8 - done) words)) c.args.end.now)
+          ∙ sym (ap (λ left. flat_map field left ++ c.args.end.now) more);
       short = omega (arith, c.put_field.ensures.short, c.loop-done.invariant.short);
     }
 
@@ -34,7 +35,8 @@ pub returns-clause-text : goal.returns-clause-text
 returns-clause-text c =
     let all : c.loop-done.done ≡ 8 = omega (arith, c.loop-done-test.false, c.loop-done.auto.done-end) in
     let none : 8 - c.loop-done.done ≡ 0 = omega (arith, all) in
-    c.loop-done.invariant.written ∙ ap (λ k. flat_map field (drop k c.words-words.result.now) ++ c.args.end.now) none ∙ ap (λ words. flat_map field words ++ c.args.end.now) c.words-words.ensures.words
+    c.loop-done.invariant.written ∙ ap (λ k. flat_map field (drop k c.words-words.result.now) ++ c.args.end.now) none
+    ∙ ap (λ words. flat_map field words ++ c.args.end.now) c.words-words.ensures.words
 
 pub returns-clause-short : goal.returns-clause-short
 returns-clause-short c = omega (arith, c.loop-done.invariant.short, c.loop-done.auto.done-end)

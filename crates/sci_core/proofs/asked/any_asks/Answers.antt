@@ -14,6 +14,7 @@ returns-then-asks c =
     let p : Letter → Bool = asks_about c.args.n c.args.line in
     let is : p (letter_of item) ≡ true = sym c.asks.ensures ∙ c.if-asks.true in
     let test = c.loop-packet-test.true in
-    let here : get_or (map letter_of packets) i (letter_of item) ≡ letter_of item = get_or-map letter_of packets i item (letter_of item) (omega arith) ∙ ap letter_of (sym c.packet-item.is) in
+    let here : get_or (map letter_of packets) i (letter_of item) ≡ letter_of item =
+    get_or-map letter_of packets i item (letter_of item) (omega arith) ∙ ap letter_of (sym c.packet-item.is) in
     let within : i < length (map letter_of packets) = omega (arith, length-map packets letter_of) in
     sym (list_any_at p (map letter_of packets) i (letter_of item) within (ap p here ∙ is))

@@ -5,4 +5,5 @@ use Rattle.sci_core.proofs.outcome.push_log.Goals as goal
 
 pub loop-entry-preserved : goal.loop-entry-preserved
 loop-entry-preserved c =
-    pushed_more c.args.logs.now c.loop-entry.logs c.push.new.self c.args.n _ c.args.log.now c.loop-entry.entry-index _ (omega arith) (c.requires.own c.loop-entry.entry-index _ c.loop-entry-test.true) c.loop-entry-test.true c.loop-entry.invariant c.in-Ok.ensures.ok
+    pushed_more c.args.logs.now c.loop-entry.logs c.push.new.self c.args.n _ c.args.log.now c.loop-entry.entry-index _ (omega arith)
+    (c.requires.own c.loop-entry.entry-index _ c.loop-entry-test.true) c.loop-entry-test.true c.loop-entry.invariant c.in-Ok.ensures.ok

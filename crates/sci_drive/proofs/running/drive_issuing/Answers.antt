@@ -32,12 +32,14 @@ returns-clause-front g c = λ in_order.
     let start = g.W.Worker.node c.args.worker.now in
     let node = g.W.Worker.node c.go_on.new.worker in
     let script = c.go_on.ensures.script ∙ ap (λ (d : DriverOf). d.script) c.new-driver.ensures in
-    let issued = subst (λ (issuing : Issuing). IsInOrder (opening_driver c.args.script.now issuing) start) (sym in_order) (c.new_drivers_may_drive.ensures.order c.args.script.now start c.requires.fresh) in
+    let issued = subst (λ (issuing : Issuing). IsInOrder (opening_driver c.args.script.now issuing) start) (sym in_order)
+    (c.new_drivers_may_drive.ensures.order c.args.script.now start c.requires.fresh) in
     let opened = subst (λ (d : DriverOf). IsInOrder d start) (sym c.new-driver.ensures) issued in
     subst (λ (ops : List Op). IsFrontOf ops node.log) script (c.go_on.ensures.order opened).front
 
 -- what holds of a run, and of one that has finished from two facts of one
-both : {A E : Type 0} (r : Result A E) (f R : A → Type 0) (P D T : Type 0) → IfOk r (λ a. (f a → P) × R a) → IfOk r (λ a. f a → D) → (D → T) → IfOk r (λ a. (f a → T × P) × R a)
+both : {A E : Type 0} (r : Result A E) (f R : A → Type 0) (P D T : Type 0) → IfOk r (λ a. (f a → P) × R a) → IfOk r (λ a. f a → D) → (D → T)
+    → IfOk r (λ a. (f a → T × P) × R a)
 both (Ok a) f R P D T p d t = (λ h. (t (d h), p.0 h), p.1)
 both (Err e) f R P D T p d t = tt
 
@@ -46,11 +48,14 @@ returns-clause-calls g c =
     let start = g.W.Worker.node c.args.worker.now in
     let node = g.W.Worker.node c.go_on.new.worker in
     let heard = c.go_on.ensures.calls in
-    let are : AreCalls (opening_driver c.args.script.now c.args.issuing) c.go_on.new.self start node heard.0 = subst (λ (d : DriverOf). AreCalls d c.go_on.new.self start node heard.0) c.new-driver.ensures heard.2 in (
+    let are : AreCalls (opening_driver c.args.script.now c.args.issuing) c.go_on.new.self start node heard.0 =
+    subst (λ (d : DriverOf). AreCalls d c.go_on.new.self start node heard.0) c.new-driver.ensures heard.2 in (
       heard.0,
       heard.1,
       calls_of c.args.script.now c.args.issuing c.go_on.new.self start node heard.0 c.requires.fresh.log c.go_on.ensures.driven are,
-      both c.go_on.result (λ ran. ran.finished ≡ true) (λ ran. RestsInTime ran.turns heard.0) (EndWithAllDone heard.0) (c.go_on.new.self.was_done ≡ true) (times_done heard.0 ≡ 1) heard.3 c.go_on.ensures.told (λ done. told_once c.args.script.now c.args.issuing c.go_on.new.self start node heard.0 done are),
+      both c.go_on.result (λ ran. ran.finished ≡ true) (λ ran. RestsInTime ran.turns heard.0) (EndWithAllDone heard.0) (c.go_on.new.self.was_done ≡ true)
+          (times_done heard.0 ≡ 1) heard.3 c.go_on.ensures.told
+          (λ done. told_once c.args.script.now c.args.issuing c.go_on.new.self start node heard.0 done are),
     )
 
 pub returns-clause-turned : goal.returns-clause-turned
@@ -61,6 +66,10 @@ returns-clause-rounds g c =
     let start = g.W.Worker.node c.args.worker.now in
     let node = g.W.Worker.node c.go_on.new.worker in
     let gate = c.args.gate.now in
-    IfOk-weaker c.go_on.result _ _ (λ ran rounds.
-    (rounds.0, c.go_on.new.self, subst (λ (d : DriverOf). GoRounds g.G.Gate.hears ran.turns rounds.0 gate c.go_on.new.gate d c.go_on.new.self start node) c.new-driver.ensures rounds.1))
+    IfOk-weaker c.go_on.result _ _ (λ ran rounds. (
+      rounds.0,
+      c.go_on.new.self,
+      subst (λ (d : DriverOf). GoRounds g.G.Gate.hears ran.turns rounds.0 gate c.go_on.new.gate d c.go_on.new.self start node)
+          c.new-driver.ensures rounds.1,
+    ))
     c.go_on.ensures.rounds

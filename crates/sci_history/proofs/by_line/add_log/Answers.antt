@@ -14,5 +14,6 @@ loop-entry-preserved c =
     record {
       lines = length-set c.loop-entry.lists.items _ _ ∙ c.loop-entry.invariant.lines;
       added = λ line low.
-          list_more lists log (get_or (lists_of c.args.lists.now.items) line []) c.loop-entry.entry-index line c.index_mut.result.now c.push.new.self _ c.loop-entry-test.true refl below c.index_mut.ensures.value c.in_ok-push.ensures.items (c.loop-entry.invariant.added line low);
+          list_more lists log (get_or (lists_of c.args.lists.now.items) line []) c.loop-entry.entry-index line c.index_mut.result.now c.push.new.self _
+          c.loop-entry-test.true refl below c.index_mut.ensures.value c.in_ok-push.ensures.items (c.loop-entry.invariant.added line low);
     }

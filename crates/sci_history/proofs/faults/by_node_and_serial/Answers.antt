@@ -21,8 +21,16 @@ returns c =
           let nodes = w.in_ok-sort_by_key-2.ensures in
           ap (λ (read : Vec (Bor Entry)). entries_of read.items) w.read-is
           ∙ sorted_by_node c.in_ok-read.read.items w.sort_by_key.new.self.items w.sort_by_key-then-not-are_read_in_order.new.self.items (rw copied c.requires)
-          (record { sorted = serials.sorted serial (answers_always _ _ _ (λ f a r g called. search rules)); stable = serials.stable serial (answers_always _ _ _ (λ f a r g called. search rules)); moved = serials.permutation })
-          (record { sorted = nodes.sorted node (answers_always _ _ _ (λ f a r g called. search rules)); stable = nodes.stable node (answers_always _ _ _ (λ f a r g called. search rules)); moved = nodes.permutation })
+          (record {
+            sorted = serials.sorted serial (answers_always _ _ _ (λ f a r g called. search rules));
+            stable = serials.stable serial (answers_always _ _ _ (λ f a r g called. search rules));
+            moved = serials.permutation;
+          })
+          (record {
+            sorted = nodes.sorted node (answers_always _ _ _ (λ f a r g called. search rules));
+            stable = nodes.stable node (answers_always _ _ _ (λ f a r g called. search rules));
+            moved = nodes.permutation;
+          })
           ∙ ap (λ (refs : List (Bor Entry)). by_node_and_serial (entries_of refs)) copied
       | else-not-are_read_in_order w ↦
           ap (λ (read : Vec (Bor Entry)). entries_of read.items) w.read-is

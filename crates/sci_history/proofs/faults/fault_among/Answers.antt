@@ -10,4 +10,5 @@ placed-requires-clause-versions c = versions_low (entries_of c.args.entries.now)
 
 pub replayed-requires : goal.replayed-requires
 replayed-requires c =
-    all_placed (λ entry. entry.op.word < WORDS_PER_LINE) (entries_of c.args.entries.now) (entries_of c.deref.result.now) (ap entries_of c.deref.ensures.value ∙ c.in_ok-placed.ensures) c.requires.words
+    all_placed (λ entry. entry.op.word < WORDS_PER_LINE) (entries_of c.args.entries.now) (entries_of c.deref.result.now)
+    (ap entries_of c.deref.ensures.value ∙ c.in_ok-placed.ensures) c.requires.words

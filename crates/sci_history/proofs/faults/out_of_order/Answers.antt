@@ -33,8 +33,10 @@ loop-entry-preserved c =
       sixteen = length-set c.loop-entry.latest at.node (Some at) ∙ c.loop-entry.invariant.sixteen;
       latest = λ node low.
           elim (cases_eq at.node node) [
-            | inl own ↦ ap (λ n. get_or (set c.loop-entry.latest at.node (Some at)) n None) (sym own) ∙ get_or-set_same c.loop-entry.latest at.node (Some at) None (omega arith) ∙ sym (latest_own refs i node c.loop-entry-test.true own)
-            | inr other ↦ get_or-set_other c.loop-entry.latest at.node node (Some at) None (λ is. other (sym is)) ∙ c.loop-entry.invariant.latest node low ∙ sym (latest_other refs i node c.loop-entry-test.true other)
+            | inl own ↦ ap (λ n. get_or (set c.loop-entry.latest at.node (Some at)) n None) (sym own)
+                ∙ get_or-set_same c.loop-entry.latest at.node (Some at) None (omega arith) ∙ sym (latest_own refs i node c.loop-entry-test.true own)
+            | inr other ↦ get_or-set_other c.loop-entry.latest at.node node (Some at) None (λ is. other (sym is)) ∙ c.loop-entry.invariant.latest node low
+                ∙ sym (latest_other refs i node c.loop-entry-test.true other)
           ];
       ordered = later_more is_out_of_order refs i c.loop-entry-test.true passes c.loop-entry.invariant.ordered;
     }

@@ -13,4 +13,8 @@ returns c =
     let places = c.in_ok-sort_by_cached_key.ensures in
     let place : Bor Entry → ℕ × Bool = λ ref. (ref.now.version, not (is_making ref.now)) in
     sorted_placed (entries_of c.args.entries.now) c.in_ok-placed.placed.items c.sort_by_cached_key.new.self.items c.requires.versions c.in_ok-placed.ensures
-    (record { sorted = places.sorted place (answers_always _ _ _ (λ f a r g called. search rules)); stable = places.stable place (answers_always _ _ _ (λ f a r g called. search rules)); moved = places.permutation })
+    (record {
+      sorted = places.sorted place (answers_always _ _ _ (λ f a r g called. search rules));
+      stable = places.stable place (answers_always _ _ _ (λ f a r g called. search rules));
+      moved = places.permutation;
+    })

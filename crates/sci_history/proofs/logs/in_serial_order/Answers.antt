@@ -11,5 +11,9 @@ returns c =
     let serial = λ (entry : Entry). entry.serial in
     let sorts = c.in_ok-sort_by_key.ensures in
     sorted_by_serial c.in_ok-sorted.sorted.items c.sort_by_key.new.self.items
-    (record { sorted = sorts.sorted serial (answers_always _ _ _ (λ f a r g called. search rules)); stable = sorts.stable serial (answers_always _ _ _ (λ f a r g called. search rules)); moved = sorts.permutation })
+    (record {
+      sorted = sorts.sorted serial (answers_always _ _ _ (λ f a r g called. search rules));
+      stable = sorts.stable serial (answers_always _ _ _ (λ f a r g called. search rules));
+      moved = sorts.permutation;
+    })
     ∙ ap in_serial_order c.in_ok-sorted.ensures.items

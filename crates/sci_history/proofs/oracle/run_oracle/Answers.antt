@@ -61,15 +61,23 @@ loop-node-preserved c =
     let logs = c.loop-node.logs in
     let memory = c.loop-node.memory in
     let here = c.requires.in_range i no_issue c.loop-node-test.true in
-    let entry : Entry = record { node = issue.0; serial = length c.of.result.now; op = issue.1; reply = c.do_op-reply.result.0; version = c.do_op-reply.result.1 } in
-    let step = ran_step c.args.lines (take i script) issue logs memory entry c.loop-node.invariant (range-take c.args.lines script i c.requires.in_range) here refl refl (ap length c.of.ensures.log) c.do_op-reply.ensures.run.0 c.do_op-reply.ensures.version in
+    let entry : Entry = record {
+      node = issue.0;
+      serial = length c.of.result.now;
+      op = issue.1;
+      reply = c.do_op-reply.result.0;
+      version = c.do_op-reply.result.1;
+    } in
+    let step = ran_step c.args.lines (take i script) issue logs memory entry c.loop-node.invariant (range-take c.args.lines script i c.requires.in_range) here
+    refl refl (ap length c.of.ensures.log) c.do_op-reply.ensures.run.0 c.do_op-reply.ensures.version in
     rw (take_more script i no_issue c.loop-node-test.true, c.in-Ok.ensures.ok, c.do_op-reply.ensures.after) step
 
 pub returns-clause-lawful : goal.returns-clause-lawful
 returns-clause-lawful c =
     let script = c.args.script.now in
     let whole : take c.loop-node.node-index script ≡ script = take_all c.loop-node.node-index script (omega arith) in
-    let ran : Ran c.args.lines script c.loop-node.logs c.loop-node.memory = subst (λ (s : List Issue). Ran c.args.lines s c.loop-node.logs c.loop-node.memory) whole c.loop-node.invariant in
+    let ran : Ran c.args.lines script c.loop-node.logs c.loop-node.memory =
+    subst (λ (s : List Issue). Ran c.args.lines s c.loop-node.logs c.loop-node.memory) whole c.loop-node.invariant in
     let law = oracle-lawful c.args.lines script (recursion_from_All (IsInRange c.args.lines) script c.requires.in_range) in
     let last = c.last.ensures ∙ ran.left in
     λ line. rw (ran.logged, last) (law line)

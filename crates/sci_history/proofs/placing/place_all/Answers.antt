@@ -6,7 +6,8 @@ use Rattle.sci_history.proofs.placing.place_all.Goals as goal
 
 pub loop-placing-smaller : goal.loop-placing-smaller
 loop-placing-smaller c =
-    let within = order_within c.args.logs.now _ c.place_round.new.self.lines (rests_of c.args.logs.now c.place_round.new.self.next) (entries_of c.place_round.new.self.order.items) c.in_ok-place_round.ensures.placing in
+    let within = order_within c.args.logs.now _ c.place_round.new.self.lines (rests_of c.args.logs.now c.place_round.new.self.next)
+    (entries_of c.place_round.new.self.order.items) c.in_ok-place_round.ensures.placing in
     let more = c.in_ok-place_round.ensures.more in
     let long = entries_long c.place_round.new.self.order.items in
     omega arith

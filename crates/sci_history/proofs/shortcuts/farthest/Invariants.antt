@@ -10,5 +10,6 @@ invariant-loop-other l = record {
   onward : l.place < l.found.0;
   before : l.found.0 < l.other;
   comes : ComesAfterAt l.steps l.place l.found.0 l.found.1;
-  farthest : (there : ℕ) (x y : Step) → l.found.0 < there → there < l.other → slice_get l.steps l.place ≡ Some x → slice_get l.steps there ≡ Some y → IsFree x y;
+  farthest : (there : ℕ) (x y : Step) → l.found.0 < there → there < l.other → slice_get l.steps l.place ≡ Some x → slice_get l.steps there ≡ Some y
+      → IsFree x y;
 }

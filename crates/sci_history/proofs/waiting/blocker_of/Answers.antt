@@ -6,4 +6,5 @@ use Rattle.sci_history.proofs.waiting.blocker_of.Goals as goal
 
 pub returns-in_err-place-clause-none : goal.returns-in_err-place-clause-none
 returns-in_err-place-clause-none c e =
-    all_left (λ (other : Entry). line_reason c.args.entry.now other ≡ None) c.args.logs.now c.args.next.now c.args.node c.of.result.now c.requires c.of.ensures.log (c.blocker_in.ensures.none c.in_err-place.was)
+    all_left (λ (other : Entry). line_reason c.args.entry.now other ≡ None) c.args.logs.now c.args.next.now c.args.node c.of.result.now c.requires
+    c.of.ensures.log (c.blocker_in.ensures.none c.in_err-place.was)

@@ -12,8 +12,10 @@ join-requires-clause-same g c =
     let found = c.in-Some.ensures.some in
     let f = g.E.HasEnd.end_of in
     let there = sym (ap (λ xs. slice_get (map f xs) c.in-Some.place) c.deref.ensures.value) ∙ found.1 in
-    let end : c.into_end.result ≡ found.0 = c.into_end.ensures ∙ mapped_at f c.loop-n.ends.items c.in-Some.place c.remove.result found.0 c.remove.ensures.value there in
-    i.0 ∙ (sym (i.4.own c.in-Some.place found.0 there).0 ∙ (ap (λ (e : EndOf). e.table) (sym end) ∙ ap (λ (e : EndOf). e.table) (sym c.into_parts-part.ensures.seat)))
+    let end : c.into_end.result ≡ found.0 =
+    c.into_end.ensures ∙ mapped_at f c.loop-n.ends.items c.in-Some.place c.remove.result found.0 c.remove.ensures.value there in
+    i.0 ∙ (sym (i.4.own c.in-Some.place found.0 there).0
+    ∙ (ap (λ (e : EndOf). e.table) (sym end) ∙ ap (λ (e : EndOf). e.table) (sym c.into_parts-part.ensures.seat)))
 
 pub loop-n-preserved : goal.loop-n-preserved
 loop-n-preserved g c =
@@ -21,19 +23,30 @@ loop-n-preserved g c =
     let found = c.in-Some.ensures.some in
     let f = g.E.HasEnd.end_of in
     let there = sym (ap (λ xs. slice_get (map f xs) c.in-Some.place) c.deref.ensures.value) ∙ found.1 in
-    let end : c.into_end.result ≡ found.0 = c.into_end.ensures ∙ mapped_at f c.loop-n.ends.items c.in-Some.place c.remove.result found.0 c.remove.ensures.value there in
+    let end : c.into_end.result ≡ found.0 =
+    c.into_end.ensures ∙ mapped_at f c.loop-n.ends.items c.in-Some.place c.remove.result found.0 c.remove.ensures.value there in
     let part = ap (λ (e : EndOf). e.part) (c.into_parts-part.ensures.seat ∙ end) in
     let knows = c.join.ensures.knows in
-    let parts : c.join.new.root.me.0.parts ≡ c.loop-n.seat.me.0.parts ++ found.0.part ∷ [] = ap (λ k. k.0.parts) knows ∙ ap (λ p. c.loop-n.seat.me.0.parts ++ p ∷ []) part in
+    let parts : c.join.new.root.me.0.parts ≡ c.loop-n.seat.me.0.parts ++ found.0.part ∷ [] =
+    ap (λ k. k.0.parts) knows ∙ ap (λ p. c.loop-n.seat.me.0.parts ++ p ∷ []) part in
     let node = c.into_parts-part.ensures.node ∙ ap (λ (e : EndOf). e.part.node) end in
     let turns = subst (λ (e : EndOf). HasTurns (nodes_in e.part) e.part c.into_parts-part.result.2.items) end c.into_parts-part.ensures.turns in
-    let all = one_joined c.args.seat.now.table_id c.args.count c.loop-n.n (map f c.args.ends.items) (map f c.loop-n.ends.items) c.loop-n.seat.me.0.parts c.loop-n.nodes.items c.loop-n.inbox_turns.items c.in-Some.place found.0 c.into_parts-part.result.1 c.into_parts-part.result.2 i.4 there found.2 node turns in (
+    let all = one_joined c.args.seat.now.table_id c.args.count c.loop-n.n (map f c.args.ends.items) (map f c.loop-n.ends.items) c.loop-n.seat.me.0.parts
+    c.loop-n.nodes.items c.loop-n.inbox_turns.items c.in-Some.place found.0 c.into_parts-part.result.1 c.into_parts-part.result.2 i.4 there found.2 node
+    turns in (
       c.join.ensures.same ∙ i.0,
       knows ∙ (λ k. (record { parts = (sym (ap (λ s. s.0.parts) knows)) k; words = [] }, [])),
       omega (arith, i.2, c.push_reserved.ensures.capacity),
       omega (arith, i.3, c.push_reserved-in-loop-n.ensures.capacity),
-      subst (λ left. AreJoining c.args.seat.now.table_id c.args.count (c.loop-n.n + 1) (map f c.args.ends.items) left c.join.new.root.me.0.parts c.push_reserved.new.self.items c.push_reserved-in-loop-n.new.self.items) (sym (ap (map f) c.remove.ensures.items ∙ mapped_less f c.loop-n.ends.items c.in-Some.place))
-          (subst (λ ps. AreJoining c.args.seat.now.table_id c.args.count (c.loop-n.n + 1) (map f c.args.ends.items) (remove (map f c.loop-n.ends.items) c.in-Some.place) ps c.push_reserved.new.self.items c.push_reserved-in-loop-n.new.self.items) (sym parts)
-          (subst (λ ns. AreJoining c.args.seat.now.table_id c.args.count (c.loop-n.n + 1) (map f c.args.ends.items) (remove (map f c.loop-n.ends.items) c.in-Some.place) (c.loop-n.seat.me.0.parts ++ found.0.part ∷ []) ns c.push_reserved-in-loop-n.new.self.items) (sym c.push_reserved.ensures.items)
-          (subst (λ bs. AreJoining c.args.seat.now.table_id c.args.count (c.loop-n.n + 1) (map f c.args.ends.items) (remove (map f c.loop-n.ends.items) c.in-Some.place) (c.loop-n.seat.me.0.parts ++ found.0.part ∷ []) (c.loop-n.nodes.items ++ c.into_parts-part.result.1 ∷ []) bs) (sym c.push_reserved-in-loop-n.ensures.items) all))),
+      subst (λ left. AreJoining c.args.seat.now.table_id c.args.count (c.loop-n.n + 1) (map f c.args.ends.items) left c.join.new.root.me.0.parts
+          c.push_reserved.new.self.items c.push_reserved-in-loop-n.new.self.items)
+          (sym (ap (map f) c.remove.ensures.items ∙ mapped_less f c.loop-n.ends.items c.in-Some.place))
+          (subst (λ ps. AreJoining c.args.seat.now.table_id c.args.count (c.loop-n.n + 1) (map f c.args.ends.items)
+          (remove (map f c.loop-n.ends.items) c.in-Some.place) ps c.push_reserved.new.self.items c.push_reserved-in-loop-n.new.self.items) (sym parts)
+          (subst (λ ns. AreJoining c.args.seat.now.table_id c.args.count (c.loop-n.n + 1) (map f c.args.ends.items)
+          (remove (map f c.loop-n.ends.items) c.in-Some.place) (c.loop-n.seat.me.0.parts ++ found.0.part ∷ []) ns c.push_reserved-in-loop-n.new.self.items)
+          (sym c.push_reserved.ensures.items)
+          (subst (λ bs. AreJoining c.args.seat.now.table_id c.args.count (c.loop-n.n + 1) (map f c.args.ends.items)
+          (remove (map f c.loop-n.ends.items) c.in-Some.place) (c.loop-n.seat.me.0.parts ++ found.0.part ∷ [])
+          (c.loop-n.nodes.items ++ c.into_parts-part.result.1 ∷ []) bs) (sym c.push_reserved-in-loop-n.ensures.items) all))),
     )

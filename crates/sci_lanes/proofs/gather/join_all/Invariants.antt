@@ -10,4 +10,5 @@ invariant-loop-n g l =
     × (l.seat.me ≡ (record { parts = l.seat.me.0.parts; words = [] }, []))
     × (l.count ≤ vec_capacity l.nodes)
     × (l.count ≤ vec_capacity l.inbox_turns)
-    × AreJoining l.fn.seat.table_id l.count l.n (map g.E.HasEnd.end_of l.fn.ends.items) (map g.E.HasEnd.end_of l.ends.items) l.seat.me.0.parts l.nodes.items l.inbox_turns.items
+    × AreJoining l.fn.seat.table_id l.count l.n (map g.E.HasEnd.end_of l.fn.ends.items) (map g.E.HasEnd.end_of l.ends.items) l.seat.me.0.parts l.nodes.items
+    l.inbox_turns.items

@@ -14,9 +14,12 @@ pub push_log-requires-clause-own : goal.push_log-requires-clause-own
 push_log-requires-clause-own g c =
     let log = c.log.ensures ∙ ap (λ (node : NodeOf). node.log) c.node.ensures.node in
     let found = c.in-Some.ensures.some in
-    let end : c.end.result.now ≡ found.0 = c.end.ensures ∙ mapped_at g.E.HasEnd.end_of c.args.ends.now c.in-Some.place c.index-ends-place.result found.0 c.index-ends-place.is found.1 in
+    let end : c.end.result.now ≡ found.0 =
+    c.end.ensures ∙ mapped_at g.E.HasEnd.end_of c.args.ends.now c.in-Some.place c.index-ends-place.result found.0 c.index-ends-place.is found.1 in
     let numbered : me_of c.end.result.now.part ≡ c.loop-n.n = ap (λ (e : EndOf). me_of e.part) end ∙ found.2 in
-    subst (λ (entries : List Entry). All (λ (entry : Entry). entry.node ≡ c.loop-n.n) entries) (sym log) (subst (λ (n : ℕ). All (λ (entry : Entry). entry.node ≡ n) c.end.result.now.part.node.log) numbered (shown_own c.end.result.now.part c.node.ensures.shown))
+    subst (λ (entries : List Entry). All (λ (entry : Entry). entry.node ≡ c.loop-n.n) entries) (sym log)
+    (subst (λ (n : ℕ). All (λ (entry : Entry). entry.node ≡ n) c.end.result.now.part.node.log) numbered
+    (shown_own c.end.result.now.part c.node.ensures.shown))
 
 pub push_log-requires-clause-room : goal.push_log-requires-clause-room
 push_log-requires-clause-room g c =
@@ -27,8 +30,10 @@ pub loop-n-preserved : goal.loop-n-preserved
 loop-n-preserved g c =
     let log = c.log.ensures ∙ ap (λ (node : NodeOf). node.log) c.node.ensures.node in
     let found = c.in-Some.ensures.some in
-    let end : c.end.result.now ≡ found.0 = c.end.ensures ∙ mapped_at g.E.HasEnd.end_of c.args.ends.now c.in-Some.place c.index-ends-place.result found.0 c.index-ends-place.is found.1 in
+    let end : c.end.result.now ≡ found.0 =
+    c.end.ensures ∙ mapped_at g.E.HasEnd.end_of c.args.ends.now c.in-Some.place c.index-ends-place.result found.0 c.index-ends-place.is found.1 in
     let few = c.requires.few in
     let less = c.loop-n-test.true in
     subst (λ (logs : List (List Entry)). AreLogged (c.loop-n.n + 1) (map g.E.HasEnd.end_of c.args.ends.now) logs) (sym c.in_ok-push_log.ensures)
-    (logged_more (map g.E.HasEnd.end_of c.args.ends.now) c.loop-n.logs c.loop-n.n c.in-Some.place found.0 c.log.result.now (omega arith) found.1 found.2 (log ∙ ap (λ (e : EndOf). e.part.node.log) end) c.loop-n.invariant)
+    (logged_more (map g.E.HasEnd.end_of c.args.ends.now) c.loop-n.logs c.loop-n.n c.in-Some.place found.0 c.log.result.now (omega arith) found.1 found.2
+    (log ∙ ap (λ (e : EndOf). e.part.node.log) end) c.loop-n.invariant)

@@ -13,7 +13,8 @@ loop-place-preserved g c = λ k end lt there numbered. elim (cases_lt k c.loop-p
   | inl before ↦ c.loop-place.invariant k end before there numbered
   | inr le ↦ (
       let same : k ≡ c.loop-place.place = omega arith in
-      let here = mapped_at g.E.HasEnd.end_of c.args.ends.now c.loop-place.place c.index-ends-place.result end c.index-ends-place.is (subst (λ (j : ℕ). slice_get (map g.E.HasEnd.end_of c.args.ends.now) j ≡ Some end) same there) in
+      let here = mapped_at g.E.HasEnd.end_of c.args.ends.now c.loop-place.place c.index-ends-place.result end c.index-ends-place.is
+      (subst (λ (j : ℕ). slice_get (map g.E.HasEnd.end_of c.args.ends.now) j ≡ Some end) same there) in
       c.if-me-n.false (c.me.ensures ∙ (ap (λ (e : EndOf). me_of e.part) (c.end.ensures ∙ here) ∙ numbered)))
 ]
 

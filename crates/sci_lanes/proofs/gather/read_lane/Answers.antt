@@ -17,7 +17,11 @@ loop-passed-preserved c =
       omega arith,
       (λ shown o j f t.
           let was = i.2 shown o j f t in
-          (one_more c.args.words.now c.args.lane c.args.turn c.loop-passed.passed ((c.args.lane * c.from-cells.result + c.from.result % c.from-cells.result) * 11) shown o j f t c.loop-passed-test.true (λ k. (c.args.lane * cells k + number k % cells k) * 11) c.requires.inside c.loop-passed.packets.items c.read_cell.new.packets.items c.read_cell.result was.0 was.1 (λ z. let e = c.read_cell.ensures.empty z in (e.0, ap (λ q. q.items) e.1)) c.read_cell.ensures.full).0 c.if-not-read_cell.false),
+          (one_more c.args.words.now c.args.lane c.args.turn c.loop-passed.passed
+          ((c.args.lane * c.from-cells.result + c.from.result % c.from-cells.result) * 11) shown o j f t c.loop-passed-test.true
+          (λ k. (c.args.lane * cells k + number k % cells k) * 11) c.requires.inside c.loop-passed.packets.items c.read_cell.new.packets.items
+          c.read_cell.result was.0 was.1 (λ z. let e = c.read_cell.ensures.empty z in (e.0, ap (λ q. q.items) e.1)) c.read_cell.ensures.full).0
+          c.if-not-read_cell.false),
     )
 
 pub returns : goal.returns
@@ -33,5 +37,10 @@ returns c = λ shown o j f t. c.of_packets.ensures ∙ ap (λ (ps : List Packet)
       let was = c.loop-passed.invariant.2 shown o j f t in
       let cells = c.from-cells.ensures in
       let number = w.from.ensures in
-      ap (λ q. q.items) w.packets-is ∙ ((one_more c.args.words.now c.args.lane c.args.turn c.loop-passed.passed ((c.args.lane * c.from-cells.result + w.from.result % c.from-cells.result) * 11) shown o j f t w.loop-passed-test.true (λ k. (c.args.lane * cells k + number k % cells k) * 11) c.requires.inside c.loop-passed.packets.items w.read_cell.new.packets.items w.read_cell.result was.0 was.1 (λ z. let e = w.read_cell.ensures.empty z in (e.0, ap (λ q. q.items) e.1)) w.read_cell.ensures.full).1 w.if-not-read_cell.true).1)
+      ap (λ q. q.items) w.packets-is
+      ∙ ((one_more c.args.words.now c.args.lane c.args.turn c.loop-passed.passed
+      ((c.args.lane * c.from-cells.result + w.from.result % c.from-cells.result) * 11) shown o j f t w.loop-passed-test.true
+      (λ k. (c.args.lane * cells k + number k % cells k) * 11) c.requires.inside c.loop-passed.packets.items w.read_cell.new.packets.items
+      w.read_cell.result was.0 was.1 (λ z. let e = w.read_cell.ensures.empty z in (e.0, ap (λ q. q.items) e.1)) w.read_cell.ensures.full).1
+      w.if-not-read_cell.true).1)
 ])

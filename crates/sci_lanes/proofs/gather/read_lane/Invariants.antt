@@ -11,4 +11,5 @@ abbrev pub invariant-loop-passed : goal.invariant-loop-passed
 invariant-loop-passed l =
     (deque_len l.packets ≤ l.passed)
     × (4 ≤ deque_capacity l.packets)
-    × ((shown : List Packet) (o : Outbound) (i : Inbound) → Fits l.words l.lane shown o i → l.turn ≡ i.taken % 4 → (l.passed ≤ length shown) × (l.packets.items ≡ take l.passed shown))
+    × ((shown : List Packet) (o : Outbound) (i : Inbound) → Fits l.words l.lane shown o i → l.turn ≡ i.taken % 4
+    → (l.passed ≤ length shown) × (l.packets.items ≡ take l.passed shown))

@@ -25,7 +25,9 @@ load-requires c =
       i.0,
       omega arith,
       subst (λ (me : Me (Unit {0}) View). Allows (IsKept size) slots c.loop-place.seat.id me place (λ n. n) (Gathers (step slots place 0 0 none) me)) (sym i.1)
-          (gathers size slots c.loop-place.seat.id place (record { parts = parts; words = c.loop-place.words.items }) (subst (λ (n : ℕ). HasNodes n parts) (sym c.requires.sized) c.requires.every) (sym i.2) (subst (λ (n : ℕ). place < word_count n) (sym c.requires.sized) few)),
+          (gathers size slots c.loop-place.seat.id place (record { parts = parts; words = c.loop-place.words.items })
+          (subst (λ (n : ℕ). HasNodes n parts) (sym c.requires.sized) c.requires.every) (sym i.2)
+          (subst (λ (n : ℕ). place < word_count n) (sym c.requires.sized) few)),
     )
 
 pub loop-place-preserved : goal.loop-place-preserved
@@ -35,7 +37,8 @@ loop-place-preserved c =
     let more = c.push_reserved.ensures.items in
     let parts = c.args.seat.now.me.0.parts in
     let before = ap (λ (me : Me (Unit {0}) View). me.0) i.1 in
-    let now : c.load.new.seat.me ≡ (record { parts = parts; words = c.push_reserved.new.self.items }, []) = told.2.more ∙ (λ k. (record { parts = (before k).parts; words = ((ap (λ (v : View). v.words ++ c.load.result ∷ []) before) ∙ sym more) k }, [])) in (
+    let now : c.load.new.seat.me ≡ (record { parts = parts; words = c.push_reserved.new.self.items }, []) =
+    told.2.more ∙ (λ k. (record { parts = (before k).parts; words = ((ap (λ (v : View). v.words ++ c.load.result ∷ []) before) ∙ sym more) k }, [])) in (
       told.0 ∙ i.0,
       now,
       (let pushed = length_push c.loop-place.words.items c.load.result in ap (λ (ws : List ℕ). length ws) more ∙ omega (arith, i.2)),
@@ -44,4 +47,5 @@ loop-place-preserved c =
     )
 
 pub returns-clause-read : goal.returns-clause-read
-returns-clause-read c = let end = c.own_word-place-end.ensures in let some = c.requires.some in let not = c.loop-place-test.false in c.loop-place.invariant.4 (omega arith)
+returns-clause-read c = let end = c.own_word-place-end.ensures in let some = c.requires.some in let not = c.loop-place-test.false in
+    c.loop-place.invariant.4 (omega arith)

@@ -18,8 +18,12 @@ returns-clause-idle c = search rules
 pub returns-clause-asks : goal.returns-clause-asks
 returns-clause-asks c =
     let post = c.take_turn.new.post in
-    let asked : ℕ → Core → Type 0 = λ n core. HasAskedAll (turned c.args.policy.now) (post_at c.args.node c.args.machine.now) c.take_turn.new.policy (post_at n core) c.take_turn.new.progress in
-    let there : (core : Core) → core ≡ post.machine.now → asked c.args.node core = λ core is. subst (asked c.args.node) (sym is) (subst (λ (n : ℕ). asked n post.machine.now) c.take_turn.ensures.turn.moved.same.me (c.in_ok-take_turn.ensures.asks refl)) in
+    let asked : ℕ → Core → Type 0 =
+    λ n core. HasAskedAll (turned c.args.policy.now) (post_at c.args.node c.args.machine.now) c.take_turn.new.policy (post_at n core)
+    c.take_turn.new.progress in
+    let there : (core : Core) → core ≡ post.machine.now → asked c.args.node core =
+    λ core is. subst (asked c.args.node) (sym is)
+    (subst (λ (n : ℕ). asked n post.machine.now) c.take_turn.ensures.turn.moved.same.me (c.in_ok-take_turn.ensures.asks refl)) in
     there _ (search rules)
 
 pub returns-clause-same : goal.returns-clause-same

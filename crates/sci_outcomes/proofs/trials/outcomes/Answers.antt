@@ -10,5 +10,7 @@ loop-number-preserved g c =
     let trials = c.args.trials in
     let number = c.loop-number.number in
     let sighting = c.in_ok-sighting.sighting in
-    let is = of_any_run script trials.turns number trials.issuing sighting (subst (λ (turns : Turns). IsSightingOf script turns trials.issuing sighting) c.of_run.ensures c.in_ok-sighting.ensures) in
-    seen_more (IsSightingOf script trials.turns trials.issuing) c.loop-number.histogram c.add.new.self number sighting c.loop-number.invariant is c.in_ok-add.ensures
+    let is = of_any_run script trials.turns number trials.issuing sighting
+    (subst (λ (turns : Turns). IsSightingOf script turns trials.issuing sighting) c.of_run.ensures c.in_ok-sighting.ensures) in
+    seen_more (IsSightingOf script trials.turns trials.issuing) c.loop-number.histogram c.add.new.self number sighting c.loop-number.invariant is
+    c.in_ok-add.ensures

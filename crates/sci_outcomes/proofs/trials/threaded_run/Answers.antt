@@ -5,7 +5,8 @@ use Rattle.sci_outcomes.proofs.Sightings.{led_places, led_within}
 use Rattle.sci_outcomes.proofs.trials.threaded_run.Goals as goal
 
 pub seen-requires-clause-places : goal.seen-requires-clause-places
-seen-requires-clause-places g c = led_places c.args.litmus.script.now c.in_ok-logs.logs c.in_ok-logs.last c.args.litmus.places.now c.in_ok-logs.ensures.led c.requires.within
+seen-requires-clause-places g c =
+    led_places c.args.litmus.script.now c.in_ok-logs.logs c.in_ok-logs.last c.args.litmus.places.now c.in_ok-logs.ensures.led c.requires.within
 
 pub seen-requires-clause-within : goal.seen-requires-clause-within
 seen-requires-clause-within g c = led_within c.args.litmus.script.now c.in_ok-logs.logs c.in_ok-logs.last c.in_ok-logs.ensures.led

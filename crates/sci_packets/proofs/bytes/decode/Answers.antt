@@ -12,7 +12,8 @@ found c =
     let p = c.in_ok-packet.packet in
     let known = c.in_ok-packet.ensures in
     let fits : IsBytes bytes = λ i. omega (arith, c.type_inv.bytes i) in
-    is_found p c.size_of-len.result bytes fits known.header known.contents (is_packet p bytes fits known.header known.contents known.nodes known.identifier) (sym known.fault) c.size_of-len.ensures
+    is_found p c.size_of-len.result bytes fits known.header known.contents (is_packet p bytes fits known.header known.contents known.nodes known.identifier)
+    (sym known.fault) c.size_of-len.ensures
 
 pub returns-then-bytes-lt-SHORT-clause-only : goal.returns-then-bytes-lt-SHORT-clause-only
 returns-then-bytes-lt-SHORT-clause-only c =
@@ -33,7 +34,8 @@ returns-in_err-packet-clause-only c =
 pub returns-in_err-packet-clause-none : goal.returns-in_err-packet-clause-none
 returns-in_err-packet-clause-none c =
     let e = err_from_is_err_and c.from_residual.result c.from_residual.ensures.1 in
-    none_refused c.args.bytes.now c.from_residual.result e.0 c.in_err-packet.field-0.0 e.1 e.2 (λ i. omega (arith, c.type_inv.bytes i)) c.in_err-packet.ensures.fault
+    none_refused c.args.bytes.now c.from_residual.result e.0 c.in_err-packet.field-0.0 e.1 e.2 (λ i. omega (arith, c.type_inv.bytes i))
+    c.in_err-packet.ensures.fault
 
 pub returns-clause-found : goal.returns-clause-found
 returns-clause-found c = (found c).spells
@@ -43,8 +45,10 @@ returns-clause-length c = (found c).within
 
 pub returns-clause-only : goal.returns-clause-only
 returns-clause-only c =
-    only_found c.args.bytes.now (Ok (c.in_ok-packet.packet, c.size_of-len.result)) (λ i. omega (arith, c.type_inv.bytes i)) (found c).spells (found c).within c.in_ok-packet.ensures.fault
+    only_found c.args.bytes.now (Ok (c.in_ok-packet.packet, c.size_of-len.result)) (λ i. omega (arith, c.type_inv.bytes i)) (found c).spells (found c).within
+    c.in_ok-packet.ensures.fault
 
 pub returns-clause-none : goal.returns-clause-none
 returns-clause-none c =
-    none_found c.args.bytes.now (Ok (c.in_ok-packet.packet, c.size_of-len.result)) (λ i. omega (arith, c.type_inv.bytes i)) (found c).spells (found c).within c.in_ok-packet.ensures.fault
+    none_found c.args.bytes.now (Ok (c.in_ok-packet.packet, c.size_of-len.result)) (λ i. omega (arith, c.type_inv.bytes i)) (found c).spells (found c).within
+    c.in_ok-packet.ensures.fault

@@ -17,12 +17,14 @@ some_there c = ap (λ (x : Parts). x.contents) (sym c.parts_in-parts.ensures) �
 short_packet : (c : In-None) → IsPacket c.args.p.now
 short_packet c =
     let made = c.header_for-header.ensures in
-    packet_made c.args.p.now c.parts_in-parts.result c.header_for-header.result c.parts_in-parts.ensures made.header made.nodes c.write.ensures.control made.identifier (rw c.in-None.is tt)
+    packet_made c.args.p.now c.parts_in-parts.result c.header_for-header.result c.parts_in-parts.ensures made.header made.nodes c.write.ensures.control
+    made.identifier (rw c.in-None.is tt)
 
 long_packet : (c : After-write_contents) → IsPacket c.args.p.now
 long_packet c =
     let made = c.header_for-header.ensures in
-    packet_made c.args.p.now c.parts_in-parts.result c.header_for-header.result c.parts_in-parts.ensures made.header made.nodes c.write.ensures.control made.identifier (rw c.in-Some.is (rw c.in-Some.is at c.write_contents.ensures.contents))
+    packet_made c.args.p.now c.parts_in-parts.result c.header_for-header.result c.parts_in-parts.ensures made.header made.nodes c.write.ensures.control
+    made.identifier (rw c.in-Some.is (rw c.in-Some.is at c.write_contents.ensures.contents))
 
 pub returns-in-None-clause-bytes : goal.returns-in-None-clause-bytes
 returns-in-None-clause-bytes c =
@@ -36,7 +38,8 @@ returns-in-None-clause-packet c = short_packet c
 
 pub returns-in-Some-clause-bytes : goal.returns-in-Some-clause-bytes
 returns-in-Some-clause-bytes c =
-    long_written c.args.p.now _ c.in-Some.contents c.args.to.now c.write.new.to c.write_contents.new.to c.header_for-header.ensures.header (some_there c) c.told-to c.write.ensures.bytes (rw c.in-Some.is at c.write_contents.ensures.bytes)
+    long_written c.args.p.now _ c.in-Some.contents c.args.to.now c.write.new.to c.write_contents.new.to c.header_for-header.ensures.header (some_there c)
+    c.told-to c.write.ensures.bytes (rw c.in-Some.is at c.write_contents.ensures.bytes)
 
 pub returns-in-Some-clause-length : goal.returns-in-Some-clause-length
 returns-in-Some-clause-length c = sym (length-spelling c.args.p.now (long_packet c) ∙ ap (λ (a : Option Stamped). cond (is_some a) 88 16) (some_there c))

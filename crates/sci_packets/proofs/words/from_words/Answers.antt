@@ -30,7 +30,8 @@ pub packet_of-requires-clause-long : goal.packet_of-requires-clause-long
 packet_of-requires-clause-long c = omega (arith, length-word_bytes c.args.words.now)
 
 only_if_refused : (c : After-from_residual) → Only (word_bytes c.args.words.now) (Err c.in_err-packet.field-0.0)
-only_if_refused c = only_found (word_bytes c.args.words.now) (Err c.in_err-packet.field-0.0) (word_bytes-fits c.args.words.now) tt tt c.in_err-packet.ensures.fault
+only_if_refused c = only_found (word_bytes c.args.words.now) (Err c.in_err-packet.field-0.0) (word_bytes-fits c.args.words.now) tt tt
+    c.in_err-packet.ensures.fault
 
 pub returns-in_err-packet-clause-only : goal.returns-in_err-packet-clause-only
 returns-in_err-packet-clause-only c = λ p k le h. absurd (none_in_words c.args.words.now c.in_err-packet.field-0.0 (only_if_refused c) p k le h)
@@ -51,7 +52,8 @@ found c =
     let p = c.in_ok-packet.packet in
     let known = c.in_ok-packet.ensures in
     let fits : IsBytes bytes = word_bytes-fits c.args.words.now in
-    is_found p c.size_of.result bytes fits known.header known.contents (is_packet p bytes fits known.header known.contents known.nodes known.identifier) (sym known.fault) c.size_of.ensures
+    is_found p c.size_of.result bytes fits known.header known.contents (is_packet p bytes fits known.header known.contents known.nodes known.identifier)
+    (sym known.fault) c.size_of.ensures
 
 begins : (c : After-size_of) → BeginsWords c.in_ok-packet.packet (c.size_of.result / 8) c.args.words.now
 begins c =
@@ -65,7 +67,9 @@ returns-clause-length c = (begins c).within
 
 pub returns-clause-only : goal.returns-clause-only
 returns-clause-only c =
-    only_words c.args.words.now c.in_ok-packet.packet c.size_of.result (only_found (word_bytes c.args.words.now) (Ok (c.in_ok-packet.packet, c.size_of.result)) (word_bytes-fits c.args.words.now) (found c).spells (found c).within c.in_ok-packet.ensures.fault)
+    only_words c.args.words.now c.in_ok-packet.packet c.size_of.result
+    (only_found (word_bytes c.args.words.now) (Ok (c.in_ok-packet.packet, c.size_of.result)) (word_bytes-fits c.args.words.now) (found c).spells
+    (found c).within c.in_ok-packet.ensures.fault)
 
 pub returns-clause-none : goal.returns-clause-none
 returns-clause-none c = (λ e. absurd cc, λ none. absurd (none c.in_ok-packet.packet (c.size_of.result / 8) (begins c).within (begins c).spells))

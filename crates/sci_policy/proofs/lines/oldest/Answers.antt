@@ -15,7 +15,8 @@ over node kind IsMeant k n none j from below = of_no_kind node (λ line. is_of_n
 pub pending-preserved-in_default-pending : goal.pending-preserved-in_default-pending
 pending-preserved-in_default-pending g c =
     let below = c.in-Some.ensures.here in
-    let there = none_up_to c.args.node.now _ c.pending.from c.in-Some.line c.pending.found c.in-Some.ensures.order (over c.args.node.now c.args.kind _ c.pending.from c.in-Some.line c.in-Some.ensures.between) c.pending.invariant.1 in
+    let there = none_up_to c.args.node.now _ c.pending.from c.in-Some.line c.pending.found c.in-Some.ensures.order
+    (over c.args.node.now c.args.kind _ c.pending.from c.in-Some.line c.in-Some.ensures.between) c.pending.invariant.1 in
     (omega arith, nothing_pending c.args.node.now _ c.in-Some.line c.pending.found (sym c.pending-in-Some.ensures ∙ c.in_default-pending.is) there)
 
 pub pending-preserved-then-test : goal.pending-preserved-then-test
@@ -23,26 +24,38 @@ pending-preserved-then-test g c =
     let node = c.args.node.now in
     let line = c.in-Some.line in
     let below = c.in-Some.ensures.here in
-    let there = none_up_to node _ c.pending.from line c.pending.found c.in-Some.ensures.order (over c.args.node.now c.args.kind _ c.pending.from c.in-Some.line c.in-Some.ensures.between) c.pending.invariant.1 in
-    let at : pending_on node line ≡ Some c.in-Some-pending.pending = sym c.pending-in-Some.ensures ∙ c.in-Some-pending.is in
-    (omega arith, older_found node _ line c.pending.found c.in-Some-pending.pending at (sym c.is_older.ensures ∙ c.if-is_older.true) (of_kind (λ j. is_of_named c.args.kind (state_on node j)) _ line true c.in-Some.ensures.found (λ tested is. sym (is line true below c.if-test.ensures))) there)
+    let there = none_up_to node _ c.pending.from line c.pending.found c.in-Some.ensures.order
+    (over c.args.node.now c.args.kind _ c.pending.from c.in-Some.line c.in-Some.ensures.between) c.pending.invariant.1 in
+    let at : pending_on node line ≡ Some c.in-Some-pending.pending = sym c.pending-in-Some.ensures ∙ c.in-Some-pending.is in (
+      omega arith,
+      older_found node _ line c.pending.found c.in-Some-pending.pending at (sym c.is_older.ensures ∙ c.if-is_older.true)
+          (of_kind (λ j. is_of_named c.args.kind (state_on node j)) _ line true c.in-Some.ensures.found
+          (λ tested is. sym (is line true below c.if-test.ensures)))
+          there,
+    )
 
 pub pending-preserved : goal.pending-preserved
 pending-preserved g c =
     let node = c.args.node.now in
     let line = c.in-Some.line in
     let below = c.in-Some.ensures.here in
-    let there = none_up_to node _ c.pending.from line c.pending.found c.in-Some.ensures.order (over c.args.node.now c.args.kind _ c.pending.from c.in-Some.line c.in-Some.ensures.between) c.pending.invariant.1 in
+    let there = none_up_to node _ c.pending.from line c.pending.found c.in-Some.ensures.order
+    (over c.args.node.now c.args.kind _ c.pending.from c.in-Some.line c.in-Some.ensures.between) c.pending.invariant.1 in
     let at : pending_on node line ≡ Some c.in-Some-pending.pending = sym c.pending-in-Some.ensures ∙ c.in-Some-pending.is in (
       omega arith,
       elim c.else-is_older.branch [
-        | else-is_older-via-then-is_older+else-test v ↦ not_meant node _ line c.pending.found c.in-Some-pending.pending at (of_kind (λ j. is_of_named c.args.kind (state_on node j)) _ line false c.in-Some.ensures.found (λ tested is. sym (is line false below v.if-test.ensures))) there
-        | else-is_older-via-else-is_older v ↦ not_older node _ line c.pending.found c.in-Some-pending.pending at (sym c.is_older.ensures ∙ v.if-is_older.false) there
+        | else-is_older-via-then-is_older+else-test v ↦ not_meant node _ line c.pending.found c.in-Some-pending.pending at
+            (of_kind (λ j. is_of_named c.args.kind (state_on node j)) _ line false c.in-Some.ensures.found
+            (λ tested is. sym (is line false below v.if-test.ensures))) there
+        | else-is_older-via-else-is_older v ↦ not_older node _ line c.pending.found c.in-Some-pending.pending at (sym c.is_older.ensures ∙ v.if-is_older.false)
+            there
       ],
     )
 
 pub returns : goal.returns
 returns g c = λ tested is.
-    let found = none_up_to c.args.node.now _ c.pending.from (lines_of c.args.node.now) c.pending.found c.pending.invariant.0 (λ j from before. of_no_kind c.args.node.now (λ i. is_of_named c.args.kind (state_on c.args.node.now i)) _ j (c.in_default.ensures.between j from tt)) c.pending.invariant.1 in
+    let found = none_up_to c.args.node.now _ c.pending.from (lines_of c.args.node.now) c.pending.found c.pending.invariant.0
+    (λ j from before. of_no_kind c.args.node.now (λ i. is_of_named c.args.kind (state_on c.args.node.now i)) _ j (c.in_default.ensures.between j from tt))
+    c.pending.invariant.1 in
     let mapped : c.map.result ≡ line_found c.pending.found = search rules in
     mapped ∙ found.1 (λ line. is_of_named c.args.kind (state_on c.args.node.now line) && tested line) (tested, (is, λ line. refl))

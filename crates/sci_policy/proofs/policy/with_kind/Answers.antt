@@ -16,4 +16,5 @@ lines-preserved c = λ before same.
     rw c.put.ensures (join before tested line lines c.in-Some.ensures.small c.in-Some.ensures.found there)
 
 pub returns : goal.returns
-returns c = λ before same. joined before (λ line. is_of c.args.kind (state_on c.args.node.now line)) c.lines.from c.lines.lines (λ k from. c.in_default.ensures.between k from tt) (c.lines.invariant before same)
+returns c = λ before same. joined before (λ line. is_of c.args.kind (state_on c.args.node.now line)) c.lines.from c.lines.lines
+    (λ k from. c.in_default.ensures.between k from tt) (c.lines.invariant before same)

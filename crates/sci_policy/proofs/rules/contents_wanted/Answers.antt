@@ -11,7 +11,8 @@ pub returns-in_err-line : goal.returns-in_err-line
 returns-in_err-line c =
     let node = c.args.node.now in
     let kind = λ (line : ℕ). is_of_named c.kind_that_asks.result (state_on node line) in
-    let of_kind : c.oldest.result ≡ oldest node (λ line. kind line && is_some (operation_asks node line)) = c.oldest.ensures (λ line. is_some (operation_asks node line)) (search rules) in
+    let of_kind : c.oldest.result ≡ oldest node (λ line. kind line && is_some (operation_asks node line)) =
+    c.oldest.ensures (λ line. is_some (operation_asks node line)) (search rules) in
     let found = of_kind ∙ oldest_of_kind node kind (λ line. is_some (operation_asks node line)) c.kind_that_asks.ensures in
     let none : c.from_residual.result ≡ None = search rules in
     none ∙ ap (option_and_then (operation_asks node)) (sym c.in_err-line.was ∙ found)
@@ -20,6 +21,7 @@ pub returns : goal.returns
 returns c =
     let node = c.args.node.now in
     let kind = λ (line : ℕ). is_of_named c.kind_that_asks.result (state_on node line) in
-    let of_kind : c.oldest.result ≡ oldest node (λ line. kind line && is_some (operation_asks node line)) = c.oldest.ensures (λ line. is_some (operation_asks node line)) (search rules) in
+    let of_kind : c.oldest.result ≡ oldest node (λ line. kind line && is_some (operation_asks node line)) =
+    c.oldest.ensures (λ line. is_some (operation_asks node line)) (search rules) in
     let found = of_kind ∙ oldest_of_kind node kind (λ line. is_some (operation_asks node line)) c.kind_that_asks.ensures in
     c.operation_asks.ensures ∙ ap (option_and_then (operation_asks node)) (sym c.in_ok-line.was ∙ found)

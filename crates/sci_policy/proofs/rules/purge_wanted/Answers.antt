@@ -10,7 +10,8 @@ pub returns-in_err-line : goal.returns-in_err-line
 returns-in_err-line c =
     let policy = c.args.policy.now in
     let node = c.args.node.now in
-    let found : c.least_with.result ≡ least node (is_purged policy node) = c.least_with.ensures (λ line. has policy.draining line || has_pending node line) (search rules) in
+    let found : c.least_with.result ≡ least node (is_purged policy node) =
+    c.least_with.ensures (λ line. has policy.draining line || has_pending node line) (search rules) in
     let none : c.from_residual.result ≡ None = search rules in
     none ∙ ap (option_map (λ (line : ℕ). Ask line Purge)) (sym c.in_err-line.was ∙ found)
 
@@ -18,5 +19,6 @@ pub returns : goal.returns
 returns c =
     let policy = c.args.policy.now in
     let node = c.args.node.now in
-    let found : c.least_with.result ≡ least node (is_purged policy node) = c.least_with.ensures (λ line. has policy.draining line || has_pending node line) (search rules) in
+    let found : c.least_with.result ≡ least node (is_purged policy node) =
+    c.least_with.ensures (λ line. has policy.draining line || has_pending node line) (search rules) in
     ap (option_map (λ (line : ℕ). Ask line Purge)) (sym c.in_ok-line.was ∙ found)

@@ -11,7 +11,8 @@ use Rattle.sci_policy.specs.Policy.{ask_of, lacks_slot, slot_for}
 use Rattle.sci_policy.proofs.rules.slot_wanted.Goals as goal
 
 -- whom the oldest operation's line has to give way, if it lacks a slot
-slot_by : (node : NodeOf) (line : ℕ) (lacks : Bool) → lacks_slot node line ≡ lacks → slot_for node line ≡ (if lacks then option_and_then (ask_of node) (least node (λ other. could_give_way (state_on node other))) else None)
+slot_by : (node : NodeOf) (line : ℕ) (lacks : Bool) → lacks_slot node line ≡ lacks
+    → slot_for node line ≡ (if lacks then option_and_then (ask_of node) (least node (λ other. could_give_way (state_on node other))) else None)
 slot_by node line lacks e = ap (λ (b : Bool). if b then option_and_then (ask_of node) (least node (λ other. could_give_way (state_on node other))) else None) e
 
 lacks : (out slot giving : Bool) → out ≡ true → slot ≡ false → giving ≡ false → ((out && not slot) && not giving) ≡ true
@@ -33,7 +34,9 @@ returns-then-not-is_out c =
     let line = c.in_ok-line.line in
     let found : c.oldest.result ≡ oldest node (λ l. true) = c.oldest.ensures (λ l. true) (search rules) in
     let entry : is_out (state_on node line) ≡ false = sym c.is_out.ensures ∙ c.if-not-is_out.true in
-    let none : slot_for node line ≡ None = slot_by node line false (has_one (is_out (state_on node line)) (has_slot node.cache) (some_line node (λ other. gives_way (state_on node other))) entry) in
+    let none : slot_for node line ≡ None =
+    slot_by node line false (has_one (is_out (state_on node line)) (has_slot node.cache) (some_line node (λ other. gives_way (state_on node other)))
+    entry) in
     sym none ∙ ap (option_and_then (slot_for node)) (sym c.in_ok-line.was ∙ found)
 
 pub returns : goal.returns
@@ -43,7 +46,8 @@ returns c =
     let found : c.oldest.result ≡ oldest node (λ l. true) = c.oldest.ensures (λ l. true) (search rules) in
     let out : is_out (state_on node line) ≡ true = sym c.is_out.ensures ∙ c.if-not-is_out.false in
     let full : has_slot node.cache ≡ false = sym c.has_slot.ensures ∙ c.if-has_slot.false in
-    let stays : some_line node (λ other. gives_way (state_on node other)) ≡ false = ap is_some (sym c.least_of.ensures) ∙ (sym c.is_some.ensures ∙ c.if-is_some.false) in
+    let stays : some_line node (λ other. gives_way (state_on node other)) ≡ false =
+    ap is_some (sym c.least_of.ensures) ∙ (sym c.is_some.ensures ∙ c.if-is_some.false) in
     let lacking = lacks (is_out (state_on node line)) (has_slot node.cache) (some_line node (λ other. gives_way (state_on node other))) out full stays in
     let other : Some c.in_ok-other.other ≡ least node (λ l. could_give_way (state_on node l)) = sym c.in_ok-other.was ∙ c.least_of-2.ensures in
     c.ask_of.ensures

@@ -10,4 +10,5 @@ returns-in-Ok-clause-read c =
     ((c.in-Ok.nodes, c.in-Ok.logs, c.in-Ok.last), c.in-Ok.ensures.ok, rw (c.lines.ensures.lines, c.entries_before.ensures.count, counted) refl)
 
 pub returns-in-Err-clause-read : goal.returns-in-Err-clause-read
-returns-in-Err-clause-read c = faulty_reading (IsLogText c.args.text.now) log_size IsLogFault c.args.text.now c.in-Err.fault c.faulty.result c.in-Err.ensures.fault c.faulty.ensures.read
+returns-in-Err-clause-read c =
+    faulty_reading (IsLogText c.args.text.now) log_size IsLogFault c.args.text.now c.in-Err.fault c.faulty.result c.in-Err.ensures.fault c.faulty.ensures.read

@@ -4,4 +4,6 @@ use Rattle.sci_reports.proofs.checking.check.Goals as goal
 
 pub returns-clause-answer : goal.returns-clause-answer
 returns-clause-answer g c =
-    checked_answers (g.R.Read.remaining (tapped c.args.reader.now)) (has_failed c.read_input.new.reader) c.in_ok-bytes.bytes.items c.deref.result.now (λ x. x.text.items) (λ x. x.outcome) c.checked.result c.in_ok-bytes.ensures.unfailed c.in_ok-bytes.ensures.read c.deref.ensures.value c.checked.ensures.checked
+    checked_answers (g.R.Read.remaining (tapped c.args.reader.now)) (has_failed c.read_input.new.reader) c.in_ok-bytes.bytes.items c.deref.result.now
+    (λ x. x.text.items) (λ x. x.outcome) c.checked.result c.in_ok-bytes.ensures.unfailed c.in_ok-bytes.ensures.read c.deref.ensures.value
+    c.checked.ensures.checked

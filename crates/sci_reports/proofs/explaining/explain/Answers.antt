@@ -20,11 +20,18 @@ returns-clause-answer g c =
       (
         c.in_ok-bytes.bytes.items,
         c.in_ok-bytes.ensures.read,
-        record { nodes = logs.field-0-0; logs = logs.logs; last = logs.last; read = rw (sym c.deref.ensures.value) logs.ensures.ok; found = c.in_ok-explained.ensures },
+        record {
+          nodes = logs.field-0-0;
+          logs = logs.logs;
+          last = logs.last;
+          read = rw (sym c.deref.ensures.value) logs.ensures.ok;
+          found = c.in_ok-explained.ensures;
+        },
       ),
     )
 
 pub returns-in_err-logs-clause-fault : goal.returns-in_err-logs-clause-fault
 returns-in_err-logs-clause-fault g c =
     let known = g.R.Read.remaining (tapped c.args.reader.now) in
-    told_of_bytes IsLogFault known (has_failed c.read_input.new.reader) c.deref.result.now c.from_residual-in_err-logs.result c.in_ok-bytes.ensures.unfailed (rw c.deref.ensures.value c.in_ok-bytes.ensures.read) (search rules)
+    told_of_bytes IsLogFault known (has_failed c.read_input.new.reader) c.deref.result.now c.from_residual-in_err-logs.result c.in_ok-bytes.ensures.unfailed
+    (rw c.deref.ensures.value c.in_ok-bytes.ensures.read) (search rules)

@@ -15,6 +15,7 @@ returns-in_ok-sequential_order-in-Logged c =
     let verdict = c.in_ok-sequential_order-in-Logged.field-0 in
     let searched = c.in_ok-sequential_order-in-Logged.ensures in
     if_ok_three
-    (λ x. IsOrderText request before logs verdict x.text.items) (λ x. x.outcome ≡ Refused → ⊥) (λ x. (x.outcome ≡ Done) ↔ IsOrdered verdict) (λ x. IsFound request before logs last x.text.items x.outcome) c.told.result
+    (λ x. IsOrderText request before logs verdict x.text.items) (λ x. x.outcome ≡ Refused → ⊥) (λ x. (x.outcome ≡ Done) ↔ IsOrdered verdict)
+    (λ x. IsFound request before logs last x.text.items x.outcome) c.told.result
     (λ x text judged ends. logged_found request before logs last verdict x.text.items x.outcome c.in-Logged.is searched.verdict searched.order text judged ends)
     c.told.ensures.text c.told.ensures.judged c.told.ensures.ends

@@ -9,7 +9,8 @@ use Rattle.sci_reports.proofs.ordering.found_by_serial.Goals as goal
 
 pub sequential_order-requires : goal.sequential_order-requires
 sequential_order-requires c =
-    subst (AreWithin (length c.args.last.now)) (sym c.in_ok-sorted.ensures) (c.serial_order_is_lawful.ensures.within (length c.args.last.now) c.args.logs.now c.requires.within)
+    subst (AreWithin (length c.args.last.now)) (sym c.in_ok-sorted.ensures)
+    (c.serial_order_is_lawful.ensures.within (length c.args.last.now) c.args.logs.now c.requires.within)
 
 pub returns : goal.returns
 returns c =
@@ -18,6 +19,9 @@ returns c =
     let verdict = c.in_ok-verdict.verdict in
     let still = c.serial_order_is_lawful.ensures.lawful logs last (sym c.nodes-nodes.ensures.nodes ∙ c.nodes-nodes.ensures.sixteen) c.requires.lawful in
     if_ok_three
-    (λ x. IsOrderText c.args.search.request c.args.search.before logs verdict x.text.items) (λ x. x.outcome ≡ Refused → ⊥) (λ x. (x.outcome ≡ Done) ↔ IsOrdered verdict) (λ x. IsFound c.args.search.request c.args.search.before logs last x.text.items x.outcome) c.told.result
-    (λ x text judged ends. serial_found c.args.search.request c.args.search.before logs c.in_ok-sorted.sorted last verdict x.text.items x.outcome c.requires.keeps c.in_ok-sorted.ensures c.requires.lawful still c.nodes-nodes-2.ensures.own (sym c.nodes-nodes-2.ensures.nodes ∙ c.nodes-nodes-2.ensures.sixteen) c.in_ok-verdict.ensures.verdict c.in_ok-verdict.ensures.order text judged ends)
+    (λ x. IsOrderText c.args.search.request c.args.search.before logs verdict x.text.items) (λ x. x.outcome ≡ Refused → ⊥)
+    (λ x. (x.outcome ≡ Done) ↔ IsOrdered verdict) (λ x. IsFound c.args.search.request c.args.search.before logs last x.text.items x.outcome) c.told.result
+    (λ x text judged ends. serial_found c.args.search.request c.args.search.before logs c.in_ok-sorted.sorted last verdict x.text.items x.outcome
+    c.requires.keeps c.in_ok-sorted.ensures c.requires.lawful still c.nodes-nodes-2.ensures.own
+    (sym c.nodes-nodes-2.ensures.nodes ∙ c.nodes-nodes-2.ensures.sixteen) c.in_ok-verdict.ensures.verdict c.in_ok-verdict.ensures.order text judged ends)
     c.told.ensures.text c.told.ensures.judged c.told.ensures.ends

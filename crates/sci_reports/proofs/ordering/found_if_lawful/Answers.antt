@@ -14,4 +14,5 @@ returns-in_ok-verdict_line-in-Fault c =
     let last = c.args.last.now in
     let text = c.in_ok-verdict_line-in-Fault.field-0.items in
     fault_found c.args.search.request c.args.search.before logs last c.in-Fault.line c.in-Fault.kind c.in-Fault.at text
-    (subst (λ (v : Verdict). IsVerdict logs last v × ((v ≡ verdicts.Lawful) ↔ Lawful logs last) × (text ≡ verdict_text v)) c.in-Fault.is (c.in_ok-verdict.ensures.verdict, c.in_ok-verdict.ensures.lawful, c.in_ok-verdict_line-in-Fault.ensures))
+    (subst (λ (v : Verdict). IsVerdict logs last v × ((v ≡ verdicts.Lawful) ↔ Lawful logs last) × (text ≡ verdict_text v)) c.in-Fault.is
+    (c.in_ok-verdict.ensures.verdict, c.in_ok-verdict.ensures.lawful, c.in_ok-verdict_line-in-Fault.ensures))

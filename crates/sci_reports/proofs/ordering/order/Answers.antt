@@ -12,7 +12,8 @@ returns-clause-answer g c =
     let known = g.R.Read.remaining (tapped c.args.reader.now) in
     let unread = has_failed c.read_input.new.reader in
     let found = c.in_ok-found.field-0 in
-    answer_made (IsOrderOf c.args.request) (λ kind line. IsTold IsLogFault kind known unread line) known unread found.text.items found.outcome c.in_ok-found.ensures.judged (
+    answer_made (IsOrderOf c.args.request) (λ kind line. IsTold IsLogFault kind known unread line) known unread found.text.items found.outcome
+    c.in_ok-found.ensures.judged (
       c.in_ok-bytes.ensures.unfailed,
       (
         c.in_ok-bytes.bytes.items,
@@ -32,4 +33,5 @@ returns-clause-answer g c =
 pub returns-in_err-logs-clause-fault : goal.returns-in_err-logs-clause-fault
 returns-in_err-logs-clause-fault g c =
     let known = g.R.Read.remaining (tapped c.args.reader.now) in
-    told_of_bytes IsLogFault known (has_failed c.read_input.new.reader) c.deref.result.now c.from_residual-in_err-logs.result c.in_ok-bytes.ensures.unfailed (rw c.deref.ensures.value c.in_ok-bytes.ensures.read) (search rules)
+    told_of_bytes IsLogFault known (has_failed c.read_input.new.reader) c.deref.result.now c.from_residual-in_err-logs.result c.in_ok-bytes.ensures.unfailed
+    (rw c.deref.ensures.value c.in_ok-bytes.ensures.read) (search rules)

@@ -12,4 +12,5 @@ free-requires-clause-may c =
     let part = c.receive.new.end.part in
     let none = none_seen (λ o. option_map letter_of (option_copied o)) refl c.waiting.result _ c.waiting.ensures (sym c.is_some.ensures ∙ c.if-is_some.false) in
     let free : part.node.waiting ≡ None = ap (λ (m : NodeOf). m.waiting) (c.receive.ensures.still.node ∙ sym c.node.ensures.node) ∙ none in
-    may_refuse part cell.result c.in-Some.request c.args.from c.me.result c.in-Some.ensures.read cell.ensures.cell.0 cell.ensures.cell.1 c.me.ensures free (sym c.sets_back.ensures ∙ c.if-sets_back.false)
+    may_refuse part cell.result c.in-Some.request c.args.from c.me.result c.in-Some.ensures.read cell.ensures.cell.0 cell.ensures.cell.1 c.me.ensures free
+    (sym c.sets_back.ensures ∙ c.if-sets_back.false)

@@ -9,6 +9,7 @@ pub returns-clause-rest : goal.returns-clause-rest
 returns-clause-rest c = λ idle.
     let post = c.take_turn.new.post in
     let there : (parts : List NodeOf) → parts ≡ post.recorder.now.core.parts → MayIdle (slice_index_or parts c.args.node no_node) = λ parts is.
-    subst (λ (ps : List NodeOf). MayIdle (slice_index_or ps c.args.node no_node)) (sym is) (subst (λ (n : ℕ). MayIdle (node_at post.recorder.now.core n)) c.take_turn.ensures.stays.0 (c.in_ok-take_turn.ensures.rest refl idle))
+    subst (λ (ps : List NodeOf). MayIdle (slice_index_or ps c.args.node no_node)) (sym is)
+    (subst (λ (n : ℕ). MayIdle (node_at post.recorder.now.core n)) c.take_turn.ensures.stays.0 (c.in_ok-take_turn.ensures.rest refl idle))
     in
     there _ (search rules)

@@ -35,15 +35,20 @@ loop-index-preserved c =
     let order = i.order in
     let long = i.long in
     let next = still_takes c.args.end.now c.loop-index.end c.args.cell i.still c.requires.next in
-    let found = ap (λ (x : Inbound). x.found) (read_found c.loop-index.end c.read_word.new.self c.args.cell index c.read_word.result i.shown next c.read_word.ensures.part) in
+    let found = ap (λ (x : Inbound). x.found)
+    (read_found c.loop-index.end c.read_word.new.self c.args.cell index c.read_word.result i.shown next c.read_word.ensures.part) in
     record {
-      still = still_then c.args.end.now c.loop-index.end c.read_word.new.self i.still (read_still c.loop-index.end c.read_word.new.self c.args.cell index c.read_word.result c.read_word.ensures.seen c.read_word.ensures.part);
+      still = still_then c.args.end.now c.loop-index.end c.read_word.new.self i.still
+          (read_still c.loop-index.end c.read_word.new.self c.args.cell index c.read_word.result c.read_word.ensures.seen c.read_word.ensures.part);
       shown = c.read_word.ensures.shown;
       long = length-set c.loop-index.words index c.read_word.result ∙ long;
       order = omega arith;
-      found = found ∙ found_more (inbound_at c.loop-index.end.part (lane_at_cell c.loop-index.end.part c.args.cell)).found c.loop-index.words index c.read_word.result (omega arith) i.found;
+      found = found ∙ found_more (inbound_at c.loop-index.end.part (lane_at_cell c.loop-index.end.part c.args.cell)).found c.loop-index.words index
+          c.read_word.result (omega arith) i.found;
       begins = take-set-le c.args.from c.loop-index.words index c.read_word.result (omega arith) ∙ i.begins;
       others = others_then _ c.args.end.now.part c.loop-index.end.part c.read_word.new.self.part i.others
-          (subst (λ (l : ℕ). LeavesOthers l c.loop-index.end.part c.read_word.new.self.part) (lane_still c.args.end.now c.loop-index.end c.args.cell i.still) (read_others c.loop-index.end c.read_word.new.self c.args.cell index c.read_word.result c.read_word.ensures.part));
-      budget = no_more_then c.args.budget.now.left c.loop-index.budget.left c.spend.new.self.left i.budget (no_more_less 1 c.loop-index.budget.left c.spend.new.self.left c.in_ok-spend.ensures.one);
+          (subst (λ (l : ℕ). LeavesOthers l c.loop-index.end.part c.read_word.new.self.part) (lane_still c.args.end.now c.loop-index.end c.args.cell i.still)
+          (read_others c.loop-index.end c.read_word.new.self c.args.cell index c.read_word.result c.read_word.ensures.part));
+      budget = no_more_then c.args.budget.now.left c.loop-index.budget.left c.spend.new.self.left i.budget
+          (no_more_less 1 c.loop-index.budget.left c.spend.new.self.left c.in_ok-spend.ensures.one);
     }

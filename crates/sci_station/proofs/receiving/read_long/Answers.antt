@@ -14,7 +14,8 @@ unreachable-requires c =
     let long = c.read.array_long in
     let found = c.in_ok-read.ensures.found refl ∙ (ap (λ (n : ℕ). take n words) (sym long) ∙ take-length words) in
     let some : 0 < length (inbound_at c.read.new.end.part (lane_at_cell c.read.new.end.part c.args.cell)).found = let e = ap length found in omega arith in
-    front_decodes _ _ words c.in-Err.field-0 c.from_words.result (front_found c.read.new.end.part c.args.cell c.read.ensures.shown next some) found long c.from_words.ensures.only c.in-Err.is
+    front_decodes _ _ words c.in-Err.field-0 c.from_words.result (front_found c.read.new.end.part c.args.cell c.read.ensures.shown next some) found long
+    c.from_words.ensures.only c.in-Err.is
 
 pub returns-clause-read : goal.returns-clause-read
 returns-clause-read c =
@@ -24,5 +25,6 @@ returns-clause-read c =
     record {
       shown = c.read.ensures.shown;
       next = still_takes c.args.end.now c.read.new.end c.args.cell c.read.ensures.still c.requires.next;
-      spelled = long_packet c.in-Ok.packet c.in-Ok.field-0-1 words _ _ c.requires.long refl c.read.ensures.begins c.in-Ok.ensures.found c.in-Ok.ensures.length long found;
+      spelled = long_packet c.in-Ok.packet c.in-Ok.field-0-1 words _ _ c.requires.long refl c.read.ensures.begins c.in-Ok.ensures.found c.in-Ok.ensures.length
+          long found;
     }

@@ -14,17 +14,22 @@ pub returns-then-first-eq0-clause-none : goal.returns-then-first-eq0-clause-none
 returns-then-first-eq0-clause-none c = λ _. c.look_for-first.ensures.empty c.if-first-eq0.true
 
 -- the lane that was looked at
-others_there : (old new : EndOf) (kind : LaneKind) (from word : ℕ) → LooksFor kind from word old new → LeavesOthers (lane_place (nodes_in old.part) kind from (me_of old.part)) old.part new.part
-others_there old new kind from word looks = subst (λ (l : ℕ). LeavesOthers l old.part new.part) (λ i. lane_place (nodes_in old.part) (looks.kind_is i) (looks.sender_is i) (looks.next.mine i)) (look_others old new looks.cell word looks.looked)
+others_there : (old new : EndOf) (kind : LaneKind) (from word : ℕ) → LooksFor kind from word old new
+    → LeavesOthers (lane_place (nodes_in old.part) kind from (me_of old.part)) old.part new.part
+others_there old new kind from word looks =
+    subst (λ (l : ℕ). LeavesOthers l old.part new.part) (λ i. lane_place (nodes_in old.part) (looks.kind_is i) (looks.sender_is i) (looks.next.mine i))
+    (look_others old new looks.cell word looks.looked)
 
 pub returns-then-first-eq0-clause-others : goal.returns-then-first-eq0-clause-others
-returns-then-first-eq0-clause-others c = others_there c.args.end.now c.look_for-first.new.self c.args.kind c.args.from c.look_for-first.result c.look_for-first.ensures.looked
+returns-then-first-eq0-clause-others c =
+    others_there c.args.end.now c.look_for-first.new.self c.args.kind c.args.from c.look_for-first.result c.look_for-first.ensures.looked
 
 pub returns-clause-others : goal.returns-clause-others
 returns-clause-others c = others_there c.args.end.now c.look_for-first.new.self c.args.kind c.args.from c.look_for-first.result c.look_for-first.ensures.looked
 
 pub returns-then-first-eq0-clause-still : goal.returns-then-first-eq0-clause-still
-returns-then-first-eq0-clause-still c = let looked = c.look_for-first.ensures.looked in look_still c.args.end.now c.look_for-first.new.self looked.cell c.look_for-first.result looked.seen looked.looked
+returns-then-first-eq0-clause-still c = let looked = c.look_for-first.ensures.looked in
+    look_still c.args.end.now c.look_for-first.new.self looked.cell c.look_for-first.result looked.seen looked.looked
 
 pub next_to_take-cell-requires : goal.next_to_take-cell-requires
 next_to_take-cell-requires c =
@@ -41,7 +46,8 @@ returns-clause-seen c =
     let still = look_still end new looked.cell first looked.seen looked.looked in
     let there = still_takes end new looked.cell still looked.next in
     let cell = c.next_to_take-cell in
-    let same = next_same new.part cell.result looked.cell cell.ensures.next there (cell.ensures.cell.0 ∙ sym looked.kind_is) (cell.ensures.cell.1 ∙ sym looked.sender_is) in
+    let same = next_same new.part cell.result looked.cell cell.ensures.next there (cell.ensures.cell.0 ∙ sym looked.kind_is)
+    (cell.ensures.cell.1 ∙ sym looked.sender_is) in
     subst (λ (k : CellId). HasSeen new.part (record { cell = k; first = first })) (sym same) (record {
       shown = c.look_for-first.ensures.shown;
       next = there;
@@ -49,4 +55,5 @@ returns-clause-seen c =
     })
 
 pub returns-clause-still : goal.returns-clause-still
-returns-clause-still c = let looked = c.look_for-first.ensures.looked in look_still c.args.end.now c.look_for-first.new.self looked.cell c.look_for-first.result looked.seen looked.looked
+returns-clause-still c = let looked = c.look_for-first.ensures.looked in
+    look_still c.args.end.now c.look_for-first.new.self looked.cell c.look_for-first.result looked.seen looked.looked

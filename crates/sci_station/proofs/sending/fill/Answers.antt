@@ -10,7 +10,8 @@ use Rattle.sci_lanes.specs.Ends.{lane_at_cell}
 use Rattle.sci_station.proofs.sending.fill.Goals as goal
 
 -- one word more is filled
-filled_more : (filled words : List ℕ) (place : ℕ) → place < length words → (0 < place → filled ≡ take place words) → take (place + 1 - 1) filled ++ get_or words place 0 ∷ [] ≡ take (place + 1) words
+filled_more : (filled words : List ℕ) (place : ℕ) → place < length words → (0 < place → filled ≡ take place words)
+    → take (place + 1 - 1) filled ++ get_or words place 0 ∷ [] ≡ take (place + 1) words
 filled_more filled words zero some so = grind (arith, common_steps)
 filled_more filled words (suc place) some so = let is = so (omega arith) in grind (arith, common_steps)
 
@@ -19,11 +20,16 @@ loop-place-preserved c =
     let i = c.loop-place.invariant in
     let old = c.loop-place.end in
     let new = c.fill.new.self in
-    let filled = filled_there old new c.args.cell _ _ c.fill.ensures.seen c.fill.ensures.shown (still_sends c.args.end.now old c.args.cell i.still c.requires.next) c.fill.ensures.part in
+    let filled = filled_there old new c.args.cell _ _ c.fill.ensures.seen c.fill.ensures.shown
+    (still_sends c.args.end.now old c.args.cell i.still c.requires.next) c.fill.ensures.part in
     record {
       still = still_then c.args.end.now old new i.still (fill_still old new c.args.cell _ _ c.fill.ensures.seen c.fill.ensures.part);
       vacant = ap (λ (o : Outbound). o.vacant) filled ∙ i.vacant;
-      filled = λ _. ap (λ (o : Outbound). o.filled) filled ∙ filled_more (outbound_at old.part (lane_at_cell old.part c.args.cell)).filled c.args.words.now c.loop-place.place c.loop-place-test.true i.filled;
-      others = others_then _ c.args.end.now.part old.part new.part i.others (subst (λ (l : ℕ). LeavesOthers l old.part new.part) (lane_still c.args.end.now old c.args.cell i.still) (fill_others old new c.args.cell _ _ c.fill.ensures.part));
-      budget = no_more_then c.args.budget.now.left c.loop-place.budget.left c.spend.new.self.left i.budget (no_more_less 1 c.loop-place.budget.left c.spend.new.self.left c.in_ok-spend.ensures.one);
+      filled = λ _. ap (λ (o : Outbound). o.filled) filled
+          ∙ filled_more (outbound_at old.part (lane_at_cell old.part c.args.cell)).filled c.args.words.now c.loop-place.place c.loop-place-test.true i.filled;
+      others = others_then _ c.args.end.now.part old.part new.part i.others
+          (subst (λ (l : ℕ). LeavesOthers l old.part new.part) (lane_still c.args.end.now old c.args.cell i.still)
+          (fill_others old new c.args.cell _ _ c.fill.ensures.part));
+      budget = no_more_then c.args.budget.now.left c.loop-place.budget.left c.spend.new.self.left i.budget
+          (no_more_less 1 c.loop-place.budget.left c.spend.new.self.left c.in_ok-spend.ensures.one);
     }

@@ -8,5 +8,6 @@ use Rattle.sci_statistics.proofs.waits.greatest.Goals as goal
 
 pub returns : goal.returns
 returns c =
-    let picked = max_from_yields_List c.map.result c.max.result c.max.ensures.ran (YieldsList-from_map _ (λ (w : Wait). w.events) (YieldsList-from_slice c.args.waits.now cc) c.map.ensures.closure (λ x r q k. search (rules, tests))) in
+    let picked = max_from_yields_List c.map.result c.max.result c.max.ensures.ran
+    (YieldsList-from_map _ (λ (w : Wait). w.events) (YieldsList-from_slice c.args.waits.now cc) c.map.ensures.closure (λ x r q k. search (rules, tests))) in
     c.unwrap_or.ensures ∙ ap (λ (o : Option ℕ). unwrap_or o 0) (sym (option_map_id c.max.result) ∙ picked)

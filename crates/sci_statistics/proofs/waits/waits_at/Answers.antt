@@ -20,8 +20,10 @@ loop-place-preserved c =
         | in-Some-issued_line w ↦
             let named : w.in-Some-issued_line.line < 256 = search rules in
             let at : w.from-in-Some-issued_line.result ≡ w.in-Some-issued_line.line = w.from-in-Some-issued_line.ensures in
-            rw (w.behind_issue-is, at) (behind_set n passages i d behind w.in-Some-issued_line.line within (sym c.issued_line.ensures ∙ w.in-Some-issued_line.is) named was.places)
-        | in_default-issued_line w ↦ rw w.behind_issue-is (behind_kept n passages i d behind within (sym c.issued_line.ensures ∙ w.in_default-issued_line.is) was.places)
+            rw (w.behind_issue-is, at) (behind_set n passages i d behind w.in-Some-issued_line.line within
+            (sym c.issued_line.ensures ∙ w.in-Some-issued_line.is) named was.places)
+        | in_default-issued_line w ↦ rw w.behind_issue-is
+            (behind_kept n passages i d behind within (sym c.issued_line.ensures ∙ w.in_default-issued_line.is) was.places)
       ];
       found = elim c.match-performed_at.branch [
         | in-Some+in_ok-push w ↦
@@ -29,8 +31,10 @@ loop-place-preserved c =
             let long = was.places.long in
             let there : w.in-Some.line < length behind = omega (arith, named, long) in
             let at : w.from.result ≡ w.in-Some.line = w.from.ensures in
-            let read : w.index.result.now ≡ get_or behind w.in-Some.line 0 = w.index.ensures ∙ (ap (λ k. get_or behind k w.index.result.now) at ∙ get_or_default_zero behind w.in-Some.line w.index.result.now there) in
-            rw w.found-is (waits_longer n passages i d behind w.in-Some.access w.in-Some.line c.loop-place.found.items w.push.new.self.items _ within (sym c.performed_at.ensures ∙ w.in-Some.is) named was.places (ap (λ k. i - k) read) w.in_ok-push.ensures.items was.found)
+            let read : w.index.result.now ≡ get_or behind w.in-Some.line 0 =
+            w.index.ensures ∙ (ap (λ k. get_or behind k w.index.result.now) at ∙ get_or_default_zero behind w.in-Some.line w.index.result.now there) in
+            rw w.found-is (waits_longer n passages i d behind w.in-Some.access w.in-Some.line c.loop-place.found.items w.push.new.self.items _ within
+            (sym c.performed_at.ensures ∙ w.in-Some.is) named was.places (ap (λ k. i - k) read) w.in_ok-push.ensures.items was.found)
         | in_default w ↦ rw w.found-is (waits_kept n passages i d c.loop-place.found.items within (sym c.performed_at.ensures ∙ w.in_default.is) was.found)
       ];
       few = elim c.match-performed_at.branch [

@@ -16,39 +16,51 @@ pub returns-in_err-check_length-clause-fault : goal.returns-in_err-check_length-
 returns-in_err-check_length-clause-fault c =
     let e = err_from_is_err_and c.from_residual.result c.from_residual.ensures.1 in
     let front = front_of c.args.form.now c.args.last.now c.args.logs.now in
-    rw (e.1, e.2, c.in_err-check_length.ensures.fault) (inr (neither front c.args.bytes.now c.requires.no_last (entry_long front c.args.bytes.now c.in-Some.node c.in-Some.entry c.in-Some.rest.now c.in-Some.ensures c.in_err-check_length.ensures.long)))
+    rw (e.1, e.2, c.in_err-check_length.ensures.fault)
+    (inr (neither front c.args.bytes.now c.requires.no_last
+    (entry_long front c.args.bytes.now c.in-Some.node c.in-Some.entry c.in-Some.rest.now c.in-Some.ensures c.in_err-check_length.ensures.long)))
 
 pub returns-then-is_below-clause-fault : goal.returns-then-is_below-clause-fault
 returns-then-is_below-clause-fault c =
     let front = front_of c.args.form.now c.args.last.now c.args.logs.now in
-    inr (neither front c.args.bytes.now c.requires.no_last (entry_lower front c.args.bytes.now c.in-Some.node c.in-Some.entry c.in-Some.rest.now c.args.latest c.requires.latest c.in-Some.ensures c.if-is_below.ensures.yes))
+    inr (neither front c.args.bytes.now c.requires.no_last
+    (entry_lower front c.args.bytes.now c.in-Some.node c.in-Some.entry c.in-Some.rest.now c.args.latest c.requires.latest c.in-Some.ensures
+    c.if-is_below.ensures.yes))
 
 pub returns-in_default-entry-clause-fault : goal.returns-in_default-entry-clause-fault
 returns-in_default-entry-clause-fault c =
     let front = front_of c.args.form.now c.args.last.now c.args.logs.now in
     let small : c.args.latest < 2 ^ 64 = omega arith in
-    inr (entry_unfit front c.args.bytes.now c.in-Some.node c.in-Some.entry c.in-Some.rest.now c.args.latest c.requires.good.form c.requires.good.few_lines c.requires.whole c.requires.latest small c.in-Some.ensures c.in_ok-check_length.ensures.short c.if-is_below.ensures.no c.in_default-entry.is)
+    inr (entry_unfit front c.args.bytes.now c.in-Some.node c.in-Some.entry c.in-Some.rest.now c.args.latest c.requires.good.form c.requires.good.few_lines
+    c.requires.whole c.requires.latest small c.in-Some.ensures c.in_ok-check_length.ensures.short c.if-is_below.ensures.no c.in_default-entry.is)
 
 pub returns-then-not-admits-clause-fault : goal.returns-then-not-admits-clause-fault
 returns-then-not-admits-clause-fault c =
     let front = front_of c.args.form.now c.args.last.now c.args.logs.now in
     let small : c.args.latest < 2 ^ 64 = omega arith in
     let entry = c.in-Some-entry.entry in
-    let read : entry_line_read c.args.bytes.now ≡ Some ((c.in-Some.node, Some entry), c.in-Some.rest.now) = c.in-Some.ensures ∙ ap (λ (o : Option Entry). Some ((c.in-Some.node, o), c.in-Some.rest.now)) c.in-Some-entry.is in
-    inr (entry_outside front c.args.bytes.now c.in-Some.node entry c.in-Some.rest.now c.args.latest c.requires.whole c.requires.latest small read c.in_ok-check_length.ensures.short c.if-is_below.ensures.no c.if-not-admits.ensures.no)
+    let read : entry_line_read c.args.bytes.now ≡ Some ((c.in-Some.node, Some entry), c.in-Some.rest.now) =
+    c.in-Some.ensures ∙ ap (λ (o : Option Entry). Some ((c.in-Some.node, o), c.in-Some.rest.now)) c.in-Some-entry.is in
+    inr (entry_outside front c.args.bytes.now c.in-Some.node entry c.in-Some.rest.now c.args.latest c.requires.whole c.requires.latest small read
+    c.in_ok-check_length.ensures.short c.if-is_below.ensures.no c.if-not-admits.ensures.no)
 
 pub returns-then-of-form-clause-fault : goal.returns-then-of-form-clause-fault
 returns-then-of-form-clause-fault c =
     let front = front_of c.args.form.now c.args.last.now c.args.logs.now in
     let small : c.args.latest < 2 ^ 64 = omega arith in
     let entry = c.in-Some-entry.entry in
-    let read : entry_line_read c.args.bytes.now ≡ Some ((c.in-Some.node, Some entry), c.in-Some.rest.now) = c.in-Some.ensures ∙ ap (λ (o : Option Entry). Some ((c.in-Some.node, o), c.in-Some.rest.now)) c.in-Some-entry.is in
-    inr (entry_too_many front c.args.bytes.now c.in-Some.node entry c.in-Some.rest.now c.args.latest c.requires.whole c.requires.latest small read c.in_ok-check_length.ensures.short c.if-is_below.ensures.no c.if-not-admits.ensures.yes (omega (arith, ap length c.of.ensures.log)))
+    let read : entry_line_read c.args.bytes.now ≡ Some ((c.in-Some.node, Some entry), c.in-Some.rest.now) =
+    c.in-Some.ensures ∙ ap (λ (o : Option Entry). Some ((c.in-Some.node, o), c.in-Some.rest.now)) c.in-Some-entry.is in
+    inr (entry_too_many front c.args.bytes.now c.in-Some.node entry c.in-Some.rest.now c.args.latest c.requires.whole c.requires.latest small read
+    c.in_ok-check_length.ensures.short c.if-is_below.ensures.no c.if-not-admits.ensures.yes (omega (arith, ap length c.of.ensures.log)))
 
 pub returns-in-Ok-clause-ok : goal.returns-in-Ok-clause-ok
 returns-in-Ok-clause-ok c =
     let front = front_of c.args.form.now c.args.last.now c.args.logs.now in
     let small : c.args.latest < 2 ^ 64 = omega arith in
     let entry = c.in-Some-entry.entry in
-    let read : entry_line_read c.args.bytes.now ≡ Some ((c.in-Some.node, Some entry), c.in-Some.rest.now) = c.in-Some.ensures ∙ ap (λ (o : Option Entry). Some ((c.in-Some.node, o), c.in-Some.rest.now)) c.in-Some-entry.is in
-    entry_ok front c.args.bytes.now c.in-Some.node entry c.in-Some.rest.now c.args.latest c.requires.whole c.requires.latest small read c.in_ok-check_length.ensures.short c.if-is_below.ensures.no c.if-not-admits.ensures.yes (omega (arith, ap length c.of.ensures.log)) c.push.new.self c.in-Ok.ensures.ok
+    let read : entry_line_read c.args.bytes.now ≡ Some ((c.in-Some.node, Some entry), c.in-Some.rest.now) =
+    c.in-Some.ensures ∙ ap (λ (o : Option Entry). Some ((c.in-Some.node, o), c.in-Some.rest.now)) c.in-Some-entry.is in
+    entry_ok front c.args.bytes.now c.in-Some.node entry c.in-Some.rest.now c.args.latest c.requires.whole c.requires.latest small read
+    c.in_ok-check_length.ensures.short c.if-is_below.ensures.no c.if-not-admits.ensures.yes (omega (arith, ap length c.of.ensures.log)) c.push.new.self
+    c.in-Ok.ensures.ok

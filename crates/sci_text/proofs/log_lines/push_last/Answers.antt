@@ -16,34 +16,45 @@ pub returns-in_err-check_length-clause-fault : goal.returns-in_err-check_length-
 returns-in_err-check_length-clause-fault c =
     let e = err_from_is_err_and c.from_residual.result c.from_residual.ensures.1 in
     let front = front_of c.args.form.now c.args.last.now.items no_logs in
-    rw (e.1, e.2, c.in_err-check_length.ensures.fault) (inr (neither front c.args.bytes.now (last_long front c.args.bytes.now c.in-Some.said.line c.in-Some.said.stamped c.in-Some.rest.now c.in-Some.ensures c.in_err-check_length.ensures.long) (last_no_entry front c.args.bytes.now c.requires.begins)))
+    rw (e.1, e.2, c.in_err-check_length.ensures.fault)
+    (inr (neither front c.args.bytes.now
+    (last_long front c.args.bytes.now c.in-Some.said.line c.in-Some.said.stamped c.in-Some.rest.now c.in-Some.ensures c.in_err-check_length.ensures.long)
+    (last_no_entry front c.args.bytes.now c.requires.begins)))
 
 pub returns-then-not-is_number-clause-fault : goal.returns-then-not-is_number-clause-fault
 returns-then-not-is_number-clause-fault c =
     let front = front_of c.args.form.now c.args.last.now.items no_logs in
     let few : length c.args.last.now.items < 2 ^ 64 = omega (arith, c.requires.few) in
     let len : c.len.result ≡ length c.args.last.now.items = omega (arith, c.len.ensures) in
-    inr (neither front c.args.bytes.now (last_other front c.args.bytes.now c.in-Some.said.line c.in-Some.said.stamped c.in-Some.rest.now c.in-Some.ensures few (λ is. c.if-not-is_number.ensures.no (is ∙ ap (λ (n : ℕ). Some n) (sym len)))) (last_no_entry front c.args.bytes.now c.requires.begins))
+    inr (neither front c.args.bytes.now
+    (last_other front c.args.bytes.now c.in-Some.said.line c.in-Some.said.stamped c.in-Some.rest.now c.in-Some.ensures few
+    (λ is. c.if-not-is_number.ensures.no (is ∙ ap (λ (n : ℕ). Some n) (sym len)))) (last_no_entry front c.args.bytes.now c.requires.begins))
 
 pub returns-then-not-has_room-clause-fault : goal.returns-then-not-has_room-clause-fault
 returns-then-not-has_room-clause-fault c =
     let front = front_of c.args.form.now c.args.last.now.items no_logs in
     let len : c.len-2.result ≡ length c.args.last.now.items = omega (arith, c.len-2.ensures) in
-    inr (neither front c.args.bytes.now (last_no_room front c.args.bytes.now (subst (λ (n : ℕ). HasRoom c.args.form.now.lines n → ⊥) len c.if-not-has_room.ensures.no)) (last_no_entry front c.args.bytes.now c.requires.begins))
+    inr (neither front c.args.bytes.now
+    (last_no_room front c.args.bytes.now (subst (λ (n : ℕ). HasRoom c.args.form.now.lines n → ⊥) len c.if-not-has_room.ensures.no))
+    (last_no_entry front c.args.bytes.now c.requires.begins))
 
 pub returns-then-len-clause-fault : goal.returns-then-len-clause-fault
 returns-then-len-clause-fault c =
     let front = front_of c.args.form.now c.args.last.now.items no_logs in
     let len : c.len.result ≡ length c.args.last.now.items = omega (arith, c.len.ensures) in
     let len-2 : c.len-2.result ≡ length c.args.last.now.items = omega (arith, c.len-2.ensures) in
-    inr (last_range front c.args.bytes.now c.in-Some.said.line c.in-Some.said.stamped c.in-Some.rest.now refl (subst (HasRoom c.args.form.now.lines) len-2 c.if-not-has_room.ensures.yes) c.in-Some.ensures (c.if-not-is_number.ensures.yes ∙ ap (λ (n : ℕ). Some n) len) c.in_ok-check_length.ensures.short (inl (omega (arith, c.len-3.ensures))))
+    inr (last_range front c.args.bytes.now c.in-Some.said.line c.in-Some.said.stamped c.in-Some.rest.now refl
+    (subst (HasRoom c.args.form.now.lines) len-2 c.if-not-has_room.ensures.yes) c.in-Some.ensures
+    (c.if-not-is_number.ensures.yes ∙ ap (λ (n : ℕ). Some n) len) c.in_ok-check_length.ensures.short (inl (omega (arith, c.len-3.ensures))))
 
 pub returns-in_default-stamped-clause-fault : goal.returns-in_default-stamped-clause-fault
 returns-in_default-stamped-clause-fault c =
     let front = front_of c.args.form.now c.args.last.now.items no_logs in
     let len : c.len.result ≡ length c.args.last.now.items = omega (arith, c.len.ensures) in
     let len-2 : c.len-2.result ≡ length c.args.last.now.items = omega (arith, c.len-2.ensures) in
-    inr (last_range front c.args.bytes.now c.in-Some.said.line c.in-Some.said.stamped c.in-Some.rest.now refl (subst (HasRoom c.args.form.now.lines) len-2 c.if-not-has_room.ensures.yes) c.in-Some.ensures (c.if-not-is_number.ensures.yes ∙ ap (λ (n : ℕ). Some n) len) c.in_ok-check_length.ensures.short (inr c.in_default-stamped.is))
+    inr (last_range front c.args.bytes.now c.in-Some.said.line c.in-Some.said.stamped c.in-Some.rest.now refl
+    (subst (HasRoom c.args.form.now.lines) len-2 c.if-not-has_room.ensures.yes) c.in-Some.ensures
+    (c.if-not-is_number.ensures.yes ∙ ap (λ (n : ℕ). Some n) len) c.in_ok-check_length.ensures.short (inr c.in_default-stamped.is))
 
 pub returns-in-Ok-clause-ok : goal.returns-in-Ok-clause-ok
 returns-in-Ok-clause-ok c =
@@ -51,7 +62,10 @@ returns-in-Ok-clause-ok c =
     let stamped = c.in-Some-stamped.stamped in
     let len : c.len.result ≡ length old = omega (arith, c.len.ensures) in
     let len-2 : c.len-2.result ≡ length old = omega (arith, c.len-2.ensures) in
-    let read : last_line_read c.args.bytes.now ≡ Some ((c.in-Some.said.line, Some stamped), c.in-Some.rest.now) = c.in-Some.ensures ∙ ap (λ (o : Option Stamped). Some ((c.in-Some.said.line, o), c.in-Some.rest.now)) c.in-Some-stamped.is in
+    let read : last_line_read c.args.bytes.now ≡ Some ((c.in-Some.said.line, Some stamped), c.in-Some.rest.now) =
+    c.in-Some.ensures ∙ ap (λ (o : Option Stamped). Some ((c.in-Some.said.line, o), c.in-Some.rest.now)) c.in-Some-stamped.is in
     let pushed : c.push.new.self.items ≡ old ++ stamped ∷ [] = (rw c.in-Some-stamped.is at c.in-Ok.ensures.items) in
     subst (λ (new : List Stamped). AddsLast c.args.form.now old new c.args.bytes.now c.in-Some.rest.now) (sym pushed)
-    (last_ok c.args.form.now old c.args.bytes.now c.in-Some.said.line stamped c.in-Some.rest.now read (c.if-not-is_number.ensures.yes ∙ ap (λ (n : ℕ). Some n) len) (omega (arith, c.len-3.ensures)) (subst (HasRoom c.args.form.now.lines) len-2 c.if-not-has_room.ensures.yes))
+    (last_ok c.args.form.now old c.args.bytes.now c.in-Some.said.line stamped c.in-Some.rest.now read
+    (c.if-not-is_number.ensures.yes ∙ ap (λ (n : ℕ). Some n) len) (omega (arith, c.len-3.ensures))
+    (subst (HasRoom c.args.form.now.lines) len-2 c.if-not-has_room.ensures.yes))

@@ -8,8 +8,10 @@ use Rattle.sci_text.proofs.log_reading.read_logs.Goals as goal
 pub returns-clause-only : goal.returns-clause-only
 returns-clause-only g c = λ input nodes logs last is few known.
     let text : c.in_ok-bytes.bytes.items ≡ input = rw known at c.in_ok-bytes.ensures.read.same in
-    log_read_as c.one_log.ensures c.no_log_fault.ensures input c.deref.result.now nodes logs last c.logs_of.result is (c.deref.ensures.value ∙ text) c.logs_of.ensures.ok c.logs_of.ensures.fault
+    log_read_as c.one_log.ensures c.no_log_fault.ensures input c.deref.result.now nodes logs last c.logs_of.result is (c.deref.ensures.value ∙ text)
+    c.logs_of.ensures.ok c.logs_of.ensures.fault
 
 pub returns-clause-fault : goal.returns-clause-fault
 returns-clause-fault g c =
-    told_of_bytes IsLogFault (g.R.Read.remaining (tapped c.args.reader.now)) (has_failed c.read_input.new.reader) c.deref.result.now c.logs_of.result c.in_ok-bytes.ensures.unfailed (rw c.deref.ensures.value c.in_ok-bytes.ensures.read) c.logs_of.ensures.fault
+    told_of_bytes IsLogFault (g.R.Read.remaining (tapped c.args.reader.now)) (has_failed c.read_input.new.reader) c.deref.result.now c.logs_of.result
+    c.in_ok-bytes.ensures.unfailed (rw c.deref.ensures.value c.in_ok-bytes.ensures.read) c.logs_of.ensures.fault

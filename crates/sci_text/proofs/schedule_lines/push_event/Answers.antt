@@ -10,7 +10,8 @@ returns-in_default-clause-fault c = inr (event_none c.args.schedule.now c.args.b
 pub returns-in_err-check_length-clause-fault : goal.returns-in_err-check_length-clause-fault
 returns-in_err-check_length-clause-fault c =
     let e = err_from_is_err_and c.from_residual.result c.from_residual.ensures.1 in
-    rw (e.1, e.2, c.in_err-check_length.ensures.fault) (inr (event_long c.args.schedule.now c.args.bytes.now c.in-Some.said c.in-Some.rest.now c.in-Some.ensures c.in_err-check_length.ensures.long))
+    rw (e.1, e.2, c.in_err-check_length.ensures.fault)
+    (inr (event_long c.args.schedule.now c.args.bytes.now c.in-Some.said c.in-Some.rest.now c.in-Some.ensures c.in_err-check_length.ensures.long))
 
 pub returns-in_default-said-clause-fault : goal.returns-in_default-said-clause-fault
 returns-in_default-said-clause-fault c =
@@ -26,4 +27,5 @@ pub returns-in_err-push-clause-fault : goal.returns-in_err-push-clause-fault
 returns-in_err-push-clause-fault c =
     let e = err_from_is_err_and c.from_residual-in_err-push.result c.from_residual-in_err-push.ensures.1 in
     let read = c.in-Some.ensures ∙ ap (λ (o : Option Event). Some (o, c.in-Some.rest.now)) c.in-Some-said.is in
-    rw (e.1, e.2) (event_refused c.args.schedule.now c.args.bytes.now c.in-Some.rest.now c.in-Some-said.event c.in_err-push.field-0.0 read c.in_ok-check_length.ensures.short c.in_err-push.ensures.refused)
+    rw (e.1, e.2) (event_refused c.args.schedule.now c.args.bytes.now c.in-Some.rest.now c.in-Some-said.event c.in_err-push.field-0.0 read
+    c.in_ok-check_length.ensures.short c.in_err-push.ensures.refused)

@@ -9,7 +9,8 @@ returns-in_default-clause-fault c = inr (operation_none c.args.script.now c.args
 pub returns-in_err-check_length-clause-fault : goal.returns-in_err-check_length-clause-fault
 returns-in_err-check_length-clause-fault c =
     let e = err_from_is_err_and c.from_residual.result c.from_residual.ensures.1 in
-    rw (e.1, e.2, c.in_err-check_length.ensures.fault) (inr (operation_long c.args.script.now c.args.bytes.now c.in-Some.said c.in-Some.rest.now c.in-Some.ensures c.in_err-check_length.ensures.long))
+    rw (e.1, e.2, c.in_err-check_length.ensures.fault)
+    (inr (operation_long c.args.script.now c.args.bytes.now c.in-Some.said c.in-Some.rest.now c.in-Some.ensures c.in_err-check_length.ensures.long))
 
 pub returns-in_default-said-clause-fault : goal.returns-in_default-said-clause-fault
 returns-in_default-said-clause-fault c =
@@ -25,4 +26,5 @@ pub returns-in_err-push-clause-fault : goal.returns-in_err-push-clause-fault
 returns-in_err-push-clause-fault c =
     let e = err_from_is_err_and c.from_residual-in_err-push.result c.from_residual-in_err-push.ensures.1 in
     let read = c.in-Some.ensures ∙ ap (λ (o : Said). Some (o, c.in-Some.rest.now)) c.in-Some-said.is in
-    rw (e.1, e.2) (operation_refused c.args.script.now c.args.bytes.now c.in-Some.rest.now c.in-Some-said.node c.in-Some-said.op c.in_err-push.field-0.0 read c.in_ok-check_length.ensures.short c.in_err-push.ensures.refused)
+    rw (e.1, e.2) (operation_refused c.args.script.now c.args.bytes.now c.in-Some.rest.now c.in-Some-said.node c.in-Some-said.op c.in_err-push.field-0.0 read
+    c.in_ok-check_length.ensures.short c.in_err-push.ensures.refused)

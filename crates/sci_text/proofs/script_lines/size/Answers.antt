@@ -5,13 +5,19 @@ use Rattle.sci_words.specs.Extent.{AreWithinLimits}
 use Rattle.sci_text.proofs.script_lines.size.Goals as goal
 
 pub returns-in_err-byte-clause-none : goal.returns-in_err-byte-clause-none
-returns-in_err-byte-clause-none c = rw c.from_residual.ensures (λ n m k a b d limits. absurd (omega (arith, byte_refused c.args.nodes n (sym c.byte.ensures ∙ c.in_err-byte.was) a, limits.few_nodes)))
+returns-in_err-byte-clause-none c =
+    rw c.from_residual.ensures (λ n m k a b d limits.
+    absurd (omega (arith, byte_refused c.args.nodes n (sym c.byte.ensures ∙ c.in_err-byte.was) a, limits.few_nodes)))
 
 pub returns-in_err-byte-2-clause-none : goal.returns-in_err-byte-2-clause-none
-returns-in_err-byte-2-clause-none c = rw c.from_residual-in_err-byte-2.ensures (λ n m k a b d limits. absurd (omega (arith, byte_refused c.args.lines m (sym c.byte-2.ensures ∙ c.in_err-byte-2.was) b, limits.few_lines)))
+returns-in_err-byte-2-clause-none c =
+    rw c.from_residual-in_err-byte-2.ensures
+    (λ n m k a b d limits. absurd (omega (arith, byte_refused c.args.lines m (sym c.byte-2.ensures ∙ c.in_err-byte-2.was) b, limits.few_lines)))
 
 pub returns-in_err-byte-3-clause-none : goal.returns-in_err-byte-3-clause-none
-returns-in_err-byte-3-clause-none c = rw c.from_residual-in_err-byte-3.ensures (λ n m k a b d limits. absurd (omega (arith, byte_refused c.args.slots k (sym c.byte-3.ensures ∙ c.in_err-byte-3.was) d, limits.few_slots)))
+returns-in_err-byte-3-clause-none c =
+    rw c.from_residual-in_err-byte-3.ensures
+    (λ n m k a b d limits. absurd (omega (arith, byte_refused c.args.slots k (sym c.byte-3.ensures ∙ c.in_err-byte-3.was) d, limits.few_slots)))
 
 nodes-is : (c : goal.After-new) → c.args.nodes ≡ Some c.in_ok-byte.field-0
 nodes-is c = byte_some c.args.nodes c.in_ok-byte.field-0 (sym c.byte.ensures ∙ c.in_ok-byte.was)

@@ -17,11 +17,14 @@ writes-preserved g c =
     let rest : take (length text - w) (drop w text) ≡ drop w text = take_all (length text - w) (drop w text) (omega (arith, length-drop w text)) in
     let bound : n ≤ length (drop w text) = rw rest at c.in-Ok.ensures.bound in
     let bytes : Appends (contents (tapped c.writes.writer)) (contents (tapped c.write.new.self)) (take n (drop w text)) = rw rest at c.in-Ok.ensures.bytes in
-    let unfailed : has_failed c.write.new.self ≡ false = c.in-Ok.ensures.failed ∙ rw (c.writes.invariant.unfailed, ne_eqb n 0 (λ e. absurd (omega arith))) refl in
-    let again : is_called_again c.write.new.self ≡ is_called_again c.args.writer.now = c.in-Ok.ensures.again ∙ rw (c.writes.invariant.unfailed, c.writes.invariant.again) (or-false (is_called_again c.args.writer.now)) in
+    let unfailed : has_failed c.write.new.self ≡ false =
+    c.in-Ok.ensures.failed ∙ rw (c.writes.invariant.unfailed, ne_eqb n 0 (λ e. absurd (omega arith))) refl in
+    let again : is_called_again c.write.new.self ≡ is_called_again c.args.writer.now =
+    c.in-Ok.ensures.again ∙ rw (c.writes.invariant.unfailed, c.writes.invariant.again) (or-false (is_called_again c.args.writer.now)) in
     record {
       within = omega (arith, length-drop w text);
       unfailed = unfailed;
-      taken = appends_on (contents (tapped c.args.writer.now)) (contents (tapped c.writes.writer)) (contents (tapped c.write.new.self)) w n text c.writes.invariant.taken bytes;
+      taken = appends_on (contents (tapped c.args.writer.now)) (contents (tapped c.writes.writer)) (contents (tapped c.write.new.self)) w n text
+          c.writes.invariant.taken bytes;
       again = again;
     }

@@ -11,7 +11,8 @@ use Rattle.sci_drive.specs.Driving.{HasSubmittedNothing}
 use Rattle.sci_drive.specs.Script.{IsFrontOf, IsLogOf, IsWholeLogOf}
 use Rattle.sci_station.specs.Ends.{IsSameEnd}
 use Rattle.sci_station.specs.Station.{StationOf, end_in, node_in}
-use Rattle.sci_threads.proofs.Sharing.{came_back, each_log, front_ends, in_order, opened_long, opened_known, opened_all_fresh, named_ends, ordered_ends, sized_for, whole_ends, written_back}
+use Rattle.sci_threads.proofs.Sharing.{came_back, each_log, front_ends, in_order, opened_long, opened_known, opened_all_fresh, named_ends, ordered_ends}
+use Rattle.sci_threads.proofs.Sharing.{sized_for, whole_ends, written_back}
 use Rattle.sci_threads.specs.declared.share.Share.{Share}
 use Rattle.sci_threads.proofs.Going.{all_run}
 use Rattle.sci_threads.specs.Shares.{AreLedTo, HaveGoneOn, IsWell, operations_of, own_of}
@@ -26,7 +27,8 @@ shares-requires g c =
     let long = ap length is ∙ opened_long f.table size count in
     let many = c.extent.ensures.nodes ∙ (sym c.in_ok-operations.ensures.nodes ∙ sym (ap length c.deref.ensures.value)) in
     let Fresh : StationOf → Type 0 = λ s. HasSubmittedNothing (node_in s) in
-    let known : All (λ (s : StationOf). me_of s.end.part < count) c.in_ok-fabric.stations.items = subst (All (λ (s : StationOf). me_of s.end.part < count)) (sym is) (opened_known f.table size count) in record {
+    let known : All (λ (s : StationOf). me_of s.end.part < count) c.in_ok-fabric.stations.items =
+    subst (All (λ (s : StationOf). me_of s.end.part < count)) (sym is) (opened_known f.table size count) in record {
       gates = c.requires.gates ∙ (sym c.extent.ensures.nodes ∙ sym long);
       known = subst (λ (n : ℕ). All (λ (s : StationOf). me_of s.end.part < n) c.in_ok-fabric.stations.items) many known;
       few = subst (All (λ (own : Vec Op _). length own.items ≤ MAX_OPERATIONS)) (sym c.deref.ensures.value) c.in_ok-operations.ensures.few;
@@ -34,7 +36,8 @@ shares-requires g c =
     }
 
 pub run_all-requires-clause-well : goal.run_all-requires-clause-well
-run_all-requires-clause-well g c = λ lts met. subst (All (λ (s : Share g.row.G.Denot). IsWell s.driver s.station.end s.finished)) (sym c.deref_mut.ensures.value) c.in_ok-shares.ensures.well
+run_all-requires-clause-well g c =
+    λ lts met. subst (All (λ (s : Share g.row.G.Denot). IsWell s.driver s.station.end s.finished)) (sym c.deref_mut.ensures.value) c.in_ok-shares.ensures.well
 
 pub finish-requires : goal.finish-requires
 finish-requires g c =
@@ -43,9 +46,13 @@ finish-requires g c =
     let before = c.in_ok-shares.shares in
     let after = c.run_all.new.shares in
     let long : length after ≡ length before.items = c.run_all.auto.shares ∙ ap length c.deref_mut.ensures.value in
-    let each = subst (λ (xs : List (Share g.row.G.Denot)). (k : ℕ) (d : Share g.row.G.Denot) → k < length xs → IsSameEnd (get_or xs k d).station.end (get_or after k d).station.end) c.deref_mut.ensures.value (λ k d lt. (c.run_all.ensures.gone k d lt).same) in
+    let each = subst (λ (xs : List (Share g.row.G.Denot)). (k : ℕ) (d : Share g.row.G.Denot) → k < length xs
+    → IsSameEnd (get_or xs k d).station.end (get_or after k d).station.end) c.deref_mut.ensures.value (λ k d lt. (c.run_all.ensures.gone k d lt).same) in
     let made = c.in_ok-shares.ensures.stations ∙ c.in_ok-fabric.ensures.stations in
-    record { own = (came_back (λ (share : Share g.row.G.Denot). share.station) f size c.extent.result.nodes before.len before.items after c.in_ok-stations.stations.items c.in_ok-fabric.ensures.size made before.ok.0 long each c.in_ok-stations.ensures.stations).0 }
+    record {
+      own = (came_back (λ (share : Share g.row.G.Denot). share.station) f size c.extent.result.nodes before.len before.items after
+          c.in_ok-stations.stations.items c.in_ok-fabric.ensures.size made before.ok.0 long each c.in_ok-stations.ensures.stations).0;
+    }
 
 pub unreachable-requires : goal.unreachable-requires
 unreachable-requires g c =
@@ -54,29 +61,39 @@ unreachable-requires g c =
     let before = c.in_ok-shares.shares in
     let after = c.run_all.new.shares in
     let long : length after ≡ length before.items = c.run_all.auto.shares ∙ ap length c.deref_mut.ensures.value in
-    let each = subst (λ (xs : List (Share g.row.G.Denot)). (k : ℕ) (d : Share g.row.G.Denot) → k < length xs → IsSameEnd (get_or xs k d).station.end (get_or after k d).station.end) c.deref_mut.ensures.value (λ k d lt. (c.run_all.ensures.gone k d lt).same) in
+    let each = subst (λ (xs : List (Share g.row.G.Denot)). (k : ℕ) (d : Share g.row.G.Denot) → k < length xs
+    → IsSameEnd (get_or xs k d).station.end (get_or after k d).station.end) c.deref_mut.ensures.value (λ k d lt. (c.run_all.ensures.gone k d lt).same) in
     let made = c.in_ok-shares.ensures.stations ∙ c.in_ok-fabric.ensures.stations in
     let ends : List EndOf = map end_in c.in_ok-stations.stations.items in
-    let all : AreAll c.extent.result.nodes ends = (came_back (λ (share : Share g.row.G.Denot). share.station) f size c.extent.result.nodes before.len before.items after c.in_ok-stations.stations.items c.in_ok-fabric.ensures.size made before.ok.0 long each c.in_ok-stations.ensures.stations).1 in
-    c.in-Err-Missing-default-default.ensures.missing c.in-Err-Missing-default-default.field-0-0-is (subst (λ (n : ℕ). AreAll n ends) (sym (ap (λ (z : Size). z.nodes) c.in_ok-fabric.ensures.size)) all)
+    let all : AreAll c.extent.result.nodes ends =
+    (came_back (λ (share : Share g.row.G.Denot). share.station) f size c.extent.result.nodes before.len before.items after c.in_ok-stations.stations.items
+    c.in_ok-fabric.ensures.size made before.ok.0 long each c.in_ok-stations.ensures.stations).1 in
+    c.in-Err-Missing-default-default.ensures.missing c.in-Err-Missing-default-default.field-0-0-is
+    (subst (λ (n : ℕ). AreAll n ends) (sym (ap (λ (z : Size). z.nodes) c.in_ok-fabric.ensures.size)) all)
 
 pub returns-in-Ok-clause-named : goal.returns-in-Ok-clause-named
 returns-in-Ok-clause-named g c =
     let before = c.in_ok-shares.shares in
     let after = c.run_all.new.shares in
     let long : length after ≡ length before.items = c.run_all.auto.shares ∙ ap length c.deref_mut.ensures.value in
-    let stations : c.in_ok-stations.stations.items ≡ map (λ share. share.station) after = c.in_ok-stations.ensures.stations ∙ ap (map (λ share. share.station)) (written_back before.len after before.items before.ok.0 long) in
+    let stations : c.in_ok-stations.stations.items ≡ map (λ share. share.station) after =
+    c.in_ok-stations.ensures.stations ∙ ap (map (λ share. share.station)) (written_back before.len after before.items before.ok.0 long) in
     let operations = c.deref.result.now in
     let script = c.args.script.now in
     let many : length operations ≡ script.nodes = ap length c.deref.ensures.value ∙ c.in_ok-operations.ensures.nodes in
-    let own : (n : ℕ) (d : Vec Op _) → n < script.nodes → (slice_index_or operations n d).items ≡ operations_of n script.operations = subst (λ (all : List (Vec Op _)). (n : ℕ) (d : Vec Op _) → n < script.nodes → (slice_index_or all n d).items ≡ operations_of n script.operations) (sym c.deref.ensures.value) c.in_ok-operations.ensures.each in
+    let own : (n : ℕ) (d : Vec Op _) → n < script.nodes → (slice_index_or operations n d).items ≡ operations_of n script.operations =
+    subst (λ (all : List (Vec Op _)). (n : ℕ) (d : Vec Op _) → n < script.nodes → (slice_index_or all n d).items ≡ operations_of n script.operations)
+    (sym c.deref.ensures.value) c.in_ok-operations.ensures.each in
     let nodes : c.in_ok-fabric.fabric.size.nodes ≡ script.nodes = ap (λ (z : Size). z.nodes) c.in_ok-fabric.ensures.size ∙ c.extent.ensures.nodes in
     let ends = map end_in c.in_ok-stations.stations.items in
     let all = subst (λ (n : ℕ). AreAll n ends) nodes c.in-Ok.ensures.all in
     let Good : EndOf → Type 0 = λ end. IsLogOf (own_of operations (me_of end.part)) end.part.node.log in
-    let gone = subst (λ (xs : List (Share g.row.G.Denot)). (k : ℕ) (d : Share g.row.G.Denot) → k < length xs → HaveGoneOn (λ (s : Share g.row.G.Denot). s.driver) (λ s. s.station.end) xs after k d) c.deref_mut.ensures.value c.run_all.ensures.gone in
-    let ran = all_run (λ (s : Share g.row.G.Denot). s.driver) (λ s. s.station.end) (λ s. s.finished) c.args.issuing (own_of c.deref.result.now) before.items after long c.in_ok-shares.ensures.opened gone c.run_all.ensures.well in
-    let good = subst (λ (xs : List StationOf). All Good (map end_in xs)) (sym stations) (named_ends (λ share. share.station) c.args.issuing (own_of operations) (λ share. share.finished) after ran) in
+    let gone = subst (λ (xs : List (Share g.row.G.Denot)). (k : ℕ) (d : Share g.row.G.Denot) → k < length xs
+    → HaveGoneOn (λ (s : Share g.row.G.Denot). s.driver) (λ s. s.station.end) xs after k d) c.deref_mut.ensures.value c.run_all.ensures.gone in
+    let ran = all_run (λ (s : Share g.row.G.Denot). s.driver) (λ s. s.station.end) (λ s. s.finished) c.args.issuing (own_of c.deref.result.now) before.items
+    after long c.in_ok-shares.ensures.opened gone c.run_all.ensures.well in
+    let good = subst (λ (xs : List StationOf). All Good (map end_in xs)) (sym stations)
+    (named_ends (λ share. share.station) c.args.issuing (own_of operations) (λ share. share.finished) after ran) in
     each_log IsLogOf script operations ends c.in-Ok.field-0.logs many own all c.in-Ok.ensures.logs good
 
 pub returns-in-Ok-clause-whole : goal.returns-in-Ok-clause-whole
@@ -84,19 +101,26 @@ returns-in-Ok-clause-whole g c = λ finished.
     let before = c.in_ok-shares.shares in
     let after = c.run_all.new.shares in
     let long : length after ≡ length before.items = c.run_all.auto.shares ∙ ap length c.deref_mut.ensures.value in
-    let stations : c.in_ok-stations.stations.items ≡ map (λ share. share.station) after = c.in_ok-stations.ensures.stations ∙ ap (map (λ share. share.station)) (written_back before.len after before.items before.ok.0 long) in
+    let stations : c.in_ok-stations.stations.items ≡ map (λ share. share.station) after =
+    c.in_ok-stations.ensures.stations ∙ ap (map (λ share. share.station)) (written_back before.len after before.items before.ok.0 long) in
     let operations = c.deref.result.now in
     let script = c.args.script.now in
     let many : length operations ≡ script.nodes = ap length c.deref.ensures.value ∙ c.in_ok-operations.ensures.nodes in
-    let own : (n : ℕ) (d : Vec Op _) → n < script.nodes → (slice_index_or operations n d).items ≡ operations_of n script.operations = subst (λ (all : List (Vec Op _)). (n : ℕ) (d : Vec Op _) → n < script.nodes → (slice_index_or all n d).items ≡ operations_of n script.operations) (sym c.deref.ensures.value) c.in_ok-operations.ensures.each in
+    let own : (n : ℕ) (d : Vec Op _) → n < script.nodes → (slice_index_or operations n d).items ≡ operations_of n script.operations =
+    subst (λ (all : List (Vec Op _)). (n : ℕ) (d : Vec Op _) → n < script.nodes → (slice_index_or all n d).items ≡ operations_of n script.operations)
+    (sym c.deref.ensures.value) c.in_ok-operations.ensures.each in
     let nodes : c.in_ok-fabric.fabric.size.nodes ≡ script.nodes = ap (λ (z : Size). z.nodes) c.in_ok-fabric.ensures.size ∙ c.extent.ensures.nodes in
     let ends = map end_in c.in_ok-stations.stations.items in
     let all = subst (λ (n : ℕ). AreAll n ends) nodes c.in-Ok.ensures.all in
-    let done = subst (All (λ share. share.finished ≡ Ok true)) (written_back before.len after before.items before.ok.0 long) (c.in_ok-stations.ensures.finished finished) in
+    let done = subst (All (λ share. share.finished ≡ Ok true)) (written_back before.len after before.items before.ok.0 long)
+    (c.in_ok-stations.ensures.finished finished) in
     let Good : EndOf → Type 0 = λ end. IsWholeLogOf (own_of operations (me_of end.part)) end.part.node.log in
-    let gone = subst (λ (xs : List (Share g.row.G.Denot)). (k : ℕ) (d : Share g.row.G.Denot) → k < length xs → HaveGoneOn (λ (s : Share g.row.G.Denot). s.driver) (λ s. s.station.end) xs after k d) c.deref_mut.ensures.value c.run_all.ensures.gone in
-    let ran = all_run (λ (s : Share g.row.G.Denot). s.driver) (λ s. s.station.end) (λ s. s.finished) c.args.issuing (own_of c.deref.result.now) before.items after long c.in_ok-shares.ensures.opened gone c.run_all.ensures.well in
-    let good = subst (λ (xs : List StationOf). All Good (map end_in xs)) (sym stations) (whole_ends (λ share. share.station) c.args.issuing (own_of operations) (λ share. share.finished) after ran done) in
+    let gone = subst (λ (xs : List (Share g.row.G.Denot)). (k : ℕ) (d : Share g.row.G.Denot) → k < length xs
+    → HaveGoneOn (λ (s : Share g.row.G.Denot). s.driver) (λ s. s.station.end) xs after k d) c.deref_mut.ensures.value c.run_all.ensures.gone in
+    let ran = all_run (λ (s : Share g.row.G.Denot). s.driver) (λ s. s.station.end) (λ s. s.finished) c.args.issuing (own_of c.deref.result.now) before.items
+    after long c.in_ok-shares.ensures.opened gone c.run_all.ensures.well in
+    let good = subst (λ (xs : List StationOf). All Good (map end_in xs)) (sym stations)
+    (whole_ends (λ share. share.station) c.args.issuing (own_of operations) (λ share. share.finished) after ran done) in
     each_log IsWholeLogOf script operations ends c.in-Ok.field-0.logs many own all c.in-Ok.ensures.logs good
 
 pub returns-in-Ok-clause-ordered : goal.returns-in-Ok-clause-ordered
@@ -104,38 +128,51 @@ returns-in-Ok-clause-ordered g c = λ is.
     let before = c.in_ok-shares.shares in
     let after = c.run_all.new.shares in
     let long : length after ≡ length before.items = c.run_all.auto.shares ∙ ap length c.deref_mut.ensures.value in
-    let stations : c.in_ok-stations.stations.items ≡ map (λ share. share.station) after = c.in_ok-stations.ensures.stations ∙ ap (map (λ share. share.station)) (written_back before.len after before.items before.ok.0 long) in
+    let stations : c.in_ok-stations.stations.items ≡ map (λ share. share.station) after =
+    c.in_ok-stations.ensures.stations ∙ ap (map (λ share. share.station)) (written_back before.len after before.items before.ok.0 long) in
     let operations = c.deref.result.now in
     let script = c.args.script.now in
     let many : length operations ≡ script.nodes = ap length c.deref.ensures.value ∙ c.in_ok-operations.ensures.nodes in
-    let own : (n : ℕ) (d : Vec Op _) → n < script.nodes → (slice_index_or operations n d).items ≡ operations_of n script.operations = subst (λ (all : List (Vec Op _)). (n : ℕ) (d : Vec Op _) → n < script.nodes → (slice_index_or all n d).items ≡ operations_of n script.operations) (sym c.deref.ensures.value) c.in_ok-operations.ensures.each in
+    let own : (n : ℕ) (d : Vec Op _) → n < script.nodes → (slice_index_or operations n d).items ≡ operations_of n script.operations =
+    subst (λ (all : List (Vec Op _)). (n : ℕ) (d : Vec Op _) → n < script.nodes → (slice_index_or all n d).items ≡ operations_of n script.operations)
+    (sym c.deref.ensures.value) c.in_ok-operations.ensures.each in
     let nodes : c.in_ok-fabric.fabric.size.nodes ≡ script.nodes = ap (λ (z : Size). z.nodes) c.in_ok-fabric.ensures.size ∙ c.extent.ensures.nodes in
     let ends = map end_in c.in_ok-stations.stations.items in
     let all = subst (λ (n : ℕ). AreAll n ends) nodes c.in-Ok.ensures.all in
     let Good : EndOf → Type 0 = λ end. IsInProgramOrder end.part.node.log in
-    let gone = subst (λ (xs : List (Share g.row.G.Denot)). (k : ℕ) (d : Share g.row.G.Denot) → k < length xs → HaveGoneOn (λ (s : Share g.row.G.Denot). s.driver) (λ s. s.station.end) xs after k d) c.deref_mut.ensures.value c.run_all.ensures.gone in
-    let ran = all_run (λ (s : Share g.row.G.Denot). s.driver) (λ s. s.station.end) (λ s. s.finished) c.args.issuing (own_of c.deref.result.now) before.items after long c.in_ok-shares.ensures.opened gone c.run_all.ensures.well in
-    let good = subst (λ (xs : List StationOf). All Good (map end_in xs)) (sym stations) (ordered_ends (λ share. share.station) c.args.issuing (own_of operations) (λ share. share.finished) after is ran) in
+    let gone = subst (λ (xs : List (Share g.row.G.Denot)). (k : ℕ) (d : Share g.row.G.Denot) → k < length xs
+    → HaveGoneOn (λ (s : Share g.row.G.Denot). s.driver) (λ s. s.station.end) xs after k d) c.deref_mut.ensures.value c.run_all.ensures.gone in
+    let ran = all_run (λ (s : Share g.row.G.Denot). s.driver) (λ s. s.station.end) (λ s. s.finished) c.args.issuing (own_of c.deref.result.now) before.items
+    after long c.in_ok-shares.ensures.opened gone c.run_all.ensures.well in
+    let good = subst (λ (xs : List StationOf). All Good (map end_in xs)) (sym stations)
+    (ordered_ends (λ share. share.station) c.args.issuing (own_of operations) (λ share. share.finished) after is ran) in
     let each = each_log (λ _. IsInProgramOrder) script operations ends c.in-Ok.field-0.logs many own all c.in-Ok.ensures.logs good in
-    in_order c.in-Ok.field-0.logs script.nodes c.in-Ok.ensures.gathered.core c.in-Ok.ensures.gathered.reached c.in-Ok.ensures.gathered.logs_are (ap (λ (z : Size). z.nodes) c.in-Ok.ensures.gathered.sized ∙ nodes) each
+    in_order c.in-Ok.field-0.logs script.nodes c.in-Ok.ensures.gathered.core c.in-Ok.ensures.gathered.reached c.in-Ok.ensures.gathered.logs_are
+    (ap (λ (z : Size). z.nodes) c.in-Ok.ensures.gathered.sized ∙ nodes) each
 
 pub returns-in-Ok-clause-front : goal.returns-in-Ok-clause-front
 returns-in-Ok-clause-front g c = λ is.
     let before = c.in_ok-shares.shares in
     let after = c.run_all.new.shares in
     let long : length after ≡ length before.items = c.run_all.auto.shares ∙ ap length c.deref_mut.ensures.value in
-    let stations : c.in_ok-stations.stations.items ≡ map (λ share. share.station) after = c.in_ok-stations.ensures.stations ∙ ap (map (λ share. share.station)) (written_back before.len after before.items before.ok.0 long) in
+    let stations : c.in_ok-stations.stations.items ≡ map (λ share. share.station) after =
+    c.in_ok-stations.ensures.stations ∙ ap (map (λ share. share.station)) (written_back before.len after before.items before.ok.0 long) in
     let operations = c.deref.result.now in
     let script = c.args.script.now in
     let many : length operations ≡ script.nodes = ap length c.deref.ensures.value ∙ c.in_ok-operations.ensures.nodes in
-    let own : (n : ℕ) (d : Vec Op _) → n < script.nodes → (slice_index_or operations n d).items ≡ operations_of n script.operations = subst (λ (all : List (Vec Op _)). (n : ℕ) (d : Vec Op _) → n < script.nodes → (slice_index_or all n d).items ≡ operations_of n script.operations) (sym c.deref.ensures.value) c.in_ok-operations.ensures.each in
+    let own : (n : ℕ) (d : Vec Op _) → n < script.nodes → (slice_index_or operations n d).items ≡ operations_of n script.operations =
+    subst (λ (all : List (Vec Op _)). (n : ℕ) (d : Vec Op _) → n < script.nodes → (slice_index_or all n d).items ≡ operations_of n script.operations)
+    (sym c.deref.ensures.value) c.in_ok-operations.ensures.each in
     let nodes : c.in_ok-fabric.fabric.size.nodes ≡ script.nodes = ap (λ (z : Size). z.nodes) c.in_ok-fabric.ensures.size ∙ c.extent.ensures.nodes in
     let ends = map end_in c.in_ok-stations.stations.items in
     let all = subst (λ (n : ℕ). AreAll n ends) nodes c.in-Ok.ensures.all in
     let Good : EndOf → Type 0 = λ end. IsFrontOf (own_of operations (me_of end.part)) end.part.node.log in
-    let gone = subst (λ (xs : List (Share g.row.G.Denot)). (k : ℕ) (d : Share g.row.G.Denot) → k < length xs → HaveGoneOn (λ (s : Share g.row.G.Denot). s.driver) (λ s. s.station.end) xs after k d) c.deref_mut.ensures.value c.run_all.ensures.gone in
-    let ran = all_run (λ (s : Share g.row.G.Denot). s.driver) (λ s. s.station.end) (λ s. s.finished) c.args.issuing (own_of c.deref.result.now) before.items after long c.in_ok-shares.ensures.opened gone c.run_all.ensures.well in
-    let good = subst (λ (xs : List StationOf). All Good (map end_in xs)) (sym stations) (front_ends (λ share. share.station) c.args.issuing (own_of operations) (λ share. share.finished) after is ran) in
+    let gone = subst (λ (xs : List (Share g.row.G.Denot)). (k : ℕ) (d : Share g.row.G.Denot) → k < length xs
+    → HaveGoneOn (λ (s : Share g.row.G.Denot). s.driver) (λ s. s.station.end) xs after k d) c.deref_mut.ensures.value c.run_all.ensures.gone in
+    let ran = all_run (λ (s : Share g.row.G.Denot). s.driver) (λ s. s.station.end) (λ s. s.finished) c.args.issuing (own_of c.deref.result.now) before.items
+    after long c.in_ok-shares.ensures.opened gone c.run_all.ensures.well in
+    let good = subst (λ (xs : List StationOf). All Good (map end_in xs)) (sym stations)
+    (front_ends (λ share. share.station) c.args.issuing (own_of operations) (λ share. share.finished) after is ran) in
     each_log IsFrontOf script operations ends c.in-Ok.field-0.logs many own all c.in-Ok.ensures.logs good
 
 pub returns-in-Ok-clause-led : goal.returns-in-Ok-clause-led

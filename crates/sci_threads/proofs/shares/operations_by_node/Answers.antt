@@ -14,6 +14,7 @@ returns-clause-few c = λ k d lt.
     let known : k < c.args.script.now.nodes = omega (arith, long) in
     let past = c.loop-node-2-test.false in
     let all : List (ℕ × Op) = c.operations-node-items.result.now in
-    let whole : take c.loop-node-2.node-index all ≡ c.args.script.now.operations = take_all c.loop-node-2.node-index all (omega (arith, past)) ∙ c.operations-node-items.ensures.value in
+    let whole : take c.loop-node-2.node-index all ≡ c.args.script.now.operations =
+    take_all c.loop-node-2.node-index all (omega (arith, past)) ∙ c.operations-node-items.ensures.value in
     let own = inv.1 k d known ∙ ap (operations_of k) whole in
     subst (λ (l : List Op). length l ≤ MAX_OPERATIONS) (sym own) (few_own c.args.script.now k c.operations-node-items.ensures.good known)

@@ -22,7 +22,10 @@ new-requires g c =
     let Known : StationOf → Type 0 = λ s. me_of s.end.part < length c.args.plan.operations.now in
     let known = All-head Known c.in-Some.station c.next.new.self.a.rest.items (subst (All Known) c.in-Some.ensures.steps.0.0 c.loop-station.invariant.2) in
     let me = c.me.ensures in
-    record { few = subst (λ (ops : List Op). length ops ≤ MAX_OPERATIONS) (sym c.deref.ensures.value) (c.requires.few c.me.result c.index-plan-me.result (omega (arith, known, me))) }
+    record {
+      few = subst (λ (ops : List Op). length ops ≤ MAX_OPERATIONS) (sym c.deref.ensures.value)
+          (c.requires.few c.me.result c.index-plan-me.result (omega (arith, known, me)));
+    }
 
 pub loop-station-preserved : goal.loop-station-preserved
 loop-station-preserved g c =
@@ -42,23 +45,32 @@ loop-station-preserved g c =
     let driver = c.new.result in
     let share : Share g.row.G.Denot = record { station = one; driver = driver; gate = c.in-Some.gate; left = c.args.plan.turns; finished = Ok false } in
     let me = c.me.ensures in
-    let mine : script ≡ own_of operations (me_of one.end.part) = c.deref.ensures.value ∙ (sym (get_or-map (λ own. own.items) operations c.me.result c.index-plan-me.result [] (omega (arith, here, me))) ∙ ap (own_of operations) c.me.ensures) in
+    let mine : script ≡ own_of operations (me_of one.end.part) =
+    c.deref.ensures.value ∙ (sym (get_or-map (λ own. own.items) operations c.me.result c.index-plan-me.result [] (omega (arith, here, me)))
+    ∙ ap (own_of operations) c.me.ensures) in
     let well : IsWell driver one.end share.finished = record {
-      driven = subst (λ (d : DriverOf). IsDriven d node) (sym c.new.ensures) (c.new_drivers_may_drive.ensures.driven script issuing node (All-head Fresh one rest fresh));
+      driven = subst (λ (d : DriverOf). IsDriven d node) (sym c.new.ensures)
+          (c.new_drivers_may_drive.ensures.driven script issuing node (All-head Fresh one rest fresh));
       answered = λ is. absurd cc;
     } in
     let opened : IsOpened issuing (own_of operations) driver one.end = record {
       script = ap (λ (d : DriverOf). d.script) c.new.ensures ∙ mine;
-      ordered = λ is. subst (λ (d : DriverOf). IsInOrder d node) (sym (c.new.ensures ∙ ap (opening_driver script) is)) (c.new_drivers_may_drive.ensures.order script node (All-head Fresh one rest fresh));
+      ordered = λ is. subst (λ (d : DriverOf). IsInOrder d node) (sym (c.new.ensures ∙ ap (opening_driver script) is))
+          (c.new_drivers_may_drive.ensures.order script node (All-head Fresh one rest fresh));
     } in
     let before = c.loop-station.shares.items in
     let pushed : c.push.new.self.items ≡ before ++ share ∷ [] = c.in_ok-push.ensures.items in (
-      ap (λ (xs : List (Share g.row.G.Denot)). map (λ s. s.station) xs ++ rest) pushed ∙ (ap (λ (xs : List StationOf). xs ++ rest) (map-append (λ s. s.station) before (share ∷ [])) ∙ (append_assoc (map (λ s. s.station) before) (one ∷ []) rest ∙ (ap (λ (xs : List StationOf). map (λ s. s.station) before ++ xs) (sym steps.0.0) ∙ inv.0))),
+      ap (λ (xs : List (Share g.row.G.Denot)). map (λ s. s.station) xs ++ rest) pushed
+          ∙ (ap (λ (xs : List StationOf). xs ++ rest) (map-append (λ s. s.station) before (share ∷ []))
+          ∙ (append_assoc (map (λ s. s.station) before) (one ∷ []) rest
+          ∙ (ap (λ (xs : List StationOf). map (λ s. s.station) before ++ xs) (sym steps.0.0) ∙ inv.0))),
       (let both = inv.1 in let a = ap length steps.0.0 in let b = ap length steps.1.0 in omega (arith, a, b, both)),
       All-tail Known one rest known,
       All-tail Fresh one rest fresh,
-      subst (All (λ (s : Share g.row.G.Denot). IsWell s.driver s.station.end s.finished)) (sym pushed) (All-push (λ (s : Share g.row.G.Denot). IsWell s.driver s.station.end s.finished) before share inv.4 well),
-      subst (All (λ (s : Share g.row.G.Denot). IsOpened issuing (own_of operations) s.driver s.station.end)) (sym pushed) (All-push (λ (s : Share g.row.G.Denot). IsOpened issuing (own_of operations) s.driver s.station.end) before share inv.5 opened),
+      subst (All (λ (s : Share g.row.G.Denot). IsWell s.driver s.station.end s.finished)) (sym pushed)
+          (All-push (λ (s : Share g.row.G.Denot). IsWell s.driver s.station.end s.finished) before share inv.4 well),
+      subst (All (λ (s : Share g.row.G.Denot). IsOpened issuing (own_of operations) s.driver s.station.end)) (sym pushed)
+          (All-push (λ (s : Share g.row.G.Denot). IsOpened issuing (own_of operations) s.driver s.station.end) before share inv.5 opened),
     )
 
 -- all stand in front of an empty rest

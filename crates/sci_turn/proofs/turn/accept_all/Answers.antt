@@ -14,10 +14,12 @@ below_nodes : (from nodes : ℕ) (old mid : PostOf) → IsSamePost old mid → n
 below_nodes from nodes old mid same is lt = subst (λ (n : ℕ). from < n) (sym is) (subst (λ (size : Size). from < size.nodes) same.size lt)
 
 pub returns-in_err-accept_from-clause-goes : goal.returns-in_err-accept_from-clause-goes
-returns-in_err-accept_from-clause-goes g c = λ policy. goes_then policy policy policy _ _ _ _ _ _ (c.answers.invariant.goes policy) (c.accept_from.ensures.goes policy)
+returns-in_err-accept_from-clause-goes g c =
+    λ policy. goes_then policy policy policy _ _ _ _ _ _ (c.answers.invariant.goes policy) (c.accept_from.ensures.goes policy)
 
 pub returns-in_err-accept_from-clause-stays : goal.returns-in_err-accept_from-clause-stays
-returns-in_err-accept_from-clause-stays g c = g.met.P.Post.stays_through c.args.post.now c.answers.post c.accept_from.new.post c.answers.invariant.stays c.accept_from.ensures.stays
+returns-in_err-accept_from-clause-stays g c =
+    g.met.P.Post.stays_through c.args.post.now c.answers.post c.accept_from.new.post c.answers.invariant.stays c.accept_from.ensures.stays
 
 pub answers-preserved : goal.answers-preserved
 answers-preserved g c =
@@ -36,21 +38,27 @@ answers-preserved g c =
           elim (cases_lt other c.answers.next) [
             | inl before ↦ so_still (empty other) old mid new (c.answers.invariant.none later.nothing other some before) later.post
             | inr past ↦ elim (cases_lt other from) [
-              | inl passed ↦ so_still (empty other) old mid new (so_after (empty other) old mid mid earlier.post (so_now (empty other) mid (c.in-Some.ensures.passed other past (node_stays other old mid came.same some) passed))) later.post
+              | inl passed ↦ so_still (empty other) old mid new
+                  (so_after (empty other) old mid mid earlier.post
+                  (so_now (empty other) mid (c.in-Some.ensures.passed other past (node_stays other old mid came.same some) passed))) later.post
               | inr here ↦
                   let same : from ≡ other = omega arith in
-                  subst (λ (j : ℕ). WasEmpty Answers j old new) same (so_after (empty from) old mid new earlier.post (c.in_ok-accept_from.ensures.idle refl nothing))
+                  subst (λ (j : ℕ). WasEmpty Answers j old new) same
+                  (so_after (empty from) old mid new earlier.post (c.in_ok-accept_from.ensures.idle refl nothing))
             ]
           ]);
       few = (let here = below_nodes from c.nodes-nodes.result old mid came.same c.nodes-nodes.ensures c.in-Some.ensures.here in omega arith);
     }
 
 pub overflow_add-next : goal.overflow_add-next
-overflow_add-next g c = let here = below_nodes c.in-Some.from c.nodes-nodes.result _ _ (c.answers.invariant.goes opening_policy).same c.nodes-nodes.ensures c.in-Some.ensures.here in let few = c.nodes-nodes.type_inv in omega arith
+overflow_add-next g c = let here =
+    below_nodes c.in-Some.from c.nodes-nodes.result _ _ (c.answers.invariant.goes opening_policy).same c.nodes-nodes.ensures c.in-Some.ensures.here in let few =
+    c.nodes-nodes.type_inv in omega arith
 
 pub answers-smaller : goal.answers-smaller
 answers-smaller g c =
-    let here = below_nodes c.in-Some.from c.nodes-nodes.result _ _ (c.answers.invariant.goes opening_policy).same c.nodes-nodes.ensures c.in-Some.ensures.here in
+    let here = below_nodes c.in-Some.from c.nodes-nodes.result _ _ (c.answers.invariant.goes opening_policy).same c.nodes-nodes.ensures
+    c.in-Some.ensures.here in
     let order = c.in-Some.ensures.order in
     omega arith
 
@@ -62,5 +70,6 @@ returns-clause-idle g c = λ _ nothing other some.
     let came = c.answers.invariant.goes opening_policy in
     elim (cases_lt other c.answers.next) [
       | inl before ↦ c.answers.invariant.none nothing other some before
-      | inr past ↦ so_after empty old mid mid (came.still nothing).post (so_now empty mid (c.in_default.ensures.passed other past (node_stays other old mid came.same some) tt))
+      | inr past ↦ so_after empty old mid mid (came.still nothing).post
+          (so_now empty mid (c.in_default.ensures.passed other past (node_stays other old mid came.same some) tt))
     ]

@@ -11,7 +11,8 @@ abbrev pub invariant-answers : goal.invariant-answers
 invariant-answers g l = record {
   goes : (policy : PolicyOf) → GoesOn policy (g.P.Post.post l.fn.post) policy (g.P.Post.post l.post) l.fn.progress l.progress;
   stays : g.P.Post.stays l.fn.post l.post;
-  none : MadeNothing l.progress → (other : ℕ) → other < nodes_in (g.P.Post.post l.fn.post) → other < l.next → WasEmpty Answers other (g.P.Post.post l.fn.post) (g.P.Post.post l.post);
+  none : MadeNothing l.progress → (other : ℕ) → other < nodes_in (g.P.Post.post l.fn.post) → other < l.next
+      → WasEmpty Answers other (g.P.Post.post l.fn.post) (g.P.Post.post l.post);
   few : l.next ≤ l._nodes;
 }
 

@@ -7,7 +7,8 @@ use Rattle.sci_turn.proofs.Turns.{goes_then}
 use Rattle.sci_turn.proofs.turn.accept_from.Goals as goal
 
 pub accept-requires : goal.accept-requires
-accept-requires g c = node_stays c.args.from (g.P.Post.post c.args.post.now) (g.P.Post.post c.loop-cell.post) (c.loop-cell.invariant.goes opening_policy).same c.requires
+accept-requires g c = node_stays c.args.from (g.P.Post.post c.args.post.now) (g.P.Post.post c.loop-cell.post) (c.loop-cell.invariant.goes opening_policy).same
+    c.requires
 
 pub returns-in_err-accept-clause-goes : goal.returns-in_err-accept-clause-goes
 returns-in_err-accept-clause-goes g c = λ policy. goes_then policy policy policy _ _ _ _ _ _ (c.loop-cell.invariant.goes policy) (c.accept.ensures.goes policy)
@@ -20,7 +21,8 @@ loop-cell-preserved g c = record {
 }
 
 pub returns-then-not-branch-clause-goes : goal.returns-then-not-branch-clause-goes
-returns-then-not-branch-clause-goes g c = λ policy. goes_then policy policy policy _ _ _ _ _ _ (c.loop-cell.invariant.goes policy) (c.accept.ensures.goes policy)
+returns-then-not-branch-clause-goes g c =
+    λ policy. goes_then policy policy policy _ _ _ _ _ _ (c.loop-cell.invariant.goes policy) (c.accept.ensures.goes policy)
 
 pub returns-then-not-branch-clause-idle : goal.returns-then-not-branch-clause-idle
 returns-then-not-branch-clause-idle g c = λ _ nothing.
@@ -34,7 +36,9 @@ returns-then-not-branch-clause-idle g c = λ _ nothing.
 -- ---- what stays
 
 pub returns-in_err-accept-clause-stays : goal.returns-in_err-accept-clause-stays
-returns-in_err-accept-clause-stays g c = g.met.P.Post.stays_through c.args.post.now c.loop-cell.post c.accept.new.post c.loop-cell.invariant.stays c.accept.ensures.stays
+returns-in_err-accept-clause-stays g c =
+    g.met.P.Post.stays_through c.args.post.now c.loop-cell.post c.accept.new.post c.loop-cell.invariant.stays c.accept.ensures.stays
 
 pub returns-then-not-branch-clause-stays : goal.returns-then-not-branch-clause-stays
-returns-then-not-branch-clause-stays g c = g.met.P.Post.stays_through c.args.post.now c.loop-cell.post c.accept.new.post c.loop-cell.invariant.stays c.accept.ensures.stays
+returns-then-not-branch-clause-stays g c =
+    g.met.P.Post.stays_through c.args.post.now c.loop-cell.post c.accept.new.post c.loop-cell.invariant.stays c.accept.ensures.stays

@@ -12,4 +12,5 @@ send-requires g c =
     let post = g.P.Post.post c.args.post.now in
     let asked = c.in-Some.ensures.asked in
     let asks = ap (λ (m : NodeOf). node_asking m c.args.line c.args.kind) (sym c.node.ensures.node) ∙ asked.1 in
-    subst (λ n. MaySend post Requests (letter_of c.in-Some.request) (event.Ask n c.args.line c.args.kind)) (sym c.me.ensures) (may_ask post c.args.line c.args.kind asked.0 (letter_of c.in-Some.request) c.node.ensures.post asks)
+    subst (λ n. MaySend post Requests (letter_of c.in-Some.request) (event.Ask n c.args.line c.args.kind)) (sym c.me.ensures)
+    (may_ask post c.args.line c.args.kind asked.0 (letter_of c.in-Some.request) c.node.ensures.post asks)

@@ -17,10 +17,16 @@ send-requires g c =
     subst (λ n. MaySend post Answers answer (event.Reply n)) (sym c.me-node.ensures) (may_reply post answer c.node.ensures.post waits)
 
 pub returns-in_err-sent-clause-goes : goal.returns-in_err-sent-clause-goes
-returns-in_err-sent-clause-goes g c = λ policy. goes_still policy (g.P.Post.post c.args.post.now) (g.P.Post.post c.send.new.self) c.args.progress.now c.args.progress.now (c.in_err-sent.ensures.cut refl) refl
+returns-in_err-sent-clause-goes g c =
+    λ policy. goes_still policy (g.P.Post.post c.args.post.now) (g.P.Post.post c.send.new.self) c.args.progress.now c.args.progress.now
+    (c.in_err-sent.ensures.cut refl) refl
 
 pub returns-then-not-sent-clause-goes : goal.returns-then-not-sent-clause-goes
-returns-then-not-sent-clause-goes g c = λ policy. goes_still policy (g.P.Post.post c.args.post.now) (g.P.Post.post c.send.new.self) c.args.progress.now c.args.progress.now (c.in_ok-sent.ensures.still c.if-not-sent.true) refl
+returns-then-not-sent-clause-goes g c =
+    λ policy. goes_still policy (g.P.Post.post c.args.post.now) (g.P.Post.post c.send.new.self) c.args.progress.now c.args.progress.now
+    (c.in_ok-sent.ensures.still c.if-not-sent.true) refl
 
 pub returns-clause-goes : goal.returns-clause-goes
-returns-clause-goes g c = λ policy. goes_replied policy (g.P.Post.post c.args.post.now) (g.P.Post.post c.send.new.self) c.me-node.result c.args.progress.now c.count.new.self c.me-node.ensures (c.in_ok-sent.ensures.sent c.if-not-sent.false) c.count.ensures.more c.count.ensures.counted
+returns-clause-goes g c = λ policy.
+    goes_replied policy (g.P.Post.post c.args.post.now) (g.P.Post.post c.send.new.self) c.me-node.result c.args.progress.now c.count.new.self c.me-node.ensures
+    (c.in_ok-sent.ensures.sent c.if-not-sent.false) c.count.ensures.more c.count.ensures.counted

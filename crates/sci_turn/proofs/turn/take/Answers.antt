@@ -7,10 +7,14 @@ use Rattle.sci_turn.proofs.Turns.{goes_still, goes_then}
 use Rattle.sci_turn.proofs.turn.take.Goals as goal
 
 pub returns-in_err-look-clause-goes : goal.returns-in_err-look-clause-goes
-returns-in_err-look-clause-goes g c = goes_still c.args.policy.now (g.P.Post.post c.args.post.now) (g.P.Post.post c.look.new.self) c.args.progress.now c.args.progress.now c.look.ensures.still refl
+returns-in_err-look-clause-goes g c =
+    goes_still c.args.policy.now (g.P.Post.post c.args.post.now) (g.P.Post.post c.look.new.self) c.args.progress.now c.args.progress.now c.look.ensures.still
+    refl
 
 pub returns-then-not-branch-clause-goes : goal.returns-then-not-branch-clause-goes
-returns-then-not-branch-clause-goes g c = goes_still c.args.policy.now (g.P.Post.post c.args.post.now) (g.P.Post.post c.look.new.self) c.args.progress.now c.args.progress.now c.look.ensures.still refl
+returns-then-not-branch-clause-goes g c =
+    goes_still c.args.policy.now (g.P.Post.post c.args.post.now) (g.P.Post.post c.look.new.self) c.args.progress.now c.args.progress.now c.look.ensures.still
+    refl
 
 pub returns-then-not-branch-clause-idle : goal.returns-then-not-branch-clause-idle
 returns-then-not-branch-clause-idle g c = λ _.
@@ -33,7 +37,8 @@ returns-clause-idle g c =
     let mid = g.P.Post.post c.look.new.self in
     let new = g.P.Post.post c.take_seen.new.post in
     let P = λ (x : PostOf). taken_next c.args.policy.now x.core c.args.from x.me ≡ None in
-    if_ok_map (λ (taken : Bool). taken ≡ false → TookNone c.args.policy.now c.args.from mid new) (λ (taken : Bool). taken ≡ false → TookNone c.args.policy.now c.args.from old new) c.take_seen.result
+    if_ok_map (λ (taken : Bool). taken ≡ false → TookNone c.args.policy.now c.args.from mid new) (λ (taken : Bool). taken ≡ false
+    → TookNone c.args.policy.now c.args.from old new) c.take_seen.result
     (λ taken was is. so_after P old mid new c.look.ensures.still (was is)) c.take_seen.ensures.idle
 
 -- ---- what stays

@@ -37,11 +37,14 @@ loop-place-preserved g c =
           let later = c.take_from.ensures.goes.still nothing in
           let earlier = invariant.goes.still later.nothing in
           elim (cases_lt other place) [
-            | inl before ↦ so_still (λ (x : PostOf). taken_next policy x.core ((first + other) % nodes) x.me ≡ None) old mid new (invariant.none later.nothing other before) later.post
+            | inl before ↦ so_still (λ (x : PostOf). taken_next policy x.core ((first + other) % nodes) x.me ≡ None) old mid new
+                (invariant.none later.nothing other before) later.post
             | inr past ↦
                 let same : place ≡ other = omega arith in
                 subst (λ (j : ℕ). TookNone policy ((first + j) % nodes) old new) same
-                (subst (λ (p : PolicyOf). TookNone p ((first + place) % nodes) old new) earlier.policy (so_after (λ (x : PostOf). taken_next c.loop-place.policy x.core ((first + place) % nodes) x.me ≡ None) old mid new earlier.post (subst (λ (j : ℕ). TookNone c.loop-place.policy j mid new) invariant.at (c.in_ok-take_from.ensures.idle refl nothing))))
+                (subst (λ (p : PolicyOf). TookNone p ((first + place) % nodes) old new) earlier.policy
+                (so_after (λ (x : PostOf). taken_next c.loop-place.policy x.core ((first + place) % nodes) x.me ≡ None) old mid new earlier.post
+                (subst (λ (j : ℕ). TookNone c.loop-place.policy j mid new) invariant.at (c.in_ok-take_from.ensures.idle refl nothing))))
           ]);
     }
 
@@ -58,4 +61,5 @@ returns-clause-idle g c = λ _ nothing from f.
     subst (λ (j : ℕ). TookNone c.args.policy.now j old new) by.there (c.loop-place.invariant.none nothing by.place below)
 
 pub returns-in_err-take_from-clause-stays : goal.returns-in_err-take_from-clause-stays
-returns-in_err-take_from-clause-stays g c = g.met.P.Post.stays_through c.args.post.now c.loop-place.post c.take_from.new.post c.loop-place.invariant.stays c.take_from.ensures.stays
+returns-in_err-take_from-clause-stays g c =
+    g.met.P.Post.stays_through c.args.post.now c.loop-place.post c.take_from.new.post c.loop-place.invariant.stays c.take_from.ensures.stays

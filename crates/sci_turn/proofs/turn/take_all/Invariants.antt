@@ -10,5 +10,6 @@ invariant-loop-place g l = record {
   at : l.from ≡ (l.first + l._place) % l.nodes;
   below : l.from < l.nodes;
   stays : g.P.Post.stays l.fn.post l.post;
-  none : MadeNothing l.progress → (other : ℕ) → other < l._place → TookNone l.fn.policy ((l.first + other) % l.nodes) (g.P.Post.post l.fn.post) (g.P.Post.post l.post);
+  none : MadeNothing l.progress → (other : ℕ) → other < l._place
+      → TookNone l.fn.policy ((l.first + other) % l.nodes) (g.P.Post.post l.fn.post) (g.P.Post.post l.post);
 }

@@ -30,12 +30,16 @@ returns-then-not-branch-clause-idle g c = λ _ nothing.
     let new = g.P.Post.post c.take.new.post in
     let later = c.take.ensures.goes.still nothing in
     let earlier = c.loop-cell.invariant.goes.still later.nothing in
-    subst (λ (p : PolicyOf). TookNone p c.args.from old new) earlier.policy (so_after (λ (x : PostOf). taken_next c.loop-cell.policy x.core c.args.from x.me ≡ None) old mid new earlier.post (c.in_ok-take.ensures.idle c.if-not-branch.true))
+    subst (λ (p : PolicyOf). TookNone p c.args.from old new) earlier.policy
+    (so_after (λ (x : PostOf). taken_next c.loop-cell.policy x.core c.args.from x.me ≡ None) old mid new earlier.post
+    (c.in_ok-take.ensures.idle c.if-not-branch.true))
 
 -- ---- what stays
 
 pub returns-in_err-take-clause-stays : goal.returns-in_err-take-clause-stays
-returns-in_err-take-clause-stays g c = g.met.P.Post.stays_through c.args.post.now c.loop-cell.post c.take.new.post c.loop-cell.invariant.stays c.take.ensures.stays
+returns-in_err-take-clause-stays g c =
+    g.met.P.Post.stays_through c.args.post.now c.loop-cell.post c.take.new.post c.loop-cell.invariant.stays c.take.ensures.stays
 
 pub returns-then-not-branch-clause-stays : goal.returns-then-not-branch-clause-stays
-returns-then-not-branch-clause-stays g c = g.met.P.Post.stays_through c.args.post.now c.loop-cell.post c.take.new.post c.loop-cell.invariant.stays c.take.ensures.stays
+returns-then-not-branch-clause-stays g c =
+    g.met.P.Post.stays_through c.args.post.now c.loop-cell.post c.take.new.post c.loop-cell.invariant.stays c.take.ensures.stays

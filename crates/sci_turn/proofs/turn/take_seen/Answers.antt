@@ -16,11 +16,17 @@ pub take-requires-clause-may : goal.take-requires-clause-may
 take-requires-clause-may g c =
     let post = g.P.Post.post c.args.post.now in
     let request = letter_of c.front-request.result.now in
-    let decides : decided c.args.policy.now (node_in post) request ≡ c.decide.result = ap (λ (m : NodeOf). decided c.args.policy.now m request) (sym c.node.ensures.node) ∙ sym c.decide.ensures in
-    (request, may_take post c.args.from request c.args.policy.now c.decide.result c.in-Some.event c.node.ensures.post c.requires.from c.front-request.ensures c.requires.free decides (c.in-Some.ensures ∙ ap (decided_event c.decide.result c.args.from) c.me-me.ensures))
+    let decides : decided c.args.policy.now (node_in post) request ≡ c.decide.result =
+    ap (λ (m : NodeOf). decided c.args.policy.now m request) (sym c.node.ensures.node) ∙ sym c.decide.ensures in (
+      request,
+      may_take post c.args.from request c.args.policy.now c.decide.result c.in-Some.event c.node.ensures.post c.requires.from c.front-request.ensures
+          c.requires.free decides (c.in-Some.ensures ∙ ap (decided_event c.decide.result c.args.from) c.me-me.ensures),
+    )
 
 pub returns-in_err-take-clause-goes : goal.returns-in_err-take-clause-goes
-returns-in_err-take-clause-goes g c = goes_still c.args.policy.now (g.P.Post.post c.args.post.now) (g.P.Post.post c.take.new.self) c.args.progress.now c.args.progress.now (c.in_err-take.ensures.cut refl) refl
+returns-in_err-take-clause-goes g c =
+    goes_still c.args.policy.now (g.P.Post.post c.args.post.now) (g.P.Post.post c.take.new.self) c.args.progress.now c.args.progress.now
+    (c.in_err-take.ensures.cut refl) refl
 
 pub returns-in_err-reply-clause-goes : goal.returns-in_err-reply-clause-goes
 returns-in_err-reply-clause-goes g c =
@@ -28,9 +34,12 @@ returns-in_err-reply-clause-goes g c =
     let mid = g.P.Post.post c.take.new.self in
     let new = g.P.Post.post c.reply.new.post in
     let request = letter_of c.front-request.result.now in
-    let decides : decided c.args.policy.now (node_in old) request ≡ c.decide.result = ap (λ (m : NodeOf). decided c.args.policy.now m request) (sym c.node.ensures.node) ∙ sym c.decide.ensures in
+    let decides : decided c.args.policy.now (node_in old) request ≡ c.decide.result =
+    ap (λ (m : NodeOf). decided c.args.policy.now m request) (sym c.node.ensures.node) ∙ sym c.decide.ensures in
     goes_then c.args.policy.now c.served.new.self c.served.new.self old mid new c.args.progress.now c.count.new.self c.reply.new.progress
-    (goes_taken c.args.policy.now c.served.new.self old mid c.me-me.result c.args.from c.decide.result c.in-Some.event request c.args.progress.now c.count.new.self c.me-me.ensures c.requires.free decides c.in-Some.ensures (c.in_ok-take.ensures.taken request c.front-request.ensures) c.served.ensures c.count.ensures.more c.count.ensures.counted)
+    (goes_taken c.args.policy.now c.served.new.self old mid c.me-me.result c.args.from c.decide.result c.in-Some.event request c.args.progress.now
+    c.count.new.self c.me-me.ensures c.requires.free decides c.in-Some.ensures (c.in_ok-take.ensures.taken request c.front-request.ensures) c.served.ensures
+    c.count.ensures.more c.count.ensures.counted)
     (c.reply.ensures.goes c.served.new.self)
 
 pub returns-clause-goes : goal.returns-clause-goes
@@ -39,15 +48,19 @@ returns-clause-goes g c =
     let mid = g.P.Post.post c.take.new.self in
     let new = g.P.Post.post c.reply.new.post in
     let request = letter_of c.front-request.result.now in
-    let decides : decided c.args.policy.now (node_in old) request ≡ c.decide.result = ap (λ (m : NodeOf). decided c.args.policy.now m request) (sym c.node.ensures.node) ∙ sym c.decide.ensures in
+    let decides : decided c.args.policy.now (node_in old) request ≡ c.decide.result =
+    ap (λ (m : NodeOf). decided c.args.policy.now m request) (sym c.node.ensures.node) ∙ sym c.decide.ensures in
     goes_then c.args.policy.now c.served.new.self c.served.new.self old mid new c.args.progress.now c.count.new.self c.reply.new.progress
-    (goes_taken c.args.policy.now c.served.new.self old mid c.me-me.result c.args.from c.decide.result c.in-Some.event request c.args.progress.now c.count.new.self c.me-me.ensures c.requires.free decides c.in-Some.ensures (c.in_ok-take.ensures.taken request c.front-request.ensures) c.served.ensures c.count.ensures.more c.count.ensures.counted)
+    (goes_taken c.args.policy.now c.served.new.self old mid c.me-me.result c.args.from c.decide.result c.in-Some.event request c.args.progress.now
+    c.count.new.self c.me-me.ensures c.requires.free decides c.in-Some.ensures (c.in_ok-take.ensures.taken request c.front-request.ensures) c.served.ensures
+    c.count.ensures.more c.count.ensures.counted)
     (c.reply.ensures.goes c.served.new.self)
 
 pub returns-clause-told : goal.returns-clause-told
 returns-clause-told g c = λ _ nothing.
     let earlier = (c.reply.ensures.goes c.served.new.self).still nothing in
-    tells_something c.me-me.result c.in-Some.event c.args.progress.now c.count.new.self (take_is_own c.decide.result c.args.from c.me-me.result c.in-Some.event c.in-Some.ensures) c.count.ensures.more earlier.nothing
+    tells_something c.me-me.result c.in-Some.event c.args.progress.now c.count.new.self
+    (take_is_own c.decide.result c.args.from c.me-me.result c.in-Some.event c.in-Some.ensures) c.count.ensures.more earlier.nothing
 
 pub returns-in_default-clause-goes : goal.returns-in_default-clause-goes
 returns-in_default-clause-goes g c = search rules
@@ -56,9 +69,12 @@ pub returns-in_default-clause-idle : goal.returns-in_default-clause-idle
 returns-in_default-clause-idle g c = λ _.
     let post = g.P.Post.post c.args.post.now in
     let request = letter_of c.front-request.result.now in
-    let decides : decided c.args.policy.now (node_in post) request ≡ c.decide.result = ap (λ (m : NodeOf). decided c.args.policy.now m request) (sym c.node.ensures.node) ∙ sym c.decide.ensures in
+    let decides : decided c.args.policy.now (node_in post) request ≡ c.decide.result =
+    ap (λ (m : NodeOf). decided c.args.policy.now m request) (sym c.node.ensures.node) ∙ sym c.decide.ensures in
     so_now (λ (x : PostOf). taken_next c.args.policy.now x.core c.args.from x.me ≡ None) post
-    (taken_event c.args.policy.now c.args.from post request c.front-request.ensures c.requires.free ∙ (ap (λ d. decided_event d c.args.from post.me) decides ∙ (ap (decided_event c.decide.result c.args.from) (sym c.me-me.ensures) ∙ (sym c.event.ensures ∙ c.in_default.is))))
+    (taken_event c.args.policy.now c.args.from post request c.front-request.ensures c.requires.free
+    ∙ (ap (λ d. decided_event d c.args.from post.me) decides
+    ∙ (ap (decided_event c.decide.result c.args.from) (sym c.me-me.ensures) ∙ (sym c.event.ensures ∙ c.in_default.is))))
 
 -- ---- what stays
 

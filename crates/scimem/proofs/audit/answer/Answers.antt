@@ -22,7 +22,8 @@ returns-clause-answer g c =
     let text = logs.ensures.text in
     let verdict = c.in_ok-verdict in
     let ends = c.end_of.ensures in
-    answer_made IsAuditOf (λ kind line. IsTold IsLogFault kind known unread line) known unread c.in_ok-text.text.items c.end_of.result (λ refused. judged verdict.verdict (sym ends ∙ refused)) (
+    answer_made IsAuditOf (λ kind line. IsTold IsLogFault kind known unread line) known unread c.in_ok-text.text.items c.end_of.result
+    (λ refused. judged verdict.verdict (sym ends ∙ refused)) (
       logs.ensures.unfailed,
       (
         text.0,

@@ -11,11 +11,14 @@ returns-in-Ok-clause-written g c =
     let known = g.R.Read.remaining (tapped c.args.reader.now) in
     let unread = has_failed c.answer.new.reader in
     let written = c.write_answer.ensures in
-    written_text (IsAnswer known unread) c.deref.result.now c.in-Ok.answer.outcome (rw c.deref.ensures.value (inl c.in-Ok.ensures.answer)) _ _ _ _ written.front written.whole written.unfailed written.failed
+    written_text (IsAnswer known unread) c.deref.result.now c.in-Ok.answer.outcome (rw c.deref.ensures.value (inl c.in-Ok.ensures.answer)) _ _ _ _ written.front
+    written.whole written.unfailed written.failed
 
 pub returns-in-Err-clause-written : goal.returns-in-Err-clause-written
 returns-in-Err-clause-written g c =
     let known = g.R.Read.remaining (tapped c.args.reader.now) in
     let unread = has_failed c.answer.new.reader in
     let written = c.write_answer-in-Err.ensures in
-    written_text (IsAnswer known unread) c.input_refusal.result.now Refused (rw c.input_refusal.ensures (refused known unread c.in-Err.fault.kind c.in-Err.ensures.fault)) _ _ _ _ written.front written.whole written.unfailed written.failed
+    written_text (IsAnswer known unread) c.input_refusal.result.now Refused
+    (rw c.input_refusal.ensures (refused known unread c.in-Err.fault.kind c.in-Err.ensures.fault)) _ _ _ _ written.front written.whole written.unfailed
+    written.failed

@@ -10,7 +10,8 @@ use Rattle.scimem.proofs.oracle.answer.Goals as goal
 
 pub run_oracle-requires-clause-room : goal.run_oracle-requires-clause-room
 run_oracle-requires-clause-room g c = λ node.
-    subst (λ (ops : List (ℕ × Op)). count_by (λ p. p.0 == node) ops ≤ MAX_OPERATIONS) (sym c.operations.ensures.value) (few_of_each c.in_ok-script.script c.in_ok-script.ensures.good node)
+    subst (λ (ops : List (ℕ × Op)). count_by (λ p. p.0 == node) ops ≤ MAX_OPERATIONS) (sym c.operations.ensures.value)
+    (few_of_each c.in_ok-script.script c.in_ok-script.ensures.good node)
 
 pub returns-clause-answer : goal.returns-clause-answer
 returns-clause-answer g c =

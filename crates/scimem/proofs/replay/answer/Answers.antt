@@ -6,5 +6,7 @@ use Rattle.scimem.proofs.replay.answer.Goals as goal
 
 pub returns-clause-answer : goal.returns-clause-answer
 returns-clause-answer g c =
-    let schedule = c.in_ok-schedule.schedule in
-    (c.in_ok-schedule.ensures.unfailed, (schedule_text schedule, c.in_ok-schedule.ensures.text, replay_is c.in_ok-text.text.items schedule c.in_ok-schedule.ensures.good (search rules)))
+    let schedule = c.in_ok-schedule.schedule in (
+      c.in_ok-schedule.ensures.unfailed,
+      (schedule_text schedule, c.in_ok-schedule.ensures.text, replay_is c.in_ok-text.text.items schedule c.in_ok-schedule.ensures.good (search rules)),
+    )

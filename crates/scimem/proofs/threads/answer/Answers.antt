@@ -17,16 +17,32 @@ returns-clause-answer g c =
     let script = c.in_ok-script.script in
     let ran = c.in_ok-logs in
     let text = c.in_ok-text.text.items in
-    let run : IsRunOf script ran.logs ran.last ran.finished = record { led = ran.ensures.led; lawful = ran.ensures.lawful; consistent = ran.ensures.consistent; named = ran.ensures.named; whole = ran.ensures.whole } in
+    let run : IsRunOf script ran.logs ran.last ran.finished =
+    record {
+      led = ran.ensures.led;
+      lawful = ran.ensures.lawful;
+      consistent = ran.ensures.consistent;
+      named = ran.ensures.named;
+      whole = ran.ensures.whole;
+    } in
     let outcome = c.if-finished.outcome in
     let known = g.R.Read.remaining (tapped c.args.reader.now) in
-    let never : outcome ≡ Refused → ⊥ = λ refused. (elim c.if-finished.branch [ then-finished w ↦ done_apart (sym w.outcome-is ∙ refused) | else-finished w ↦ unlawful_apart (sym w.outcome-is ∙ refused) ]) in
-    let ends : outcome ≡ Done → ran.finished ≡ true = λ done. (elim c.if-finished.branch [ then-finished w ↦ w.if-finished.true | else-finished w ↦ absurd (apart (sym w.outcome-is ∙ done)) ]) in
+    let never : outcome ≡ Refused → ⊥ =
+    λ refused. (elim c.if-finished.branch [
+      | then-finished w ↦ done_apart (sym w.outcome-is ∙ refused)
+      | else-finished w ↦ unlawful_apart (sym w.outcome-is ∙ refused)
+    ]) in
+    let ends : outcome ≡ Done → ran.finished ≡ true =
+    λ done. (elim c.if-finished.branch [ then-finished w ↦ w.if-finished.true | else-finished w ↦ absurd (apart (sym w.outcome-is ∙ done)) ]) in
     let unread = has_failed c.read_script.new.reader in
     let written = c.in_ok-text.ensures.text ∙ ap (λ (n : ℕ). log_text n ran.logs ran.last) c.extent-nodes.ensures.nodes in
     answer_made IsThreadsOf (λ kind line. IsTold IsScriptFault kind known unread line) known unread text outcome never (
       c.in_ok-script.ensures.unfailed,
-      (script_text script, c.in_ok-script.ensures.text, threads_is text script ran.logs ran.last ran.finished outcome c.in_ok-script.ensures.good written run ends),
+      (
+        script_text script,
+        c.in_ok-script.ensures.text,
+        threads_is text script ran.logs ran.last ran.finished outcome c.in_ok-script.ensures.good written run ends,
+      ),
     )
   where
     apart : Unlawful ≡ Done → ⊥

@@ -8,4 +8,5 @@ pub returns-clause-written : goal.returns-clause-written
 returns-clause-written g c =
     let known = g.R.Read.remaining (tapped c.args.reader.now) in
     let unread = has_failed c.answer.new.reader in
-    finished_reading IsScriptFault known unread (IsThreadsAnswer known unread) c.answer.result (λ text refusal. refusal) c.answer.ensures.answer c.answer.ensures.fault _ _ _ _ c.finish.ensures.written
+    finished_reading IsScriptFault known unread (IsThreadsAnswer known unread) c.answer.result (λ text refusal. refusal) c.answer.ensures.answer
+    c.answer.ensures.fault _ _ _ _ c.finish.ensures.written

@@ -4,4 +4,5 @@ use Rattle.sciview.proofs.choice.line_choice.Goals as goal
 
 pub returns-in_ok-line-in-text : goal.returns-in_ok-line-in-text
 returns-in_ok-line-in-text c =
-    line_said (λ word. word.now) c.args.words.now (record { ref_ptr = (0, 0); now = [] }) c.line_of.result c.in_ok-line-in-text.line (omega (arith, c.in-text.len_at_least, c.in-text.len_below)) c.in-text.is-text c.in_ok-line-in-text.was c.line_of.ensures
+    line_said (λ word. word.now) c.args.words.now (record { ref_ptr = (0, 0); now = [] }) c.line_of.result c.in_ok-line-in-text.line
+    (omega (arith, c.in-text.len_at_least, c.in-text.len_below)) c.in-text.is-text c.in_ok-line-in-text.was c.line_of.ensures

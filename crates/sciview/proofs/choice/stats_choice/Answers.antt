@@ -14,4 +14,5 @@ returns-in_ok-node-in-text c =
     let word = (get_or words 1 d).now in
     let rest = map (λ word. word.now) (take (length words - 2) (drop 2 words)) in
     line_first (map (λ word. word.now) words) word rest c.line_of.result c.node_choice-in-text.result c.in_ok-line-in-text.line c.in_ok-node-in-text.node
-    (two_more (λ word. word.now) words d long ∙ ap (λ (w : List ℕ). w ∷ word ∷ rest) c.in-text.is-text) c.in_ok-line-in-text.was c.in_ok-node-in-text.was c.line_of.ensures c.node_choice-in-text.ensures
+    (two_more (λ word. word.now) words d long ∙ ap (λ (w : List ℕ). w ∷ word ∷ rest) c.in-text.is-text) c.in_ok-line-in-text.was c.in_ok-node-in-text.was
+    c.line_of.ensures c.node_choice-in-text.ensures

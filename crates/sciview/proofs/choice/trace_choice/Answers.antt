@@ -13,4 +13,5 @@ returns-in_ok-request-in-text c =
 pub returns-in_err-request-in-text : goal.returns-in_err-request-in-text
 returns-in_err-request-in-text c =
     json_alone (map (λ word. word.now) c.args.words.now) _ c.words_choice-in-text.result c.from_residual.result
-    (json_words (λ word. word.now) c.args.words.now _ c.in-text.len_at_least c.in-text.is-text) c.in_err-request-in-text.was c.from_residual.ensures c.words_choice-in-text.ensures
+    (json_words (λ word. word.now) c.args.words.now _ c.in-text.len_at_least c.in-text.is-text) c.in_err-request-in-text.was c.from_residual.ensures
+    c.words_choice-in-text.ensures

@@ -11,5 +11,6 @@ returns-in-Err-NotEnabled-clause-text c =
 pub returns-clause-text : goal.returns-clause-text
 returns-clause-text c =
     effect_given c.args.machine.now c.apply.new.self c.args.event.now _ _ _ _ _ _ _ _ _ _ _ _ c.in-Ok.ensures.done
-    c.sent-sent.ensures c.taken-taken.ensures c.line_changed-line.ensures c.node_of-node.ensures c.in_ok-old.ensures.cache c.in_ok-old.ensures.home c.entry_of.ensures
+    c.sent-sent.ensures c.taken-taken.ensures c.line_changed-line.ensures c.node_of-node.ensures c.in_ok-old.ensures.cache c.in_ok-old.ensures.home
+    c.entry_of.ensures
     c.in_ok-push_moved.ensures c.in_ok-push_moved-2.ensures c.in_ok-push_changes.ensures c.in_ok-push_logged.ensures

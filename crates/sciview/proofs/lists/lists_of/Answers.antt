@@ -18,7 +18,10 @@ loop-event-preserved c =
     let counted : c.loop-event.number + 1 ≡ 2 + (k + 1) = omega (arith, c.loop-event.invariant.counted) in
     let list = c.in-Ok.ensures.text in record {
       listed = rw (list.1, c.in-Ok.ensures.step)
-          (lists_more c.args.asked (before c.args.schedule.now) c.args.schedule.now.events c.loop-event.text.items c.loop-event.machine c.loop-event.number events k first list.0 within (subst (λ (l : Option ℕ). IsListed c.loop-event.number l (stepping c.loop-event.machine (get_or events k first)) list.0) c.listed_line-line.ensures.shown list.2) c.loop-event.invariant.listed);
+          (lists_more c.args.asked (before c.args.schedule.now) c.args.schedule.now.events c.loop-event.text.items c.loop-event.machine c.loop-event.number
+          events k first list.0 within (subst
+          (λ (l : Option ℕ). IsListed c.loop-event.number l (stepping c.loop-event.machine (get_or events k first)) list.0) c.listed_line-line.ensures.shown
+          list.2) c.loop-event.invariant.listed);
       counted = counted;
     }
 
@@ -28,4 +31,5 @@ returns c =
     let k = c.loop-event.event-index in
     let end = c.loop-event-test.false in
     let past : length events ≤ k = omega (arith, end) in
-    lists_all c.args.asked (before c.args.schedule.now) c.args.schedule.now.events c.loop-event.text.items c.loop-event.machine c.loop-event.number events k past c.loop-event.invariant.listed
+    lists_all c.args.asked (before c.args.schedule.now) c.args.schedule.now.events c.loop-event.text.items c.loop-event.machine c.loop-event.number events k
+    past c.loop-event.invariant.listed

@@ -12,5 +12,6 @@ returns-in-Err-NotEnabled-clause-text c =
 pub returns-clause-text : goal.returns-clause-text
 returns-clause-text c =
     on_ok_weaker c.push_list.result
-    (λ list. event_listed c.args.place.number c.in-Some.line c.args.place.line (stepping c.args.machine.now c.args.event.now) c.apply.new.self _ _ _ (sym c.in-Some.is) c.in-Ok.ensures.done c.in_ok-push_place.ensures list)
+    (λ list. event_listed c.args.place.number c.in-Some.line c.args.place.line (stepping c.args.machine.now c.args.event.now) c.apply.new.self _ _ _
+    (sym c.in-Some.is) c.in-Ok.ensures.done c.in_ok-push_place.ensures list)
     c.push_list.ensures

@@ -5,5 +5,6 @@ use Rattle.sciview.proofs.obstacle_words.push_lacking_words.Goals as goal
 pub returns : goal.returns
 unfolding lacking_words
 returns c =
-    joined5 _ _ _ _ _ _ _ _ _ _ _ c.in_ok-push_text.ensures.text c.in_ok-push_field.ensures.text c.in_ok-push_text-2.ensures.text c.in_ok-push_field-2.ensures.text
+    joined5 _ _ _ _ _ _ _ _ _ _ _ c.in_ok-push_text.ensures.text c.in_ok-push_field.ensures.text c.in_ok-push_text-2.ensures.text
+    c.in_ok-push_field-2.ensures.text
     c.in_ok-push_text-3.ensures.text

@@ -14,4 +14,5 @@ loop-event-preserved c =
     let all = letters_sent (before c.args.schedule.now) c.args.schedule.now.events in
     let test = c.loop-event-test.true in
     let within : k < length events = omega (arith, test) in
-    rw (c.in_ok-push_sent.ensures, c.in-Ok.ensures.new) (sends_more all c.loop-event.machine events k first c.loop-event.bytes.items c.in-Ok.sent within c.in-Ok.ensures.sent c.loop-event.invariant)
+    rw (c.in_ok-push_sent.ensures, c.in-Ok.ensures.new)
+    (sends_more all c.loop-event.machine events k first c.loop-event.bytes.items c.in-Ok.sent within c.in-Ok.ensures.sent c.loop-event.invariant)

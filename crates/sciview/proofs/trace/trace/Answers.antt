@@ -10,7 +10,8 @@ returns-clause-answer g c =
     let unread = has_failed c.read_asked.new.reader in
     let asked = c.in_ok-schedule.ensures in
     let found = c.in_ok-traced.field-0 in
-    answer_made (IsTraceOf c.args.request) (λ kind line. IsAskedFault c.args.request.line kind known unread line) known unread found.text.items found.outcome c.in_ok-traced.ensures.judged (
+    answer_made (IsTraceOf c.args.request) (λ kind line. IsAskedFault c.args.request.line kind known unread line) known unread found.text.items found.outcome
+    c.in_ok-traced.ensures.judged (
       asked.read.0,
       (
         asked.read.1.0,

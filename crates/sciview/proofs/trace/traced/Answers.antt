@@ -18,7 +18,9 @@ loop-event-preserved c =
     let within : k < length events = omega (arith, test) in
     let counted : c.loop-event.number + 1 ≡ 2 + (k + 1) = omega (arith, c.loop-event.invariant.counted) in record {
       traced = rw (c.in-Ok.ensures.text, c.in-Ok.ensures.step)
-          (traces_more c.args.request c.in-Ok.enabled (trace_text c.args.request start 2 all) (trace_outcome c.args.request start all) c.loop-event.text.items c.loop-event.machine c.loop-event.number events k first within (search rules) c.in-Ok.ensures.enabled (sym c.if-ends_at.ensures) c.loop-event.invariant.traced);
+          (traces_more c.args.request c.in-Ok.enabled (trace_text c.args.request start 2 all) (trace_outcome c.args.request start all) c.loop-event.text.items
+          c.loop-event.machine c.loop-event.number events k first within (search rules) c.in-Ok.ensures.enabled (sym c.if-ends_at.ensures)
+          c.loop-event.invariant.traced);
       counted = counted;
     }
 
@@ -31,5 +33,7 @@ returns-then-ends_at-clause-trace c =
     let all = c.args.schedule.now.events in
     let test = c.loop-event-test.true in
     let within : k < length events = omega (arith, test) in
-    let last = traces_last c.args.request c.in-Ok.enabled (trace_text c.args.request start 2 all) (trace_outcome c.args.request start all) c.loop-event.text.items c.loop-event.machine c.loop-event.number events k first within (search rules) c.in-Ok.ensures.enabled (sym c.if-ends_at.ensures) c.loop-event.invariant.traced in
+    let last = traces_last c.args.request c.in-Ok.enabled (trace_text c.args.request start 2 all) (trace_outcome c.args.request start all)
+    c.loop-event.text.items c.loop-event.machine c.loop-event.number events k first within (search rules) c.in-Ok.ensures.enabled (sym c.if-ends_at.ensures)
+    c.loop-event.invariant.traced in
     record { written = rw c.in-Ok.ensures.text last.0; ends = last.1 }

@@ -7,6 +7,7 @@ use Rattle.sciview.proofs.trace.traced.Given as goal
 -- the text of the events so far
 abbrev pub invariant-loop-event : goal.invariant-loop-event
 invariant-loop-event l = record {
-  traced : IsTracedTo l.request (trace_text l.request (before l.fn.schedule) 2 l.fn.schedule.events) (trace_outcome l.request (before l.fn.schedule) l.fn.schedule.events) l.text.items l.machine l.number (drop l.event-index l.event-items);
+  traced : IsTracedTo l.request (trace_text l.request (before l.fn.schedule) 2 l.fn.schedule.events)
+      (trace_outcome l.request (before l.fn.schedule) l.fn.schedule.events) l.text.items l.machine l.number (drop l.event-index l.event-items);
   counted : l.number ≡ 2 + l.event-index;
 }

@@ -13,5 +13,6 @@ returns-in-Err-clause-kind c =
     let few = c.requires in
     let counted = c.loop-event.invariant.counted in
     let room : length schedule.events < MAX_EVENTS = omega (arith, test, few, counted) in
-    let within : IsEventWithin schedule.nodes schedule.lines event = rw (c.loop-event.invariant.nodes_are, c.loop-event.invariant.lines_are) c.in_ok-event.ensures in
+    let within : IsEventWithin schedule.nodes schedule.lines event =
+    rw (c.loop-event.invariant.nodes_are, c.loop-event.invariant.lines_are) c.in_ok-event.ensures in
     c.from.ensures ∙ memory_alone schedule event c.in-Err.fault within room c.in-Err.ensures.refused

@@ -40,7 +40,8 @@ target_same cache line nodes home (Some node) b f = refl
 letter_same : (cache : CacheOf) (me nodes line : ℕ) (part : LineState) (asked : Asked) (target source control number home : ℕ)
     → me ≡ cache.me → nodes ≡ cache.nodes → part ≡ line_of cache line
     → target ≡ unwrap_or asked.to home → home ≡ line % nodes → source ≡ me → control ≡ part.asks → number ≡ line
-    → (let packet : Letter = record { target = target; source = source; control = control; line = number; body = asked.request } in packet) ≡ letter_asking cache line asked
+    → (let packet : Letter = record { target = target; source = source; control = control; line = number; body = asked.request } in
+    packet) ≡ letter_asking cache line asked
 letter_same cache me nodes line part asked target source control number home a b d e f g h i =
     rw (e ∙ target_same cache line nodes home asked.to b f, g ∙ a, h ∙ ap (λ (l : LineState). l.asks) d, i) refl
 

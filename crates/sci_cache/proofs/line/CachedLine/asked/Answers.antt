@@ -29,7 +29,8 @@ made_for : (now : LineState) (state : CacheState) (kind : AskKind) (free lacks :
     → lacks ≡ (is_out now.state && not free) → lacks ≡ false
     → (next : CacheState) × (line_asking now kind free ≡ Ok (record { to = to; request = request; next = next }))
 made_for now state kind free lacks to request same asks is refuses =
-    let here = subst (λ (s : CacheState). ◌≡◌ {A = Option (Option ℕ × Body)} (Some (to, request)) (option_map (λ (a : Asked). (a.to, a.request)) (asking s kind))) same asks in
+    let here = subst (λ (s : CacheState).
+    ◌≡◌ {A = Option (Option ℕ × Body)} (Some (to, request)) (option_map (λ (a : Asked). (a.to, a.request)) (asking s kind))) same asks in
     let r = asked_from (asking now.state kind) to request here in
     (r.0, with_slot (is_out now.state) free (asking now.state kind) _ r.1 (sym is ∙ refuses))
 

@@ -11,7 +11,8 @@ pub apply-requires : goal.apply-requires
 apply-requires c = reached_well c.self.inside.state c.self.invariant
 
 pub invariant_of-self : goal.invariant_of-self
-invariant_of-self c = reached_either c.apply.result c.self.inside.state c.apply.new.self c.args.event.now c.self.invariant c.apply.ensures.done c.apply.ensures.same
+invariant_of-self c = reached_either c.apply.result c.self.inside.state c.apply.new.self c.args.event.now c.self.invariant c.apply.ensures.done
+    c.apply.ensures.same
 
 pub returns-clause-effect : goal.returns-clause-effect
 returns-clause-effect c =
@@ -20,7 +21,8 @@ returns-clause-effect c =
 
 pub returns-clause-coherent : goal.returns-clause-coherent
 returns-clause-coherent c =
-    reached_coherent c.apply.new.self (reached_either c.apply.result c.self.inside.state c.apply.new.self c.args.event.now c.self.invariant c.apply.ensures.done c.apply.ensures.same)
+    reached_coherent c.apply.new.self
+    (reached_either c.apply.result c.self.inside.state c.apply.new.self c.args.event.now c.self.invariant c.apply.ensures.done c.apply.ensures.same)
 
 pub returns-clause-size : goal.returns-clause-size
 returns-clause-size c =

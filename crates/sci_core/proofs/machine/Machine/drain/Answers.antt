@@ -19,7 +19,8 @@ moves-smaller c =
     less
 
 pub moves-preserved : goal.moves-preserved
-moves-preserved c = drained_more c.args.self.now c.moves.self c.make.new.self c.in-Some.event c.moves.count c.moves.invariant c.next_move.ensures.reached c.in-Some.ensures.brings c.in_ok-make.ensures.ok
+moves-preserved c = drained_more c.args.self.now c.moves.self c.make.new.self c.in-Some.event c.moves.count c.moves.invariant c.next_move.ensures.reached
+    c.in-Some.ensures.brings c.in_ok-make.ensures.ok
 
 pub returns-clause-weight : goal.returns-clause-weight
 returns-clause-weight c =

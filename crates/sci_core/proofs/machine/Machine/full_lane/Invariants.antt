@@ -7,4 +7,5 @@ abbrev pub invariant-senders : goal.invariant-senders
 invariant-senders l = (from to : ℕ) → from < l.from → to < l.nodes → length (lane_of l.self l.kind from to) ≡ 0
 
 abbrev pub invariant-receivers : goal.invariant-receivers
-invariant-receivers l = ((from to : ℕ) → from < l.from → to < l.nodes → length (lane_of l.self l.kind from to) ≡ 0) × ((to : ℕ) → to < l.to → length (lane_of l.self l.kind l.from to) ≡ 0)
+invariant-receivers l = ((from to : ℕ) → from < l.from → to < l.nodes → length (lane_of l.self l.kind from to) ≡ 0)
+    × ((to : ℕ) → to < l.to → length (lane_of l.self l.kind l.from to) ≡ 0)

@@ -7,12 +7,15 @@ use Rattle.sci_core.proofs.WellFormed.WellFormedSteps.{reached_maybe, size_maybe
 use Rattle.sci_core.proofs.machine.Machine.issue.Goals as goal
 
 pub invariant_of-self : goal.invariant_of-self
-invariant_of-self c = reached_maybe c.issue.result c.self.inside.state c.issue.new.self (Issue c.args.node c.args.op) c.self.invariant c.issue.ensures.done c.issue.ensures.same
+invariant_of-self c = reached_maybe c.issue.result c.self.inside.state c.issue.new.self (Issue c.args.node c.args.op) c.self.invariant c.issue.ensures.done
+    c.issue.ensures.same
 
 pub returns-clause-coherent : goal.returns-clause-coherent
-returns-clause-coherent c = reached_coherent c.issue.new.self (reached_maybe c.issue.result c.self.inside.state c.issue.new.self (Issue c.args.node c.args.op) c.self.invariant c.issue.ensures.done c.issue.ensures.same)
+returns-clause-coherent c = reached_coherent c.issue.new.self
+    (reached_maybe c.issue.result c.self.inside.state c.issue.new.self (Issue c.args.node c.args.op) c.self.invariant c.issue.ensures.done c.issue.ensures.same)
 
 pub returns-clause-size : goal.returns-clause-size
 returns-clause-size c =
-    let size = size_maybe c.issue.result c.self.inside.state c.issue.new.self (Issue c.args.node c.args.op) c.self.invariant c.issue.ensures.done c.issue.ensures.same in
+    let size = size_maybe c.issue.result c.self.inside.state c.issue.new.self (Issue c.args.node c.args.op) c.self.invariant c.issue.ensures.done
+    c.issue.ensures.same in
     size ∙ ap (λ (core : Core). core.size) c.self.view_is

@@ -22,26 +22,30 @@ last_at-requires-clause-tidy c = reached_tidy c.self.inside.state c.self.invaria
 pub returns-clause-last : goal.returns-clause-last
 returns-clause-last c =
     let core = c.self.inside.state in
-    let all = fill_by_all (last_at core) c.loop-line.last core.size.lines zero_stamped (c.loop-line.invariant.0 ∙ c.lines-lines.ensures.lines) (λ k below. c.loop-line.invariant.1 k (omega arith)) in
+    let all = fill_by_all (last_at core) c.loop-line.last core.size.lines zero_stamped (c.loop-line.invariant.0 ∙ c.lines-lines.ensures.lines)
+    (λ k below. c.loop-line.invariant.1 k (omega arith)) in
     subst (λ (k : Core). c.loop-line.last ≡ last_of k) c.self.view_is all
 
 pub returns-clause-lawful : goal.returns-clause-lawful
 returns-clause-lawful c =
     let core = c.self.inside.state in
-    let all = fill_by_all (last_at core) c.loop-line.last core.size.lines zero_stamped (c.loop-line.invariant.0 ∙ c.lines-lines.ensures.lines) (λ k below. c.loop-line.invariant.1 k (omega arith)) in
+    let all = fill_by_all (last_at core) c.loop-line.last core.size.lines zero_stamped (c.loop-line.invariant.0 ∙ c.lines-lines.ensures.lines)
+    (λ k below. c.loop-line.invariant.1 k (omega arith)) in
     let lawful = subst (Lawful (logs_of core)) (sym all) (reached_lawful core c.self.invariant) in
     subst (λ (k : Core). Lawful (logs_of k) c.loop-line.last) c.self.view_is lawful
 
 pub returns-clause-lines : goal.returns-clause-lines
 returns-clause-lines c =
     let core = c.self.inside.state in
-    let all = fill_by_all (last_at core) c.loop-line.last core.size.lines zero_stamped (c.loop-line.invariant.0 ∙ c.lines-lines.ensures.lines) (λ k below. c.loop-line.invariant.1 k (omega arith)) in
+    let all = fill_by_all (last_at core) c.loop-line.last core.size.lines zero_stamped (c.loop-line.invariant.0 ∙ c.lines-lines.ensures.lines)
+    (λ k below. c.loop-line.invariant.1 k (omega arith)) in
     let long = ap (λ (last : List Stamped). length last) all ∙ length-map-range_with_len (last_at core) 0 core.size.lines in
     subst (λ (k : Core). length c.loop-line.last ≡ k.size.lines) c.self.view_is long
 
 pub returns-clause-consistent : goal.returns-clause-consistent
 returns-clause-consistent c =
     let core = c.self.inside.state in
-    let all = fill_by_all (last_at core) c.loop-line.last core.size.lines zero_stamped (c.loop-line.invariant.0 ∙ c.lines-lines.ensures.lines) (λ k below. c.loop-line.invariant.1 k (omega arith)) in
+    let all = fill_by_all (last_at core) c.loop-line.last core.size.lines zero_stamped (c.loop-line.invariant.0 ∙ c.lines-lines.ensures.lines)
+    (λ k below. c.loop-line.invariant.1 k (omega arith)) in
     let consistent = subst (IsSequentiallyConsistent (logs_of core)) (sym all) (reached_consistent core c.self.invariant) in
     subst (λ (k : Core). IsSequentiallyConsistent (logs_of k) c.loop-line.last) c.self.view_is consistent

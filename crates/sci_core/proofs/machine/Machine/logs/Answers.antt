@@ -18,18 +18,21 @@ use Rattle.sci_core.proofs.machine.Machine.logs.Goals as goal
 pub push_log-requires-clause-own : goal.push_log-requires-clause-own
 push_log-requires-clause-own c =
     let log = c.log.ensures ∙ ap (λ (node : NodeOf). node.log) c.node.ensures in
-    subst (All (λ (entry : Entry). entry.node ≡ c.loop-n.n)) (sym log) (own_log c.self.inside.state c.loop-n.n (reached_well c.self.inside.state c.self.invariant) (omega arith))
+    subst (All (λ (entry : Entry). entry.node ≡ c.loop-n.n)) (sym log)
+    (own_log c.self.inside.state c.loop-n.n (reached_well c.self.inside.state c.self.invariant) (omega arith))
 
 pub push_log-requires-clause-room : goal.push_log-requires-clause-room
 push_log-requires-clause-room c =
     let log = c.log.ensures ∙ ap (λ (node : NodeOf). node.log) c.node.ensures in
-    subst (λ (entries : List Entry). length entries ≤ MAX_OPERATIONS) (sym log) (short_log c.self.inside.state c.loop-n.n (reached_well c.self.inside.state c.self.invariant) c.self.invariant.size.few_operations (omega arith))
+    subst (λ (entries : List Entry). length entries ≤ MAX_OPERATIONS) (sym log)
+    (short_log c.self.inside.state c.loop-n.n (reached_well c.self.inside.state c.self.invariant) c.self.invariant.size.few_operations (omega arith))
 
 pub returns-clause-logs : goal.returns-clause-logs
 returns-clause-logs c =
     let well = reached_well c.self.inside.state c.self.invariant in
     let long = well.sizes.parts_long in
-    subst (λ (core : Core). c.loop-n.logs ≡ logs_of core) c.self.view_is (all_logs c.self.inside.state c.loop-n.logs c.loop-n.n (omega arith) c.loop-n.invariant.0 c.loop-n.invariant.1)
+    subst (λ (core : Core). c.loop-n.logs ≡ logs_of core) c.self.view_is
+    (all_logs c.self.inside.state c.loop-n.logs c.loop-n.n (omega arith) c.loop-n.invariant.0 c.loop-n.invariant.1)
 
 pub returns-clause-lawful : goal.returns-clause-lawful
 returns-clause-lawful c =

@@ -8,11 +8,15 @@ returns-in-Some-clause-enabled c = reply_found c.args.self.now c.in-Some.node c.
 
 pub returns-in-Some-full_lane-clause-enabled : goal.returns-in-Some-full_lane-clause-enabled
 returns-in-Some-full_lane-clause-enabled c =
-    accept_found c.args.self.now c.in-Some-full_lane.from c.in-Some-full_lane.node c.waiting_node.ensures.reached c.in-Some-full_lane.ensures.sender c.in-Some-full_lane.ensures.receiver c.in-Some-full_lane.ensures.full
+    accept_found c.args.self.now c.in-Some-full_lane.from c.in-Some-full_lane.node c.waiting_node.ensures.reached c.in-Some-full_lane.ensures.sender
+    c.in-Some-full_lane.ensures.receiver c.in-Some-full_lane.ensures.full
 
 pub returns-in-Some-full_lane-2-clause-enabled : goal.returns-in-Some-full_lane-2-clause-enabled
 returns-in-Some-full_lane-2-clause-enabled c =
-    serve_found c.args.self.now c.in-Some-full_lane-2.from c.in-Some-full_lane-2.node c.waiting_node.ensures.reached c.in-Some-full_lane-2.ensures.sender c.in-Some-full_lane-2.ensures.receiver (c.in_default.ensures.none refl) c.in-Some-full_lane-2.ensures.full
+    serve_found c.args.self.now c.in-Some-full_lane-2.from c.in-Some-full_lane-2.node c.waiting_node.ensures.reached c.in-Some-full_lane-2.ensures.sender
+    c.in-Some-full_lane-2.ensures.receiver (c.in_default.ensures.none refl) c.in-Some-full_lane-2.ensures.full
 
 pub returns-in-None-clause-none : goal.returns-in-None-clause-none
-returns-in-None-clause-none c = λ _. nothing_found c.args.self.now c.waiting_node.ensures.reached (c.in_default.ensures.none refl) (c.in_default-full_lane.ensures.none refl) (c.in-None.ensures.none refl)
+returns-in-None-clause-none c =
+    λ _. nothing_found c.args.self.now c.waiting_node.ensures.reached (c.in_default.ensures.none refl) (c.in_default-full_lane.ensures.none refl)
+    (c.in-None.ensures.none refl)

@@ -8,4 +8,5 @@ abbrev pub invariant-nodes : goal.invariant-nodes
 invariant-nodes l = (n line : ℕ) → n < l.node → line < l.extent.lines → pending_on (node_at l.self n) line ≡ None
 
 abbrev pub invariant-lines : goal.invariant-lines
-invariant-lines l = ((n line : ℕ) → n < l.node → line < l.extent.lines → pending_on (node_at l.self n) line ≡ None) × ((line : ℕ) → line < l.line → pending_on (node_at l.self l.node) line ≡ None)
+invariant-lines l = ((n line : ℕ) → n < l.node → line < l.extent.lines → pending_on (node_at l.self n) line ≡ None)
+    × ((line : ℕ) → line < l.line → pending_on (node_at l.self l.node) line ≡ None)

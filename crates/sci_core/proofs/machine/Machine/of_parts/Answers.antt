@@ -10,4 +10,5 @@ pub of_parts-requires : goal.of_parts-requires
 of_parts-requires c = (reached_well (core_of c.args.extent c.args.limit c.args.nodes.items c.args.lanes.items) c.requires).sizes
 
 pub returns-clause-coherent : goal.returns-clause-coherent
-returns-clause-coherent c = subst IsCoherent (sym c.of_parts.ensures) (reached_coherent (core_of c.args.extent c.args.limit c.args.nodes.items c.args.lanes.items) c.requires)
+returns-clause-coherent c = subst IsCoherent (sym c.of_parts.ensures)
+    (reached_coherent (core_of c.args.extent c.args.limit c.args.nodes.items c.args.lanes.items) c.requires)

@@ -7,12 +7,16 @@ use Rattle.sci_core.proofs.WellFormed.WellFormedSteps.{reached_maybe, size_maybe
 use Rattle.sci_core.proofs.machine.Machine.perform.Goals as goal
 
 pub invariant_of-self : goal.invariant_of-self
-invariant_of-self c = reached_maybe c.perform.result c.self.inside.state c.perform.new.self (Perform c.args.node c.args.line) c.self.invariant c.perform.ensures.done c.perform.ensures.same
+invariant_of-self c = reached_maybe c.perform.result c.self.inside.state c.perform.new.self (Perform c.args.node c.args.line) c.self.invariant
+    c.perform.ensures.done c.perform.ensures.same
 
 pub returns-clause-coherent : goal.returns-clause-coherent
-returns-clause-coherent c = reached_coherent c.perform.new.self (reached_maybe c.perform.result c.self.inside.state c.perform.new.self (Perform c.args.node c.args.line) c.self.invariant c.perform.ensures.done c.perform.ensures.same)
+returns-clause-coherent c = reached_coherent c.perform.new.self
+    (reached_maybe c.perform.result c.self.inside.state c.perform.new.self (Perform c.args.node c.args.line) c.self.invariant c.perform.ensures.done
+    c.perform.ensures.same)
 
 pub returns-clause-size : goal.returns-clause-size
 returns-clause-size c =
-    let size = size_maybe c.perform.result c.self.inside.state c.perform.new.self (Perform c.args.node c.args.line) c.self.invariant c.perform.ensures.done c.perform.ensures.same in
+    let size = size_maybe c.perform.result c.self.inside.state c.perform.new.self (Perform c.args.node c.args.line) c.self.invariant c.perform.ensures.done
+    c.perform.ensures.same in
     size ∙ ap (λ (core : Core). core.size) c.self.view_is

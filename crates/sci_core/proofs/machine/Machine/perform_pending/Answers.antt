@@ -10,11 +10,16 @@ round-requires-clause-asks c =
 
 pub make-requires : goal.make-requires
 make-requires c =
-    can_perform c.args.self.now c.round.new.self c.args.node c.args.line c.round.ensures.coherent.reached (has_read c.args.self.now c.round.new.self c.args.node c.args.line c.extent-extent.ensures.reached c.requires.drained c.requires.empty c.requires.line c.in_ok-round.ensures.round) c.requires.node c.requires.line c.requires.pending
+    can_perform c.args.self.now c.round.new.self c.args.node c.args.line c.round.ensures.coherent.reached
+    (has_read c.args.self.now c.round.new.self c.args.node c.args.line c.extent-extent.ensures.reached c.requires.drained c.requires.empty c.requires.line
+    c.in_ok-round.ensures.round) c.requires.node c.requires.line c.requires.pending
 
 pub empty_lines-requires : goal.empty_lines-requires
 empty_lines-requires c =
-    (performs_one_read c.args.self.now c.round.new.self c.make.new.self c.args.node c.args.line c.round.ensures.coherent.reached c.in_ok-round.ensures.drained c.requires.node c.requires.line (has_read c.args.self.now c.round.new.self c.args.node c.args.line c.extent-extent.ensures.reached c.requires.drained c.requires.empty c.requires.line c.in_ok-round.ensures.round) c.in_ok-make.ensures.ok).drained
+    (performs_one_read c.args.self.now c.round.new.self c.make.new.self c.args.node c.args.line c.round.ensures.coherent.reached c.in_ok-round.ensures.drained
+    c.requires.node c.requires.line
+    (has_read c.args.self.now c.round.new.self c.args.node c.args.line c.extent-extent.ensures.reached c.requires.drained c.requires.empty c.requires.line
+    c.in_ok-round.ensures.round) c.in_ok-make.ensures.ok).drained
 
 pub returns-in_err-make-clause-refused : goal.returns-in_err-make-clause-refused
 returns-in_err-make-clause-refused c =
@@ -22,20 +27,41 @@ returns-in_err-make-clause-refused c =
 
 pub returns-in_err-count-clause-refused : goal.returns-in_err-count-clause-refused
 returns-in_err-count-clause-refused c =
-    λ _. refused_after c.args.self.now c.make.new.self c.empty_lines.new.self 5 (after_perform c.args.self.now c.round.new.self c.make.new.self c.args.node c.args.line c.in_ok-round.ensures.made c.in_ok-make.ensures.ok) (c.in_err-count.ensures.refused refl)
+    λ _. refused_after c.args.self.now c.make.new.self c.empty_lines.new.self 5
+    (after_perform c.args.self.now c.round.new.self c.make.new.self c.args.node c.args.line c.in_ok-round.ensures.made c.in_ok-make.ensures.ok)
+    (c.in_err-count.ensures.refused refl)
 
 pub overflow_add-result : goal.overflow_add-result
 overflow_add-result c =
-    let few = (done_so c.args.self.now c.round.new.self c.make.new.self c.empty_lines.new.self c.args.node c.args.line c.in_ok-count.count c.requires.empty c.requires.node c.requires.line (has_read c.args.self.now c.round.new.self c.args.node c.args.line c.extent-extent.ensures.reached c.requires.drained c.requires.empty c.requires.line c.in_ok-round.ensures.round) (performs_one_read c.args.self.now c.round.new.self c.make.new.self c.args.node c.args.line c.round.ensures.coherent.reached c.in_ok-round.ensures.drained c.requires.node c.requires.line (has_read c.args.self.now c.round.new.self c.args.node c.args.line c.extent-extent.ensures.reached c.requires.drained c.requires.empty c.requires.line c.in_ok-round.ensures.round) c.in_ok-make.ensures.ok) c.in_ok-count.ensures.few c.in_ok-count.ensures.pending).few in omega arith
+    let few = (done_so c.args.self.now c.round.new.self c.make.new.self c.empty_lines.new.self c.args.node c.args.line c.in_ok-count.count c.requires.empty
+    c.requires.node c.requires.line
+    (has_read c.args.self.now c.round.new.self c.args.node c.args.line c.extent-extent.ensures.reached c.requires.drained c.requires.empty c.requires.line
+    c.in_ok-round.ensures.round) (performs_one_read c.args.self.now c.round.new.self c.make.new.self c.args.node c.args.line
+    c.round.ensures.coherent.reached c.in_ok-round.ensures.drained c.requires.node c.requires.line
+    (has_read c.args.self.now c.round.new.self c.args.node c.args.line c.extent-extent.ensures.reached c.requires.drained c.requires.empty c.requires.line
+    c.in_ok-round.ensures.round) c.in_ok-make.ensures.ok) c.in_ok-count.ensures.few c.in_ok-count.ensures.pending).few in omega arith
 
 pub returns-clause-made : goal.returns-clause-made
 returns-clause-made c =
-    worked_one c.args.self.now c.round.new.self c.make.new.self c.empty_lines.new.self c.args.node c.args.line c.in_ok-count.count c.in_ok-round.ensures.made c.in_ok-make.ensures.ok c.in_ok-count.ensures.made
+    worked_one c.args.self.now c.round.new.self c.make.new.self c.empty_lines.new.self c.args.node c.args.line c.in_ok-count.count c.in_ok-round.ensures.made
+    c.in_ok-make.ensures.ok c.in_ok-count.ensures.made
 
 pub returns-clause-few : goal.returns-clause-few
 returns-clause-few c =
-    (done_so c.args.self.now c.round.new.self c.make.new.self c.empty_lines.new.self c.args.node c.args.line c.in_ok-count.count c.requires.empty c.requires.node c.requires.line (has_read c.args.self.now c.round.new.self c.args.node c.args.line c.extent-extent.ensures.reached c.requires.drained c.requires.empty c.requires.line c.in_ok-round.ensures.round) (performs_one_read c.args.self.now c.round.new.self c.make.new.self c.args.node c.args.line c.round.ensures.coherent.reached c.in_ok-round.ensures.drained c.requires.node c.requires.line (has_read c.args.self.now c.round.new.self c.args.node c.args.line c.extent-extent.ensures.reached c.requires.drained c.requires.empty c.requires.line c.in_ok-round.ensures.round) c.in_ok-make.ensures.ok) c.in_ok-count.ensures.few c.in_ok-count.ensures.pending).few
+    (done_so c.args.self.now c.round.new.self c.make.new.self c.empty_lines.new.self c.args.node c.args.line c.in_ok-count.count c.requires.empty
+    c.requires.node c.requires.line
+    (has_read c.args.self.now c.round.new.self c.args.node c.args.line c.extent-extent.ensures.reached c.requires.drained c.requires.empty c.requires.line
+    c.in_ok-round.ensures.round) (performs_one_read c.args.self.now c.round.new.self c.make.new.self c.args.node c.args.line
+    c.round.ensures.coherent.reached c.in_ok-round.ensures.drained c.requires.node c.requires.line
+    (has_read c.args.self.now c.round.new.self c.args.node c.args.line c.extent-extent.ensures.reached c.requires.drained c.requires.empty c.requires.line
+    c.in_ok-round.ensures.round) c.in_ok-make.ensures.ok) c.in_ok-count.ensures.few c.in_ok-count.ensures.pending).few
 
 pub returns-clause-one : goal.returns-clause-one
 returns-clause-one c =
-    (done_so c.args.self.now c.round.new.self c.make.new.self c.empty_lines.new.self c.args.node c.args.line c.in_ok-count.count c.requires.empty c.requires.node c.requires.line (has_read c.args.self.now c.round.new.self c.args.node c.args.line c.extent-extent.ensures.reached c.requires.drained c.requires.empty c.requires.line c.in_ok-round.ensures.round) (performs_one_read c.args.self.now c.round.new.self c.make.new.self c.args.node c.args.line c.round.ensures.coherent.reached c.in_ok-round.ensures.drained c.requires.node c.requires.line (has_read c.args.self.now c.round.new.self c.args.node c.args.line c.extent-extent.ensures.reached c.requires.drained c.requires.empty c.requires.line c.in_ok-round.ensures.round) c.in_ok-make.ensures.ok) c.in_ok-count.ensures.few c.in_ok-count.ensures.pending).pending
+    (done_so c.args.self.now c.round.new.self c.make.new.self c.empty_lines.new.self c.args.node c.args.line c.in_ok-count.count c.requires.empty
+    c.requires.node c.requires.line
+    (has_read c.args.self.now c.round.new.self c.args.node c.args.line c.extent-extent.ensures.reached c.requires.drained c.requires.empty c.requires.line
+    c.in_ok-round.ensures.round) (performs_one_read c.args.self.now c.round.new.self c.make.new.self c.args.node c.args.line
+    c.round.ensures.coherent.reached c.in_ok-round.ensures.drained c.requires.node c.requires.line
+    (has_read c.args.self.now c.round.new.self c.args.node c.args.line c.extent-extent.ensures.reached c.requires.drained c.requires.empty c.requires.line
+    c.in_ok-round.ensures.round) c.in_ok-make.ensures.ok) c.in_ok-count.ensures.few c.in_ok-count.ensures.pending).pending

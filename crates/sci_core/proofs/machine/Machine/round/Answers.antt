@@ -3,29 +3,43 @@ use Rattle.std.proofs.Common.{arith}
 use Rattle.sci_cache.specs.Cache.{letter_of}
 use Rattle.sci_core.specs.Settling.{settles}
 use Rattle.sci_core.proofs.Settling.Leading.{leads_none}
-use Rattle.sci_core.proofs.Settling.RoundSteps.{accept_enabled_next, after_four, after_one, after_three, after_two, ask_enabled, reply_enabled_next, round_drained, round_made, rounds_told, serve_enabled_next, small_told, stands}
+use Rattle.sci_core.proofs.Settling.RoundSteps.{accept_enabled_next, after_four, after_one, after_three, after_two, ask_enabled, reply_enabled_next}
+use Rattle.sci_core.proofs.Settling.RoundSteps.{round_drained, round_made, rounds_told, serve_enabled_next, small_told, stands}
 use Rattle.sci_core.proofs.machine.Machine.round.Goals as goal
 
 pub overflow_cast-target : goal.overflow_cast-target
 overflow_cast-target c =
-    let small = small_told c.args.self.now c.args.node c.args.line c.args.kind c.get-target.result c.node.result.now (letter_of c.in-Some.request) c.extent-extent.ensures.reached c.requires.node c.node.ensures.node c.in-Some.ensures.asked c.get-target.ensures.number in
+    let small = small_told c.args.self.now c.args.node c.args.line c.args.kind c.get-target.result c.node.result.now (letter_of c.in-Some.request)
+    c.extent-extent.ensures.reached c.requires.node c.node.ensures.node c.in-Some.ensures.asked c.get-target.ensures.number in
     omega arith
 
 pub make-requires : goal.make-requires
 make-requires c =
-    ask_enabled c.args.self.now c.args.node c.args.line c.args.kind c.get-target.result (rounds_told c.args.self.now c.args.node c.args.line c.args.kind c.get-target.result c.node.result.now (letter_of c.in-Some.request) c.extent-extent.ensures.reached c.requires.drained c.requires.node c.requires.line c.node.ensures.node c.in-Some.ensures.asked c.get-target.ensures.number)
+    ask_enabled c.args.self.now c.args.node c.args.line c.args.kind c.get-target.result
+    (rounds_told c.args.self.now c.args.node c.args.line c.args.kind c.get-target.result c.node.result.now (letter_of c.in-Some.request)
+    c.extent-extent.ensures.reached c.requires.drained c.requires.node c.requires.line c.node.ensures.node c.in-Some.ensures.asked
+    c.get-target.ensures.number)
 
 pub make-requires-2 : goal.make-requires-2
 make-requires-2 c =
-    serve_enabled_next c.args.self.now c.args.node c.args.line c.args.kind c.get-target.result c.make.new.self (rounds_told c.args.self.now c.args.node c.args.line c.args.kind c.get-target.result c.node.result.now (letter_of c.in-Some.request) c.extent-extent.ensures.reached c.requires.drained c.requires.node c.requires.line c.node.ensures.node c.in-Some.ensures.asked c.get-target.ensures.number) c.in_ok-make.ensures.ok
+    serve_enabled_next c.args.self.now c.args.node c.args.line c.args.kind c.get-target.result c.make.new.self
+    (rounds_told c.args.self.now c.args.node c.args.line c.args.kind c.get-target.result c.node.result.now (letter_of c.in-Some.request)
+    c.extent-extent.ensures.reached c.requires.drained c.requires.node c.requires.line c.node.ensures.node c.in-Some.ensures.asked
+    c.get-target.ensures.number) c.in_ok-make.ensures.ok
 
 pub make-requires-3 : goal.make-requires-3
 make-requires-3 c =
-    reply_enabled_next c.args.self.now c.args.node c.args.line c.args.kind c.get-target.result c.make.new.self c.make-2.new.self (rounds_told c.args.self.now c.args.node c.args.line c.args.kind c.get-target.result c.node.result.now (letter_of c.in-Some.request) c.extent-extent.ensures.reached c.requires.drained c.requires.node c.requires.line c.node.ensures.node c.in-Some.ensures.asked c.get-target.ensures.number) c.in_ok-make.ensures.ok c.in_ok-make-2.ensures.ok
+    reply_enabled_next c.args.self.now c.args.node c.args.line c.args.kind c.get-target.result c.make.new.self c.make-2.new.self
+    (rounds_told c.args.self.now c.args.node c.args.line c.args.kind c.get-target.result c.node.result.now (letter_of c.in-Some.request)
+    c.extent-extent.ensures.reached c.requires.drained c.requires.node c.requires.line c.node.ensures.node c.in-Some.ensures.asked
+    c.get-target.ensures.number) c.in_ok-make.ensures.ok c.in_ok-make-2.ensures.ok
 
 pub make-requires-4 : goal.make-requires-4
 make-requires-4 c =
-    accept_enabled_next c.args.self.now c.args.node c.args.line c.args.kind c.get-target.result c.make.new.self c.make-2.new.self c.make-3.new.self (rounds_told c.args.self.now c.args.node c.args.line c.args.kind c.get-target.result c.node.result.now (letter_of c.in-Some.request) c.extent-extent.ensures.reached c.requires.drained c.requires.node c.requires.line c.node.ensures.node c.in-Some.ensures.asked c.get-target.ensures.number) (record { ask = c.in_ok-make.ensures.ok; serve = c.in_ok-make-2.ensures.ok; reply = c.in_ok-make-3.ensures.ok })
+    accept_enabled_next c.args.self.now c.args.node c.args.line c.args.kind c.get-target.result c.make.new.self c.make-2.new.self c.make-3.new.self
+    (rounds_told c.args.self.now c.args.node c.args.line c.args.kind c.get-target.result c.node.result.now (letter_of c.in-Some.request)
+    c.extent-extent.ensures.reached c.requires.drained c.requires.node c.requires.line c.node.ensures.node c.in-Some.ensures.asked
+    c.get-target.ensures.number) (record { ask = c.in_ok-make.ensures.ok; serve = c.in_ok-make-2.ensures.ok; reply = c.in_ok-make-3.ensures.ok })
 
 pub returns-in_err-make-clause-refused : goal.returns-in_err-make-clause-refused
 returns-in_err-make-clause-refused c =
@@ -33,24 +47,36 @@ returns-in_err-make-clause-refused c =
 
 pub returns-in_err-make-2-clause-refused : goal.returns-in_err-make-2-clause-refused
 returns-in_err-make-2-clause-refused c =
-    λ _. stands c.args.self.now c.make.new.self c.make-2.new.self 1 (after_one c.args.self.now c.args.node c.args.line c.args.kind c.make.new.self c.in_ok-make.ensures.ok) c.in_err-make-2.ensures.err
+    λ _. stands c.args.self.now c.make.new.self c.make-2.new.self 1
+    (after_one c.args.self.now c.args.node c.args.line c.args.kind c.make.new.self c.in_ok-make.ensures.ok) c.in_err-make-2.ensures.err
 
 pub returns-in_err-make-3-clause-refused : goal.returns-in_err-make-3-clause-refused
 returns-in_err-make-3-clause-refused c =
-    λ _. stands c.args.self.now c.make-2.new.self c.make-3.new.self 2 (after_two c.args.self.now c.args.node c.args.line c.args.kind c.get-target.result c.make.new.self c.make-2.new.self c.in_ok-make.ensures.ok c.in_ok-make-2.ensures.ok) c.in_err-make-3.ensures.err
+    λ _. stands c.args.self.now c.make-2.new.self c.make-3.new.self 2
+    (after_two c.args.self.now c.args.node c.args.line c.args.kind c.get-target.result c.make.new.self c.make-2.new.self c.in_ok-make.ensures.ok
+    c.in_ok-make-2.ensures.ok) c.in_err-make-3.ensures.err
 
 pub returns-in_err-make-4-clause-refused : goal.returns-in_err-make-4-clause-refused
 returns-in_err-make-4-clause-refused c =
-    λ _. stands c.args.self.now c.make-3.new.self c.make-4.new.self 3 (after_three c.args.self.now c.args.node c.args.line c.args.kind c.get-target.result c.make.new.self c.make-2.new.self c.make-3.new.self (record { ask = c.in_ok-make.ensures.ok; serve = c.in_ok-make-2.ensures.ok; reply = c.in_ok-make-3.ensures.ok })) c.in_err-make-4.ensures.err
+    λ _. stands c.args.self.now c.make-3.new.self c.make-4.new.self 3
+    (after_three c.args.self.now c.args.node c.args.line c.args.kind c.get-target.result c.make.new.self c.make-2.new.self c.make-3.new.self
+    (record { ask = c.in_ok-make.ensures.ok; serve = c.in_ok-make-2.ensures.ok; reply = c.in_ok-make-3.ensures.ok })) c.in_err-make-4.ensures.err
 
 pub returns-clause-round : goal.returns-clause-round
 returns-clause-round c =
-    round_made c.args.self.now c.args.node c.args.line c.args.kind c.get-target.result c.make.new.self c.make-2.new.self c.make-3.new.self c.make-4.new.self (rounds_told c.args.self.now c.args.node c.args.line c.args.kind c.get-target.result c.node.result.now (letter_of c.in-Some.request) c.extent-extent.ensures.reached c.requires.drained c.requires.node c.requires.line c.node.ensures.node c.in-Some.ensures.asked c.get-target.ensures.number) (record { ask = c.in_ok-make.ensures.ok; serve = c.in_ok-make-2.ensures.ok; reply = c.in_ok-make-3.ensures.ok }) c.in_ok-make-4.ensures.ok
+    round_made c.args.self.now c.args.node c.args.line c.args.kind c.get-target.result c.make.new.self c.make-2.new.self c.make-3.new.self c.make-4.new.self
+    (rounds_told c.args.self.now c.args.node c.args.line c.args.kind c.get-target.result c.node.result.now (letter_of c.in-Some.request)
+    c.extent-extent.ensures.reached c.requires.drained c.requires.node c.requires.line c.node.ensures.node c.in-Some.ensures.asked
+    c.get-target.ensures.number) (record { ask = c.in_ok-make.ensures.ok; serve = c.in_ok-make-2.ensures.ok; reply = c.in_ok-make-3.ensures.ok })
+    c.in_ok-make-4.ensures.ok
 
 pub returns-clause-made : goal.returns-clause-made
 returns-clause-made c =
-    after_four c.args.self.now c.args.node c.args.line c.args.kind c.get-target.result c.make.new.self c.make-2.new.self c.make-3.new.self c.make-4.new.self (record { ask = c.in_ok-make.ensures.ok; serve = c.in_ok-make-2.ensures.ok; reply = c.in_ok-make-3.ensures.ok }) c.in_ok-make-4.ensures.ok
+    after_four c.args.self.now c.args.node c.args.line c.args.kind c.get-target.result c.make.new.self c.make-2.new.self c.make-3.new.self c.make-4.new.self
+    (record { ask = c.in_ok-make.ensures.ok; serve = c.in_ok-make-2.ensures.ok; reply = c.in_ok-make-3.ensures.ok }) c.in_ok-make-4.ensures.ok
 
 pub returns-clause-drained : goal.returns-clause-drained
 returns-clause-drained c =
-    round_drained c.args.self.now c.args.node c.args.line c.args.kind c.get-target.result c.make.new.self c.make-2.new.self c.make-3.new.self c.make-4.new.self c.extent-extent.ensures.reached c.requires.drained (record { ask = c.in_ok-make.ensures.ok; serve = c.in_ok-make-2.ensures.ok; reply = c.in_ok-make-3.ensures.ok }) c.in_ok-make-4.ensures.ok
+    round_drained c.args.self.now c.args.node c.args.line c.args.kind c.get-target.result c.make.new.self c.make-2.new.self c.make-3.new.self c.make-4.new.self
+    c.extent-extent.ensures.reached c.requires.drained
+    (record { ask = c.in_ok-make.ensures.ok; serve = c.in_ok-make-2.ensures.ok; reply = c.in_ok-make-3.ensures.ok }) c.in_ok-make-4.ensures.ok

@@ -12,27 +12,37 @@ returns-in_err-drained-clause-refused c =
 
 pub returns-in_err-emptied-clause-refused : goal.returns-in_err-emptied-clause-refused
 returns-in_err-emptied-clause-refused c =
-    λ _. refused_after c.args.self.now c.drain.new.self c.empty_lines.new.self c.in_ok-drained.drained (moves_settle c.args.self.now c.drain.new.self c.in_ok-drained.drained c.in_ok-drained.ensures.made) (c.in_err-emptied.ensures.refused refl)
+    λ _. refused_after c.args.self.now c.drain.new.self c.empty_lines.new.self c.in_ok-drained.drained
+    (moves_settle c.args.self.now c.drain.new.self c.in_ok-drained.drained c.in_ok-drained.ensures.made) (c.in_err-emptied.ensures.refused refl)
 
 pub overflow_add-count : goal.overflow_add-count
 overflow_add-count c =
-    let few = few_worked c.args.self.now c.empty_lines.new.self (c.in_ok-drained.drained + c.in_ok-emptied.emptied) c.extent-extent.ensures.reached (worked_first c.args.self.now c.drain.new.self c.empty_lines.new.self c.in_ok-drained.drained c.in_ok-emptied.emptied c.extent-extent.ensures.reached c.drain.ensures.coherent.reached c.in_ok-drained.ensures.made c.in_ok-drained.ensures.weight c.in_ok-emptied.ensures.made c.in_ok-emptied.ensures.few c.in_ok-emptied.ensures.pending c.in_ok-emptied.ensures.drained c.in_ok-emptied.ensures.empty) in omega arith
+    let few = few_worked c.args.self.now c.empty_lines.new.self (c.in_ok-drained.drained + c.in_ok-emptied.emptied) c.extent-extent.ensures.reached
+    (worked_first c.args.self.now c.drain.new.self c.empty_lines.new.self c.in_ok-drained.drained c.in_ok-emptied.emptied c.extent-extent.ensures.reached
+    c.drain.ensures.coherent.reached c.in_ok-drained.ensures.made c.in_ok-drained.ensures.weight c.in_ok-emptied.ensures.made c.in_ok-emptied.ensures.few
+    c.in_ok-emptied.ensures.pending c.in_ok-emptied.ensures.drained c.in_ok-emptied.ensures.empty) in omega arith
 
 pub operations-init : goal.operations-init
 operations-init c =
-    worked_first c.args.self.now c.drain.new.self c.empty_lines.new.self c.in_ok-drained.drained c.in_ok-emptied.emptied c.extent-extent.ensures.reached c.drain.ensures.coherent.reached c.in_ok-drained.ensures.made c.in_ok-drained.ensures.weight c.in_ok-emptied.ensures.made c.in_ok-emptied.ensures.few c.in_ok-emptied.ensures.pending c.in_ok-emptied.ensures.drained c.in_ok-emptied.ensures.empty
+    worked_first c.args.self.now c.drain.new.self c.empty_lines.new.self c.in_ok-drained.drained c.in_ok-emptied.emptied c.extent-extent.ensures.reached
+    c.drain.ensures.coherent.reached c.in_ok-drained.ensures.made c.in_ok-drained.ensures.weight c.in_ok-emptied.ensures.made c.in_ok-emptied.ensures.few
+    c.in_ok-emptied.ensures.pending c.in_ok-emptied.ensures.drained c.in_ok-emptied.ensures.empty
 
 pub returns-in_err-count-clause-refused : goal.returns-in_err-count-clause-refused
 returns-in_err-count-clause-refused c =
-    λ _. refused_after c.args.self.now c.operations.self c.perform_pending.new.self c.operations.count c.operations.invariant.leads (c.in_err-count.ensures.refused refl)
+    λ _. refused_after c.args.self.now c.operations.self c.perform_pending.new.self c.operations.count c.operations.invariant.leads
+    (c.in_err-count.ensures.refused refl)
 
 pub overflow_add-count-in-Some : goal.overflow_add-count-in-Some
 overflow_add-count-in-Some c =
-    let few = few_worked c.args.self.now c.perform_pending.new.self (c.operations.count + c.in_ok-count.field-0) c.extent-extent.ensures.reached (worked_more c.args.self.now c.operations.self c.perform_pending.new.self c.operations.count c.in_ok-count.field-0 c.operations.invariant c.in_ok-count.ensures.made c.in_ok-count.ensures.few c.in_ok-count.ensures.one c.in_ok-count.ensures.drained c.in_ok-count.ensures.empty) in omega arith
+    let few = few_worked c.args.self.now c.perform_pending.new.self (c.operations.count + c.in_ok-count.field-0) c.extent-extent.ensures.reached
+    (worked_more c.args.self.now c.operations.self c.perform_pending.new.self c.operations.count c.in_ok-count.field-0 c.operations.invariant
+    c.in_ok-count.ensures.made c.in_ok-count.ensures.few c.in_ok-count.ensures.one c.in_ok-count.ensures.drained c.in_ok-count.ensures.empty) in omega arith
 
 pub operations-preserved : goal.operations-preserved
 operations-preserved c =
-    worked_more c.args.self.now c.operations.self c.perform_pending.new.self c.operations.count c.in_ok-count.field-0 c.operations.invariant c.in_ok-count.ensures.made c.in_ok-count.ensures.few c.in_ok-count.ensures.one c.in_ok-count.ensures.drained c.in_ok-count.ensures.empty
+    worked_more c.args.self.now c.operations.self c.perform_pending.new.self c.operations.count c.in_ok-count.field-0 c.operations.invariant
+    c.in_ok-count.ensures.made c.in_ok-count.ensures.few c.in_ok-count.ensures.one c.in_ok-count.ensures.drained c.in_ok-count.ensures.empty
 
 pub operations-smaller : goal.operations-smaller
 operations-smaller c =

@@ -9,6 +9,7 @@ use Rattle.sci_core.proofs.node.Node.ask.Goals as goal
 
 pub invariant_of-self : goal.invariant_of-self
 invariant_of-self c =
-    let same = same_either c.ask.result (λ (packet : Packet). cache_asking c.self.inside.cache c.args.line c.args.kind ≡ Ok (c.ask.new.self, letter_of packet)) c.self.inside.cache c.ask.new.self c.ask.ensures.asked
+    let same = same_either c.ask.result (λ (packet : Packet). cache_asking c.self.inside.cache c.args.line c.args.kind ≡ Ok (c.ask.new.self, letter_of packet))
+    c.self.inside.cache c.ask.new.self c.ask.ensures.asked
     (λ packet. same_asking c.self.inside.cache c.args.line c.args.kind c.ask.new.self (letter_of packet)) c.ask.ensures.same in
     (fits_kept _ _ _ _ _ _ same c.self.invariant.0, node_with_cache (the_view c.self.inside) _ same c.self.invariant.1)

@@ -11,5 +11,6 @@ pub returns-clause-asked : goal.returns-clause-asked
 returns-clause-asked c =
     let lines = c.self.invariant.0.lines in
     let below : c.args.line < lines_of (the_view c.self.inside) = omega arith in
-    subst (λ (node : NodeOf). IfSome c.asked.result (λ packet. (next : NodeOf) × (node_asking node c.args.line c.args.kind ≡ Some (next, letter_of packet)))) c.self.view_is
+    subst (λ (node : NodeOf). IfSome c.asked.result (λ packet. (next : NodeOf) × (node_asking node c.args.line c.args.kind ≡ Some (next, letter_of packet))))
+    c.self.view_is
     (asked_some (the_view c.self.inside) c.args.line c.args.kind c.asked.result below c.asked.ensures.asked)

@@ -10,14 +10,17 @@ use Rattle.sci_core.proofs.Step.Nodes.{fits_kept, node_with_entry}
 use Rattle.sci_core.proofs.node.Node.perform.Goals as goal
 
 -- the log's room, and the entry at its end
-entered : (result : Result (Unit {0}) (AllocFailed Entry)) (log new : List Entry) (entry : Entry) (x : Unit {0}) → result ≡ Ok x → new ≡ (if is_ok result then log ++ entry ∷ [] else log) → new ≡ log ++ entry ∷ []
+entered : (result : Result (Unit {0}) (AllocFailed Entry)) (log new : List Entry) (entry : Entry) (x : Unit {0}) → result ≡ Ok x
+    → new ≡ (if is_ok result then log ++ entry ∷ [] else log) → new ≡ log ++ entry ∷ []
 entered result log new entry x ok e = rw ok at e
 
 pub invariant_of-self-2 : goal.invariant_of-self-2
 invariant_of-self-2 c =
     let node = the_view c.self.inside in
-    let same = same_performing c.self.inside.cache c.in_ok-pending.pending.op c.perform.new.self c.in_ok-reply.reply c.in_ok-reply.version c.in_ok-reply.ensures.done in
-    let at : pending_on node c.args.line ≡ Some c.in_ok-pending.pending = ap (λ (n : NodeOf). pending_on n c.args.line) c.self.view_is ∙ sym c.pending.ensures ∙ c.in_ok-pending.was in
+    let same = same_performing c.self.inside.cache c.in_ok-pending.pending.op c.perform.new.self c.in_ok-reply.reply c.in_ok-reply.version
+    c.in_ok-reply.ensures.done in
+    let at : pending_on node c.args.line ≡ Some c.in_ok-pending.pending =
+    ap (λ (n : NodeOf). pending_on n c.args.line) c.self.view_is ∙ sym c.pending.ensures ∙ c.in_ok-pending.was in
     let log = entered _ _ _ _ _ c.in-Ok.is c.push.ensures.items in
     let kept = fits_kept _ _ _ _ _ _ same c.self.invariant.0 in
     let room = kept.room in

@@ -17,9 +17,15 @@ returns-clause-served c =
     let lines = c.requires.servable.here.line in
     let view = ap lines_of c.self.view_is in
     let least = home_below node request.line (omega arith) c.self.invariant.1 in
-    let below : request.line / c.from.result < length c.self.inside.homes.items = subst (λ (n : ℕ). request.line / n < length c.self.inside.homes.items) (sym nodes) least in
+    let below : request.line / c.from.result < length c.self.inside.homes.items =
+    subst (λ (n : ℕ). request.line / n < length c.self.inside.homes.items) (sym nodes) least in
     let home : c.index_mut.result.now ≡ home_of node request.line =
-    get_or_read c.self.inside.homes.items (request.line / c.from.result) _ below c.index_mut.ensures.value opening_home ∙ ap (λ (n : ℕ). get_or c.self.inside.homes.items (request.line / n) opening_home) nodes in
+    get_or_read c.self.inside.homes.items (request.line / c.from.result) _ below c.index_mut.ensures.value opening_home
+    ∙ ap (λ (n : ℕ). get_or c.self.inside.homes.items (request.line / n) opening_home) nodes in
     let served = home_served node (letter_of request) c.index_mut.result.now c.serve.new.self c.serve.result.body home c.serve.ensures.case in
-    let gives = λ (n : NodeOf) (k : ℕ). serving_at_home n (letter_of request) ≡ Some (record node { homes = set c.self.inside.homes.items (request.line / k) c.serve.new.self }, c.serve.result.body) in
+    let gives = λ (n : NodeOf) (k : ℕ).
+    serving_at_home n (letter_of request) ≡ Some (
+      record node { homes = set c.self.inside.homes.items (request.line / k) c.serve.new.self },
+      c.serve.result.body,
+    ) in
     subst (λ (n : NodeOf). gives n c.from.result) c.self.view_is (subst (gives node) (sym nodes) served)

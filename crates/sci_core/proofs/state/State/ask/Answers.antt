@@ -26,7 +26,8 @@ send-requires-clause-to c =
 pub returns-in-Err-clause-refused : goal.returns-in-Err-clause-refused
 returns-in-Err-clause-refused c =
     let made = c.in-Some.ensures.asked in (
-      sent_enabled c.args.self.now (event.Ask c.args.n c.args.line c.args.kind) Requests (λ node. node_asking node c.args.line c.args.kind) c.requires.n (λ node. refl) made.0 (letter_of c.in-Some.request)
+      sent_enabled c.args.self.now (event.Ask c.args.n c.args.line c.args.kind) Requests (λ node. node_asking node c.args.line c.args.kind) c.requires.n
+          (λ node. refl) made.0 (letter_of c.in-Some.request)
           (ap (λ (node : NodeOf). node_asking node c.args.line c.args.kind) (sym c.node.ensures) ∙ made.1),
       refl,
     )
@@ -39,8 +40,10 @@ apply_ask-requires c =
     let size = ap (λ (core : Core). core.size.nodes) (c.in_default-send.ensures.ok) in
     let given = c.requires.n in
     let below : c.args.n < length mid.parts = omega arith in
-    let here = read_sent c.args.self.now mid Requests c.from.result c.args.n (letter_of c.in-Some.request) c.index_mut.result.now (c.self.view_is ∙ c.in_default-send.ensures.ok) c.from.ensures below c.index_mut.ensures.value in
-    subst IsSome (sym (ap (λ (node : NodeOf). node_asking node c.args.line c.args.kind) here ∙ (ap (λ (node : NodeOf). node_asking node c.args.line c.args.kind) (sym c.node.ensures) ∙ c.in-Some.ensures.asked.1))) refl
+    let here = read_sent c.args.self.now mid Requests c.from.result c.args.n (letter_of c.in-Some.request) c.index_mut.result.now
+    (c.self.view_is ∙ c.in_default-send.ensures.ok) c.from.ensures below c.index_mut.ensures.value in
+    subst IsSome (sym (ap (λ (node : NodeOf). node_asking node c.args.line c.args.kind) here
+    ∙ (ap (λ (node : NodeOf). node_asking node c.args.line c.args.kind) (sym c.node.ensures) ∙ c.in-Some.ensures.asked.1))) refl
 
 pub returns-clause-done : goal.returns-clause-done
 returns-clause-done c =
@@ -51,6 +54,9 @@ returns-clause-done c =
     let given = c.requires.n in
     let below : c.args.n < length mid.parts = omega arith in
     let sent = c.self.view_is ∙ c.in_default-send.ensures.ok in
-    sent_done c.args.self.now mid (event.Ask c.args.n c.args.line c.args.kind) Requests (λ node. node_asking node c.args.line c.args.kind) c.from.result c.index_mut.result.now c.apply_ask.new.self _ (letter_of c.in-Some.request)
-    c.requires.n (λ node. refl) (ap (λ (node : NodeOf). node_asking node c.args.line c.args.kind) (sym c.node.ensures) ∙ c.in-Some.ensures.asked.1) sent c.from.ensures
-    (read_sent c.args.self.now mid Requests c.from.result c.args.n (letter_of c.in-Some.request) c.index_mut.result.now sent c.from.ensures below c.index_mut.ensures.value) c.apply_ask.ensures
+    sent_done c.args.self.now mid (event.Ask c.args.n c.args.line c.args.kind) Requests (λ node. node_asking node c.args.line c.args.kind) c.from.result
+    c.index_mut.result.now c.apply_ask.new.self _ (letter_of c.in-Some.request)
+    c.requires.n (λ node. refl) (ap (λ (node : NodeOf). node_asking node c.args.line c.args.kind) (sym c.node.ensures) ∙ c.in-Some.ensures.asked.1) sent
+    c.from.ensures
+    (read_sent c.args.self.now mid Requests c.from.result c.args.n (letter_of c.in-Some.request) c.index_mut.result.now sent c.from.ensures below
+    c.index_mut.ensures.value) c.apply_ask.ensures

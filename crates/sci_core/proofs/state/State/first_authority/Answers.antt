@@ -12,4 +12,5 @@ nothing (Some c) none = absurd (cc)
 pub loop-n-preserved : goal.loop-n-preserved
 loop-n-preserved c =
     let here : is_some (authority_contents (sharer_of c.args.self.now c.args.line c.loop-n.n)) ≡ false = cc in
-    below_more (λ (m : ℕ). authority_contents (sharer_of c.args.self.now c.args.line m) ≡ None) c.loop-n.n c.loop-n.invariant (nothing (authority_contents (sharer_of c.args.self.now c.args.line c.loop-n.n)) here)
+    below_more (λ (m : ℕ). authority_contents (sharer_of c.args.self.now c.args.line m) ≡ None) c.loop-n.n c.loop-n.invariant
+    (nothing (authority_contents (sharer_of c.args.self.now c.args.line c.loop-n.n)) here)

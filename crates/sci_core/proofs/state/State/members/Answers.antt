@@ -17,7 +17,8 @@ pub overflow_cast-node : goal.overflow_cast-node
 overflow_cast-node c =
     let core = c.args.self.now in
     let first = head_of (home_at core c.args.line) in
-    let at = walked_at (link_at core c.args.line) first c.loop-place.nodes.items c.loop-place.next c.in-Some.id c.get-node.result c.in-Some.is c.get-node.ensures.number c.loop-place.invariant.walked in
+    let at = walked_at (link_at core c.args.line) first c.loop-place.nodes.items c.loop-place.next c.in-Some.id c.get-node.result c.in-Some.is
+    c.get-node.ensures.number c.loop-place.invariant.walked in
     let fits = walk_fits core c.args.line first c.loop-place.nodes.items c.get-node.result c.requires.well at in
     let below : c.get-node.result < core.size.nodes = fits.1 in
     omega (arith, c.nodes.ensures.nodes, c.nodes.type_inv)
@@ -26,7 +27,8 @@ pub behind-next-requires-clause-n : goal.behind-next-requires-clause-n
 behind-next-requires-clause-n c =
     let core = c.args.self.now in
     let first = head_of (home_at core c.args.line) in
-    let at = walked_at (link_at core c.args.line) first c.loop-place.nodes.items c.loop-place.next c.in-Some.id c.get-node.result c.in-Some.is c.get-node.ensures.number c.loop-place.invariant.walked in
+    let at = walked_at (link_at core c.args.line) first c.loop-place.nodes.items c.loop-place.next c.in-Some.id c.get-node.result c.in-Some.is
+    c.get-node.ensures.number c.loop-place.invariant.walked in
     let fits = walk_fits core c.args.line first c.loop-place.nodes.items c.get-node.result c.requires.well at in
     fits.1
 
@@ -34,25 +36,33 @@ pub behind-next-requires-clause-member : goal.behind-next-requires-clause-member
 behind-next-requires-clause-member c =
     let core = c.args.self.now in
     let first = head_of (home_at core c.args.line) in
-    let at = walked_at (link_at core c.args.line) first c.loop-place.nodes.items c.loop-place.next c.in-Some.id c.get-node.result c.in-Some.is c.get-node.ensures.number c.loop-place.invariant.walked in
+    let at = walked_at (link_at core c.args.line) first c.loop-place.nodes.items c.loop-place.next c.in-Some.id c.get-node.result c.in-Some.is
+    c.get-node.ensures.number c.loop-place.invariant.walked in
     λ no. walk_goes_on (link_at core c.args.line) first c.loop-place.nodes.items c.get-node.result at no
 
 pub loop-place-preserved : goal.loop-place-preserved
 loop-place-preserved c =
     let core = c.args.self.now in
     let first = head_of (home_at core c.args.line) in
-    let at = walked_at (link_at core c.args.line) first c.loop-place.nodes.items c.loop-place.next c.in-Some.id c.get-node.result c.in-Some.is c.get-node.ensures.number c.loop-place.invariant.walked in
+    let at = walked_at (link_at core c.args.line) first c.loop-place.nodes.items c.loop-place.next c.in-Some.id c.get-node.result c.in-Some.is
+    c.get-node.ensures.number c.loop-place.invariant.walked in
     let longer = ap (λ (l : List ℕ). length l) c.in_ok-push.ensures.items in record {
-      walked = rw c.in_ok-push.ensures.items (walks_more (link_at core c.args.line) first c.loop-place.nodes.items c.get-node.result c.behind-next.result at c.behind-next.ensures.behind);
+      walked = rw c.in_ok-push.ensures.items
+          (walks_more (link_at core c.args.line) first c.loop-place.nodes.items c.get-node.result c.behind-next.result at c.behind-next.ensures.behind);
       counted = omega (arith, longer, length-append {A = ℕ}, c.loop-place.invariant.counted);
-      sought = rw c.in_ok-push.ensures.items (sought_more core c.args.line c.get-node.result c.loop-place.nodes.items c.loop-place.authority c.behind-next.new.found (authority_contents (sharer_of core c.args.line c.get-node.result)) c.loop-place.invariant.sought (walk_fits core c.args.line first c.loop-place.nodes.items c.get-node.result c.requires.well at).1 refl c.behind-next.ensures.here c.behind-next.ensures.before);
+      sought = rw c.in_ok-push.ensures.items
+          (sought_more core c.args.line c.get-node.result c.loop-place.nodes.items c.loop-place.authority c.behind-next.new.found
+          (authority_contents (sharer_of core c.args.line c.get-node.result)) c.loop-place.invariant.sought
+          (walk_fits core c.args.line first c.loop-place.nodes.items c.get-node.result c.requires.well at).1 refl c.behind-next.ensures.here
+          c.behind-next.ensures.before);
     }
 
 pub returns-in_default-clause-list : goal.returns-in_default-clause-list
 returns-in_default-clause-list c =
     let core = c.args.self.now in
     let first = head_of (home_at core c.args.line) in
-    walk_ends (link_at core c.args.line) first c.loop-place.nodes.items (subst (IsWalked (link_at core c.args.line) first c.loop-place.nodes.items) c.in_default.is c.loop-place.invariant.walked)
+    walk_ends (link_at core c.args.line) first c.loop-place.nodes.items
+    (subst (IsWalked (link_at core c.args.line) first c.loop-place.nodes.items) c.in_default.is c.loop-place.invariant.walked)
 
 pub returns-clause-list : goal.returns-clause-list
 returns-clause-list c =

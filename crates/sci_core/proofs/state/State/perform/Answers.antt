@@ -18,7 +18,8 @@ returns-clause-done c =
     let core = the_view c.self.inside in
     let after : Core = record core { parts = set core.parts c.from.result c.perform.new.self } in
     subst (λ (k : Core). IfSome c.perform.result (λ _. stepping k (event.Perform c.args.n c.args.line) ≡ Some after)) c.self.view_is
-    (changed_by core (event.Perform c.args.n c.args.line) c.from.result c.index_mut.result.now c.perform.new.self c.perform.result c.from.ensures (omega arith) (omega arith) c.index_mut.ensures.value
+    (changed_by core (event.Perform c.args.n c.args.line) c.from.result c.index_mut.result.now c.perform.new.self c.perform.result c.from.ensures (omega arith)
+    (omega arith) c.index_mut.ensures.value
     (IfSome_then c.perform.result c.perform.ensures.performed (λ x e. ap performs e)))
 
 pub returns-clause-not : goal.returns-clause-not
@@ -28,7 +29,8 @@ returns-clause-not c = λ none.
     let given = c.requires in
     let core = the_view c.self.inside in
     subst (λ (k : Core). stepping k (event.Perform c.args.n c.args.line) ≡ None) c.self.view_is
-    (idle_by core (event.Perform c.args.n c.args.line) c.from.result c.index_mut.result.now c.perform.result c.from.ensures (omega arith) (omega arith) c.index_mut.ensures.value (λ e. ap performs (c.perform.ensures.none e)) none)
+    (idle_by core (event.Perform c.args.n c.args.line) c.from.result c.index_mut.result.now c.perform.result c.from.ensures (omega arith) (omega arith)
+    c.index_mut.ensures.value (λ e. ap performs (c.perform.ensures.none e)) none)
 
 pub returns-clause-performed : goal.returns-clause-performed
 returns-clause-performed c =
@@ -39,7 +41,8 @@ returns-clause-performed c =
     let after : Core = record core { parts = set core.parts c.from.result c.perform.new.self } in
     IfSome_then c.perform.result c.perform.ensures.performed (λ entry so.
     subst (λ (k : Core). node_performing (node_at k c.args.n) c.args.line ≡ Some ((node_at after c.args.n), entry)) c.self.view_is
-    (both_nodes (λ old new. node_performing old c.args.line ≡ Some (new, entry)) core c.from.result c.args.n c.index_mut.result.now c.perform.new.self c.from.ensures (omega arith) c.index_mut.ensures.value so))
+    (both_nodes (λ old new. node_performing old c.args.line ≡ Some (new, entry)) core c.from.result c.args.n c.index_mut.result.now c.perform.new.self
+    c.from.ensures (omega arith) c.index_mut.ensures.value so))
 
 pub returns-clause-logged : goal.returns-clause-logged
 returns-clause-logged c =
@@ -50,7 +53,8 @@ returns-clause-logged c =
     let after : Core = record core { parts = set core.parts c.from.result c.perform.new.self } in
     IfSome_then c.perform.result c.perform.ensures.logged (λ entry so.
     subst (λ (k : Core). IsLogged (node_at k c.args.n) (node_at after c.args.n) c.args.line entry) c.self.view_is
-    (both_nodes (λ old new. IsLogged old new c.args.line entry) core c.from.result c.args.n c.index_mut.result.now c.perform.new.self c.from.ensures (omega arith) c.index_mut.ensures.value so))
+    (both_nodes (λ old new. IsLogged old new c.args.line entry) core c.from.result c.args.n c.index_mut.result.now c.perform.new.self c.from.ensures
+    (omega arith) c.index_mut.ensures.value so))
 
 pub returns-clause-none : goal.returns-clause-none
 returns-clause-none c = λ none.
@@ -58,4 +62,5 @@ returns-clause-none c = λ none.
     let view = ap (λ (core : Core). core.size.nodes) c.self.view_is in
     let given = c.requires in
     let read = read_node (the_view c.self.inside) c.from.result c.args.n c.index_mut.result.now c.from.ensures (omega arith) c.index_mut.ensures.value in
-    subst (λ (k : Core). node_performing (node_at k c.args.n) c.args.line ≡ None) c.self.view_is (subst (λ (node : NodeOf). node_performing node c.args.line ≡ None) read (c.perform.ensures.none none))
+    subst (λ (k : Core). node_performing (node_at k c.args.n) c.args.line ≡ None) c.self.view_is
+    (subst (λ (node : NodeOf). node_performing node c.args.line ≡ None) read (c.perform.ensures.none none))

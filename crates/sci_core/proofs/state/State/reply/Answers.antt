@@ -12,23 +12,32 @@ use Rattle.sci_core.proofs.Step.Stepping.{stepping_idle}
 use Rattle.sci_core.proofs.Step.Applied.{read_sent, sent_done, sent_enabled, waits_replying}
 use Rattle.sci_core.proofs.state.State.reply.Goals as goal
 
-gone : (old new : NodeOf) (result : Option Packet) → IfSome result (λ answer. node_replying old ≡ Some (new, letter_of answer)) → (result ≡ None → node_replying old ≡ None) → IfSome (node_replying old) (λ sent. new ≡ sent.0)
+gone : (old new : NodeOf) (result : Option Packet) → IfSome result (λ answer. node_replying old ≡ Some (new, letter_of answer))
+    → (result ≡ None → node_replying old ≡ None) → IfSome (node_replying old) (λ sent. new ≡ sent.0)
 gone old new None taken none = subst (λ (o : Option (NodeOf × Letter)). IfSome o (λ sent. new ≡ sent.0)) (sym (none refl)) tt
 gone old new (Some answer) taken none = subst (λ (o : Option (NodeOf × Letter)). IfSome o (λ sent. new ≡ sent.0)) (sym taken) refl
 
 pub returns-in_default-clause-refused : goal.returns-in_default-clause-refused
 returns-in_default-clause-refused c =
-    let none : (node_at c.args.self.now c.args.n).waiting ≡ None = ap (λ (node : NodeOf). node.waiting) (sym c.node.ensures) ∙ (sym c.waiting.ensures ∙ ap (option_map letter_of) (sym c.copied.ensures ∙ c.in_default.is)) in
-    stepping_idle c.args.self.now (event.Reply c.args.n) c.requires.n (ap (λ (w : Option Letter). sends Answers (replied_by (node_at c.args.self.now c.args.n) w)) none)
+    let none : (node_at c.args.self.now c.args.n).waiting ≡ None =
+    ap (λ (node : NodeOf). node.waiting) (sym c.node.ensures)
+    ∙ (sym c.waiting.ensures ∙ ap (option_map letter_of) (sym c.copied.ensures ∙ c.in_default.is)) in
+    stepping_idle c.args.self.now (event.Reply c.args.n) c.requires.n
+    (ap (λ (w : Option Letter). sends Answers (replied_by (node_at c.args.self.now c.args.n) w)) none)
 
 pub returns-in-Err-clause-refused : goal.returns-in-Err-clause-refused
 returns-in-Err-clause-refused c =
-    let some : (node_at c.args.self.now c.args.n).waiting ≡ Some (letter_of c.in-Some.answer) = ap (λ (node : NodeOf). node.waiting) (sym c.node.ensures) ∙ (sym c.waiting.ensures ∙ ap (option_map letter_of) (sym c.copied.ensures ∙ c.in-Some.is)) in
-    (sent_enabled c.args.self.now (event.Reply c.args.n) Answers node_replying c.requires.n (λ node. refl) _ (letter_of c.in-Some.answer) (waits_replying (node_at c.args.self.now c.args.n) (letter_of c.in-Some.answer) some), refl)
+    let some : (node_at c.args.self.now c.args.n).waiting ≡ Some (letter_of c.in-Some.answer) =
+    ap (λ (node : NodeOf). node.waiting) (sym c.node.ensures) ∙ (sym c.waiting.ensures ∙ ap (option_map letter_of) (sym c.copied.ensures ∙ c.in-Some.is)) in (
+      sent_enabled c.args.self.now (event.Reply c.args.n) Answers node_replying c.requires.n (λ node. refl) _ (letter_of c.in-Some.answer)
+          (waits_replying (node_at c.args.self.now c.args.n) (letter_of c.in-Some.answer) some),
+      refl,
+    )
 
 pub returns-clause-done : goal.returns-clause-done
 returns-clause-done c =
-    let some : (node_at c.args.self.now c.args.n).waiting ≡ Some (letter_of c.in-Some.answer) = ap (λ (node : NodeOf). node.waiting) (sym c.node.ensures) ∙ (sym c.waiting.ensures ∙ ap (option_map letter_of) (sym c.copied.ensures ∙ c.in-Some.is)) in
+    let some : (node_at c.args.self.now c.args.n).waiting ≡ Some (letter_of c.in-Some.answer) =
+    ap (λ (node : NodeOf). node.waiting) (sym c.node.ensures) ∙ (sym c.waiting.ensures ∙ ap (option_map letter_of) (sym c.copied.ensures ∙ c.in-Some.is)) in
     let mid = the_view c.self.inside in
     let long = c.self.invariant.parts_long in
     let view = ap (λ (core : Core). core.size.nodes) c.self.view_is in
@@ -36,7 +45,9 @@ returns-clause-done c =
     let given = c.requires.n in
     let below : c.args.n < length mid.parts = omega arith in
     let sent = c.self.view_is ∙ c.in_default-send.ensures.ok in
-    sent_done c.args.self.now mid (event.Reply c.args.n) Answers node_replying c.from.result c.index_mut.result.now c.take_answer-answer.new.self _ (letter_of c.in-Some.answer)
+    sent_done c.args.self.now mid (event.Reply c.args.n) Answers node_replying c.from.result c.index_mut.result.now c.take_answer-answer.new.self _
+    (letter_of c.in-Some.answer)
     c.requires.n (λ node. refl) (waits_replying (node_at c.args.self.now c.args.n) (letter_of c.in-Some.answer) some) sent c.from.ensures
-    (read_sent c.args.self.now mid Answers c.from.result c.args.n (letter_of c.in-Some.answer) c.index_mut.result.now sent c.from.ensures below c.index_mut.ensures.value)
+    (read_sent c.args.self.now mid Answers c.from.result c.args.n (letter_of c.in-Some.answer) c.index_mut.result.now sent c.from.ensures below
+    c.index_mut.ensures.value)
     (gone c.index_mut.result.now c.take_answer-answer.new.self c.take_answer-answer.result c.take_answer-answer.ensures.taken c.take_answer-answer.ensures.none)

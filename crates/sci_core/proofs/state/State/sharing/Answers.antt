@@ -6,7 +6,8 @@ use Rattle.sci_core.proofs.state.State.sharing.Goals as goal
 pub unreachable-requires : goal.unreachable-requires
 unreachable-requires c =
     let members = c.in_ok-members.ensures in
-    (none_may_change c.args.self.now c.args.line c.in_ok-members.members.nodes.items c.requires.shape members.list (members.none c.in_default.is)).1 (sym c.home_contents.ensures ∙ c.in-None.is)
+    (none_may_change c.args.self.now c.args.line c.in_ok-members.members.nodes.items c.requires.shape members.list (members.none c.in_default.is)).1
+    (sym c.home_contents.ensures ∙ c.in-None.is)
 
 pub returns-clause-none : goal.returns-clause-none
 returns-clause-none c = λ none n below.

@@ -26,7 +26,9 @@ returns-in_err-round-clause-calls g c =
     let before = g.W.Worker.node c.loop-turn.worker in
     let node = g.W.Worker.node c.round.new.worker in
     let heard = c.round.ensures.goes.heard in
-    let all = gone_on g.G.Gate.hears g.met.G.Gate.hears_nothing g.met.G.Gate.hears_on c.args.gate.now c.loop-turn.gate c.round.new.gate c.args.self.now c.loop-turn.self c.round.new.self start before node c.loop-turn.turn c.loop-turn.restless heard.calls c.loop-turn.invariant.gone heard.heard heard.are in
+    let all = gone_on g.G.Gate.hears g.met.G.Gate.hears_nothing g.met.G.Gate.hears_on c.args.gate.now c.loop-turn.gate c.round.new.gate c.args.self.now
+    c.loop-turn.self c.round.new.self start before node c.loop-turn.turn c.loop-turn.restless heard.calls c.loop-turn.invariant.gone heard.heard
+    heard.are in
     (all.calls, all.heard, all.are, search rules)
 
 pub returns-then-is_over-clause-calls : goal.returns-then-is_over-clause-calls
@@ -36,8 +38,12 @@ returns-then-is_over-clause-calls g c =
     let node = g.W.Worker.node c.round.new.worker in
     let round = c.in_ok-round.round in
     let few = c.loop-turn.invariant.few in
-    let gone = after_round g.G.Gate.hears g.met.G.Gate.hears_nothing g.met.G.Gate.hears_on c.args.gate.now c.loop-turn.gate c.round.new.gate c.args.self.now c.loop-turn.self c.round.new.self start before node c.loop-turn.turn c.loop-turn.restless round few c.loop-turn.invariant.gone c.round.ensures.goes.heard c.in_ok-round.ensures.answered in
-    let whole = ended g.G.Gate.hears g.met.G.Gate.hears_nothing g.met.G.Gate.hears_on c.args.gate.now c.round.new.gate c.is_over.new.gate c.args.self.now c.round.new.self start node (c.loop-turn.turn + 1) (in_a_row round c.loop-turn.restless) c.is_over.result (row_is_short round c.loop-turn.restless few) gone c.is_over.ensures.asked c.if-is_over.true in
+    let gone = after_round g.G.Gate.hears g.met.G.Gate.hears_nothing g.met.G.Gate.hears_on c.args.gate.now c.loop-turn.gate c.round.new.gate c.args.self.now
+    c.loop-turn.self c.round.new.self start before node c.loop-turn.turn c.loop-turn.restless round few c.loop-turn.invariant.gone
+    c.round.ensures.goes.heard c.in_ok-round.ensures.answered in
+    let whole = ended g.G.Gate.hears g.met.G.Gate.hears_nothing g.met.G.Gate.hears_on c.args.gate.now c.round.new.gate c.is_over.new.gate c.args.self.now
+    c.round.new.self start node (c.loop-turn.turn + 1) (in_a_row round c.loop-turn.restless) c.is_over.result (row_is_short round c.loop-turn.restless few)
+    gone c.is_over.ensures.asked c.if-is_over.true in
     (whole.0, whole.1, whole.2, (λ _. whole.3, whole.4))
 
 pub loop-turn-preserved : goal.loop-turn-preserved
@@ -53,10 +59,13 @@ loop-turn-preserved g c =
     let round = c.in_ok-round.round in
     let first = c.args.gate.now in
     let row = in_a_row round c.loop-turn.restless in
-    let gone = after_round hears nothing on first c.loop-turn.gate c.round.new.gate c.args.self.now c.loop-turn.self self start before node c.loop-turn.turn c.loop-turn.restless round was.few was.gone c.round.ensures.goes.heard c.in_ok-round.ensures.answered in
-    let asked = after_asked hears nothing on first c.round.new.gate c.is_over.new.gate c.args.self.now self start node (c.loop-turn.turn + 1) row c.is_over.result gone c.is_over.ensures.asked in
+    let gone = after_round hears nothing on first c.loop-turn.gate c.round.new.gate c.args.self.now c.loop-turn.self self start before node c.loop-turn.turn
+    c.loop-turn.restless round was.few was.gone c.round.ensures.goes.heard c.in_ok-round.ensures.answered in
+    let asked = after_asked hears nothing on first c.round.new.gate c.is_over.new.gate c.args.self.now self start node (c.loop-turn.turn + 1) row
+    c.is_over.result gone c.is_over.ensures.asked in
     let few = c.rest_if_due-restless.ensures.few in
-    let last = behind_round hears nothing on c.round.new.gate c.is_over.new.gate c.rest_if_due-restless.new.gate c.is_over.result round c.loop-turn.restless c.rest_if_due-restless.result c.if-is_over.false c.is_over.ensures.asked c.rest_if_due-restless.ensures.rests c.rest_if_due-restless.ensures.goes_on in
+    let last = behind_round hears nothing on c.round.new.gate c.is_over.new.gate c.rest_if_due-restless.new.gate c.is_over.result round c.loop-turn.restless
+    c.rest_if_due-restless.result c.if-is_over.false c.is_over.ensures.asked c.rest_if_due-restless.ensures.rests c.rest_if_due-restless.ensures.goes_on in
     record {
       driven = c.round.ensures.driven;
       script = c.round.ensures.script ∙ was.script;
@@ -65,8 +74,11 @@ loop-turn-preserved g c =
       turned = g.met.W.Worker.turned_on c.args.worker.now c.loop-turn.worker c.round.new.worker c.loop-turn.turn 1 was.turned c.in_ok-round.ensures.turned;
       few = omega arith;
       order = λ first. c.round.ensures.order (was.order first);
-      gone = after_rest hears nothing on first c.is_over.new.gate c.rest_if_due-restless.new.gate c.args.self.now self start node (c.loop-turn.turn + 1) row c.rest_if_due-restless.result (is_rest_due round c.loop-turn.restless) (row_is_short round c.loop-turn.restless was.few) asked c.rest_if_due-restless.ensures.rests c.rest_if_due-restless.ensures.goes_on;
-      rounds = one_round_more hears nothing on first c.loop-turn.gate c.round.new.gate c.rest_if_due-restless.new.gate c.args.self.now c.loop-turn.self self start before node c.loop-turn.turn c.loop-turn.restless c.rest_if_due-restless.result round was.rounds c.in_ok-round.ensures.goes last;
+      gone = after_rest hears nothing on first c.is_over.new.gate c.rest_if_due-restless.new.gate c.args.self.now self start node (c.loop-turn.turn + 1) row
+          c.rest_if_due-restless.result (is_rest_due round c.loop-turn.restless) (row_is_short round c.loop-turn.restless was.few) asked
+          c.rest_if_due-restless.ensures.rests c.rest_if_due-restless.ensures.goes_on;
+      rounds = one_round_more hears nothing on first c.loop-turn.gate c.round.new.gate c.rest_if_due-restless.new.gate c.args.self.now c.loop-turn.self self
+          start before node c.loop-turn.turn c.loop-turn.restless c.rest_if_due-restless.result round was.rounds c.in_ok-round.ensures.goes last;
     }
 
 pub returns-then-is_over-clause-rounds : goal.returns-then-is_over-clause-rounds
@@ -80,6 +92,8 @@ returns-then-is_over-clause-rounds g c =
     let round = c.in_ok-round.round in
     let row = in_a_row round c.loop-turn.restless in (
       row,
-      one_round_more hears nothing on c.args.gate.now c.loop-turn.gate c.round.new.gate c.is_over.new.gate c.args.self.now c.loop-turn.self c.round.new.self start before node c.loop-turn.turn c.loop-turn.restless row round c.loop-turn.invariant.rounds c.in_ok-round.ensures.goes
-          (behind_last hears nothing on c.round.new.gate c.is_over.new.gate c.is_over.result round c.loop-turn.restless c.if-is_over.true c.is_over.ensures.asked),
+      one_round_more hears nothing on c.args.gate.now c.loop-turn.gate c.round.new.gate c.is_over.new.gate c.args.self.now c.loop-turn.self c.round.new.self
+          start before node c.loop-turn.turn c.loop-turn.restless row round c.loop-turn.invariant.rounds c.in_ok-round.ensures.goes
+          (behind_last hears nothing on c.round.new.gate c.is_over.new.gate c.is_over.result round c.loop-turn.restless c.if-is_over.true
+          c.is_over.ensures.asked),
     )

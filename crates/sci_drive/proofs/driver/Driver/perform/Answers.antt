@@ -20,7 +20,13 @@ use Rattle.sci_drive.proofs.driver.Driver.perform.Goals as goal
 pub loop-place-preserved-in-Some : goal.loop-place-preserved-in-Some
 loop-place-preserved-in-Some g c =
     let at = c.loop-place in
-    let driver : DriverOf = record { script = at.self-inside.script.now; issuing = at.self-inside.issuing; next = at.self-inside.next; pending = at.self-inside.pending.items; was_done = at.self-inside.was_done } in
+    let driver : DriverOf = record {
+      script = at.self-inside.script.now;
+      issuing = at.self-inside.issuing;
+      next = at.self-inside.next;
+      pending = at.self-inside.pending.items;
+      was_done = at.self-inside.was_done;
+    } in
     let old = g.W.Worker.node at.worker in
     let new = g.W.Worker.node c.perform.new.self in
     let long = c.len.ensures.value in
@@ -28,17 +34,27 @@ loop-place-preserved-in-Some g c =
     let within : at.place < length driver.pending = omega (arith, long, test) in
     let line : ℕ = slice_index_or c.deref.result.now at.place 0 in
     let logged : IsLogged old new line c.in-Some.entry = c.in-Some.ensures.performed in
-    let here : slice_index_or driver.pending at.place line ≡ line = ap (λ (l : List ℕ). slice_index_or l at.place line) (sym c.deref.ensures.0) ∙ get_or_default c.deref.result.now at.place line 0 (subst (λ (l : List ℕ). at.place < length l) (sym c.deref.ensures.0) within) in
-    let first : DriverOf = record { script = c.self.inside.script.now; issuing = c.self.inside.issuing; next = c.self.inside.next; pending = c.self.inside.pending.items; was_done = c.self.inside.was_done } in
+    let here : slice_index_or driver.pending at.place line ≡ line =
+    ap (λ (l : List ℕ). slice_index_or l at.place line) (sym c.deref.ensures.0)
+    ∙ get_or_default c.deref.result.now at.place line 0 (subst (λ (l : List ℕ). at.place < length l) (sym c.deref.ensures.0) within) in
+    let first : DriverOf = record {
+      script = c.self.inside.script.now;
+      issuing = c.self.inside.issuing;
+      next = c.self.inside.next;
+      pending = c.self.inside.pending.items;
+      was_done = c.self.inside.was_done;
+    } in
     let later : DriverOf = record driver { pending = remove driver.pending at.place } in
     let made = performs driver old new at.place line c.in-Some.entry at.invariant.driven logged within here in
-    let undone : driver.was_done ≡ true → ⊥ = λ was. (let free = (at.invariant.done was).1 in let short : length driver.pending ≡ 0 = ap (λ (l : List ℕ). length l) free in absurd (omega arith)) in
+    let undone : driver.was_done ≡ true → ⊥ =
+    λ was. (let free = (at.invariant.done was).1 in let short : length driver.pending ≡ 0 = ap (λ (l : List ℕ). length l) free in absurd (omega arith)) in
     let awaited = at.invariant.driven.pending line (record { serial = c.in-Some.entry.serial; op = c.in-Some.entry.op }) logged.pending in
     let start = g.W.Worker.node c.args.worker.now in
     let own : IsLogged old new c.in-Some.entry.op.line c.in-Some.entry = subst (λ (l : ℕ). IsLogged old new l c.in-Some.entry) (sym awaited.on) logged in
     let tried_then : (k : ℕ) → k < at.place → k < length c.remove.new.self.items → IsTried (slice_index_or c.remove.new.self.items k 0) start new = λ k lt _.
     (let was : IsTried (slice_index_or driver.pending k 0) start old = at.invariant.tried k lt (omega (arith, within)) in
-    let same : slice_index_or c.remove.new.self.items k 0 ≡ slice_index_or driver.pending k 0 = ap (λ (l : List ℕ). slice_index_or l k 0) c.remove.ensures.items ∙ get_or-remove_below driver.pending at.place 0 k lt within in
+    let same : slice_index_or c.remove.new.self.items k 0 ≡ slice_index_or driver.pending k 0 =
+    ap (λ (l : List ℕ). slice_index_or l k 0) c.remove.ensures.items ∙ get_or-remove_below driver.pending at.place 0 k lt within in
     subst (λ (l : ℕ). IsTried l start new) (sym same) (tried_on (slice_index_or driver.pending k 0) start old new c.in-Some.entry was own)) in
     let heard : IsHeard g.G.Gate.hears at.gate c.answered.new.self driver later old new = record {
       calls = Answered c.in-Some.entry ∷ [];
@@ -52,12 +68,19 @@ loop-place-preserved-in-Some g c =
       turned = g.met.W.Worker.turned_on c.args.worker.now at.worker c.perform.new.self 0 0 at.invariant.turned c.perform.ensures.turned;
       more = λ _. grows (g.W.Worker.node c.args.worker.now).log old.log new.log c.in-Some.entry at.answered at.invariant.more at.invariant.same logged.log;
       same = λ no. absurd (apart no);
-      order = λ was. subst (λ (lines : List ℕ). IsInOrder (record driver { pending = lines }) new) (sym c.remove.ensures.items) (performs_in_order driver old new at.place line c.in-Some.entry at.invariant.driven logged within here (at.invariant.order was));
+      order = λ was. subst (λ (lines : List ℕ). IsInOrder (record driver { pending = lines }) new) (sym c.remove.ensures.items)
+          (performs_in_order driver old new at.place line c.in-Some.entry at.invariant.driven logged within here (at.invariant.order was));
       done = λ was. absurd (undone was);
-      performed = (at.invariant.performed.0 ++ c.in-Some.entry ∷ [], one_more_performed start old new at.invariant.performed.0 c.in-Some.entry at.invariant.performed.1 own);
+      performed = (
+        at.invariant.performed.0 ++ c.in-Some.entry ∷ [],
+        one_more_performed start old new at.invariant.performed.0 c.in-Some.entry at.invariant.performed.1 own,
+      );
       tried = tried_then;
-      heard = subst (λ (lines : List ℕ). IsHeard g.G.Gate.hears c.args.gate.now c.answered.new.self first (record driver { pending = lines }) (g.W.Worker.node c.args.worker.now) new) (sym c.remove.ensures.items)
-          (heard_on g.G.Gate.hears g.met.G.Gate.hears_nothing g.met.G.Gate.hears_on c.args.gate.now at.gate c.answered.new.self first driver later (g.W.Worker.node c.args.worker.now) old new at.invariant.heard heard);
+      heard = subst (λ (lines : List ℕ).
+          IsHeard g.G.Gate.hears c.args.gate.now c.answered.new.self first (record driver { pending = lines }) (g.W.Worker.node c.args.worker.now) new)
+          (sym c.remove.ensures.items)
+          (heard_on g.G.Gate.hears g.met.G.Gate.hears_nothing g.met.G.Gate.hears_on c.args.gate.now at.gate c.answered.new.self first driver later
+          (g.W.Worker.node c.args.worker.now) old new at.invariant.heard heard);
     }
   where
     apart : true ≡ false → ⊥
@@ -65,7 +88,13 @@ loop-place-preserved-in-Some g c =
 
 pub loop-place-init : goal.loop-place-init
 loop-place-init g c =
-    let first : DriverOf = record { script = c.self.inside.script.now; issuing = c.self.inside.issuing; next = c.self.inside.next; pending = c.self.inside.pending.items; was_done = c.self.inside.was_done } in
+    let first : DriverOf = record {
+      script = c.self.inside.script.now;
+      issuing = c.self.inside.issuing;
+      next = c.self.inside.next;
+      pending = c.self.inside.pending.items;
+      was_done = c.self.inside.was_done;
+    } in
     let node = g.W.Worker.node c.args.worker.now in
     record {
       driven = rw c.self.view_is c.requires.driven;
@@ -88,8 +117,20 @@ loop-place-init g c =
 pub loop-place-preserved : goal.loop-place-preserved
 loop-place-preserved g c =
     let at = c.loop-place in
-    let driver : DriverOf = record { script = at.self-inside.script.now; issuing = at.self-inside.issuing; next = at.self-inside.next; pending = at.self-inside.pending.items; was_done = at.self-inside.was_done } in
-    let first : DriverOf = record { script = c.self.inside.script.now; issuing = c.self.inside.issuing; next = c.self.inside.next; pending = c.self.inside.pending.items; was_done = c.self.inside.was_done } in
+    let driver : DriverOf = record {
+      script = at.self-inside.script.now;
+      issuing = at.self-inside.issuing;
+      next = at.self-inside.next;
+      pending = at.self-inside.pending.items;
+      was_done = at.self-inside.was_done;
+    } in
+    let first : DriverOf = record {
+      script = c.self.inside.script.now;
+      issuing = c.self.inside.issuing;
+      next = c.self.inside.next;
+      pending = c.self.inside.pending.items;
+      was_done = c.self.inside.was_done;
+    } in
     let start = g.W.Worker.node c.args.worker.now in
     let old = g.W.Worker.node at.worker in
     let new = g.W.Worker.node c.perform.new.self in

@@ -8,8 +8,20 @@ use Rattle.sci_drive.proofs.driver.Driver.perform.Given as goal
 
 abbrev pub invariant-loop-place : goal.invariant-loop-place
 invariant-loop-place g l =
-    let first : DriverOf = record { script = l.initial.self-inside.script.now; issuing = l.initial.self-inside.issuing; next = l.initial.self-inside.next; pending = l.initial.self-inside.pending.items; was_done = l.initial.self-inside.was_done } in
-    let driver : DriverOf = record { script = l.self-inside.script.now; issuing = l.self-inside.issuing; next = l.self-inside.next; pending = l.self-inside.pending.items; was_done = l.self-inside.was_done } in
+    let first : DriverOf = record {
+      script = l.initial.self-inside.script.now;
+      issuing = l.initial.self-inside.issuing;
+      next = l.initial.self-inside.next;
+      pending = l.initial.self-inside.pending.items;
+      was_done = l.initial.self-inside.was_done;
+    } in
+    let driver : DriverOf = record {
+      script = l.self-inside.script.now;
+      issuing = l.self-inside.issuing;
+      next = l.self-inside.next;
+      pending = l.self-inside.pending.items;
+      was_done = l.self-inside.was_done;
+    } in
     record {
       driven : IsDriven driver (g.W.Worker.node l.worker);
       script : l.self-inside.script ≡ l.initial.self-inside.script;
@@ -21,7 +33,8 @@ invariant-loop-place g l =
       order : IsInOrder first (g.W.Worker.node l.initial.worker) → IsInOrder driver (g.W.Worker.node l.worker);
       done : driver.was_done ≡ true → (driver.next ≡ length driver.script) × (driver.pending ≡ []);
       performed : (entries : List Entry) × ArePerformed (g.W.Worker.node l.initial.worker) entries (g.W.Worker.node l.worker);
-      tried : (k : ℕ) → k < l.place → k < length driver.pending → IsTried (slice_index_or driver.pending k 0) (g.W.Worker.node l.initial.worker) (g.W.Worker.node l.worker);
+      tried : (k : ℕ) → k < l.place → k < length driver.pending
+          → IsTried (slice_index_or driver.pending k 0) (g.W.Worker.node l.initial.worker) (g.W.Worker.node l.worker);
       heard : IsHeard g.G.Gate.hears l.initial.gate l.gate first driver (g.W.Worker.node l.initial.worker) (g.W.Worker.node l.worker);
     }
 

@@ -17,19 +17,28 @@ use Rattle.sci_drive.proofs.driver.Driver.submit.Goals as goal
 -- src/driver.rt:104:5
 pub returns-in-Ok-clause-driven : goal.returns-in-Ok-clause-driven
 returns-in-Ok-clause-driven g c =
-    let driver : DriverOf = record { script = c.self.inside.script.now; issuing = c.self.inside.issuing; next = c.self.inside.next; pending = c.self.inside.pending.items; was_done = c.self.inside.was_done } in
+    let driver : DriverOf = record {
+      script = c.self.inside.script.now;
+      issuing = c.self.inside.issuing;
+      next = c.self.inside.next;
+      pending = c.self.inside.pending.items;
+      was_done = c.self.inside.was_done;
+    } in
     let old = g.W.Worker.node c.args.worker.now in
     let new = g.W.Worker.node c.submit.new.self in
     let d : IsDriven driver old = rw c.self.view_is c.requires.driven in
     let issued : IsIssued old new c.in-Some.op.now = c.in-Ok.ensures.issued in
     let found = c.in-Some.ensures.lookup in
-    let at : slice_get driver.script driver.next ≡ Some c.in-Some.op.now = slice_get_read driver.script (length driver.script) driver.next c.in-Some.op.now refl (ltb-true driver.next (length driver.script) (sym found.0)) found.1 in
+    let at : slice_get driver.script driver.next ≡ Some c.in-Some.op.now =
+    slice_get_read driver.script (length driver.script) driver.next c.in-Some.op.now refl (ltb-true driver.next (length driver.script) (sym found.0))
+    found.1 in
     let made = submits driver old new c.in-Some.op.now d issued at in
     subst (λ (lines : List ℕ). IsDriven (record driver { next = driver.next + 1; pending = lines }) new) (sym c.push.ensures.items) made
 
 -- what a slice says that it contains
 is_contained : (line : ℕ) (lines : List ℕ) → list_any (λ y. nat_eq y line) lines ≡ true → Contains lines line
-is_contained line lines is = let any = Any-from_list_any (λ (y : ℕ). nat_eq y line) lines is in subst (Contains lines) (eqb-true any.1 line any.4) (any.0, any.2, any.3)
+is_contained line lines is = let any = Any-from_list_any (λ (y : ℕ). nat_eq y line) lines is in
+    subst (Contains lines) (eqb-true any.1 line any.4) (any.0, any.2, any.3)
 
 not_below : (a b : ℕ) (below : Bool) → (a < b → below ≡ true) → below ≡ false → b ≤ a
 not_below a b below is not = elim (cases_lt a b) [
@@ -48,35 +57,63 @@ returns-then-not-has_room-clause-submits g c =
 
 pub returns-in_default-clause-submits : goal.returns-in_default-clause-submits
 returns-in_default-clause-submits g c =
-    let driver : DriverOf = record { script = c.self.inside.script.now; issuing = c.self.inside.issuing; next = c.self.inside.next; pending = c.self.inside.pending.items; was_done = c.self.inside.was_done } in
+    let driver : DriverOf = record {
+      script = c.self.inside.script.now;
+      issuing = c.self.inside.issuing;
+      next = c.self.inside.next;
+      pending = c.self.inside.pending.items;
+      was_done = c.self.inside.was_done;
+    } in
     let node = g.W.Worker.node c.args.worker.now in
     let none : next_op driver ≡ None = past driver.script driver.next c.in_default.ensures.lookup.0 in
-    holds_back g.G.Gate.hears g.met.G.Gate.hears_nothing c.args.gate.now c.args.self.now node (AllSubmitted (subst (λ (d : DriverOf). next_op d ≡ None) c.self.view_is none))
+    holds_back g.G.Gate.hears g.met.G.Gate.hears_nothing c.args.gate.now c.args.self.now node
+    (AllSubmitted (subst (λ (d : DriverOf). next_op d ≡ None) c.self.view_is none))
 
 pub returns-then-contains-clause-submits : goal.returns-then-contains-clause-submits
 returns-then-contains-clause-submits g c =
-    let driver : DriverOf = record { script = c.self.inside.script.now; issuing = c.self.inside.issuing; next = c.self.inside.next; pending = c.self.inside.pending.items; was_done = c.self.inside.was_done } in
+    let driver : DriverOf = record {
+      script = c.self.inside.script.now;
+      issuing = c.self.inside.issuing;
+      next = c.self.inside.next;
+      pending = c.self.inside.pending.items;
+      was_done = c.self.inside.was_done;
+    } in
     let node = g.W.Worker.node c.args.worker.now in
     let op = c.in-Some.op.now in
     let found = c.in-Some.ensures.lookup in
-    let at : next_op driver ≡ Some op = slice_get_read driver.script (length driver.script) driver.next op refl (ltb-true driver.next (length driver.script) (sym found.0)) found.1 in
+    let at : next_op driver ≡ Some op =
+    slice_get_read driver.script (length driver.script) driver.next op refl (ltb-true driver.next (length driver.script) (sym found.0)) found.1 in
     let taken : Contains c.deref.result.now op.line = is_contained op.line c.deref.result.now (sym c.contains.ensures.value ∙ c.if-contains.true) in
     let there : Contains driver.pending op.line = subst (λ (lines : List ℕ). Contains lines op.line) c.deref.ensures.0 taken in
-    holds_back g.G.Gate.hears g.met.G.Gate.hears_nothing c.args.gate.now c.args.self.now node (subst (λ (d : DriverOf). IsHeldBack d node []) c.self.view_is (LineIsTaken op at there))
+    holds_back g.G.Gate.hears g.met.G.Gate.hears_nothing c.args.gate.now c.args.self.now node
+    (subst (λ (d : DriverOf). IsHeldBack d node []) c.self.view_is (LineIsTaken op at there))
 
 pub returns-then-not-may_issue-clause-submits : goal.returns-then-not-may_issue-clause-submits
 returns-then-not-may_issue-clause-submits g c =
-    let driver : DriverOf = record { script = c.self.inside.script.now; issuing = c.self.inside.issuing; next = c.self.inside.next; pending = c.self.inside.pending.items; was_done = c.self.inside.was_done } in
+    let driver : DriverOf = record {
+      script = c.self.inside.script.now;
+      issuing = c.self.inside.issuing;
+      next = c.self.inside.next;
+      pending = c.self.inside.pending.items;
+      was_done = c.self.inside.was_done;
+    } in
     let node = g.W.Worker.node c.args.worker.now in
     let hears = g.G.Gate.hears in
     let gate = c.args.gate.now in
-    let asked : hears gate (MayIssue driver.next false ∷ []) c.may_issue.new.self = subst (λ (may : Bool). hears gate (MayIssue driver.next may ∷ []) c.may_issue.new.self) c.if-not-may_issue.true c.may_issue.ensures in
+    let asked : hears gate (MayIssue driver.next false ∷ []) c.may_issue.new.self =
+    subst (λ (may : Bool). hears gate (MayIssue driver.next may ∷ []) c.may_issue.new.self) c.if-not-may_issue.true c.may_issue.ensures in
     subst (λ (d : DriverOf). (heard : IsHeard hears gate c.may_issue.new.self d d node node) × Submits d d node node heard.calls) c.self.view_is
     (asks hears g.met.G.Gate.hears_nothing gate c.may_issue.new.self false driver node node asked refl (NotAllowed (0, omega arith, refl)))
 
 pub returns-in-Ok-clause-submits : goal.returns-in-Ok-clause-submits
 returns-in-Ok-clause-submits g c =
-    let driver : DriverOf = record { script = c.self.inside.script.now; issuing = c.self.inside.issuing; next = c.self.inside.next; pending = c.self.inside.pending.items; was_done = c.self.inside.was_done } in
+    let driver : DriverOf = record {
+      script = c.self.inside.script.now;
+      issuing = c.self.inside.issuing;
+      next = c.self.inside.next;
+      pending = c.self.inside.pending.items;
+      was_done = c.self.inside.was_done;
+    } in
     let old = g.W.Worker.node c.args.worker.now in
     let new = g.W.Worker.node c.submit.new.self in
     let hears = g.G.Gate.hears in
@@ -84,12 +121,16 @@ returns-in-Ok-clause-submits g c =
     let later = c.may_issue.new.self in
     let op = c.in-Some.op.now in
     let found = c.in-Some.ensures.lookup in
-    let at : next_op driver ≡ Some op = slice_get_read driver.script (length driver.script) driver.next op refl (ltb-true driver.next (length driver.script) (sym found.0)) found.1 in
+    let at : next_op driver ≡ Some op =
+    slice_get_read driver.script (length driver.script) driver.next op refl (ltb-true driver.next (length driver.script) (sym found.0)) found.1 in
     let issued : IsIssued old new op = c.in-Ok.ensures.issued in
-    let asked : hears gate (MayIssue driver.next true ∷ []) later = subst (λ (may : Bool). hears gate (MayIssue driver.next may ∷ []) later) c.if-not-may_issue.false c.may_issue.ensures in
+    let asked : hears gate (MayIssue driver.next true ∷ []) later =
+    subst (λ (may : Bool). hears gate (MayIssue driver.next may ∷ []) later) c.if-not-may_issue.false c.may_issue.ensures in
     let made = submits_one hears g.met.G.Gate.hears_nothing gate later driver old new op asked at issued in
-    let pushed = subst (λ (lines : List ℕ). (heard : IsHeard hears gate later driver (record driver { next = driver.next + 1; pending = lines }) old new) × Submits driver (record driver { next = driver.next + 1; pending = lines }) old new heard.calls) (sym c.push.ensures.items) made in
-    subst (λ (d : DriverOf). (heard : IsHeard hears gate later d (record driver { next = driver.next + 1; pending = c.push.new.self.items }) old new) × Submits d (record driver { next = driver.next + 1; pending = c.push.new.self.items }) old new heard.calls) c.self.view_is pushed
+    let pushed = subst (λ (lines : List ℕ). (heard : IsHeard hears gate later driver (record driver { next = driver.next + 1; pending = lines }) old new)
+    × Submits driver (record driver { next = driver.next + 1; pending = lines }) old new heard.calls) (sym c.push.ensures.items) made in
+    subst (λ (d : DriverOf). (heard : IsHeard hears gate later d (record driver { next = driver.next + 1; pending = c.push.new.self.items }) old new)
+    × Submits d (record driver { next = driver.next + 1; pending = c.push.new.self.items }) old new heard.calls) c.self.view_is pushed
 
 not_ok : {A E : Type 0} (r : Result A E) → ((x : A) → r ≡ Ok x → ⊥) → IsErr r
 not_ok (Ok x) isnt = absurd (isnt x refl)
@@ -103,7 +144,13 @@ has_fault (Err e) (Some f) is told = refl
 
 pub returns-in_default-submit-clause-submits : goal.returns-in_default-submit-clause-submits
 returns-in_default-submit-clause-submits g c =
-    let driver : DriverOf = record { script = c.self.inside.script.now; issuing = c.self.inside.issuing; next = c.self.inside.next; pending = c.self.inside.pending.items; was_done = c.self.inside.was_done } in
+    let driver : DriverOf = record {
+      script = c.self.inside.script.now;
+      issuing = c.self.inside.issuing;
+      next = c.self.inside.next;
+      pending = c.self.inside.pending.items;
+      was_done = c.self.inside.was_done;
+    } in
     let old = g.W.Worker.node c.args.worker.now in
     let new = g.W.Worker.node c.submit.new.self in
     let hears = g.G.Gate.hears in
@@ -111,7 +158,8 @@ returns-in_default-submit-clause-submits g c =
     let later = c.may_issue.new.self in
     let op = c.in-Some.op.now in
     let found = c.in-Some.ensures.lookup in
-    let at : next_op driver ≡ Some op = slice_get_read driver.script (length driver.script) driver.next op refl (ltb-true driver.next (length driver.script) (sym found.0)) found.1 in
+    let at : next_op driver ≡ Some op =
+    slice_get_read driver.script (length driver.script) driver.next op refl (ltb-true driver.next (length driver.script) (sym found.0)) found.1 in
     let err = not_ok c.submit.result c.in_default-submit.not-Ok in
     let same : new ≡ old = c.submit.ensures.same err in
     let fault : IsSome (submit_fault old op) = has_fault c.submit.result (submit_fault old op) err c.submit.ensures.fault in

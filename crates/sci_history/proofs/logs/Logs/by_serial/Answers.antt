@@ -25,7 +25,8 @@ loop-node-preserved c =
     record {
       sixteen = length-set lists at new ∙ c.loop-node.invariant.sixteen;
       sorted = λ node below. rw map-set (elim (cases_eq node at) [
-        | inl is ↦ ap (λ (n : ℕ). get_or (set (map items lists) at new.items) n []) is ∙ get_or-set_same (map items lists) at new.items [] there ∙ sorted ∙ ap (λ (n : ℕ). in_serial_order (log_of c.args.self.now n)) (sym is)
+        | inl is ↦ ap (λ (n : ℕ). get_or (set (map items lists) at new.items) n []) is ∙ get_or-set_same (map items lists) at new.items [] there ∙ sorted
+            ∙ ap (λ (n : ℕ). in_serial_order (log_of c.args.self.now n)) (sym is)
         | inr other ↦ get_or-set_other (map items lists) at node new.items [] other ∙ c.loop-node.invariant.sorted node (omega arith)
       ]);
     }

@@ -7,7 +7,8 @@ use Rattle.sci_history.proofs.placing.Placing.new.Goals as goal
 pub index-requires : goal.index-requires
 index-requires c =
     let long = counts_long c.args.loads.now in
-    let read = counts_read c.args.loads.now c.loop-line.line _ c.index-loads-line.result c.index-loads-line.result.items c.loop-line-test.true c.index-loads-line.is refl in
+    let read = counts_read c.args.loads.now c.loop-line.line _ c.index-loads-line.result c.index-loads-line.result.items c.loop-line-test.true
+    c.index-loads-line.is refl in
     let counts = (c.requires.orderable.counts c.loop-line.line (omega arith)).long in
     let same = ap (λ (cs : List ℕ). length cs) read in
     omega arith
@@ -15,15 +16,18 @@ index-requires c =
 pub loop-line-preserved : goal.loop-line-preserved
 loop-line-preserved c =
     let long = counts_long c.args.loads.now in
-    let read = counts_read c.args.loads.now c.loop-line.line _ c.index-loads-line.result c.index-loads-line.result.items c.loop-line-test.true c.index-loads-line.is refl in
+    let read = counts_read c.args.loads.now c.loop-line.line _ c.index-loads-line.result c.index-loads-line.result.items c.loop-line-test.true
+    c.index-loads-line.is refl in
     let counts = (c.requires.orderable.counts c.loop-line.line (omega arith)).long in
     let same = ap (λ (cs : List ℕ). length cs) read in
     let first = get_or_default c.index-loads-line.result.items 0 c.index.result.now 0 (omega arith) in
     let lines = c.loop-line.invariant.long in
     record {
       long = length-set c.loop-line.lines c.loop-line.line _ ∙ lines;
-      states = state_more c.loop-line.lines c.args.loads.now c.loop-line.line c.index.result.now (omega arith) (ap (λ (cs : List ℕ). get_or cs 0 0) read ∙ sym (c.index.ensures ∙ first)) c.loop-line.invariant.states;
+      states = state_more c.loop-line.lines c.args.loads.now c.loop-line.line c.index.result.now (omega arith)
+          (ap (λ (cs : List ℕ). get_or cs 0 0) read ∙ sym (c.index.ensures ∙ first)) c.loop-line.invariant.states;
     }
 
 pub returns : goal.returns
-returns c = nothing_placed c.args.logs.now c.args.loads.now c.loop-line.lines (entries_of c.in_ok-with_capacity.field-0.items) c.requires.orderable (ap entries_of c.in_ok-with_capacity.ensures.items) (λ k below. c.loop-line.invariant.states k (omega arith))
+returns c = nothing_placed c.args.logs.now c.args.loads.now c.loop-line.lines (entries_of c.in_ok-with_capacity.field-0.items) c.requires.orderable
+    (ap entries_of c.in_ok-with_capacity.ensures.items) (λ k below. c.loop-line.invariant.states k (omega arith))

@@ -20,7 +20,8 @@ returns-then-place-log-clause-stuck c e = (
 pub bounds-self-line : goal.bounds-self-line
 bounds-self-line c =
     let long = counts_long c.args.loads.now in
-    let front = front_read c.args.logs.now c.args.loads.now c.args.self.now.lines c.args.self.now.next (entries_of c.args.self.now.order.items) c.args.node c.of-log.result.now c.requires.orderable c.requires.placing c.requires.node c.of-log.ensures.log c.if-place-log.false in
+    let front = front_read c.args.logs.now c.args.loads.now c.args.self.now.lines c.args.self.now.next (entries_of c.args.self.now.order.items) c.args.node
+    c.of-log.result.now c.requires.orderable c.requires.placing c.requires.node c.of-log.ensures.log c.if-place-log.false in
     let inside = front.is.within in
     let few = c.requires.few in
     omega arith
@@ -29,7 +30,8 @@ pub returns-then-not-can_take-clause-stuck : goal.returns-then-not-can_take-clau
 returns-then-not-can_take-clause-stuck c e = (
   refl,
   λ entry rest front can.
-      let read = front_read c.args.logs.now c.args.loads.now c.args.self.now.lines c.args.self.now.next (entries_of c.args.self.now.order.items) c.args.node c.of-log.result.now c.requires.orderable c.requires.placing c.requires.node c.of-log.ensures.log c.if-place-log.false in
+      let read = front_read c.args.logs.now c.args.loads.now c.args.self.now.lines c.args.self.now.next (entries_of c.args.self.now.order.items) c.args.node
+      c.of-log.result.now c.requires.orderable c.requires.placing c.requires.node c.of-log.ensures.log c.if-place-log.false in
       let left = read.left in
       let here : entry ≡ get_or c.of-log.result.now (get_or c.args.self.now.next c.args.node 0) no_entry = cc in
       let may = c.can_take.ensures.1 (subst (λ (x : Entry). CanFollow (state_of c.args.self.now.lines x.op.line) x) here can) in
@@ -40,35 +42,46 @@ returns-then-not-can_take-clause-stuck c e = (
 pub bounds-loads-line : goal.bounds-loads-line
 bounds-loads-line c =
     let long = counts_long c.args.loads.now in
-    let front = front_read c.args.logs.now c.args.loads.now c.args.self.now.lines c.args.self.now.next (entries_of c.args.self.now.order.items) c.args.node c.of-log.result.now c.requires.orderable c.requires.placing c.requires.node c.of-log.ensures.log c.if-place-log.false in
+    let front = front_read c.args.logs.now c.args.loads.now c.args.self.now.lines c.args.self.now.next (entries_of c.args.self.now.order.items) c.args.node
+    c.of-log.result.now c.requires.orderable c.requires.placing c.requires.node c.of-log.ensures.log c.if-place-log.false in
     let inside = front.is.within in
     omega arith
 
 pub after-requires-clause-maker : goal.after-requires-clause-maker
 after-requires-clause-maker c maker =
     let long_loads = counts_long c.args.loads.now in
-    let front = front_read c.args.logs.now c.args.loads.now c.args.self.now.lines c.args.self.now.next (entries_of c.args.self.now.order.items) c.args.node c.of-log.result.now c.requires.orderable c.requires.placing c.requires.node c.of-log.ensures.log c.if-place-log.false in
+    let front = front_read c.args.logs.now c.args.loads.now c.args.self.now.lines c.args.self.now.next (entries_of c.args.self.now.order.items) c.args.node
+    c.of-log.result.now c.requires.orderable c.requires.placing c.requires.node c.of-log.ensures.log c.if-place-log.false in
     let inside = front.is.within in
     let version = front.is.version in
     let long = (c.requires.orderable.counts _ inside).long in
-    let counts = ap (λ (cs : List ℕ). length cs) (counts_read c.args.loads.now _ _ c.index-loads-line.result c.deref.result.now (omega arith) c.index-loads-line.is c.deref.ensures.value) in
+    let counts = ap (λ (cs : List ℕ). length cs)
+    (counts_read c.args.loads.now _ _ c.index-loads-line.result c.deref.result.now (omega arith) c.index-loads-line.is c.deref.ensures.value) in
     omega arith
 
 pub after-requires-clause-load : goal.after-requires-clause-load
 after-requires-clause-load c load =
-    let front = front_read c.args.logs.now c.args.loads.now c.args.self.now.lines c.args.self.now.next (entries_of c.args.self.now.order.items) c.args.node c.of-log.result.now c.requires.orderable c.requires.placing c.requires.node c.of-log.ensures.log c.if-place-log.false in
-    load_counted _ c.args.loads.now c.args.self.now.lines _ (entries_of c.args.self.now.order.items) c.args.node _ _ c.requires.placing c.requires.node front (c.can_take.ensures.0 c.if-not-can_take.false) load
+    let front = front_read c.args.logs.now c.args.loads.now c.args.self.now.lines c.args.self.now.next (entries_of c.args.self.now.order.items) c.args.node
+    c.of-log.result.now c.requires.orderable c.requires.placing c.requires.node c.of-log.ensures.log c.if-place-log.false in
+    load_counted _ c.args.loads.now c.args.self.now.lines _ (entries_of c.args.self.now.order.items) c.args.node _ _ c.requires.placing c.requires.node front
+    (c.can_take.ensures.0 c.if-not-can_take.false) load
 
 pub returns-clause-placing : goal.returns-clause-placing
 returns-clause-placing c =
     let lines : length c.args.self.now.lines ≡ MAX_LINES = omega arith in
     let next : length c.args.self.now.next ≡ MAX_NODES = omega arith in
     let long_loads = counts_long c.args.loads.now in
-    let front = front_read c.args.logs.now c.args.loads.now c.args.self.now.lines c.args.self.now.next (entries_of c.args.self.now.order.items) c.args.node c.of-log.result.now c.requires.orderable c.requires.placing c.requires.node c.of-log.ensures.log c.if-place-log.false in
+    let front = front_read c.args.logs.now c.args.loads.now c.args.self.now.lines c.args.self.now.next (entries_of c.args.self.now.order.items) c.args.node
+    c.of-log.result.now c.requires.orderable c.requires.placing c.requires.node c.of-log.ensures.log c.if-place-log.false in
     let inside = front.is.within in
     let entry = get_or c.of-log.result.now (get_or c.args.self.now.next c.args.node 0) no_entry in
     let counts = counts_read c.args.loads.now _ _ c.index-loads-line.result c.deref.result.now (omega arith) c.index-loads-line.is c.deref.ensures.value in
-    let placed = front_placed c.args.logs.now c.args.loads.now c.args.self.now.lines c.args.self.now.next (entries_of c.args.self.now.order.items) c.args.node entry lines next c.requires.few c.requires.node c.requires.placing front (c.can_take.ensures.0 c.if-not-can_take.false) c.deref.result.now counts in
+    let placed = front_placed c.args.logs.now c.args.loads.now c.args.self.now.lines c.args.self.now.next (entries_of c.args.self.now.order.items) c.args.node
+    entry lines next c.requires.few c.requires.node c.requires.placing front (c.can_take.ensures.0 c.if-not-can_take.false) c.deref.result.now counts in
     let moved = rests_of c.args.logs.now (set c.args.self.now.next c.args.node (get_or c.args.self.now.next c.args.node 0 + 1)) in
-    subst (λ (s : LineState). IsPlacing c.args.logs.now (length c.args.loads.now) (set c.args.self.now.lines entry.op.line s) moved (entries_of c.push.new.self.items)) (sym c.after.ensures)
-    (subst (λ (order : List Entry). IsPlacing c.args.logs.now (length c.args.loads.now) (set c.args.self.now.lines entry.op.line (state_after c.deref.result.now (state_of c.args.self.now.lines entry.op.line) entry)) moved order) (sym (entries_pushed c.args.self.now.order.items c.push.new.self.items _ entry c.in_ok-push.ensures.items refl)) placed)
+    subst (λ (s : LineState). IsPlacing c.args.logs.now (length c.args.loads.now) (set c.args.self.now.lines entry.op.line s) moved
+    (entries_of c.push.new.self.items)) (sym c.after.ensures)
+    (subst (λ (order : List Entry).
+    IsPlacing c.args.logs.now (length c.args.loads.now)
+    (set c.args.self.now.lines entry.op.line (state_after c.deref.result.now (state_of c.args.self.now.lines entry.op.line) entry)) moved order)
+    (sym (entries_pushed c.args.self.now.order.items c.push.new.self.items _ entry c.in_ok-push.ensures.items refl)) placed)

@@ -20,9 +20,11 @@ may_inside : (inside now : EndOf) (cell : CellId) (event : Event) → inside ≡
 may_inside inside now cell event is may = subst (λ (end : EndOf). MayFree end.part cell event) (sym is) may
 
 -- the packet that is given is the one that may be taken
-same_packet : (inside now : EndOf) (cell : CellId) (event : Event) (packet : Packet) → inside ≡ now → (may : MayFree inside.part cell event) → SpellsInWords packet (inbound_at now.part (lane_at_cell now.part cell)).found → packet ≡ may.packet
+same_packet : (inside now : EndOf) (cell : CellId) (event : Event) (packet : Packet) → inside ≡ now → (may : MayFree inside.part cell event)
+    → SpellsInWords packet (inbound_at now.part (lane_at_cell now.part cell)).found → packet ≡ may.packet
 same_packet inside now cell event packet is may spelled =
-    one_spelled packet may.packet _ (subst (λ (end : EndOf). SpellsInWords packet (inbound_at end.part (lane_at_cell end.part cell)).found) (sym is) spelled) may.spelled
+    one_spelled packet may.packet _ (subst (λ (end : EndOf). SpellsInWords packet (inbound_at end.part (lane_at_cell end.part cell)).found) (sym is) spelled)
+    may.spelled
 
 pub make_taking-requires-clause-takable : goal.make_taking-requires-clause-takable
 make_taking-requires-clause-takable c =
@@ -30,7 +32,9 @@ make_taking-requires-clause-takable c =
     let e = c.args.event.now in
     let may = may_inside s.seat c.args.self.now c.args.cell e c.self.view_is c.requires.may in
     let is = same_packet s.seat c.args.self.now c.args.cell e c.args.packet.now c.self.view_is may c.requires.spelled in
-    subst (λ (p : Packet). MayBeGiven e s.node (letter_of p)) (sym is) (subst (λ (node : NodeOf). MayBeGiven e node (letter_of may.packet)) (sym c.self.invariant.0.node_is) (given s.seat.part c.args.cell e c.self.invariant.0.shown may))
+    subst (λ (p : Packet). MayBeGiven e s.node (letter_of p)) (sym is)
+    (subst (λ (node : NodeOf). MayBeGiven e node (letter_of may.packet)) (sym c.self.invariant.0.node_is)
+    (given s.seat.part c.args.cell e c.self.invariant.0.shown may))
 
 pub make_taking-requires-clause-takes : goal.make_taking-requires-clause-takes
 make_taking-requires-clause-takes c =
@@ -38,7 +42,8 @@ make_taking-requires-clause-takes c =
     let e = c.args.event.now in
     let may = may_inside s.seat c.args.self.now c.args.cell e c.self.view_is c.requires.may in
     let is = same_packet s.seat c.args.self.now c.args.cell e c.args.packet.now c.self.view_is may c.requires.spelled in
-    let takes = ap (λ (node : NodeOf). taken_by (side node e) (letter_of c.args.packet.now)) c.self.invariant.0.node_is ∙ (ap (λ (p : Packet). taken_by (side s.seat.part.node e) (letter_of p)) is ∙ takes_some s.seat.part c.args.cell e may) in
+    let takes = ap (λ (node : NodeOf). taken_by (side node e) (letter_of c.args.packet.now)) c.self.invariant.0.node_is
+    ∙ (ap (λ (p : Packet). taken_by (side s.seat.part.node e) (letter_of p)) is ∙ takes_some s.seat.part c.args.cell e may) in
     subst IsSome (sym takes) refl
 
 pub free-requires-clause-taking : goal.free-requires-clause-taking
@@ -48,7 +53,8 @@ free-requires-clause-taking c =
     let packet = c.args.packet.now in
     let may = may_inside s.seat c.args.self.now c.args.cell e c.self.view_is c.requires.may in
     let is = same_packet s.seat c.args.self.now c.args.cell e packet c.self.view_is may c.requires.spelled in
-    freeing s.seat.part c.args.cell e packet c.make_taking.new.node may is (subst (λ (node : NodeOf). taken_by (side node e) (letter_of packet) ≡ Some c.make_taking.new.node) c.self.invariant.0.node_is c.make_taking.ensures)
+    freeing s.seat.part c.args.cell e packet c.make_taking.new.node may is
+    (subst (λ (node : NodeOf). taken_by (side node e) (letter_of packet) ≡ Some c.make_taking.new.node) c.self.invariant.0.node_is c.make_taking.ensures)
 
 pub invariant_of-self : goal.invariant_of-self
 invariant_of-self c =
@@ -56,7 +62,9 @@ invariant_of-self c =
     let f = c.self.invariant.0 in
     let may = may_inside s.seat c.args.self.now c.args.cell c.args.event.now c.self.view_is c.requires.may in
     rw c.inbox-place.ensures.place (
-      freed_inside s.seat.part _ _ _ _ _ f c.args.cell (takes_in s.seat.part c.args.cell f.shown may.next) c.free.new.self.part c.make_taking.new.node c.make_taking.new.node _ may.next.mine may.next.next refl (ap (λ (end : EndOf). end.part) c.free.ensures.part) c.free.ensures.shown refl c.free.ensures.same,
+      freed_inside s.seat.part _ _ _ _ _ f c.args.cell (takes_in s.seat.part c.args.cell f.shown may.next) c.free.new.self.part c.make_taking.new.node
+          c.make_taking.new.node _ may.next.mine may.next.next refl (ap (λ (end : EndOf). end.part) c.free.ensures.part) c.free.ensures.shown refl
+          c.free.ensures.same,
       places_freed s.seat.part _ _ _ _ _ _ f c.self.invariant.1 c.args.cell may.next _ _ c.place.ensures,
     )
 
@@ -65,4 +73,5 @@ returns-clause-taken c =
     let e = c.args.event.now in
     let packet = c.args.packet.now in
     let node_is = c.self.invariant.0.node_is ∙ ap (λ (end : EndOf). end.part.node) c.self.view_is in
-    ap (λ (node : NodeOf). taken_by (side node e) (letter_of packet)) (sym node_is) ∙ (c.make_taking.ensures ∙ ap (λ (end : EndOf). Some end.part.node) (sym c.free.ensures.part))
+    ap (λ (node : NodeOf). taken_by (side node e) (letter_of packet)) (sym node_is)
+    ∙ (c.make_taking.ensures ∙ ap (λ (end : EndOf). Some end.part.node) (sym c.free.ensures.part))

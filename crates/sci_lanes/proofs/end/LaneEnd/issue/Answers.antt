@@ -23,9 +23,11 @@ returns-clause-issued c =
     let node_is = ap (λ (end : EndOf). end.part.node) (sym c.beat.ensures.part) in
     subst (λ (end : EndOf). HasIssued end c.args.op c.in_ok-serial.serial new) c.self.view_is
     (record {
-      issued = subst (λ (node : NodeOf). node_issuing node c.args.op ≡ Some c.issue.new.self) f.node_is c.in_ok-serial.ensures.issued ∙ ap (λ (n : NodeOf). Some n) node_is;
+      issued = subst (λ (node : NodeOf). node_issuing node c.args.op ≡ Some c.issue.new.self) f.node_is c.in_ok-serial.ensures.issued
+          ∙ ap (λ (n : NodeOf). Some n) node_is;
       numbered = c.in_ok-serial.ensures.serial ∙ ap (λ (node : NodeOf). node.issued) f.node_is;
-      pending = subst (λ (node : NodeOf). IsIssued node new.part.node c.args.op) f.node_is (subst (λ (node : NodeOf). IsIssued c.self.inside.node node c.args.op) node_is c.in_ok-serial.ensures.pending);
+      pending = subst (λ (node : NodeOf). IsIssued node new.part.node c.args.op) f.node_is
+          (subst (λ (node : NodeOf). IsIssued c.self.inside.node node c.args.op) node_is c.in_ok-serial.ensures.pending);
       made = subst (λ (me : _). IsMade old.part (Issue me c.args.op) new.part.schedule) f.me_is c.beat.ensures.made;
       rest = c.beat.ensures.part ∙ ap (λ (node : NodeOf). informed_at new.part.schedule (beaten node old)) node_is;
     })

@@ -21,7 +21,8 @@ publish-requires-clause-sending c =
     let e = c.args.event.now in
     let may = subst (λ (end : EndOf). MayPublish end.part c.args.cell c.args.first e) (sym c.self.view_is) c.requires in
     let node_is = c.make_sending.ensures ∙ ap (λ (node : NodeOf). node_after node (side node e)) c.self.invariant.0.node_is in
-    subst (λ (node : NodeOf). IsSending s.seat.part (lane_at_cell s.seat.part c.args.cell) c.args.first e node) (sym node_is) (publishing s.seat.part c.args.cell c.args.first e may)
+    subst (λ (node : NodeOf). IsSending s.seat.part (lane_at_cell s.seat.part c.args.cell) c.args.first e node) (sym node_is)
+    (publishing s.seat.part c.args.cell c.args.first e may)
 
 pub invariant_of-self : goal.invariant_of-self
 invariant_of-self c =
@@ -29,5 +30,9 @@ invariant_of-self c =
     let f = c.self.invariant.0 in
     let e = c.args.event.now in
     let may = subst (λ (end : EndOf). MayPublish end.part c.args.cell c.args.first e) (sym c.self.view_is) c.requires in
-    rw c.lane-lane.ensures
-    (published_inside s.seat.part _ _ _ _ _ f c.args.cell (sends_in s.seat.part c.args.cell f.shown may.next) c.publish.new.self.part c.make_sending.new.node c.make_sending.new.node _ may.next.next refl (ap (λ (end : EndOf). end.part) c.publish.ensures.part) c.publish.ensures.shown refl c.publish.ensures.same, c.self.invariant.1)
+    rw c.lane-lane.ensures (
+      published_inside s.seat.part _ _ _ _ _ f c.args.cell (sends_in s.seat.part c.args.cell f.shown may.next) c.publish.new.self.part c.make_sending.new.node
+          c.make_sending.new.node _ may.next.next refl (ap (λ (end : EndOf). end.part) c.publish.ensures.part) c.publish.ensures.shown refl
+          c.publish.ensures.same,
+      c.self.invariant.1,
+    )

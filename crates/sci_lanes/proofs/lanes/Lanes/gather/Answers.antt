@@ -20,13 +20,16 @@ returns-in-Ok-clause-lawful g c =
 pub returns-in-Ok-clause-consistent : goal.returns-in-Ok-clause-consistent
 returns-in-Ok-clause-consistent g c =
     let g = c.read.ensures in
-    subst (λ logs. IsSequentiallyConsistent logs c.read.result.1) (sym g.logs_are) (subst (IsSequentiallyConsistent _) (sym g.last_are) (reached_consistent g.core g.reached))
+    subst (λ logs. IsSequentiallyConsistent logs c.read.result.1) (sym g.logs_are)
+    (subst (IsSequentiallyConsistent _) (sym g.last_are) (reached_consistent g.core g.reached))
 
 pub returns-in-Ok-clause-within : goal.returns-in-Ok-clause-within
 returns-in-Ok-clause-within g c =
     let r = c.read.ensures in
     let long = length-map-range_with_len (last_at r.core) 0 r.core.size.lines in
-    subst (λ logs. AreWithin (length c.read.result.1) logs) (sym r.logs_are) (subst (λ n. AreWithin n (logs_of r.core)) (sym (ap length r.last_are ∙ long)) (reached_within r.core r.reached))
+    subst (λ logs. AreWithin (length c.read.result.1) logs) (sym r.logs_are)
+    (subst (λ n. AreWithin n (logs_of r.core)) (sym (ap length r.last_are ∙ long)) (reached_within r.core r.reached))
 
 pub returns-in-Ok-clause-lines : goal.returns-in-Ok-clause-lines
-returns-in-Ok-clause-lines g c = let r = c.read.ensures in ap length r.last_are ∙ (length-map-range_with_len (last_at r.core) 0 r.core.size.lines ∙ ap (λ z. z.lines) r.sized)
+returns-in-Ok-clause-lines g c = let r = c.read.ensures in
+    ap length r.last_are ∙ (length-map-range_with_len (last_at r.core) 0 r.core.size.lines ∙ ap (λ z. z.lines) r.sized)

@@ -18,7 +18,8 @@ loop-node-preserved c =
       e.same ∙ i.0,
       ap (λ t. t.words) e.same ∙ i.1,
       e.knows,
-      ends_more c.loop-node.seat.table_id c.split_off.new.seat.table_id (size_of c.args.extent c.args.limit) c.loop-node.node c.loop-node.ends.items c.push.new.self.items c.in_ok-split_off.field-0 e.same i.3 c.in_ok-split_off.ensures.end c.in_ok-push.ensures.items,
+      ends_more c.loop-node.seat.table_id c.split_off.new.seat.table_id (size_of c.args.extent c.args.limit) c.loop-node.node c.loop-node.ends.items
+          c.push.new.self.items c.in_ok-split_off.field-0 e.same i.3 c.in_ok-split_off.ensures.end c.in_ok-push.ensures.items,
     )
 
 pub invariant_of-result : goal.invariant_of-result

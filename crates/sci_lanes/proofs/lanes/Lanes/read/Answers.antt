@@ -19,40 +19,58 @@ pub read_words-requires-clause-every : goal.read_words-requires-clause-every
 read_words-requires-clause-every g c = every_node _ _ _ _ c.join_all.ensures.joined
 
 pub read_lanes-requires-clause-turns : goal.read_lanes-requires-clause-turns
-read_lanes-requires-clause-turns g c = subst (λ bs. HaveInboxTurns c.self.inside.extent.nodes bs) (sym c.deref-3.ensures.value) (every_turn _ _ _ _ c.join_all.ensures.joined)
+read_lanes-requires-clause-turns g c =
+    subst (λ bs. HaveInboxTurns c.self.inside.extent.nodes bs) (sym c.deref-3.ensures.value) (every_turn _ _ _ _ c.join_all.ensures.joined)
 
 pub of_parts-machine-requires : goal.of_parts-machine-requires
 of_parts-machine-requires g c =
     let extent = c.self.inside.extent in
-    let read = subst (λ bs. AreLanes extent.nodes c.deref-2.result.now bs (lane_count extent.nodes) c.read_lanes.new.lanes.items) c.deref-3.ensures.value c.read_lanes.ensures in
-    let read = subst (λ ws. AreLanes extent.nodes ws c.join_all.new.inbox_turns.items (lane_count extent.nodes) c.read_lanes.new.lanes.items) c.deref-2.ensures.value read in
-    reached_core c.args.self extent c.self.inside.limit (map g.E.HasEnd.end_of c.args.ends.items) c.join_all.new.seat.me.0.parts c.join_all.new.nodes.items c.join_all.new.inbox_turns.items c.read_words.new.words.items c.read_lanes.new.lanes.items extent.has_node (sym (ap (λ (l : LanesOf). l.size) c.self.view_is))
-    c.requires.own (subst (λ (n : ℕ). AreAll n (map g.E.HasEnd.end_of c.args.ends.items)) (sym (ap (λ (l : LanesOf). l.size.nodes) c.self.view_is)) c.requires.all) c.join_all.ensures.joined c.join_all.ensures.kept c.read_words.ensures.read c.read_words.ensures.long read
+    let read = subst (λ bs. AreLanes extent.nodes c.deref-2.result.now bs (lane_count extent.nodes) c.read_lanes.new.lanes.items) c.deref-3.ensures.value
+    c.read_lanes.ensures in
+    let read = subst (λ ws. AreLanes extent.nodes ws c.join_all.new.inbox_turns.items (lane_count extent.nodes) c.read_lanes.new.lanes.items)
+    c.deref-2.ensures.value read in
+    reached_core c.args.self extent c.self.inside.limit (map g.E.HasEnd.end_of c.args.ends.items) c.join_all.new.seat.me.0.parts c.join_all.new.nodes.items
+    c.join_all.new.inbox_turns.items c.read_words.new.words.items c.read_lanes.new.lanes.items extent.has_node
+    (sym (ap (λ (l : LanesOf). l.size) c.self.view_is))
+    c.requires.own (subst (λ (n : ℕ). AreAll n (map g.E.HasEnd.end_of c.args.ends.items)) (sym (ap (λ (l : LanesOf). l.size.nodes) c.self.view_is))
+    c.requires.all) c.join_all.ensures.joined c.join_all.ensures.kept c.read_words.ensures.read c.read_words.ensures.long read
 
 pub returns : goal.returns
 returns g c =
     let extent = c.self.inside.extent in
-    let read = subst (λ bs. AreLanes extent.nodes c.deref-2.result.now bs (lane_count extent.nodes) c.read_lanes.new.lanes.items) c.deref-3.ensures.value c.read_lanes.ensures in
-    let read = subst (λ ws. AreLanes extent.nodes ws c.join_all.new.inbox_turns.items (lane_count extent.nodes) c.read_lanes.new.lanes.items) c.deref-2.ensures.value read in
+    let read = subst (λ bs. AreLanes extent.nodes c.deref-2.result.now bs (lane_count extent.nodes) c.read_lanes.new.lanes.items) c.deref-3.ensures.value
+    c.read_lanes.ensures in
+    let read = subst (λ ws. AreLanes extent.nodes ws c.join_all.new.inbox_turns.items (lane_count extent.nodes) c.read_lanes.new.lanes.items)
+    c.deref-2.ensures.value read in
     let size = ap (λ (l : LanesOf). l.size) c.self.view_is in
     let all = subst (λ (n : ℕ). AreAll n (map g.E.HasEnd.end_of c.args.ends.items)) (sym (ap (λ (l : LanesOf). l.size.nodes) c.self.view_is)) c.requires.all in
-    let reached = reached_core c.args.self extent c.self.inside.limit (map g.E.HasEnd.end_of c.args.ends.items) c.join_all.new.seat.me.0.parts c.join_all.new.nodes.items c.join_all.new.inbox_turns.items c.read_words.new.words.items c.read_lanes.new.lanes.items extent.has_node (sym size)
+    let reached = reached_core c.args.self extent c.self.inside.limit (map g.E.HasEnd.end_of c.args.ends.items) c.join_all.new.seat.me.0.parts
+    c.join_all.new.nodes.items c.join_all.new.inbox_turns.items c.read_words.new.words.items c.read_lanes.new.lanes.items extent.has_node (sym size)
     c.requires.own all c.join_all.ensures.joined c.join_all.ensures.kept c.read_words.ensures.read c.read_words.ensures.long read in
-    let leads = ap (λ z. run z c.read_words.ensures.read.whole.schedule) (sym size) ∙ led_core c.args.self extent c.self.inside.limit (map g.E.HasEnd.end_of c.args.ends.items) c.join_all.new.seat.me.0.parts c.join_all.new.nodes.items c.join_all.new.inbox_turns.items c.read_words.new.words.items c.read_lanes.new.lanes.items extent.has_node (sym size)
+    let leads = ap (λ z. run z c.read_words.ensures.read.whole.schedule) (sym size)
+    ∙ led_core c.args.self extent c.self.inside.limit (map g.E.HasEnd.end_of c.args.ends.items) c.join_all.new.seat.me.0.parts c.join_all.new.nodes.items
+    c.join_all.new.inbox_turns.items c.read_words.new.words.items c.read_lanes.new.lanes.items extent.has_node (sym size)
     c.requires.own all c.join_all.ensures.joined c.join_all.ensures.kept c.read_words.ensures.read c.read_words.ensures.long read in
-    let logs = logs_there c.args.self extent c.self.inside.limit (map g.E.HasEnd.end_of c.args.ends.items) c.join_all.new.seat.me.0.parts c.join_all.new.nodes.items c.join_all.new.inbox_turns.items c.read_words.new.words.items c.read_lanes.new.lanes.items extent.has_node (sym size)
-    c.requires.own all c.join_all.ensures.joined c.join_all.ensures.kept c.read_words.ensures.read c.read_words.ensures.long read c.args.room.logs (subst (λ (n : ℕ). AreLogged n (map g.E.HasEnd.end_of c.args.ends.items) c.args.room.logs) (sym (ap (λ (l : LanesOf). l.size.nodes) c.self.view_is)) c.requires.logs) in
+    let logs = logs_there c.args.self extent c.self.inside.limit (map g.E.HasEnd.end_of c.args.ends.items) c.join_all.new.seat.me.0.parts
+    c.join_all.new.nodes.items c.join_all.new.inbox_turns.items c.read_words.new.words.items c.read_lanes.new.lanes.items extent.has_node (sym size)
+    c.requires.own all c.join_all.ensures.joined c.join_all.ensures.kept c.read_words.ensures.read c.read_words.ensures.long read c.args.room.logs
+    (subst (λ (n : ℕ). AreLogged n (map g.E.HasEnd.end_of c.args.ends.items) c.args.room.logs) (sym (ap (λ (l : LanesOf). l.size.nodes) c.self.view_is))
+    c.requires.logs) in
     record {
       core = core_of extent c.self.inside.limit c.join_all.new.nodes.items c.read_lanes.new.lanes.items;
       reached = reached;
       sized = size;
       schedule = c.read_words.ensures.read.whole.schedule;
       leads = leads;
-      enabled = subst (λ (z : Size). AreEnabled z [] c.read_words.ensures.read.whole.schedule) size (led_enabled c.args.self extent c.self.inside.limit (map g.E.HasEnd.end_of c.args.ends.items) c.join_all.new.seat.me.0.parts c.join_all.new.nodes.items c.join_all.new.inbox_turns.items c.read_words.new.words.items c.read_lanes.new.lanes.items extent.has_node (sym size)
+      enabled = subst (λ (z : Size). AreEnabled z [] c.read_words.ensures.read.whole.schedule) size
+          (led_enabled c.args.self extent c.self.inside.limit (map g.E.HasEnd.end_of c.args.ends.items) c.join_all.new.seat.me.0.parts
+          c.join_all.new.nodes.items c.join_all.new.inbox_turns.items c.read_words.new.words.items c.read_lanes.new.lanes.items extent.has_node (sym size)
           c.requires.own all c.join_all.ensures.joined c.join_all.ensures.kept c.read_words.ensures.read c.read_words.ensures.long read);
-      seen = end_seen c.args.self extent c.self.inside.limit (map g.E.HasEnd.end_of c.args.ends.items) c.join_all.new.seat.me.0.parts c.join_all.new.nodes.items c.join_all.new.inbox_turns.items c.read_words.new.words.items c.read_lanes.new.lanes.items extent.has_node (sym size)
+      seen = end_seen c.args.self extent c.self.inside.limit (map g.E.HasEnd.end_of c.args.ends.items) c.join_all.new.seat.me.0.parts c.join_all.new.nodes.items
+          c.join_all.new.inbox_turns.items c.read_words.new.words.items c.read_lanes.new.lanes.items extent.has_node (sym size)
           c.requires.own all c.join_all.ensures.joined c.join_all.ensures.kept c.read_words.ensures.read c.read_words.ensures.long read;
-      nodes = end_node c.args.self extent c.self.inside.limit (map g.E.HasEnd.end_of c.args.ends.items) c.join_all.new.seat.me.0.parts c.join_all.new.nodes.items c.join_all.new.inbox_turns.items c.read_words.new.words.items c.read_lanes.new.lanes.items extent.has_node (sym size)
+      nodes = end_node c.args.self extent c.self.inside.limit (map g.E.HasEnd.end_of c.args.ends.items) c.join_all.new.seat.me.0.parts
+          c.join_all.new.nodes.items c.join_all.new.inbox_turns.items c.read_words.new.words.items c.read_lanes.new.lanes.items extent.has_node (sym size)
           c.requires.own all c.join_all.ensures.joined c.join_all.ensures.kept c.read_words.ensures.read c.read_words.ensures.long read;
       logs_are = logs;
       made = logs_made _ c.read_words.ensures.read.whole.schedule _ _ (subst IsSize size (is_size _ reached.size)) leads logs;

@@ -11,8 +11,10 @@ use Rattle.sci_lanes.proofs.seat.NodeSeat.beat.Goals as goal
 pub fetch_add-requires : goal.fetch_add-requires
 fetch_add-requires g c =
     let s = c.self.inside.seat in
-    subst (λ t. Asks t.shared.key t.shared.table_id s.table_id s.id s.me c.own_word-place.result (λ n. (n + 1) % 2 ^ 64) (Beats g.B.Becomes.event g.B.Becomes.next (step t.shared.table_id.slots c.own_word-place.result 1 0 none) s.me)) (sym c.deref.ensures)
-    (beat_asks _ _ _ s.id s.me c.args.me c.args.nodes c.own_word-place.result g.B.Becomes.event g.B.Becomes.next c.self.invariant c.args.self.now c.self.view_is c.requires.me c.requires.nodes c.requires.beating c.own_word-place.ensures)
+    subst (λ t. Asks t.shared.key t.shared.table_id s.table_id s.id s.me c.own_word-place.result (λ n. (n + 1) % 2 ^ 64)
+    (Beats g.B.Becomes.event g.B.Becomes.next (step t.shared.table_id.slots c.own_word-place.result 1 0 none) s.me)) (sym c.deref.ensures)
+    (beat_asks _ _ _ s.id s.me c.args.me c.args.nodes c.own_word-place.result g.B.Becomes.event g.B.Becomes.next c.self.invariant c.args.self.now c.self.view_is
+    c.requires.me c.requires.nodes c.requires.beating c.own_word-place.ensures)
 
 pub returns-clause-made : goal.returns-clause-made
 returns-clause-made g c =

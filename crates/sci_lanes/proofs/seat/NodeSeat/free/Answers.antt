@@ -13,20 +13,24 @@ use Rattle.sci_lanes.proofs.seat.NodeSeat.free.Goals as goal
 pub store-requires : goal.store-requires
 store-requires g c =
     let s = c.self.inside.seat in
-    subst (λ t. Asks t.shared.key t.shared.table_id s.table_id s.id s.me c.place-place.result (λ n. 0) (λ n. Frees g.B.Becomes.event g.B.Becomes.next (step t.shared.table_id.slots c.place-place.result 0 0 none) s.me 0)) (sym c.deref.ensures)
-    (free_asks _ _ _ s.id s.me c.args.cell.now c.args.nodes c.place-place.result c.self.invariant c.args.self.now c.self.view_is c.requires.nodes g.B.Becomes.event g.B.Becomes.next c.requires.next c.requires.taking c.place-place.ensures)
+    subst (λ t. Asks t.shared.key t.shared.table_id s.table_id s.id s.me c.place-place.result (λ n. 0)
+    (λ n. Frees g.B.Becomes.event g.B.Becomes.next (step t.shared.table_id.slots c.place-place.result 0 0 none) s.me 0)) (sym c.deref.ensures)
+    (free_asks _ _ _ s.id s.me c.args.cell.now c.args.nodes c.place-place.result c.self.invariant c.args.self.now c.self.view_is c.requires.nodes
+    g.B.Becomes.event g.B.Becomes.next c.requires.next c.requires.taking c.place-place.ensures)
 
 pub returns-clause-part : goal.returns-clause-part
 returns-clause-part g c =
     let s = c.self.inside.seat in
     told_after _ _ _ s.id s.me c.args.cell.now c.args.nodes c.place-place.result c.self.invariant c.args.self.now c.self.view_is c.requires.nodes
-    c.store.new.seat.table_id c.store.new.seat.me 0 (λ p. IsTaken p (lane_in c.place-place.result) g.B.Becomes.event) (λ l i p. freed l g.B.Becomes.next p) (omega arith) c.place-place.ensures c.store.ensures.0 c.store.ensures.2
+    c.store.new.seat.table_id c.store.new.seat.me 0 (λ p. IsTaken p (lane_in c.place-place.result) g.B.Becomes.event) (λ l i p. freed l g.B.Becomes.next p)
+    (omega arith) c.place-place.ensures c.store.ensures.0 c.store.ensures.2
 
 pub returns-clause-taken : goal.returns-clause-taken
 returns-clause-taken g c =
     let s = c.self.inside.seat in
     let later = (part_of c.store.new.seat.me.0).schedule in
-    let lane = lane_told _ _ _ s.id s.me c.args.cell.now c.args.nodes c.place-place.result c.self.invariant c.args.self.now c.self.view_is c.requires.nodes 0 (omega arith) c.place-place.ensures in
+    let lane = lane_told _ _ _ s.id s.me c.args.cell.now c.args.nodes c.place-place.result c.self.invariant c.args.self.now c.self.view_is c.requires.nodes 0
+    (omega arith) c.place-place.ensures in
     subst (λ (l : ℕ). IsTaken c.args.self.now.part l g.B.Becomes.event later) lane
     (subst (λ (p : Part). IsTaken p (lane_in c.place-place.result) g.B.Becomes.event later) (ap (λ (e : EndOf). e.part) c.self.view_is)
     (went_after (IsTaken (part_of s.me.0) (lane_in c.place-place.result) g.B.Becomes.event) (part_of s.me.0) _ c.store.new.seat.me c.store.ensures.2))

@@ -12,7 +12,9 @@ join_seat-requires c =
     let f = c.self.invariant in
     let root = c.args.root.now in
     let seat = c.self.inside.seat in
-    subst (λ t. (root.table_id ≡ t.shared.table_id) × (seat.table_id ≡ t.shared.table_id) × (seat.me.1 ≡ []) × (0 < t.shared.table_id.words) × Joins (IsKept (size_of t.shared.key.0 t.shared.key.1)) root.id root.me.0 seat.id seat.me.0 (both_views root.me.0 seat.me.0) no_view) (sym c.deref.ensures) (
+    subst (λ t. (root.table_id ≡ t.shared.table_id) × (seat.table_id ≡ t.shared.table_id) × (seat.me.1 ≡ []) × (0 < t.shared.table_id.words)
+    × Joins (IsKept (size_of t.shared.key.0 t.shared.key.1)) root.id root.me.0 seat.id seat.me.0 (both_views root.me.0 seat.me.0) no_view)
+    (sym c.deref.ensures) (
       c.requires.same ∙ (sym (ap (λ e. e.table) c.self.view_is) ∙ f.same),
       f.same,
       ap (λ k. k.1) f.seated,

@@ -13,14 +13,17 @@ use Rattle.sci_lanes.proofs.seat.NodeSeat.read.Goals as goal
 pub load-requires : goal.load-requires
 load-requires c =
     let s = c.self.inside.seat in
-    subst (λ t. Asks t.shared.key t.shared.table_id s.table_id s.id s.me c.place-place.result (λ n. n) (Reads (step t.shared.table_id.slots c.place-place.result 0 0 none) s.me)) (sym c.deref.ensures)
-    (read_asks _ _ _ s.id s.me c.args.cell.now c.args.nodes c.place-place.result c.self.invariant c.args.self.now c.self.view_is c.requires.nodes c.args.index c.requires.may c.place-place.ensures)
+    subst (λ t. Asks t.shared.key t.shared.table_id s.table_id s.id s.me c.place-place.result (λ n. n)
+    (Reads (step t.shared.table_id.slots c.place-place.result 0 0 none) s.me)) (sym c.deref.ensures)
+    (read_asks _ _ _ s.id s.me c.args.cell.now c.args.nodes c.place-place.result c.self.invariant c.args.self.now c.self.view_is c.requires.nodes c.args.index
+    c.requires.may c.place-place.ensures)
 
 pub returns-clause-part : goal.returns-clause-part
 returns-clause-part c =
     let s = c.self.inside.seat in
     told_after _ _ _ s.id s.me c.args.cell.now c.args.nodes c.place-place.result c.self.invariant c.args.self.now c.self.view_is c.requires.nodes
-    c.load.new.seat.table_id c.load.new.seat.me c.args.index (λ p. IsSeen p) (λ l i p. read l i c.load.result p) c.requires.may.within c.place-place.ensures c.load.ensures.0 c.load.ensures.2
+    c.load.new.seat.table_id c.load.new.seat.me c.args.index (λ p. IsSeen p) (λ l i p. read l i c.load.result p) c.requires.may.within c.place-place.ensures
+    c.load.ensures.0 c.load.ensures.2
 
 pub returns-clause-seen : goal.returns-clause-seen
 returns-clause-seen c =

@@ -14,6 +14,10 @@ returns-clause-stays c =
     let lent = c.args.self.now in
     let may = c.requires in
     let few : length (lane_of lent.machine.now c.args.kind lent.node (letter_of c.args.packet.now).target) < 4 =
-    subst (λ (t : ℕ). length (lane_of lent.machine.now c.args.kind lent.node t) < 4) c.get-to.ensures.number (let long = c.count.ensures in let cells = c.from.ensures in let test = c.if-count-from.false in omega arith)
-    in
-    (refl, room_sent lent.machine.now c.make.new.self lent.node c.args.kind may.next (letter_of c.args.packet.now) c.args.event.now lent.some may.own may.side_is c.in_ok-make.ensures.ok few)
+    subst (λ (t : ℕ). length (lane_of lent.machine.now c.args.kind lent.node t) < 4) c.get-to.ensures.number (let long = c.count.ensures in
+    let cells = c.from.ensures in let test = c.if-count-from.false in omega arith)
+    in (
+      refl,
+      room_sent lent.machine.now c.make.new.self lent.node c.args.kind may.next (letter_of c.args.packet.now) c.args.event.now lent.some may.own
+          may.side_is c.in_ok-make.ensures.ok few,
+    )

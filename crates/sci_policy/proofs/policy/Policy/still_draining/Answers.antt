@@ -15,10 +15,13 @@ draining-preserved c =
     let seen = λ (k : ℕ). ap (λ (p : PolicyOf). has p.draining k) (sym c.self.view_is) in
     let is : c.can_drain.result ≡ still_draining policy node line =
     c.can_drain.ensures ∙ ap (λ (b : Bool). b && can_drain (state_on node line)) (sym (seen line ∙ c.in-Some.ensures.found)) in
-    rw c.put.ensures (mark (still_draining policy node) c.draining.from line c.can_drain.result c.draining.lines c.in-Some.ensures.order c.in-Some.ensures.small (λ k from before. ap (λ (b : Bool). b && can_drain (state_on node k)) (seen k ∙ c.in-Some.ensures.between k from before)) is c.draining.invariant)
+    rw c.put.ensures (mark (still_draining policy node) c.draining.from line c.can_drain.result c.draining.lines c.in-Some.ensures.order c.in-Some.ensures.small
+    (λ k from before. ap (λ (b : Bool). b && can_drain (state_on node k)) (seen k ∙ c.in-Some.ensures.between k from before)) is c.draining.invariant)
 
 pub returns : goal.returns
 returns c =
     let policy = c.args.self.now in
     let node = c.args.node.now in
-    marked (still_draining policy node) c.draining.from c.draining.lines (λ k from. ap (λ (b : Bool). b && can_drain (state_on node k)) (ap (λ (p : PolicyOf). has p.draining k) (sym c.self.view_is) ∙ c.in_default.ensures.between k from tt)) c.draining.invariant
+    marked (still_draining policy node) c.draining.from c.draining.lines
+    (λ k from. ap (λ (b : Bool). b && can_drain (state_on node k))
+    (ap (λ (p : PolicyOf). has p.draining k) (sym c.self.view_is) ∙ c.in_default.ensures.between k from tt)) c.draining.invariant

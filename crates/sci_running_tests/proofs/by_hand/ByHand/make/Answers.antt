@@ -7,4 +7,5 @@ invariant_of-self c =
     let all = c.self.invariant in
     let l = c.self.inside.lanes in
     let xs = c.self.inside.ends.items in
-    of_put (λ end. end) l xs c.from-place.result c.make.new.end (same_of l _ _ c.make.ensures (of_at (λ end. end) l xs c.from-place.result _ (omega arith) c.index_mut.ensures.value all)) all
+    of_put (λ end. end) l xs c.from-place.result c.make.new.end
+    (same_of l _ _ c.make.ensures (of_at (λ end. end) l xs c.from-place.result _ (omega arith) c.index_mut.ensures.value all)) all

@@ -11,4 +11,6 @@ pub invariant_of-result : goal.invariant_of-result
 invariant_of-result c =
     let f = c.in_ok-fabric.fabric in
     subst (λ xs. AreOf f (map end_in xs)) (sym c.in_ok-fabric.ensures.stations)
-    (subst (λ (size : Size). AreOf (record { table = f.table; size = size }) (map end_in (map opening_station (opening_ends f.table (size_of c.args.extent c.clamp.result) c.args.extent.nodes)))) (sym c.in_ok-fabric.ensures.size) (opened_of f.table (size_of c.args.extent c.clamp.result) (range_with_len 0 c.args.extent.nodes)))
+    (subst (λ (size : Size). AreOf (record { table = f.table; size = size })
+    (map end_in (map opening_station (opening_ends f.table (size_of c.args.extent c.clamp.result) c.args.extent.nodes)))) (sym c.in_ok-fabric.ensures.size)
+    (opened_of f.table (size_of c.args.extent c.clamp.result) (range_with_len 0 c.args.extent.nodes)))

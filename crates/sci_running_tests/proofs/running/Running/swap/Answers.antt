@@ -7,4 +7,5 @@ use Rattle.sci_running_tests.proofs.running.Running.swap.Goals as goal
 pub invariant_of-self : goal.invariant_of-self
 invariant_of-self c =
     let f = c.self.inside.fabric in
-    subst (λ xs. AreOf f (map end_in xs)) (sym c.swap.ensures.items) (of_swapped end_in f c.self.inside.stations.items c.args.first c.args.second (omega arith) (omega arith) c.self.invariant)
+    subst (λ xs. AreOf f (map end_in xs)) (sym c.swap.ensures.items)
+    (of_swapped end_in f c.self.inside.stations.items c.args.first c.args.second (omega arith) (omega arith) c.self.invariant)

@@ -8,4 +8,5 @@ invariant_of-self c =
     let all = c.self.invariant in
     let f = c.self.inside.fabric in
     let xs = c.self.inside.stations.items in
-    of_put end_in f xs c.from-place.result c.turn.new.self (same_of f _ _ c.turn.ensures.end (of_at end_in f xs c.from-place.result _ (omega arith) c.index_mut.ensures.value all)) all
+    of_put end_in f xs c.from-place.result c.turn.new.self
+    (same_of f _ _ c.turn.ensures.end (of_at end_in f xs c.from-place.result _ (omega arith) c.index_mut.ensures.value all)) all

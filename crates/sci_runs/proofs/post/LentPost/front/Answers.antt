@@ -9,10 +9,12 @@ pub unreachable-requires : goal.unreachable-requires
 unreachable-requires c =
     let lent = c.args.self.now in
     c.requires.sees
-    (no_front (lane_of lent.recorder.now.core c.args.kind c.args.from lent.node) (subst (λ (core : Core). slice_get (lane_of core c.args.kind c.args.from lent.node) 0 ≡ None) c.machine.ensures (sym c.in-None.ensures.front)))
+    (no_front (lane_of lent.recorder.now.core c.args.kind c.args.from lent.node)
+    (subst (λ (core : Core). slice_get (lane_of core c.args.kind c.args.from lent.node) 0 ≡ None) c.machine.ensures (sym c.in-None.ensures.front)))
 
 pub returns : goal.returns
 returns c =
     let lent = c.args.self.now in
     front_of (lane_of lent.recorder.now.core c.args.kind c.args.from lent.node) (letter_of c.in-Some.packet.now)
-    (subst (λ (core : Core). slice_get (lane_of core c.args.kind c.args.from lent.node) 0 ≡ Some (letter_of c.in-Some.packet.now)) c.machine.ensures (sym c.in-Some.ensures.front))
+    (subst (λ (core : Core). slice_get (lane_of core c.args.kind c.args.from lent.node) 0 ≡ Some (letter_of c.in-Some.packet.now)) c.machine.ensures
+    (sym c.in-Some.ensures.front))

@@ -10,5 +10,9 @@ returns-clause-sent c = λ _.
 
 pub returns-clause-stays : goal.returns-clause-stays
 returns-clause-stays c =
-    let lent = c.args.self.now in
-    (refl, refl, spares_step lent.node lent.recorder.now.core c.happen.new.self.core c.args.event.now c.requires.own c.in_ok-happen.ensures.done c.happen.ensures.size)
+    let lent = c.args.self.now in (
+      refl,
+      refl,
+      spares_step lent.node lent.recorder.now.core c.happen.new.self.core c.args.event.now c.requires.own c.in_ok-happen.ensures.done
+          c.happen.ensures.size,
+    )

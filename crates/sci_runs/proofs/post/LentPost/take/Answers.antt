@@ -16,14 +16,20 @@ returns-clause-taken c =
     let next = c.happen.new.self.core in
     let e = c.args.event.now in
     let may = c.requires.may in
-    let there : (letter : Letter) → IsFront (post_at n core) c.args._kind c.args._from letter → MayTake (post_at n core) c.args._kind c.args._from letter e = λ letter front.
+    let there : (letter : Letter) → IsFront (post_at n core) c.args._kind c.args._from letter → MayTake (post_at n core) c.args._kind c.args._from letter e =
+    λ letter front.
     subst (λ (l : Letter). MayTake (post_at n core) c.args._kind c.args._from l e) (one_front _ may.0 letter may.1.front.0 front.0 may.1.front.1 front.1) may.1
     in
-    if_ok_map (λ _. stepping core e ≡ Some next) (λ _. (letter : Letter) → IsFront (post_at n core) c.args._kind c.args._from letter → IsTaken (post_at n core) c.args._kind c.args._from letter e (post_at n next)) c.happen.result
+    if_ok_map (λ _. stepping core e ≡ Some next) (λ _. (letter : Letter) → IsFront (post_at n core) c.args._kind c.args._from letter
+    → IsTaken (post_at n core) c.args._kind c.args._from letter e (post_at n next)) c.happen.result
     (λ _ done letter front. alone_takes n core next c.args._kind c.args._from letter e (there letter front) done c.happen.ensures.size)
     c.happen.ensures.done
 
 pub returns-clause-stays : goal.returns-clause-stays
 returns-clause-stays c =
-    let lent = c.args.self.now in
-    (refl, refl, spares_either c.happen.result lent.node lent.recorder.now.core c.happen.new.self.core c.args.event.now c.requires.may.1.own c.happen.ensures.done c.happen.ensures.same c.happen.ensures.size)
+    let lent = c.args.self.now in (
+      refl,
+      refl,
+      spares_either c.happen.result lent.node lent.recorder.now.core c.happen.new.self.core c.args.event.now c.requires.may.1.own
+          c.happen.ensures.done c.happen.ensures.same c.happen.ensures.size,
+    )

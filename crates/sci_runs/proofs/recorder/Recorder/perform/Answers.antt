@@ -10,11 +10,13 @@ use Rattle.sci_runs.proofs.Sparing.{spares_step}
 use Rattle.sci_runs.proofs.recorder.Recorder.perform.Goals as goal
 
 pub push-requires : goal.push-requires
-push-requires c = event_within c.self.inside.machine c.perform_on.new.machine c.self.inside.record.schedule (Perform c.args.node c.args.line) c.self.invariant.sized c.extent-extent.ensures.reached c.in_ok-entry.ensures.event
+push-requires c = event_within c.self.inside.machine c.perform_on.new.machine c.self.inside.record.schedule (Perform c.args.node c.args.line)
+    c.self.invariant.sized c.extent-extent.ensures.reached c.in_ok-entry.ensures.event
 
 pub invariant_of-self-2 : goal.invariant_of-self-2
 invariant_of-self-2 c =
-    recorder_on c.self.inside.machine c.perform_on.new.machine c.self.inside.record.schedule c.push.new.self.schedule c.self.inside.record.lost c.push.new.self.lost (Perform c.args.node c.args.line) c.self.invariant
+    recorder_on c.self.inside.machine c.perform_on.new.machine c.self.inside.record.schedule c.push.new.self.schedule c.self.inside.record.lost
+    c.push.new.self.lost (Perform c.args.node c.args.line) c.self.invariant
     c.extent-extent.ensures.reached c.in_ok-entry.ensures.event c.perform_on.ensures.size c.push.ensures.size c.push.ensures.before c.push.ensures.recorded
 
 pub returns-clause-performed : goal.returns-clause-performed
@@ -24,9 +26,11 @@ returns-clause-performed c =
     let new = c.perform_on.new.machine in
     let some = subst (λ (r : RecorderOf). n < r.core.size.nodes) (sym c.self.view_is) c.requires in
     subst (λ (r : RecorderOf). IsLogged (node_at r.core n) (node_at new n) c.args.line c.in_ok-entry.entry) c.self.view_is
-    (perform_puts (node_at old n) (node_at new n) c.args.line c.in_ok-entry.entry (node_fits old n c.extent-extent.ensures.reached some) c.in_ok-entry.ensures.performed)
+    (perform_puts (node_at old n) (node_at new n) c.args.line c.in_ok-entry.entry (node_fits old n c.extent-extent.ensures.reached some)
+    c.in_ok-entry.ensures.performed)
 
 pub returns-clause-spares : goal.returns-clause-spares
 returns-clause-spares c =
     subst (λ (r : RecorderOf). SparesOthers c.args.node r.core c.perform_on.new.machine) c.self.view_is
-    (spares_step c.args.node c.self.inside.machine c.perform_on.new.machine (Perform c.args.node c.args.line) refl c.in_ok-entry.ensures.event c.perform_on.ensures.size)
+    (spares_step c.args.node c.self.inside.machine c.perform_on.new.machine (Perform c.args.node c.args.line) refl c.in_ok-entry.ensures.event
+    c.perform_on.ensures.size)

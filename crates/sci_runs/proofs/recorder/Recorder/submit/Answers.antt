@@ -9,11 +9,13 @@ use Rattle.sci_runs.proofs.Sparing.{spares_step}
 use Rattle.sci_runs.proofs.recorder.Recorder.submit.Goals as goal
 
 pub push-requires : goal.push-requires
-push-requires c = event_within c.self.inside.machine c.submit_on.new.machine c.self.inside.record.schedule (Issue c.args.node c.args.op) c.self.invariant.sized c.extent-extent.ensures.reached c.in_ok-serial.ensures.issued
+push-requires c = event_within c.self.inside.machine c.submit_on.new.machine c.self.inside.record.schedule (Issue c.args.node c.args.op) c.self.invariant.sized
+    c.extent-extent.ensures.reached c.in_ok-serial.ensures.issued
 
 pub invariant_of-self-2 : goal.invariant_of-self-2
 invariant_of-self-2 c =
-    recorder_on c.self.inside.machine c.submit_on.new.machine c.self.inside.record.schedule c.push.new.self.schedule c.self.inside.record.lost c.push.new.self.lost (Issue c.args.node c.args.op) c.self.invariant
+    recorder_on c.self.inside.machine c.submit_on.new.machine c.self.inside.record.schedule c.push.new.self.schedule c.self.inside.record.lost
+    c.push.new.self.lost (Issue c.args.node c.args.op) c.self.invariant
     c.extent-extent.ensures.reached c.in_ok-serial.ensures.issued c.submit_on.ensures.size c.push.ensures.size c.push.ensures.before c.push.ensures.recorded
 
 pub returns-clause-issued : goal.returns-clause-issued
@@ -25,4 +27,5 @@ returns-clause-issued c =
 pub returns-clause-spares : goal.returns-clause-spares
 returns-clause-spares c =
     subst (λ (r : RecorderOf). SparesOthers c.args.node r.core c.submit_on.new.machine) c.self.view_is
-    (spares_step c.args.node c.self.inside.machine c.submit_on.new.machine (Issue c.args.node c.args.op) refl c.in_ok-serial.ensures.issued c.submit_on.ensures.size)
+    (spares_step c.args.node c.self.inside.machine c.submit_on.new.machine (Issue c.args.node c.args.op) refl c.in_ok-serial.ensures.issued
+    c.submit_on.ensures.size)

@@ -3,7 +3,10 @@ use Rattle.sci_runs.proofs.Finished.{run_of}
 use Rattle.sci_runs.proofs.table.Table.finish.Goals as goal
 
 pub returns-clause-run : goal.returns-clause-run
-returns-clause-run c = run_of _ _ c.in_ok-finish.field-0.schedule c.self.view_is c.self.invariant c.in_ok-finish.ensures.led c.finish.ensures.reached c.in_ok-finish.ensures.good c.in_ok-finish.ensures.sized false (λ is. absurd cc)
+returns-clause-run c = run_of _ _ c.in_ok-finish.field-0.schedule c.self.view_is c.self.invariant c.in_ok-finish.ensures.led c.finish.ensures.reached
+    c.in_ok-finish.ensures.good c.in_ok-finish.ensures.sized false (λ is. absurd cc)
 
 pub returns-clause-whole : goal.returns-clause-whole
-returns-clause-whole c = λ answered. run_of _ _ c.in_ok-finish.field-0.schedule c.self.view_is c.self.invariant c.in_ok-finish.ensures.led c.finish.ensures.reached c.in_ok-finish.ensures.good c.in_ok-finish.ensures.sized true (λ is. answered)
+returns-clause-whole c = λ answered.
+    run_of _ _ c.in_ok-finish.field-0.schedule c.self.view_is c.self.invariant c.in_ok-finish.ensures.led c.finish.ensures.reached c.in_ok-finish.ensures.good
+    c.in_ok-finish.ensures.sized true (λ is. answered)

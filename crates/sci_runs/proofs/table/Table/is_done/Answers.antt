@@ -7,4 +7,5 @@ use Rattle.sci_runs.proofs.table.Table.is_done.Goals as goal
 pub returns : goal.returns
 returns c = λ is.
     let answered = subst (All (λ (player : Player). IsAnswered player.driver)) c.deref.ensures.value (c.are_answered.ensures is) in
-    subst (λ (table : TableOf). All IsAnswered table.drivers) c.self.view_is (All-map IsAnswered (λ (player : Player). player.driver) c.self.inside.players.items answered)
+    subst (λ (table : TableOf). All IsAnswered table.drivers) c.self.view_is
+    (All-map IsAnswered (λ (player : Player). player.driver) c.self.inside.players.items answered)

@@ -11,19 +11,22 @@ use Rattle.sci_station.proofs.fabric.Fabric.new.Goals as goal
 
 -- the ends of new lanes know of no event
 opening_fresh : (table : TableId) (size : Size) (count : ℕ) → All (λ (end : EndOf). end.part.schedule ≡ []) (opening_ends table size count)
-opening_fresh table size count = All-map (λ (end : EndOf). end.part.schedule ≡ []) (λ n. record { table = table; part = opening_part size n }) (range_with_len 0 count) (λ k d lt. refl)
+opening_fresh table size count =
+    All-map (λ (end : EndOf). end.part.schedule ≡ []) (λ n. record { table = table; part = opening_part size n }) (range_with_len 0 count) (λ k d lt. refl)
 
 pub loop-end-init : goal.loop-end-init
 loop-end-init c = record {
   made = c.in_ok-stations.ensures.items;
-  fresh = subst (All (λ (end : EndOf). end.part.schedule ≡ [])) (sym (c.into_iter-end-iterator.ensures.into_iter_gives.0 ∙ c.in_ok-lanes.ensures.ends)) (opening_fresh _ _ _);
+  fresh = subst (All (λ (end : EndOf). end.part.schedule ≡ [])) (sym (c.into_iter-end-iterator.ensures.into_iter_gives.0 ∙ c.in_ok-lanes.ensures.ends))
+      (opening_fresh _ _ _);
 }
 
 pub loop-end-preserved : goal.loop-end-preserved
 loop-end-preserved c =
     let Fresh : EndOf → Type 0 = λ end. end.part.schedule ≡ [] in
     record {
-      made = c.in_ok-push.ensures.items ∙ ((λ i. c.loop-end.invariant.made i ++ c.new-in-loop-end.ensures i ∷ []) ∙ sym (map-append opening_station c.loop-end.yielded (c.in-Some.end ∷ [])));
+      made = c.in_ok-push.ensures.items
+          ∙ ((λ i. c.loop-end.invariant.made i ++ c.new-in-loop-end.ensures i ∷ []) ∙ sym (map-append opening_station c.loop-end.yielded (c.in-Some.end ∷ [])));
       fresh = All-tail Fresh c.in-Some.end c.next.new.self.rest.items (subst (All Fresh) c.in-Some.ensures.steps.0 c.loop-end.invariant.fresh);
     }
 

@@ -13,17 +13,22 @@ pub invariant_of-self : goal.invariant_of-self
 invariant_of-self c =
     let s = c.self.inside in
     let seen = c.args.seen in
-    remembers_read s.end c.read_packet-read.new.end s.unanswered s.kept seen c.self.invariant (subst (λ (p : StationPostOf). HasSeen p.end.part seen) (sym c.self.view_is) c.requires.seen) c.node-node.ensures.shown
-    c.read_packet-read.ensures.still c.read_packet-read.ensures.others (subst (λ (p : StationPostOf). is_kept p.kept seen.cell.kind seen.cell.sender ≡ false) (sym c.self.view_is) c.requires.fresh)
+    remembers_read s.end c.read_packet-read.new.end s.unanswered s.kept seen c.self.invariant
+    (subst (λ (p : StationPostOf). HasSeen p.end.part seen) (sym c.self.view_is) c.requires.seen) c.node-node.ensures.shown
+    c.read_packet-read.ensures.still c.read_packet-read.ensures.others
+    (subst (λ (p : StationPostOf). is_kept p.kept seen.cell.kind seen.cell.sender ≡ false) (sym c.self.view_is) c.requires.fresh)
 
 pub invariant_of-self-in-Answers : goal.invariant_of-self-in-Answers
 invariant_of-self-in-Answers c =
     let s = c.self.inside in
     let seen = c.args.seen in
-    let now = remembers_read s.end c.read_packet-read.new.end s.unanswered s.kept seen c.self.invariant (subst (λ (p : StationPostOf). HasSeen p.end.part seen) (sym c.self.view_is) c.requires.seen) c.node-node.ensures.shown
-    c.read_packet-read.ensures.still c.read_packet-read.ensures.others (subst (λ (p : StationPostOf). is_kept p.kept seen.cell.kind seen.cell.sender ≡ false) (sym c.self.view_is) c.requires.fresh)
+    let now = remembers_read s.end c.read_packet-read.new.end s.unanswered s.kept seen c.self.invariant
+    (subst (λ (p : StationPostOf). HasSeen p.end.part seen) (sym c.self.view_is) c.requires.seen) c.node-node.ensures.shown
+    c.read_packet-read.ensures.still c.read_packet-read.ensures.others
+    (subst (λ (p : StationPostOf). is_kept p.kept seen.cell.kind seen.cell.sender ≡ false) (sym c.self.view_is) c.requires.fresh)
     in
-    subst (λ (k : KeptOf). Remembers c.read_packet-read.new.end s.unanswered k) (sym c.answer_read.ensures) (remembers_answer c.read_packet-read.new.end s.unanswered s.kept (Some c.in-Ok.packet) now)
+    subst (λ (k : KeptOf). Remembers c.read_packet-read.new.end s.unanswered k) (sym c.answer_read.ensures)
+    (remembers_answer c.read_packet-read.new.end s.unanswered s.kept (Some c.in-Ok.packet) now)
 
 pub request_read-requires : goal.request_read-requires
 request_read-requires c =
@@ -37,15 +42,19 @@ invariant_of-self-in-Requests c =
     let s = c.self.inside in
     let seen = c.args.seen in
     let new = c.read_packet-read.new.end in
-    let now = remembers_read s.end new s.unanswered s.kept seen c.self.invariant (subst (λ (p : StationPostOf). HasSeen p.end.part seen) (sym c.self.view_is) c.requires.seen) c.node-node.ensures.shown
-    c.read_packet-read.ensures.still c.read_packet-read.ensures.others (subst (λ (p : StationPostOf). is_kept p.kept seen.cell.kind seen.cell.sender ≡ false) (sym c.self.view_is) c.requires.fresh)
+    let now = remembers_read s.end new s.unanswered s.kept seen c.self.invariant
+    (subst (λ (p : StationPostOf). HasSeen p.end.part seen) (sym c.self.view_is) c.requires.seen) c.node-node.ensures.shown
+    c.read_packet-read.ensures.still c.read_packet-read.ensures.others
+    (subst (λ (p : StationPostOf). is_kept p.kept seen.cell.kind seen.cell.sender ≡ false) (sym c.self.view_is) c.requires.fresh)
     in
     subst (λ (k : KeptOf). Remembers new s.unanswered k) (sym c.request_read.ensures.kept)
-    (remembers_request new s.unanswered s.kept seen.cell.sender c.in-Ok.packet seen.cell _ now c.in-Ok.ensures.read c.in-Requests.is refl (λ keep e. keeps_other seen.cell.sender c.me-me.result (me_of new.part) keep c.me-me.ensures e)
+    (remembers_request new s.unanswered s.kept seen.cell.sender c.in-Ok.packet seen.cell _ now c.in-Ok.ensures.read c.in-Requests.is refl
+    (λ keep e. keeps_other seen.cell.sender c.me-me.result (me_of new.part) keep c.me-me.ensures e)
     (subst (λ (k : KeptOf). packet_in k Requests seen.cell.sender ≡ Some c.in-Ok.packet) c.request_read.ensures.kept c.request_read.ensures.there))
   where
     keeps_other : (from me n : ℕ) → not (from == me) ≡ true → me ≡ n → from ≡ n → ⊥
-    keeps_other from me n keep is e = let same : (from == me) ≡ true = eq-eqb from me (e ∙ sym is) in let clash : not true ≡ true = ap not (sym same) ∙ keep in cc
+    keeps_other from me n keep is e = let same : (from == me) ≡ true = eq-eqb from me (e ∙ sym is) in let clash : not true ≡ true = ap not (sym same) ∙ keep in
+        cc
 
 pub returns-in-Answers-clause-read : goal.returns-in-Answers-clause-read
 returns-in-Answers-clause-read c = λ _.

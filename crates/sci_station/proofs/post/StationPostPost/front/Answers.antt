@@ -10,9 +10,13 @@ use Rattle.sci_station.proofs.post.StationPostPost.front.Goals as goal
 pub returns : goal.returns
 returns c =
     let read = c.requires.sees in
-    let there : packet_in c.self.inside.kept c.args.kind c.args.from ≡ Some read.packet = subst (λ (p : StationPostOf). packet_in p.kept c.args.kind c.args.from ≡ Some read.packet) (sym c.self.view_is) read.there in
-    let same : read.packet ≡ c.in-Some.packet.now = one_packet (packet_in c.self.inside.kept c.args.kind c.args.from) read.packet c.in-Some.packet.now there (sym c.packet.ensures ∙ ap option_copied c.in-Some.is) in
-    subst (λ (p : Packet). IsFront (post_of c.args.self.now.end) c.args.kind c.args.from (letter_of p)) same (front_post c.args.self.now.end read.cell read.packet c.args.kind c.args.from read.read read.kind_is read.sender_is)
+    let there : packet_in c.self.inside.kept c.args.kind c.args.from ≡ Some read.packet =
+    subst (λ (p : StationPostOf). packet_in p.kept c.args.kind c.args.from ≡ Some read.packet) (sym c.self.view_is) read.there in
+    let same : read.packet ≡ c.in-Some.packet.now =
+    one_packet (packet_in c.self.inside.kept c.args.kind c.args.from) read.packet c.in-Some.packet.now there
+    (sym c.packet.ensures ∙ ap option_copied c.in-Some.is) in
+    subst (λ (p : Packet). IsFront (post_of c.args.self.now.end) c.args.kind c.args.from (letter_of p)) same
+    (front_post c.args.self.now.end read.cell read.packet c.args.kind c.args.from read.read read.kind_is read.sender_is)
   where
     one_packet : (o : Option Packet) (p q : Packet) → o ≡ Some p → o ≡ Some q → p ≡ q
     one_packet o p q one two = let both : Some p ≡ Some q = sym one ∙ two in cc

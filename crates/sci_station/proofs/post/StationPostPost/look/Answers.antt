@@ -15,16 +15,21 @@ use Rattle.sci_station.proofs.Remembering.{apart_looked, remembers_still}
 use Rattle.sci_station.proofs.post.StationPostPost.look.Goals as goal
 
 -- the lane was looked at
-looked : (old new : EndOf) (unanswered : List ℕ) (kept : KeptOf) (kind : LaneKind) (from : ℕ) → Remembers old unanswered kept → IsShown new.part → IsStill old new → from < nodes_in old.part → LeavesOthers (lane_place (nodes_in old.part) kind from (me_of old.part)) old.part new.part → is_kept kept kind from ≡ false
+looked : (old new : EndOf) (unanswered : List ℕ) (kept : KeptOf) (kind : LaneKind) (from : ℕ) → Remembers old unanswered kept → IsShown new.part
+    → IsStill old new → from < nodes_in old.part → LeavesOthers (lane_place (nodes_in old.part) kind from (me_of old.part)) old.part new.part
+    → is_kept kept kind from ≡ false
     → Remembers new unanswered kept
-looked old new unanswered kept kind from r t still lt others none = remembers_still old new unanswered kept _ r t still others (apart_looked kept old.part kind from r.shown lt none)
+looked old new unanswered kept kind from r t still lt others none =
+    remembers_still old new unanswered kept _ r t still others (apart_looked kept old.part kind from r.shown lt none)
 
 -- the sender is there
 there : (x : StationPostOf) (end : EndOf) (from : ℕ) → IsShown end.part → end ≡ x.end → from < (state_of x.end.part).size.nodes → from < nodes_in end.part
 there x end from s is lt = subst (λ (n : ℕ). from < n) (sym (post_nodes end s)) (subst (λ (e : EndOf). from < (state_of e.part).size.nodes) (sym is) lt)
 
 pub returns-then-is_kept-clause-seen : goal.returns-then-is_kept-clause-seen
-returns-then-is_kept-clause-seen c = λ _. subst (λ (p : StationPostOf). IsRead p.end p.kept c.args.kind c.args.from) c.self.view_is (c.self.invariant.keeps c.args.kind c.args.from (sym c.is_kept.ensures ∙ c.if-is_kept.true)).1
+returns-then-is_kept-clause-seen c =
+    λ _. subst (λ (p : StationPostOf). IsRead p.end p.kept c.args.kind c.args.from) c.self.view_is
+    (c.self.invariant.keeps c.args.kind c.args.from (sym c.is_kept.ensures ∙ c.if-is_kept.true)).1
 
 pub see-seen-requires : goal.see-seen-requires
 see-seen-requires c = there c.args.self.now c.self.inside.end c.args.from c.self.invariant.shown (ap (λ (p : StationPostOf). p.end) c.self.view_is) c.requires
@@ -32,47 +37,58 @@ see-seen-requires c = there c.args.self.now c.self.inside.end c.args.from c.self
 pub invariant_of-self : goal.invariant_of-self
 invariant_of-self c =
     let s = c.self.inside in
-    looked s.end c.see-seen.new.end s.unanswered s.kept c.args.kind c.args.from c.self.invariant c.node-node.ensures.shown c.see-seen.ensures.still (there c.args.self.now s.end c.args.from c.self.invariant.shown (ap (λ (p : StationPostOf). p.end) c.self.view_is) c.requires) c.see-seen.ensures.others (sym c.is_kept.ensures ∙ c.if-is_kept.false)
+    looked s.end c.see-seen.new.end s.unanswered s.kept c.args.kind c.args.from c.self.invariant c.node-node.ensures.shown c.see-seen.ensures.still
+    (there c.args.self.now s.end c.args.from c.self.invariant.shown (ap (λ (p : StationPostOf). p.end) c.self.view_is) c.requires) c.see-seen.ensures.others
+    (sym c.is_kept.ensures ∙ c.if-is_kept.false)
 
 pub returns-in_err-seen-clause-still : goal.returns-in_err-seen-clause-still
 returns-in_err-seen-clause-still c =
     let s = c.self.inside in
     let new = c.see-seen.new.end in
-    subst (λ (p : StationPostOf). IsStillPost (post_of p.end) (post_of new)) c.self.view_is (still_post s.end new c.self.invariant.shown c.node-node.ensures.shown c.see-seen.ensures.still.node c.see-seen.ensures.still.seen)
+    subst (λ (p : StationPostOf). IsStillPost (post_of p.end) (post_of new)) c.self.view_is
+    (still_post s.end new c.self.invariant.shown c.node-node.ensures.shown c.see-seen.ensures.still.node c.see-seen.ensures.still.seen)
 
 pub invariant_of-self-in-Some : goal.invariant_of-self-in-Some
 invariant_of-self-in-Some c =
     let s = c.self.inside in
-    looked s.end c.see-seen.new.end s.unanswered s.kept c.args.kind c.args.from c.self.invariant c.node-node.ensures.shown c.see-seen.ensures.still (there c.args.self.now s.end c.args.from c.self.invariant.shown (ap (λ (p : StationPostOf). p.end) c.self.view_is) c.requires) c.see-seen.ensures.others (sym c.is_kept.ensures ∙ c.if-is_kept.false)
+    looked s.end c.see-seen.new.end s.unanswered s.kept c.args.kind c.args.from c.self.invariant c.node-node.ensures.shown c.see-seen.ensures.still
+    (there c.args.self.now s.end c.args.from c.self.invariant.shown (ap (λ (p : StationPostOf). p.end) c.self.view_is) c.requires) c.see-seen.ensures.others
+    (sym c.is_kept.ensures ∙ c.if-is_kept.false)
 
 pub invariant_of-self-in-None : goal.invariant_of-self-in-None
 invariant_of-self-in-None c =
     let s = c.self.inside in
-    looked s.end c.see-seen.new.end s.unanswered s.kept c.args.kind c.args.from c.self.invariant c.node-node.ensures.shown c.see-seen.ensures.still (there c.args.self.now s.end c.args.from c.self.invariant.shown (ap (λ (p : StationPostOf). p.end) c.self.view_is) c.requires) c.see-seen.ensures.others (sym c.is_kept.ensures ∙ c.if-is_kept.false)
+    looked s.end c.see-seen.new.end s.unanswered s.kept c.args.kind c.args.from c.self.invariant c.node-node.ensures.shown c.see-seen.ensures.still
+    (there c.args.self.now s.end c.args.from c.self.invariant.shown (ap (λ (p : StationPostOf). p.end) c.self.view_is) c.requires) c.see-seen.ensures.others
+    (sym c.is_kept.ensures ∙ c.if-is_kept.false)
 
 pub returns-in-None-clause-still : goal.returns-in-None-clause-still
 returns-in-None-clause-still c =
     let s = c.self.inside in
     let new = c.see-seen.new.end in
-    subst (λ (p : StationPostOf). IsStillPost (post_of p.end) (post_of new)) c.self.view_is (still_post s.end new c.self.invariant.shown c.node-node.ensures.shown c.see-seen.ensures.still.node c.see-seen.ensures.still.seen)
+    subst (λ (p : StationPostOf). IsStillPost (post_of p.end) (post_of new)) c.self.view_is
+    (still_post s.end new c.self.invariant.shown c.node-node.ensures.shown c.see-seen.ensures.still.node c.see-seen.ensures.still.seen)
 
 pub returns-in_err-read-in-Some-clause-still : goal.returns-in_err-read-in-Some-clause-still
 returns-in_err-read-in-Some-clause-still c =
     let s = c.self.inside in
     let new = c.read.new.self.end in
     let both = stills s.end c.see-seen.new.end new c.see-seen.ensures.still c.read.ensures.still in
-    subst (λ (p : StationPostOf). IsStillPost (post_of p.end) (post_of new)) c.self.view_is (still_post s.end new c.self.invariant.shown c.read.ensures.shown both.node both.seen)
+    subst (λ (p : StationPostOf). IsStillPost (post_of p.end) (post_of new)) c.self.view_is
+    (still_post s.end new c.self.invariant.shown c.read.ensures.shown both.node both.seen)
 
 pub returns-in_ok-read-in-Some-clause-still : goal.returns-in_ok-read-in-Some-clause-still
 returns-in_ok-read-in-Some-clause-still c =
     let s = c.self.inside in
     let new = c.read.new.self.end in
     let both = stills s.end c.see-seen.new.end new c.see-seen.ensures.still c.read.ensures.still in
-    subst (λ (p : StationPostOf). IsStillPost (post_of p.end) (post_of new)) c.self.view_is (still_post s.end new c.self.invariant.shown c.read.ensures.shown both.node both.seen)
+    subst (λ (p : StationPostOf). IsStillPost (post_of p.end) (post_of new)) c.self.view_is
+    (still_post s.end new c.self.invariant.shown c.read.ensures.shown both.node both.seen)
 
 pub returns-in_ok-read-in-Some-clause-seen : goal.returns-in_ok-read-in-Some-clause-seen
 returns-in_ok-read-in-Some-clause-seen c = λ _.
     let new = c.read.new.self in
     let kind = of_some (λ (seen : Seen). seen.cell.kind ≡ c.args.kind) c.in_ok-seen.field-0 c.in-Some.seen c.in-Some.is c.in_ok-seen.ensures.kind in
     let from = of_some (λ (seen : Seen). seen.cell.sender ≡ c.args.from) c.in_ok-seen.field-0 c.in-Some.seen c.in-Some.is c.in_ok-seen.ensures.from in
-    subst (λ (k : LaneKind). IsRead new.end new.kept k c.args.from) kind (subst (λ (j : ℕ). IsRead new.end new.kept c.in-Some.seen.cell.kind j) from (c.in_ok-read-in-Some.ensures.read refl))
+    subst (λ (k : LaneKind). IsRead new.end new.kept k c.args.from) kind
+    (subst (λ (j : ℕ). IsRead new.end new.kept c.in-Some.seen.cell.kind j) from (c.in_ok-read-in-Some.ensures.read refl))

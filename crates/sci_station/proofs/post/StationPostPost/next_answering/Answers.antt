@@ -14,9 +14,11 @@ use Rattle.sci_station.proofs.post.StationPostPost.next_answering.Goals as goal
 pub returns-clause-here : goal.returns-clause-here
 returns-clause-here c =
     let s = c.self.inside in
-    subst (λ (p : StationPostOf). IfSome c.next_from.result (λ node. node < (state_of p.end.part).size.nodes)) c.self.view_is (here c.next_from.result c.next_from.ensures.owes)
+    subst (λ (p : StationPostOf). IfSome c.next_from.result (λ node. node < (state_of p.end.part).size.nodes)) c.self.view_is
+    (here c.next_from.result c.next_from.ensures.owes)
   where
-    here : (o : Option ℕ) → IfSome o (λ node. 0 < slice_index c.self.inside.unanswered node) → IfSome o (λ node. node < (state_of c.self.inside.end.part).size.nodes)
+    here : (o : Option ℕ) → IfSome o (λ node. 0 < slice_index c.self.inside.unanswered node)
+        → IfSome o (λ node. node < (state_of c.self.inside.end.part).size.nodes)
     here None owes = tt
     here (Some node) owes =
         elim (cases_lt node (nodes_in c.self.inside.end.part)) [
@@ -27,6 +29,8 @@ returns-clause-here c =
 pub returns-clause-passed : goal.returns-clause-passed
 returns-clause-passed c = λ other order below before.
     let s = c.self.inside in
-    let lt : other < nodes_in s.end.part = subst (λ (n : ℕ). other < n) (sym (post_nodes s.end c.self.invariant.shown)) (subst (λ (p : StationPostOf). other < (state_of p.end.part).size.nodes) (sym c.self.view_is) below) in
+    let lt : other < nodes_in s.end.part =
+    subst (λ (n : ℕ). other < n) (sym (post_nodes s.end c.self.invariant.shown))
+    (subst (λ (p : StationPostOf). other < (state_of p.end.part).size.nodes) (sym c.self.view_is) below) in
     subst (λ (p : StationPostOf). lane_of (state_of p.end.part) Answers other (me_of p.end.part) ≡ []) c.self.view_is
     (owes_some (state_of s.end.part) (me_of s.end.part) other (sym (c.self.invariant.owing other lt) ∙ c.next_from.ensures.between other order before))

@@ -27,7 +27,8 @@ record May (end : EndOf) (kind : LaneKind) (letter : Letter) (e : Event) : Type 
   next : NodeOf
   side_is : side end.part.node e ≡ Sends kind next letter
 
-may : (x : StationPostOf) (end : EndOf) (kind : LaneKind) (letter : Letter) (e : Event) → IsShown end.part → end ≡ x.end → MaySend (post_of x.end) kind letter e → May end kind letter e
+may : (x : StationPostOf) (end : EndOf) (kind : LaneKind) (letter : Letter) (e : Event) → IsShown end.part → end ≡ x.end → MaySend (post_of x.end) kind letter e
+    → May end kind letter e
 may x end kind letter e s is send = subst (λ (d : EndOf). IsShown d.part → May d kind letter e) (sym is) (λ t. record {
   target = subst (λ (n : ℕ). letter.target < n) (sym (post_nodes x.end t)) send.target;
   own = send.own;
@@ -36,73 +37,106 @@ may x end kind letter e s is send = subst (λ (d : EndOf). IsShown d.part → Ma
 }) s
 
 -- nothing was sent
-unsent : (old new : EndOf) (unanswered : List ℕ) (kept : KeptOf) (kind : LaneKind) (letter : Letter) → Remembers old unanswered kept → IsShown new.part → IsStill old new → letter.target < nodes_in old.part
+unsent : (old new : EndOf) (unanswered : List ℕ) (kept : KeptOf) (kind : LaneKind) (letter : Letter) → Remembers old unanswered kept → IsShown new.part
+    → IsStill old new → letter.target < nodes_in old.part
     → LeavesOthers (lane_place (nodes_in old.part) kind (me_of old.part) letter.target) old.part new.part → Remembers new unanswered kept
-unsent old new unanswered kept kind letter r t still lt others = remembers_still old new unanswered kept _ r t still others (apart_sent kept old.part kind letter.target r.shown lt)
+unsent old new unanswered kept kind letter r t still lt others =
+    remembers_still old new unanswered kept _ r t still others (apart_sent kept old.part kind letter.target r.shown lt)
 
 pub target_of-to-requires : goal.target_of-to-requires
-target_of-to-requires c = (may c.args.self.now c.self.inside.end c.args.kind (letter_of c.args.packet.now) c.args.event.now c.self.invariant.shown (ap (λ (p : StationPostOf). p.end) c.self.view_is) c.requires).target
+target_of-to-requires c = (may c.args.self.now c.self.inside.end c.args.kind (letter_of c.args.packet.now) c.args.event.now c.self.invariant.shown
+    (ap (λ (p : StationPostOf). p.end) c.self.view_is) c.requires).target
 
 pub send-sent-requires-clause-target : goal.send-sent-requires-clause-target
-send-sent-requires-clause-target c = (may c.args.self.now c.self.inside.end c.args.kind (letter_of c.args.packet.now) c.args.event.now c.self.invariant.shown (ap (λ (p : StationPostOf). p.end) c.self.view_is) c.requires).target
+send-sent-requires-clause-target c =
+    (may c.args.self.now c.self.inside.end c.args.kind (letter_of c.args.packet.now) c.args.event.now c.self.invariant.shown
+    (ap (λ (p : StationPostOf). p.end) c.self.view_is) c.requires).target
 
 pub invariant_of-self : goal.invariant_of-self
 invariant_of-self c =
     let s = c.self.inside in
-    unsent s.end c.send-sent.new.end s.unanswered s.kept c.args.kind (letter_of c.args.packet.now) c.self.invariant c.node-node.ensures.shown (c.in_err-sent.ensures.cut refl) (may c.args.self.now s.end c.args.kind (letter_of c.args.packet.now) c.args.event.now c.self.invariant.shown (ap (λ (p : StationPostOf). p.end) c.self.view_is) c.requires).target c.send-sent.ensures.others
+    unsent s.end c.send-sent.new.end s.unanswered s.kept c.args.kind (letter_of c.args.packet.now) c.self.invariant c.node-node.ensures.shown
+    (c.in_err-sent.ensures.cut refl)
+    (may c.args.self.now s.end c.args.kind (letter_of c.args.packet.now) c.args.event.now c.self.invariant.shown
+    (ap (λ (p : StationPostOf). p.end) c.self.view_is) c.requires).target c.send-sent.ensures.others
 
 pub returns-in_err-sent-clause-cut : goal.returns-in_err-sent-clause-cut
 returns-in_err-sent-clause-cut c = λ _.
     let s = c.self.inside in
     let still = (c.in_err-sent.ensures.cut refl) in
-    subst (λ (p : StationPostOf). IsStillPost (post_of p.end) (post_of c.send-sent.new.end)) c.self.view_is (still_post s.end c.send-sent.new.end c.self.invariant.shown c.node-node.ensures.shown still.node still.seen)
+    subst (λ (p : StationPostOf). IsStillPost (post_of p.end) (post_of c.send-sent.new.end)) c.self.view_is
+    (still_post s.end c.send-sent.new.end c.self.invariant.shown c.node-node.ensures.shown still.node still.seen)
 
 pub invariant_of-self-then-not-branch : goal.invariant_of-self-then-not-branch
 invariant_of-self-then-not-branch c =
     let s = c.self.inside in
-    unsent s.end c.send-sent.new.end s.unanswered s.kept c.args.kind (letter_of c.args.packet.now) c.self.invariant c.node-node.ensures.shown (c.in_ok-sent.ensures.full c.if-not-branch.true) (may c.args.self.now s.end c.args.kind (letter_of c.args.packet.now) c.args.event.now c.self.invariant.shown (ap (λ (p : StationPostOf). p.end) c.self.view_is) c.requires).target c.send-sent.ensures.others
+    unsent s.end c.send-sent.new.end s.unanswered s.kept c.args.kind (letter_of c.args.packet.now) c.self.invariant c.node-node.ensures.shown
+    (c.in_ok-sent.ensures.full c.if-not-branch.true)
+    (may c.args.self.now s.end c.args.kind (letter_of c.args.packet.now) c.args.event.now c.self.invariant.shown
+    (ap (λ (p : StationPostOf). p.end) c.self.view_is) c.requires).target c.send-sent.ensures.others
 
 pub returns-then-not-branch-clause-still : goal.returns-then-not-branch-clause-still
 returns-then-not-branch-clause-still c = λ _.
     let s = c.self.inside in
     let still = (c.in_ok-sent.ensures.full c.if-not-branch.true) in
-    subst (λ (p : StationPostOf). IsStillPost (post_of p.end) (post_of c.send-sent.new.end)) c.self.view_is (still_post s.end c.send-sent.new.end c.self.invariant.shown c.node-node.ensures.shown still.node still.seen)
+    subst (λ (p : StationPostOf). IsStillPost (post_of p.end) (post_of c.send-sent.new.end)) c.self.view_is
+    (still_post s.end c.send-sent.new.end c.self.invariant.shown c.node-node.ensures.shown still.node still.seen)
 
 -- what is remembered after a packet was sent
-sent : (old new : EndOf) (unanswered counts : List ℕ) (kept : KeptOf) (kind : LaneKind) (letter : Letter) (e : Event) → Remembers old unanswered kept → IsShown new.part → IsSameNode old.part new.part → WasMade old.part e new.part.schedule → May old kind letter e
-    → LeavesOthers (lane_place (nodes_in old.part) kind (me_of old.part) letter.target) old.part new.part → ((node : ℕ) → slice_index counts node ≡ slice_index unanswered node + adds_one kind letter.target node) → Remembers new counts kept
-sent old new unanswered counts kept kind letter e r t same was m others counted = remembers_sent old new unanswered counts kept kind m.next letter e r t same (made_post old new e r.shown t same was) m.own m.side_is m.target others counted
+sent : (old new : EndOf) (unanswered counts : List ℕ) (kept : KeptOf) (kind : LaneKind) (letter : Letter) (e : Event) → Remembers old unanswered kept
+    → IsShown new.part → IsSameNode old.part new.part → WasMade old.part e new.part.schedule → May old kind letter e
+    → LeavesOthers (lane_place (nodes_in old.part) kind (me_of old.part) letter.target) old.part new.part
+    → ((node : ℕ) → slice_index counts node ≡ slice_index unanswered node + adds_one kind letter.target node) → Remembers new counts kept
+sent old new unanswered counts kept kind letter e r t same was m others counted =
+    remembers_sent old new unanswered counts kept kind m.next letter e r t same (made_post old new e r.shown t same was) m.own m.side_is m.target others counted
 
 pub invariant_of-self-in-Answers : goal.invariant_of-self-in-Answers
 invariant_of-self-in-Answers c =
     let s = c.self.inside in
-    sent s.end c.send-sent.new.end s.unanswered s.unanswered s.kept c.args.kind (letter_of c.args.packet.now) c.args.event.now c.self.invariant c.node-node.ensures.shown c.send-sent.ensures.same.node (c.in_ok-sent.ensures.made c.if-not-branch.false) (may c.args.self.now s.end c.args.kind (letter_of c.args.packet.now) c.args.event.now c.self.invariant.shown (ap (λ (p : StationPostOf). p.end) c.self.view_is) c.requires) c.send-sent.ensures.others
-    (λ node. subst (λ (k : LaneKind). slice_index s.unanswered node ≡ slice_index s.unanswered node + adds_one k c.args.packet.now.target node) (sym c.in-Answers.is) (omega arith))
+    sent s.end c.send-sent.new.end s.unanswered s.unanswered s.kept c.args.kind (letter_of c.args.packet.now) c.args.event.now c.self.invariant
+    c.node-node.ensures.shown c.send-sent.ensures.same.node (c.in_ok-sent.ensures.made c.if-not-branch.false)
+    (may c.args.self.now s.end c.args.kind (letter_of c.args.packet.now) c.args.event.now c.self.invariant.shown
+    (ap (λ (p : StationPostOf). p.end) c.self.view_is) c.requires) c.send-sent.ensures.others
+    (λ node. subst (λ (k : LaneKind). slice_index s.unanswered node ≡ slice_index s.unanswered node + adds_one k c.args.packet.now.target node)
+    (sym c.in-Answers.is) (omega arith))
 
 -- fewer than 255 are owed where a request is sent
-few_there : (old new : EndOf) (unanswered : List ℕ) (kept : KeptOf) (letter : Letter) (e : Event) (to : ℕ) → Remembers old unanswered kept → IsShown new.part → IsSameNode old.part new.part → WasMade old.part e new.part.schedule → May old Requests letter e → to ≡ letter.target → slice_index unanswered to < 255
+few_there : (old new : EndOf) (unanswered : List ℕ) (kept : KeptOf) (letter : Letter) (e : Event) (to : ℕ) → Remembers old unanswered kept → IsShown new.part
+    → IsSameNode old.part new.part → WasMade old.part e new.part.schedule → May old Requests letter e → to ≡ letter.target → slice_index unanswered to < 255
 few_there old new unanswered kept letter e to r t same was m is =
     let lt : to < nodes_in old.part = subst (λ (n : ℕ). n < nodes_in old.part) (sym is) m.target in
     let owes = owing_sent old new unanswered kept Requests m.next letter e r (made_post old new e r.shown t same was) m.own m.side_is to lt in
-    let few = subst (λ (n : ℕ). owed (state_of new.part) n to ≤ 9) same.me (few_owed new to t (subst (λ (n : ℕ). to < n) (sym (ap (λ (z : Size). z.nodes) same.sized)) lt)) in
+    let few = subst (λ (n : ℕ). owed (state_of new.part) n to ≤ 9) same.me
+    (few_owed new to t (subst (λ (n : ℕ). to < n) (sym (ap (λ (z : Size). z.nodes) same.sized)) lt)) in
     omega arith
 
 pub asked-requires-clause-few : goal.asked-requires-clause-few
 asked-requires-clause-few c =
     let s = c.self.inside in
-    few_there s.end c.send-sent.new.end s.unanswered s.kept (letter_of c.args.packet.now) c.args.event.now c.target_of-to.result c.self.invariant c.node-node.ensures.shown c.send-sent.ensures.same.node (c.in_ok-sent.ensures.made c.if-not-branch.false)
-    (subst (λ (k : LaneKind). May s.end k (letter_of c.args.packet.now) c.args.event.now) c.in-Requests.is (may c.args.self.now s.end c.args.kind (letter_of c.args.packet.now) c.args.event.now c.self.invariant.shown (ap (λ (p : StationPostOf). p.end) c.self.view_is) c.requires)) c.target_of-to.ensures
+    few_there s.end c.send-sent.new.end s.unanswered s.kept (letter_of c.args.packet.now) c.args.event.now c.target_of-to.result c.self.invariant
+    c.node-node.ensures.shown c.send-sent.ensures.same.node (c.in_ok-sent.ensures.made c.if-not-branch.false)
+    (subst (λ (k : LaneKind). May s.end k (letter_of c.args.packet.now) c.args.event.now) c.in-Requests.is
+    (may c.args.self.now s.end c.args.kind (letter_of c.args.packet.now) c.args.event.now c.self.invariant.shown
+    (ap (λ (p : StationPostOf). p.end) c.self.view_is) c.requires)) c.target_of-to.ensures
 
 pub invariant_of-self-in-Requests : goal.invariant_of-self-in-Requests
 invariant_of-self-in-Requests c =
     let s = c.self.inside in
-    sent s.end c.send-sent.new.end s.unanswered c.asked.new.self s.kept c.args.kind (letter_of c.args.packet.now) c.args.event.now c.self.invariant c.node-node.ensures.shown c.send-sent.ensures.same.node (c.in_ok-sent.ensures.made c.if-not-branch.false) (may c.args.self.now s.end c.args.kind (letter_of c.args.packet.now) c.args.event.now c.self.invariant.shown (ap (λ (p : StationPostOf). p.end) c.self.view_is) c.requires) c.send-sent.ensures.others
-    (λ node. subst (λ (k : LaneKind). slice_index c.asked.new.self node ≡ slice_index s.unanswered node + adds_one k c.args.packet.now.target node) (sym c.in-Requests.is) (one_more c.asked.new.self s.unanswered c.target_of-to.result c.args.packet.now.target node c.target_of-to.ensures c.asked.ensures.here (c.asked.ensures.others node)))
+    sent s.end c.send-sent.new.end s.unanswered c.asked.new.self s.kept c.args.kind (letter_of c.args.packet.now) c.args.event.now c.self.invariant
+    c.node-node.ensures.shown c.send-sent.ensures.same.node (c.in_ok-sent.ensures.made c.if-not-branch.false)
+    (may c.args.self.now s.end c.args.kind (letter_of c.args.packet.now) c.args.event.now c.self.invariant.shown
+    (ap (λ (p : StationPostOf). p.end) c.self.view_is) c.requires) c.send-sent.ensures.others
+    (λ node. subst (λ (k : LaneKind). slice_index c.asked.new.self node ≡ slice_index s.unanswered node + adds_one k c.args.packet.now.target node)
+    (sym c.in-Requests.is) (one_more c.asked.new.self s.unanswered c.target_of-to.result c.args.packet.now.target node c.target_of-to.ensures
+    c.asked.ensures.here (c.asked.ensures.others node)))
   where
-    one_more : (counts unanswered : List ℕ) (to target node : ℕ) → to ≡ target → slice_index counts to ≡ slice_index unanswered to + 1 → (node ≢ to → slice_index counts node ≡ slice_index unanswered node) → slice_index counts node ≡ slice_index unanswered node + one_if (target == node)
+    one_more : (counts unanswered : List ℕ) (to target node : ℕ) → to ≡ target → slice_index counts to ≡ slice_index unanswered to + 1
+        → (node ≢ to → slice_index counts node ≡ slice_index unanswered node) → slice_index counts node ≡ slice_index unanswered node + one_if (target == node)
     one_more counts unanswered to target node is here others =
         elim (cases_eq target node) [
-          | inl same ↦ (let one = ap one_if (eq-eqb target node same) in let there : slice_index counts node ≡ slice_index unanswered node + 1 = subst (λ (j : ℕ). slice_index counts j ≡ slice_index unanswered j + 1) (is ∙ same) here in omega arith)
+          | inl same ↦ (let one = ap one_if (eq-eqb target node same) in
+              let there : slice_index counts node ≡ slice_index unanswered node + 1 =
+              subst (λ (j : ℕ). slice_index counts j ≡ slice_index unanswered j + 1) (is ∙ same) here in omega arith)
           | inr apart ↦ (let one = ap one_if (ne_eqb target node apart) in let there = others (λ e. apart (sym (e ∙ is))) in omega arith)
         ]
 
@@ -110,10 +144,14 @@ pub returns-in-Answers-clause-sent : goal.returns-in-Answers-clause-sent
 returns-in-Answers-clause-sent c = λ _.
     let s = c.self.inside in
     let new = c.send-sent.new.end in
-    subst (λ (p : StationPostOf). IsMade (post_of p.end) c.args.event.now (post_of new)) c.self.view_is (made_post s.end new c.args.event.now c.self.invariant.shown c.node-node.ensures.shown c.send-sent.ensures.same.node (c.in_ok-sent.ensures.made c.if-not-branch.false))
+    subst (λ (p : StationPostOf). IsMade (post_of p.end) c.args.event.now (post_of new)) c.self.view_is
+    (made_post s.end new c.args.event.now c.self.invariant.shown c.node-node.ensures.shown c.send-sent.ensures.same.node
+    (c.in_ok-sent.ensures.made c.if-not-branch.false))
 
 pub returns-in-Requests-clause-sent : goal.returns-in-Requests-clause-sent
 returns-in-Requests-clause-sent c = λ _.
     let s = c.self.inside in
     let new = c.send-sent.new.end in
-    subst (λ (p : StationPostOf). IsMade (post_of p.end) c.args.event.now (post_of new)) c.self.view_is (made_post s.end new c.args.event.now c.self.invariant.shown c.node-node.ensures.shown c.send-sent.ensures.same.node (c.in_ok-sent.ensures.made c.if-not-branch.false))
+    subst (λ (p : StationPostOf). IsMade (post_of p.end) c.args.event.now (post_of new)) c.self.view_is
+    (made_post s.end new c.args.event.now c.self.invariant.shown c.node-node.ensures.shown c.send-sent.ensures.same.node
+    (c.in_ok-sent.ensures.made c.if-not-branch.false))

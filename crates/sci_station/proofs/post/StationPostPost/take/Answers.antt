@@ -21,10 +21,12 @@ use Rattle.sci_station.proofs.Stills.{free_others, next_same}
 use Rattle.sci_station.proofs.post.StationPostPost.take.Goals as goal
 
 pub returns-in_err-spend-clause-cut : goal.returns-in_err-spend-clause-cut
-returns-in_err-spend-clause-cut c = λ _. subst (λ (p : StationPostOf). IsStill (post_of p.end) (post_of c.self.inside.end)) c.self.view_is (still_itself (post_of c.self.inside.end))
+returns-in_err-spend-clause-cut c =
+    λ _. subst (λ (p : StationPostOf). IsStill (post_of p.end) (post_of c.self.inside.end)) c.self.view_is (still_itself (post_of c.self.inside.end))
 
 -- the cell from which the node takes next is the one that was read
-cell_read : (end : EndOf) (kept : KeptOf) (kind : LaneKind) (from : ℕ) (cell : CellId) → (read : IsRead end kept kind from) → IsNextToTake end.part cell → cell.kind ≡ kind → cell.sender ≡ from → read.cell ≡ cell
+cell_read : (end : EndOf) (kept : KeptOf) (kind : LaneKind) (from : ℕ) (cell : CellId) → (read : IsRead end kept kind from) → IsNextToTake end.part cell
+    → cell.kind ≡ kind → cell.sender ≡ from → read.cell ≡ cell
 cell_read end kept kind from cell read next k f = sym (next_same end.part cell read.cell next read.read.next (k ∙ sym read.kind_is) (f ∙ sym read.sender_is))
 
 pub free-requires-clause-may : goal.free-requires-clause-may
@@ -33,33 +35,45 @@ free-requires-clause-may c =
     let is = c.self.view_is in
     let read = subst (λ (p : StationPostOf). IsRead p.end p.kept c.args.kind c.args.from) (sym is) c.requires.sees in
     let cell = c.next_to_take-cell in
-    subst (λ (k : CellId). MayFree end.part k c.args.event.now) (cell_read end c.self.inside.kept c.args.kind c.args.from cell.result read cell.ensures.next cell.ensures.cell.0 cell.ensures.cell.1)
-    (may_free end read.cell read.packet c.args.kind c.args.from c.args.event.now read.read read.kind_is read.sender_is (subst (λ (p : StationPostOf). MayTakeFront (post_of p.end) c.args.kind c.args.from c.args.event.now) (sym is) c.requires.may))
+    subst (λ (k : CellId). MayFree end.part k c.args.event.now)
+    (cell_read end c.self.inside.kept c.args.kind c.args.from cell.result read cell.ensures.next cell.ensures.cell.0 cell.ensures.cell.1)
+    (may_free end read.cell read.packet c.args.kind c.args.from c.args.event.now read.read read.kind_is read.sender_is
+    (subst (λ (p : StationPostOf). MayTakeFront (post_of p.end) c.args.kind c.args.from c.args.event.now) (sym is) c.requires.may))
 
 -- what is remembered after a packet was taken
-took : (old new : EndOf) (unanswered counts : List ℕ) (before kept : KeptOf) (kind : LaneKind) (from : ℕ) (cell : CellId) (e : Event) → Remembers old unanswered kept → IsRead old before kind from → IsShown new.part → IsSameNode old.part new.part → WasMade old.part e new.part.schedule
-    → MayTakeFront (post_of old) kind from e → IsNextToTake old.part cell → cell.kind ≡ kind → cell.sender ≡ from → new ≡ informed_at new.part.schedule (freed_at cell new.part.node old) → is_kept kept kind from ≡ false
+took : (old new : EndOf) (unanswered counts : List ℕ) (before kept : KeptOf) (kind : LaneKind) (from : ℕ) (cell : CellId) (e : Event)
+    → Remembers old unanswered kept → IsRead old before kind from → IsShown new.part → IsSameNode old.part new.part → WasMade old.part e new.part.schedule
+    → MayTakeFront (post_of old) kind from e → IsNextToTake old.part cell → cell.kind ≡ kind → cell.sender ≡ from
+    → new ≡ informed_at new.part.schedule (freed_at cell new.part.node old) → is_kept kept kind from ≡ false
     → ((node : ℕ) → slice_index counts node + takes_one kind from node ≡ slice_index unanswered node) → Remembers new counts kept
 took old new unanswered counts before kept kind from cell e r read t same was may next k f is none counted =
     let take = may.1 in
     remembers_taken old new unanswered counts kept kind from take.taking e r t same (made_post old new e r.shown t same was) take.own
     (ap (λ (n : NodeOf). side n e) (sym (node_there old.part r.shown)) ∙ take.side_is) (sender_there old before kind from read) none
-    (subst (λ (l : ℕ). LeavesOthers l old.part new.part) (λ i. lane_place (nodes_in old.part) (k i) (f i) (next.mine i)) (free_others old new cell new.part.node is)) counted
+    (subst (λ (l : ℕ). LeavesOthers l old.part new.part) (λ i. lane_place (nodes_in old.part) (k i) (f i) (next.mine i))
+    (free_others old new cell new.part.node is)) counted
 
 pub invariant_of-self-in-Answers : goal.invariant_of-self-in-Answers
 invariant_of-self-in-Answers c =
     let s = c.self.inside in
     let is = c.self.view_is in
     let cell = c.next_to_take-cell in
-    took s.end c.free.new.self s.unanswered c.accepted.new.self s.kept s.kept c.args.kind c.args.from cell.result c.args.event.now c.self.invariant (subst (λ (p : StationPostOf). IsRead p.end p.kept c.args.kind c.args.from) (sym is) c.requires.sees)
-    c.free.ensures.shown c.free.ensures.same c.free.ensures.oldest.made (subst (λ (p : StationPostOf). MayTakeFront (post_of p.end) c.args.kind c.args.from c.args.event.now) (sym is) c.requires.may) cell.ensures.next cell.ensures.cell.0 cell.ensures.cell.1 c.free.ensures.part
+    took s.end c.free.new.self s.unanswered c.accepted.new.self s.kept s.kept c.args.kind c.args.from cell.result c.args.event.now c.self.invariant
+    (subst (λ (p : StationPostOf). IsRead p.end p.kept c.args.kind c.args.from) (sym is) c.requires.sees)
+    c.free.ensures.shown c.free.ensures.same c.free.ensures.oldest.made
+    (subst (λ (p : StationPostOf). MayTakeFront (post_of p.end) c.args.kind c.args.from c.args.event.now) (sym is) c.requires.may) cell.ensures.next
+    cell.ensures.cell.0 cell.ensures.cell.1 c.free.ensures.part
     (ap (λ (k : LaneKind). is_kept s.kept k c.args.from) c.in-Answers.is)
-    (λ node. subst (λ (k : LaneKind). slice_index c.accepted.new.self node + takes_one k c.args.from node ≡ slice_index s.unanswered node) (sym c.in-Answers.is) (one_less c.accepted.new.self s.unanswered c.args.from node c.accepted.ensures.here (c.accepted.ensures.others node)))
+    (λ node. subst (λ (k : LaneKind). slice_index c.accepted.new.self node + takes_one k c.args.from node ≡ slice_index s.unanswered node) (sym c.in-Answers.is)
+    (one_less c.accepted.new.self s.unanswered c.args.from node c.accepted.ensures.here (c.accepted.ensures.others node)))
   where
-    one_less : (counts unanswered : List ℕ) (from node : ℕ) → slice_index counts from + 1 ≡ slice_index unanswered from → (node ≢ from → slice_index counts node ≡ slice_index unanswered node) → slice_index counts node + one_if (from == node) ≡ slice_index unanswered node
+    one_less : (counts unanswered : List ℕ) (from node : ℕ) → slice_index counts from + 1 ≡ slice_index unanswered from
+        → (node ≢ from → slice_index counts node ≡ slice_index unanswered node) → slice_index counts node + one_if (from == node) ≡ slice_index unanswered node
     one_less counts unanswered from node here others =
         elim (cases_eq from node) [
-          | inl same ↦ (let one = ap one_if (eq-eqb from node same) in let there : slice_index counts node + 1 ≡ slice_index unanswered node = subst (λ (j : ℕ). slice_index counts j + 1 ≡ slice_index unanswered j) same here in omega arith)
+          | inl same ↦ (let one = ap one_if (eq-eqb from node same) in
+              let there : slice_index counts node + 1 ≡ slice_index unanswered node =
+              subst (λ (j : ℕ). slice_index counts j + 1 ≡ slice_index unanswered j) same here in omega arith)
           | inr apart ↦ (let one = ap one_if (ne_eqb from node apart) in let there = others (λ e. apart (sym e)) in omega arith)
         ]
 
@@ -71,31 +85,46 @@ invariant_of-self-in-Requests c =
     let new = c.free.new.self in
     let after : KeptOf = record s.kept { marks = set s.kept.marks c.args.from false } in
     subst (λ (k : KeptOf). Remembers new s.unanswered k) (sym c.request_taken.ensures)
-    (took s.end new s.unanswered s.unanswered s.kept after c.args.kind c.args.from cell.result c.args.event.now (remembers_no_more s.end s.unanswered s.kept c.args.from c.self.invariant) (subst (λ (p : StationPostOf). IsRead p.end p.kept c.args.kind c.args.from) (sym is) c.requires.sees)
-    c.free.ensures.shown c.free.ensures.same c.free.ensures.oldest.made (subst (λ (p : StationPostOf). MayTakeFront (post_of p.end) c.args.kind c.args.from c.args.event.now) (sym is) c.requires.may) cell.ensures.next cell.ensures.cell.0 cell.ensures.cell.1 c.free.ensures.part
+    (took s.end new s.unanswered s.unanswered s.kept after c.args.kind c.args.from cell.result c.args.event.now
+    (remembers_no_more s.end s.unanswered s.kept c.args.from c.self.invariant)
+    (subst (λ (p : StationPostOf). IsRead p.end p.kept c.args.kind c.args.from) (sym is) c.requires.sees)
+    c.free.ensures.shown c.free.ensures.same c.free.ensures.oldest.made
+    (subst (λ (p : StationPostOf). MayTakeFront (post_of p.end) c.args.kind c.args.from c.args.event.now) (sym is) c.requires.may) cell.ensures.next
+    cell.ensures.cell.0 cell.ensures.cell.1 c.free.ensures.part
     (subst (λ (k : LaneKind). is_kept after k c.args.from ≡ false) (sym c.in-Requests.is) (none_kept s.kept c.args.from))
-    (λ node. subst (λ (k : LaneKind). slice_index s.unanswered node + takes_one k c.args.from node ≡ slice_index s.unanswered node) (sym c.in-Requests.is) (omega arith)))
+    (λ node. subst (λ (k : LaneKind). slice_index s.unanswered node + takes_one k c.args.from node ≡ slice_index s.unanswered node) (sym c.in-Requests.is)
+    (omega arith)))
 
 -- the packet that was taken
-took_front : (x : StationPostOf) (old new : EndOf) (kept : KeptOf) (kind : LaneKind) (from : ℕ) (cell : CellId) (e : Event) (letter : Letter) → old ≡ x.end → IsRead old kept kind from → IsShown new.part → IsSameNode old.part new.part → MayTakeFront (post_of old) kind from e
-    → IsNextToTake old.part cell → cell.kind ≡ kind → cell.sender ≡ from → WasTaken old.part (lane_at_cell old.part cell) e new.part.schedule → IsFront (post_of x.end) kind from letter → IsTaken (post_of x.end) kind from letter e (post_of new)
+took_front : (x : StationPostOf) (old new : EndOf) (kept : KeptOf) (kind : LaneKind) (from : ℕ) (cell : CellId) (e : Event) (letter : Letter) → old ≡ x.end
+    → IsRead old kept kind from → IsShown new.part → IsSameNode old.part new.part → MayTakeFront (post_of old) kind from e
+    → IsNextToTake old.part cell → cell.kind ≡ kind → cell.sender ≡ from → WasTaken old.part (lane_at_cell old.part cell) e new.part.schedule
+    → IsFront (post_of x.end) kind from letter → IsTaken (post_of x.end) kind from letter e (post_of new)
 took_front x old new kept kind from cell e letter is read t same may next k f was front =
     let there = cell_read old kept kind from cell read next k f in
     subst (λ (end : EndOf). IsTaken (post_of end) kind from letter e (post_of new)) is
-    (taken_post old new read.cell read.packet kind from e letter t same read.read read.kind_is read.sender_is may (subst (λ (k : CellId). WasTaken old.part (lane_at_cell old.part k) e new.part.schedule) (sym there) was) (subst (λ (end : EndOf). IsFront (post_of end) kind from letter) (sym is) front))
+    (taken_post old new read.cell read.packet kind from e letter t same read.read read.kind_is read.sender_is may
+    (subst (λ (k : CellId). WasTaken old.part (lane_at_cell old.part k) e new.part.schedule) (sym there) was)
+    (subst (λ (end : EndOf). IsFront (post_of end) kind from letter) (sym is) front))
 
 pub returns-in-Answers-clause-taken : goal.returns-in-Answers-clause-taken
 returns-in-Answers-clause-taken c = λ letter front.
     let s = c.self.inside in
     let is = c.self.view_is in
     let cell = c.next_to_take-cell in
-    took_front c.args.self.now s.end c.free.new.self s.kept c.args.kind c.args.from cell.result c.args.event.now letter (ap (λ (p : StationPostOf). p.end) is) (subst (λ (p : StationPostOf). IsRead p.end p.kept c.args.kind c.args.from) (sym is) c.requires.sees)
-    c.free.ensures.shown c.free.ensures.same (subst (λ (p : StationPostOf). MayTakeFront (post_of p.end) c.args.kind c.args.from c.args.event.now) (sym is) c.requires.may) cell.ensures.next cell.ensures.cell.0 cell.ensures.cell.1 c.free.ensures.oldest front
+    took_front c.args.self.now s.end c.free.new.self s.kept c.args.kind c.args.from cell.result c.args.event.now letter (ap (λ (p : StationPostOf). p.end) is)
+    (subst (λ (p : StationPostOf). IsRead p.end p.kept c.args.kind c.args.from) (sym is) c.requires.sees)
+    c.free.ensures.shown c.free.ensures.same
+    (subst (λ (p : StationPostOf). MayTakeFront (post_of p.end) c.args.kind c.args.from c.args.event.now) (sym is) c.requires.may) cell.ensures.next
+    cell.ensures.cell.0 cell.ensures.cell.1 c.free.ensures.oldest front
 
 pub returns-in-Requests-clause-taken : goal.returns-in-Requests-clause-taken
 returns-in-Requests-clause-taken c = λ letter front.
     let s = c.self.inside in
     let is = c.self.view_is in
     let cell = c.next_to_take-cell in
-    took_front c.args.self.now s.end c.free.new.self s.kept c.args.kind c.args.from cell.result c.args.event.now letter (ap (λ (p : StationPostOf). p.end) is) (subst (λ (p : StationPostOf). IsRead p.end p.kept c.args.kind c.args.from) (sym is) c.requires.sees)
-    c.free.ensures.shown c.free.ensures.same (subst (λ (p : StationPostOf). MayTakeFront (post_of p.end) c.args.kind c.args.from c.args.event.now) (sym is) c.requires.may) cell.ensures.next cell.ensures.cell.0 cell.ensures.cell.1 c.free.ensures.oldest front
+    took_front c.args.self.now s.end c.free.new.self s.kept c.args.kind c.args.from cell.result c.args.event.now letter (ap (λ (p : StationPostOf). p.end) is)
+    (subst (λ (p : StationPostOf). IsRead p.end p.kept c.args.kind c.args.from) (sym is) c.requires.sees)
+    c.free.ensures.shown c.free.ensures.same
+    (subst (λ (p : StationPostOf). MayTakeFront (post_of p.end) c.args.kind c.args.from c.args.event.now) (sym is) c.requires.may) cell.ensures.next
+    cell.ensures.cell.0 cell.ensures.cell.1 c.free.ensures.oldest front

@@ -11,7 +11,8 @@ use Rattle.sci_station.proofs.Posts.{node_there}
 use Rattle.sci_station.proofs.station.Station.turn_within.Goals as goal
 
 -- the node of an end that is a post is the end's
-turned_so : (R : NodeOf → NodeOf → Type 0) (inside now : StationOf) (before : StationPostOf) (new : EndOf) → inside ≡ now → before.end ≡ inside.end → IsShown before.end.part → IsShown new.part
+turned_so : (R : NodeOf → NodeOf → Type 0) (inside now : StationOf) (before : StationPostOf) (new : EndOf) → inside ≡ now → before.end ≡ inside.end
+    → IsShown before.end.part → IsShown new.part
     → R (node_at_post (post_of before.end)) (node_at_post (post_of new)) → R now.end.part.node new.part.node
 turned_so R inside now before new view same s t is =
     subst (λ (x : StationOf). R x.end.part.node new.part.node) view
@@ -20,10 +21,14 @@ turned_so R inside now before new view same s t is =
     (subst (λ (m : NodeOf). R (node_at_post (post_of before.end)) m) (node_there new.part t) is)))
 
 pub returns-clause-ready : goal.returns-clause-ready
-returns-clause-ready c = let new = c.take_turn-ended.new.post.end in subst (λ (m : NodeOf). MayPerform m c.take_turn-ended.new.progress.ready) (node_there new.part c.left.ensures.shown) c.take_turn-ended.ensures.ready
+returns-clause-ready c = let new = c.take_turn-ended.new.post.end in
+    subst (λ (m : NodeOf). MayPerform m c.take_turn-ended.new.progress.ready) (node_there new.part c.left.ensures.shown) c.take_turn-ended.ensures.ready
 
 pub returns-clause-node : goal.returns-clause-node
-returns-clause-node c = turned_so (λ (x y : NodeOf). IsNodeTurn x y c.take_turn-ended.new.progress) _ c.args.self.now c.allow.new.self c.take_turn-ended.new.post.end c.self.view_is (ap (λ (p : StationPostOf). p.end) c.allow.ensures.allowed) c.allow.ensures.shown c.left.ensures.shown c.take_turn-ended.ensures.node
+returns-clause-node c = turned_so (λ (x y : NodeOf). IsNodeTurn x y c.take_turn-ended.new.progress) _ c.args.self.now c.allow.new.self
+    c.take_turn-ended.new.post.end c.self.view_is (ap (λ (p : StationPostOf). p.end) c.allow.ensures.allowed) c.allow.ensures.shown c.left.ensures.shown
+    c.take_turn-ended.ensures.node
 
 pub returns-clause-work : goal.returns-clause-work
-returns-clause-work c = turned_so HasSameWork _ c.args.self.now c.allow.new.self c.take_turn-ended.new.post.end c.self.view_is (ap (λ (p : StationPostOf). p.end) c.allow.ensures.allowed) c.allow.ensures.shown c.left.ensures.shown c.take_turn-ended.ensures.work
+returns-clause-work c = turned_so HasSameWork _ c.args.self.now c.allow.new.self c.take_turn-ended.new.post.end c.self.view_is
+    (ap (λ (p : StationPostOf). p.end) c.allow.ensures.allowed) c.allow.ensures.shown c.left.ensures.shown c.take_turn-ended.ensures.work

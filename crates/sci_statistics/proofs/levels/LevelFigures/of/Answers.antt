@@ -13,4 +13,6 @@ loop-it-preserved c =
     let within : i < length passages = omega (arith, test) in
     let up = flagged c.from-begun.result c.begins.result _ c.from-begun.ensures c.begins.ensures in
     let down = flagged c.from-ended.result c.ends.result _ c.from-ended.ensures c.ends.ensures in
-    rises_more c.args.level passages i d c.loop-it.begun c.loop-it.ended c.loop-it.figures.greatest c.loop-it.figures.total c.from-begun.result c.from-ended.result c.saturating_sub-there.result c.max.result within c.requires up down c.saturating_sub-there.ensures c.max.ensures c.loop-it.invariant
+    rises_more c.args.level passages i d c.loop-it.begun c.loop-it.ended c.loop-it.figures.greatest c.loop-it.figures.total c.from-begun.result
+    c.from-ended.result c.saturating_sub-there.result c.max.result within c.requires up down c.saturating_sub-there.ensures c.max.ensures
+    c.loop-it.invariant

@@ -14,4 +14,9 @@ pub returns-clause-short : goal.returns-clause-short
 returns-clause-short c =
     let start = c.self.inside.start in
     let short : length (decimal c.args.n) ≤ 20 = search (rules, length-decimal-le 20) in
-    omega (arith, ap length c.self.view_is, ap length c.write_digits-self-inside.ensures.written, length-append (decimal c.args.n) (drop start c.self.inside.bytes))
+    omega (
+      arith,
+      ap length c.self.view_is,
+      ap length c.write_digits-self-inside.ensures.written,
+      length-append (decimal c.args.n) (drop start c.self.inside.bytes),
+    )

@@ -4,14 +4,17 @@ use Rattle.sci_text.proofs.ScriptLimits.{is_script_inside, within_push, counts_p
 use Rattle.sci_text.proofs.script.Script.push.Goals as goal
 
 pub returns-then-not-is_within-clause-good : goal.returns-then-not-is_within-clause-good
-returns-then-not-is_within-clause-good c = subst IsScript c.self.view_is (is_script_inside c.self.inside.extent c.self.inside.counts c.self.inside.operations.items c.self.invariant)
+returns-then-not-is_within-clause-good c =
+    subst IsScript c.self.view_is (is_script_inside c.self.inside.extent c.self.inside.counts c.self.inside.operations.items c.self.invariant)
 
 pub returns-then-self-place-ge-MAX_OPERATIONS-clause-good :
     goal.returns-then-self-place-ge-MAX_OPERATIONS-clause-good
-returns-then-self-place-ge-MAX_OPERATIONS-clause-good c = subst IsScript c.self.view_is (is_script_inside c.self.inside.extent c.self.inside.counts c.self.inside.operations.items c.self.invariant)
+returns-then-self-place-ge-MAX_OPERATIONS-clause-good c =
+    subst IsScript c.self.view_is (is_script_inside c.self.inside.extent c.self.inside.counts c.self.inside.operations.items c.self.invariant)
 
 pub returns-in_default-clause-good : goal.returns-in_default-clause-good
-returns-in_default-clause-good c = rw c.in_default.ensures.items (is_script_inside c.self.inside.extent c.self.inside.counts c.self.inside.operations.items c.self.invariant)
+returns-in_default-clause-good c =
+    rw c.in_default.ensures.items (is_script_inside c.self.inside.extent c.self.inside.counts c.self.inside.operations.items c.self.invariant)
 
 pub invariant_of-self-2 : goal.invariant_of-self-2
 invariant_of-self-2 c =
@@ -19,7 +22,8 @@ invariant_of-self-2 c =
     let one : IsWithin extent.nodes extent.lines c.args.node c.args.op = search rules in
     rw c.in-Ok.ensures.items (
       within_push extent.nodes extent.lines c.args.node c.args.op c.self.inside.operations.items c.self.invariant.0 one,
-      counts_push c.self.inside.counts c.args.node c.args.op c.self.inside.operations.items c.self.invariant.1 (omega (arith, one.known_node, extent.few_nodes)) (omega arith),
+      counts_push c.self.inside.counts c.args.node c.args.op c.self.inside.operations.items c.self.invariant.1 (omega (arith, one.known_node, extent.few_nodes))
+          (omega arith),
     )
 
 pub returns-clause-good : goal.returns-clause-good

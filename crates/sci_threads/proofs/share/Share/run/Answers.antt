@@ -8,13 +8,21 @@ pub go_on-requires : goal.go_on-requires
 go_on-requires g c = record { well = c.loop-look.invariant.0 }
 
 pub returns-then-has_ended-clause-gone : goal.returns-then-has_ended-clause-gone
-returns-then-has_ended-clause-gone g c = then_on c.args.self.now.driver c.loop-look.self.driver c.go_on.new.self.driver c.args.self.now.station.end c.loop-look.self.station.end c.go_on.new.self.station.end c.loop-look.invariant.1 c.go_on.ensures.gone
+returns-then-has_ended-clause-gone g c =
+    then_on c.args.self.now.driver c.loop-look.self.driver c.go_on.new.self.driver c.args.self.now.station.end c.loop-look.self.station.end
+    c.go_on.new.self.station.end c.loop-look.invariant.1 c.go_on.ensures.gone
 
 pub returns-then-not-all_begun-clause-gone : goal.returns-then-not-all_begun-clause-gone
-returns-then-not-all_begun-clause-gone g c = then_on c.args.self.now.driver c.loop-look.self.driver c.go_on.new.self.driver c.args.self.now.station.end c.loop-look.self.station.end c.go_on.new.self.station.end c.loop-look.invariant.1 c.go_on.ensures.gone
+returns-then-not-all_begun-clause-gone g c =
+    then_on c.args.self.now.driver c.loop-look.self.driver c.go_on.new.self.driver c.args.self.now.station.end c.loop-look.self.station.end
+    c.go_on.new.self.station.end c.loop-look.invariant.1 c.go_on.ensures.gone
 
 pub loop-look-preserved : goal.loop-look-preserved
-loop-look-preserved g c = (c.go_on.ensures.well, then_on c.args.self.now.driver c.loop-look.self.driver c.go_on.new.self.driver c.args.self.now.station.end c.loop-look.self.station.end c.go_on.new.self.station.end c.loop-look.invariant.1 c.go_on.ensures.gone)
+loop-look-preserved g c = (
+  c.go_on.ensures.well,
+  then_on c.args.self.now.driver c.loop-look.self.driver c.go_on.new.self.driver c.args.self.now.station.end c.loop-look.self.station.end
+      c.go_on.new.self.station.end c.loop-look.invariant.1 c.go_on.ensures.gone,
+)
 
 pub returns-clause-well : goal.returns-clause-well
 returns-clause-well g c = c.loop-look.invariant.0
