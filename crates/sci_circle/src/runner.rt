@@ -5,37 +5,10 @@ ghost use Rattle.sci_words.specs.declared.limits.TheConstants.{MAX_OPERATIONS};
 ghost use Rattle.sci_drive.specs.Driving.{HasSubmittedNothing, IsDriven};
 ghost use Rattle.sci_station.specs.Station.{node_in};
 
-use sci_drive::{Driver, Gate, Issuing, new_drivers_may_drive};
-use sci_history::Entry;
+use sci_drive::{Driver, Issuing, OpenGate, new_drivers_may_drive};
 use sci_station::Station;
 use sci_words::Op;
 use std::alloc::AllocError;
-
-/// Lets each operation be submitted as soon as it can be.
-#[derive(Drop)]
-struct Open;
-
-impl Gate for Open {
-    ghost hears = { λ old calls new. Unit {0} };
-
-    fn may_issue(&mut self, _index: u32) -> bool {
-        true
-    }
-
-    fn answered(&mut self, _entry: &Entry) {}
-
-    fn done(&mut self) {}
-
-    fn all_done(&mut self) -> bool {
-        true
-    }
-
-    fn rest(&mut self) {}
-
-    ghost hears_nothing = { λ x. tt };
-
-    ghost hears_on = { λ x y z calls more first second. tt };
-}
 
 /// A station and the driver that has driven it.
 #[derive(Drop)]
@@ -63,7 +36,7 @@ impl<'a> Runner<'a> {
         requires driven { IsDriven self.old.driver (node_in self.old.station) }
         ensures driven { IsDriven self.new.driver (node_in self.new.station) }
     {
-        let _round = self.driver.round(&mut self.station, &mut Open)?;
+        let _round = self.driver.round(&mut self.station, &mut OpenGate)?;
         Ok(self.driver.is_answered())
     }
 }

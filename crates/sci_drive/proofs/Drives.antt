@@ -19,7 +19,11 @@ use Rattle.sci_drive.specs.Script.{IsLogOf, IsNamedBy, IsWholeLogOf, times_answe
 use Rattle.sci_drive.specs.declared.driver.Issuing.{Issuing}
 use Rattle.sci_drive.specs.Driving.{DriverOf, HasSubmittedNothing, IsAnsweredOrPending, IsAwaited, IsDriven, opening_driver}
 
--- ---- options and counts
+-- ---- equations, options and counts
+
+-- the left side of an equation
+abbrev pub left_of : {A : Type 0} {x y : A} → x ≡ y → A
+left_of {x = x} e = x
 
 pub never_both : {A : Type 0} (o : Option A) (x : A) → o ≡ None → o ≡ Some x → ⊥
 never_both None x e f = cc

@@ -1,5 +1,5 @@
 -- What is asked of a gate, and what it is told, while a worker is driven.
-use Rattle.std.specs.Prelude.{◌≡◌, ◌⊎◌, ◌<◌, ◌≤◌, ◌+◌, ℕ, Bool, true, false, List, [], ◌∷◌, ◌++◌, Option, Some, None, count_by, if◌then◌else◌}
+use Rattle.std.specs.Prelude.{◌≡◌, ◌⊎◌, ◌<◌, ◌≤◌, ◌+◌, ℕ, All, Bool, true, false, List, [], ◌∷◌, ◌++◌, Option, Some, None, count_by, if◌then◌else◌}
 use Rattle.std.specs.List.{Contains, filter_map}
 use Rattle.sci_history.specs.declared.entry.Entry.{Entry}
 use Rattle.sci_core.specs.Node.{NodeOf}
@@ -50,6 +50,18 @@ is_rest Rest = true
 -- how often the gate rests
 abbrev pub times_rested : List Call → ℕ
 times_rested calls = count_by is_rest calls
+
+-- asked whether an operation may be submitted, the gate says that it may
+abbrev pub Allows : Call → Type 0
+Allows (MayIssue index may) = may ≡ true
+Allows (Answered entry) = Unit {0}
+Allows Done = Unit {0}
+Allows (AllDone all) = Unit {0}
+Allows Rest = Unit {0}
+
+-- each operation that the gate is asked about may be submitted
+abbrev pub AllowAll : List Call → Type 0
+AllowAll calls = All Allows calls
 
 -- an entry is told of only after its operation was allowed, by one of these calls or before them
 abbrev pub AreAllowed : ℕ → List Call → Type 0

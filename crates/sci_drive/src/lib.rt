@@ -4,9 +4,11 @@
 mod driver;
 mod gate;
 mod laws;
+mod open_gate;
 mod running;
 
 pub use driver::{Driver, Issuing, Round};
 pub use gate::Gate;
 pub use laws::new_drivers_may_drive;
+pub use open_gate::OpenGate;
 pub use running::{Ran, drive, drive_issuing};

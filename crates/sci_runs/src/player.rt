@@ -7,37 +7,10 @@ ghost use Rattle.sci_runs.specs.Players.{IsAnswered};
 
 use crate::recorder::Recorder;
 use crate::seat::Seat;
-use sci_drive::{Driver, Gate, Issuing};
-use sci_history::Entry;
+use sci_drive::{Driver, Issuing, OpenGate};
 use sci_policy::Policy;
 use sci_words::Op;
 use std::alloc::{AllocError, Global};
-
-/// Lets each operation be submitted as soon as it can be.
-#[derive(Drop)]
-struct Open;
-
-impl Gate for Open {
-    ghost hears = { λ old calls new. Unit {0} };
-
-    fn may_issue(&mut self, _index: u32) -> bool {
-        true
-    }
-
-    fn answered(&mut self, _entry: &Entry) {}
-
-    fn done(&mut self) {}
-
-    fn all_done(&mut self) -> bool {
-        true
-    }
-
-    fn rest(&mut self) {}
-
-    ghost hears_nothing = { λ x. tt };
-
-    ghost hears_on = { λ x y z calls more first second. tt };
-}
 
 /// A node of a run: its policy, and the driver that takes it through its operations.
 #[derive(Drop)]
@@ -100,7 +73,7 @@ impl<'a> Player<'a> {
             policy: &mut self.policy,
             node,
         };
-        self.driver.round(&mut seat, &mut Open)?;
+        self.driver.round(&mut seat, &mut OpenGate)?;
         Ok(())
     }
 }

@@ -11,7 +11,7 @@ use Rattle.sci_drive.specs.Calls.{Answered, IsHeard}
 use Rattle.sci_drive.specs.Driving.{DriverOf, IsDriven, IsInOrder}
 use Rattle.sci_drive.specs.Rounds.{ArePerformed, IsTried}
 use Rattle.sci_drive.proofs.Calls.{answer_call, heard_nothing, heard_on}
-use Rattle.sci_drive.proofs.Drives.{grows, performs}
+use Rattle.sci_drive.proofs.Drives.{grows, left_of, performs}
 use Rattle.sci_drive.proofs.InOrder.{performs_in_order}
 use Rattle.sci_drive.proofs.Rounds.{one_more_performed, tried_on}
 use Rattle.sci_drive.proofs.driver.Driver.perform.Goals as goal
@@ -37,13 +37,7 @@ loop-place-preserved-in-Some g c =
     let here : slice_index_or driver.pending at.place line ≡ line =
     ap (λ (l : List ℕ). slice_index_or l at.place line) (sym c.deref.ensures.0)
     ∙ get_or_default c.deref.result.now at.place line 0 (subst (λ (l : List ℕ). at.place < length l) (sym c.deref.ensures.0) within) in
-    let first : DriverOf = record {
-      script = c.self.inside.script.now;
-      issuing = c.self.inside.issuing;
-      next = c.self.inside.next;
-      pending = c.self.inside.pending.items;
-      was_done = c.self.inside.was_done;
-    } in
+    let first : DriverOf = left_of c.self.view_is in
     let later : DriverOf = record driver { pending = remove driver.pending at.place } in
     let made = performs driver old new at.place line c.in-Some.entry at.invariant.driven logged within here in
     let undone : driver.was_done ≡ true → ⊥ =
@@ -88,13 +82,7 @@ loop-place-preserved-in-Some g c =
 
 pub loop-place-init : goal.loop-place-init
 loop-place-init g c =
-    let first : DriverOf = record {
-      script = c.self.inside.script.now;
-      issuing = c.self.inside.issuing;
-      next = c.self.inside.next;
-      pending = c.self.inside.pending.items;
-      was_done = c.self.inside.was_done;
-    } in
+    let first : DriverOf = left_of c.self.view_is in
     let node = g.W.Worker.node c.args.worker.now in
     record {
       driven = rw c.self.view_is c.requires.driven;
@@ -124,13 +112,7 @@ loop-place-preserved g c =
       pending = at.self-inside.pending.items;
       was_done = at.self-inside.was_done;
     } in
-    let first : DriverOf = record {
-      script = c.self.inside.script.now;
-      issuing = c.self.inside.issuing;
-      next = c.self.inside.next;
-      pending = c.self.inside.pending.items;
-      was_done = c.self.inside.was_done;
-    } in
+    let first : DriverOf = left_of c.self.view_is in
     let start = g.W.Worker.node c.args.worker.now in
     let old = g.W.Worker.node at.worker in
     let new = g.W.Worker.node c.perform.new.self in

@@ -5,7 +5,7 @@ use Rattle.std.specs.declared.alloc.AllocError.{AllocError}
 use Rattle.sci_drive.specs.declared.driver.Round.{Round}
 use Rattle.sci_drive.specs.Driving.{DriverOf, IsDriven, IsInOrder}
 use Rattle.sci_drive.specs.Rounds.{GoesRound}
-use Rattle.sci_drive.proofs.Drives.{tells, turns}
+use Rattle.sci_drive.proofs.Drives.{left_of, tells, turns}
 use Rattle.sci_drive.proofs.InOrder.{tells_in_order, turns_in_order}
 use Rattle.sci_drive.proofs.Rounds.{goes, goes_done}
 use Rattle.sci_drive.proofs.driver.Driver.round.Goals as goal
@@ -45,13 +45,7 @@ returns-then-not-self-clause-order g c = λ was.
 
 pub returns-then-not-self-clause-goes : goal.returns-then-not-self-clause-goes
 returns-then-not-self-clause-goes g c =
-    let driver : DriverOf = record {
-      script = c.self.inside.script.now;
-      issuing = c.self.inside.issuing;
-      next = c.self.inside.next;
-      pending = c.self.inside.pending.items;
-      was_done = c.self.inside.was_done;
-    } in
+    let driver : DriverOf = left_of c.self.view_is in
     let start = g.W.Worker.node c.args.worker.now in
     let node = g.W.Worker.node c.turn.new.self in
     let result : Result Round AllocError = Ok (record { answered = c.perform-answered.result; progress = c.in_ok-progress.progress }) in

@@ -10,20 +10,14 @@ use Rattle.sci_policy.specs.Turn.{submit_fault}
 use Rattle.sci_drive.specs.Calls.{IsHeard, MayIssue}
 use Rattle.sci_drive.specs.Driving.{DriverOf, IsDriven}
 use Rattle.sci_drive.specs.Rounds.{AllSubmitted, IsHeldBack, LineIsTaken, NoRoom, NotAllowed, Refused, Submits, most_pending, next_op}
-use Rattle.sci_drive.proofs.Drives.{submits}
+use Rattle.sci_drive.proofs.Drives.{left_of, submits}
 use Rattle.sci_drive.proofs.Rounds.{asks, holds_back, submits_one}
 use Rattle.sci_drive.proofs.driver.Driver.submit.Goals as goal
 
 -- src/driver.rt:104:5
 pub returns-in-Ok-clause-driven : goal.returns-in-Ok-clause-driven
 returns-in-Ok-clause-driven g c =
-    let driver : DriverOf = record {
-      script = c.self.inside.script.now;
-      issuing = c.self.inside.issuing;
-      next = c.self.inside.next;
-      pending = c.self.inside.pending.items;
-      was_done = c.self.inside.was_done;
-    } in
+    let driver : DriverOf = left_of c.self.view_is in
     let old = g.W.Worker.node c.args.worker.now in
     let new = g.W.Worker.node c.submit.new.self in
     let d : IsDriven driver old = rw c.self.view_is c.requires.driven in
@@ -57,13 +51,7 @@ returns-then-not-has_room-clause-submits g c =
 
 pub returns-in_default-clause-submits : goal.returns-in_default-clause-submits
 returns-in_default-clause-submits g c =
-    let driver : DriverOf = record {
-      script = c.self.inside.script.now;
-      issuing = c.self.inside.issuing;
-      next = c.self.inside.next;
-      pending = c.self.inside.pending.items;
-      was_done = c.self.inside.was_done;
-    } in
+    let driver : DriverOf = left_of c.self.view_is in
     let node = g.W.Worker.node c.args.worker.now in
     let none : next_op driver ≡ None = past driver.script driver.next c.in_default.ensures.lookup.0 in
     holds_back g.G.Gate.hears g.met.G.Gate.hears_nothing c.args.gate.now c.args.self.now node
@@ -71,13 +59,7 @@ returns-in_default-clause-submits g c =
 
 pub returns-then-contains-clause-submits : goal.returns-then-contains-clause-submits
 returns-then-contains-clause-submits g c =
-    let driver : DriverOf = record {
-      script = c.self.inside.script.now;
-      issuing = c.self.inside.issuing;
-      next = c.self.inside.next;
-      pending = c.self.inside.pending.items;
-      was_done = c.self.inside.was_done;
-    } in
+    let driver : DriverOf = left_of c.self.view_is in
     let node = g.W.Worker.node c.args.worker.now in
     let op = c.in-Some.op.now in
     let found = c.in-Some.ensures.lookup in
@@ -90,13 +72,7 @@ returns-then-contains-clause-submits g c =
 
 pub returns-then-not-may_issue-clause-submits : goal.returns-then-not-may_issue-clause-submits
 returns-then-not-may_issue-clause-submits g c =
-    let driver : DriverOf = record {
-      script = c.self.inside.script.now;
-      issuing = c.self.inside.issuing;
-      next = c.self.inside.next;
-      pending = c.self.inside.pending.items;
-      was_done = c.self.inside.was_done;
-    } in
+    let driver : DriverOf = left_of c.self.view_is in
     let node = g.W.Worker.node c.args.worker.now in
     let hears = g.G.Gate.hears in
     let gate = c.args.gate.now in
@@ -107,13 +83,7 @@ returns-then-not-may_issue-clause-submits g c =
 
 pub returns-in-Ok-clause-submits : goal.returns-in-Ok-clause-submits
 returns-in-Ok-clause-submits g c =
-    let driver : DriverOf = record {
-      script = c.self.inside.script.now;
-      issuing = c.self.inside.issuing;
-      next = c.self.inside.next;
-      pending = c.self.inside.pending.items;
-      was_done = c.self.inside.was_done;
-    } in
+    let driver : DriverOf = left_of c.self.view_is in
     let old = g.W.Worker.node c.args.worker.now in
     let new = g.W.Worker.node c.submit.new.self in
     let hears = g.G.Gate.hears in
@@ -144,13 +114,7 @@ has_fault (Err e) (Some f) is told = refl
 
 pub returns-in_default-submit-clause-submits : goal.returns-in_default-submit-clause-submits
 returns-in_default-submit-clause-submits g c =
-    let driver : DriverOf = record {
-      script = c.self.inside.script.now;
-      issuing = c.self.inside.issuing;
-      next = c.self.inside.next;
-      pending = c.self.inside.pending.items;
-      was_done = c.self.inside.was_done;
-    } in
+    let driver : DriverOf = left_of c.self.view_is in
     let old = g.W.Worker.node c.args.worker.now in
     let new = g.W.Worker.node c.submit.new.self in
     let hears = g.G.Gate.hears in
