@@ -2,7 +2,8 @@
 use Rattle.std.proofs.Common.{◌≡◌, ◌≤◌, ◌<◌, ℕ, zero, suc, Bool, true, false, arith, List, [], ◌∷◌, All, length, take, Some, refl, sym, ap, subst, ◌∙◌, inl}
 use Rattle.std.proofs.Common.{inr}
 use Rattle.std.specs.Prelude.{slice_get, slice_index_or}
-use Rattle.sci_words.specs.declared.limits.TheConstants.{MAX_NODES}
+use Rattle.sci_words.specs.declared.limits.TheConstants.{MAX_NODES, MAX_OPERATIONS}
+use Rattle.sci_words.specs.declared.stamped.Stamped.{Stamped}
 use Rattle.sci_words.specs.declared.operation.Op.{Op}
 use Rattle.sci_history.specs.declared.entry.Entry.{Entry}
 use Rattle.sci_history.specs.Placed.{log_of}
@@ -13,6 +14,7 @@ use Rattle.sci_core.specs.Core.{Core, node_at, run}
 use Rattle.sci_core.specs.Node.{NodeOf}
 use Rattle.sci_core.specs.Outcome.{logs_of}
 use Rattle.sci_core.specs.Reached.{IsReached}
+use Rattle.sci_core.specs.Sharing.{last_of}
 use Rattle.sci_core.specs.Size.{Size}
 use Rattle.sci_core.proofs.ReachedLaws.{log_at}
 use Rattle.sci_lanes.specs.Shown.{AreEnabled}
@@ -20,11 +22,12 @@ use Rattle.sci_drive.specs.declared.driver.Issuing.{Issuing}
 use Rattle.sci_drive.specs.Driving.{DriverOf, IsDriven}
 use Rattle.sci_drive.specs.Script.{IsFrontOf, IsLogOf, IsNamedBy, IsWholeLogOf}
 use Rattle.sci_drive.proofs.Drives.{log_of as log_driven, whole_of}
-use Rattle.sci_threads.specs.Shares.{operations_of}
+use Rattle.sci_threads.specs.Shares.{operations_of, size_for}
 use Rattle.sci_threads.proofs.Sharing.{in_order}
 use Rattle.sci_runs.specs.Players.{AreAtWork, IsAnswered, IsAtWork, TableOf}
-use Rattle.sci_runs.specs.Recorded.{HasIssued, HasLed, IsKnown, IsOfSize, issues_at}
-use Rattle.sci_runs.specs.Runs.{IsRunOf, logs_behind}
+use Rattle.sci_runs.specs.Recorded.{HasIssued, HasLed, IsKnown, IsOfSize, issues_at, raised}
+use Rattle.sci_runs.specs.Runs.{IsRunOf, last_behind, logs_behind}
+use Rattle.sci_runs.proofs.Limits.{last_raised, logs_raised}
 
 -- ---- the operations that were issued
 
@@ -68,8 +71,14 @@ module _ (table : TableOf) (schedule : ScheduleValue) (work : AreAtWork table) (
   abbrev core : Core
   core = table.recorder.core
 
+  leads : run (size_for script) schedule.events ≡ raised MAX_OPERATIONS core
+  leads = subst (λ (z : Size). run z schedule.events ≡ raised MAX_OPERATIONS core) work.sized led.leads
+
   behind : logs_behind script schedule ≡ logs_of core
-  behind = ap logs_of (subst (λ (z : Size). run z schedule.events ≡ core) work.sized led.leads)
+  behind = ap logs_of leads ∙ logs_raised MAX_OPERATIONS core
+
+  last_is : last_behind script schedule ≡ last_of core
+  last_is = ap last_of leads ∙ last_raised MAX_OPERATIONS core
 
   nodes_are : core.size.nodes ≡ script.nodes
   nodes_are = ap (λ (z : Size). z.nodes) work.sized
@@ -103,7 +112,8 @@ module _ (table : TableOf) (schedule : ScheduleValue) (work : AreAtWork table) (
   pub is_run : (done : Bool) → (done ≡ true → All IsAnswered table.drivers) → IsRunOf script table.issuing done schedule
   is_run done answered = record {
     good = good;
-    sized = subst (λ (z : Size). IsOfSize z schedule) work.sized sized;
+    sized = subst (λ (z : Size). IsOfSize z schedule) work.sized
+        (record { nodes_are = sized.nodes_are; lines_are = sized.lines_are; slots_are = sized.slots_are });
     enabled = subst (λ (z : Size). AreEnabled z [] schedule.events) work.sized led.enabled;
     issued = issued;
     named = each_log IsLogOf (λ node d lt at. log_driven (slice_index_or table.drivers node d) (node_at core node) at.driven);
@@ -122,6 +132,15 @@ pub run_of : (view table : TableOf) (schedule : ScheduleValue) → view ≡ tabl
 run_of view table schedule is work led reached good sized =
     subst (λ (t : TableOf). (done : Bool) → (done ≡ true → All IsAnswered t.drivers) → IsRunOf t.script t.issuing done schedule) is
     (is_run view schedule work led reached good sized)
+
+-- the logs and the last contents behind the schedule are those of the machine
+pub ends_of : (view table : TableOf) (schedule : ScheduleValue) (logs : List (List Entry)) (last : List Stamped) → view ≡ table → AreAtWork view
+    → HasLed schedule.events view.recorder.core → IsReached view.recorder.core → IsSchedule schedule → IsOfSize view.recorder.core.size schedule
+    → logs ≡ logs_of view.recorder.core → last ≡ last_of view.recorder.core
+    → (logs ≡ logs_behind table.script schedule) × (last ≡ last_behind table.script schedule)
+ends_of view table schedule logs last is work led reached good sized are_logs are_last =
+    subst (λ (t : TableOf). (logs ≡ logs_behind t.script schedule) × (last ≡ last_behind t.script schedule)) is
+    (are_logs ∙ sym (behind view schedule work led reached good sized), are_last ∙ sym (last_is view schedule work led reached good sized))
 
 -- a run that is done, or not
 pub run_if : (own : ScriptValue) (issuing : Issuing) (drivers : List DriverOf) (schedule : ScheduleValue) (done : Bool) → (done ≡ true → All IsAnswered drivers)

@@ -6,7 +6,7 @@ use Rattle.std.proofs.lemmas.List.{append-nil}
 use Rattle.std.proofs.Common.{append_assoc}
 use Rattle.sci_words.specs.declared.event.AskKind.{AskKind}
 use Rattle.sci_words.specs.declared.extent.Extent.{Extent}
-use Rattle.sci_words.specs.declared.limits.TheConstants.{WORDS_PER_LINE}
+use Rattle.sci_words.specs.declared.limits.TheConstants.{MAX_OPERATIONS, WORDS_PER_LINE}
 use Rattle.sci_cache.specs.Cache.{Letter}
 use Rattle.sci_words.specs.declared.event.Event.{Event}
 use Rattle.sci_words.specs.declared.event.Event.TheVariants as event
@@ -33,8 +33,9 @@ use Rattle.sci_lanes.proofs.Events.{run_further}
 use Rattle.sci_lanes.proofs.Opening.{node_opened}
 use Rattle.sci_runs.proofs.Steps.{perform_makes}
 use Rattle.sci_runs.specs.declared.fault.RunFault.{RunFault}
-use Rattle.sci_runs.specs.Recorded.{HasIssued, HasLed, IsOfSize, IsRecorder, IsSameSize}
+use Rattle.sci_runs.specs.Recorded.{HasIssued, HasLed, IsOfSize, IsRecorder, IsSameSize, raised, with_limit}
 use Rattle.sci_runs.proofs.Issues.{issues_on}
+use Rattle.sci_runs.proofs.Limits.{opening_raised, stepping_raised}
 
 -- ---- an event that is enabled is one of the machine's
 
@@ -117,10 +118,15 @@ enabled_more size known (x ∷ xs) e all one =
 pub led_more : (events : List Event) (core new : Core) (e : Event) → IsReached core → stepping core e ≡ Some new → new.size ≡ core.size → HasLed events core
     → HasLed (events ++ e ∷ []) new
 led_more events core new e reached steps size led =
-    let enabled : IsEnabled (run core.size events) e = subst (λ (o : Core). IsEnabled o e) (sym led.leads) (subst IsSome (sym steps) refl) in
+    let most = with_limit MAX_OPERATIONS core.size in
+    let steps_too : stepping (raised MAX_OPERATIONS core) e ≡ Some (raised MAX_OPERATIONS new) =
+    stepping_raised MAX_OPERATIONS core new e reached.size.few_operations (reached_well core reached) steps in
+    let enabled : IsEnabled (run most events) e = subst (λ (o : Core). IsEnabled o e) (sym led.leads) (subst IsSome (sym steps_too) refl) in
+    let same : with_limit MAX_OPERATIONS new.size ≡ most = ap (with_limit MAX_OPERATIONS) size in
     record {
-      leads = subst (λ (z : Size). run z (events ++ e ∷ []) ≡ new) (sym size) (run_further core.size events core new e led.leads steps);
-      enabled = subst (λ (z : Size). AreEnabled z [] (events ++ e ∷ [])) (sym size) (enabled_more core.size [] events e led.enabled enabled);
+      leads = subst (λ (z : Size). run z (events ++ e ∷ []) ≡ raised MAX_OPERATIONS new) (sym same)
+          (run_further most events (raised MAX_OPERATIONS core) (raised MAX_OPERATIONS new) e led.leads steps_too);
+      enabled = subst (λ (z : Size). AreEnabled z [] (events ++ e ∷ [])) (sym same) (enabled_more most [] events e led.enabled enabled);
       issued = λ n lt.
           let some : n < core.size.nodes = subst (λ (z : Size). n < z.nodes) size lt in
           issues_on core new e n events reached some steps (led.issued n some);
@@ -133,7 +139,7 @@ none_issued node zero_ = record { counted = sym zero_; each = λ serial op at. c
 
 pub led_opening : (size : Size) → HasLed [] (opening size)
 led_opening size = record {
-  leads = refl;
+  leads = opening_raised MAX_OPERATIONS size;
   enabled = tt;
   issued = λ n lt. none_issued (node_at (opening size) n) (ap (λ (node : NodeOf). node.issued) (node_opened size n lt));
 }

@@ -18,7 +18,7 @@ use Rattle.sci_drive.proofs.InOrder.{opens_in_order}
 use Rattle.sci_threads.specs.Shares.{operations_of}
 use Rattle.sci_threads.proofs.Sharing.{opened_fresh, sized_for}
 use Rattle.sci_runs.specs.Players.{AreAtWork, IsAtWork, TableOf}
-use Rattle.sci_runs.specs.Recorded.{RecorderOf, SparesOthers}
+use Rattle.sci_runs.specs.Recorded.{RecorderOf, SparesOthers, with_limit}
 
 -- ---- a new machine
 
@@ -42,15 +42,15 @@ opened_work s issuing n node fresh = record {
       (opens_in_order (operations_of n s.operations) node fresh);
 }
 
-pub all_opened : {Z : Type 0} (s : ScriptValue) (issuing : Issuing) (recorder : RecorderOf) (extent : Extent) (all : List (Vec Op Z)) (drivers : List DriverOf)
-    → recorder.core ≡ opening (size_of extent MAX_OPERATIONS)
+pub all_opened : {Z : Type 0} (s : ScriptValue) (issuing : Issuing) (recorder : RecorderOf) (extent : Extent) (limit : ℕ) (all : List (Vec Op Z))
+    (drivers : List DriverOf) → recorder.core ≡ opening (size_of extent limit)
     → extent.nodes ≡ s.nodes → extent.lines ≡ s.lines → extent.slots ≡ s.slots → length all ≡ s.nodes
     → ((k : ℕ) (own : Vec Op Z) → k < s.nodes → (slice_index_or all k own).items ≡ operations_of k s.operations)
     → drivers ≡ map (λ own. opening_driver own.items issuing) all → AreAtWork (record { script = s; issuing = issuing; recorder = recorder; drivers = drivers })
-all_opened s issuing recorder extent all drivers opens nodes lines slots long each is =
-    let size = size_of extent MAX_OPERATIONS in
+all_opened s issuing recorder extent limit all drivers opens nodes lines slots long each is =
+    let size = size_of extent limit in
     record {
-      sized = ap (λ (core : Core). core.size) opens ∙ sized_for extent s nodes lines slots;
+      sized = ap (λ (core : Core). with_limit MAX_OPERATIONS core.size) opens ∙ sized_for extent s nodes lines slots;
       many = ap length is ∙ (length-map all (λ own. opening_driver own.items issuing) ∙ long);
       each = λ n d lt.
           let node : node_at recorder.core n ≡ opening_node n size =
@@ -75,7 +75,7 @@ goes_on table n was driver recorder drivers work some stood is spares script dri
     record { script_is = script ∙ before.script_is; driven = driven; ordered = λ in_order. order (before.ordered in_order) } in
     let many = work.many in
     record {
-      sized = spares.size ∙ work.sized;
+      sized = ap (with_limit MAX_OPERATIONS) spares.size ∙ work.sized;
       many = ap length is ∙ (length-set table.drivers n driver ∙ work.many);
       each = λ m d lt. elim (cases_eq m n) [
         | inl same ↦

@@ -1,5 +1,6 @@
 -- The nodes of a run at work.
 use Rattle.std.specs.Prelude.{◌≡◌, ◌<◌, ℕ, List, [], length, slice_index_or}
+use Rattle.sci_words.specs.declared.limits.TheConstants.{MAX_OPERATIONS}
 use Rattle.sci_text.specs.Script.{ScriptValue}
 use Rattle.sci_core.specs.Core.{node_at}
 use Rattle.sci_core.specs.Node.{NodeOf}
@@ -7,7 +8,7 @@ use Rattle.sci_drive.specs.declared.driver.Issuing.{Issuing}
 use Rattle.sci_drive.specs.declared.driver.Issuing.TheVariants.{InOrder}
 use Rattle.sci_drive.specs.Driving.{DriverOf, IsDriven, IsInOrder}
 use Rattle.sci_threads.specs.Shares.{operations_of, size_for}
-use Rattle.sci_runs.specs.Recorded.{RecorderOf}
+use Rattle.sci_runs.specs.Recorded.{RecorderOf, with_limit}
 
 -- each operation of the driver's script has its entry
 abbrev pub IsAnswered : DriverOf → Type 0
@@ -26,9 +27,9 @@ pub record TableOf : Type 0 where
   pub recorder : RecorderOf
   pub drivers : List DriverOf
 
--- the driver of each node of the script's machine has driven it
+-- the driver of each node of the script's machine has driven it; how many operations a node may issue is the machine's own
 pub record AreAtWork (table : TableOf) : Type 0 where
-  pub sized : table.recorder.core.size ≡ size_for table.script
+  pub sized : with_limit MAX_OPERATIONS table.recorder.core.size ≡ size_for table.script
   pub many : length table.drivers ≡ table.script.nodes
   pub each : (n : ℕ) (d : DriverOf) → n < table.script.nodes
       → IsAtWork table.script table.issuing n (slice_index_or table.drivers n d) (node_at table.recorder.core n)

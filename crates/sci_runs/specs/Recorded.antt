@@ -1,9 +1,10 @@
 -- A machine with the schedule that has led it where it stands.
-use Rattle.std.specs.Prelude.{◌≡◌, ◌≢◌, ◌<◌, ◌==◌, ◌⊎◌, ℕ, List, [], length, Option, Some, None, slice_get, if◌then◌else◌}
+use Rattle.std.specs.Prelude.{◌≡◌, ◌≢◌, ◌<◌, ◌==◌, ◌⊎◌, ℕ, List, [], length, map, Option, Some, None, slice_get, if◌then◌else◌}
 use Rattle.std.specs.List.{Contains, filter_map}
 use Rattle.sci_words.specs.declared.event.Event.{Event}
 use Rattle.sci_words.specs.declared.event.Event.TheVariants as event
 use Rattle.sci_words.specs.declared.operation.Op.{Op}
+use Rattle.sci_words.specs.declared.limits.TheConstants.{MAX_OPERATIONS}
 use Rattle.sci_history.specs.declared.entry.Entry.{Entry}
 use Rattle.sci_text.specs.Schedule.{ScheduleValue}
 use Rattle.sci_core.specs.Core.{Core, node_at, run}
@@ -48,12 +49,27 @@ pub record HasIssued (ops : List Op) (node : NodeOf) : Type 0 where
   pub counted : length ops ≡ node.issued
   pub each : (serial : ℕ) (op : Op) → slice_get ops serial ≡ Some op → IsKnown node serial op
 
+-- ---- limits
+
+-- the same size, but for how many operations each node may issue
+abbrev pub with_limit : ℕ → Size → Size
+with_limit limit size = record size { limit = limit }
+
+-- the same node, but for how many operations it may issue
+abbrev pub raised_node : ℕ → NodeOf → NodeOf
+raised_node limit node = record node { limit = limit }
+
+-- the same state, but for how many operations each node may issue
+abbrev pub raised : ℕ → Core → Core
+raised limit core = record core { size = with_limit limit core.size; parts = map (raised_node limit) core.parts }
+
 -- ---- the schedule
 
--- the events lead a new machine to this state, each of them enabled when it comes
+-- the events lead a new machine whose nodes may issue 65,536 operations each to this state, but for its own limit, and each
+-- of them is enabled when it comes
 pub record HasLed (events : List Event) (core : Core) : Type 0 where
-  pub leads : run core.size events ≡ core
-  pub enabled : AreEnabled core.size [] events
+  pub leads : run (with_limit MAX_OPERATIONS core.size) events ≡ raised MAX_OPERATIONS core
+  pub enabled : AreEnabled (with_limit MAX_OPERATIONS core.size) [] events
   pub issued : (n : ℕ) → n < core.size.nodes → HasIssued (issues_at n events) (node_at core n)
 
 -- a machine's state, its schedule, and why an event was lost, if one was

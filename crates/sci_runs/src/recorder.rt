@@ -6,7 +6,7 @@ use sci_history::{Entry, Last, Logs};
 use sci_locked::{perform_on, submit_on};
 use sci_policy::SubmitFault;
 use sci_text::{PushFault, Schedule};
-use sci_words::{Event, Extent, MAX_OPERATIONS, Op};
+use sci_words::{Event, Extent, Op};
 use std::alloc::{AllocError, Global};
 use std::marker::Model;
 
@@ -57,7 +57,7 @@ pub(crate) struct Ended {
 #[derive(Drop)]
 pub(crate) struct Recorder {
     machine: Machine,
-    record: Record,
+    events: Record,
 }
 
 impl Model for Recorder {
@@ -67,19 +67,19 @@ impl Model for Recorder {
 
     ghost view = { λ recorder. record {
       core = recorder.machine;
-      schedule = recorder.record.schedule;
-      lost = recorder.record.lost;
+      schedule = recorder.events.schedule;
+      lost = recorder.events.lost;
     } };
 
     ghost invariant = { λ recorder. IsRecorder (record {
       core = recorder.machine;
-      schedule = recorder.record.schedule;
-      lost = recorder.record.lost;
+      schedule = recorder.events.schedule;
+      lost = recorder.events.lost;
     }) };
 }
 
 impl Recorder {
-    ghost use Rattle.std.specs.Prelude.{◌≡◌, ◌<◌, Some, None, IfOk, IfErr, IfSome, IsErr, length};
+    ghost use Rattle.std.specs.Prelude.{◌≡◌, ◌<◌, ◌≤◌, Some, None, IfOk, IfErr, IfSome, IsErr, length};
     ghost use Rattle.sci_words.specs.declared.limits.TheConstants.{MAX_OPERATIONS};
     ghost use Rattle.sci_history.specs.Audit.{AreWithin};
     ghost use Rattle.sci_history.specs.Lawful.{Lawful};
@@ -95,18 +95,21 @@ impl Recorder {
     ghost use Rattle.sci_text.specs.Schedule.{IsSchedule};
     ghost use Rattle.sci_runs.specs.Recorded.{HasLed, IsOfSize, SparesOthers};
 
-    /// A machine of this size in which nothing has happened. Refused if memory is.
-    pub(crate) fn new(alloc: Global, extent: Extent) -> Result<Recorder, AllocError>
+    /// A machine of this size in which nothing has happened, whose nodes may issue `limit` operations each. Requires that
+    /// this is 1 to 65,536. Refused if memory is.
+    pub(crate) fn new(alloc: Global, extent: Extent, limit: u32) -> Result<Recorder, AllocError>
+        requires some { 1 ≤ limit }
+        requires few { limit ≤ MAX_OPERATIONS }
         ensures opening { IfOk result
-            (λ recorder. recorder.core ≡ opening (size_of extent MAX_OPERATIONS)) }
+            (λ recorder. recorder.core ≡ opening (size_of extent limit)) }
         ensures none { IfOk result (λ recorder. recorder.lost ≡ None) }
     {
-        let machine = Machine::new(alloc, extent, MAX_OPERATIONS)?;
-        let record = Record {
+        let machine = Machine::new(alloc, extent, limit)?;
+        let events = Record {
             schedule: Schedule::new(alloc, extent),
             lost: None,
         };
-        Ok(Recorder { machine, record })
+        Ok(Recorder { machine, events })
     }
 
     /// An event happens, and is recorded. Requires that it is enabled. Refused, with no event made, if memory is, for a
@@ -121,7 +124,7 @@ impl Recorder {
         // Read, so that the prover knows that the state is reached.
         let _extent = self.machine.extent();
         self.machine.make(event)?;
-        self.record.push(*event);
+        self.events.push(*event);
         Ok(())
     }
 
@@ -140,7 +143,7 @@ impl Recorder {
         // Read, so that the prover knows that the state is reached.
         let _extent = self.machine.extent();
         let serial = submit_on(&mut self.machine, node, op)?;
-        self.record.push(Event::Issue { node, op });
+        self.events.push(Event::Issue { node, op });
         Ok(serial)
     }
 
@@ -156,7 +159,7 @@ impl Recorder {
         // Read, so that the prover knows that the state is reached.
         let _extent = self.machine.extent();
         let entry = perform_on(&mut self.machine, node, line)?;
-        self.record.push(Event::Perform { node, line });
+        self.events.push(Event::Perform { node, line });
         Some(entry)
     }
 
@@ -171,7 +174,7 @@ impl Recorder {
     pub(crate) fn lost(&self) -> Option<RunFault>
         ensures { result ≡ self.now.lost }
     {
-        self.record.lost
+        self.events.lost
     }
 
     /// The schedule of all that has happened, with the logs and the last contents that it leads to. Requires that no event
@@ -192,11 +195,11 @@ impl Recorder {
             (λ ended. IsSequentiallyConsistent ended.logs ended.last) }
     {
         // Read, so that the prover knows that the schedule is one.
-        let _events = self.record.schedule.events();
+        let _events = self.events.schedule.events();
         let logs = self.machine.logs(alloc)?;
         let last = self.machine.last();
         Ok(Ended {
-            schedule: self.record.schedule,
+            schedule: self.events.schedule,
             logs,
             last,
         })

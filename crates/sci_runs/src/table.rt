@@ -1,5 +1,8 @@
 //! The nodes of a run, and the machine that they share.
 
+ghost use Rattle.std.specs.Prelude.{◌≤◌, All, length};
+ghost use Rattle.sci_words.specs.declared.limits.TheConstants.{MAX_OPERATIONS};
+
 use crate::fault::RunFault;
 use crate::order::Order;
 use crate::player::{Player, are_answered, new_players};
@@ -41,6 +44,20 @@ impl<'a> Model for Table<'a> {
     }) };
 }
 
+/// The most operations of a node, and at least 1: so many entries of its log need room. Requires that each has at most 65,536.
+fn most_operations(operations: &[Vec<Op>]) -> u32
+    requires few { All (λ own. length own.items ≤ MAX_OPERATIONS) operations.now }
+    ensures some { 1 ≤ result }
+    ensures few { result ≤ MAX_OPERATIONS }
+    ensures all { All (λ own. length own.items ≤ result) operations.now }
+{
+    let mut most = 1;
+    for own in operations {
+        most = most.max(own.len() as u32);
+    }
+    most
+}
+
 /// How far a run has come.
 #[derive(Clone, Copy)]
 pub(crate) struct Ran {
@@ -76,7 +93,7 @@ impl<'a> Table<'a> {
         ensures issuing { IfOk result (λ table. table.issuing ≡ issuing) }
         ensures none { IfOk result (λ table. table.recorder.lost ≡ None) }
     {
-        let recorder = Recorder::new(alloc, script.extent())?;
+        let recorder = Recorder::new(alloc, script.extent(), most_operations(operations))?;
         let players = new_players(alloc, operations, issuing)?;
         Ok(Table {
             script,

@@ -9,12 +9,12 @@ use Rattle.sci_runs.proofs.Sparing.{spares_step}
 use Rattle.sci_runs.proofs.recorder.Recorder.submit.Goals as goal
 
 pub push-requires : goal.push-requires
-push-requires c = event_within c.self.inside.machine c.submit_on.new.machine c.self.inside.record.schedule (Issue c.args.node c.args.op) c.self.invariant.sized
+push-requires c = event_within c.self.inside.machine c.submit_on.new.machine c.self.inside.events.schedule (Issue c.args.node c.args.op) c.self.invariant.sized
     c.extent-extent.ensures.reached c.in_ok-serial.ensures.issued
 
 pub invariant_of-self-2 : goal.invariant_of-self-2
 invariant_of-self-2 c =
-    recorder_on c.self.inside.machine c.submit_on.new.machine c.self.inside.record.schedule c.push.new.self.schedule c.self.inside.record.lost
+    recorder_on c.self.inside.machine c.submit_on.new.machine c.self.inside.events.schedule c.push.new.self.schedule c.self.inside.events.lost
     c.push.new.self.lost (Issue c.args.node c.args.op) c.self.invariant
     c.extent-extent.ensures.reached c.in_ok-serial.ensures.issued c.submit_on.ensures.size c.push.ensures.size c.push.ensures.before c.push.ensures.recorded
 
