@@ -1,6 +1,8 @@
 -- What is seen of one run.
-use Rattle.std.proofs.Common.{◌≡◌, ℕ, ◌+◌, Bool, true, All, List, [], ◌∷◌, ◌++◌, length, length-append, sym, ap, subst, arith, ◌∙◌}
-use Rattle.std.proofs.lemmas.List.Elements.{All-append, All-cons}
+use Rattle.std.proofs.Common.{◌≡◌, ℕ, ◌<◌, ◌+◌, Bool, true, All, List, [], ◌∷◌, ◌++◌, Some, length, length-append, sym, ap, subst, arith, ◌∙◌, inl, inr}
+use Rattle.std.specs.Prelude.{slice_index_or}
+use Rattle.std.proofs.lemmas.Bool.{cases_lt}
+use Rattle.std.proofs.lemmas.List.{get_or-append-add, get_or_append_left}
 use Rattle.std.proofs.lemmas.List.FromFn.{length-map-range_with_len}
 use Rattle.sci_words.specs.declared.stamped.Stamped.{Stamped}
 use Rattle.sci_history.specs.declared.entry.Entry.{Entry}
@@ -15,24 +17,26 @@ use Rattle.sci_core.proofs.ReachedLaws.{reached_within}
 use Rattle.sci_threads.specs.Shares.{AreLedTo, size_for}
 use Rattle.sci_text.specs.Schedule.{ScheduleValue}
 use Rattle.sci_drive.specs.declared.driver.Issuing.{Issuing}
+use Rattle.sci_runs.specs.Played.{IsPlayed}
 use Rattle.sci_runs.specs.Runs.{IsRunOf, last_behind, logs_behind}
 use Rattle.sci_outcomes.specs.declared.histogram.Histogram.{Histogram}
 use Rattle.sci_outcomes.specs.declared.outcome.Sighting.{Sighting}
 use Rattle.sci_outcomes.specs.declared.place.Place.{Place}
 use Rattle.sci_outcomes.specs.Outcomes.{IsPlaceWithin, IsSeen, written_places}
 use Rattle.sci_outcomes.specs.Rows.{HasCounted}
-use Rattle.sci_outcomes.specs.declared.trials.Turns.{Turns}
-use Rattle.sci_outcomes.specs.declared.trials.Turns.TheVariants.{Drawn, Threads}
-use Rattle.sci_outcomes.specs.Trials.{IsDrawnSighting, IsSightingOf, turns_of_run}
+use Rattle.sci_outcomes.specs.Trials.{IsDrawnSighting}
 
 -- what is seen of logs and last contents is seen of the ones behind the schedule
-pub drawn_sighting : (script : ScriptValue) (issuing : Issuing) (done : Bool) (schedule : ScheduleValue) (places : List Place) (logs : List (List Entry))
-    (last : List Stamped) (sighting : Sighting) → done ≡ true → IsRunOf script issuing done schedule
+pub drawn_sighting : (script : ScriptValue) (issuing : Issuing) (seed rounds : ℕ) (done : Bool) (schedule : ScheduleValue) (places : List Place)
+    (logs : List (List Entry)) (last : List Stamped) (sighting : Sighting) → done ≡ true → IsRunOf script issuing done schedule
+    → IsPlayed script issuing (Some seed) rounds schedule
     → places ≡ written_places script.lines script.operations → logs ≡ logs_behind script schedule → last ≡ last_behind script schedule → Lawful logs last
-    → IsSequentiallyConsistent logs last → IsSeen places logs last sighting → IsDrawnSighting script issuing sighting
-drawn_sighting script issuing done schedule places logs last sighting is_done run places_are logs_are last_are lawful consistent seen = record {
+    → IsSequentiallyConsistent logs last → IsSeen places logs last sighting → IsDrawnSighting script issuing seed sighting
+drawn_sighting script issuing seed rounds done schedule places logs last sighting is_done run played places_are logs_are last_are lawful consistent seen = record {
   schedule = schedule;
   run = subst (λ (d : Bool). IsRunOf script issuing d schedule) is_done run;
+  rounds = rounds;
+  played = played;
   lawful = subst (λ (l : List Stamped). Lawful (logs_behind script schedule) l) last_are (subst (λ (ls : List (List Entry)). Lawful ls last) logs_are lawful);
   consistent = subst (λ (l : List Stamped). IsSequentiallyConsistent (logs_behind script schedule) l) last_are
       (subst (λ (ls : List (List Entry)). IsSequentiallyConsistent ls last) logs_are consistent);
@@ -57,20 +61,21 @@ pub led_places : (script : ScriptValue) (logs : List (List Entry)) (last : List 
     → All (IsPlaceWithin script.lines) places → All (IsPlaceWithin (length last)) places
 led_places script logs last places led within = subst (λ n. All (IsPlaceWithin n) places) (sym (led_lines script logs last led)) within
 
--- the run with any number has an order of the same kind
-pub of_any_run : (script : ScriptValue) (turns : Turns) (number : ℕ) (issuing : Issuing) (sighting : Sighting)
-    → IsSightingOf script (turns_of_run turns number) issuing sighting → IsSightingOf script turns issuing sighting
-of_any_run script (Drawn seed) number issuing sighting is = is
-of_any_run script Threads number issuing sighting is = is
-
 -- one more of them
-pub seen_more : (P : Sighting → Type 0) (old new : Histogram) (number : ℕ) (x : Sighting)
-    → (seen : List Sighting) × (length seen ≡ number) × All P seen × HasCounted old seen → P x
-    → ((seen : List Sighting) → HasCounted old seen → HasCounted new (seen ++ x ∷ []))
-    → (seen : List Sighting) × (length seen ≡ number + 1) × All P seen × HasCounted new seen
+pub seen_more : (P : ℕ → Sighting → Type 0) (old new : Histogram) (number : ℕ) (x : Sighting)
+    → (seen : List Sighting) × (length seen ≡ number) × ((k : ℕ) (d : Sighting) → k < length seen → P k (slice_index_or seen k d)) × HasCounted old seen
+    → P number x → ((seen : List Sighting) → HasCounted old seen → HasCounted new (seen ++ x ∷ []))
+    → (seen : List Sighting) × (length seen ≡ number + 1) × ((k : ℕ) (d : Sighting) → k < length seen → P k (slice_index_or seen k d)) × HasCounted new seen
 seen_more P old new number x so_far is counts =
     let seen = so_far.0 in
     let long : length (seen ++ x ∷ []) ≡ length seen + 1 = length-append seen (x ∷ []) in
     let many = so_far.1 in
-    let one : All P (x ∷ []) = All-cons P x [] is (λ k d lt. absurd (omega (arith, lt))) in
-    (seen ++ x ∷ [], omega (arith, long, many), All-append P seen (x ∷ []) so_far.2 one, counts seen so_far.3)
+    let each : (k : ℕ) (d : Sighting) → k < length (seen ++ x ∷ []) → P k (slice_index_or (seen ++ x ∷ []) k d) = λ k d lt. elim (cases_lt k number) [
+      | inl before ↦ subst (P k) (sym (get_or_append_left seen (x ∷ []) d k (omega (arith, before, many)))) (so_far.2 k d (omega (arith, before, many)))
+      | inr after ↦
+          let same : k ≡ number = omega (arith, lt, long, many, after) in
+          let last : slice_index_or (seen ++ x ∷ []) (length seen + 0) d ≡ x = get_or-append-add seen (x ∷ []) 0 d in
+          let at : length seen + 0 ≡ k = omega (arith, same, many) in
+          subst (λ (i : ℕ). P k (slice_index_or (seen ++ x ∷ []) i d)) at (subst (P k) (sym last) (subst (λ (i : ℕ). P i x) (sym same) is))
+    ] in
+    (seen ++ x ∷ [], omega (arith, long, many), each, counts seen so_far.3)

@@ -1,5 +1,5 @@
 -- The outcomes of a script that is run many times.
-use Rattle.std.specs.Prelude.{◌≡◌, ℕ, ◌+◌, ◌%◌, ◌^◌, true, All, List, length}
+use Rattle.std.specs.Prelude.{◌≡◌, ℕ, ◌<◌, ◌+◌, ◌%◌, ◌^◌, true, All, List, Some, length, slice_index_or}
 use Rattle.sci_words.specs.declared.stamped.Stamped.{Stamped}
 use Rattle.sci_history.specs.declared.entry.Entry.{Entry}
 use Rattle.sci_history.specs.Lawful.{Lawful}
@@ -8,6 +8,7 @@ use Rattle.sci_text.specs.Script.{ScriptValue}
 use Rattle.sci_text.specs.Schedule.{ScheduleValue}
 use Rattle.sci_drive.specs.declared.driver.Issuing.{Issuing}
 use Rattle.sci_drive.specs.declared.driver.Issuing.TheVariants.{InOrder}
+use Rattle.sci_runs.specs.Played.{IsPlayed}
 use Rattle.sci_runs.specs.Runs.{IsRunOf, last_behind, logs_behind}
 use Rattle.sci_threads.specs.Shares.{AreLedTo, HaveWholeLogsOf, size_for}
 use Rattle.sci_outcomes.specs.declared.histogram.Row.{Row}
@@ -23,10 +24,12 @@ pub record AreWrittenBy (script : ScriptValue) (places : List Place) : Type 0 wh
   pub places_are : places ≡ written_places script.lines script.operations
   pub within : All (IsPlaceWithin script.lines) places
 
--- what is seen of a run in an order that was drawn, in which each operation was performed; its logs are lawful
-pub record IsDrawnSighting (script : ScriptValue) (issuing : Issuing) (sighting : Sighting) : Type 0 where
+-- what is seen of a run in the order that this seed draws, in which each operation was performed; its logs are lawful
+pub record IsDrawnSighting (script : ScriptValue) (issuing : Issuing) (seed : ℕ) (sighting : Sighting) : Type 0 where
   pub schedule : ScheduleValue
   pub run : IsRunOf script issuing true schedule
+  pub rounds : ℕ
+  pub played : IsPlayed script issuing (Some seed) rounds schedule
   pub lawful : Lawful (logs_behind script schedule) (last_behind script schedule)
   pub consistent : IsSequentiallyConsistent (logs_behind script schedule) (last_behind script schedule)
   pub seen : IsSeen (written_places script.lines script.operations) (logs_behind script schedule) (last_behind script schedule) sighting
@@ -50,12 +53,17 @@ turns_of_run Threads number = Threads
 
 -- what is seen of a run in such an order
 abbrev pub IsSightingOf : ScriptValue → Turns → Issuing → Sighting → Type 0
-IsSightingOf script (Drawn seed) issuing sighting = IsDrawnSighting script issuing sighting
+IsSightingOf script (Drawn seed) issuing sighting = IsDrawnSighting script issuing seed sighting
 IsSightingOf script Threads issuing sighting = IsThreadSighting script issuing sighting
+
+-- each is what is seen of the run with its number
+abbrev pub AreSightings : ScriptValue → Turns → Issuing → List Sighting → Type 0
+AreSightings script turns issuing seen =
+    (number : ℕ) (d : Sighting) → number < length seen → IsSightingOf script (turns_of_run turns number) issuing (slice_index_or seen number d)
 
 -- the rows of what was seen of so many runs of the script, in their order
 pub record AreOutcomes (script : ScriptValue) (turns : Turns) (issuing : Issuing) (runs : ℕ) (rows : List Row) : Type 0 where
   pub seen : List Sighting
   pub many : length seen ≡ runs
-  pub each : All (IsSightingOf script turns issuing) seen
+  pub each : AreSightings script turns issuing seen
   pub rows_are : AreRowsOf seen rows

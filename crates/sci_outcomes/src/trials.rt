@@ -70,7 +70,7 @@ struct Litmus<'a> {
 /// many if there are more than 500,000 events, or if 1,000,000,000 turns are used up before each operation is performed.
 fn drawn_run(alloc: Global, litmus: Litmus<'_>, seed: u64) -> Result<Sighting, RunFault>
     requires { AreWrittenBy litmus.script.now litmus.places.now }
-    ensures { IfOk result (IsDrawnSighting litmus.entry.script.now litmus.entry.issuing) }
+    ensures { IfOk result (IsDrawnSighting litmus.entry.script.now litmus.entry.issuing seed) }
 {
     let plan = Plan {
         seed: Some(seed),

@@ -133,6 +133,13 @@ run_of view table schedule is work led reached good sized =
     subst (λ (t : TableOf). (done : Bool) → (done ≡ true → All IsAnswered t.drivers) → IsRunOf t.script t.issuing done schedule) is
     (is_run view schedule work led reached good sized)
 
+-- the state behind the schedule is the machine's
+pub behind_of : (view table : TableOf) (schedule : ScheduleValue) → view ≡ table → AreAtWork view → HasLed schedule.events view.recorder.core
+    → run (size_for table.script) schedule.events ≡ raised MAX_OPERATIONS table.recorder.core
+behind_of view table schedule is work led =
+    subst (λ (t : TableOf). run (size_for t.script) schedule.events ≡ raised MAX_OPERATIONS t.recorder.core) is
+    (subst (λ (z : Size). run z schedule.events ≡ raised MAX_OPERATIONS view.recorder.core) work.sized led.leads)
+
 -- the logs and the last contents behind the schedule are those of the machine
 pub ends_of : (view table : TableOf) (schedule : ScheduleValue) (logs : List (List Entry)) (last : List Stamped) → view ≡ table → AreAtWork view
     → HasLed schedule.events view.recorder.core → IsReached view.recorder.core → IsSchedule schedule → IsOfSize view.recorder.core.size schedule

@@ -5,3 +5,4 @@ pub mod Limits
 pub mod Recording
 pub mod Finished
 pub mod Working
+pub mod Playing

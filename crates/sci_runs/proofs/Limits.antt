@@ -11,7 +11,6 @@ use Rattle.sci_words.specs.declared.event.Event.{Event}
 use Rattle.sci_words.specs.declared.event.Event.TheVariants as event
 use Rattle.sci_words.specs.declared.operation.Op.{Op}
 use Rattle.sci_words.specs.declared.operation.Reply.{Reply}
-use Rattle.sci_words.specs.declared.stamped.Stamped.{Stamped}
 use Rattle.sci_words.specs.Stamped.{zero_stamped}
 use Rattle.sci_packets.specs.declared.body.Body.{Body}
 use Rattle.sci_packets.specs.declared.body.Body.TheVariants.{Busy}
@@ -23,13 +22,13 @@ use Rattle.sci_cache.specs.Cache.{CacheOf, Letter, cache_accepting, cache_asking
 use Rattle.sci_core.specs.declared.lane.LaneKind.{LaneKind}
 use Rattle.sci_core.specs.declared.lane.LaneKind.TheVariants.{Answers, Requests}
 use Rattle.sci_core.specs.declared.pending.Pending.{Pending}
-use Rattle.sci_core.specs.Core.{Core, changes, lane_of, lane_place, node_at, node_of, performs, sends, sent_by, side, step_by, stepping, taken_as, taken_from, with_lane}
+use Rattle.sci_core.specs.Core.{Core, changes, lane_of, lane_place, node_at, node_of, performs, sends, side, step_by, stepping, taken_as, taken_from, with_lane}
 use Rattle.sci_core.specs.Core.{opening, with_node, with_sent}
-use Rattle.sci_core.specs.Node.{NodeOf, accepted_by, answered_by, asked_by, home_of, is_in_range, is_setback, lines_of, may_issue, no_node, node_accepting}
+use Rattle.sci_core.specs.Node.{NodeOf, accepted_by, answered_by, asked_by, home_of, is_in_range, is_setback, lines_of, no_node, node_accepting}
 use Rattle.sci_core.specs.Node.{node_asking, node_issued, node_issuing, node_performing, node_refusing, node_replying, node_serving, pending_on, performed_by}
 use Rattle.sci_core.specs.Node.{opening_node, performing_pending, replied_by, served_at_home, served_in_cache, serving_at_home, serving_in_cache, with_answer}
 use Rattle.sci_core.specs.Outcome.{logs_of}
-use Rattle.sci_core.specs.Sharing.{answer_in, authority_contents, first_authority, home_at, is_about, last_at, last_of, packets_of, sharer_of, sharers, Sharer, under_way}
+use Rattle.sci_core.specs.Sharing.{answer_in, first_authority, home_at, is_about, last_at, last_of, packets_of, sharer_of, sharers, Sharer, under_way}
 use Rattle.sci_core.specs.Size.{Size}
 use Rattle.sci_core.specs.WellFormed.{IsWellFormed}
 use Rattle.sci_runs.specs.Recorded.{raised, raised_node, with_limit}

@@ -1,23 +1,27 @@
 -- The nodes of a run at work.
-use Rattle.std.proofs.Common.{◌≡◌, ◌<◌, ℕ, arith, List, [], ◌∷◌, length, map, set, Vec, refl, sym, ap, subst, ◌∙◌, inl, inr}
+use Rattle.std.proofs.Common.{◌≡◌, ◌<◌, ◌≤◌, ℕ, arith, All, Ok, List, [], ◌∷◌, length, map, set, Vec, refl, sym, ap, subst, ◌∙◌, inl, inr}
 use Rattle.std.specs.Prelude.{slice_index_or}
-use Rattle.std.proofs.lemmas.Bool.{cases_eq}
-use Rattle.std.proofs.lemmas.List.{get_or-map, get_or-set_other, get_or-set_same, length-map, length-set, map-set}
+use Rattle.std.proofs.lemmas.Bool.{cases_eq, cases_lt}
+use Rattle.std.proofs.lemmas.List.{get_or-map, get_or-set_other, get_or-set_same, get_or_past, length-map, length-set, map-set}
 use Rattle.sci_words.specs.declared.extent.Extent.{Extent}
 use Rattle.sci_words.specs.declared.limits.TheConstants.{MAX_OPERATIONS}
 use Rattle.sci_words.specs.declared.operation.Op.{Op}
 use Rattle.sci_text.specs.Script.{ScriptValue}
 use Rattle.sci_core.specs.Core.{Core, node_at, opening}
 use Rattle.sci_core.specs.Node.{NodeOf, opening_node}
-use Rattle.sci_core.specs.Size.{size_of}
+use Rattle.sci_core.specs.Size.{Size, size_of}
 use Rattle.sci_lanes.proofs.Opening.{node_opened}
+use Rattle.sci_policy.specs.Policy.{PolicyOf, opening_policy}
+use Rattle.sci_drive.specs.declared.driver.Round.{Round}
 use Rattle.sci_drive.specs.declared.driver.Issuing.{Issuing}
 use Rattle.sci_drive.specs.Driving.{DriverOf, HasSubmittedNothing, IsDriven, IsInOrder, opening_driver}
 use Rattle.sci_drive.proofs.Drives.{opens}
 use Rattle.sci_drive.proofs.InOrder.{opens_in_order}
 use Rattle.sci_threads.specs.Shares.{operations_of}
 use Rattle.sci_threads.proofs.Sharing.{opened_fresh, sized_for}
-use Rattle.sci_runs.specs.Players.{AreAtWork, IsAtWork, TableOf}
+use Rattle.sci_runs.specs.Deeds.{Takes}
+use Rattle.sci_runs.specs.Played.{Begins, GoesOpenly, IsRound, Moment, StaysBut}
+use Rattle.sci_runs.specs.Players.{AreAtWork, IsAtWork, TableOf, moment_of}
 use Rattle.sci_runs.specs.Recorded.{RecorderOf, SparesOthers, with_limit}
 
 -- ---- a new machine
@@ -43,11 +47,11 @@ opened_work s issuing n node fresh = record {
 }
 
 pub all_opened : {Z : Type 0} (s : ScriptValue) (issuing : Issuing) (recorder : RecorderOf) (extent : Extent) (limit : ℕ) (all : List (Vec Op Z))
-    (drivers : List DriverOf) → recorder.core ≡ opening (size_of extent limit)
+    (drivers : List DriverOf) (policies : List PolicyOf) → recorder.core ≡ opening (size_of extent limit)
     → extent.nodes ≡ s.nodes → extent.lines ≡ s.lines → extent.slots ≡ s.slots → length all ≡ s.nodes
     → ((k : ℕ) (own : Vec Op Z) → k < s.nodes → (slice_index_or all k own).items ≡ operations_of k s.operations)
-    → drivers ≡ map (λ own. opening_driver own.items issuing) all → AreAtWork (record { script = s; issuing = issuing; recorder = recorder; drivers = drivers })
-all_opened s issuing recorder extent limit all drivers opens nodes lines slots long each is =
+    → drivers ≡ map (λ own. opening_driver own.items issuing) all → AreAtWork (record { script = s; issuing = issuing; recorder = recorder; drivers = drivers; policies = policies })
+all_opened s issuing recorder extent limit all drivers policies opens nodes lines slots long each is =
     let size = size_of extent limit in
     record {
       sized = ap (λ (core : Core). with_limit MAX_OPERATIONS core.size) opens ∙ sized_for extent s nodes lines slots;
@@ -60,15 +64,59 @@ all_opened s issuing recorder extent limit all drivers opens nodes lines slots l
           (opened_work s issuing n (opening_node n size) (opened_fresh n size)));
     }
 
+-- so many operations as a node has at most
+room_for : {Z : Type 0} (s : ScriptValue) (limit : ℕ) (all : List (Vec Op Z)) → length all ≡ s.nodes
+    → ((k : ℕ) (own : Vec Op Z) → k < s.nodes → (slice_index_or all k own).items ≡ operations_of k s.operations)
+    → All (λ (own : Vec Op Z). length own.items ≤ limit) all → (n : ℕ) → n < s.nodes → length (operations_of n s.operations) ≤ limit
+room_for s limit [] long each few n lt = absurd (omega (arith, long, lt))
+room_for s limit (v ∷ all) long each few n lt =
+    subst (λ (ops : List Op). length ops ≤ limit) (each n v lt) (few n v (omega (arith, long, lt)))
+
+-- the policies of nodes that have done nothing
+policies_open : {A : Type 0} (g : A → PolicyOf) (players : List A) → All (λ player. g player ≡ opening_policy) players → (n : ℕ)
+    → slice_index_or (map g players) n opening_policy ≡ opening_policy
+policies_open g [] all n = refl
+policies_open g (player ∷ players) all n = elim (cases_lt n (length (player ∷ players))) [
+  | inl lt ↦ get_or-map g (player ∷ players) n player opening_policy lt ∙ all n player lt
+  | inr le ↦ let long = length-map (player ∷ players) g in get_or_past (map g (player ∷ players)) n opening_policy (omega (arith, long, le))
+]
+
+pub begins : {A Z : Type 0} (f : A → DriverOf) (g : A → PolicyOf) (s : ScriptValue) (issuing : Issuing) (core : Core) (extent : Extent) (limit : ℕ)
+    (all : List (Vec Op Z)) (players : List A) → core ≡ opening (size_of extent limit)
+    → extent.nodes ≡ s.nodes → extent.lines ≡ s.lines → extent.slots ≡ s.slots → length all ≡ s.nodes
+    → ((k : ℕ) (own : Vec Op Z) → k < s.nodes → (slice_index_or all k own).items ≡ operations_of k s.operations)
+    → All (λ (own : Vec Op Z). length own.items ≤ limit) all
+    → map f players ≡ map (λ own. opening_driver own.items issuing) all → All (λ player. g player ≡ opening_policy) players
+    → Begins s issuing (record { core = core; drivers = map f players; policies = map g players })
+begins f g s issuing core extent limit all players opens nodes lines slots long each few is remember = record {
+  limit = limit;
+  room = room_for s limit all long each few;
+  core = opens ∙ ap (λ (z : Size). opening (with_limit limit z)) (sized_for extent s nodes lines slots);
+  drivers = λ n d lt. opened_driver s issuing all (map f players) n d long each lt is;
+  policies = policies_open g players remember;
+}
+
 -- ---- a round
 
+-- what stands at a place of a list where one element was replaced
+placed_here : {A B : Type 0} (h : A → B) (players : List A) (k n : ℕ) (new : A) (d : B) → k ≡ n → n < length players
+    → slice_index_or (map h (set players k new)) n d ≡ h new
+placed_here h players k n new d same lt =
+    let long = length-map players h in
+    ap (λ (xs : List _). slice_index_or xs n d) (map-set h players k new)
+    ∙ (ap (λ (i : ℕ). slice_index_or (set (map h players) i (h new)) n d) same ∙ get_or-set_same (map h players) n (h new) d (omega (arith, lt, long)))
+
+placed_other : {A B : Type 0} (h : A → B) (players : List A) (k n : ℕ) (new : A) → k ≡ n → StaysBut n (map h players) (map h (set players k new))
+placed_other h players k n new same m d other =
+    ap (λ (xs : List _). slice_index_or xs m d) (map-set h players k new) ∙ get_or-set_other (map h players) k m (h new) d (λ is. other (is ∙ same))
+
 -- the node that was driven on, and the others, which stay
-goes_on : (table : TableOf) (n : ℕ) (was driver : DriverOf) (recorder : RecorderOf) (drivers : List DriverOf) → AreAtWork table → n < table.script.nodes
+goes_on : (table : TableOf) (n : ℕ) (was driver : DriverOf) (recorder : RecorderOf) (drivers : List DriverOf) (policies : List PolicyOf) → AreAtWork table → n < table.script.nodes
     → slice_index_or table.drivers n driver ≡ was → drivers ≡ set table.drivers n driver
     → SparesOthers n table.recorder.core recorder.core → driver.script ≡ was.script → IsDriven driver (node_at recorder.core n)
     → (IsInOrder was (node_at table.recorder.core n) → IsInOrder driver (node_at recorder.core n))
-    → AreAtWork (record { script = table.script; issuing = table.issuing; recorder = recorder; drivers = drivers })
-goes_on table n was driver recorder drivers work some stood is spares script driven order =
+    → AreAtWork (record { script = table.script; issuing = table.issuing; recorder = recorder; drivers = drivers; policies = policies })
+goes_on table n was driver recorder drivers policies work some stood is spares script driven order =
     let before : IsAtWork table.script table.issuing n was (node_at table.recorder.core n) =
     subst (λ (x : DriverOf). IsAtWork table.script table.issuing n x (node_at table.recorder.core n)) stood (work.each n driver some) in
     let here : IsAtWork table.script table.issuing n driver (node_at recorder.core n) =
@@ -95,10 +143,10 @@ goes_on table n was driver recorder drivers work some stood is spares script dri
     }
 
 -- a player that stands at node n's place, and its driver
-module _ {A : Type 0} (f : A → DriverOf) (script : ScriptValue) (issuing : Issuing) (recorder : RecorderOf) (players : List A) (table : TableOf) (n k : ℕ)
+module _ {A : Type 0} (f : A → DriverOf) (g : A → PolicyOf) (script : ScriptValue) (issuing : Issuing) (recorder : RecorderOf) (players : List A) (table : TableOf) (n k : ℕ)
     (player : A) where
   abbrev view : TableOf
-  view = record { script = script; issuing = issuing; recorder = recorder; drivers = map f players }
+  view = record { script = script; issuing = issuing; recorder = recorder; drivers = map f players; policies = map g players }
 
   some_node : view ≡ table → n < table.script.nodes → n < script.nodes
   some_node is lt = subst (λ (t : TableOf). n < t.script.nodes) (sym is) lt
@@ -120,8 +168,33 @@ module _ {A : Type 0} (f : A → DriverOf) (script : ScriptValue) (issuing : Iss
   pub round_on : view ≡ table → AreAtWork view → n < table.script.nodes → k ≡ n → player ≡ slice_index_or players k player → (new : A) (later : RecorderOf)
       → SparesOthers n recorder.core later.core → (f new).script ≡ (f player).script
       → IsDriven (f new) (node_at later.core n) → (IsInOrder (f player) (node_at recorder.core n) → IsInOrder (f new) (node_at later.core n))
-      → AreAtWork (record { script = script; issuing = issuing; recorder = later; drivers = map f (set players k new) })
+      → AreAtWork (record { script = script; issuing = issuing; recorder = later; drivers = map f (set players k new); policies = map g (set players k new) })
   round_on is work lt same value new later spares own driven order =
       let some = some_node is lt in
       let drivers : map f (set players k new) ≡ set (map f players) n (f new) = map-set f players k new ∙ ap (λ (i : ℕ). set (map f players) i (f new)) same in
-      goes_on view n (f player) (f new) later (map f (set players k new)) work some (stands work some same value (f new)) drivers spares own driven order
+      goes_on view n (f player) (f new) later (map f (set players k new)) (map g (set players k new)) work some (stands work some same value (f new)) drivers spares own driven order
+
+  -- and it is a round of the run
+  pub round_is : view ≡ table → AreAtWork view → n < table.script.nodes → k ≡ n → player ≡ slice_index_or players k player → (new : A) (later : RecorderOf)
+      (round : Round) → GoesOpenly (f player) (f new) (node_at recorder.core n) (node_at later.core n) (Ok round)
+      → Takes n 1 (g player) recorder.core (g new) later.core
+      → IsRound n (moment_of table) (record { core = later.core; drivers = map f (set players k new); policies = map g (set players k new) })
+  round_is is work lt same value new later round goes takes =
+      let some = some_node is lt in
+      let within : n < length players = let many = work.many in let long = length-map players f in omega (arith, some, many, long) in
+      let here : player ≡ slice_index_or players n player = value ∙ ap (λ (i : ℕ). slice_index_or players i player) same in
+      let last : Moment = record { core = later.core; drivers = map f (set players k new); policies = map g (set players k new) } in
+      let was : slice_index_or (map g players) n opening_policy ≡ g player = get_or-map g players n player opening_policy within ∙ ap g (sym here) in
+      let now : slice_index_or (map g (set players k new)) n opening_policy ≡ g new = placed_here g players k n new opening_policy same within in
+      subst (λ (t : TableOf). IsRound n (moment_of t) last) is (record {
+        round = round;
+        goes = λ d.
+            subst (λ (driver : DriverOf). GoesOpenly driver (slice_index_or (map f (set players k new)) n d) (node_at recorder.core n) (node_at later.core n)
+            (Ok round)) (sym (stands work some same value d))
+            (subst (λ (driver : DriverOf). GoesOpenly (f player) driver (node_at recorder.core n) (node_at later.core n) (Ok round))
+            (sym (placed_here f players k n new d same within)) goes);
+        takes = subst (λ (policy : PolicyOf). Takes n 1 policy recorder.core (slice_index_or (map g (set players k new)) n opening_policy) later.core) (sym was)
+            (subst (λ (policy : PolicyOf). Takes n 1 (g player) recorder.core policy later.core) (sym now) takes);
+        drivers = placed_other f players k n new same;
+        policies = placed_other g players k n new same;
+      })

@@ -2,3 +2,5 @@ pub mod Recorded
 pub mod Players
 pub mod Runs
 pub mod Turns
+pub mod Deeds
+pub mod Played

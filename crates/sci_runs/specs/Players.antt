@@ -4,10 +4,12 @@ use Rattle.sci_words.specs.declared.limits.TheConstants.{MAX_OPERATIONS}
 use Rattle.sci_text.specs.Script.{ScriptValue}
 use Rattle.sci_core.specs.Core.{node_at}
 use Rattle.sci_core.specs.Node.{NodeOf}
+use Rattle.sci_policy.specs.Policy.{PolicyOf}
 use Rattle.sci_drive.specs.declared.driver.Issuing.{Issuing}
 use Rattle.sci_drive.specs.declared.driver.Issuing.TheVariants.{InOrder}
 use Rattle.sci_drive.specs.Driving.{DriverOf, IsDriven, IsInOrder}
 use Rattle.sci_threads.specs.Shares.{operations_of, size_for}
+use Rattle.sci_runs.specs.Played.{Moment}
 use Rattle.sci_runs.specs.Recorded.{RecorderOf, with_limit}
 
 -- each operation of the driver's script has its entry
@@ -20,12 +22,17 @@ pub record IsAtWork (script : ScriptValue) (issuing : Issuing) (n : ℕ) (driver
   pub driven : IsDriven driver node
   pub ordered : issuing ≡ InOrder → IsInOrder driver node
 
--- a script, when its operations are submitted, the machine's recorder, and the drivers of all nodes
+-- a script, when its operations are submitted, the machine's recorder, and the drivers and the policies of all nodes
 pub record TableOf : Type 0 where
   pub script : ScriptValue
   pub issuing : Issuing
   pub recorder : RecorderOf
   pub drivers : List DriverOf
+  pub policies : List PolicyOf
+
+-- what it has of its run
+abbrev pub moment_of : TableOf → Moment
+moment_of table = record { core = table.recorder.core; drivers = table.drivers; policies = table.policies }
 
 -- the driver of each node of the script's machine has driven it; how many operations a node may issue is the machine's own
 pub record AreAtWork (table : TableOf) : Type 0 where

@@ -2,12 +2,13 @@
 
 ghost use Rattle.std.specs.Prelude.{◌≡◌, ◌≤◌, All, IfOk, length, map, true};
 ghost use Rattle.sci_words.specs.declared.limits.TheConstants.{MAX_OPERATIONS};
+ghost use Rattle.sci_policy.specs.Policy.{opening_policy};
 ghost use Rattle.sci_drive.specs.Driving.{opening_driver};
 ghost use Rattle.sci_runs.specs.Players.{IsAnswered};
 
 use crate::recorder::Recorder;
 use crate::seat::Seat;
-use sci_drive::{Driver, Issuing, OpenGate};
+use sci_drive::{Driver, Issuing, OpenGate, Round};
 use sci_policy::Policy;
 use sci_words::Op;
 use std::alloc::{AllocError, Global};
@@ -26,8 +27,10 @@ pub(crate) fn new_players<'a>(
     issuing: Issuing,
 ) -> Result<Vec<Player<'a>>, AllocError>
     requires few { All (λ own. length own.items ≤ MAX_OPERATIONS) operations.now }
-    ensures { IfOk result (λ players. map (λ player. player.driver) players.items
+    ensures drivers { IfOk result (λ players. map (λ player. player.driver) players.items
         ≡ map (λ own. opening_driver own.items issuing) operations.now) }
+    ensures policies { IfOk result (λ players.
+        All (λ player. player.policy ≡ opening_policy) players.items) }
 {
     let mut players = Vec::with_capacity(alloc, operations.len())?;
     for own in operations {
@@ -52,20 +55,26 @@ pub(crate) fn are_answered(players: &[Player<'_>]) -> bool
 }
 
 impl<'a> Player<'a> {
-    ghost use Rattle.std.specs.Prelude.{◌≡◌, ◌<◌};
+    ghost use Rattle.std.specs.Prelude.{◌≡◌, ◌<◌, IfOk};
     ghost use Rattle.sci_core.specs.Core.{node_at};
     ghost use Rattle.sci_drive.specs.Driving.{IsDriven, IsInOrder};
+    ghost use Rattle.sci_runs.specs.Deeds.{Takes};
+    ghost use Rattle.sci_runs.specs.Played.{GoesOpenly};
     ghost use Rattle.sci_runs.specs.Recorded.{SparesOthers};
 
     /// Does a round at a node. Requires that there is such a node, and that this player has driven it. Refused if memory
     /// is, for a lane.
-    pub(crate) fn round(&mut self, recorder: &mut Recorder, node: u8) -> Result<(), AllocError>
+    pub(crate) fn round(&mut self, recorder: &mut Recorder, node: u8) -> Result<Round, AllocError>
         requires some { node < recorder.old.core.size.nodes }
         requires driven { IsDriven self.old.driver (node_at recorder.old.core node) }
         ensures driven { IsDriven self.new.driver (node_at recorder.new.core node) }
         ensures order { IsInOrder self.old.driver (node_at recorder.old.core node) →
             IsInOrder self.new.driver (node_at recorder.new.core node) }
         ensures script { self.new.driver.script ≡ self.old.driver.script }
+        ensures goes { GoesOpenly self.old.driver self.new.driver
+            (node_at recorder.old.core node) (node_at recorder.new.core node) result }
+        ensures takes { IfOk result (λ _. Takes node 1
+            self.old.policy recorder.old.core self.new.policy recorder.new.core) }
         ensures spares { SparesOthers node recorder.old.core recorder.new.core }
     {
         let mut seat = Seat {
@@ -73,7 +82,6 @@ impl<'a> Player<'a> {
             policy: &mut self.policy,
             node,
         };
-        self.driver.round(&mut seat, &mut OpenGate)?;
-        Ok(())
+        self.driver.round(&mut seat, &mut OpenGate)
     }
 }

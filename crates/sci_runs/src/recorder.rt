@@ -80,6 +80,7 @@ impl Model for Recorder {
 
 impl Recorder {
     ghost use Rattle.std.specs.Prelude.{◌≡◌, ◌<◌, ◌≤◌, Some, None, IfOk, IfErr, IfSome, IsErr, length};
+    ghost use Rattle.sci_words.specs.declared.event.Event.TheVariants.{Issue, Perform};
     ghost use Rattle.sci_words.specs.declared.limits.TheConstants.{MAX_OPERATIONS};
     ghost use Rattle.sci_history.specs.Audit.{AreWithin};
     ghost use Rattle.sci_history.specs.Lawful.{Lawful};
@@ -133,6 +134,8 @@ impl Recorder {
         requires { node < self.old.core.size.nodes }
         ensures issued { IfOk result
             (λ serial. IsIssued (node_at self.old.core node) (node_at self.new.core node) op) }
+        ensures event { IfOk result
+            (λ serial. stepping self.old.core (Issue node op) ≡ Some self.new.core) }
         ensures serial { IfOk result
             (λ serial. serial ≡ (node_at self.old.core node).issued) }
         ensures fault { IfErr result
@@ -152,6 +155,8 @@ impl Recorder {
         requires { node < self.old.core.size.nodes }
         ensures performed { IfSome result
             (λ entry. IsLogged (node_at self.old.core node) (node_at self.new.core node) line entry) }
+        ensures event { IfSome result
+            (λ entry. stepping self.old.core (Perform node line) ≡ Some self.new.core) }
         ensures none { result ≡ None → node_performing (node_at self.old.core node) line ≡ None }
         ensures same { result ≡ None → self.new.core ≡ self.old.core }
         ensures spares { SparesOthers node self.old.core self.new.core }

@@ -4,6 +4,7 @@ ghost use Rattle.std.specs.Prelude.{◌≡◌, ◌≤◌, false, length, IfOk};
 ghost use Rattle.sci_history.specs.Audit.{AreWithin};
 ghost use Rattle.sci_history.specs.Lawful.{Lawful};
 ghost use Rattle.sci_history.specs.Sequential.{IsSequentiallyConsistent};
+ghost use Rattle.sci_runs.specs.Played.{IsPlayed};
 ghost use Rattle.sci_runs.specs.Runs.{IsRunOf, last_behind, logs_behind};
 
 use crate::fault::RunFault;
@@ -46,6 +47,8 @@ pub struct Run {
 /// is, or if there are more than 500,000 events.
 pub fn run_script(alloc: Global, script: &Script, plan: Plan) -> Result<Run, RunFault>
     ensures run { IfOk result (λ run. IsRunOf script.now plan.issuing run.done run.schedule) }
+    ensures played { IfOk result (λ run.
+        IsPlayed script.now plan.issuing plan.seed run.turns run.schedule) }
     ensures turns { IfOk result (λ run. run.turns ≤ plan.turns) }
     ensures all { IfOk result (λ run. run.done ≡ false → run.turns ≡ plan.turns) }
     ensures logs { IfOk result (λ run. run.logs ≡ logs_behind script.now run.schedule) }

@@ -19,9 +19,10 @@ pub(crate) struct Seat<'a> {
 }
 
 impl<'a> Worker for Seat<'a> {
-    ghost use Rattle.std.specs.Prelude.{◌≡◌};
+    ghost use Rattle.std.specs.Prelude.{◌≡◌, ℕ};
     ghost use Rattle.sci_core.specs.Core.{node_at};
-    ghost use Rattle.std.proofs.Common.{refl, ◌∙◌};
+    ghost use Rattle.std.proofs.Common.{refl, subst, ◌∙◌};
+    ghost use Rattle.sci_runs.specs.Deeds.{Takes, takes_nothing, takes_on};
     ghost use Rattle.sci_runs.specs.Recorded.{SparesOthers};
 
     ghost node = { λ seat. node_at seat.recorder.now.core seat.node };
@@ -31,7 +32,8 @@ impl<'a> Worker for Seat<'a> {
         × (new.policy.ghost_name ≡ old.policy.ghost_name)
         × SparesOthers old.node old.recorder.now.core new.recorder.now.core };
 
-    ghost turned = { λ old turns new. Unit {0} };
+    ghost turned = { λ old turns new. (new.node ≡ old.node) × Takes old.node turns
+        old.policy.now old.recorder.now.core new.policy.now new.recorder.now.core };
 
     fn submit(&mut self, op: Op) -> Result<u32, SubmitFault> {
         self.recorder.submit(self.node, op)
@@ -57,7 +59,13 @@ impl<'a> Worker for Seat<'a> {
       },
     ) };
 
-    ghost turned_not = { λ x. tt };
+    ghost turned_not = { λ x. (refl, takes_nothing x.node x.policy.now x.recorder.now.core) };
 
-    ghost turned_on = { λ x y z some more first second. tt };
+    ghost turned_on = { λ x y z some more first second. (
+      second.0 ∙ first.0,
+      takes_on x.node some more x.policy.now y.policy.now z.policy.now
+          x.recorder.now.core y.recorder.now.core z.recorder.now.core first.1
+          (subst (λ (n : ℕ). Takes n more
+          y.policy.now y.recorder.now.core z.policy.now z.recorder.now.core) first.0 second.1),
+    ) };
 }

@@ -14,7 +14,7 @@ use std::alloc::Global;
 use std::marker::Model;
 
 /// The nodes of a run at work on a script, and the machine that they share. Contracts see the script, when its operations
-/// are submitted, the machine's recorder, and the drivers of all nodes.
+/// are submitted, the machine's recorder, and the drivers and the policies of all nodes.
 #[derive(Drop)]
 pub(crate) struct Table<'a> {
     script: &'a Script,
@@ -34,6 +34,7 @@ impl<'a> Model for Table<'a> {
       issuing = table.issuing;
       recorder = table.recorder;
       drivers = map (λ player. player.driver) table.players.items;
+      policies = map (λ player. player.policy) table.players.items;
     } };
 
     ghost invariant = { λ table. AreAtWork (record {
@@ -41,6 +42,7 @@ impl<'a> Model for Table<'a> {
       issuing = table.issuing;
       recorder = table.recorder;
       drivers = map (λ player. player.driver) table.players.items;
+      policies = map (λ player. player.policy) table.players.items;
     }) };
 }
 
@@ -70,8 +72,11 @@ pub(crate) struct Ran {
 impl<'a> Table<'a> {
     ghost use Rattle.std.specs.Prelude.{◌≡◌, ◌<◌, ◌≤◌, ℕ, All, IfOk, None, true, false, length, slice_index_or};
     ghost use Rattle.sci_words.specs.declared.limits.TheConstants.{MAX_OPERATIONS};
-    ghost use Rattle.sci_threads.specs.Shares.{operations_of};
-    ghost use Rattle.sci_runs.specs.Players.{IsAnswered};
+    ghost use Rattle.sci_core.specs.Core.{run};
+    ghost use Rattle.sci_threads.specs.Shares.{operations_of, size_for};
+    ghost use Rattle.sci_runs.specs.Played.{Begins, IsRound, Played};
+    ghost use Rattle.sci_runs.specs.Players.{IsAnswered, moment_of};
+    ghost use Rattle.sci_runs.specs.Recorded.{raised};
     ghost use Rattle.sci_history.specs.Audit.{AreWithin};
     ghost use Rattle.sci_history.specs.Lawful.{Lawful};
     ghost use Rattle.sci_history.specs.Sequential.{IsSequentiallyConsistent};
@@ -91,6 +96,7 @@ impl<'a> Table<'a> {
         requires few { All (λ own. length own.items ≤ MAX_OPERATIONS) operations.now }
         ensures script { IfOk result (λ table. table.script ≡ script.now) }
         ensures issuing { IfOk result (λ table. table.issuing ≡ issuing) }
+        ensures begins { IfOk result (λ table. Begins script.now issuing (moment_of table)) }
         ensures none { IfOk result (λ table. table.recorder.lost ≡ None) }
     {
         let recorder = Recorder::new(alloc, script.extent(), most_operations(operations))?;
@@ -114,10 +120,11 @@ impl<'a> Table<'a> {
     fn round(&mut self, node: u8) -> Result<(), RunFault>
         requires { node < self.old.script.nodes }
         ensures recorded { IfOk result (λ _. self.new.recorder.lost ≡ None) }
+        ensures round { IfOk result (λ _. IsRound node (moment_of self.old) (moment_of self.new)) }
         ensures script { self.new.script ≡ self.old.script }
         ensures issuing { self.new.issuing ≡ self.old.issuing }
     {
-        self.players[usize::from(node)].round(&mut self.recorder, node)?;
+        let _round = self.players[usize::from(node)].round(&mut self.recorder, node)?;
         match self.recorder.lost() {
             Some(fault) => Err(fault),
             None => Ok(()),
@@ -133,6 +140,8 @@ impl<'a> Table<'a> {
         ensures issuing { self.new.issuing ≡ self.old.issuing }
         ensures answered { IfOk result (λ ran. ran.done ≡ true →
             All IsAnswered self.new.drivers) }
+        ensures played { IfOk result (λ ran. Played self.old.script.nodes ran.turns
+            order.old (moment_of self.old) order.new (moment_of self.new)) }
         ensures turns { IfOk result (λ ran. ran.turns ≤ turns) }
         ensures all { IfOk result (λ ran. ran.done ≡ false → ran.turns ≡ turns) }
     {
@@ -160,6 +169,9 @@ impl<'a> Table<'a> {
             (λ ended. IsRunOf self.entry.script self.entry.issuing false ended.schedule) }
         ensures whole { All IsAnswered self.entry.drivers → IfOk result
             (λ ended. IsRunOf self.entry.script self.entry.issuing true ended.schedule) }
+        ensures behind { IfOk result (λ ended.
+            run (size_for self.entry.script) ended.schedule.events
+            ≡ raised MAX_OPERATIONS self.entry.recorder.core) }
         ensures logs { IfOk result
             (λ ended. ended.logs ≡ logs_behind self.entry.script ended.schedule) }
         ensures last { IfOk result

@@ -5,6 +5,7 @@ ghost use Rattle.sci_core.specs.Core.{node_at};
 ghost use Rattle.sci_policy.specs.Rest.{MayIdle};
 ghost use Rattle.sci_policy.specs.Turn.{is_idle};
 ghost use Rattle.sci_policy.specs.Worker.{HasSameWork, IsNodeTurn};
+ghost use Rattle.sci_runs.specs.Deeds.{IsWholeTurn};
 ghost use Rattle.sci_runs.specs.Recorded.{SparesOthers};
 
 use crate::post::Lent;
@@ -21,6 +22,8 @@ pub(crate) fn turn_on(
     node: u8,
 ) -> Result<Progress, AllocError>
     requires { node < recorder.old.core.size.nodes }
+    ensures whole { IfOk result
+        (IsWholeTurn node policy.old recorder.old.core policy.new recorder.new.core) }
     ensures turn { IfOk result
         (IsNodeTurn (node_at recorder.old.core node) (node_at recorder.new.core node)) }
     ensures rest { IfOk result (λ progress. is_idle progress ≡ true →

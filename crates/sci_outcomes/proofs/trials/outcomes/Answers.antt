@@ -1,7 +1,7 @@
 use Rattle.std.proofs.Common.{subst}
 use Rattle.sci_outcomes.specs.declared.trials.Turns.{Turns}
-use Rattle.sci_outcomes.specs.Trials.{IsSightingOf}
-use Rattle.sci_outcomes.proofs.Sightings.{of_any_run, seen_more}
+use Rattle.sci_outcomes.specs.Trials.{IsSightingOf, turns_of_run}
+use Rattle.sci_outcomes.proofs.Sightings.{seen_more}
 use Rattle.sci_outcomes.proofs.trials.outcomes.Goals as goal
 
 pub loop-number-preserved : goal.loop-number-preserved
@@ -10,7 +10,6 @@ loop-number-preserved g c =
     let trials = c.args.trials in
     let number = c.loop-number.number in
     let sighting = c.in_ok-sighting.sighting in
-    let is = of_any_run script trials.turns number trials.issuing sighting
-    (subst (λ (turns : Turns). IsSightingOf script turns trials.issuing sighting) c.of_run.ensures c.in_ok-sighting.ensures) in
-    seen_more (IsSightingOf script trials.turns trials.issuing) c.loop-number.histogram c.add.new.self number sighting c.loop-number.invariant is
-    c.in_ok-add.ensures
+    let is = subst (λ (turns : Turns). IsSightingOf script turns trials.issuing sighting) c.of_run.ensures c.in_ok-sighting.ensures in
+    seen_more (λ k. IsSightingOf script (turns_of_run trials.turns k) trials.issuing) c.loop-number.histogram c.add.new.self number sighting
+    c.loop-number.invariant is c.in_ok-add.ensures

@@ -1,10 +1,10 @@
-use Rattle.std.proofs.Common.{◌≡◌, All, List, length}
+use Rattle.std.proofs.Common.{◌≡◌, List, length}
 use Rattle.sci_outcomes.specs.declared.outcome.Sighting.{Sighting}
 use Rattle.sci_outcomes.specs.Rows.{HasCounted}
-use Rattle.sci_outcomes.specs.Trials.{IsSightingOf}
+use Rattle.sci_outcomes.specs.Trials.{AreSightings}
 use Rattle.sci_outcomes.proofs.trials.outcomes.Given as goal
 
 -- what was seen of the runs so far
 abbrev pub invariant-loop-number : goal.invariant-loop-number
-invariant-loop-number g l = (seen : List Sighting) × (length seen ≡ l.number) × All (IsSightingOf l.script l.trials.turns l.trials.issuing) seen
+invariant-loop-number g l = (seen : List Sighting) × (length seen ≡ l.number) × AreSightings l.script l.trials.turns l.trials.issuing seen
     × HasCounted l.histogram seen

@@ -1,8 +1,14 @@
 use Rattle.std.proofs.Common.{◌≡◌, ℕ, List, refl, sym, subst, rules}
 use Rattle.std.specs.Prelude.{slice_index_or}
-use Rattle.sci_core.specs.Core.{node_at}
+use Rattle.sci_core.specs.Core.{Core, node_at}
 use Rattle.sci_core.specs.Node.{NodeOf, no_node}
+use Rattle.sci_policy.specs.Policy.{turned}
 use Rattle.sci_policy.specs.Rest.{MayIdle}
+use Rattle.sci_turn.specs.Far.{HasAskedAll}
+use Rattle.sci_turn.specs.Idle.{IsIdleTurn}
+use Rattle.sci_turn.specs.Moves.{IsTurn}
+use Rattle.sci_locked.specs.Lent.{post_at}
+use Rattle.sci_runs.specs.Deeds.{IsWholeTurn}
 use Rattle.sci_runs.proofs.turn.turn_on.Goals as goal
 
 pub returns-clause-rest : goal.returns-clause-rest
@@ -11,5 +17,26 @@ returns-clause-rest c = λ idle.
     let there : (parts : List NodeOf) → parts ≡ post.recorder.now.core.parts → MayIdle (slice_index_or parts c.args.node no_node) = λ parts is.
     subst (λ (ps : List NodeOf). MayIdle (slice_index_or ps c.args.node no_node)) (sym is)
     (subst (λ (n : ℕ). MayIdle (node_at post.recorder.now.core n)) c.take_turn.ensures.stays.0 (c.in_ok-take_turn.ensures.rest refl idle))
+    in
+    there _ (search rules)
+
+pub returns-clause-whole : goal.returns-clause-whole
+returns-clause-whole c =
+    let n = c.args.node in
+    let before = c.args.policy.now in
+    let old = c.args.recorder.now.core in
+    let after = c.take_turn.new.policy in
+    let post = c.take_turn.new.post in
+    let new = post.recorder.now.core in
+    let progress = c.take_turn.new.progress in
+    let same = c.take_turn.ensures.stays.0 in
+    let told = c.in_ok-take_turn.ensures in
+    let whole : IsWholeTurn n before old after new progress = record {
+      turn = subst (λ (m : ℕ). IsTurn before (post_at n old) after (post_at m new) progress) same told.turn;
+      asks = subst (λ (m : ℕ). HasAskedAll (turned before) (post_at n old) after (post_at m new) progress) same (told.asks refl);
+      idle = λ is. subst (λ (m : ℕ). IsIdleTurn before (post_at n old) after (post_at m new)) same (told.idle refl is);
+    } in
+    let there : (core : Core) → core ≡ new → IsWholeTurn n before old after core progress = λ core is.
+    subst (λ (x : Core). IsWholeTurn n before old after x progress) (sym is) whole
     in
     there _ (search rules)

@@ -1,5 +1,5 @@
 use Rattle.std.proofs.Common.{false, true}
-use Rattle.sci_runs.proofs.Finished.{ends_of, run_of}
+use Rattle.sci_runs.proofs.Finished.{behind_of, ends_of, run_of}
 use Rattle.sci_runs.proofs.table.Table.finish.Goals as goal
 
 pub returns-clause-run : goal.returns-clause-run
@@ -18,3 +18,6 @@ returns-clause-logs c = (ends_of _ _ c.in_ok-finish.field-0.schedule _ _ c.self.
 pub returns-clause-last : goal.returns-clause-last
 returns-clause-last c = (ends_of _ _ c.in_ok-finish.field-0.schedule _ _ c.self.view_is c.self.invariant c.in_ok-finish.ensures.led c.finish.ensures.reached
     c.in_ok-finish.ensures.good c.in_ok-finish.ensures.sized c.in_ok-finish.ensures.logs c.in_ok-finish.ensures.last).1
+
+pub returns-clause-behind : goal.returns-clause-behind
+returns-clause-behind c = behind_of _ _ c.in_ok-finish.field-0.schedule c.self.view_is c.self.invariant c.in_ok-finish.ensures.led

@@ -1,8 +1,16 @@
-use Rattle.sci_runs.proofs.Working.{all_opened}
+use Rattle.sci_runs.specs.declared.player.Player.{Player}
+use Rattle.sci_runs.proofs.Working.{all_opened, begins}
 use Rattle.sci_runs.proofs.table.Table.new.Goals as goal
 
 pub invariant_of-result : goal.invariant_of-result
 invariant_of-result c =
-    all_opened c.args.script.now c.args.issuing c.in_ok-recorder.recorder c.extent.result c.most_operations.result c.args.operations.now _ c.in_ok-recorder.ensures.opening
+    all_opened c.args.script.now c.args.issuing c.in_ok-recorder.recorder c.extent.result c.most_operations.result c.args.operations.now _ _ c.in_ok-recorder.ensures.opening
     c.extent.ensures.nodes c.extent.ensures.lines c.extent.ensures.slots c.requires.nodes c.requires.each
-    c.in_ok-players.ensures
+    c.in_ok-players.ensures.drivers
+
+pub returns-clause-begins : goal.returns-clause-begins
+returns-clause-begins c =
+    begins (λ (player : Player). player.driver) (λ (player : Player). player.policy) c.args.script.now c.args.issuing c.in_ok-recorder.recorder.core
+    c.extent.result c.most_operations.result c.args.operations.now c.in_ok-players.players.items c.in_ok-recorder.ensures.opening
+    c.extent.ensures.nodes c.extent.ensures.lines c.extent.ensures.slots c.requires.nodes c.requires.each c.most_operations.ensures.all
+    c.in_ok-players.ensures.drivers c.in_ok-players.ensures.policies

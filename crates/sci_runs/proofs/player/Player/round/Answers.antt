@@ -1,0 +1,38 @@
+use Rattle.std.proofs.Common.{◌≡◌, ℕ, List, sym, subst, rules}
+use Rattle.std.specs.Prelude.{IfOk, slice_index_or}
+use Rattle.sci_core.specs.Core.{Core, node_at}
+use Rattle.sci_core.specs.Node.{NodeOf, no_node}
+use Rattle.sci_turn.proofs.Moments.{if_ok_map}
+use Rattle.sci_runs.specs.Deeds.{Takes}
+use Rattle.sci_runs.specs.Played.{GoesOpenly}
+use Rattle.sci_runs.proofs.Playing.{goes_open}
+use Rattle.sci_runs.proofs.player.Player.round.Goals as goal
+
+pub returns-clause-goes : goal.returns-clause-goes
+returns-clause-goes c =
+    let player = c.args.self.now in
+    let core = c.args.recorder.now.core in
+    let worker = c.round.new.worker in
+    let goes : GoesOpenly player.driver c.round.new.self (node_at core c.args.node) (node_at worker.recorder.now.core worker.node) c.round.result =
+    goes_open c.round.ensures.goes (λ calls all. all) in
+    let there : (parts : List NodeOf) → parts ≡ worker.recorder.now.core.parts
+    → GoesOpenly player.driver c.round.new.self (node_at core c.args.node) (slice_index_or parts c.args.node no_node) c.round.result = λ parts is.
+    subst (λ (ps : List NodeOf). GoesOpenly player.driver c.round.new.self (node_at core c.args.node) (slice_index_or ps c.args.node no_node) c.round.result)
+    (sym is)
+    (subst (λ (n : ℕ). GoesOpenly player.driver c.round.new.self (node_at core c.args.node) (node_at worker.recorder.now.core n) c.round.result)
+    c.round.ensures.stays.0 goes)
+    in
+    there _ (search rules)
+
+pub returns-clause-takes : goal.returns-clause-takes
+returns-clause-takes c =
+    let policy = c.args.self.now.policy in
+    let core = c.args.recorder.now.core in
+    let worker = c.round.new.worker in
+    let there : (later : Core) → later ≡ worker.recorder.now.core
+    → IfOk c.round.result (λ _. Takes c.args.node 1 policy core worker.policy.now later) = λ later is.
+    subst (λ (x : Core). IfOk c.round.result (λ _. Takes c.args.node 1 policy core worker.policy.now x)) (sym is)
+    (if_ok_map (λ _. (worker.node ≡ c.args.node) × Takes c.args.node 1 policy core worker.policy.now worker.recorder.now.core)
+    (λ _. Takes c.args.node 1 policy core worker.policy.now worker.recorder.now.core) c.round.result (λ _ turned. turned.1) c.round.ensures.turned)
+    in
+    there _ (search rules)

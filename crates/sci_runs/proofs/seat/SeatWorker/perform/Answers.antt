@@ -1,0 +1,12 @@
+use Rattle.std.proofs.Common.{refl}
+use Rattle.sci_words.specs.declared.event.Event.TheVariants.{Perform}
+use Rattle.sci_runs.proofs.Playing.{takes_perform}
+use Rattle.sci_runs.proofs.seat.SeatWorker.perform.Goals as goal
+
+pub returns-clause-turned : goal.returns-clause-turned
+returns-clause-turned c =
+    let seat = c.args.self.now in (
+      refl,
+      takes_perform c.perform.result seat.node seat.policy.now seat.recorder.now.core c.perform.new.self.core (Perform seat.node c.args.line) refl
+          c.perform.ensures.event c.perform.ensures.same,
+    )

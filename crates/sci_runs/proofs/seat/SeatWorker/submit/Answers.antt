@@ -1,0 +1,12 @@
+use Rattle.std.proofs.Common.{refl}
+use Rattle.sci_words.specs.declared.event.Event.TheVariants.{Issue}
+use Rattle.sci_runs.proofs.Playing.{takes_submit}
+use Rattle.sci_runs.proofs.seat.SeatWorker.submit.Goals as goal
+
+pub returns-clause-turned : goal.returns-clause-turned
+returns-clause-turned c =
+    let seat = c.args.self.now in (
+      refl,
+      takes_submit c.submit.result seat.node seat.policy.now seat.recorder.now.core c.submit.new.self.core (Issue seat.node c.args.op) refl
+          c.submit.ensures.event c.submit.ensures.same,
+    )

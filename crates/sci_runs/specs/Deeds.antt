@@ -1,0 +1,76 @@
+-- What a node does of its own: it issues and performs operations, and takes turns.
+use Rattle.std.specs.Prelude.{◌≡◌, ◌+◌, ℕ, Bool, true, false, List, [], ◌∷◌, ◌++◌, Some, count_by}
+use Rattle.std.proofs.Common.{refl, sym, ap, subst, ◌∙◌, cond}
+use Rattle.std.proofs.lemmas.List.Sums.{sum_by-append}
+use Rattle.sci_words.specs.declared.event.Event.{Event}
+use Rattle.sci_words.specs.declared.event.Event.TheVariants as event
+use Rattle.sci_core.specs.Core.{Core, stepping}
+use Rattle.sci_policy.specs.declared.progress.Progress.{Progress}
+use Rattle.sci_policy.specs.Policy.{PolicyOf, turned}
+use Rattle.sci_policy.specs.Turn.{is_idle}
+use Rattle.sci_turn.specs.Far.{HasAskedAll}
+use Rattle.sci_turn.specs.Idle.{IsIdleTurn}
+use Rattle.sci_turn.specs.Moves.{IsTurn}
+use Rattle.sci_locked.specs.Lent.{post_at}
+
+-- a node issues an operation or performs one, or it takes a turn and tells what it did
+pub data Deed : Type 0 where
+  Works : (event : Event) → Deed
+  Turns : (progress : Progress) → Deed
+
+abbrev pub is_turn : Deed → Bool
+is_turn (Works event) = false
+is_turn (Turns progress) = true
+
+-- how many turns there are among deeds
+abbrev pub turns_among : List Deed → ℕ
+turns_among deeds = count_by is_turn deeds
+
+-- the event is an Issue or a Perform of this node
+abbrev pub IsWorkOf : ℕ → Event → Type 0
+IsWorkOf n (event.Issue m op) = m ≡ n
+IsWorkOf n (event.Perform m line) = m ≡ n
+IsWorkOf n (event.Ask m line kind) = ⊥
+IsWorkOf n (event.Serve from m) = ⊥
+IsWorkOf n (event.Refuse from m) = ⊥
+IsWorkOf n (event.Reply m) = ⊥
+IsWorkOf n (event.Accept from m) = ⊥
+
+-- A turn of node n to its end: its events are those that the policy decides, it asks until the policy wants no more or four
+-- times, and it tells nothing only if there was nothing to do.
+pub record IsWholeTurn (n : ℕ) (before : PolicyOf) (old : Core) (after : PolicyOf) (new : Core) (progress : Progress) : Type 0 where
+  pub turn : IsTurn before (post_at n old) after (post_at n new) progress
+  pub asks : HasAskedAll (turned before) (post_at n old) after (post_at n new) progress
+  pub idle : is_idle progress ≡ true → IsIdleTurn before (post_at n old) after (post_at n new)
+
+-- these deeds of node n, one after another, lead from one state and what its policy remembers to others
+abbrev pub Does : ℕ → List Deed → PolicyOf → Core → PolicyOf → Core → Type 0
+Does n [] before old after new = (before ≡ after) × (old ≡ new)
+Does n (Works e ∷ deeds) before old after new = (next : Core) × IsWorkOf n e × (stepping old e ≡ Some next) × Does n deeds before next after new
+Does n (Turns progress ∷ deeds) before old after new =
+    (policy : PolicyOf) × (next : Core) × IsWholeTurn n before old policy next progress × Does n deeds policy next after new
+
+-- so many turns of node n, with what it issues and performs between them
+pub record Takes (n turns : ℕ) (before : PolicyOf) (old : Core) (after : PolicyOf) (new : Core) : Type 0 where
+  pub deeds : List Deed
+  pub many : turns_among deeds ≡ turns
+  pub does : Does n deeds before old after new
+
+-- ---- that turns add up, which each worker owes
+
+pub takes_nothing : (n : ℕ) (p : PolicyOf) (x : Core) → Takes n 0 p x p x
+takes_nothing n p x = record { deeds = []; many = refl; does = (refl, refl) }
+
+does_on : (n : ℕ) (deeds more : List Deed) (p q r : PolicyOf) (x y z : Core) → Does n deeds p x q y → Does n more q y r z → Does n (deeds ++ more) p x r z
+does_on n [] more p q r x y z one two =
+    subst (λ (policy : PolicyOf). Does n more policy x r z) (sym one.0) (subst (λ (core : Core). Does n more q core r z) (sym one.1) two)
+does_on n (Works e ∷ deeds) more p q r x y z one two = (one.0, one.1, one.2, does_on n deeds more p q r one.0 y z one.3 two)
+does_on n (Turns progress ∷ deeds) more p q r x y z one two = (one.0, one.1, one.2, does_on n deeds more one.0 q r one.1 y z one.3 two)
+
+pub takes_on : (n some more : ℕ) (p q r : PolicyOf) (x y z : Core) → Takes n some p x q y → Takes n more q y r z → Takes n (some + more) p x r z
+takes_on n some more p q r x y z one two = record {
+  deeds = one.deeds ++ two.deeds;
+  many = sum_by-append (λ (deed : Deed). cond (is_turn deed) 1 0) one.deeds two.deeds
+      ∙ (ap (λ (turns : ℕ). turns + turns_among two.deeds) one.many ∙ ap (λ (turns : ℕ). some + turns) two.many);
+  does = does_on n one.deeds two.deeds p q r x y z one.does two.does;
+}

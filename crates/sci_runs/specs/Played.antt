@@ -1,0 +1,74 @@
+-- The rounds of a run, one after another: whose each is, and what its node does in it.
+use Rattle.std.specs.Prelude.{◌≡◌, ◌≢◌, ◌<◌, ◌≤◌, ℕ, zero, suc, List, Option, Ok, Result, length, slice_index_or}
+use Rattle.std.specs.declared.alloc.AllocError.{AllocError}
+use Rattle.sci_words.specs.declared.limits.TheConstants.{MAX_OPERATIONS}
+use Rattle.sci_text.specs.Script.{ScriptValue}
+use Rattle.sci_text.specs.Schedule.{ScheduleValue}
+use Rattle.sci_core.specs.Core.{Core, node_at, opening, run}
+use Rattle.sci_core.specs.Node.{NodeOf}
+use Rattle.sci_policy.specs.Policy.{PolicyOf, opening_policy}
+use Rattle.sci_drive.specs.declared.driver.Issuing.{Issuing}
+use Rattle.sci_drive.specs.declared.driver.Round.{Round}
+use Rattle.sci_drive.specs.Calls.{AllowAll}
+use Rattle.sci_drive.specs.Driving.{DriverOf, opening_driver}
+use Rattle.sci_drive.specs.Rounds.{GoesRound}
+use Rattle.sci_threads.specs.Shares.{operations_of, size_for}
+use Rattle.sci_runs.specs.declared.order.Order.{Order}
+use Rattle.sci_runs.specs.Deeds.{Takes}
+use Rattle.sci_runs.specs.Recorded.{raised, with_limit}
+use Rattle.sci_runs.specs.Turns.{first_order, next_node, next_order}
+
+-- ---- a run
+
+-- what a run has at one moment: the machine's state, and the driver and what the policy remembers of each node
+pub record Moment : Type 0 where
+  pub core : Core
+  pub drivers : List DriverOf
+  pub policies : List PolicyOf
+
+abbrev pub policy_at : Moment → ℕ → PolicyOf
+policy_at moment n = slice_index_or moment.policies n opening_policy
+
+abbrev pub driver_at : Moment → ℕ → DriverOf → DriverOf
+driver_at moment n d = slice_index_or moment.drivers n d
+
+-- what each node's driver, or policy, is stays, but for node n's
+abbrev pub StaysBut : {A : Type 0} → ℕ → List A → List A → Type 0
+StaysBut n old new = (m : ℕ) (d : _) → m ≢ n → slice_index_or new m d ≡ slice_index_or old m d
+
+-- a round of a driver whose gate allows all that it is asked about
+abbrev pub GoesOpenly : DriverOf → DriverOf → NodeOf → NodeOf → Result Round AllocError → Type 0
+GoesOpenly old new before after result = GoesRound (λ (first : Unit {0}) calls last. AllowAll calls) tt tt old new before after result
+
+-- A round of node n: it submits the next operation if it can, performs what it can, and takes one turn. It is never told to
+-- wait.
+pub record IsRound (n : ℕ) (old new : Moment) : Type 0 where
+  pub round : Round
+  pub goes : (d : DriverOf) → GoesOpenly (driver_at old n d) (driver_at new n d) (node_at old.core n) (node_at new.core n) (Ok round)
+  pub takes : Takes n 1 (policy_at old n) old.core (policy_at new n) new.core
+  pub drivers : StaysBut n old.drivers new.drivers
+  pub policies : StaysBut n old.policies new.policies
+
+-- so many rounds, of the nodes that come in this order
+abbrev pub Played : ℕ → ℕ → Order → Moment → Order → Moment → Type 0
+Played nodes zero order old later new = (order ≡ later) × (old ≡ new)
+Played nodes (suc rounds) order old later new =
+    (mid : Moment) × (next : Order) × Played nodes rounds order old next mid × (later ≡ next_order nodes next) × IsRound (next_node nodes next) mid new
+
+-- A run begins: the machine is new, with room for as many operations as each node has in the script at least; nothing is
+-- submitted, and the policies remember nothing.
+pub record Begins (script : ScriptValue) (issuing : Issuing) (first : Moment) : Type 0 where
+  pub limit : ℕ
+  pub room : (node : ℕ) → node < script.nodes → length (operations_of node script.operations) ≤ limit
+  pub core : first.core ≡ opening (with_limit limit (size_for script))
+  pub drivers : (node : ℕ) (d : DriverOf) → node < script.nodes → driver_at first node d ≡ opening_driver (operations_of node script.operations) issuing
+  pub policies : (node : ℕ) → policy_at first node ≡ opening_policy
+
+-- The schedule has the events of so many rounds by the policy: they begin anew, and lead to the state behind the schedule.
+pub record IsPlayed (script : ScriptValue) (issuing : Issuing) (seed : Option ℕ) (rounds : ℕ) (schedule : ScheduleValue) : Type 0 where
+  pub first : Moment
+  pub begins : Begins script issuing first
+  pub order : Order
+  pub last : Moment
+  pub played : Played script.nodes rounds (first_order seed) first order last
+  pub behind : run (size_for script) schedule.events ≡ raised MAX_OPERATIONS last.core
