@@ -32,18 +32,19 @@ pub drawn_sighting : (script : ScriptValue) (issuing : Issuing) (seed rounds : �
     → IsPlayed script issuing (Some seed) rounds schedule
     → places ≡ written_places script.lines script.operations → logs ≡ logs_behind script schedule → last ≡ last_behind script schedule → Lawful logs last
     → IsSequentiallyConsistent logs last → IsSeen places logs last sighting → IsDrawnSighting script issuing seed sighting
-drawn_sighting script issuing seed rounds done schedule places logs last sighting is_done run played places_are logs_are last_are lawful consistent seen = record {
-  schedule = schedule;
-  run = subst (λ (d : Bool). IsRunOf script issuing d schedule) is_done run;
-  rounds = rounds;
-  played = played;
-  lawful = subst (λ (l : List Stamped). Lawful (logs_behind script schedule) l) last_are (subst (λ (ls : List (List Entry)). Lawful ls last) logs_are lawful);
-  consistent = subst (λ (l : List Stamped). IsSequentiallyConsistent (logs_behind script schedule) l) last_are
-      (subst (λ (ls : List (List Entry)). IsSequentiallyConsistent ls last) logs_are consistent);
-  seen = subst (λ (ps : List Place). IsSeen ps (logs_behind script schedule) (last_behind script schedule) sighting) places_are
-      (subst (λ (l : List Stamped). IsSeen places (logs_behind script schedule) l sighting) last_are
-      (subst (λ (ls : List (List Entry)). IsSeen places ls last sighting) logs_are seen));
-}
+drawn_sighting script issuing seed rounds done schedule places logs last sighting is_done run played places_are logs_are last_are lawful consistent
+    seen = record {
+      schedule = schedule;
+      run = subst (λ (d : Bool). IsRunOf script issuing d schedule) is_done run;
+      rounds = rounds;
+      played = played;
+      lawful = subst (λ (l : List Stamped). Lawful (logs_behind script schedule) l) last_are (subst (λ (ls : List (List Entry)). Lawful ls last) logs_are lawful);
+      consistent = subst (λ (l : List Stamped). IsSequentiallyConsistent (logs_behind script schedule) l) last_are
+          (subst (λ (ls : List (List Entry)). IsSequentiallyConsistent ls last) logs_are consistent);
+      seen = subst (λ (ps : List Place). IsSeen ps (logs_behind script schedule) (last_behind script schedule) sighting) places_are
+          (subst (λ (l : List Stamped). IsSeen places (logs_behind script schedule) l sighting) last_are
+          (subst (λ (ls : List (List Entry)). IsSeen places ls last sighting) logs_are seen));
+    }
 
 -- the lines of logs and last contents of the script's machine
 pub led_lines : (script : ScriptValue) (logs : List (List Entry)) (last : List Stamped) → AreLedTo (size_for script) logs last → length last ≡ script.lines

@@ -1,6 +1,6 @@
 -- A machine whose nodes may issue more operations goes through the same events, to the same logs and last contents.
-use Rattle.std.proofs.Common.{◌≡◌, ℕ, zero, suc, ◌%◌, ◌<◌, ◌≤◌, nat_lt, Bool, true, false, if◌then◌else◌, List, [], ◌∷◌, ◌++◌, length, map, Option, Some, None, refl}
-use Rattle.std.proofs.Common.{arith, sym, ap, subst, ◌∙◌}
+use Rattle.std.proofs.Common.{◌≡◌, ℕ, zero, suc, ◌%◌, ◌<◌, ◌≤◌, nat_lt, Bool, true, false, if◌then◌else◌, List, [], ◌∷◌, ◌++◌, length}
+use Rattle.std.proofs.Common.{map, Option, Some, None, refl, arith, sym, ap, subst, ◌∙◌}
 use Rattle.std.specs.Prelude.{Result, Ok, Err, is_none, is_some, ◌&&◌, option_map, option_to_list, slice_index_or, unwrap_or}
 use Rattle.std.specs.List.{filter, flat_map, range_with_len}
 use Rattle.std.specs.Option.{option_or}
@@ -96,7 +96,8 @@ replied m node None = refl
 replied m node (Some letter) = refl
 
 served_home : (m : ℕ) (node : NodeOf) (letter : Letter) (o : Option (HomeState × Body))
-    → answered_by letter (served_at_home (raised_node m node) letter.line o) ≡ option_map (raised_node m) (answered_by letter (served_at_home node letter.line o))
+    → answered_by letter (served_at_home (raised_node m node) letter.line o)
+    ≡ option_map (raised_node m) (answered_by letter (served_at_home node letter.line o))
 served_home m node letter None = refl
 served_home m node letter (Some served) = refl
 
@@ -216,7 +217,8 @@ map_alike f g (x ∷ xs) same = ap (λ y. y ∷ map f xs) (same x) ∙ ap (λ ys
 
 pub logs_raised : (m : ℕ) (core : Core) → logs_of (raised m core) ≡ logs_of core
 logs_raised m core =
-    map_alike (λ n. (node_at (raised m core) n).log) (λ n. (node_at core n).log) (range_with_len 0 MAX_NODES) (λ n. same_at (λ part. part.log) m core.parts n (λ part. refl))
+    map_alike (λ n. (node_at (raised m core) n).log) (λ n. (node_at core n).log) (range_with_len 0 MAX_NODES)
+    (λ n. same_at (λ part. part.log) m core.parts n (λ part. refl))
 
 waiting_alike : (m : ℕ) (parts : List NodeOf)
     → flat_map (λ (part : NodeOf). option_to_list part.waiting) (map (raised_node m) parts) ≡ flat_map (λ (part : NodeOf). option_to_list part.waiting) parts
@@ -228,7 +230,8 @@ under_way_raised m core = ap (λ (letters : List Letter). letters ++ flat_map (�
 
 sharer_raised : (m : ℕ) (core : Core) (line n : ℕ) → sharer_of (raised m core) line n ≡ sharer_of core line n
 sharer_raised m core line n =
-    ap (λ (letters : List Letter). record { state = (line_of (node_at (raised m core) n).cache line).state; answer = answer_in (filter (is_about n line) letters) })
+    ap (λ (letters : List Letter).
+    record { state = (line_of (node_at (raised m core) n).cache line).state; answer = answer_in (filter (is_about n line) letters) })
     (under_way_raised m core)
     ∙ ap (λ (cache : CacheOf). record { state = (line_of cache line).state; answer = answer_in (packets_of core n line) })
     (same_at (λ part. part.cache) m core.parts n (λ part. refl))

@@ -50,7 +50,8 @@ pub all_opened : {Z : Type 0} (s : ScriptValue) (issuing : Issuing) (recorder : 
     (drivers : List DriverOf) (policies : List PolicyOf) → recorder.core ≡ opening (size_of extent limit)
     → extent.nodes ≡ s.nodes → extent.lines ≡ s.lines → extent.slots ≡ s.slots → length all ≡ s.nodes
     → ((k : ℕ) (own : Vec Op Z) → k < s.nodes → (slice_index_or all k own).items ≡ operations_of k s.operations)
-    → drivers ≡ map (λ own. opening_driver own.items issuing) all → AreAtWork (record { script = s; issuing = issuing; recorder = recorder; drivers = drivers; policies = policies })
+    → drivers ≡ map (λ own. opening_driver own.items issuing) all
+    → AreAtWork (record { script = s; issuing = issuing; recorder = recorder; drivers = drivers; policies = policies })
 all_opened s issuing recorder extent limit all drivers policies opens nodes lines slots long each is =
     let size = size_of extent limit in
     record {
@@ -111,7 +112,8 @@ placed_other h players k n new same m d other =
     ap (λ (xs : List _). slice_index_or xs m d) (map-set h players k new) ∙ get_or-set_other (map h players) k m (h new) d (λ is. other (is ∙ same))
 
 -- the node that was driven on, and the others, which stay
-goes_on : (table : TableOf) (n : ℕ) (was driver : DriverOf) (recorder : RecorderOf) (drivers : List DriverOf) (policies : List PolicyOf) → AreAtWork table → n < table.script.nodes
+goes_on : (table : TableOf) (n : ℕ) (was driver : DriverOf) (recorder : RecorderOf) (drivers : List DriverOf) (policies : List PolicyOf)
+    → AreAtWork table → n < table.script.nodes
     → slice_index_or table.drivers n driver ≡ was → drivers ≡ set table.drivers n driver
     → SparesOthers n table.recorder.core recorder.core → driver.script ≡ was.script → IsDriven driver (node_at recorder.core n)
     → (IsInOrder was (node_at table.recorder.core n) → IsInOrder driver (node_at recorder.core n))
@@ -143,7 +145,8 @@ goes_on table n was driver recorder drivers policies work some stood is spares s
     }
 
 -- a player that stands at node n's place, and its driver
-module _ {A : Type 0} (f : A → DriverOf) (g : A → PolicyOf) (script : ScriptValue) (issuing : Issuing) (recorder : RecorderOf) (players : List A) (table : TableOf) (n k : ℕ)
+module _ {A : Type 0} (f : A → DriverOf) (g : A → PolicyOf) (script : ScriptValue) (issuing : Issuing) (recorder : RecorderOf) (players : List A)
+    (table : TableOf) (n k : ℕ)
     (player : A) where
   abbrev view : TableOf
   view = record { script = script; issuing = issuing; recorder = recorder; drivers = map f players; policies = map g players }
@@ -168,11 +171,13 @@ module _ {A : Type 0} (f : A → DriverOf) (g : A → PolicyOf) (script : Script
   pub round_on : view ≡ table → AreAtWork view → n < table.script.nodes → k ≡ n → player ≡ slice_index_or players k player → (new : A) (later : RecorderOf)
       → SparesOthers n recorder.core later.core → (f new).script ≡ (f player).script
       → IsDriven (f new) (node_at later.core n) → (IsInOrder (f player) (node_at recorder.core n) → IsInOrder (f new) (node_at later.core n))
-      → AreAtWork (record { script = script; issuing = issuing; recorder = later; drivers = map f (set players k new); policies = map g (set players k new) })
+      → AreAtWork
+      (record { script = script; issuing = issuing; recorder = later; drivers = map f (set players k new); policies = map g (set players k new) })
   round_on is work lt same value new later spares own driven order =
       let some = some_node is lt in
       let drivers : map f (set players k new) ≡ set (map f players) n (f new) = map-set f players k new ∙ ap (λ (i : ℕ). set (map f players) i (f new)) same in
-      goes_on view n (f player) (f new) later (map f (set players k new)) (map g (set players k new)) work some (stands work some same value (f new)) drivers spares own driven order
+      goes_on view n (f player) (f new) later (map f (set players k new)) (map g (set players k new)) work some
+      (stands work some same value (f new)) drivers spares own driven order
 
   -- and it is a round of the run
   pub round_is : view ≡ table → AreAtWork view → n < table.script.nodes → k ≡ n → player ≡ slice_index_or players k player → (new : A) (later : RecorderOf)
