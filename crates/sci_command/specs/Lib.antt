@@ -5,3 +5,4 @@ pub mod Status
 pub mod Writing
 pub mod VerdictLine
 pub mod PacketLine
+pub mod AskedLine

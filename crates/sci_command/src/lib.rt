@@ -3,6 +3,7 @@
 #![tactic(auto)]
 
 mod answer;
+mod asked_line;
 mod outcome;
 mod packet_line;
 mod printing;
@@ -12,6 +13,7 @@ mod words;
 mod writing;
 
 pub use answer::{Answer, finish};
+pub use asked_line::{is_asked, read_asked};
 pub use outcome::Outcome;
 pub use packet_line::{command_name, push_contents, push_identifier, push_packet, put_contents};
 pub use printing::push_labelled;

@@ -1,3 +1,5 @@
 pub mod Rising
 pub mod Waiting
 pub mod Walked
+pub mod Counted
+pub mod Parts

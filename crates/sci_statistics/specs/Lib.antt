@@ -6,3 +6,5 @@ pub mod Measures
 pub mod Figures
 pub mod Levels
 pub mod Waits
+pub mod Beginning
+pub mod StatsAnswer

@@ -3,7 +3,9 @@
 
 mod about;
 mod command;
+mod counting;
 mod event_figures;
+mod figures;
 mod kind;
 mod levels;
 mod line_figures;
@@ -15,6 +17,7 @@ mod walk;
 
 pub use about::{line_about, line_changed, sent, taken};
 pub use command::Command;
+pub use counting::{StatsRequest, stats};
 pub use event_figures::{EventFigures, Tally};
 pub use kind::{Access, EventKind};
 pub use levels::{Level, LevelFigures};
@@ -23,4 +26,4 @@ pub use node_figures::NodeFigures;
 pub use packet_figures::PacketFigures;
 pub use passage::Passage;
 pub use waits::{NodeWaits, WaitFigures};
-pub use walk::passages_of;
+pub use walk::{applied, passages_of};

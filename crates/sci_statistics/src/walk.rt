@@ -70,7 +70,20 @@ fn performed(machine: &mut Machine, node: u8, line: u8) -> Option<Entry>
     }
 }
 
-/// Applies an event. Refused if memory is.
+/// Applies an event, and tells whether it was enabled. Refused if memory is.
+pub fn applied(machine: &mut Machine, event: &Event) -> Result<bool, AllocError>
+    ensures step { OnOk result (machine.new ≡ step machine.old event.now) }
+    ensures enabled { IfOk result
+        (λ enabled. enabled ≡ is_some (stepping machine.old event.now)) }
+{
+    match machine.apply(event) {
+        Ok(()) => Ok(true),
+        Err(ApplyFault::NotEnabled) => Ok(false),
+        Err(ApplyFault::Memory(refused)) => Err(refused),
+    }
+}
+
+/// Applies an event, and gives what happened. Refused if memory is.
 fn happened(machine: &mut Machine, event: &Event) -> Result<Happening, AllocError>
     ensures entry { IfOk result (λ it. it.entry ≡ made_by machine.old event.now) }
     ensures enabled { IfOk result (λ it. it.enabled ≡ is_some (stepping machine.old event.now)) }
@@ -83,17 +96,10 @@ fn happened(machine: &mut Machine, event: &Event) -> Result<Happening, AllocErro
             entry,
         });
     }
-    match machine.apply(event) {
-        Ok(()) => Ok(Happening {
-            enabled: true,
-            entry: None,
-        }),
-        Err(ApplyFault::NotEnabled) => Ok(Happening {
-            enabled: false,
-            entry: None,
-        }),
-        Err(ApplyFault::Memory(refused)) => Err(refused),
-    }
+    Ok(Happening {
+        enabled: applied(machine, event)?,
+        entry: None,
+    })
 }
 
 /// Applies an event, and gives what came of it. Refused if memory is.

@@ -6,8 +6,8 @@ use Rattle.sci_drive.specs.declared.driver.Issuing.{Issuing}
 use Rattle.sci_drive.specs.declared.driver.Issuing.TheVariants.{Ahead, InOrder}
 use Rattle.sci_outcomes.specs.declared.trials.Turns.{Turns}
 use Rattle.sci_outcomes.specs.declared.trials.Turns.TheVariants.{Drawn, Threads}
-use Rattle.sciview.specs.declared.outcomes.OutcomesRequest.{OutcomesRequest}
-use Rattle.sciview.specs.declared.outcomes.TheConstants.{MAX_RUNS}
+use Rattle.sci_run_reports.specs.declared.outcomes.OutcomesRequest.{OutcomesRequest}
+use Rattle.sci_run_reports.specs.declared.outcomes.TheConstants.{MAX_RUNS}
 use Rattle.sciview.specs.Choice.{ChoosesOutcomes, ChoosesTurnOrder, flag, is_in_order, turn_order_words}
 
 abbrev first : List (List ℕ) → List ℕ

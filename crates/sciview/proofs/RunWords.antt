@@ -3,7 +3,7 @@ use Rattle.std.proofs.Common.{◌≡◌, ◌↔◌, ℕ, arith, length, List, []
 use Rattle.std.specs.Prelude.{codes, Bool, true, false, option_map}
 use Rattle.sci_drive.specs.declared.driver.Issuing.{Issuing}
 use Rattle.sci_drive.specs.declared.driver.Issuing.TheVariants.{Ahead, InOrder}
-use Rattle.sciview.specs.declared.run.RunRequest.{RunRequest}
+use Rattle.sci_run_reports.specs.declared.running.RunRequest.{RunRequest}
 use Rattle.sciview.specs.Choice.{ChoosesPace, ChoosesRun, FitsTurns, flag, is_in_order, turns_words}
 
 abbrev first : List (List ℕ) → List ℕ

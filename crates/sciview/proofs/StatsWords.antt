@@ -1,4 +1,4 @@
--- The words and the parts of figures.
+-- The words of figures.
 use Rattle.std.proofs.Common.{◌≡◌, ◌↔◌, ◌<◌, ◌≤◌, ◌+◌, ◌-◌, ℕ, arith, length, get_or, take, List, [], ◌∷◌, ◌++◌, map, drop, Option, Some, None, append_assoc}
 use Rattle.std.proofs.Common.{sym, ap, ◌∙◌, refl}
 use Rattle.std.specs.Prelude.{codes, option_map}
@@ -8,7 +8,7 @@ use Rattle.std.proofs.lemmas.List.Concat.{flat_map-append}
 use Rattle.std.proofs.lemmas.List.FromFn.{map-range_with_len_more}
 use Rattle.sci_words.specs.declared.limits.TheConstants.{MAX_LINES, MAX_NODES}
 use Rattle.sci_text.specs.Number.{number}
-use Rattle.sciview.specs.declared.stats.StatsRequest.{StatsRequest}
+use Rattle.sci_statistics.specs.declared.counting.StatsRequest.{StatsRequest}
 use Rattle.sciview.specs.Choice.{ChoosesStats, FitsNode, line_words, node_words}
 use Rattle.sciview.proofs.Words.{two}
 
@@ -117,17 +117,3 @@ pub line_first : (words : List (List ℕ)) (word : List ℕ) (rest : List (List 
     → (let one : Option StatsRequest = Some record { line = Some line_there; node = node_there } in one ≡ Some request) ↔ ChoosesStats words request
 line_first words word rest line_said node_said line_there node_there are line_is node_is lines nodes request =
     lined words word rest line_said node_said line_there node_there are line_is node_is lines nodes request.line request.node
-
--- ---- parts, one after another
-
-range_more : (n : ℕ) → range_with_len 0 (n + 1) ≡ range_with_len 0 n ++ n ∷ []
-range_more n = sym (map-id (range_with_len 0 (n + 1)))
-    ∙ (map-range_with_len_more (λ x. x) 0 n n (omega arith) ∙ ap (λ (l : List ℕ). l ++ n ∷ []) (map-id (range_with_len 0 n)))
-
-pub parts_more : (part : ℕ → List ℕ) (old n1 n2 : List ℕ) (k : ℕ) → n1 ≡ old ++ flat_map part (range_with_len 0 k) → n2 ≡ n1 ++ part k
-    → n2 ≡ old ++ flat_map part (range_with_len 0 (k + 1))
-parts_more part old n1 n2 k e1 e2 =
-    let before = flat_map part (range_with_len 0 k) in
-    let whole : flat_map part (range_with_len 0 (k + 1)) ≡ before ++ part k =
-    ap (flat_map part) (range_more k) ∙ (flat_map-append part (range_with_len 0 k) (k ∷ []) ∙ ap (λ (l : List ℕ). before ++ l) (append-nil (part k))) in
-    e2 ∙ (ap (λ (l : List ℕ). l ++ part k) e1 ∙ (append_assoc old before (part k) ∙ ap (λ (l : List ℕ). old ++ l) (sym whole)))

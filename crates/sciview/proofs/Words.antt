@@ -3,12 +3,12 @@ use Rattle.std.proofs.Common.{◌-◌, ◌≡◌, ◌↔◌, ◌<◌, ◌≤◌,
 use Rattle.std.proofs.Common.{Some, None, sym, ap, ◌∙◌, refl, subst}
 use Rattle.std.proofs.lemmas.List.{length-map, take_all, take-map, drop-map, take-append-drop, map-append}
 use Rattle.std.specs.Prelude.{codes, Bool, true, false, option_map}
-use Rattle.sciview.specs.declared.chart.ChartRequest.{ChartRequest}
-use Rattle.sciview.specs.declared.chart.TextLines.{TextLines}
-use Rattle.sciview.specs.declared.trace.TraceRequest.{TraceRequest}
+use Rattle.sci_charts.specs.declared.charting.ChartRequest.{ChartRequest}
+use Rattle.sci_charts.specs.declared.charting.TextLines.{TextLines}
+use Rattle.sci_traces.specs.declared.tracing.TraceRequest.{TraceRequest}
 use Rattle.sci_words.specs.declared.limits.TheConstants.{MAX_LINES}
 use Rattle.sci_text.specs.Number.{number}
-use Rattle.sciview.specs.declared.random.Walk.{Walk}
+use Rattle.sci_walks.specs.declared.random.Walk.{Walk}
 use Rattle.sciview.specs.Choice.{ChoosesChart, ChoosesTrace, ChoosesWords, FitsDead, FitsEvents, FitsLine, FitsWalk, dead_words, events_words, flag, line_words}
 use Rattle.sciview.specs.Choice.{walk_words}
 

@@ -1,17 +1,2 @@
-pub mod AskedLine
-pub mod ChartAnswer
 pub mod Choice
 pub mod CommandAnswer
-pub mod PacketsAnswer
-pub mod StateWords
-pub mod ObstacleWords
-pub mod TraceAnswer
-pub mod ListsAnswer
-pub mod RandomAnswer
-pub mod RunAnswer
-pub mod OutcomesAnswer
-pub mod StatsAnswer
-pub mod Logged
-pub mod JsonMembers
-pub mod JsonParts
-pub mod JsonEvent

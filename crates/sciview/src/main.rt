@@ -1,34 +1,9 @@
 //! The program `sciview`: it reads standard input, and writes standard output.
 #![tactic(auto)]
 
-mod arrows;
-mod asked_line;
 mod carrying_out;
-mod chart;
 mod choice;
-mod deed;
-mod drawing;
-mod elements;
-mod event_words;
-mod figures;
 mod help;
-mod json_event;
-mod json_members;
-mod json_parts;
-mod labels;
-mod layout;
-mod legend;
-mod lists;
-mod obstacle_words;
-mod outcomes;
-mod packets;
-mod random;
-mod rows;
-mod run;
-mod state_words;
-mod stats;
-mod trace;
-mod walking;
 
 use carrying_out::carried_out;
 use choice::asked;

@@ -1,6 +1,4 @@
 use Rattle.std.proofs.Common.{refl}
-use Rattle.sci_text.specs.Tap.{has_failed, tapped}
-use Rattle.sci_command.specs.Answer.{IsWrittenOf}
 use Rattle.sci_command.specs.declared.outcome.Outcome.TheVariants.{Refused}
 use Rattle.sci_command.proofs.Finished.{written_text}
 use Rattle.sci_command.proofs.answer.finish.Goals as goal

@@ -7,23 +7,23 @@ use Rattle.sci_text.specs.Tap.{has_failed, tapped}
 use Rattle.sci_command.specs.declared.outcome.Outcome.TheVariants.{Done}
 use Rattle.sci_command.proofs.Finished.{finished, finished_reading, written_text}
 use Rattle.sciview.specs.declared.help.TheConstants.{HELP, VERSION}
-use Rattle.sciview.specs.AskedLine.{IsAskedFault}
-use Rattle.sciview.specs.ChartAnswer.{IsChartAnswer}
+use Rattle.sci_command.specs.AskedLine.{IsAskedFault}
+use Rattle.sci_charts.specs.ChartAnswer.{IsChartAnswer}
 use Rattle.sci_reports.specs.CheckAnswer.{IsCheckAnswer, IsLastFault}
 use Rattle.sci_reports.specs.ExplainAnswer.{IsExplainAnswer}
-use Rattle.sciview.specs.ListsAnswer.{IsListsAnswer}
+use Rattle.sci_traces.specs.ListsAnswer.{IsListsAnswer}
 use Rattle.sci_reports.specs.OrderAnswer.{IsOrderAnswer}
-use Rattle.sciview.specs.OutcomesAnswer.{IsOutcomesAnswer}
-use Rattle.sciview.specs.PacketsAnswer.{IsPacketsAnswer}
-use Rattle.sciview.specs.RandomAnswer.{IsRandomAnswer, IsWalkFault}
-use Rattle.sciview.specs.RunAnswer.{IsRunAnswer, IsRunRefusal}
-use Rattle.sciview.specs.StatsAnswer.{IsStatsAnswer, IsStatsFault}
-use Rattle.sciview.specs.TraceAnswer.{IsTraceAnswer}
-use Rattle.sciview.proofs.Asked.{refused_asked}
-use Rattle.sciview.proofs.Counted.{refused_stats}
+use Rattle.sci_run_reports.specs.OutcomesAnswer.{IsOutcomesAnswer}
+use Rattle.sci_traces.specs.PacketsAnswer.{IsPacketsAnswer}
+use Rattle.sci_walks.specs.RandomAnswer.{IsRandomAnswer, IsWalkFault}
+use Rattle.sci_run_reports.specs.RunAnswer.{IsRunAnswer, IsRunRefusal}
+use Rattle.sci_statistics.specs.StatsAnswer.{IsStatsAnswer, IsStatsFault}
+use Rattle.sci_traces.specs.TraceAnswer.{IsTraceAnswer}
+use Rattle.sci_command.proofs.Asked.{refused_asked}
+use Rattle.sci_statistics.proofs.Counted.{refused_stats}
 use Rattle.sci_reports.proofs.Checked.{refused_whole}
-use Rattle.sciview.proofs.Ran.{run_refused}
-use Rattle.sciview.proofs.Walks.{walk_refused}
+use Rattle.sci_run_reports.proofs.Ran.{run_refused}
+use Rattle.sci_walks.proofs.Walks.{walk_refused}
 use Rattle.sciview.proofs.carrying_out.outcome_of.Goals as goal
 
 pub returns-in-Order-clause-written : goal.returns-in-Order-clause-written

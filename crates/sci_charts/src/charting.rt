@@ -1,0 +1,110 @@
+//! The command `chart`: a message sequence chart of a schedule.
+
+ghost use Rattle.std.specs.Prelude.{◌≡◌, false, true, IfOk, IfErr};
+ghost use Rattle.sci_text.specs.Tap.{has_failed, is_called_again, tapped};
+ghost use Rattle.sci_command.specs.declared.outcome.Outcome.{Outcome};
+ghost use Rattle.sci_command.specs.AskedLine.{IsAskedFault};
+ghost use Rattle.sci_charts.specs.ChartAnswer.{IsChartAnswer};
+
+use crate::deed::{deed_of, line_of, packet_of};
+use crate::drawing::Drawing;
+use crate::layout::{FIRST_LINE, NumberedEvent};
+use sci_command::{Answer, Outcome, read_asked};
+use sci_core::Machine;
+use sci_packets::Packet;
+use sci_statistics::applied;
+use sci_text::{Schedule, Tap, TextFault};
+use sci_words::{Event, MAX_OPERATIONS};
+use std::alloc::{AllocError, Global};
+use std::io::Read;
+
+/// The lines of a schedule from one to another.
+#[derive(Clone, Copy)]
+pub struct TextLines {
+    pub first: u64,
+    pub last: u64,
+}
+
+/// All lines of a schedule.
+const ALL_LINES: TextLines = TextLines {
+    first: 0,
+    last: u64::MAX,
+};
+
+/// What is asked of a chart.
+#[derive(Clone, Copy)]
+pub struct ChartRequest {
+    /// The line of memory that it is about, if it isn't about all.
+    pub line: Option<u8>,
+    /// The lines of the schedule whose events it shows, if it doesn't show all.
+    pub events: Option<TextLines>,
+}
+
+/// Whether a chart of one line shows an event, which would send or take this packet. A chart of all lines shows each.
+fn is_shown(line: Option<u8>, event: &Event, packet: Option<&Packet>) -> bool {
+    match line {
+        Some(line) => line_of(event, packet) == Some(u64::from(line)),
+        None => true,
+    }
+}
+
+/// The chart of a schedule. The events on lines before those that are asked for happen above it.
+fn chart_of(
+    alloc: Global,
+    schedule: &Schedule,
+    request: ChartRequest,
+) -> Result<Vec<u8>, AllocError> {
+    let mut machine = Machine::new(alloc, schedule.extent(), MAX_OPERATIONS)?;
+    let mut drawing = Drawing::new(alloc, schedule, request)?;
+    let lines = request.events.unwrap_or(ALL_LINES);
+    let mut text_line = FIRST_LINE;
+    for event in schedule.events() {
+        if text_line > lines.last {
+            break;
+        }
+        let packet = packet_of(&machine, event);
+        if is_shown(request.line, event, packet.as_ref()) {
+            let deed = deed_of(alloc, &mut machine, event, packet.as_ref())?;
+            let numbered = NumberedEvent {
+                line: text_line,
+                event,
+            };
+            if text_line < lines.first {
+                drawing.pass(&deed)?;
+            } else {
+                drawing.add(&numbered, &deed)?;
+            }
+        } else {
+            let _ = applied(&mut machine, event)?;
+        }
+        text_line = text_line.saturating_add(1);
+    }
+    drawing.text()
+}
+
+/// Reads a schedule to its end, applies its events in text order to a new machine whose nodes may each issue 65,536
+/// operations (events that are not enabled change nothing), and gives a message sequence chart of them in SVG: Done. With a
+/// line it shows the events and the packets about that line alone, and else all. With lines of the schedule it shows the
+/// events on these alone: a packet that was sent before them comes in from above, and one that is taken after them goes on
+/// to the end. A schedule with a fault is refused, as are a reader that fails, too long an input and running out of memory,
+/// at line 0, and a line that the machine doesn't have, as `range` at line 0. After a failed read nothing more is read.
+pub fn chart<R: Read>(
+    alloc: Global,
+    request: ChartRequest,
+    reader: &mut Tap<R>,
+) -> Result<Answer, TextFault>
+    requires { has_failed reader.old ≡ false }
+    ensures answer { IfOk result (λ answer.
+        IsChartAnswer request.line (R.remaining (tapped reader.old)) (has_failed reader.new)
+        answer.text.items answer.outcome) }
+    ensures fault { IfErr result (λ fault. IsAskedFault request.line fault.kind
+        (R.remaining (tapped reader.old)) (has_failed reader.new) fault.line) }
+    ensures again { is_called_again reader.new ≡ is_called_again reader.old }
+{
+    let schedule = read_asked(alloc, request.line, reader)?;
+    let text = chart_of(alloc, &schedule, request)?;
+    Ok(Answer {
+        text,
+        outcome: Outcome::Done,
+    })
+}

@@ -1,0 +1,8 @@
+use Rattle.std.proofs.Common.{◌≡◌, take}
+use Rattle.std.specs.List.{flat_map}
+use Rattle.sci_run_reports.specs.OutcomesAnswer.{row_text}
+use Rattle.sci_run_reports.proofs.outcomes.outcomes_text.Given as goal
+
+-- the rows so far
+abbrev pub invariant-loop-row : goal.invariant-loop-row
+invariant-loop-row l = l.text.items ≡ flat_map (row_text l.trials.turns) (take l.row-index l.rows)

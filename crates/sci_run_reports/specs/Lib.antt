@@ -1,0 +1,2 @@
+pub mod RunAnswer
+pub mod OutcomesAnswer

@@ -1,0 +1,77 @@
+-- What `outcomes` writes for its input.
+use Rattle.std.specs.Prelude.{◌≡◌, ℕ, ◌+◌, ◌%◌, ◌^◌, Bool, true, false, List, [], ◌∷◌, ◌++◌, codes, length, Option, unwrap_or}
+use Rattle.std.specs.List.{flat_map}
+use Rattle.sci_text.specs.Number.{number, field}
+use Rattle.sci_text.specs.Script.{IsScript, ScriptValue, script_text}
+use Rattle.sci_command.specs.declared.outcome.Outcome as ending
+use Rattle.sci_command.specs.Answer.{IsDoneBy}
+use Rattle.sci_outcomes.specs.declared.histogram.Row.{Row}
+use Rattle.sci_outcomes.specs.declared.outcome.Held.{Held}
+use Rattle.sci_outcomes.specs.declared.outcome.Outcome.{Outcome}
+use Rattle.sci_outcomes.specs.declared.outcome.Replied.{Replied}
+use Rattle.sci_outcomes.specs.declared.trials.Turns.{Turns}
+use Rattle.sci_outcomes.specs.declared.trials.Turns.TheVariants.{Drawn, Threads}
+use Rattle.sci_outcomes.specs.Trials.{AreOutcomes}
+use Rattle.sci_run_reports.specs.declared.outcomes.OutcomesRequest.{OutcomesRequest}
+use Rattle.sci_run_reports.specs.declared.outcomes.TheConstants.{RUNS, SEED}
+use Rattle.sci_run_reports.specs.RunAnswer.{IsRunRefusal}
+
+-- ---- texts
+
+-- `NODE:SERIAL=WORD `
+unfoldable pub replied_text : Replied → List ℕ
+replied_text replied = number replied.node ++ (codes ":" ++ (number replied.serial ++ (codes "=" ++ (number replied.word ++ codes " "))))
+
+-- ` LINE.PLACE=WORD`
+unfoldable pub held_text : Held → List ℕ
+held_text held = codes " " ++ (number held.line ++ (codes "." ++ (number held.word ++ (codes "=" ++ number held.value))))
+
+-- what was replied, a bar, and the words
+unfoldable pub outcome_text : Outcome → List ℕ
+outcome_text outcome = flat_map replied_text outcome.replies.items ++ (codes "|" ++ flat_map held_text outcome.last.items)
+
+unfoldable pub sense_text : Bool → List ℕ
+sense_text true = codes " in program order" ++ 10 ∷ []
+sense_text false = codes " reordered" ++ 10 ∷ []
+
+-- ` seed SEED` of the run with this number, if its order of turns was drawn
+unfoldable pub seed_text : Turns → ℕ → List ℕ
+seed_text (Drawn seed) number = codes " seed" ++ field ((seed + number) % 2 ^ 64)
+seed_text Threads number = []
+
+-- `: count RUNS`, the seed of the first of them, whether one of them is in program order, and the line feed
+unfoldable pub count_text : Turns → Row → List ℕ
+count_text turns row = codes ": count" ++ (field row.runs ++ (seed_text turns row.first ++ sense_text row.in_order))
+
+unfoldable pub row_text : Turns → Row → List ℕ
+row_text turns row = outcome_text row.outcome ++ count_text turns row
+
+-- `outcomes N runs R`, and the line feed
+unfoldable pub total_text : ℕ → ℕ → List ℕ
+total_text outcomes runs = codes "outcomes" ++ (field outcomes ++ (codes " runs" ++ (field runs ++ 10 ∷ [])))
+
+-- a line for each row, and one for all
+abbrev pub outcomes_text : Turns → ℕ → List Row → List ℕ
+outcomes_text turns runs rows = flat_map (row_text turns) rows ++ total_text (length rows) runs
+
+-- ---- the answer
+
+-- in which order nodes take turns, and how many runs there are
+abbrev pub turns_asked : OutcomesRequest → Turns
+turns_asked request = unwrap_or request.turns (Drawn SEED)
+
+abbrev pub runs_asked : OutcomesRequest → ℕ
+runs_asked request = unwrap_or request.runs RUNS
+
+-- the input is the text of a script, and the outcomes of its runs are written
+pub record IsOutcomesText (request : OutcomesRequest) (input text : List ℕ) : Type 0 where
+  pub script : ScriptValue
+  pub good : IsScript script
+  pub read : input ≡ script_text script
+  pub rows : List Row
+  pub outcomes : AreOutcomes script (turns_asked request) request.issuing (runs_asked request) rows
+  pub written : text ≡ outcomes_text (turns_asked request) (runs_asked request) rows
+
+-- what `outcomes` writes, and how it ends, for the bytes of a reader, which has failed or not
+abbrev pub IsOutcomesAnswer : OutcomesRequest → Option (List ℕ) → Bool → List ℕ → ending.Outcome → Type 0
+IsOutcomesAnswer request input failed = IsDoneBy (IsOutcomesText request) (λ kind line. IsRunRefusal kind input failed line) input failed

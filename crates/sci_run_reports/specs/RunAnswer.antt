@@ -1,0 +1,39 @@
+-- What `run` writes for its input.
+use Rattle.std.specs.Prelude.{◌≡◌, ◌⊎◌, ℕ, Bool, true, false, List, Option}
+use Rattle.sci_text.specs.declared.fault.TextFaultKind.{TextFaultKind}
+use Rattle.sci_text.specs.declared.fault.TextFaultKind.TheVariants.{TooMany}
+use Rattle.sci_text.specs.FirstFault.{IsTold}
+use Rattle.sci_text.specs.Schedule.{ScheduleValue, schedule_text}
+use Rattle.sci_text.specs.Script.{IsScript, ScriptValue, script_text}
+use Rattle.sci_text.specs.ScriptFault.{IsScriptFault}
+use Rattle.sci_command.specs.declared.outcome.Outcome.{Outcome}
+use Rattle.sci_command.specs.declared.outcome.Outcome.TheVariants.{Done, Unlawful, Refused}
+use Rattle.sci_command.specs.Input.{IsReadAs}
+use Rattle.sci_command.specs.Refusal.{IsRefusalBy}
+use Rattle.sci_runs.specs.Runs.{IsRunOf}
+use Rattle.sci_run_reports.specs.declared.running.RunRequest.{RunRequest}
+
+-- the input is the text of a script
+pub record IsScriptText (input : List ℕ) : Type 0 where
+  pub script : ScriptValue
+  pub good : IsScript script
+  pub read : input ≡ script_text script
+
+-- why there is no answer: the input has a fault, or its run has too many events
+abbrev pub IsRunRefusal : TextFaultKind → Option (List ℕ) → Bool → ℕ → Type 0
+IsRunRefusal kind input failed at = IsTold IsScriptFault kind input failed at ⊎ ((kind ≡ TooMany) × (at ≡ 0) × IsReadAs input failed IsScriptText)
+
+-- the input is the text of a script, and the schedule of a run of it is written
+pub record IsRunText (request : RunRequest) (done : Bool) (input text : List ℕ) : Type 0 where
+  pub script : ScriptValue
+  pub good : IsScript script
+  pub read : input ≡ script_text script
+  pub schedule : ScheduleValue
+  pub run : IsRunOf script request.issuing done schedule
+  pub written : text ≡ schedule_text schedule
+
+-- what `run` writes, and how it ends, for the bytes of a reader, which has failed or not: Unlawful if the turns were used up
+abbrev pub IsRunAnswer : RunRequest → Option (List ℕ) → Bool → List ℕ → Outcome → Type 0
+IsRunAnswer request input failed text Done = IsReadAs input failed (λ bytes. IsRunText request true bytes text)
+IsRunAnswer request input failed text Unlawful = IsReadAs input failed (λ bytes. IsRunText request false bytes text)
+IsRunAnswer request input failed text Refused = IsRefusalBy (λ kind line. IsRunRefusal kind input failed line) text

@@ -1,0 +1,197 @@
+//! The command `outcomes`: the outcomes of a script that is run many times.
+
+ghost use Rattle.std.specs.Prelude.{◌≡◌, ◌++◌, false, IfOk, IfErr, OnOk};
+ghost use Rattle.std.specs.List.{flat_map};
+ghost use Rattle.sci_text.specs.Tap.{has_failed, is_called_again, tapped};
+ghost use Rattle.sci_command.specs.declared.outcome.Outcome.{Outcome};
+ghost use Rattle.sci_run_reports.specs.RunAnswer.{IsRunRefusal};
+ghost use Rattle.sci_run_reports.specs.OutcomesAnswer.{IsOutcomesAnswer, count_text, held_text, outcome_text, outcomes_text as outcomes_text_of, replied_text, row_text, seed_text, sense_text, total_text};
+
+use crate::running::fault_of;
+use sci_command::{Answer, Outcome, push_labelled};
+use sci_drive::Issuing;
+use sci_outcomes::{Held, Replied, Row, Trials, Turns, outcomes};
+use sci_text::{Tap, TextFault, push_number, push_text, read_script};
+use std::alloc::{AllocError, Global};
+use std::io::Read;
+use std::thread::Threads;
+
+/// How many runs there are at most.
+pub const MAX_RUNS: u64 = 1_000_000;
+
+/// How many runs there are, if the words don't say.
+pub const RUNS: u64 = 1_000;
+
+/// The seed of the first run, if the words don't say.
+pub const SEED: u64 = 1;
+
+/// What is asked of the outcomes of a script.
+#[derive(Clone, Copy)]
+pub struct OutcomesRequest {
+    /// How many runs there are, 1 to 1,000,000, or None for 1,000.
+    pub runs: Option<u64>,
+    /// In which order the nodes take turns, or None for one that is drawn from seed 1 in the first run.
+    pub turns: Option<Turns>,
+    /// When the operations of a node are submitted.
+    pub issuing: Issuing,
+}
+
+/// Appends what an operation replied.
+#[tactic(auto, unfolding(crate::specs::OutcomesAnswer::replied_text))]
+fn push_replied(out: &mut Vec<u8>, replied: &Replied) -> Result<(), AllocError>
+    ensures { OnOk result (out.new.items ≡ out.old.items ++ replied_text replied.now) }
+{
+    push_number(out, u64::from(replied.node))?;
+    push_text(out, ":")?;
+    push_number(out, u64::from(replied.serial))?;
+    push_text(out, "=")?;
+    push_number(out, replied.word)?;
+    push_text(out, " ")
+}
+
+/// Appends what a word holds.
+#[tactic(auto, unfolding(crate::specs::OutcomesAnswer::held_text))]
+fn push_held(out: &mut Vec<u8>, held: &Held) -> Result<(), AllocError>
+    ensures { OnOk result (out.new.items ≡ out.old.items ++ held_text held.now) }
+{
+    push_text(out, " ")?;
+    push_number(out, u64::from(held.line))?;
+    push_text(out, ".")?;
+    push_number(out, u64::from(held.word))?;
+    push_text(out, "=")?;
+    push_number(out, held.value)
+}
+
+/// Appends what operations replied.
+fn push_replies(out: &mut Vec<u8>, replies: &[Replied]) -> Result<(), AllocError>
+    ensures { OnOk result (out.new.items ≡ out.old.items ++ flat_map replied_text replies.now) }
+{
+    for replied in replies {
+        push_replied(out, replied)?;
+    }
+    Ok(())
+}
+
+/// Appends what words hold.
+fn push_words(out: &mut Vec<u8>, words: &[Held]) -> Result<(), AllocError>
+    ensures { OnOk result (out.new.items ≡ out.old.items ++ flat_map held_text words.now) }
+{
+    for held in words {
+        push_held(out, held)?;
+    }
+    Ok(())
+}
+
+/// The words that say whether an outcome is in program order.
+#[tactic(auto, unfolding(crate::specs::OutcomesAnswer::sense_text))]
+fn sense_words(in_order: bool) -> &'static str
+    ensures { result.now ≡ sense_text in_order }
+{
+    if in_order {
+        " in program order\n"
+    } else {
+        " reordered\n"
+    }
+}
+
+/// Appends the seed of the run with this number, if its order of turns was drawn.
+#[tactic(auto, unfolding(crate::specs::OutcomesAnswer::seed_text))]
+fn push_seed(out: &mut Vec<u8>, turns: Turns, number: u64) -> Result<(), AllocError>
+    ensures { OnOk result (out.new.items ≡ out.old.items ++ seed_text turns number) }
+{
+    match turns {
+        Turns::Drawn { seed } => push_labelled(out, b" seed", seed.wrapping_add(number)),
+        Turns::Threads => Ok(()),
+    }
+}
+
+/// Appends how many runs gave the outcome of a row, the seed of the first of them, and whether it is in program order.
+#[tactic(auto, unfolding(crate::specs::OutcomesAnswer::count_text))]
+fn push_count(out: &mut Vec<u8>, turns: Turns, row: &Row) -> Result<(), AllocError>
+    ensures { OnOk result (out.new.items ≡ out.old.items ++ count_text turns row.now) }
+{
+    push_labelled(out, b": count", row.runs)?;
+    push_seed(out, turns, row.first)?;
+    push_text(out, sense_words(row.in_order))
+}
+
+/// Appends the outcome of a row.
+#[tactic(auto, unfolding(crate::specs::OutcomesAnswer::outcome_text))]
+fn push_outcome(out: &mut Vec<u8>, row: &Row) -> Result<(), AllocError>
+    ensures { OnOk result (out.new.items ≡ out.old.items ++ outcome_text row.now.outcome) }
+{
+    push_replies(out, &row.outcome.replies)?;
+    push_text(out, "|")?;
+    push_words(out, &row.outcome.last)
+}
+
+/// Appends the line of a row.
+#[tactic(auto, unfolding(crate::specs::OutcomesAnswer::row_text))]
+fn push_row(out: &mut Vec<u8>, turns: Turns, row: &Row) -> Result<(), AllocError>
+    ensures { OnOk result (out.new.items ≡ out.old.items ++ row_text turns row.now) }
+{
+    push_outcome(out, row)?;
+    push_count(out, turns, row)
+}
+
+/// Appends how many outcomes and runs there were.
+#[tactic(auto, unfolding(crate::specs::OutcomesAnswer::total_text))]
+fn push_total(out: &mut Vec<u8>, outcomes: u64, runs: u64) -> Result<(), AllocError>
+    ensures { OnOk result (out.new.items ≡ out.old.items ++ total_text outcomes runs) }
+{
+    push_labelled(out, b"outcomes", outcomes)?;
+    push_labelled(out, b" runs", runs)?;
+    push_text(out, "\n")
+}
+
+/// The text of the rows of runs.
+fn outcomes_text(alloc: Global, trials: Trials, rows: &[Row]) -> Result<Vec<u8>, AllocError>
+    ensures { IfOk result
+        (λ text. text.items ≡ outcomes_text_of trials.turns trials.runs rows.now) }
+{
+    let mut text = Vec::new(alloc);
+    for row in rows {
+        push_row(&mut text, trials.turns, row)?;
+    }
+    push_total(&mut text, rows.len() as u64, trials.runs)?;
+    Ok(text)
+}
+
+/// Reads a script to its end, runs it many times by the policy on a new machine, each time in an order that is drawn from the
+/// next seed or by one thread a node, and gives a line for each outcome: what each load and each lock operation replied, by
+/// node and then by serial; what each word that the script may write holds at the end; how many runs gave the outcome; the
+/// seed of the first of them, unless they are by threads; and whether the log of one of them is sequentially consistent in program order. The most frequent stands first, and those
+/// that are as frequent by their numbers. The last line says how many outcomes and runs there were. That the log of each run
+/// is lawful is a theorem, and isn't looked at. A script with a fault is refused, as are a reader that fails, too long an
+/// input and running out of memory, at line 0, and a run of more than 500,000 events or 1,000,000,000 turns, as `too-many` at
+/// line 0. After a failed read nothing more is read.
+pub fn outcomes_of<T: Threads + Sync, R: Read>(
+    rt: &T,
+    alloc: Global,
+    request: OutcomesRequest,
+    reader: &mut Tap<R>,
+) -> Result<Answer, TextFault>
+    requires { has_failed reader.old ≡ false }
+    ensures answer { IfOk result (λ answer.
+        IsOutcomesAnswer request (R.remaining (tapped reader.old)) (has_failed reader.new)
+        answer.text.items answer.outcome) }
+    ensures fault { IfErr result (λ fault. IsRunRefusal fault.kind
+        (R.remaining (tapped reader.old)) (has_failed reader.new) fault.line) }
+    ensures again { is_called_again reader.new ≡ is_called_again reader.old }
+{
+    let script = read_script(alloc, reader)?;
+    let trials = Trials {
+        runs: request.runs.unwrap_or(RUNS),
+        turns: request.turns.unwrap_or(Turns::Drawn { seed: SEED }),
+        issuing: request.issuing,
+    };
+    let rows = match outcomes(rt, alloc, &script, trials) {
+        Ok(rows) => rows,
+        Err(fault) => return Err(fault_of(fault)),
+    };
+    let text = outcomes_text(alloc, trials, &rows)?;
+    Ok(Answer {
+        text,
+        outcome: Outcome::Done,
+    })
+}

@@ -1,0 +1,85 @@
+//! The command `run`: the schedule of a script's run.
+
+ghost use Rattle.std.specs.Prelude.{◌≡◌, ◌⊎◌, false, true, IfOk, IfErr};
+ghost use Rattle.sci_text.specs.declared.fault.TextFaultKind.TheVariants.{Memory, TooMany};
+ghost use Rattle.sci_text.specs.Tap.{has_failed, is_called_again, tapped};
+ghost use Rattle.sci_command.specs.declared.outcome.Outcome.{Outcome};
+ghost use Rattle.sci_run_reports.specs.RunAnswer.{IsRunAnswer, IsRunRefusal};
+
+use sci_command::{Answer, Outcome};
+use sci_drive::Issuing;
+use sci_runs::{Plan, RunFault, run_script};
+use sci_text::{Tap, TextFault, TextFaultKind, read_script, schedule_text};
+use sci_words::MAX_TURNS;
+use std::alloc::Global;
+use std::io::Read;
+
+/// What is asked of a run.
+#[derive(Clone, Copy)]
+pub struct RunRequest {
+    /// What the order of turns is drawn from, or None for a turn each in a circle.
+    pub seed: Option<u64>,
+    /// When the operations of a node are submitted.
+    pub issuing: Issuing,
+    /// How many turns the nodes take at most, all together, or None for 1,000,000,000.
+    pub turns: Option<u64>,
+}
+
+/// How a run ends that is done, or has used up its turns.
+fn outcome_of(done: bool) -> Outcome
+    ensures yes { done ≡ true → result ≡ Outcome.Done }
+    ensures no { done ≡ false → result ≡ Outcome.Unlawful }
+{
+    if done {
+        Outcome::Done
+    } else {
+        Outcome::Unlawful
+    }
+}
+
+/// Why a run is refused, as a fault of the whole input.
+pub fn fault_of(fault: RunFault) -> TextFault
+    ensures line { result.line ≡ 0 }
+    ensures kind { (result.kind ≡ TooMany) ⊎ (result.kind ≡ Memory) }
+{
+    let kind = match fault {
+        RunFault::Memory => TextFaultKind::Memory,
+        RunFault::TooMany => TextFaultKind::TooMany,
+    };
+    TextFault { line: 0, kind }
+}
+
+/// Reads a script to its end, runs it by the policy on a new machine whose nodes take one turn after another, and gives the
+/// schedule of the run: every event, in its order. It is Done if each operation of the script was performed, and Unlawful if
+/// the turns were used up first. A script with a fault is refused, as are a reader that fails, too long an input and running
+/// out of memory, at line 0, and a run of more than 500,000 events, as `too-many` at line 0. After a failed read nothing more
+/// is read.
+pub fn run<R: Read>(
+    alloc: Global,
+    request: RunRequest,
+    reader: &mut Tap<R>,
+) -> Result<Answer, TextFault>
+    requires { has_failed reader.old ≡ false }
+    ensures answer { IfOk result (λ answer.
+        IsRunAnswer request (R.remaining (tapped reader.old)) (has_failed reader.new)
+        answer.text.items answer.outcome) }
+    ensures fault { IfErr result (λ fault. IsRunRefusal fault.kind
+        (R.remaining (tapped reader.old)) (has_failed reader.new) fault.line) }
+    ensures again { is_called_again reader.new ≡ is_called_again reader.old }
+{
+    let script = read_script(alloc, reader)?;
+    let plan = Plan {
+        seed: request.seed,
+        issuing: request.issuing,
+        turns: request.turns.unwrap_or(u64::from(MAX_TURNS)),
+    };
+    let run = match run_script(alloc, &script, plan) {
+        Ok(run) => run,
+        Err(fault) => return Err(fault_of(fault)),
+    };
+    let text = schedule_text(alloc, &run.schedule)?;
+    Ok(Answer {
+        text,
+        outcome: outcome_of(run.done),
+    })
+}

@@ -1,0 +1,5 @@
+mod Sent
+mod Traced
+pub mod EventEffects
+pub mod Listed
+pub mod JsonOutcomes

@@ -1,0 +1,7 @@
+use Rattle.sci_traces.specs.ObstacleWords.{unasked_words}
+use Rattle.sci_command.proofs.Joined.{joined}
+use Rattle.sci_traces.proofs.obstacle_words.push_unasked_words.Goals as goal
+
+pub returns : goal.returns
+unfolding unasked_words
+returns c = joined _ _ _ _ _ c.in_ok-push_state_words.ensures c.in_ok-push_text.ensures.text

@@ -1,0 +1,121 @@
+-- What an event does, as a JSON object.
+use Rattle.std.specs.Prelude.{◌==◌, ◌%◌, ◌&&◌, nat_lt, ℕ, true, false, List, [], ◌∷◌, ◌++◌, codes, Option, Some, None, if◌then◌else◌}
+use Rattle.json.specs.Token.{Token, begin_object, end_object}
+use Rattle.json.specs.Print.{print}
+use Rattle.sci_words.specs.declared.event.Event.{Event}
+use Rattle.sci_words.specs.declared.event.Event.TheVariants as event
+use Rattle.sci_history.specs.declared.entry.Entry.{Entry}
+use Rattle.sci_cache.specs.Cache.{Letter, line_of}
+use Rattle.sci_core.specs.declared.obstacle.Obstacle.{Obstacle}
+use Rattle.sci_core.specs.declared.obstacle.Obstacle.TheVariants.{NoSuchNode, NoSuchSender, NoSuchLine, NoSuchWord, AlreadyPending, NoIssueLeft, NothingPending}
+use Rattle.sci_core.specs.declared.obstacle.Obstacle.TheVariants.{NotAllowed, NotAsked, NoSlot, NothingUnderWay, AnswerWaits, SetbackComes, NoAnswerWaits}
+use Rattle.sci_core.specs.Node.{home_of, lines_of}
+use Rattle.sci_core.specs.Core.{Core, node_at, node_of, stepping}
+use Rattle.sci_core.specs.Obstacles.{obstacle_to}
+use Rattle.sci_text.specs.Schedule.{event_word, kind_word}
+use Rattle.sci_traces.specs.JsonMembers.{number_member, object_member, text_member, truth_member}
+use Rattle.sci_traces.specs.JsonParts.{entry_members, home_members, operation_members, packet_members, state_members}
+use Rattle.sci_traces.specs.declared.json_event.When.{When}
+use Rattle.sci_traces.specs.declared.json_event.When.TheVariants.{Before, After}
+use Rattle.sci_statistics.specs.About.{letter_sent, letter_taken, line_changed}
+use Rattle.sci_traces.specs.Logged.{entry_logged}
+
+-- the sender and the node of an event that takes a packet
+unfoldable pub taking_members : ℕ → ℕ → List Token
+taking_members from n = number_member (codes "from") from ++ number_member (codes "node") n
+
+-- the node and the line of an event that names both
+unfoldable pub naming_members : ℕ → ℕ → List Token
+naming_members n line = number_member (codes "node") n ++ number_member (codes "line") line
+
+-- what an event has beside its word
+unfoldable pub part_members : Event → List Token
+part_members (event.Issue n op) = number_member (codes "node") n ++ operation_members op
+part_members (event.Perform n line) = naming_members n line
+part_members (event.Ask n line kind) = naming_members n line ++ text_member (codes "request") (kind_word kind)
+part_members (event.Serve from n) = taking_members from n
+part_members (event.Refuse from n) = taking_members from n
+part_members (event.Accept from n) = taking_members from n
+part_members (event.Reply n) = number_member (codes "node") n
+
+-- a packet, if there is one
+unfoldable pub packet_member : List ℕ → Option Letter → List Token
+packet_member name None = []
+packet_member name (Some letter) = object_member name (packet_members letter)
+
+-- the state of a line in a node's cache, if there are both
+unfoldable pub cache_member : List ℕ → Core → ℕ → ℕ → List Token
+cache_member name core n line =
+    if nat_lt n core.size.nodes && nat_lt line (lines_of (node_at core n)) then object_member name (state_members (line_of (node_at core n).cache line).state)
+    else []
+
+-- the state of a line's home, if it is at this node
+unfoldable pub home_member : List ℕ → Core → ℕ → ℕ → List Token
+home_member name core n line =
+    if (nat_lt n core.size.nodes && nat_lt line (lines_of (node_at core n))) && (line % (node_at core n).cache.nodes == (node_at core n).cache.me)
+    then object_member name (home_members (home_of (node_at core n) line))
+    else []
+
+-- the names of the states before an event, and after it
+unfoldable pub cache_name : When → List ℕ
+cache_name Before = codes "cache_before"
+cache_name After = codes "cache_after"
+
+unfoldable pub home_name : When → List ℕ
+home_name Before = codes "home_before"
+home_name After = codes "home_after"
+
+-- the states of a line at a node, if there is a line
+unfoldable pub standing_members : When → Core → ℕ → Option ℕ → List Token
+standing_members when core n None = []
+standing_members when core n (Some line) = cache_member (cache_name when) core n line ++ home_member (home_name when) core n line
+
+-- the entry of an operation that was performed, if there is one
+unfoldable pub logged_member : Option Entry → List Token
+logged_member None = []
+logged_member (Some entry) = object_member (codes "entry") (entry_members entry)
+
+-- the name of what stands in the way of an event
+unfoldable pub obstacle_name : Obstacle → List ℕ
+obstacle_name NoSuchNode = codes "no-such-node"
+obstacle_name NoSuchSender = codes "no-such-sender"
+obstacle_name NoSuchLine = codes "no-such-line"
+obstacle_name NoSuchWord = codes "no-such-word"
+obstacle_name AlreadyPending = codes "already-pending"
+obstacle_name NoIssueLeft = codes "no-issue-left"
+obstacle_name NothingPending = codes "nothing-pending"
+obstacle_name NotAllowed = codes "not-allowed"
+obstacle_name NotAsked = codes "not-asked"
+obstacle_name NoSlot = codes "no-slot"
+obstacle_name NothingUnderWay = codes "nothing-under-way"
+obstacle_name AnswerWaits = codes "answer-waits"
+obstacle_name SetbackComes = codes "setback-comes"
+obstacle_name NoAnswerWaits = codes "no-answer-waits"
+
+unfoldable pub obstacle_member : Option Obstacle → List Token
+obstacle_member None = []
+obstacle_member (Some obstacle) = text_member (codes "obstacle") (obstacle_name obstacle)
+
+-- the packets that an event sends and takes
+unfoldable pub moved_members : Core → Event → List Token
+moved_members core e = packet_member (codes "sent") (letter_sent core e) ++ packet_member (codes "taken") (letter_taken core e)
+
+-- the states of the line that an event may change, at its node
+abbrev pub changed_members : When → Core → Core → Event → List Token
+changed_members when before core e = standing_members when core (node_of e) (line_changed before e)
+
+-- what comes of an event that leads to this state, or isn't enabled
+unfoldable pub outcome_members : Core → Event → Option Core → List Token
+outcome_members core e None = truth_member (codes "enabled") false ++ (obstacle_member (obstacle_to core e) ++ changed_members Before core core e)
+outcome_members core e (Some next) =
+    truth_member (codes "enabled") true
+    ++ (moved_members core e ++ (changed_members Before core core e ++ (changed_members After core next e ++ logged_member (entry_logged next e))))
+
+-- the number of the event's line, its word, what it has beside, and what comes of it
+unfoldable pub event_members : Core → ℕ → Event → List Token
+event_members core k e = number_member (codes "number") k
+    ++ (text_member (codes "event") (event_word e) ++ (part_members e ++ outcome_members core e (stepping core e)))
+
+-- one object, and the line feed
+unfoldable pub json_line : Core → ℕ → Event → List ℕ
+json_line core k e = print (begin_object ∷ (event_members core k e ++ end_object ∷ [])) ++ 10 ∷ []

@@ -1,0 +1,9 @@
+pub mod PacketsAnswer
+pub mod StateWords
+pub mod ObstacleWords
+pub mod TraceAnswer
+pub mod ListsAnswer
+pub mod Logged
+pub mod JsonMembers
+pub mod JsonParts
+pub mod JsonEvent

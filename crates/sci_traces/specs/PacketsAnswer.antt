@@ -1,0 +1,38 @@
+-- What `packets` writes for its input.
+use Rattle.std.specs.Prelude.{◌≡◌, ℕ, Bool, List, [], ◌∷◌, ◌++◌, map, Option}
+use Rattle.std.specs.List.{flat_map}
+use Rattle.std.specs.Option.{option_to_list}
+use Rattle.sci_words.specs.declared.event.Event.{Event}
+use Rattle.sci_packets.specs.declared.packet.Packet.{Packet}
+use Rattle.sci_packets.specs.Spelling.{spelling}
+use Rattle.sci_cache.specs.Cache.{Letter, letter_of}
+use Rattle.sci_core.specs.Core.{Core, step}
+use Rattle.sci_statistics.specs.About.{letter_sent}
+use Rattle.sci_statistics.specs.Beginning.{before}
+use Rattle.sci_text.specs.Schedule.{ScheduleValue, IsSchedule, schedule_text}
+use Rattle.sci_text.specs.FirstFault.{IsTold}
+use Rattle.sci_text.specs.ScheduleFault.{IsScheduleFault}
+use Rattle.sci_command.specs.declared.outcome.Outcome.{Outcome}
+use Rattle.sci_command.specs.Answer.{IsDoneBy}
+
+-- the packets that events send from a state on, one event after another
+abbrev pub letters_sent : Core → List Event → List Letter
+letters_sent core [] = []
+letters_sent core (e ∷ events) = option_to_list (letter_sent core e) ++ letters_sent (step core e) events
+
+-- bytes are those of packets, one after another, which are these letters
+pub record AreSpelled (letters : List Letter) (bytes : List ℕ) : Type 0 where
+  pub packets : List Packet
+  pub same : map letter_of packets ≡ letters
+  pub spelled : bytes ≡ flat_map spelling packets
+
+-- the input is the text of a schedule, and the bytes of all packets that it sends are written
+pub record IsPacketsOf (input bytes : List ℕ) : Type 0 where
+  pub schedule : ScheduleValue
+  pub good : IsSchedule schedule
+  pub read : input ≡ schedule_text schedule
+  pub written : AreSpelled (letters_sent (before schedule) schedule.events) bytes
+
+-- what `packets` writes, and how it ends, for the bytes of a reader, which has failed or not
+abbrev pub IsPacketsAnswer : Option (List ℕ) → Bool → List ℕ → Outcome → Type 0
+IsPacketsAnswer input failed = IsDoneBy IsPacketsOf (λ kind line. IsTold IsScheduleFault kind input failed line) input failed

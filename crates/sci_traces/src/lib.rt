@@ -1,0 +1,18 @@
+//! What the events of a schedule do: in words and as JSON, the sharing lists behind them, and the packets that they send.
+#![tactic(auto)]
+
+mod event_words;
+mod json_event;
+mod json_members;
+mod json_parts;
+mod listing;
+mod obstacle_words;
+mod sending;
+mod state_words;
+mod tracing;
+
+pub use event_words::{LineWords, push_changes, standing};
+pub use listing::lists;
+pub use sending::packets;
+pub use state_words::{backward, forward, head, home_name, push_node, state_name};
+pub use tracing::{TraceRequest, trace};

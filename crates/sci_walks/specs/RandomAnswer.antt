@@ -1,0 +1,46 @@
+-- What `random` writes. Which events it draws is tested.
+use Rattle.std.specs.Prelude.{◌≡◌, ℕ, ◌≤◌, List, length, Option, IfSome}
+use Rattle.sci_words.specs.declared.limits.TheConstants.{MAX_EVENTS}
+use Rattle.sci_words.specs.Extent.{AreWithinLimits}
+use Rattle.sci_text.specs.declared.fault.TextFaultKind.{TextFaultKind}
+use Rattle.sci_text.specs.declared.fault.TextFaultKind.TheVariants as kinds
+use Rattle.sci_text.specs.Schedule.{ScheduleValue, IsSchedule, schedule_text}
+use Rattle.sci_command.specs.declared.outcome.Outcome.{Outcome}
+use Rattle.sci_command.specs.declared.outcome.Outcome.TheVariants.{Done, Unlawful, Refused}
+use Rattle.sci_command.specs.Refusal.{IsRefusalBy}
+use Rattle.sci_walks.specs.declared.random.Walk.{Walk}
+
+-- each number is within its limits, and that of the events in a hundred that may be dead
+pub record IsWalk (walk : Walk) (dead : Option ℕ) : Type 0 where
+  pub size : AreWithinLimits walk.nodes walk.lines walk.slots
+  pub few : walk.events ≤ MAX_EVENTS
+  pub share : IfSome dead (λ share. share ≤ 100)
+
+-- why there is no schedule: a number is out of its limits, or else memory was refused
+abbrev pub IsWalkFault : Walk → Option ℕ → TextFaultKind → ℕ → Type 0
+IsWalkFault walk dead kinds.Range line = (line ≡ 0) × (IsWalk walk dead → ⊥)
+IsWalkFault walk dead kinds.Memory line = (line ≡ 0) × IsWalk walk dead
+IsWalkFault walk dead kinds.Syntax line = ⊥
+IsWalkFault walk dead kinds.TooMany line = ⊥
+IsWalkFault walk dead kinds.Read line = ⊥
+IsWalkFault walk dead kinds.Write line = ⊥
+
+-- a schedule of a machine of just this size, with just so many events
+pub record IsWalked (nodes lines slots count : ℕ) (schedule : ScheduleValue) : Type 0 where
+  pub good : IsSchedule schedule
+  pub nodes_are : schedule.nodes ≡ nodes
+  pub lines_are : schedule.lines ≡ lines
+  pub slots_are : schedule.slots ≡ slots
+  pub counted : length schedule.events ≡ count
+
+-- the text of such a schedule
+pub record IsRandomText (walk : Walk) (text : List ℕ) : Type 0 where
+  pub schedule : ScheduleValue
+  pub walked : IsWalked walk.nodes walk.lines walk.slots walk.events schedule
+  pub written : text ≡ schedule_text schedule
+
+-- what `random` writes, and how it ends
+abbrev pub IsRandomAnswer : Walk → Option ℕ → List ℕ → Outcome → Type 0
+IsRandomAnswer walk dead text Done = IsWalk walk dead × IsRandomText walk text
+IsRandomAnswer walk dead text Refused = IsRefusalBy (λ kind line. IsWalkFault walk dead kind line) text
+IsRandomAnswer walk dead text Unlawful = ⊥

@@ -1,7 +1,0 @@
-use Rattle.sciview.specs.TraceAnswer.{reason_line}
-use Rattle.sciview.proofs.Joined.{joined3}
-use Rattle.sciview.proofs.event_words.push_reason_line.Goals as goal
-
-pub returns : goal.returns
-unfolding reason_line
-returns c = joined3 _ _ _ _ _ _ _ c.in_ok-push_text.ensures.text c.in_ok-push_obstacle.ensures c.in_ok-push_text-2.ensures.text

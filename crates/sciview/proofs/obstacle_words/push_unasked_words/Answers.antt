@@ -1,7 +1,0 @@
-use Rattle.sciview.specs.ObstacleWords.{unasked_words}
-use Rattle.sciview.proofs.Joined.{joined}
-use Rattle.sciview.proofs.obstacle_words.push_unasked_words.Goals as goal
-
-pub returns : goal.returns
-unfolding unasked_words
-returns c = joined _ _ _ _ _ c.in_ok-push_state_words.ensures c.in_ok-push_text.ensures.text

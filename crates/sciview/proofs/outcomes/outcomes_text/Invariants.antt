@@ -1,8 +1,0 @@
-use Rattle.std.proofs.Common.{◌≡◌, take}
-use Rattle.std.specs.List.{flat_map}
-use Rattle.sciview.specs.OutcomesAnswer.{row_text}
-use Rattle.sciview.proofs.outcomes.outcomes_text.Given as goal
-
--- the rows so far
-abbrev pub invariant-loop-row : goal.invariant-loop-row
-invariant-loop-row l = l.text.items ≡ flat_map (row_text l.trials.turns) (take l.row-index l.rows)
