@@ -1,17 +1,27 @@
--- How `chart` ends for its input. What it draws is tested.
+-- What `chart` writes for its input. How it looks is tested.
 use Rattle.std.specs.Prelude.{◌≡◌, ℕ, Bool, List, Option}
 use Rattle.sci_text.specs.Schedule.{ScheduleValue, IsSchedule, schedule_text}
 use Rattle.sci_command.specs.declared.outcome.Outcome.{Outcome}
 use Rattle.sci_command.specs.Answer.{IsDoneBy}
 use Rattle.sci_command.specs.AskedLine.{HasLine, IsAskedFault}
+use Rattle.sci_charts.specs.declared.charting.ChartRequest.{ChartRequest}
+use Rattle.sci_charts.specs.Rows.{AreRows, shown_places}
+use Rattle.sci_charts.specs.Drawing.{EndsWith}
 
--- the input is the text of a schedule whose machine has the line that is asked for
-pub record IsScheduleText (asked : Option ℕ) (input : List ℕ) : Type 0 where
+-- the chart of a schedule: it ends with one row for each event that is asked for, in order
+pub record IsChart (request : ChartRequest) (schedule : ScheduleValue) (text : List ℕ) : Type 0 where
+  pub rows : List ℕ
+  pub are_rows : AreRows (shown_places request schedule) rows
+  pub ends : EndsWith rows text
+
+-- the input is the text of a schedule whose machine has the line that is asked for, and its chart is written
+pub record IsChartOf (request : ChartRequest) (input text : List ℕ) : Type 0 where
   pub schedule : ScheduleValue
   pub good : IsSchedule schedule
   pub read : input ≡ schedule_text schedule
-  pub has : HasLine asked schedule
+  pub has : HasLine request.line schedule
+  pub chart : IsChart request schedule text
 
 -- what `chart` writes, and how it ends, for the bytes of a reader, which has failed or not
-abbrev pub IsChartAnswer : Option ℕ → Option (List ℕ) → Bool → List ℕ → Outcome → Type 0
-IsChartAnswer asked input failed = IsDoneBy (λ bytes text. IsScheduleText asked bytes) (λ kind line. IsAskedFault asked kind input failed line) input failed
+abbrev pub IsChartAnswer : ChartRequest → Option (List ℕ) → Bool → List ℕ → Outcome → Type 0
+IsChartAnswer request input failed = IsDoneBy (IsChartOf request) (λ kind line. IsAskedFault request.line kind input failed line) input failed

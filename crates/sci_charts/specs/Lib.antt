@@ -1,1 +1,4 @@
+pub mod Elements
+pub mod Rows
+pub mod Drawing
 pub mod ChartAnswer

@@ -1,20 +1,18 @@
 //! The command `chart`: a message sequence chart of a schedule.
 
-ghost use Rattle.std.specs.Prelude.{◌≡◌, false, true, IfOk, IfErr};
+ghost use Rattle.std.specs.Prelude.{◌≡◌, false, IfOk, IfErr};
 ghost use Rattle.sci_text.specs.Tap.{has_failed, is_called_again, tapped};
 ghost use Rattle.sci_command.specs.declared.outcome.Outcome.{Outcome};
 ghost use Rattle.sci_command.specs.AskedLine.{IsAskedFault};
-ghost use Rattle.sci_charts.specs.ChartAnswer.{IsChartAnswer};
+ghost use Rattle.sci_charts.specs.ChartAnswer.{IsChart, IsChartAnswer};
+ghost use Rattle.sci_charts.specs.Rows.{is_past, is_within};
 
-use crate::deed::{deed_of, line_of, packet_of};
 use crate::drawing::Drawing;
-use crate::layout::{FIRST_LINE, NumberedEvent};
+use crate::layout::FIRST_LINE;
 use sci_command::{Answer, Outcome, read_asked};
 use sci_core::Machine;
-use sci_packets::Packet;
-use sci_statistics::applied;
 use sci_text::{Schedule, Tap, TextFault};
-use sci_words::{Event, MAX_OPERATIONS};
+use sci_words::MAX_OPERATIONS;
 use std::alloc::{AllocError, Global};
 use std::io::Read;
 
@@ -25,12 +23,6 @@ pub struct TextLines {
     pub last: u64,
 }
 
-/// All lines of a schedule.
-const ALL_LINES: TextLines = TextLines {
-    first: 0,
-    last: u64::MAX,
-};
-
 /// What is asked of a chart.
 #[derive(Clone, Copy)]
 pub struct ChartRequest {
@@ -40,11 +32,25 @@ pub struct ChartRequest {
     pub events: Option<TextLines>,
 }
 
-/// Whether a chart of one line shows an event, which would send or take this packet. A chart of all lines shows each.
-fn is_shown(line: Option<u8>, event: &Event, packet: Option<&Packet>) -> bool {
-    match line {
-        Some(line) => line_of(event, packet) == Some(u64::from(line)),
-        None => true,
+impl ChartRequest {
+    /// Whether a line of the schedule is one of those that are asked for.
+    pub fn is_within(&self, number: u64) -> bool
+        ensures { result ≡ is_within self.now.events number }
+    {
+        match self.events {
+            Some(lines) => lines.first <= number && number <= lines.last,
+            None => true,
+        }
+    }
+
+    /// Whether a line of the schedule stands behind those that are asked for.
+    fn is_past(&self, number: u64) -> bool
+        ensures { result ≡ is_past self.now.events number }
+    {
+        match self.events {
+            Some(lines) => lines.last < number,
+            None => false,
+        }
     }
 }
 
@@ -53,31 +59,21 @@ fn chart_of(
     alloc: Global,
     schedule: &Schedule,
     request: ChartRequest,
-) -> Result<Vec<u8>, AllocError> {
+) -> Result<Vec<u8>, AllocError>
+    ensures { IfOk result (λ text. IsChart request schedule.now text.items) }
+{
     let mut machine = Machine::new(alloc, schedule.extent(), MAX_OPERATIONS)?;
     let mut drawing = Drawing::new(alloc, schedule, request)?;
-    let lines = request.events.unwrap_or(ALL_LINES);
-    let mut text_line = FIRST_LINE;
+    let mut number = FIRST_LINE;
     for event in schedule.events() {
-        if text_line > lines.last {
-            break;
+        if request.is_past(number) {
+            return drawing.text();
         }
-        let packet = packet_of(&machine, event);
-        if is_shown(request.line, event, packet.as_ref()) {
-            let deed = deed_of(alloc, &mut machine, event, packet.as_ref())?;
-            let numbered = NumberedEvent {
-                line: text_line,
-                event,
-            };
-            if text_line < lines.first {
-                drawing.pass(&deed)?;
-            } else {
-                drawing.add(&numbered, &deed)?;
-            }
-        } else {
-            let _ = applied(&mut machine, event)?;
+        match drawing.draw(&mut machine, number, event) {
+            Ok(()) => {}
+            Err(refused) => return Err(refused),
         }
-        text_line = text_line.saturating_add(1);
+        number += 1;
     }
     drawing.text()
 }
@@ -95,7 +91,7 @@ pub fn chart<R: Read>(
 ) -> Result<Answer, TextFault>
     requires { has_failed reader.old ≡ false }
     ensures answer { IfOk result (λ answer.
-        IsChartAnswer request.line (R.remaining (tapped reader.old)) (has_failed reader.new)
+        IsChartAnswer request (R.remaining (tapped reader.old)) (has_failed reader.new)
         answer.text.items answer.outcome) }
     ensures fault { IfErr result (λ fault. IsAskedFault request.line fault.kind
         (R.remaining (tapped reader.old)) (has_failed reader.new) fault.line) }

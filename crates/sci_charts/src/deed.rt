@@ -1,9 +1,13 @@
 //! What an event does to its node, and with which packet.
 
+ghost use Rattle.std.specs.Prelude.{◌≡◌, false, IfOk, OnOk, is_none};
+ghost use Rattle.sci_core.specs.Core.{step, stepping};
+ghost use Rattle.sci_charts.specs.Drawing.{is_dead};
+
 use crate::labels::{Change, Sight, push_change, push_packet, push_performed};
 use sci_core::{Machine, node_of};
 use sci_packets::Packet;
-use sci_statistics::{applied, sent, taken};
+use sci_statistics::{applied, line_about, sent, taken};
 use sci_traces::{push_changes, standing};
 use sci_words::Event;
 use std::alloc::{AllocError, Global};
@@ -25,6 +29,15 @@ pub enum Mark {
     Refused(Packet),
 }
 
+impl Mark {
+    /// Whether it says that the event isn't enabled.
+    pub fn is_dead(&self) -> bool
+        ensures { result ≡ is_dead self.now }
+    {
+        matches!(self, Mark::Dead)
+    }
+}
+
 /// What an event did, with what a chart says of it.
 #[derive(Drop)]
 pub struct Deed {
@@ -35,24 +48,17 @@ pub struct Deed {
 }
 
 /// The packet that an event would send or take, or None if there is none.
-pub fn packet_of(machine: &Machine, event: &Event) -> Option<Packet> {
+fn packet_of(machine: &Machine, event: &Event) -> Option<Packet> {
     match event {
         Event::Ask { .. } | Event::Reply { .. } => sent(machine, event),
         _ => taken(machine, event),
     }
 }
 
-/// The line that an event is about: the one that it names, or else that of its packet. None if it has neither.
-pub fn line_of(event: &Event, packet: Option<&Packet>) -> Option<u64> {
-    match *event {
-        Event::Issue { op, .. } => Some(u64::from(op.line)),
-        Event::Perform { line, .. } | Event::Ask { line, .. } => Some(u64::from(line)),
-        _ => packet.map(|packet| packet.line),
-    }
-}
-
 /// What an event that happened did with its packet.
-fn mark_of(event: &Event, packet: Option<&Packet>) -> Mark {
+fn mark_of(event: &Event, packet: Option<&Packet>) -> Mark
+    ensures { is_dead result ≡ false }
+{
     let Some(packet) = packet else {
         return match event {
             Event::Perform { .. } => Mark::Performed,
@@ -85,15 +91,15 @@ fn label_of(
     Ok(label)
 }
 
-/// Applies an event with the packet that `packet_of` gave, and tells what it did. Refused if memory is.
-pub fn deed_of(
-    alloc: Global,
-    machine: &mut Machine,
-    event: &Event,
-    packet: Option<&Packet>,
-) -> Result<Deed, AllocError> {
+/// Applies an event, and tells what it did. Refused if memory is.
+pub fn deed_of(alloc: Global, machine: &mut Machine, event: &Event) -> Result<Deed, AllocError>
+    ensures dead { IfOk result
+        (λ deed. is_dead deed.mark ≡ is_none (stepping machine.old event.now)) }
+    ensures step { OnOk result (machine.new ≡ step machine.old event.now) }
+{
     let node = node_of(event);
-    let line = line_of(event, packet).and_then(|line| u8::try_from(line).ok());
+    let packet = packet_of(machine, event);
+    let line = line_about(machine, event);
     let before = Sight::of(machine, node, line);
     let words = standing(alloc, machine, node, line)?;
     if !applied(machine, event)? {
@@ -104,7 +110,7 @@ pub fn deed_of(
         });
     }
     let after = Sight::of(machine, node, line);
-    let mark = mark_of(event, packet);
+    let mark = mark_of(event, packet.as_ref());
     let label = label_of(alloc, &mark, machine, node, &Change { before, after })?;
     let mut title = Vec::new(alloc);
     push_changes(alloc, &mut title, machine, node, line, &words)?;

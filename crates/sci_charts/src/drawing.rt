@@ -1,16 +1,23 @@
 //! The drawing of a chart: its rows, its columns and its arrows.
 
+ghost use Rattle.std.specs.Prelude.{◌≡◌, ℕ, List, [], ◌++◌, IfOk, OnOk};
+ghost use Rattle.sci_core.specs.Core.{step};
+ghost use Rattle.sci_charts.specs.Drawing.{Adds, Drawn, EndsWith};
+
 use crate::arrows::{Arrow, ArrowKind, Arrows};
 use crate::charting::ChartRequest;
-use crate::deed::{Deed, Mark};
+use crate::deed::{Mark, deed_of};
 use crate::elements::{Point, push_ground, push_line, push_polyline, push_svg, push_words};
-use crate::layout::{Layout, MARGIN, NumberedEvent, ROWS, names_at, row_at};
+use crate::layout::{Layout, MARGIN, ROWS, names_at, row_at};
 use crate::legend::{RIGHT, push_legend, push_style};
 use crate::rows::Rows;
-use sci_command::{push_labelled, push_packet};
+use sci_command::{is_asked, push_labelled, push_packet};
+use sci_core::Machine;
+use sci_statistics::{applied, line_about};
 use sci_text::{Schedule, push_text};
-use sci_words::Extent;
+use sci_words::{Event, Extent};
 use std::alloc::{AllocError, Global};
+use std::marker::Model;
 
 /// If a packet is under way for more rows than these, both ends of its arrow name it.
 const FAR: u32 = 10;
@@ -32,13 +39,21 @@ pub struct Drawing {
     arrows: Arrows,
 }
 
+impl Model for Drawing {
+    ghost Value = { Drawn };
+
+    ghost view = { λ drawing. record { request = drawing.request; rows = drawing.rows } };
+}
+
 impl Drawing {
     /// A chart of a schedule without an event. Refused if memory is.
     pub fn new(
         alloc: Global,
         schedule: &Schedule,
         request: ChartRequest,
-    ) -> Result<Drawing, AllocError> {
+    ) -> Result<Drawing, AllocError>
+        ensures { IfOk result (λ drawing. drawing ≡ record { request = request; rows = [] }) }
+    {
         let extent = schedule.extent();
         let layout = Layout::of(alloc, schedule)?;
         let names_lines = request.line.is_none() && extent.lines > 1;
@@ -54,7 +69,9 @@ impl Drawing {
 
     /// Notes which packet an event sent or took in a row, or before the first one. Whether it took one that came from far.
     /// Refused if memory is.
-    fn note(&mut self, mark: &Mark, row: Option<u32>) -> Result<bool, AllocError> {
+    fn note(&mut self, mark: &Mark, row: Option<u32>) -> Result<bool, AllocError>
+        ensures { self.new ≡ self.old }
+    {
         match mark {
             Mark::Sent(packet) => {
                 self.arrows.send(packet, row)?;
@@ -75,17 +92,31 @@ impl Drawing {
         }
     }
 
-    /// Notes what an event before the first row did. Refused if memory is.
-    pub fn pass(&mut self, deed: &Deed) -> Result<(), AllocError> {
-        self.note(&deed.mark, None)?;
-        Ok(())
-    }
-
-    /// Adds an event in a row of its own, and what it did. Refused if memory is.
-    pub fn add(&mut self, event: &NumberedEvent, deed: &Deed) -> Result<(), AllocError> {
+    /// Applies an event that stands on a line of the schedule, and adds its row if it is shown. Of one above the lines that
+    /// are asked for it notes the packet. Refused if memory is.
+    pub fn draw(
+        &mut self,
+        machine: &mut Machine,
+        number: u64,
+        event: &Event,
+    ) -> Result<(), AllocError>
+        ensures rows { OnOk result ((text : List ℕ) × (self.new.rows ≡ self.old.rows ++ text)
+            × Adds self.old.request (record { core = machine.old; number = number; event = event.now }) text) }
+        ensures request { self.new.request ≡ self.old.request }
+        ensures step { OnOk result (machine.new ≡ step machine.old event.now) }
+    {
+        if !is_asked(self.request.line, line_about(machine, event)) {
+            let _enabled = applied(machine, event)?;
+            return Ok(());
+        }
+        let deed = deed_of(self.alloc, machine, event)?;
+        if !self.request.is_within(number) {
+            self.note(&deed.mark, None)?;
+            return Ok(());
+        }
         let row = self.rows.count();
         let is_far = self.note(&deed.mark, Some(row))?;
-        self.rows.add(event, deed, is_far)
+        self.rows.add(number, event, &deed, is_far)
     }
 
     /// Where the columns end.
@@ -196,7 +227,9 @@ impl Drawing {
     }
 
     /// The text of the chart. Refused if memory is.
-    pub fn text(&self) -> Result<Vec<u8>, AllocError> {
+    pub fn text(&self) -> Result<Vec<u8>, AllocError>
+        ensures { IfOk result (λ text. EndsWith self.now.rows text.items) }
+    {
         let mut out = Vec::new(self.alloc);
         let size = self.size();
         push_svg(&mut out, size)?;

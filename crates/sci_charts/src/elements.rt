@@ -1,5 +1,8 @@
 //! Elements of SVG, appended to a text.
 
+ghost use Rattle.std.specs.Prelude.{◌≡◌, ◌++◌, [], OnOk};
+ghost use Rattle.sci_charts.specs.Elements.{attribute, circle_element, escaped, line_element, opening, title_element, words_element};
+
 use sci_text::{push_number, push_text};
 use std::alloc::AllocError;
 
@@ -21,7 +24,10 @@ impl Point {
 }
 
 /// Appends an attribute whose value is a number.
-fn push_attribute(out: &mut Vec<u8>, name: &str, value: u64) -> Result<(), AllocError> {
+#[tactic(auto, unfolding(crate::specs::Elements::attribute))]
+fn push_attribute(out: &mut Vec<u8>, name: &str, value: u64) -> Result<(), AllocError>
+    ensures { OnOk result (out.new.items ≡ out.old.items ++ attribute name.now value) }
+{
     push_text(out, " ")?;
     push_text(out, name)?;
     push_text(out, "=\"")?;
@@ -30,7 +36,10 @@ fn push_attribute(out: &mut Vec<u8>, name: &str, value: u64) -> Result<(), Alloc
 }
 
 /// Appends the beginning of an element, as `<line class="column"`.
-fn push_opening(out: &mut Vec<u8>, name: &str, class: &str) -> Result<(), AllocError> {
+#[tactic(auto, unfolding(crate::specs::Elements::opening))]
+fn push_opening(out: &mut Vec<u8>, name: &str, class: &str) -> Result<(), AllocError>
+    ensures { OnOk result (out.new.items ≡ out.old.items ++ opening name.now class.now) }
+{
     push_text(out, "<")?;
     push_text(out, name)?;
     push_text(out, " class=\"")?;
@@ -39,7 +48,9 @@ fn push_opening(out: &mut Vec<u8>, name: &str, class: &str) -> Result<(), AllocE
 }
 
 /// Appends words. They have none of the characters that XML gives a meaning, but `>`.
-fn push_escaped(out: &mut Vec<u8>, words: &[u8]) -> Result<(), AllocError> {
+fn push_escaped(out: &mut Vec<u8>, words: &[u8]) -> Result<(), AllocError>
+    ensures { OnOk result (out.new.items ≡ out.old.items ++ escaped words.now) }
+{
     for byte in words {
         match byte {
             b'>' => push_text(out, "&gt;")?,
@@ -50,7 +61,10 @@ fn push_escaped(out: &mut Vec<u8>, words: &[u8]) -> Result<(), AllocError> {
 }
 
 /// Appends a title, which a viewer shows where the element that it stands in is pointed at. Nothing if it has no words.
-fn push_title(out: &mut Vec<u8>, title: &[u8]) -> Result<(), AllocError> {
+#[tactic(auto, unfolding(crate::specs::Elements::title_element))]
+fn push_title(out: &mut Vec<u8>, title: &[u8]) -> Result<(), AllocError>
+    ensures { OnOk result (out.new.items ≡ out.old.items ++ title_element title.now) }
+{
     if title.is_empty() {
         return Ok(());
     }
@@ -60,7 +74,11 @@ fn push_title(out: &mut Vec<u8>, title: &[u8]) -> Result<(), AllocError> {
 }
 
 /// Appends the line from a point to another.
-pub fn push_line(out: &mut Vec<u8>, class: &str, from: Point, to: Point) -> Result<(), AllocError> {
+#[tactic(auto, unfolding(crate::specs::Elements::line_element))]
+pub fn push_line(out: &mut Vec<u8>, class: &str, from: Point, to: Point) -> Result<(), AllocError>
+    ensures { OnOk result
+        (out.new.items ≡ out.old.items ++ line_element class.now from to) }
+{
     push_opening(out, "line", class)?;
     push_attribute(out, "x1", from.x)?;
     push_attribute(out, "y1", from.y)?;
@@ -92,12 +110,16 @@ pub fn push_polyline(
 }
 
 /// Appends a circle.
+#[tactic(auto, unfolding(crate::specs::Elements::circle_element))]
 pub fn push_circle(
     out: &mut Vec<u8>,
     class: &str,
     centre: Point,
     radius: u64,
-) -> Result<(), AllocError> {
+) -> Result<(), AllocError>
+    ensures { OnOk result
+        (out.new.items ≡ out.old.items ++ circle_element class.now centre radius) }
+{
     push_opening(out, "circle", class)?;
     push_attribute(out, "cx", centre.x)?;
     push_attribute(out, "cy", centre.y)?;
@@ -129,12 +151,16 @@ pub struct Words<'a> {
 }
 
 /// Appends words that begin at a point of their base line.
+#[tactic(auto, unfolding(crate::specs::Elements::words_element))]
 pub fn push_titled(
     out: &mut Vec<u8>,
     class: &str,
     at: Point,
     words: Words,
-) -> Result<(), AllocError> {
+) -> Result<(), AllocError>
+    ensures { OnOk result (out.new.items
+        ≡ out.old.items ++ words_element class.now at words.entry.text.now words.entry.title.now) }
+{
     push_opening(out, "text", class)?;
     push_attribute(out, "x", at.x)?;
     push_attribute(out, "y", at.y)?;
@@ -145,11 +171,9 @@ pub fn push_titled(
 }
 
 /// Appends a text without a title that begins at a point of its base line.
-pub fn push_words(
-    out: &mut Vec<u8>,
-    class: &str,
-    at: Point,
-    text: &[u8],
-) -> Result<(), AllocError> {
+pub fn push_words(out: &mut Vec<u8>, class: &str, at: Point, text: &[u8]) -> Result<(), AllocError>
+    ensures { OnOk result
+        (out.new.items ≡ out.old.items ++ words_element class.now at text.now []) }
+{
     push_titled(out, class, at, Words { text, title: b"" })
 }

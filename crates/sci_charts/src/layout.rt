@@ -1,6 +1,7 @@
 //! Where the columns and the rows of a chart are.
 
-ghost use Rattle.std.specs.Prelude.{◌<◌, ◌^◌};
+ghost use Rattle.std.specs.Prelude.{◌≡◌, ◌<◌, ◌^◌, ◌++◌, OnOk};
+ghost use Rattle.sci_charts.specs.Rows.{row_words};
 
 use sci_text::{Schedule, push_event_line, push_number, push_text};
 use sci_words::Event;
@@ -30,23 +31,17 @@ pub const ROWS: u32 = 40;
 /// The line of a schedule in which its first event stands.
 pub const FIRST_LINE: u64 = 2;
 
-/// An event, and the line of the schedule in which it stands.
-#[derive(Clone, Copy)]
-pub struct NumberedEvent<'a> {
-    pub line: u64,
-    pub event: &'a Event,
-}
-
-impl NumberedEvent<'_> {
-    /// Appends the event's text with its line, as `2: reply 0`. Refused if memory is.
-    pub fn push(&self, out: &mut Vec<u8>) -> Result<(), AllocError> {
-        push_number(out, self.line)?;
-        push_text(out, ": ")?;
-        push_event_line(out, *self.event)?;
-        // Without the line feed.
-        let _feed = out.pop();
-        Ok(())
-    }
+/// Appends an event with the line of the schedule in which it stands, as `2: reply 0`. Refused if memory is.
+#[tactic(auto, unfolding(crate::specs::Rows::row_words, sci_text::specs::Schedule::event_line))]
+pub fn push_numbered(out: &mut Vec<u8>, number: u64, event: &Event) -> Result<(), AllocError>
+    ensures { OnOk result (out.new.items ≡ out.old.items ++ row_words number event.now) }
+{
+    push_number(out, number)?;
+    push_text(out, ": ")?;
+    push_event_line(out, *event)?;
+    // Without the line feed.
+    let _feed = out.pop();
+    Ok(())
 }
 
 /// Where the columns of a chart are.
@@ -76,7 +71,7 @@ impl Layout {
         let mut line = FIRST_LINE;
         for event in schedule.events() {
             text.clear();
-            NumberedEvent { line, event }.push(&mut text)?;
+            push_numbered(&mut text, line, event)?;
             longest = longest.max(count_of(&text));
             line = line.saturating_add(1);
         }

@@ -1,14 +1,20 @@
 //! The rows of a chart: an event each.
 
+ghost use Rattle.std.specs.Prelude.{◌≡◌, ℕ, List, [], ◌++◌, OnOk, not};
+ghost use Rattle.sci_charts.specs.Drawing.{is_dead};
+ghost use Rattle.sci_charts.specs.Rows.{IsCross, IsEvent, IsLabelled, IsMarked, IsRow};
+
 use crate::deed::{Deed, Mark};
 use crate::elements::{Point, Words, push_circle, push_line, push_titled, push_words};
 use crate::labels::push_packet;
-use crate::layout::{Layout, MARGIN, NumberedEvent, row_at, width_of};
+use crate::layout::{Layout, MARGIN, push_numbered, row_at, width_of};
 use sci_command::push_labelled;
 use sci_core::node_of;
 use sci_packets::Packet;
 use sci_text::push_text;
+use sci_words::Event;
 use std::alloc::{AllocError, Global};
+use std::marker::Model;
 
 /// How far a mark goes from its middle.
 const REACH: i16 = 4;
@@ -30,8 +36,16 @@ pub struct Rows {
     text: Vec<u8>,
 }
 
+impl Model for Rows {
+    ghost Value = { List ℕ };
+
+    ghost view = { λ rows. rows.above.items };
+}
+
 /// Appends a cross in the middle of a point.
-pub fn push_cross(out: &mut Vec<u8>, at: Point) -> Result<(), AllocError> {
+pub fn push_cross(out: &mut Vec<u8>, at: Point) -> Result<(), AllocError>
+    ensures { OnOk result ((text : List ℕ) × (out.new.items ≡ out.old.items ++ text) × IsCross text) }
+{
     let (upper, lower) = (at.moved(-REACH, -REACH), at.moved(REACH, REACH));
     push_line(out, "cross", upper, lower)?;
     let (upper, lower) = (at.moved(REACH, -REACH), at.moved(-REACH, REACH));
@@ -39,7 +53,9 @@ pub fn push_cross(out: &mut Vec<u8>, at: Point) -> Result<(), AllocError> {
 }
 
 /// Appends what stands at the column of an event's node.
-fn push_mark(out: &mut Vec<u8>, mark: &Mark, at: Point) -> Result<(), AllocError> {
+fn push_mark(out: &mut Vec<u8>, mark: &Mark, at: Point) -> Result<(), AllocError>
+    ensures { OnOk result ((text : List ℕ) × (out.new.items ≡ out.old.items ++ text) × IsMarked text) }
+{
     match mark {
         Mark::Dead => push_cross(out, at),
         Mark::Issued => push_circle(out, "issued", at, 4),
@@ -75,7 +91,9 @@ fn push_line_of(out: &mut Vec<u8>, mark: &Mark) -> Result<(), AllocError> {
 
 impl Rows {
     /// No row. If `names_lines`, a label says which line it is about.
-    pub fn new(alloc: Global, layout: Layout, names_lines: bool) -> Rows {
+    pub fn new(alloc: Global, layout: Layout, names_lines: bool) -> Rows
+        ensures { result ≡ [] }
+    {
         Rows {
             layout,
             names_lines,
@@ -103,23 +121,26 @@ impl Rows {
     }
 
     /// What lies above the arrows.
-    pub fn above(&self) -> &[u8] {
+    pub fn above(&self) -> &[u8]
+        ensures { result.now ≡ self.now }
+    {
         &self.above
     }
 
     /// Appends the text of an event at the left, and a line from there to its node's column.
     fn push_event(
         &mut self,
-        event: &NumberedEvent,
-        mark: &Mark,
+        number: u64,
+        event: &Event,
+        is_dead: bool,
         at: Point,
-    ) -> Result<(), AllocError> {
+    ) -> Result<(), AllocError>
+        ensures { OnOk result ((text : List ℕ) × (self.new ≡ self.old ++ text)
+            × IsEvent (not is_dead) number event.now text) }
+    {
         self.text.clear();
-        event.push(&mut self.text)?;
-        let class = match mark {
-            Mark::Dead => "dead",
-            _ => "event",
-        };
+        push_numbered(&mut self.text, number, event)?;
+        let class = if is_dead { "dead" } else { "event" };
         let start = Point { x: MARGIN, y: at.y };
         push_words(&mut self.above, class, start.moved(0, REACH), &self.text)?;
         let end = Point {
@@ -130,7 +151,9 @@ impl Rows {
     }
 
     /// Makes the text of what is said of an event: first the packet that it took, if that is from far.
-    fn make_label(&mut self, deed: &Deed, is_far: bool) -> Result<(), AllocError> {
+    fn make_label(&mut self, deed: &Deed, is_far: bool) -> Result<(), AllocError>
+        ensures { self.new ≡ self.old }
+    {
         self.text.clear();
         let packet = if is_far { packet_of(&deed.mark) } else { None };
         if deed.label.is_empty() && packet.is_none() {
@@ -149,7 +172,9 @@ impl Rows {
     }
 
     /// Appends what is said of an event beside its node's column.
-    fn push_label(&mut self, deed: &Deed, is_far: bool, at: Point) -> Result<(), AllocError> {
+    fn push_label(&mut self, deed: &Deed, is_far: bool, at: Point) -> Result<(), AllocError>
+        ensures { OnOk result ((text : List ℕ) × (self.new ≡ self.old ++ text) × IsLabelled text) }
+    {
         self.make_label(deed, is_far)?;
         if self.text.is_empty() {
             return Ok(());
@@ -168,19 +193,23 @@ impl Rows {
         push_titled(&mut self.above, "label", start, words)
     }
 
-    /// Adds a row at the end: an event, and what it did. If it took a packet that `is_far`, the row names it. Refused if memory
-    /// is.
+    /// Adds a row at the end: an event with the number of its line, and what it did. If it took a packet that `is_far`, the row
+    /// names it. Refused if memory is.
     pub fn add(
         &mut self,
-        event: &NumberedEvent,
+        number: u64,
+        event: &Event,
         deed: &Deed,
         is_far: bool,
-    ) -> Result<(), AllocError> {
+    ) -> Result<(), AllocError>
+        ensures { OnOk result ((text : List ℕ) × (self.new ≡ self.old ++ text)
+            × IsRow (not (is_dead deed.now.mark)) number event.now text) }
+    {
         let at = Point {
-            x: self.layout.column(u16::from(node_of(event.event))),
+            x: self.layout.column(u16::from(node_of(event))),
             y: row_at(self.count),
         };
-        self.push_event(event, &deed.mark, at)?;
+        self.push_event(number, event, deed.mark.is_dead(), at)?;
         push_mark(&mut self.above, &deed.mark, at)?;
         self.push_label(deed, is_far, at)?;
         self.count = self.count.saturating_add(1);

@@ -84,7 +84,7 @@ pub returns-in-Chart-clause-written : goal.returns-in-Chart-clause-written
 returns-in-Chart-clause-written g c =
     let known = g.R.Read.remaining (tapped c.args.reader.now) in
     let unread = has_failed c.chart.new.reader in
-    rw c.in-Chart.is (finished (IsChartAnswer c.in-Chart.request.line known unread)
+    rw c.in-Chart.is (finished (IsChartAnswer c.in-Chart.request known unread)
     (λ fault. IsAskedFault c.in-Chart.request.line fault.kind known unread fault.line) c.chart.result
     (λ fault text. refused_asked c.in-Chart.request.line known unread fault text) c.chart.ensures.answer c.chart.ensures.fault _ _ _ _
     c.finish-in-Chart.ensures.written)
