@@ -2,3 +2,4 @@ pub mod Answered
 pub mod Checked
 mod Notes
 mod Orders
+pub mod EntriesOn

@@ -1,5 +1,5 @@
 -- What is written of lines, one after another.
-use Rattle.std.proofs.Common.{◌≡◌, ◌<◌, ℕ, suc, ◌+◌, List, [], ◌∷◌, ◌++◌, length, take, get_or, Option, refl, sym, ap, ◌∙◌, subst, arith, append_assoc}
+use Rattle.std.proofs.Common.{◌≡◌, ◌<◌, ℕ, suc, ◌+◌, List, [], ◌∷◌, ◌++◌, length, take, get_or, Option, None, refl, sym, ap, ◌∙◌, subst, arith, append_assoc}
 use Rattle.std.proofs.Math.Seq.{take-suc}
 use Rattle.std.proofs.lemmas.List.{append-nil, length-take-le}
 use Rattle.sci_history.specs.declared.faults.LineFault.{LineFault}
@@ -30,3 +30,9 @@ notes_more faults line fault text more slice new lt was at note same is =
     subst (λ (t : List ℕ). AreNotes 0 (take (line + 1) faults) t) (sym (is ∙ ap (λ (l : List ℕ). text ++ l) same))
     (subst (λ (fs : List (Option LineFault)). AreNotes 0 fs (text ++ more)) (sym taken)
     (notes_and 0 (take line faults) fault text more was (subst (λ (n : ℕ). IsNote n fault more) (sym long) note)))
+
+-- one line more, which has no fault
+pub notes_past : (faults : List (Option LineFault)) (line : ℕ) (text : List ℕ) → line < length faults → AreNotes 0 (take line faults) text
+    → None ≡ get_or faults line None → AreNotes 0 (take (line + 1) faults) text
+notes_past faults line text lt was at =
+    notes_more faults line None text [] [] text lt was at refl refl (sym (append-nil text))

@@ -1,8 +1,25 @@
 -- On which lines of a log's text its entries stand.
-use Rattle.std.specs.Prelude.{◌≡◌, ℕ, ◌+◌, ◌⊎◌, List, length, take, slice_get, Option, Some, None}
+use Rattle.std.specs.Prelude.{◌≡◌, ℕ, ◌+◌, ◌⊎◌, List, length, take, map, filter, slice_get, Option, Some, None}
+use Rattle.std.specs.List.{enumerate_from, flat_map}
 use Rattle.sci_history.specs.declared.entry.Entry.{Entry}
-use Rattle.sci_history.specs.Placed.{log_of}
+use Rattle.sci_history.specs.Placed.{is_on_line, log_of}
 use Rattle.sci_text.specs.LogValue.{BeginsLog, entry_count}
+use Rattle.sci_reports.specs.declared.numbered.Numbered.{Numbered}
+
+-- an entry of a log, with the number of the text's line that has it
+abbrev pub numbering : Numbered → ℕ × Entry
+numbering it = (it.text_line, it.entry.now)
+
+abbrev pub numberings : List Numbered → List (ℕ × Entry)
+numberings list = map numbering list
+
+-- of entries that stand on the lines from this one on, those on a line of memory
+abbrev pub on_line_from : ℕ → ℕ → List Entry → List (ℕ × Entry)
+on_line_from line first entries = filter (λ it. is_on_line line it.1) (enumerate_from first entries)
+
+-- the entries of logs on a line of memory, behind so many lines of text
+abbrev pub numbered_on : ℕ → ℕ → List (List Entry) → List (ℕ × Entry)
+numbered_on line before logs = on_line_from line (before + 1) (flat_map (λ log. log) logs)
 
 -- the first line of a text in format 2 says the size; one in format 1 has no such line
 abbrev pub IsOpening : List ℕ → ℕ → Type 0

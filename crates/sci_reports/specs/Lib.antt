@@ -3,3 +3,4 @@ pub mod EntryLines
 pub mod ExplainAnswer
 pub mod OrderAnswer
 pub mod TextReadings
+pub mod Subject

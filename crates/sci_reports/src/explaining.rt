@@ -1,64 +1,79 @@
 //! The command `explain`: what is wrong with a log, line by line, and what would be right.
 
-ghost use Rattle.std.specs.Prelude.{◌≡◌, List, Option, false, length, IfOk, IfErr};
+ghost use Rattle.std.specs.Prelude.{◌≡◌, ◌+◌, ◌≤◌, ◌<◌, ℕ, List, Option, Some, false, length, IfOk, IfErr};
+ghost use Rattle.sci_words.specs.declared.limits.TheConstants.{MAX_LINES, MAX_OPERATIONS};
 ghost use Rattle.sci_history.specs.declared.faults.LineFault.{LineFault};
 ghost use Rattle.sci_history.specs.Audit.{AreFound, AreWithin};
+ghost use Rattle.sci_history.specs.Placed.{log_of};
 ghost use Rattle.sci_text.specs.FirstFault.{IsTold};
 ghost use Rattle.sci_text.specs.LogFault.{IsLogFault};
 ghost use Rattle.sci_text.specs.Tap.{has_failed, is_called_again, tapped};
 ghost use Rattle.sci_command.specs.declared.outcome.Outcome.{Outcome};
 ghost use Rattle.sci_reports.specs.ExplainAnswer.{AreNotes, IsExplainAnswer, IsExplained, IsNote};
+ghost use Rattle.sci_reports.specs.Subject.{IsSubject};
 
-use crate::note::note_of;
-use crate::numbered::{Numbered, lines_before, numbered_by_line};
+use crate::note::{Subject, note_of};
+use crate::numbered::{entries_on, lines_before};
 use sci_command::{Answer, Outcome, verdict_line};
 use sci_history::{Last, LineFault, Logs, Verdict, audit, line_faults};
 use sci_text::{Tap, TextFault, logs_of, read_input};
-use sci_words::Stamped;
 use std::alloc::{AllocError, Global};
 use std::io::Read;
 
-/// What is written of a line of memory.
-fn piece(
+/// What a note of a line of memory is about, of a log with so many lines of text before its entries.
+fn subject_of<'a>(
     alloc: Global,
+    before: usize,
+    logs: &'a Logs,
+    last: &Last,
     line: u8,
-    fault: Option<LineFault>,
-    entries: &[Numbered],
-    last: Stamped,
-    last_line: usize,
-) -> Result<Vec<u8>, AllocError>
-    ensures { IfOk result (λ text. IsNote line fault text.items) }
+) -> Result<Subject<'a>, AllocError>
+    requires line { line < length last.now }
+    requires lines { length last.now ≤ before }
+    requires before { before ≤ MAX_LINES + 1 }
+    requires few { (n : ℕ) → length (log_of logs.now n) ≤ MAX_OPERATIONS }
+    ensures { IfOk result (IsSubject before logs.now last.now line) }
 {
-    let Some(fault) = fault else {
-        return Ok(Vec::new(alloc));
-    };
-    let verdict = Verdict::Fault {
+    Ok(Subject {
         line,
+        entries: entries_on(alloc, logs, before, line)?,
+        last: last.get(line),
+        last_line: before - last.lines() as usize + 1 + line as usize,
+    })
+}
+
+/// What is written of a line of memory that has a fault.
+fn piece(alloc: Global, fault: LineFault, subject: &Subject) -> Result<Vec<u8>, AllocError>
+    ensures { IfOk result (λ text. IsNote subject.now.line (Some fault) text.items) }
+{
+    let verdict = Verdict::Fault {
+        line: subject.line,
         kind: fault.kind,
         at: fault.at,
     };
     let mut text = verdict_line(alloc, verdict)?;
-    let note = note_of(alloc, fault, entries, last, last_line)?;
+    let note = note_of(alloc, fault, subject)?;
     text.extend_from_slice(&note)?;
     Ok(text)
 }
 
 /// What is written of all lines of memory, of a log with so many lines of text before its entries.
 fn notes(alloc: Global, before: usize, logs: &Logs, last: &Last) -> Result<Vec<u8>, AllocError>
-    requires { AreWithin (length last.now) logs.now }
+    requires within { AreWithin (length last.now) logs.now }
+    requires lines { length last.now ≤ before }
+    requires before { before ≤ MAX_LINES + 1 }
+    requires few { (n : ℕ) → length (log_of logs.now n) ≤ MAX_OPERATIONS }
     ensures { IfOk result (λ text. (faults : List (Option LineFault))
         × AreFound logs.now last.now (length last.now) faults × AreNotes 0 faults text.items) }
 {
-    let lines = last.lines();
     let faults = line_faults(alloc, logs, last)?;
-    let first_last = before.saturating_add(1).saturating_sub(lines as usize);
-    let lists = numbered_by_line(alloc, logs, lines, before.saturating_add(1))?;
     let mut text = Vec::new(alloc);
-    for line in 0..lines {
-        let last_line = first_last.saturating_add(line as usize);
-        let entries = &lists[line as usize];
-        let fault = faults[line as usize];
-        let piece = piece(alloc, line, fault, entries, last.get(line), last_line)?;
+    for line in 0..last.lines() {
+        let Some(fault) = faults[line as usize] else {
+            continue;
+        };
+        let subject = subject_of(alloc, before, logs, last, line)?;
+        let piece = piece(alloc, fault, &subject)?;
         text.extend_from_slice(&piece)?;
     }
     Ok(text)
@@ -66,7 +81,10 @@ fn notes(alloc: Global, before: usize, logs: &Logs, last: &Last) -> Result<Vec<u
 
 /// What is written of logs, and how the command ends.
 fn explained(alloc: Global, before: usize, logs: &Logs, last: &Last) -> Result<Answer, AllocError>
-    requires { AreWithin (length last.now) logs.now }
+    requires within { AreWithin (length last.now) logs.now }
+    requires lines { length last.now ≤ before }
+    requires before { before ≤ MAX_LINES + 1 }
+    requires few { (n : ℕ) → length (log_of logs.now n) ≤ MAX_OPERATIONS }
     ensures { IfOk result (λ x. IsExplained logs.now last.now x.text.items x.outcome) }
 {
     let verdict = audit(alloc, logs, last)?;

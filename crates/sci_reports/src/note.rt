@@ -8,6 +8,19 @@ use sci_text::{push_entry, push_field, push_text};
 use sci_words::{Act, Reply, Stamped, Word};
 use std::alloc::{AllocError, Global};
 
+/// What a note of a line of memory is about.
+#[derive(Drop)]
+pub struct Subject<'a> {
+    /// The line of memory.
+    pub line: u8,
+    /// Its entries, in the order of the text.
+    pub entries: Vec<Numbered<'a>>,
+    /// Its last contents.
+    pub last: Stamped,
+    /// The line of the text that has them.
+    pub last_line: usize,
+}
+
 /// How many entries are shown before and after the one at fault.
 const AROUND: usize = 3;
 
@@ -171,18 +184,12 @@ fn push_lines(
     push_around(out, placed, found.at.text_line)
 }
 
-/// The lines that tell what a fault of a line of memory means, and the entries around it in the order of versions. The
-/// line's last contents stand on the line `last_line` of the text.
-pub fn note_of(
-    alloc: Global,
-    fault: LineFault,
-    entries: &[Numbered],
-    last: Stamped,
-    last_line: usize,
-) -> Result<Vec<u8>, AllocError> {
-    let placed = placed(alloc, entries)?;
-    let found = faulty_entry(alloc, fault.kind, entries, &placed)?;
+/// The lines that tell what a fault of a line of memory means, and the entries around it in the order of versions. Refused if
+/// memory is.
+pub fn note_of(alloc: Global, fault: LineFault, subject: &Subject) -> Result<Vec<u8>, AllocError> {
+    let placed = placed(alloc, &subject.entries)?;
+    let found = faulty_entry(alloc, fault.kind, &subject.entries, &placed)?;
     let mut note = Vec::new(alloc);
-    push_lines(&mut note, found, &placed, last, last_line)?;
+    push_lines(&mut note, found, &placed, subject.last, subject.last_line)?;
     Ok(note)
 }

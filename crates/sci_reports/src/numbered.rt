@@ -1,11 +1,11 @@
 //! The entries of a log with the lines of its text.
 
-ghost use Rattle.std.specs.Prelude.{◌≡◌, ◌≤◌, ◌<◌, ◌+◌, ◌*◌, ℕ, Some, IfOk, IfSome, IfNone, length, slice_get, take};
+ghost use Rattle.std.specs.Prelude.{◌≡◌, ◌≤◌, ◌<◌, ◌+◌, ◌*◌, ◌^◌, ◌++◌, ℕ, Some, IfOk, OnOk, IfSome, IfNone, length, slice_get, take};
 ghost use Rattle.sci_words.specs.declared.limits.TheConstants.{MAX_LINES, MAX_NODES, MAX_OPERATIONS};
 ghost use Rattle.sci_history.specs.declared.entry.Entry.{Entry};
 ghost use Rattle.sci_history.specs.Placed.{log_of};
 ghost use Rattle.sci_text.specs.LogValue.{entry_count};
-ghost use Rattle.sci_reports.specs.EntryLines.{IsBeforeEntries, IsLineOf, IsOpening};
+ghost use Rattle.sci_reports.specs.EntryLines.{IsBeforeEntries, IsLineOf, IsOpening, numbered_on, numberings, on_line_from};
 
 use sci_history::{Entry, Last, Logs};
 use std::alloc::{AllocError, Global};
@@ -85,31 +85,45 @@ pub fn line_of_entry(logs: &Logs, before: usize, entry: &Entry) -> Option<usize>
     Some(before + entries_before(logs, entry.node) + place + 1)
 }
 
-/// The entries on each of so many lines of memory, in the order of the text, if the first entry of all stands on this line
-/// of the text.
-pub fn numbered_by_line<'a>(
+/// Ends a list with the entries of a log that are on a line of memory, if its first entry stands on this line of the text.
+fn add_log<'a>(
+    list: &mut Vec<Numbered<'a>>,
+    log: &'a [Entry],
+    line: u8,
+    first: usize,
+) -> Result<(), AllocError>
+    requires { first + length log.now < 2 ^ 64 }
+    ensures { OnOk result (numberings list.new.items
+        ≡ numberings list.old.items ++ on_line_from line first log.now) }
+{
+    let mut text_line = first;
+    for entry in log {
+        if entry.op.line == line {
+            list.push(Numbered { text_line, entry })?;
+        }
+        text_line += 1;
+    }
+    Ok(())
+}
+
+/// The entries on a line of memory, in the order of the text, behind so many lines of text before all entries. A node has at
+/// most 65,536 entries.
+pub fn entries_on<'a>(
     alloc: Global,
     logs: &'a Logs,
-    lines: u8,
-    first: usize,
-) -> Result<Vec<Vec<Numbered<'a>>>, AllocError>
-    ensures { IfOk result (λ lists. length lists.items ≡ lines) }
+    before: usize,
+    line: u8,
+) -> Result<Vec<Numbered<'a>>, AllocError>
+    requires few { (n : ℕ) → length (log_of logs.now n) ≤ MAX_OPERATIONS }
+    requires before { before ≤ MAX_LINES + 1 }
+    ensures { IfOk result (λ list. numberings list.items ≡ numbered_on line before logs.now) }
 {
-    let mut lists = Vec::with_capacity(alloc, lines as usize)?;
-    for _ in 0..lines {
-        lists.push(Vec::new(alloc))?;
-    }
-    let mut text_line = first;
+    let mut list = Vec::new(alloc);
     for node in 0..logs.nodes() {
-        for entry in logs.of(node) {
-            let line = usize::from(entry.op.line);
-            if line < lists.len() {
-                lists[line].push(Numbered { text_line, entry })?;
-            }
-            text_line = text_line.saturating_add(1);
-        }
+        let first = before + entries_before(logs, node) + 1;
+        add_log(&mut list, logs.of(node), line, first)?;
     }
-    Ok(lists)
+    Ok(list)
 }
 
 /// The entries on one line of memory in the order of their versions: at each version its maker first, and of the others

@@ -1,0 +1,84 @@
+-- The entries of logs on a line of memory, with their lines of the text.
+use Rattle.std.proofs.Common.{◌≡◌, ◌<◌, ◌≤◌, ℕ, ◌+◌, List, [], ◌∷◌, ◌++◌, length, take, get_or, Bool, true, false, cond, map, append_assoc}
+use Rattle.std.proofs.Common.{◌∙◌, arith, ap, refl, sym}
+use Rattle.std.specs.Prelude.{filter, ◌==◌}
+use Rattle.std.specs.List.{enumerate_from, flat_map}
+use Rattle.std.proofs.lemmas.List.{append-nil, length-take-le, take_all, take_more, map-append}
+use Rattle.std.proofs.lemmas.List.Concat.{flat_map-append}
+use Rattle.std.proofs.lemmas.List.Elements.{filter-append}
+use Rattle.sci_history.specs.declared.entry.Entry.{Entry}
+use Rattle.sci_history.specs.Placed.{is_on_line, log_of}
+use Rattle.sci_text.specs.LogValue.{entry_count}
+use Rattle.sci_reports.specs.declared.numbered.Numbered.{Numbered}
+use Rattle.sci_reports.specs.EntryLines.{numbered_on, numbering, numberings, on_line_from}
+
+enumerate_append : {X : Type 0} (n : ℕ) (xs ys : List X) → enumerate_from n (xs ++ ys) ≡ enumerate_from n xs ++ enumerate_from (n + length xs) ys
+enumerate_append n [] ys = let same : n ≡ n + 0 = omega arith in ap (λ m. enumerate_from m ys) same
+enumerate_append n (x ∷ xs) ys =
+    let same : n + 1 + length xs ≡ n + length (x ∷ xs) = omega arith in
+    ap (λ l. (n, x) ∷ l) (enumerate_append (n + 1) xs ys ∙ ap (λ m. enumerate_from (n + 1) xs ++ enumerate_from m ys) same)
+
+pub on_line_append : (line first : ℕ) (xs ys : List Entry)
+    → on_line_from line first (xs ++ ys) ≡ on_line_from line first xs ++ on_line_from line (first + length xs) ys
+on_line_append line first xs ys =
+    ap (filter (λ it. is_on_line line it.1)) (enumerate_append first xs ys)
+    ∙ filter-append (λ it. is_on_line line it.1) (enumerate_from first xs) (enumerate_from (first + length xs) ys)
+
+-- ---- a log
+
+one_more : (line first : ℕ) (log : List Entry) (k : ℕ) (d : Entry) → k < length log
+    → on_line_from line first (take (k + 1) log) ≡ on_line_from line first (take k log) ++ on_line_from line (first + k) (get_or log k d ∷ [])
+one_more line first log k d lt =
+    let long : length (take k log) ≡ k = length-take-le k log (omega (arith, lt)) in
+    ap (on_line_from line first) (take_more log k d lt)
+    ∙ (on_line_append line first (take k log) (get_or log k d ∷ [])
+    ∙ ap (λ (n : ℕ). on_line_from line first (take k log) ++ on_line_from line (first + n) (get_or log k d ∷ [])) long)
+
+-- one entry more, which is on the line
+pub entry_more : (line first text_line : ℕ) (log : List Entry) (k : ℕ) (d : Entry) (old : List (ℕ × Entry)) (list : List Numbered) (it : Numbered)
+    → k < length log → text_line ≡ first + k → numbering it ≡ (text_line, get_or log k d) → is_on_line line (get_or log k d) ≡ true
+    → numberings list ≡ old ++ on_line_from line first (take k log)
+    → numberings (list ++ it ∷ []) ≡ old ++ on_line_from line first (take (k + 1) log)
+entry_more line first text_line log k d old list it lt counted is on was =
+    let e = get_or log k d in
+    let there : on_line_from line (first + k) (e ∷ []) ≡ (first + k, e) ∷ [] = ap (λ (b : Bool). cond b ((first + k, e) ∷ []) []) on in
+    let same : numbering it ≡ (first + k, e) = is ∙ ap (λ (n : ℕ). (n, e)) counted in
+    let whole : on_line_from line first (take (k + 1) log) ≡ on_line_from line first (take k log) ++ (first + k, e) ∷ [] =
+    one_more line first log k d lt ∙ ap (λ (l : List (ℕ × Entry)). on_line_from line first (take k log) ++ l) there in
+    map-append numbering list (it ∷ [])
+    ∙ (ap (λ (p : ℕ × Entry). numberings list ++ p ∷ []) same
+    ∙ (ap (λ (l : List (ℕ × Entry)). l ++ (first + k, e) ∷ []) was
+    ∙ (append_assoc old (on_line_from line first (take k log)) ((first + k, e) ∷ []) ∙ ap (λ (l : List (ℕ × Entry)). old ++ l) (sym whole))))
+
+-- one entry more, which isn't
+pub entry_past : (line first : ℕ) (log : List Entry) (k : ℕ) (d : Entry) (old : List (ℕ × Entry)) (list : List Numbered) → k < length log
+    → is_on_line line (get_or log k d) ≡ false → numberings list ≡ old ++ on_line_from line first (take k log)
+    → numberings list ≡ old ++ on_line_from line first (take (k + 1) log)
+entry_past line first log k d old list lt off was =
+    let e = get_or log k d in
+    let there : on_line_from line (first + k) (e ∷ []) ≡ [] = ap (λ (b : Bool). cond b ((first + k, e) ∷ []) []) off in
+    let whole : on_line_from line first (take (k + 1) log) ≡ on_line_from line first (take k log) =
+    one_more line first log k d lt
+    ∙ (ap (λ (l : List (ℕ × Entry)). on_line_from line first (take k log) ++ l) there ∙ append-nil (on_line_from line first (take k log))) in
+    was ∙ ap (λ (l : List (ℕ × Entry)). old ++ l) (sym whole)
+
+-- ---- logs
+
+-- the log of one node more
+pub log_more : (line before first : ℕ) (logs : List (List Entry)) (n : ℕ) (old new : List (ℕ × Entry)) → n < length logs
+    → first ≡ before + entry_count (take n logs) + 1 → old ≡ numbered_on line before (take n logs)
+    → new ≡ old ++ on_line_from line first (log_of logs n) → new ≡ numbered_on line before (take (n + 1) logs)
+log_more line before first logs n old new lt counted was is =
+    let so_far = flat_map (λ log. log) (take n logs) in
+    let all : flat_map (λ log. log) (take (n + 1) logs) ≡ so_far ++ log_of logs n =
+    ap (flat_map (λ log. log)) (take_more logs n [] lt)
+    ∙ (flat_map-append (λ log. log) (take n logs) (get_or logs n [] ∷ []) ∙ ap (λ (l : List Entry). so_far ++ l) (append-nil (get_or logs n []))) in
+    let place : first ≡ before + 1 + length so_far = omega (arith, counted) in
+    is
+    ∙ (ap (λ (l : List (ℕ × Entry)). l ++ on_line_from line first (log_of logs n)) was
+    ∙ (ap (λ (k : ℕ). on_line_from line (before + 1) so_far ++ on_line_from line k (log_of logs n)) place
+    ∙ (sym (on_line_append line (before + 1) so_far (log_of logs n)) ∙ ap (on_line_from line (before + 1)) (sym all))))
+
+pub logs_all : (line before : ℕ) (logs : List (List Entry)) (n : ℕ) (list : List (ℕ × Entry)) → length logs ≤ n
+    → list ≡ numbered_on line before (take n logs) → list ≡ numbered_on line before logs
+logs_all line before logs n list past was = was ∙ ap (numbered_on line before) (take_all n logs past)
