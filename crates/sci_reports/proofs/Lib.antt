@@ -3,3 +3,4 @@ pub mod Checked
 mod Notes
 mod Orders
 pub mod EntriesOn
+pub mod FoundEntries

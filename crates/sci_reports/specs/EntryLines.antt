@@ -1,7 +1,9 @@
 -- On which lines of a log's text its entries stand.
+use denote.Ref.{Bor}
 use Rattle.std.specs.Prelude.{◌≡◌, ℕ, ◌+◌, ◌⊎◌, List, length, take, map, filter, slice_get, Option, Some, None}
 use Rattle.std.specs.List.{enumerate_from, flat_map}
 use Rattle.sci_history.specs.declared.entry.Entry.{Entry}
+use Rattle.sci_history.specs.Audit.{entries_of}
 use Rattle.sci_history.specs.Placed.{is_on_line, log_of}
 use Rattle.sci_text.specs.LogValue.{BeginsLog, entry_count}
 use Rattle.sci_reports.specs.declared.numbered.Numbered.{Numbered}
@@ -12,6 +14,13 @@ numbering it = (it.text_line, it.entry.now)
 
 abbrev pub numberings : List Numbered → List (ℕ × Entry)
 numberings list = map numbering list
+
+-- the entries alone
+abbrev pub entry_refs : List Numbered → List (Bor Entry)
+entry_refs list = map (λ it. it.entry) list
+
+abbrev pub entries_in : List Numbered → List Entry
+entries_in list = entries_of (entry_refs list)
 
 -- of entries that stand on the lines from this one on, those on a line of memory
 abbrev pub on_line_from : ℕ → ℕ → List Entry → List (ℕ × Entry)

@@ -1,5 +1,10 @@
 //! Which entry is at fault, and why.
 
+ghost use Rattle.std.specs.Prelude.{◌≡◌, ◌<◌, All};
+ghost use Rattle.sci_history.specs.Audit.{words_after};
+ghost use Rattle.sci_history.specs.Placed.{maker_count};
+ghost use Rattle.sci_reports.specs.EntryLines.{entries_in};
+
 use crate::numbered::Numbered;
 use sci_history::{Entry, FaultKind};
 use sci_words::{Act, Line, MAX_NODES, Stamped, WORDS_PER_LINE, Word, effect};
@@ -56,7 +61,9 @@ fn made_twice<'a>(
 }
 
 /// How many of the entries are makers'.
-fn makers(entries: &[Numbered]) -> u64 {
+fn makers(entries: &[Numbered]) -> u64
+    ensures { result ≡ maker_count (entries_in entries.now) }
+{
     entries.iter().filter(|it| it.entry.op.is_maker()).count() as u64
 }
 
@@ -173,7 +180,11 @@ pub fn faulty_entry<'a>(
 }
 
 /// The contents that entries in the order of their versions leave: the words, and the number of makers.
-pub fn contents_after(placed: &[Numbered]) -> Stamped {
+pub fn contents_after(placed: &[Numbered]) -> Stamped
+    ensures words { All (λ entry. entry.op.word < WORDS_PER_LINE) (entries_in placed.now)
+        → result.line ≡ words_after (entries_in placed.now) }
+    ensures makers { result.version ≡ maker_count (entries_in placed.now) }
+{
     let mut line = Line::zero();
     for at in placed {
         let op = at.entry.op;
