@@ -15,6 +15,10 @@ numbering it = (it.text_line, it.entry.now)
 abbrev pub numberings : List Numbered → List (ℕ × Entry)
 numberings list = map numbering list
 
+-- the entry alone
+abbrev pub entry_of : Numbered → Entry
+entry_of it = it.entry.now
+
 -- the entries alone
 abbrev pub entry_refs : List Numbered → List (Bor Entry)
 entry_refs list = map (λ it. it.entry) list

@@ -4,3 +4,4 @@ pub mod ExplainAnswer
 pub mod OrderAnswer
 pub mod TextReadings
 pub mod Subject
+pub mod Faulty

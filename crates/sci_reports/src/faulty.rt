@@ -1,13 +1,14 @@
 //! Which entry is at fault, and why.
 
-ghost use Rattle.std.specs.Prelude.{◌≡◌, ◌<◌, All};
-ghost use Rattle.sci_history.specs.Audit.{words_after};
+ghost use Rattle.std.specs.Prelude.{◌≡◌, ◌<◌, [], All, IfOk, IfSome, option_map};
+ghost use Rattle.sci_history.specs.Audit.{first_failing, first_missing, is_reply_wrong, is_version_missing, same_reply, words_after};
 ghost use Rattle.sci_history.specs.Placed.{maker_count};
-ghost use Rattle.sci_reports.specs.EntryLines.{entries_in};
+ghost use Rattle.sci_reports.specs.EntryLines.{entries_in, entry_of};
+ghost use Rattle.sci_reports.specs.Faulty.{IsWordExpected, faulty};
 
 use crate::numbered::Numbered;
 use sci_history::{Entry, FaultKind};
-use sci_words::{Act, Line, MAX_NODES, Stamped, WORDS_PER_LINE, Word, effect};
+use sci_words::{Act, Line, MAX_NODES, Reply, Stamped, WORDS_PER_LINE, Word, effect};
 use std::alloc::{AllocError, Global};
 use std::collections::BTreeMap;
 
@@ -85,26 +86,51 @@ fn least_unmade(alloc: Global, entries: &[Numbered]) -> Result<u64, AllocError> 
     Ok(least)
 }
 
+/// The first entry whose version is above the number of makers, or a maker of version 0.
+fn above_makers<'a>(entries: &[Numbered<'a>], makers: u64) -> Option<Numbered<'a>>
+    ensures { option_map entry_of result
+        ≡ first_failing (is_version_missing makers) [] (entries_in entries.now) }
+{
+    for at in entries {
+        if at.entry.version > makers || (at.entry.op.is_maker() && at.entry.version == 0) {
+            return Some(*at);
+        }
+    }
+    None
+}
+
 /// The first entry whose version is missing.
 fn missing<'a>(
     alloc: Global,
     entries: &[Numbered<'a>],
-) -> Result<Option<FaultyEntry<'a>>, AllocError> {
+) -> Result<Option<FaultyEntry<'a>>, AllocError>
+    ensures { IfOk result
+        (λ found. option_map faulty found ≡ first_missing (entries_in entries.now)) }
+{
     let makers = makers(entries);
-    let Some(at) = entries.iter().find(|it| {
-        it.entry.version > makers || (it.entry.op.is_maker() && it.entry.version == 0)
-    })
-    else {
+    let Some(at) = above_makers(entries, makers) else {
         return Ok(None);
     };
     Ok(Some(FaultyEntry {
-        at: *at,
+        at,
         cause: Cause::FewMakers(makers, least_unmade(alloc, entries)?),
     }))
 }
 
+/// Whether the entry's reply is this one.
+fn answers(entry: &Entry, reply: Reply) -> bool
+    ensures { result ≡ same_reply entry.now.reply reply }
+{
+    entry.reply == reply
+}
+
 /// The first entry, in the order of versions, whose reply isn't its effect's.
-fn wrong<'a>(placed: &[Numbered<'a>]) -> Option<FaultyEntry<'a>> {
+fn wrong<'a>(placed: &[Numbered<'a>]) -> Option<FaultyEntry<'a>>
+    ensures first { All (λ entry. entry.op.word < WORDS_PER_LINE) (entries_in placed.now)
+        → option_map faulty result ≡ first_failing is_reply_wrong [] (entries_in placed.now) }
+    ensures word { All (λ entry. entry.op.word < WORDS_PER_LINE) (entries_in placed.now)
+        → IfSome result (λ found. IsWordExpected (entries_in placed.now) found) }
+{
     let mut line = Line::zero();
     let mut makers: [Option<Numbered<'a>>; WORDS_PER_LINE] = [None; WORDS_PER_LINE];
     for at in placed {
@@ -115,7 +141,7 @@ fn wrong<'a>(placed: &[Numbered<'a>]) -> Option<FaultyEntry<'a>> {
         }
         let old = line.word(op.word);
         let (new, reply) = effect(op, old);
-        if at.entry.reply != reply {
+        if !answers(at.entry, reply) {
             return Some(FaultyEntry {
                 at: *at,
                 cause: Cause::OtherWord(old, makers[word]),
