@@ -1,7 +1,8 @@
 //! Which entry is at fault, and why.
 
-ghost use Rattle.std.specs.Prelude.{◌≡◌, ◌<◌, [], All, IfOk, IfSome, option_map};
-ghost use Rattle.sci_history.specs.Audit.{first_failing, first_missing, is_reply_wrong, is_version_missing, same_reply, words_after};
+ghost use Rattle.std.specs.Prelude.{◌≡◌, ◌<◌, [], All, IfOk, IfSome, is_some, option_map};
+ghost use Rattle.sci_words.specs.declared.limits.TheConstants.{MAX_NODES};
+ghost use Rattle.sci_history.specs.Audit.{breaks_order, first_disordered, first_failing, first_missing, first_twice, is_reply_wrong, is_version_missing, same_reply, words_after};
 ghost use Rattle.sci_history.specs.Placed.{maker_count};
 ghost use Rattle.sci_reports.specs.EntryLines.{entries_in, entry_of};
 ghost use Rattle.sci_reports.specs.Faulty.{IsWordExpected, faulty};
@@ -44,7 +45,9 @@ pub struct FaultyEntry<'a> {
 fn made_twice<'a>(
     alloc: Global,
     entries: &[Numbered<'a>],
-) -> Result<Option<FaultyEntry<'a>>, AllocError> {
+) -> Result<Option<FaultyEntry<'a>>, AllocError>
+    ensures { IfOk result (λ found. option_map faulty found ≡ first_twice (entries_in entries.now)) }
+{
     let mut made: BTreeMap<u64, Numbered<'a>> = BTreeMap::new(alloc);
     for at in entries {
         if !at.entry.op.is_maker() {
@@ -156,8 +159,11 @@ fn wrong<'a>(placed: &[Numbered<'a>]) -> Option<FaultyEntry<'a>>
     None
 }
 
-/// Why an entry of a node can't follow another in its log, if it can't.
-fn disorder<'a>(earlier: Numbered<'a>, entry: &Entry) -> Option<Cause<'a>> {
+/// Why an entry can't follow the one before it of its node, if there is one and it can't.
+fn disorder<'a>(earlier: Option<Numbered<'a>>, entry: &Entry) -> Option<Cause<'a>>
+    ensures { is_some result ≡ breaks_order (option_map entry_of earlier.entry) entry.now }
+{
+    let earlier = earlier?;
     let before = earlier.entry;
     if before.serial >= entry.serial {
         Some(Cause::SerialAfter(earlier))
@@ -171,17 +177,18 @@ fn disorder<'a>(earlier: Numbered<'a>, entry: &Entry) -> Option<Cause<'a>> {
 }
 
 /// The first entry that can't follow the one before it of its node.
-fn disordered<'a>(entries: &[Numbered<'a>]) -> Option<FaultyEntry<'a>> {
+fn disordered<'a>(entries: &[Numbered<'a>]) -> Option<FaultyEntry<'a>>
+    ensures { All (λ entry. entry.node < MAX_NODES) (entries_in entries.now)
+        → option_map faulty result ≡ first_disordered (entries_in entries.now) }
+{
     let mut latest: [Option<Numbered<'a>>; NODES] = [None; NODES];
     for at in entries {
         let node = usize::from(at.entry.node);
         if node >= NODES {
             continue;
         }
-        if let Some(earlier) = latest[node] {
-            if let Some(cause) = disorder(earlier, at.entry) {
-                return Some(FaultyEntry { at: *at, cause });
-            }
+        if let Some(cause) = disorder(latest[node], at.entry) {
+            return Some(FaultyEntry { at: *at, cause });
         }
         latest[node] = Some(*at);
     }

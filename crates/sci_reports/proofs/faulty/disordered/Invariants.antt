@@ -1,7 +1,18 @@
-use Rattle.std.proofs.Common.{◌≡◌, length}
+use Rattle.std.proofs.Common.{◌≡◌, ◌<◌, ℕ, None, get_or, length, take}
+use Rattle.std.specs.Prelude.{All, option_map}
+use Rattle.std.specs.List.{filter}
 use Rattle.sci_words.specs.declared.limits.TheConstants.{MAX_NODES}
+use Rattle.sci_history.specs.Placed.{is_of_node}
+use Rattle.sci_history.specs.Audit.{is_out_of_order, last_entry}
+use Rattle.sci_history.proofs.AuditFinds.{FailsLater}
+use Rattle.sci_reports.specs.EntryLines.{entries_in, entry_of, entry_refs}
 use Rattle.sci_reports.proofs.faulty.disordered.Given as goal
 
--- a place for each node
+-- each node's latest entry is the last of its entries so far, which stand in order
 abbrev pub invariant-loop-at : goal.invariant-loop-at
-invariant-loop-at l = length l.latest ≡ MAX_NODES
+invariant-loop-at l = record {
+  sixteen : length l.latest ≡ MAX_NODES;
+  latest : All (λ entry. entry.node < MAX_NODES) (entries_in l.entries) → (node : ℕ) → node < MAX_NODES
+      → option_map entry_of (get_or l.latest node None) ≡ last_entry None (filter (is_of_node node) (take l.at-index (entries_in l.entries)));
+  ordered : All (λ entry. entry.node < MAX_NODES) (entries_in l.entries) → FailsLater is_out_of_order (entry_refs l.entries) l.at-index;
+}
