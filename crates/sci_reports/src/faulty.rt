@@ -5,7 +5,7 @@ ghost use Rattle.sci_words.specs.declared.limits.TheConstants.{MAX_NODES};
 ghost use Rattle.sci_history.specs.Audit.{breaks_order, first_disordered, first_failing, first_missing, first_twice, is_reply_wrong, is_version_missing, same_reply, words_after};
 ghost use Rattle.sci_history.specs.Placed.{maker_count};
 ghost use Rattle.sci_reports.specs.EntryLines.{entries_in, entry_of};
-ghost use Rattle.sci_reports.specs.Faulty.{IsWordExpected, faulty};
+ghost use Rattle.sci_reports.specs.Faulty.{IsAtFault, IsWordExpected, faulty};
 
 use crate::numbered::Numbered;
 use sci_history::{Entry, FaultKind};
@@ -202,7 +202,11 @@ pub fn faulty_entry<'a>(
     kind: FaultKind,
     entries: &[Numbered<'a>],
     placed: &[Numbered<'a>],
-) -> Result<Option<FaultyEntry<'a>>, AllocError> {
+) -> Result<Option<FaultyEntry<'a>>, AllocError>
+    ensures { All (λ entry. entry.node < MAX_NODES) (entries_in entries.now)
+        → All (λ entry. entry.op.word < WORDS_PER_LINE) (entries_in placed.now)
+        → IfOk result (IsAtFault kind (entries_in entries.now) (entries_in placed.now)) }
+{
     match kind {
         FaultKind::VersionTwice => made_twice(alloc, entries),
         FaultKind::VersionMissing => missing(alloc, entries),
