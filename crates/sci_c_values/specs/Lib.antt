@@ -1,0 +1,6 @@
+-- What the structs of the C interface say.
+pub mod Entry
+pub mod Operation
+pub mod Packet
+pub mod Stamped
+pub mod Verdict

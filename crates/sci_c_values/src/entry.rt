@@ -1,0 +1,66 @@
+//! Entries of logs.
+
+ghost use Rattle.std.specs.Prelude.{◌≡◌, MatchOption};
+ghost use Rattle.sci_c_values.specs.Entry.{SaysEntry, SaysNoEntry, SaysNoReply, SaysReply, entry_struct};
+
+use crate::operation::{SciOp, op_in, op_out};
+use sci_history::Entry;
+use sci_words::Reply;
+
+/// An entry of a log. `has_word` is 1 if the operation answered `word`, and 0 for a store.
+#[repr(C)]
+#[derive(Clone, Copy)]
+pub struct SciEntry {
+    pub node: u8,
+    pub has_word: u8,
+    pub reserved: u16,
+    pub serial: u32,
+    pub op: SciOp,
+    pub word: u64,
+    pub version: u64,
+}
+
+fn reply_in(entry: &SciEntry) -> Option<Reply>
+    ensures { MatchOption result (SaysNoReply entry.now) (SaysReply entry.now) }
+{
+    match entry.has_word {
+        0 => Some(Reply::Stored),
+        1 => Some(Reply::Got(entry.word)),
+        _ => None,
+    }
+}
+
+/// The entry that the struct says, or None if it says none.
+pub fn entry_in(entry: &SciEntry) -> Option<Entry>
+    ensures { MatchOption result (SaysNoEntry entry.now) (SaysEntry entry.now) }
+{
+    match (op_in(&entry.op), reply_in(entry)) {
+        (Some(op), Some(reply)) => Some(Entry {
+            node: entry.node,
+            serial: entry.serial,
+            op,
+            reply,
+            version: entry.version,
+        }),
+        _ => None,
+    }
+}
+
+/// The struct of an entry. A word that it doesn't have is 0.
+pub fn entry_out(entry: &Entry) -> SciEntry
+    ensures { result ≡ entry_struct entry.now }
+{
+    let (has_word, word) = match entry.reply {
+        Reply::Stored => (0, 0),
+        Reply::Got(word) => (1, word),
+    };
+    SciEntry {
+        node: entry.node,
+        has_word,
+        reserved: 0,
+        serial: entry.serial,
+        op: op_out(&entry.op),
+        word,
+        version: entry.version,
+    }
+}
