@@ -1,0 +1,7 @@
+-- What the C interface says.
+pub mod Journal
+pub mod Kinds
+pub mod Lending
+pub mod Machine
+pub mod Object
+pub mod Packet

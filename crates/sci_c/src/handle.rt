@@ -1,0 +1,83 @@
+//! A machine, a node or logs behind a pointer that C keeps.
+
+ghost use Rattle.std.specs.Prelude.{◌≡◌, Option, Some, None};
+ghost use types.Logic.{sem};
+ghost use Rattle.sci_c.specs.declared.thing.Thing.{Thing};
+
+use crate::loose::{Loose, loosened};
+use crate::thing::Thing;
+use std::alloc::Global;
+use std::marker::Model;
+
+/// What the pointer leads to, of which C sees nothing.
+#[repr(C)]
+pub struct SciOpaque {
+    nothing: [u8; 0],
+}
+
+/// What C keeps of a machine, a node or logs. All zero, it is empty.
+#[repr(C)]
+pub struct SciObject {
+    at: *mut SciOpaque,
+    live: u32,
+    pub ghost value: { Option Thing },
+}
+
+impl Model for SciObject {
+    ghost use Rattle.sci_c.specs.Object.{object_owns};
+
+    ghost also_owns = { λ object. object_owns object.at object.live object.value };
+}
+
+impl SciObject {
+    ghost use Rattle.std.specs.Borrow.{Lends};
+    ghost use Rattle.std.specs.Prelude.{IsSome, is_some};
+    ghost use Rattle.sci_c.specs.contracts.handle.SciObject.{the_row};
+    ghost use Rattle.sci_c.specs.contracts.thing.Thing.{the_row as thing_row};
+    ghost use Rattle.sci_c.specs.Lending.{with_thing};
+    ghost use Rattle.sci_c.specs.Object.{live_of};
+
+    /// 1 if there is a thing, and else 0.
+    pub(crate) fn live(&mut self) -> u32
+        ensures live { result ≡ live_of self.old.value }
+        ensures same { self.new ≡ self.old }
+    {
+        self.live
+    }
+
+    /// Keeps a thing. The caller sees to it that the object is empty.
+    pub(crate) fn keep(&mut self, thing: Box<Thing, Global>)
+        requires { self.old.value ≡ None }
+        ensures { self.new.value ≡ Some thing.value }
+    {
+        self.put(loosened(thing));
+    }
+
+    fn put(&mut self, loose: Loose<Thing>)
+        requires { self.old.value ≡ None }
+        ensures { self.new.value ≡ Some loose.value }
+    {
+        let Loose { at } = loose;
+        self.at = at as *mut SciOpaque;
+        self.live = 1;
+    }
+
+    /// Takes the thing out, which leaves the object empty. The caller sees to it that there is one.
+    pub(crate) fn take(&mut self, alloc: Global) -> Box<Thing, Global>
+        requires { IsSome self.old.value }
+        ensures thing { self.old.value ≡ Some result.value }
+        ensures empty { self.new.value ≡ None }
+    {
+        self.live = 0;
+        unsafe { Box::from_raw(alloc, self.at as *mut Thing) }
+    }
+
+    /// The thing. The caller sees to it that there is one.
+    pub(crate) fn as_mut(&mut self) -> &mut Thing
+        requires { IsSome self.old.value }
+        ensures* writes_back { sem 𝓛 (Lends the_row thing_row self.entry result (with_thing self.old)) }
+        ensures value { self.old.value ≡ Some result.now }
+    {
+        unsafe { &mut *(self.at as *mut Thing) }
+    }
+}

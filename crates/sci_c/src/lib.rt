@@ -1,0 +1,10 @@
+//! The C interface: packets, machines, nodes and logs for programs that are not written in Rattle.
+#![tactic(auto)]
+
+mod handle;
+mod journal;
+mod logs;
+mod loose;
+mod machine;
+mod packet;
+mod thing;
