@@ -2,6 +2,7 @@
 pub mod Journal
 pub mod Kinds
 pub mod Lending
+pub mod Logs
 pub mod Machine
 pub mod Object
 pub mod Packet

@@ -1,6 +1,7 @@
 //! The C interface: packets, machines, nodes and logs for programs that are not written in Rattle.
 #![tactic(auto)]
 
+mod closing;
 mod handle;
 mod journal;
 mod logs;

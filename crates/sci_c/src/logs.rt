@@ -1,1 +1,266 @@
-//! Logs.
+//! Logs with last contents.
+
+ghost use Rattle.std.specs.Prelude.{◌≡◌, ◌≢◌, ◌≤◌, ◌⊎◌, Some, None, IsSome, length};
+ghost use Rattle.sci_words.specs.declared.limits.TheConstants.{MAX_NODES};
+ghost use Rattle.sci_history.specs.Placed.{log_of};
+ghost use Rattle.sci_text.specs.LogValue.{IsSize};
+ghost use Rattle.sci_c_values.specs.declared.status.TheConstants.{SCI_FULL, SCI_MISUSE, SCI_NOT_ENABLED, SCI_NO_MEMORY, SCI_OK, SCI_RANGE};
+ghost use Rattle.sci_c_values.specs.Entry.{SaysNoEntry};
+ghost use Rattle.sci_c.specs.declared.thing.Kind.TheVariants as kind;
+ghost use Rattle.sci_c.specs.Journal.{FitsJournal, empty_journal};
+ghost use Rattle.sci_c.specs.Kinds.{IsOf, OnLogs, logs_in};
+ghost use Rattle.sci_c.specs.Logs.{IsEntryAt, IsFull, IsLastOf, IsLastSet, IsPushed};
+
+use crate::closing::{closed, opened};
+use crate::handle::SciObject;
+use crate::journal::Journal;
+use crate::thing::{Kind, Thing};
+use sci_c_values::{
+    SCI_MISUSE, SCI_OK, SCI_RANGE, SciEntry, SciStamped, entry_in, entry_out, stamped_in,
+    stamped_out,
+};
+use sci_words::{MAX_LINES, MAX_NODES};
+use std::alloc::Global;
+
+/// Puts logs without entries into an empty object. The last contents are zero words at version 0.
+#[unsafe(no_mangle)]
+pub extern "C" fn sci_logs_open(
+    alloc: Global,
+    object: &mut SciObject,
+    nodes: u8,
+    lines: u8,
+) -> u32
+    ensures opened { result ≡ SCI_OK → logs_in object.new.value ≡ Some (empty_journal nodes lines) }
+    ensures empty { result ≡ SCI_OK → object.old.value ≡ None }
+    ensures misuse { result ≡ SCI_MISUSE → IsSome object.old.value }
+    ensures range { result ≡ SCI_RANGE → IsSize nodes lines → ⊥ }
+    ensures memory { result ≡ SCI_NO_MEMORY → IsSize nodes lines }
+    ensures status { (result ≤ SCI_MISUSE) × (result ≢ SCI_NOT_ENABLED) }
+    ensures same { result ≢ SCI_OK → object.new.value ≡ object.old.value }
+{
+    if object.live() != 0 {
+        return SCI_MISUSE;
+    }
+    if nodes == 0 || nodes > MAX_NODES || lines == 0 || lines > MAX_LINES {
+        return SCI_RANGE;
+    }
+    opened(alloc, object, Thing::Logs(Journal::new(alloc, nodes, lines)))
+}
+
+/// Lets logs go, and leaves the object empty.
+#[unsafe(no_mangle)]
+pub extern "C" fn sci_logs_close(alloc: Global, object: &mut SciObject) -> u32
+    ensures closed { result ≡ SCI_OK → object.new.value ≡ None }
+    ensures kind { result ≡ SCI_OK
+        → (object.old.value ≡ None) ⊎ IsOf kind.Logs object.old.value }
+    ensures misuse { result ≡ SCI_MISUSE → IsSome object.old.value }
+    ensures other { result ≡ SCI_MISUSE → IsOf kind.Logs object.old.value → ⊥ }
+    ensures status { (result ≡ SCI_OK) ⊎ (result ≡ SCI_MISUSE) }
+    ensures same { result ≢ SCI_OK → object.new.value ≡ object.old.value }
+{
+    closed(alloc, object, Kind::Logs)
+}
+
+/// Ends the log of the entry's node with the entry.
+#[unsafe(no_mangle)]
+pub extern "C" fn sci_logs_push(object: &mut SciObject, entry: &SciEntry) -> u32
+    ensures pushed { result ≡ SCI_OK → IsPushed object.old.value entry.now object.new.value }
+    ensures full { result ≡ SCI_FULL → OnLogs object.old.value (IsFull entry.now) }
+    ensures range { result ≡ SCI_RANGE → OnLogs object.old.value
+        (λ journal. FitsJournal journal entry.now → SaysNoEntry entry.now) }
+    ensures memory { result ≡ SCI_NO_MEMORY → OnLogs object.old.value
+        (λ journal. FitsJournal journal entry.now) }
+    ensures misuse { result ≡ SCI_MISUSE → logs_in object.old.value ≡ None }
+    ensures status { (result ≤ SCI_FULL) × (result ≢ SCI_NOT_ENABLED) }
+    ensures same { result ≢ SCI_OK → object.new.value ≡ object.old.value }
+{
+    if object.live() == 0 {
+        return SCI_MISUSE;
+    }
+    push(object.as_mut(), entry)
+}
+
+fn push(kept: &mut Thing, entry: &SciEntry) -> u32
+    ensures pushed { result ≡ SCI_OK → IsPushed (Some kept.old) entry.now (Some kept.new) }
+    ensures full { result ≡ SCI_FULL → OnLogs (Some kept.old) (IsFull entry.now) }
+    ensures range { result ≡ SCI_RANGE → OnLogs (Some kept.old)
+        (λ journal. FitsJournal journal entry.now → SaysNoEntry entry.now) }
+    ensures memory { result ≡ SCI_NO_MEMORY → OnLogs (Some kept.old)
+        (λ journal. FitsJournal journal entry.now) }
+    ensures misuse { result ≡ SCI_MISUSE → logs_in (Some kept.old) ≡ None }
+    ensures status { (result ≤ SCI_FULL) × (result ≢ SCI_NOT_ENABLED) }
+    ensures same { result ≢ SCI_OK → kept.new ≡ kept.old }
+{
+    match kept {
+        Thing::Logs(journal) => {
+            if !journal.takes(entry) {
+                return SCI_RANGE;
+            }
+            match entry_in(entry) {
+                Some(said) => journal.push(said),
+                None => SCI_RANGE,
+            }
+        }
+        _ => SCI_MISUSE,
+    }
+}
+
+/// Replaces the last contents of a line.
+#[unsafe(no_mangle)]
+pub extern "C" fn sci_logs_set_last(
+    object: &mut SciObject,
+    line: u8,
+    contents: &SciStamped,
+) -> u32
+    ensures done { result ≡ SCI_OK
+        → IsLastSet object.old.value line contents.now object.new.value }
+    ensures range { result ≡ SCI_RANGE → OnLogs object.old.value
+        (λ journal. length journal.last ≤ line) }
+    ensures misuse { result ≡ SCI_MISUSE → logs_in object.old.value ≡ None }
+    ensures status { (result ≡ SCI_OK) ⊎ ((result ≡ SCI_RANGE) ⊎ (result ≡ SCI_MISUSE)) }
+    ensures same { result ≢ SCI_OK → object.new.value ≡ object.old.value }
+{
+    if object.live() == 0 {
+        return SCI_MISUSE;
+    }
+    set_last(object.as_mut(), line, contents)
+}
+
+fn set_last(kept: &mut Thing, line: u8, contents: &SciStamped) -> u32
+    ensures done { result ≡ SCI_OK → IsLastSet (Some kept.old) line contents.now (Some kept.new) }
+    ensures range { result ≡ SCI_RANGE → OnLogs (Some kept.old)
+        (λ journal. length journal.last ≤ line) }
+    ensures misuse { result ≡ SCI_MISUSE → logs_in (Some kept.old) ≡ None }
+    ensures status { (result ≡ SCI_OK) ⊎ ((result ≡ SCI_RANGE) ⊎ (result ≡ SCI_MISUSE)) }
+    ensures same { result ≢ SCI_OK → kept.new ≡ kept.old }
+{
+    match kept {
+        Thing::Logs(journal) => {
+            if line >= journal.last().lines() {
+                return SCI_RANGE;
+            }
+            journal.set_last(line, stamped_in(contents));
+            SCI_OK
+        }
+        _ => SCI_MISUSE,
+    }
+}
+
+/// Reads the last contents of a line.
+#[unsafe(no_mangle)]
+pub extern "C" fn sci_logs_last(
+    object: &mut SciObject,
+    line: u8,
+    contents: &mut SciStamped,
+) -> u32
+    ensures found { result ≡ SCI_OK → OnLogs object.old.value (IsLastOf line contents.new) }
+    ensures range { result ≡ SCI_RANGE → OnLogs object.old.value
+        (λ journal. length journal.last ≤ line) }
+    ensures misuse { result ≡ SCI_MISUSE → logs_in object.old.value ≡ None }
+    ensures status { (result ≡ SCI_OK) ⊎ ((result ≡ SCI_RANGE) ⊎ (result ≡ SCI_MISUSE)) }
+    ensures same { result ≢ SCI_OK → contents.new ≡ contents.old }
+    ensures kept { object.new.value ≡ object.old.value }
+{
+    if object.live() == 0 {
+        return SCI_MISUSE;
+    }
+    match object.as_mut() {
+        Thing::Logs(journal) => {
+            if line >= journal.last().lines() {
+                return SCI_RANGE;
+            }
+            *contents = stamped_out(&journal.last().get(line));
+            SCI_OK
+        }
+        _ => SCI_MISUSE,
+    }
+}
+
+/// Tells how many nodes and lines logs have.
+#[unsafe(no_mangle)]
+pub extern "C" fn sci_logs_size(object: &mut SciObject, nodes: &mut u8, lines: &mut u8) -> u32
+    ensures nodes { result ≡ SCI_OK → OnLogs object.old.value
+        (λ journal. nodes.new ≡ journal.nodes) }
+    ensures lines { result ≡ SCI_OK → OnLogs object.old.value
+        (λ journal. lines.new ≡ length journal.last) }
+    ensures misuse { result ≡ SCI_MISUSE → logs_in object.old.value ≡ None }
+    ensures status { (result ≡ SCI_OK) ⊎ (result ≡ SCI_MISUSE) }
+    ensures same_nodes { result ≢ SCI_OK → nodes.new ≡ nodes.old }
+    ensures same_lines { result ≢ SCI_OK → lines.new ≡ lines.old }
+    ensures kept { object.new.value ≡ object.old.value }
+{
+    if object.live() == 0 {
+        return SCI_MISUSE;
+    }
+    match object.as_mut() {
+        Thing::Logs(journal) => {
+            *nodes = journal.nodes();
+            *lines = journal.last().lines();
+            SCI_OK
+        }
+        _ => SCI_MISUSE,
+    }
+}
+
+/// Counts the entries of a node.
+#[unsafe(no_mangle)]
+pub extern "C" fn sci_logs_count(object: &mut SciObject, node: u8, count: &mut usize) -> u32
+    ensures counted { result ≡ SCI_OK → OnLogs object.old.value
+        (λ journal. count.new ≡ length (log_of journal.logs node)) }
+    ensures range { result ≡ SCI_RANGE → MAX_NODES ≤ node }
+    ensures range_logs { result ≡ SCI_RANGE → IsSome (logs_in object.old.value) }
+    ensures misuse { result ≡ SCI_MISUSE → logs_in object.old.value ≡ None }
+    ensures status { (result ≡ SCI_OK) ⊎ ((result ≡ SCI_RANGE) ⊎ (result ≡ SCI_MISUSE)) }
+    ensures same { result ≢ SCI_OK → count.new ≡ count.old }
+    ensures kept { object.new.value ≡ object.old.value }
+{
+    if object.live() == 0 {
+        return SCI_MISUSE;
+    }
+    match object.as_mut() {
+        Thing::Logs(journal) => {
+            if node >= MAX_NODES {
+                return SCI_RANGE;
+            }
+            *count = journal.logs().of(node).len();
+            SCI_OK
+        }
+        _ => SCI_MISUSE,
+    }
+}
+
+/// Reads the entry at a place of a node's log.
+#[unsafe(no_mangle)]
+pub extern "C" fn sci_logs_entry(
+    object: &mut SciObject,
+    node: u8,
+    place: usize,
+    entry: &mut SciEntry,
+) -> u32
+    ensures found { result ≡ SCI_OK → OnLogs object.old.value (IsEntryAt node place entry.new) }
+    ensures range { result ≡ SCI_RANGE → OnLogs object.old.value
+        (λ journal. (MAX_NODES ≤ node) ⊎ (length (log_of journal.logs node) ≤ place)) }
+    ensures misuse { result ≡ SCI_MISUSE → logs_in object.old.value ≡ None }
+    ensures status { (result ≡ SCI_OK) ⊎ ((result ≡ SCI_RANGE) ⊎ (result ≡ SCI_MISUSE)) }
+    ensures same { result ≢ SCI_OK → entry.new ≡ entry.old }
+    ensures kept { object.new.value ≡ object.old.value }
+{
+    if object.live() == 0 {
+        return SCI_MISUSE;
+    }
+    match object.as_mut() {
+        Thing::Logs(journal) => {
+            if node >= MAX_NODES {
+                return SCI_RANGE;
+            }
+            match journal.logs().of(node).get(place) {
+                Some(found) => {
+                    *entry = entry_out(found);
+                    SCI_OK
+                }
+                None => SCI_RANGE,
+            }
+        }
+        _ => SCI_MISUSE,
+    }
+}

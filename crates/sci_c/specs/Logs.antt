@@ -1,0 +1,90 @@
+-- What the calls for logs answer.
+use Rattle.std.specs.Prelude.{◌≡◌, ℕ, ◌<◌, ◌≤◌, ◌++◌, ◌∷◌, [], List, length, replicate, slice_get, slice_set, drop, Option, Some}
+use Rattle.sci_words.specs.declared.limits.TheConstants.{MAX_NODES, MAX_OPERATIONS, WORDS_PER_LINE}
+use Rattle.sci_words.specs.Stamped.{zero_stamped}
+use Rattle.sci_history.specs.declared.entry.Entry.{Entry}
+use Rattle.sci_history.specs.declared.verdict.Verdict.{Verdict}
+use Rattle.sci_history.specs.Audit.{IsVerdict}
+use Rattle.sci_history.specs.Memory.{stamped_at}
+use Rattle.sci_history.specs.Placed.{log_of}
+use Rattle.sci_text.specs.declared.fault.TextFault.{TextFault}
+use Rattle.sci_text.specs.FirstFault.{IsRefusal}
+use Rattle.sci_text.specs.Log.{log_text}
+use Rattle.sci_text.specs.LogFault.{IsLogFault}
+use Rattle.sci_text.specs.LogValue.{AreLogs, IsLogs}
+use Rattle.sci_c_values.specs.declared.entry.SciEntry.{SciEntry}
+use Rattle.sci_c_values.specs.declared.stamped.SciStamped.{SciStamped}
+use Rattle.sci_c_values.specs.declared.verdict.SciTextFault.{SciTextFault}
+use Rattle.sci_c_values.specs.declared.verdict.SciVerdict.{SciVerdict}
+use Rattle.sci_c_values.specs.Entry.{SaysEntry, entry_struct}
+use Rattle.sci_c_values.specs.Stamped.{stamped_of, stamped_struct}
+use Rattle.sci_c_values.specs.Verdict.{text_fault_struct, verdict_struct}
+use Rattle.sci_c.specs.declared.thing.Thing.{Thing}
+use Rattle.sci_c.specs.Journal.{JournalOf, FitsJournal, with_entry, with_last}
+use Rattle.sci_c.specs.Kinds.{logs_in}
+
+-- the entry that the struct says ends its node's log
+pub record IsPushed (old : Option Thing) (c : SciEntry) (new : Option Thing) : Type 0 where
+  pub before : JournalOf
+  pub after : JournalOf
+  pub entry : Entry
+  pub was : logs_in old ≡ Some before
+  pub is_now : logs_in new ≡ Some after
+  pub says : SaysEntry c entry
+  pub fits : FitsJournal before c
+  pub ends : after ≡ with_entry before entry
+
+-- the log of the node has as many entries as it may have
+abbrev pub IsFull : SciEntry → JournalOf → Type 0
+IsFull c journal = MAX_OPERATIONS ≤ length (log_of journal.logs c.node)
+
+-- the line has the contents that the struct says
+pub record IsLastSet (old : Option Thing) (line : ℕ) (c : SciStamped) (new : Option Thing) : Type 0 where
+  pub before : JournalOf
+  pub after : JournalOf
+  pub was : logs_in old ≡ Some before
+  pub is_now : logs_in new ≡ Some after
+  pub here : line < length before.last
+  pub set : after ≡ with_last before line (stamped_of c)
+
+-- the contents of a line
+pub record IsLastOf (line : ℕ) (c : SciStamped) (journal : JournalOf) : Type 0 where
+  pub here : line < length journal.last
+  pub contents : c ≡ stamped_struct (stamped_at journal.last line)
+
+-- the entry at a place of a node's log
+pub record IsEntryAt (node place : ℕ) (c : SciEntry) (journal : JournalOf) : Type 0 where
+  pub entry : Entry
+  pub found : slice_get (log_of journal.logs node) place ≡ Some entry
+  pub struct_is : c ≡ entry_struct entry
+
+-- what an audit finds
+pub record IsFound (c : SciVerdict) (journal : JournalOf) : Type 0 where
+  pub verdict : Verdict
+  pub is_verdict : IsVerdict journal.logs journal.last verdict
+  pub struct_is : c ≡ verdict_struct verdict
+
+-- the bytes are a text of the logs, each number of which is within the limits
+pub record AreRead (text : List ℕ) (journal : JournalOf) : Type 0 where
+  pub text_is : IsLogs text journal.nodes journal.logs journal.last
+  pub good : AreLogs journal.nodes journal.logs journal.last
+
+-- the first fault of a text
+pub record IsTextFault (text : List ℕ) (c : SciTextFault) : Type 0 where
+  pub fault : TextFault
+  pub refused : IsRefusal IsLogFault text fault
+  pub struct_is : c ≡ text_fault_struct fault
+
+abbrev pub text_of : JournalOf → List ℕ
+text_of journal = log_text journal.nodes journal.logs journal.last
+
+-- the text of the logs stands over the first bytes, and is read back if the logs are within the limits of a text
+pub record AreWritten (old new : List ℕ) (used : ℕ) (journal : JournalOf) : Type 0 where
+  pub bytes : new ≡ text_of journal ++ drop used old
+  pub length_is : used ≡ length (text_of journal)
+  pub text_is : AreLogs journal.nodes journal.logs journal.last → IsLogs (text_of journal) journal.nodes journal.logs journal.last
+
+-- the text has more bytes than there is room
+pub record AreTooLong (old : List ℕ) (used : ℕ) (journal : JournalOf) : Type 0 where
+  pub length_is : used ≡ length (text_of journal)
+  pub more : length old < used
