@@ -8,6 +8,7 @@ use Rattle.sci_history.specs.Audit.{IsVerdict}
 use Rattle.sci_history.specs.Memory.{stamped_at}
 use Rattle.sci_history.specs.Placed.{log_of}
 use Rattle.sci_text.specs.declared.fault.TextFault.{TextFault}
+use Rattle.sci_text.specs.declared.fault.TextFaultKind.TheVariants.{Memory}
 use Rattle.sci_text.specs.FirstFault.{IsRefusal}
 use Rattle.sci_text.specs.Log.{log_text}
 use Rattle.sci_text.specs.LogFault.{IsLogFault}
@@ -73,6 +74,7 @@ pub record AreRead (text : List ℕ) (journal : JournalOf) : Type 0 where
 pub record IsTextFault (text : List ℕ) (c : SciTextFault) : Type 0 where
   pub fault : TextFault
   pub refused : IsRefusal IsLogFault text fault
+  pub not_memory : fault.kind ≡ Memory → ⊥
   pub struct_is : c ≡ text_fault_struct fault
 
 abbrev pub text_of : JournalOf → List ℕ

@@ -1,14 +1,23 @@
 -- What the calls for machines answer.
-use Rattle.std.specs.Prelude.{◌≡◌, ℕ, Option, Some, None, IsSome, IsTrue}
+use Rattle.std.specs.Prelude.{◌≡◌, ℕ, ◌<◌, Option, Some, None, IsSome, IsTrue}
 use Rattle.sci_words.specs.declared.event.Event.{Event}
+use Rattle.sci_history.specs.Lawful.{Lawful}
+use Rattle.sci_history.specs.Sequential.{IsSequentiallyConsistent}
 use Rattle.sci_core.specs.Core.{Core, opening, stepping}
 use Rattle.sci_core.specs.Coherent.{IsCoherent}
 use Rattle.sci_core.specs.Fault.{is_sending}
+use Rattle.sci_core.specs.Outcome.{logs_of}
+use Rattle.sci_core.specs.Settling.{IsSettled, IsWithin, Leads, LeadsOn, settles}
+use Rattle.sci_core.specs.Shape.{IsAuthority}
+use Rattle.sci_core.specs.Sharing.{last_at, last_of}
 use Rattle.sci_core.specs.Size.{Size}
 use Rattle.sci_c_values.specs.declared.operation.SciEvent.{SciEvent}
+use Rattle.sci_c_values.specs.declared.stamped.SciStamped.{SciStamped}
 use Rattle.sci_c_values.specs.Operation.{SaysEvent}
+use Rattle.sci_c_values.specs.Stamped.{stamped_struct}
 use Rattle.sci_c.specs.declared.thing.Thing.{Thing}
-use Rattle.sci_c.specs.Kinds.{machine_in}
+use Rattle.sci_c.specs.Journal.{journal_of}
+use Rattle.sci_c.specs.Kinds.{machine_in, logs_in}
 
 abbrev pub size : ℕ → ℕ → ℕ → ℕ → Size
 size nodes lines slots limit = record { nodes = nodes; lines = lines; slots = slots; limit = limit }
@@ -45,3 +54,47 @@ pub record IsSending (old : Option Thing) (c : SciEvent) : Type 0 where
   pub says : SaysEvent c event
   pub enabled : IsSome (stepping machine event)
   pub sends : IsTrue (is_sending event)
+
+-- the machine has come to rest by so many events
+pub record IsSettling (old : Option Thing) (count : ℕ) (new : Option Thing) : Type 0 where
+  pub before : Core
+  pub after : Core
+  pub was : machine_in old ≡ Some before
+  pub is_now : machine_in new ≡ Some after
+  pub settled : IsSettled after
+  pub leads : Leads settles before after count
+  pub within : IsWithin before count
+  pub coherent : IsCoherent after
+
+-- the machine has made some of the events that bring it to rest
+pub record IsPartOfSettling (old new : Option Thing) : Type 0 where
+  pub before : Core
+  pub after : Core
+  pub was : machine_in old ≡ Some before
+  pub is_now : machine_in new ≡ Some after
+  pub leads : LeadsOn settles before after
+  pub coherent : IsCoherent after
+
+-- the last contents of a line
+pub record IsMachineLast (line : ℕ) (c : SciStamped) (machine : Core) : Type 0 where
+  pub here : line < machine.size.lines
+  pub contents : c ≡ stamped_struct (last_at machine line)
+
+-- the one node that may change a line or is about to
+pub record IsAuthorityOf (line n : ℕ) (machine : Core) : Type 0 where
+  pub here : line < machine.size.lines
+  pub below : n < machine.size.nodes
+  pub authority : IsAuthority machine line n
+
+-- no node may change the line, nor is about to
+pub record HasNoAuthority (line : ℕ) (machine : Core) : Type 0 where
+  pub here : line < machine.size.lines
+  pub none : (n : ℕ) → n < machine.size.nodes → IsAuthority machine line n → ⊥
+
+-- the logs and the last contents of a machine
+pub record AreLogsOf (old new : Option Thing) : Type 0 where
+  pub machine : Core
+  pub was : machine_in old ≡ Some machine
+  pub are : logs_in new ≡ Some (journal_of machine.size.nodes (logs_of machine) (last_of machine))
+  pub lawful : Lawful (logs_of machine) (last_of machine)
+  pub consistent : IsSequentiallyConsistent (logs_of machine) (last_of machine)

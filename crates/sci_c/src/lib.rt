@@ -4,8 +4,10 @@
 mod closing;
 mod handle;
 mod journal;
+mod library;
 mod logs;
 mod loose;
 mod machine;
 mod packet;
+mod texts;
 mod thing;

@@ -24,12 +24,7 @@ use std::alloc::Global;
 
 /// Puts logs without entries into an empty object. The last contents are zero words at version 0.
 #[unsafe(no_mangle)]
-pub extern "C" fn sci_logs_open(
-    alloc: Global,
-    object: &mut SciObject,
-    nodes: u8,
-    lines: u8,
-) -> u32
+pub extern "C" fn sci_logs_open(alloc: Global, object: &mut SciObject, nodes: u8, lines: u8) -> u32
     ensures opened { result ≡ SCI_OK → logs_in object.new.value ≡ Some (empty_journal nodes lines) }
     ensures empty { result ≡ SCI_OK → object.old.value ≡ None }
     ensures misuse { result ≡ SCI_MISUSE → IsSome object.old.value }
@@ -44,7 +39,11 @@ pub extern "C" fn sci_logs_open(
     if nodes == 0 || nodes > MAX_NODES || lines == 0 || lines > MAX_LINES {
         return SCI_RANGE;
     }
-    opened(alloc, object, Thing::Logs(Journal::new(alloc, nodes, lines)))
+    opened(
+        alloc,
+        object,
+        Thing::Logs(Journal::new(alloc, nodes, lines)),
+    )
 }
 
 /// Lets logs go, and leaves the object empty.
@@ -107,11 +106,7 @@ fn push(kept: &mut Thing, entry: &SciEntry) -> u32
 
 /// Replaces the last contents of a line.
 #[unsafe(no_mangle)]
-pub extern "C" fn sci_logs_set_last(
-    object: &mut SciObject,
-    line: u8,
-    contents: &SciStamped,
-) -> u32
+pub extern "C" fn sci_logs_set_last(object: &mut SciObject, line: u8, contents: &SciStamped) -> u32
     ensures done { result ≡ SCI_OK
         → IsLastSet object.old.value line contents.now object.new.value }
     ensures range { result ≡ SCI_RANGE → OnLogs object.old.value
@@ -148,11 +143,7 @@ fn set_last(kept: &mut Thing, line: u8, contents: &SciStamped) -> u32
 
 /// Reads the last contents of a line.
 #[unsafe(no_mangle)]
-pub extern "C" fn sci_logs_last(
-    object: &mut SciObject,
-    line: u8,
-    contents: &mut SciStamped,
-) -> u32
+pub extern "C" fn sci_logs_last(object: &mut SciObject, line: u8, contents: &mut SciStamped) -> u32
     ensures found { result ≡ SCI_OK → OnLogs object.old.value (IsLastOf line contents.new) }
     ensures range { result ≡ SCI_RANGE → OnLogs object.old.value
         (λ journal. length journal.last ≤ line) }

@@ -1,16 +1,20 @@
 //! Machines.
 
-ghost use Rattle.std.specs.Prelude.{◌≡◌, ◌≢◌, ◌≤◌, Some, None, IsSome};
+ghost use Rattle.std.specs.Prelude.{◌≡◌, ◌≢◌, ◌≤◌, ◌⊎◌, Some, None, IsSome};
 ghost use Rattle.sci_core.specs.Size.{IsMachineSize};
 ghost use Rattle.sci_c_values.specs.declared.status.TheConstants.{SCI_MISUSE, SCI_NOT_ENABLED, SCI_NO_MEMORY, SCI_OK, SCI_RANGE};
 ghost use Rattle.sci_c_values.specs.Operation.{SaysNoEvent};
-ghost use Rattle.sci_c.specs.Kinds.{machine_in};
-ghost use Rattle.sci_c.specs.Machine.{IsNotEnabled, IsOpening, IsSending, IsStep, size};
+ghost use Rattle.sci_c.specs.declared.thing.Kind.TheVariants as kind;
+ghost use Rattle.sci_c.specs.Kinds.{IsOf, OnMachine, machine_in};
+ghost use Rattle.sci_c.specs.Machine.{AreLogsOf, HasNoAuthority, IsAuthorityOf, IsMachineLast, IsNotEnabled, IsOpening, IsPartOfSettling, IsSending, IsSettling, IsStep, size};
 
+use crate::closing::{closed, opened};
 use crate::handle::SciObject;
-use crate::thing::Thing;
+use crate::journal::Journal;
+use crate::thing::{Kind, Thing};
 use sci_c_values::{
-    SCI_MISUSE, SCI_NO_MEMORY, SCI_NOT_ENABLED, SCI_OK, SCI_RANGE, SciEvent, event_in,
+    SCI_MISUSE, SCI_NO_MEMORY, SCI_NOT_ENABLED, SCI_OK, SCI_RANGE, SciEvent, SciStamped, event_in,
+    stamped_out,
 };
 use sci_core::{ApplyFault, Machine};
 use sci_words::{Extent, MAX_OPERATIONS};
@@ -46,13 +50,7 @@ pub extern "C" fn sci_machine_open(
     let Ok(machine) = Machine::new(alloc, extent, limit) else {
         return SCI_NO_MEMORY;
     };
-    match Box::new(alloc, Thing::Machine(machine)) {
-        Ok(kept) => {
-            object.keep(kept);
-            SCI_OK
-        }
-        Err(_) => SCI_NO_MEMORY,
-    }
+    opened(alloc, object, Thing::Machine(machine))
 }
 
 /// Applies the event to the machine.
@@ -91,6 +89,155 @@ fn step(kept: &mut Thing, event: &SciEvent) -> u32
                 Err(ApplyFault::Memory(_)) => SCI_NO_MEMORY,
             },
             None => SCI_RANGE,
+        },
+        _ => SCI_MISUSE,
+    }
+}
+
+/// Lets a machine go, and leaves the object empty.
+#[unsafe(no_mangle)]
+pub extern "C" fn sci_machine_close(alloc: Global, object: &mut SciObject) -> u32
+    ensures closed { result ≡ SCI_OK → object.new.value ≡ None }
+    ensures kind { result ≡ SCI_OK
+        → (object.old.value ≡ None) ⊎ IsOf kind.Machine object.old.value }
+    ensures misuse { result ≡ SCI_MISUSE → IsSome object.old.value }
+    ensures other { result ≡ SCI_MISUSE → IsOf kind.Machine object.old.value → ⊥ }
+    ensures status { (result ≡ SCI_OK) ⊎ (result ≡ SCI_MISUSE) }
+    ensures same { result ≢ SCI_OK → object.new.value ≡ object.old.value }
+{
+    closed(alloc, object, Kind::Machine)
+}
+
+/// Brings the machine to rest, and gives the number of events. If memory is refused, the machine stands where the events made
+/// so far lead.
+#[unsafe(no_mangle)]
+pub extern "C" fn sci_machine_settle(object: &mut SciObject, events: &mut u32) -> u32
+    ensures settled { result ≡ SCI_OK
+        → IsSettling object.old.value events.new object.new.value }
+    ensures memory { result ≡ SCI_NO_MEMORY
+        → IsPartOfSettling object.old.value object.new.value }
+    ensures misuse { result ≡ SCI_MISUSE → machine_in object.old.value ≡ None }
+    ensures status { (result ≡ SCI_OK) ⊎ ((result ≡ SCI_NO_MEMORY) ⊎ (result ≡ SCI_MISUSE)) }
+    ensures same { result ≡ SCI_MISUSE → object.new.value ≡ object.old.value }
+    ensures same_events { result ≢ SCI_OK → events.new ≡ events.old }
+{
+    if object.live() == 0 {
+        return SCI_MISUSE;
+    }
+    settle(object.as_mut(), events)
+}
+
+fn settle(kept: &mut Thing, events: &mut u32) -> u32
+    ensures settled { result ≡ SCI_OK
+        → IsSettling (Some kept.old) events.new (Some kept.new) }
+    ensures memory { result ≡ SCI_NO_MEMORY → IsPartOfSettling (Some kept.old) (Some kept.new) }
+    ensures misuse { result ≡ SCI_MISUSE → machine_in (Some kept.old) ≡ None }
+    ensures status { (result ≡ SCI_OK) ⊎ ((result ≡ SCI_NO_MEMORY) ⊎ (result ≡ SCI_MISUSE)) }
+    ensures same { result ≡ SCI_MISUSE → kept.new ≡ kept.old }
+    ensures same_events { result ≢ SCI_OK → events.new ≡ events.old }
+{
+    match kept {
+        Thing::Machine(machine) => match machine.settle() {
+            Ok(count) => {
+                *events = count;
+                SCI_OK
+            }
+            Err(_) => SCI_NO_MEMORY,
+        },
+        _ => SCI_MISUSE,
+    }
+}
+
+/// Reads the last contents of a line.
+#[unsafe(no_mangle)]
+pub extern "C" fn sci_machine_last(
+    object: &mut SciObject,
+    line: u8,
+    contents: &mut SciStamped,
+) -> u32
+    ensures found { result ≡ SCI_OK
+        → OnMachine object.old.value (IsMachineLast line contents.new) }
+    ensures range { result ≡ SCI_RANGE → OnMachine object.old.value
+        (λ machine. machine.size.lines ≤ line) }
+    ensures misuse { result ≡ SCI_MISUSE → machine_in object.old.value ≡ None }
+    ensures status { (result ≡ SCI_OK) ⊎ ((result ≡ SCI_RANGE) ⊎ (result ≡ SCI_MISUSE)) }
+    ensures same { result ≢ SCI_OK → contents.new ≡ contents.old }
+    ensures kept { object.new.value ≡ object.old.value }
+{
+    if object.live() == 0 {
+        return SCI_MISUSE;
+    }
+    match object.as_mut() {
+        Thing::Machine(machine) => {
+            if line >= machine.extent().lines {
+                return SCI_RANGE;
+            }
+            *contents = stamped_out(&machine.last_contents(line));
+            SCI_OK
+        }
+        _ => SCI_MISUSE,
+    }
+}
+
+/// Tells the one node that may change a line or is about to. Not enabled if the home has the line alone.
+#[unsafe(no_mangle)]
+pub extern "C" fn sci_machine_authority(object: &mut SciObject, line: u8, node: &mut u8) -> u32
+    ensures found { result ≡ SCI_OK → OnMachine object.old.value (IsAuthorityOf line node.new) }
+    ensures none { result ≡ SCI_NOT_ENABLED → OnMachine object.old.value (HasNoAuthority line) }
+    ensures range { result ≡ SCI_RANGE → OnMachine object.old.value
+        (λ machine. machine.size.lines ≤ line) }
+    ensures misuse { result ≡ SCI_MISUSE → machine_in object.old.value ≡ None }
+    ensures status { (result ≤ SCI_MISUSE) × (result ≢ SCI_NO_MEMORY) }
+    ensures same { result ≢ SCI_OK → node.new ≡ node.old }
+    ensures kept { object.new.value ≡ object.old.value }
+{
+    if object.live() == 0 {
+        return SCI_MISUSE;
+    }
+    match object.as_mut() {
+        Thing::Machine(machine) => {
+            if line >= machine.extent().lines {
+                return SCI_RANGE;
+            }
+            match machine.authority(line) {
+                Some(found) => {
+                    *node = found;
+                    SCI_OK
+                }
+                None => SCI_NOT_ENABLED,
+            }
+        }
+        _ => SCI_MISUSE,
+    }
+}
+
+/// Puts the machine's logs and last contents into an empty object of logs.
+#[unsafe(no_mangle)]
+pub extern "C" fn sci_machine_logs(
+    alloc: Global,
+    object: &mut SciObject,
+    logs: &mut SciObject,
+) -> u32
+    ensures done { result ≡ SCI_OK → AreLogsOf object.old.value logs.new.value }
+    ensures empty { result ≡ SCI_OK → logs.old.value ≡ None }
+    ensures memory { result ≡ SCI_NO_MEMORY → IsSome (machine_in object.old.value) }
+    ensures memory_empty { result ≡ SCI_NO_MEMORY → logs.old.value ≡ None }
+    ensures misuse { result ≡ SCI_MISUSE
+        → (machine_in object.old.value ≡ None) ⊎ IsSome logs.old.value }
+    ensures status { (result ≡ SCI_OK) ⊎ ((result ≡ SCI_NO_MEMORY) ⊎ (result ≡ SCI_MISUSE)) }
+    ensures same { result ≢ SCI_OK → logs.new.value ≡ logs.old.value }
+    ensures kept { object.new.value ≡ object.old.value }
+{
+    if object.live() == 0 || logs.live() != 0 {
+        return SCI_MISUSE;
+    }
+    match object.as_mut() {
+        Thing::Machine(machine) => match machine.logs(alloc) {
+            Ok(made) => {
+                let journal = Journal::of(machine.extent().nodes, made, machine.last());
+                opened(alloc, logs, Thing::Logs(journal))
+            }
+            Err(_) => SCI_NO_MEMORY,
         },
         _ => SCI_MISUSE,
     }

@@ -1,0 +1,28 @@
+use Rattle.std.proofs.Common.{◌≡◌, sym, ap, ◌∙◌, subst}
+use Rattle.std.specs.Prelude.{ℕ, List, Some}
+use Rattle.sci_words.specs.declared.stamped.Stamped.{Stamped}
+use Rattle.sci_history.specs.declared.entry.Entry.{Entry}
+use Rattle.sci_history.specs.Lawful.{Lawful}
+use Rattle.sci_history.specs.Sequential.{IsSequentiallyConsistent}
+use Rattle.sci_core.specs.Outcome.{logs_of}
+use Rattle.sci_c.specs.declared.handle.SciObject.{SciObject}
+use Rattle.sci_c.specs.declared.thing.Thing.{Thing}
+use Rattle.sci_c.specs.Journal.{JournalOf, journal_of}
+use Rattle.sci_c.specs.Kinds.{logs_in, machine_in}
+use Rattle.sci_c.proofs.machine.sci_machine_logs.Goals as goal
+
+same_journal : {n m : ℕ} {logs others : List (List Entry)} {last ends : List Stamped} → n ≡ m → logs ≡ others → last ≡ ends
+    → journal_of n logs last ≡ journal_of m others ends
+same_journal p q r = cc
+
+pub returns-in-Ok-clause-done : goal.returns-in-Ok-clause-done
+returns-in-Ok-clause-done c = λ ok.
+    let made = same_journal c.extent.ensures.nodes c.in-Ok.ensures.logs c.last.ensures.last in
+    record {
+      machine = c.in-Machine.machine;
+      was = ap (λ (object : SciObject). machine_in object.value) (sym c.live.ensures.same)
+        ∙ ap machine_in c.as_mut.ensures.value ∙ ap (λ (thing : Thing). machine_in (Some thing)) c.in-Machine.is;
+      are = ap logs_in (c.opened.ensures.opened ok) ∙ ap (λ (journal : JournalOf). Some journal) (c.of-journal.ensures ∙ made);
+      lawful = subst (Lawful (logs_of c.in-Machine.machine)) c.last.ensures.last c.last.ensures.lawful;
+      consistent = subst (IsSequentiallyConsistent (logs_of c.in-Machine.machine)) c.last.ensures.last c.last.ensures.consistent;
+    }

@@ -1,0 +1,46 @@
+//! The library itself.
+
+ghost use Rattle.std.specs.Prelude.{◌≡◌, ◌∷◌, []};
+
+use crate::handle::SciObject;
+use sci_c_values::{
+    SciEntry, SciEvent, SciOp, SciPacket, SciStamped, SciTextFault, SciVerdict,
+};
+use std::mem::size_of;
+
+/// 65,536 times the major number of the version, and the minor number.
+const VERSION: u32 = 1;
+
+const OP: usize = size_of::<SciOp>();
+const EVENT: usize = size_of::<SciEvent>();
+const PACKET: usize = size_of::<SciPacket>();
+const STAMPED: usize = size_of::<SciStamped>();
+const ENTRY: usize = size_of::<SciEntry>();
+const VERDICT: usize = size_of::<SciVerdict>();
+const TEXT_FAULT: usize = size_of::<SciTextFault>();
+const OBJECT: usize = size_of::<SciObject>();
+
+/// The version of the library.
+#[unsafe(no_mangle)]
+pub extern "C" fn sci_version() -> u32
+    ensures { result ≡ 1 }
+{
+    VERSION
+}
+
+/// Writes the sizes of the structs.
+#[unsafe(no_mangle)]
+pub extern "C" fn sci_layout(sizes: &mut [u64; 8])
+    ensures { sizes.new ≡ 24 ∷ 32 ∷ 96 ∷ 72 ∷ 48 ∷ 20 ∷ 16 ∷ 16 ∷ [] }
+{
+    *sizes = [
+        OP as u64,
+        EVENT as u64,
+        PACKET as u64,
+        STAMPED as u64,
+        ENTRY as u64,
+        VERDICT as u64,
+        TEXT_FAULT as u64,
+        OBJECT as u64,
+    ];
+}

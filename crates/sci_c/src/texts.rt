@@ -1,0 +1,125 @@
+//! Audits of logs, and logs as text.
+
+ghost use Rattle.std.specs.Prelude.{◌≡◌, ◌≢◌, ◌⊎◌, ◌↔◌, Some, None, IsSome};
+ghost use Rattle.sci_history.specs.Lawful.{Lawful};
+ghost use Rattle.sci_c_values.specs.declared.status.TheConstants.{SCI_FULL, SCI_MISUSE, SCI_NO_MEMORY, SCI_OK, SCI_TEXT};
+ghost use Rattle.sci_c.specs.Kinds.{OnLogs, logs_in};
+ghost use Rattle.sci_c.specs.Logs.{AreRead, AreTooLong, AreWritten, IsFound, IsTextFault};
+
+use crate::closing::opened;
+use crate::handle::SciObject;
+use crate::journal::Journal;
+use crate::thing::Thing;
+use sci_c_values::{
+    SCI_FULL, SCI_MISUSE, SCI_NO_MEMORY, SCI_OK, SCI_TEXT, SciTextFault, SciVerdict,
+    text_fault_out, verdict_out,
+};
+use sci_history::audit;
+use sci_text::{TextFaultKind, logs_of, logs_text};
+use std::alloc::Global;
+
+/// Audits logs against their last contents.
+#[unsafe(no_mangle)]
+pub extern "C" fn sci_logs_audit(
+    alloc: Global,
+    object: &mut SciObject,
+    verdict: &mut SciVerdict,
+) -> u32
+    ensures found { result ≡ SCI_OK → OnLogs object.old.value (IsFound verdict.new) }
+    ensures lawful { result ≡ SCI_OK → OnLogs object.old.value
+        (λ journal. (verdict.new.kind ≡ 0) ↔ Lawful journal.logs journal.last) }
+    ensures memory { result ≡ SCI_NO_MEMORY → IsSome (logs_in object.old.value) }
+    ensures misuse { result ≡ SCI_MISUSE → logs_in object.old.value ≡ None }
+    ensures status { (result ≡ SCI_OK) ⊎ ((result ≡ SCI_NO_MEMORY) ⊎ (result ≡ SCI_MISUSE)) }
+    ensures same { result ≢ SCI_OK → verdict.new ≡ verdict.old }
+    ensures kept { object.new.value ≡ object.old.value }
+{
+    if object.live() == 0 {
+        return SCI_MISUSE;
+    }
+    match object.as_mut() {
+        Thing::Logs(journal) => match audit(alloc, journal.logs(), journal.last()) {
+            Ok(found) => {
+                *verdict = verdict_out(&found);
+                SCI_OK
+            }
+            Err(_) => SCI_NO_MEMORY,
+        },
+        _ => SCI_MISUSE,
+    }
+}
+
+/// Puts the logs whose text the bytes are into an empty object.
+#[unsafe(no_mangle)]
+pub extern "C" fn sci_logs_read(
+    alloc: Global,
+    object: &mut SciObject,
+    text: &[u8],
+    fault: &mut SciTextFault,
+) -> u32
+    ensures read { result ≡ SCI_OK → OnLogs object.new.value (AreRead text.now) }
+    ensures empty { result ≡ SCI_OK → object.old.value ≡ None }
+    ensures fault { result ≡ SCI_TEXT → IsTextFault text.now fault.new }
+    ensures misuse { result ≡ SCI_MISUSE → IsSome object.old.value }
+    ensures empty_fault { result ≡ SCI_TEXT → object.old.value ≡ None }
+    ensures memory { result ≡ SCI_NO_MEMORY → object.old.value ≡ None }
+    ensures status { (result ≡ SCI_OK) ⊎ ((result ≡ SCI_TEXT) ⊎ ((result ≡ SCI_NO_MEMORY) ⊎ (result ≡ SCI_MISUSE))) }
+    ensures same { result ≢ SCI_OK → object.new.value ≡ object.old.value }
+    ensures same_fault { result ≢ SCI_TEXT → fault.new ≡ fault.old }
+{
+    if object.live() != 0 {
+        return SCI_MISUSE;
+    }
+    match logs_of(alloc, text) {
+        Ok((nodes, logs, last)) => {
+            opened(alloc, object, Thing::Logs(Journal::of(nodes, logs, last)))
+        }
+        Err(refused) => match refused.kind {
+            TextFaultKind::Memory => SCI_NO_MEMORY,
+            _ => {
+                *fault = text_fault_out(refused);
+                SCI_TEXT
+            }
+        },
+    }
+}
+
+/// Writes the text of logs in format 2 over the first bytes, and how many. The bytes after it stay.
+#[unsafe(no_mangle)]
+pub extern "C" fn sci_logs_write(
+    alloc: Global,
+    object: &mut SciObject,
+    text: &mut [u8],
+    used: &mut usize,
+) -> u32
+    ensures written { result ≡ SCI_OK
+        → OnLogs object.old.value (AreWritten text.old text.new used.new) }
+    ensures full { result ≡ SCI_FULL → OnLogs object.old.value (AreTooLong text.old used.new) }
+    ensures memory { result ≡ SCI_NO_MEMORY → IsSome (logs_in object.old.value) }
+    ensures misuse { result ≡ SCI_MISUSE → logs_in object.old.value ≡ None }
+    ensures status { (result ≡ SCI_OK) ⊎ ((result ≡ SCI_FULL) ⊎ ((result ≡ SCI_NO_MEMORY) ⊎ (result ≡ SCI_MISUSE))) }
+    ensures same { result ≢ SCI_OK → text.new ≡ text.old }
+    ensures same_memory { result ≡ SCI_NO_MEMORY → used.new ≡ used.old }
+    ensures same_misuse { result ≡ SCI_MISUSE → used.new ≡ used.old }
+    ensures kept { object.new.value ≡ object.old.value }
+{
+    if object.live() == 0 {
+        return SCI_MISUSE;
+    }
+    match object.as_mut() {
+        Thing::Logs(journal) => {
+            match logs_text(alloc, journal.nodes(), journal.logs(), journal.last()) {
+                Ok(made) => {
+                    *used = made.len();
+                    if made.len() > text.len() {
+                        return SCI_FULL;
+                    }
+                    text[..made.len()].copy_from_slice(&made);
+                    SCI_OK
+                }
+                Err(_) => SCI_NO_MEMORY,
+            }
+        }
+        _ => SCI_MISUSE,
+    }
+}

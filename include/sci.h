@@ -1,0 +1,385 @@
+/*
+** Lichenknit as a C library: packets, machines with coherent caches, and logs with their checkers.
+**
+** Each function is a proved one, but for sci_status_text. The text above it names the call of the crates that it makes; the
+** README of crates/sci_c says what is proved.
+**
+** WHAT THE CALLER PROMISES. Nothing checks these promises.
+**
+**   - No pointer is NULL, not even to an empty buffer. Each is aligned as its type asks, and leads to as much memory as the
+**     type or the length beside it says. No two arguments of a call overlap.
+**   - An object (sci_machine, sci_node, sci_logs) is all zero before its first use: SCI_INIT, or static memory. Only this
+**     library changes it. It is not copied: two copies would both own what it keeps. When it goes out of use it is closed.
+**   - One thread at a time uses an object, also in a call that takes it as const. Two objects share nothing.
+**   - No function is called from a signal handler, or in the child of a fork of a process with threads.
+**   - malloc, realloc and free come from one allocator, which aligns a block to 16 bytes.
+**
+** All else is looked at. Any number may be passed in any field, and what can't be done is answered by a status.
+**
+** STATUSES. Unless a function says otherwise, a call that answers another status than SCI_OK leaves the object and all that
+** its other arguments lead to as they were. Where more than one status would fit, SCI_MISUSE comes first, then SCI_RANGE.
+** What is const stays the same in any case.
+*/
+#ifndef SCI_H
+#define SCI_H
+
+#include <stddef.h>
+#include <stdint.h>
+
+#ifdef __cplusplus
+extern "C" {
+#endif
+
+/* The version of this header. sci_version gives that of the library. */
+#define SCI_VERSION_MAJOR 0
+#define SCI_VERSION_MINOR 1
+
+/* What a call answers. The numbers are of a fixed width, which those of an enum are not. */
+typedef uint32_t sci_status;
+
+enum {
+    SCI_OK = 0,              /* Done. */
+    SCI_NO_MEMORY = 1,       /* malloc or realloc refused memory. The call can be made again. */
+    SCI_NOT_ENABLED = 2,     /* The event is not enabled, or what was asked for is not there. */
+    SCI_RANGE = 3,           /* A number is outside its limits. */
+    SCI_MISUSE = 4,          /* The object is empty where one is wanted, open where none is, or of another kind. */
+    SCI_FULL = 5,            /* A log has 65,536 entries, or the caller's room is too small. */
+    SCI_SHORT = 6,           /* There are fewer bytes or words than the packet has. */
+    SCI_UNKNOWN_COMMAND = 7, /* No packet has this command. */
+    SCI_BAD_OFFSET = 8,      /* The offset of the packet is no multiple of 64. */
+    SCI_BAD_IDENTIFIER = 9,  /* The target, the source or the identifier is one that the packet can't have. */
+    SCI_TEXT = 10            /* The text is no log. The fault says where and why. */
+};
+
+/* Limits. */
+enum {
+    SCI_MAX_NODES = 16,
+    SCI_MAX_LINES = 64,
+    SCI_MAX_SLOTS = 8,
+    SCI_MAX_OPERATIONS = 65536, /* of a node */
+    SCI_LINE_WORDS = 8,
+    SCI_PACKET_BYTES = 88, /* the longest packet */
+    SCI_PACKET_WORDS = 11,
+    SCI_NO_NODE = 0xFFFF /* the identifier that is no node */
+};
+
+/* ---- values */
+
+/* What an operation does, in sci_op.act. */
+enum {
+    SCI_LOAD = 0,
+    SCI_STORE = 1,        /* stores datum */
+    SCI_MASK_SWAP = 2,    /* takes the bits of datum where arg has a one */
+    SCI_COMPARE_SWAP = 3, /* becomes datum if the word is arg */
+    SCI_FETCH_ADD = 4,    /* adds datum */
+    SCI_BOUNDED_ADD = 5,  /* adds datum if the word isn't arg */
+    SCI_WRAP_ADD = 6      /* adds datum if the word isn't arg, and else becomes datum */
+};
+
+/* An operation on a word of a line. An operand that the act doesn't have isn't looked at. */
+typedef struct sci_op {
+    uint8_t act;
+    uint8_t line;
+    uint8_t word;
+    uint8_t reserved; /* not looked at; 0 where the library writes it */
+    uint64_t arg;
+    uint64_t datum;
+} sci_op;
+
+/* What an event is, in sci_event.kind. */
+enum {
+    SCI_ISSUE = 0,   /* the processor of node issues op */
+    SCI_PERFORM = 1, /* the pending operation of node on line is performed */
+    SCI_ASK = 2,     /* node sends a request of the kind ask about line */
+    SCI_SERVE = 3,   /* node serves the oldest request that came from from */
+    SCI_REFUSE = 4,  /* node answers that request as busy */
+    SCI_REPLY = 5,   /* node sends the answer that waits */
+    SCI_ACCEPT = 6   /* node accepts the oldest answer that came from from */
+};
+
+/* The kinds of requests, in sci_event.ask. */
+enum {
+    SCI_MREAD = 0,
+    SCI_FREAD = 1,
+    SCI_CREAD = 2,
+    SCI_CLAIM = 3,
+    SCI_CLEAR = 4,
+    SCI_PURGE = 5,
+    SCI_ROLL = 6,
+    SCI_WBACK = 7,
+    SCI_SETBACK = 8
+};
+
+/* An event of a machine. A field that the kind doesn't have isn't looked at. */
+typedef struct sci_event {
+    uint8_t kind;
+    uint8_t node;
+    uint8_t from;
+    uint8_t line;
+    uint8_t ask;
+    sci_op op;
+} sci_event;
+
+/* A packet. has_contents is 1 if it carries version and words, and else 0. */
+typedef struct sci_packet {
+    uint16_t target;
+    uint16_t command;
+    uint16_t source;
+    uint16_t control;
+    uint64_t line; /* below 2^42 */
+    uint16_t identifier;
+    uint16_t has_contents;
+    uint32_t reserved; /* not looked at; 0 where the library writes it */
+    uint64_t version;
+    uint64_t words[SCI_LINE_WORDS];
+} sci_packet;
+
+/* The contents of a line, and the number of their version. */
+typedef struct sci_stamped {
+    uint64_t version;
+    uint64_t words[SCI_LINE_WORDS];
+} sci_stamped;
+
+/* An entry of a log. has_word is 1 if the operation answered word, and 0 for a store. */
+typedef struct sci_entry {
+    uint8_t node;
+    uint8_t has_word;
+    uint16_t reserved; /* not looked at; 0 where the library writes it */
+    uint32_t serial;   /* the number of the operation in the order of issue */
+    sci_op op;
+    uint64_t word;
+    uint64_t version; /* that a load read, or that the operation made */
+} sci_entry;
+
+/* The kinds of verdicts, in sci_verdict.kind. */
+enum {
+    SCI_LAWFUL = 0,
+    SCI_VERSION_TWICE = 1,   /* two operations made the same version */
+    SCI_VERSION_MISSING = 2, /* a version is 0 or too high */
+    SCI_WRONG_REPLY = 3,     /* a word isn't that of the version */
+    SCI_OUT_OF_ORDER = 4,    /* a node's entries aren't in the order of its log */
+    SCI_LAST_DIFFERS = 5     /* the last contents are others */
+};
+
+/* What an audit finds: on which line, and the entry where the rule fails, if has_entry is 1. */
+typedef struct sci_verdict {
+    uint32_t kind;
+    uint32_t line;
+    uint32_t has_entry;
+    uint32_t node;
+    uint32_t serial;
+} sci_verdict;
+
+/* The kinds of faults of a text, in sci_text_fault.kind. */
+enum { SCI_TEXT_SYNTAX = 1, SCI_TEXT_RANGE = 2, SCI_TEXT_TOO_MANY = 3 };
+
+/* The first fault of a text. line counts from 1. */
+typedef struct sci_text_fault {
+    uint64_t line;
+    uint32_t kind;
+    uint32_t reserved;
+} sci_text_fault;
+
+/* ---- objects */
+
+/* A machine, a node and logs, in the caller's memory. The three differ by name alone, so that a compiler finds a node where a
+** machine is wanted. The library finds it too. */
+typedef struct sci_machine {
+    void *at;
+    uint32_t live;
+} sci_machine;
+
+typedef struct sci_node {
+    void *at;
+    uint32_t live;
+} sci_node;
+
+typedef struct sci_logs {
+    void *at;
+    uint32_t live;
+} sci_logs;
+
+/* An empty object. */
+#define SCI_INIT { 0, 0 }
+
+/* ---- the library */
+
+/* SCI_VERSION_MAJOR * 65536 + SCI_VERSION_MINOR of the library. */
+uint32_t sci_version(void);
+
+/* Writes the sizes of sci_op, sci_event, sci_packet, sci_stamped, sci_entry, sci_verdict, sci_text_fault and of an object, as
+** the library has them. */
+void sci_layout(uint64_t sizes[8]);
+
+/* A short text in English, also for a number that is no status. It is static. */
+const char *sci_status_text(sci_status status);
+
+/* ---- packets */
+
+/* Reads the packet that the bytes begin with, and how many bytes it has: 16, or 88 with contents. Bytes after it aren't looked
+** at. Contents that the packet doesn't carry are 0 (sci_packets::decode).
+**
+**   SCI_OK               packet and used are written.
+**   SCI_SHORT            There are fewer than 16 bytes, or fewer than 88 where contents follow.
+**   SCI_UNKNOWN_COMMAND, SCI_BAD_OFFSET, SCI_BAD_IDENTIFIER
+**                        The first fault of the bytes, in this order. Contents that are missing come last. */
+sci_status sci_packet_decode(const uint8_t *bytes, size_t length, sci_packet *packet, size_t *used);
+
+/* Writes the packet over the first bytes, and how many: 16, or 88 with contents. The bytes after it stay
+** (sci_packets::encode).
+**
+**   SCI_OK               bytes and used are written.
+**   SCI_RANGE            line is 2^42 or more, has_contents is above 1, or it is 1 and the command carries none.
+**   SCI_SHORT            The command carries contents, and has_contents is 0.
+**   SCI_UNKNOWN_COMMAND, SCI_BAD_IDENTIFIER */
+sci_status sci_packet_encode(const sci_packet *packet, uint8_t bytes[SCI_PACKET_BYTES], size_t *used);
+
+/* The same for words: each eight bytes are one word, the highest byte first. A packet has 2 words, or 11 with contents
+** (sci_packets::from_words and to_words). The statuses are those of sci_packet_decode and sci_packet_encode. */
+sci_status sci_packet_from_words(const uint64_t *words, size_t length, sci_packet *packet, size_t *used);
+sci_status sci_packet_to_words(const sci_packet *packet, uint64_t words[SCI_PACKET_WORDS], size_t *used);
+
+/* ---- machines: all nodes, and the packets between them. A machine is coherent after every call. */
+
+/* Puts a machine of this size into an empty object. No line was touched. Each node may issue limit operations
+** (sci_core::Machine::new).
+**
+**   SCI_OK          The object keeps the machine, until sci_machine_close.
+**   SCI_MISUSE      The object isn't empty.
+**   SCI_RANGE       Not 1 to 16 nodes, 1 to 64 lines, 1 to 8 slots, or a limit of 1 to 65,536.
+**   SCI_NO_MEMORY */
+sci_status sci_machine_open(sci_machine *machine, uint8_t nodes, uint8_t lines, uint8_t slots, uint32_t limit);
+
+/* Lets the machine go, and leaves the object empty. An empty object stays as it is.
+**
+**   SCI_OK
+**   SCI_MISUSE      The object keeps something else. */
+sci_status sci_machine_close(sci_machine *machine);
+
+/* Applies an event (Machine::apply).
+**
+**   SCI_OK          The machine has made the event.
+**   SCI_NOT_ENABLED The event is not enabled in the machine's state.
+**   SCI_RANGE       There is no such event: kind, act or ask is outside its table.
+**   SCI_NO_MEMORY   Only for SCI_ASK and SCI_REPLY. The event is enabled.
+**   SCI_MISUSE      The object keeps no machine. */
+sci_status sci_machine_step(sci_machine *machine, const sci_event *event);
+
+/* Brings the machine to rest: every pending operation is performed, no cache has an entry, and each line's home has it
+** alone. events is the number of events that it took (Machine::settle).
+**
+**   SCI_OK
+**   SCI_NO_MEMORY   The machine stands where the events made so far lead, and is coherent. events is as it was.
+**   SCI_MISUSE      The object keeps no machine. */
+sci_status sci_machine_settle(sci_machine *machine, uint32_t *events);
+
+/* Reads the last contents of a line (Machine::last_contents).
+**
+**   SCI_OK
+**   SCI_RANGE       The machine has no such line.
+**   SCI_MISUSE      The object keeps no machine. */
+sci_status sci_machine_last(const sci_machine *machine, uint8_t line, sci_stamped *contents);
+
+/* Tells the one node that may change a line or is about to (Machine::authority).
+**
+**   SCI_OK
+**   SCI_NOT_ENABLED No node may: the home has the line alone.
+**   SCI_RANGE       The machine has no such line.
+**   SCI_MISUSE      The object keeps no machine. */
+sci_status sci_machine_authority(const sci_machine *machine, uint8_t line, uint8_t *node);
+
+/* Puts the machine's logs and last contents into an empty object of logs. They are lawful, and sequentially consistent
+** (Machine::logs and last).
+**
+**   SCI_OK          logs keeps them, until sci_logs_close.
+**   SCI_MISUSE      machine keeps no machine, or logs isn't empty.
+**   SCI_NO_MEMORY */
+sci_status sci_machine_logs(const sci_machine *machine, sci_logs *logs);
+
+/* ---- logs: those of all nodes, with the last contents of each line, of this machine or of any other */
+
+/* Puts logs without entries into an empty object. Each line's last contents are zero words at version 0 (Logs::new and
+** Last::zero).
+**
+**   SCI_OK          The object keeps the logs, until sci_logs_close.
+**   SCI_MISUSE      The object isn't empty.
+**   SCI_RANGE       Not 1 to 16 nodes or 1 to 64 lines.
+**   SCI_NO_MEMORY */
+sci_status sci_logs_open(sci_logs *logs, uint8_t nodes, uint8_t lines);
+
+/* Lets the logs go, and leaves the object empty. An empty object stays as it is.
+**
+**   SCI_OK
+**   SCI_MISUSE      The object keeps something else. */
+sci_status sci_logs_close(sci_logs *logs);
+
+/* Ends the log of the entry's node with the entry (Logs::push).
+**
+**   SCI_OK
+**   SCI_RANGE       The logs have no such node or line, the word is above 7, or act or has_word is outside its table.
+**   SCI_FULL        The node's log has 65,536 entries.
+**   SCI_NO_MEMORY
+**   SCI_MISUSE      The object keeps no logs. */
+sci_status sci_logs_push(sci_logs *logs, const sci_entry *entry);
+
+/* Replaces the last contents of a line (Last::set).
+**
+**   SCI_OK
+**   SCI_RANGE       There is no such line.
+**   SCI_MISUSE      The object keeps no logs. */
+sci_status sci_logs_set_last(sci_logs *logs, uint8_t line, const sci_stamped *contents);
+
+/* Reads the last contents of a line (Last::get). The statuses are those of sci_logs_set_last. */
+sci_status sci_logs_last(const sci_logs *logs, uint8_t line, sci_stamped *contents);
+
+/* Tells how many nodes and lines there are.
+**
+**   SCI_OK
+**   SCI_MISUSE      The object keeps no logs. */
+sci_status sci_logs_size(const sci_logs *logs, uint8_t *nodes, uint8_t *lines);
+
+/* Counts the entries of a node (Logs::of).
+**
+**   SCI_OK
+**   SCI_RANGE       The node is 16 or more.
+**   SCI_MISUSE      The object keeps no logs. */
+sci_status sci_logs_count(const sci_logs *logs, uint8_t node, size_t *count);
+
+/* Reads the entry at a place of a node's log, from 0. A word that it doesn't have, and operands that its act doesn't have, are
+** 0 (Logs::of).
+**
+**   SCI_OK
+**   SCI_RANGE       The node is 16 or more, or its log has no such place.
+**   SCI_MISUSE      The object keeps no logs. */
+sci_status sci_logs_entry(const sci_logs *logs, uint8_t node, size_t place, sci_entry *entry);
+
+/* Audits the logs. kind is SCI_LAWFUL exactly if on each line one memory of one thread explains the logs and the last
+** contents. Else the verdict is the first fault of the lowest line that has one (sci_history::audit).
+**
+**   SCI_OK
+**   SCI_NO_MEMORY
+**   SCI_MISUSE      The object keeps no logs. */
+sci_status sci_logs_audit(const sci_logs *logs, sci_verdict *verdict);
+
+/* Puts the logs whose text the bytes are into an empty object (sci_text::logs_of).
+**
+**   SCI_OK          The object keeps the logs, until sci_logs_close. fault is as it was.
+**   SCI_TEXT        The text is no log: fault is written, and the object stays empty.
+**   SCI_MISUSE      The object isn't empty.
+**   SCI_NO_MEMORY */
+sci_status sci_logs_read(sci_logs *logs, const uint8_t *text, size_t length, sci_text_fault *fault);
+
+/* Writes the text of the logs over the first bytes, and how many. The bytes after it stay, and no zero ends the text
+** (sci_text::logs_text).
+**
+**   SCI_OK          text and used are written.
+**   SCI_FULL        The text is longer than room. used says how long; text is as it was.
+**   SCI_NO_MEMORY
+**   SCI_MISUSE      The object keeps no logs. */
+sci_status sci_logs_write(const sci_logs *logs, uint8_t *text, size_t room, size_t *used);
+
+#ifdef __cplusplus
+}
+#endif
+
+#endif
