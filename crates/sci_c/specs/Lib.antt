@@ -4,5 +4,6 @@ pub mod Kinds
 pub mod Lending
 pub mod Logs
 pub mod Machine
+pub mod Node
 pub mod Object
 pub mod Packet

@@ -8,6 +8,8 @@ mod library;
 mod logs;
 mod loose;
 mod machine;
+mod node;
 mod packet;
+mod taking;
 mod texts;
 mod thing;

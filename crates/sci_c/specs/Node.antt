@@ -1,0 +1,120 @@
+-- What the calls for nodes answer.
+use Rattle.std.specs.Prelude.{◌≡◌, ℕ, ◌<◌, ◌++◌, List, drop, length, take, Option, Some, None, is_some, true, false, Bool}
+use Rattle.sci_words.specs.declared.event.AskKind.{AskKind}
+use Rattle.sci_words.specs.declared.operation.Op.{Op}
+use Rattle.sci_packets.specs.declared.packet.Packet.{Packet}
+use Rattle.sci_packets.specs.Spelling.{Spells, spelling}
+use Rattle.sci_history.specs.declared.entry.Entry.{Entry}
+use Rattle.sci_cache.specs.Cache.{Letter, letter_of}
+use Rattle.sci_core.specs.declared.pending.Pending.{Pending}
+use Rattle.sci_core.specs.Node.{NodeOf, IsForNode, IsServable, node_issuing, node_performing, node_asking, node_replying, pending_on}
+use Rattle.sci_c_values.specs.declared.entry.SciEntry.{SciEntry}
+use Rattle.sci_c_values.specs.declared.operation.SciOp.{SciOp}
+use Rattle.sci_c_values.specs.Entry.{entry_struct}
+use Rattle.sci_c_values.specs.Operation.{SaysOp, ask_number, op_struct}
+use Rattle.sci_c.specs.declared.thing.Thing.{Thing}
+use Rattle.sci_c.specs.Kinds.{node_in}
+
+-- the operation that the struct says is pending, with this serial
+pub record IsIssue (old : Option Thing) (c : SciOp) (serial : ℕ) (new : Option Thing) : Type 0 where
+  pub before : NodeOf
+  pub after : NodeOf
+  pub op : Op
+  pub was : node_in old ≡ Some before
+  pub is_now : node_in new ≡ Some after
+  pub says : SaysOp c op
+  pub issued : node_issuing before op ≡ Some after
+  pub serial_is : serial ≡ before.issued
+
+-- the operation may not be issued
+pub record IsNoIssue (old : Option Thing) (c : SciOp) : Type 0 where
+  pub node : NodeOf
+  pub op : Op
+  pub was : node_in old ≡ Some node
+  pub says : SaysOp c op
+  pub none : node_issuing node op ≡ None
+
+-- the operation that was pending on the line is performed, and its entry ends the log
+pub record IsPerformed (old : Option Thing) (line : ℕ) (c : SciEntry) (new : Option Thing) : Type 0 where
+  pub before : NodeOf
+  pub after : NodeOf
+  pub entry : Entry
+  pub was : node_in old ≡ Some before
+  pub is_now : node_in new ≡ Some after
+  pub performed : node_performing before line ≡ Some (after, entry)
+  pub struct_is : c ≡ entry_struct entry
+
+-- the bytes of a packet stand over the first bytes
+pub record IsSpelled (letter : Letter) (old new : List ℕ) (used : ℕ) : Type 0 where
+  pub packet : Packet
+  pub letter_is : letter_of packet ≡ letter
+  pub bytes : new ≡ spelling packet ++ drop used old
+  pub length_is : used ≡ length (spelling packet)
+
+-- the node has asked, and the request stands over the first bytes
+pub record IsAsk (old : Option Thing) (line ask : ℕ) (bytes written : List ℕ) (used : ℕ) (new : Option Thing) : Type 0 where
+  pub before : NodeOf
+  pub after : NodeOf
+  pub kind : AskKind
+  pub letter : Letter
+  pub was : node_in old ≡ Some before
+  pub is_now : node_in new ≡ Some after
+  pub number : ask ≡ ask_number kind
+  pub asked : node_asking before line kind ≡ Some (after, letter)
+  pub spelled : IsSpelled letter bytes written used
+
+-- the node may not ask that
+pub record IsNoAsk (old : Option Thing) (line ask : ℕ) : Type 0 where
+  pub node : NodeOf
+  pub kind : AskKind
+  pub was : node_in old ≡ Some node
+  pub number : ask ≡ ask_number kind
+  pub none : node_asking node line kind ≡ None
+
+-- the answer that waited is taken, and stands over the first bytes
+pub record IsReply (old : Option Thing) (bytes written : List ℕ) (used : ℕ) (new : Option Thing) : Type 0 where
+  pub before : NodeOf
+  pub after : NodeOf
+  pub letter : Letter
+  pub was : node_in old ≡ Some before
+  pub is_now : node_in new ≡ Some after
+  pub replied : node_replying before ≡ Some (after, letter)
+  pub spelled : IsSpelled letter bytes written used
+
+-- the first bytes are those of a packet that may be given to the node for this
+pub record IsTaken (may : NodeOf → Letter → Type 0) (taking : NodeOf → Letter → Option NodeOf) (bytes : List ℕ) (old new : Option Thing) : Type 0 where
+  pub before : NodeOf
+  pub after : NodeOf
+  pub packet : Packet
+  pub used : ℕ
+  pub was : node_in old ≡ Some before
+  pub is_now : node_in new ≡ Some after
+  pub spells : Spells packet (take used bytes)
+  pub may_be : may before (letter_of packet)
+  pub taken : taking before (letter_of packet) ≡ Some after
+
+-- it may be given to it, but the node doesn't take it
+pub record IsNotTaken (may : NodeOf → Letter → Type 0) (taking : NodeOf → Letter → Option NodeOf) (bytes : List ℕ) (old : Option Thing) : Type 0 where
+  pub node : NodeOf
+  pub packet : Packet
+  pub used : ℕ
+  pub was : node_in old ≡ Some node
+  pub spells : Spells packet (take used bytes)
+  pub may_be : may node (letter_of packet)
+  pub none : taking node (letter_of packet) ≡ None
+
+-- it may not be given to it
+pub record IsNotForIt (may : NodeOf → Letter → Type 0) (bytes : List ℕ) (old : Option Thing) : Type 0 where
+  pub node : NodeOf
+  pub packet : Packet
+  pub used : ℕ
+  pub was : node_in old ≡ Some node
+  pub spells : Spells packet (take used bytes)
+  pub may_not : may node (letter_of packet) → ⊥
+
+-- the operation that is pending on a line
+pub record IsPendingOf (line : ℕ) (serial : ℕ) (c : SciOp) (node : NodeOf) : Type 0 where
+  pub pending : Pending
+  pub is_pending : pending_on node line ≡ Some pending
+  pub serial_is : serial ≡ pending.serial
+  pub struct_is : c ≡ op_struct pending.op

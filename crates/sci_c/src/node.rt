@@ -1,0 +1,317 @@
+//! Nodes: the controller that a simulator has at each processor.
+
+ghost use Rattle.std.specs.Prelude.{◌≡◌, ◌≢◌, ◌≤◌, ◌<◌, ◌⊎◌, ◌↔◌, Some, None, IsSome};
+ghost use Rattle.sci_core.specs.Node.{IsAtRest, node_performing, node_replying, opening_node, pending_on};
+ghost use Rattle.sci_core.specs.Size.{IsMachineSize};
+ghost use Rattle.sci_c_values.specs.declared.status.TheConstants.{SCI_MISUSE, SCI_NOT_ENABLED, SCI_NO_MEMORY, SCI_OK, SCI_RANGE};
+ghost use Rattle.sci_c_values.specs.Operation.{SaysNoAsk, SaysNoOp};
+ghost use Rattle.sci_c.specs.declared.thing.Kind.TheVariants as kind;
+ghost use Rattle.sci_c.specs.Kinds.{IsOf, OnNode, node_in};
+ghost use Rattle.sci_c.specs.Machine.{size};
+ghost use Rattle.sci_c.specs.Node.{IsAsk, IsIssue, IsNoAsk, IsNoIssue, IsPendingOf, IsPerformed, IsReply};
+
+use crate::closing::{closed, opened};
+use crate::handle::SciObject;
+use crate::thing::{Kind, Thing};
+use sci_c_values::{
+    SCI_MISUSE, SCI_NO_MEMORY, SCI_NOT_ENABLED, SCI_OK, SCI_RANGE, SciEntry, SciOp, ask_in,
+    entry_out, op_in, op_out,
+};
+use sci_core::Node;
+use sci_packets::encode;
+use sci_words::{Extent, MAX_OPERATIONS};
+use std::alloc::Global;
+
+/// Puts a node's controller into an empty object.
+#[unsafe(no_mangle)]
+pub extern "C" fn sci_node_open(
+    alloc: Global,
+    object: &mut SciObject,
+    me: u8,
+    nodes: u8,
+    lines: u8,
+    slots: u8,
+    limit: u32,
+) -> u32
+    ensures opened { result ≡ SCI_OK
+        → node_in object.new.value ≡ Some (opening_node me (size nodes lines slots limit)) }
+    ensures empty { result ≡ SCI_OK → object.old.value ≡ None }
+    ensures misuse { result ≡ SCI_MISUSE → IsSome object.old.value }
+    ensures range { result ≡ SCI_RANGE
+        → me < nodes → IsMachineSize (size nodes lines slots limit) → ⊥ }
+    ensures memory { result ≡ SCI_NO_MEMORY → IsMachineSize (size nodes lines slots limit) }
+    ensures memory_me { result ≡ SCI_NO_MEMORY → me < nodes }
+    ensures status { (result ≤ SCI_MISUSE) × (result ≢ SCI_NOT_ENABLED) }
+    ensures same { result ≢ SCI_OK → object.new.value ≡ object.old.value }
+{
+    if object.live() != 0 {
+        return SCI_MISUSE;
+    }
+    let Some(extent) = Extent::new(nodes, lines, slots) else {
+        return SCI_RANGE;
+    };
+    if me >= extent.nodes || limit == 0 || limit > MAX_OPERATIONS {
+        return SCI_RANGE;
+    }
+    let Ok(node) = Node::new(alloc, me, extent, limit) else {
+        return SCI_NO_MEMORY;
+    };
+    opened(alloc, object, Thing::Node(node))
+}
+
+/// Lets a node's controller go, and leaves the object empty.
+#[unsafe(no_mangle)]
+pub extern "C" fn sci_node_close(alloc: Global, object: &mut SciObject) -> u32
+    ensures closed { result ≡ SCI_OK → object.new.value ≡ None }
+    ensures kind { result ≡ SCI_OK
+        → (object.old.value ≡ None) ⊎ IsOf kind.Node object.old.value }
+    ensures misuse { result ≡ SCI_MISUSE → IsSome object.old.value }
+    ensures other { result ≡ SCI_MISUSE → IsOf kind.Node object.old.value → ⊥ }
+    ensures status { (result ≡ SCI_OK) ⊎ (result ≡ SCI_MISUSE) }
+    ensures same { result ≢ SCI_OK → object.new.value ≡ object.old.value }
+{
+    closed(alloc, object, Kind::Node)
+}
+
+/// Issues an operation, and gives its serial.
+#[unsafe(no_mangle)]
+pub extern "C" fn sci_node_issue(object: &mut SciObject, op: &SciOp, serial: &mut u32) -> u32
+    ensures done { result ≡ SCI_OK
+        → IsIssue object.old.value op.now serial.new object.new.value }
+    ensures refused { result ≡ SCI_NOT_ENABLED → IsNoIssue object.old.value op.now }
+    ensures range { result ≡ SCI_RANGE → SaysNoOp op.now }
+    ensures range_node { result ≡ SCI_RANGE → IsSome (node_in object.old.value) }
+    ensures misuse { result ≡ SCI_MISUSE → node_in object.old.value ≡ None }
+    ensures status { (result ≤ SCI_MISUSE) × (result ≢ SCI_NO_MEMORY) }
+    ensures same { result ≢ SCI_OK → object.new.value ≡ object.old.value }
+    ensures same_serial { result ≢ SCI_OK → serial.new ≡ serial.old }
+{
+    if object.live() == 0 {
+        return SCI_MISUSE;
+    }
+    issue(object.as_mut(), op, serial)
+}
+
+fn issue(kept: &mut Thing, op: &SciOp, serial: &mut u32) -> u32
+    ensures done { result ≡ SCI_OK → IsIssue (Some kept.old) op.now serial.new (Some kept.new) }
+    ensures refused { result ≡ SCI_NOT_ENABLED → IsNoIssue (Some kept.old) op.now }
+    ensures range { result ≡ SCI_RANGE → SaysNoOp op.now }
+    ensures range_node { result ≡ SCI_RANGE → IsSome (node_in (Some kept.old)) }
+    ensures misuse { result ≡ SCI_MISUSE → node_in (Some kept.old) ≡ None }
+    ensures status { (result ≤ SCI_MISUSE) × (result ≢ SCI_NO_MEMORY) }
+    ensures same { result ≢ SCI_OK → kept.new ≡ kept.old }
+    ensures same_serial { result ≢ SCI_OK → serial.new ≡ serial.old }
+{
+    match kept {
+        Thing::Node(node) => match op_in(op) {
+            Some(said) => match node.issue(said) {
+                Some(number) => {
+                    *serial = number;
+                    SCI_OK
+                }
+                None => SCI_NOT_ENABLED,
+            },
+            None => SCI_RANGE,
+        },
+        _ => SCI_MISUSE,
+    }
+}
+
+/// Performs the operation that is pending on a line, and gives its entry.
+#[unsafe(no_mangle)]
+pub extern "C" fn sci_node_perform(
+    object: &mut SciObject,
+    line: u8,
+    entry: &mut SciEntry,
+) -> u32
+    ensures done { result ≡ SCI_OK
+        → IsPerformed object.old.value line entry.new object.new.value }
+    ensures refused { result ≡ SCI_NOT_ENABLED → OnNode object.old.value
+        (λ node. node_performing node line ≡ None) }
+    ensures misuse { result ≡ SCI_MISUSE → node_in object.old.value ≡ None }
+    ensures status { (result ≡ SCI_OK) ⊎ ((result ≡ SCI_NOT_ENABLED) ⊎ (result ≡ SCI_MISUSE)) }
+    ensures same { result ≢ SCI_OK → object.new.value ≡ object.old.value }
+    ensures same_entry { result ≢ SCI_OK → entry.new ≡ entry.old }
+{
+    if object.live() == 0 {
+        return SCI_MISUSE;
+    }
+    perform(object.as_mut(), line, entry)
+}
+
+fn perform(kept: &mut Thing, line: u8, entry: &mut SciEntry) -> u32
+    ensures done { result ≡ SCI_OK → IsPerformed (Some kept.old) line entry.new (Some kept.new) }
+    ensures refused { result ≡ SCI_NOT_ENABLED → OnNode (Some kept.old)
+        (λ node. node_performing node line ≡ None) }
+    ensures misuse { result ≡ SCI_MISUSE → node_in (Some kept.old) ≡ None }
+    ensures status { (result ≡ SCI_OK) ⊎ ((result ≡ SCI_NOT_ENABLED) ⊎ (result ≡ SCI_MISUSE)) }
+    ensures same { result ≢ SCI_OK → kept.new ≡ kept.old }
+    ensures same_entry { result ≢ SCI_OK → entry.new ≡ entry.old }
+{
+    match kept {
+        Thing::Node(node) => match node.perform(line) {
+            Some(done) => {
+                *entry = entry_out(&done);
+                SCI_OK
+            }
+            None => SCI_NOT_ENABLED,
+        },
+        _ => SCI_MISUSE,
+    }
+}
+
+/// Asks about a line. The request stands over the first bytes, and is to be sent to its target.
+#[unsafe(no_mangle)]
+pub extern "C" fn sci_node_ask(
+    object: &mut SciObject,
+    line: u8,
+    ask: u8,
+    bytes: &mut [u8; 88],
+    used: &mut usize,
+) -> u32
+    ensures done { result ≡ SCI_OK
+        → IsAsk object.old.value line ask bytes.old bytes.new used.new object.new.value }
+    ensures refused { result ≡ SCI_NOT_ENABLED → IsNoAsk object.old.value line ask }
+    ensures range { result ≡ SCI_RANGE → SaysNoAsk ask }
+    ensures range_node { result ≡ SCI_RANGE → IsSome (node_in object.old.value) }
+    ensures misuse { result ≡ SCI_MISUSE → node_in object.old.value ≡ None }
+    ensures status { (result ≤ SCI_MISUSE) × (result ≢ SCI_NO_MEMORY) }
+    ensures same { result ≢ SCI_OK → object.new.value ≡ object.old.value }
+    ensures same_bytes { result ≢ SCI_OK → bytes.new ≡ bytes.old }
+    ensures same_used { result ≢ SCI_OK → used.new ≡ used.old }
+{
+    if object.live() == 0 {
+        return SCI_MISUSE;
+    }
+    do_ask(object.as_mut(), line, ask, bytes, used)
+}
+
+fn do_ask(kept: &mut Thing, line: u8, ask: u8, bytes: &mut [u8; 88], used: &mut usize) -> u32
+    ensures done { result ≡ SCI_OK
+        → IsAsk (Some kept.old) line ask bytes.old bytes.new used.new (Some kept.new) }
+    ensures refused { result ≡ SCI_NOT_ENABLED → IsNoAsk (Some kept.old) line ask }
+    ensures range { result ≡ SCI_RANGE → SaysNoAsk ask }
+    ensures range_node { result ≡ SCI_RANGE → IsSome (node_in (Some kept.old)) }
+    ensures misuse { result ≡ SCI_MISUSE → node_in (Some kept.old) ≡ None }
+    ensures status { (result ≤ SCI_MISUSE) × (result ≢ SCI_NO_MEMORY) }
+    ensures same { result ≢ SCI_OK → kept.new ≡ kept.old }
+    ensures same_bytes { result ≢ SCI_OK → bytes.new ≡ bytes.old }
+    ensures same_used { result ≢ SCI_OK → used.new ≡ used.old }
+{
+    match kept {
+        Thing::Node(node) => match ask_in(ask) {
+            Some(kind) => match node.ask(line, kind) {
+                Some(packet) => {
+                    *used = encode(&packet, bytes);
+                    SCI_OK
+                }
+                None => SCI_NOT_ENABLED,
+            },
+            None => SCI_RANGE,
+        },
+        _ => SCI_MISUSE,
+    }
+}
+
+/// Takes the answer that waits. It stands over the first bytes, and is to be sent to its target.
+#[unsafe(no_mangle)]
+pub extern "C" fn sci_node_take_answer(
+    object: &mut SciObject,
+    bytes: &mut [u8; 88],
+    used: &mut usize,
+) -> u32
+    ensures done { result ≡ SCI_OK
+        → IsReply object.old.value bytes.old bytes.new used.new object.new.value }
+    ensures refused { result ≡ SCI_NOT_ENABLED → OnNode object.old.value
+        (λ node. node_replying node ≡ None) }
+    ensures misuse { result ≡ SCI_MISUSE → node_in object.old.value ≡ None }
+    ensures status { (result ≡ SCI_OK) ⊎ ((result ≡ SCI_NOT_ENABLED) ⊎ (result ≡ SCI_MISUSE)) }
+    ensures same { result ≢ SCI_OK → object.new.value ≡ object.old.value }
+    ensures same_bytes { result ≢ SCI_OK → bytes.new ≡ bytes.old }
+    ensures same_used { result ≢ SCI_OK → used.new ≡ used.old }
+{
+    if object.live() == 0 {
+        return SCI_MISUSE;
+    }
+    take_answer(object.as_mut(), bytes, used)
+}
+
+fn take_answer(kept: &mut Thing, bytes: &mut [u8; 88], used: &mut usize) -> u32
+    ensures done { result ≡ SCI_OK
+        → IsReply (Some kept.old) bytes.old bytes.new used.new (Some kept.new) }
+    ensures refused { result ≡ SCI_NOT_ENABLED → OnNode (Some kept.old)
+        (λ node. node_replying node ≡ None) }
+    ensures misuse { result ≡ SCI_MISUSE → node_in (Some kept.old) ≡ None }
+    ensures status { (result ≡ SCI_OK) ⊎ ((result ≡ SCI_NOT_ENABLED) ⊎ (result ≡ SCI_MISUSE)) }
+    ensures same { result ≢ SCI_OK → kept.new ≡ kept.old }
+    ensures same_bytes { result ≢ SCI_OK → bytes.new ≡ bytes.old }
+    ensures same_used { result ≢ SCI_OK → used.new ≡ used.old }
+{
+    match kept {
+        Thing::Node(node) => match node.take_answer() {
+            Some(packet) => {
+                *used = encode(&packet, bytes);
+                SCI_OK
+            }
+            None => SCI_NOT_ENABLED,
+        },
+        _ => SCI_MISUSE,
+    }
+}
+
+/// Tells the operation that is pending on a line, and its serial.
+#[unsafe(no_mangle)]
+pub extern "C" fn sci_node_pending(
+    object: &mut SciObject,
+    line: u8,
+    op: &mut SciOp,
+    serial: &mut u32,
+) -> u32
+    ensures found { result ≡ SCI_OK
+        → OnNode object.old.value (IsPendingOf line serial.new op.new) }
+    ensures none { result ≡ SCI_NOT_ENABLED → OnNode object.old.value
+        (λ node. pending_on node line ≡ None) }
+    ensures misuse { result ≡ SCI_MISUSE → node_in object.old.value ≡ None }
+    ensures status { (result ≡ SCI_OK) ⊎ ((result ≡ SCI_NOT_ENABLED) ⊎ (result ≡ SCI_MISUSE)) }
+    ensures same_op { result ≢ SCI_OK → op.new ≡ op.old }
+    ensures same_serial { result ≢ SCI_OK → serial.new ≡ serial.old }
+    ensures kept { object.new.value ≡ object.old.value }
+{
+    if object.live() == 0 {
+        return SCI_MISUSE;
+    }
+    match object.as_mut() {
+        Thing::Node(node) => match node.pending(line) {
+            Some(pending) => {
+                *op = op_out(&pending.op);
+                *serial = pending.serial;
+                SCI_OK
+            }
+            None => SCI_NOT_ENABLED,
+        },
+        _ => SCI_MISUSE,
+    }
+}
+
+/// Tells whether no operation is pending and no line has an entry: 1, and else 0.
+#[unsafe(no_mangle)]
+pub extern "C" fn sci_node_is_at_rest(object: &mut SciObject, at_rest: &mut u32) -> u32
+    ensures rest { result ≡ SCI_OK → OnNode object.old.value
+        (λ node. (at_rest.new ≡ 1) ↔ IsAtRest node) }
+    ensures flag { result ≡ SCI_OK → at_rest.new ≤ 1 }
+    ensures misuse { result ≡ SCI_MISUSE → node_in object.old.value ≡ None }
+    ensures status { (result ≡ SCI_OK) ⊎ (result ≡ SCI_MISUSE) }
+    ensures same { result ≢ SCI_OK → at_rest.new ≡ at_rest.old }
+    ensures kept { object.new.value ≡ object.old.value }
+{
+    if object.live() == 0 {
+        return SCI_MISUSE;
+    }
+    match object.as_mut() {
+        Thing::Node(node) => {
+            *at_rest = if node.is_at_rest() { 1 } else { 0 };
+            SCI_OK
+        }
+        _ => SCI_MISUSE,
+    }
+}

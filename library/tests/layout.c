@@ -1,0 +1,73 @@
+/* The structs lie as the library has them: sizes and offsets, and the sizes that the library itself tells. */
+#include <stdio.h>
+
+#include "sci.h"
+
+#define AT(type, member, offset) _Static_assert(offsetof(type, member) == (offset), #type "." #member)
+#define SIZE(type, size) _Static_assert(sizeof(type) == (size), #type)
+
+SIZE(sci_op, 24);
+AT(sci_op, act, 0);
+AT(sci_op, line, 1);
+AT(sci_op, word, 2);
+AT(sci_op, arg, 8);
+AT(sci_op, datum, 16);
+SIZE(sci_event, 32);
+AT(sci_event, kind, 0);
+AT(sci_event, node, 1);
+AT(sci_event, from, 2);
+AT(sci_event, line, 3);
+AT(sci_event, ask, 4);
+AT(sci_event, op, 8);
+SIZE(sci_packet, 96);
+AT(sci_packet, target, 0);
+AT(sci_packet, command, 2);
+AT(sci_packet, source, 4);
+AT(sci_packet, control, 6);
+AT(sci_packet, line, 8);
+AT(sci_packet, identifier, 16);
+AT(sci_packet, has_contents, 18);
+AT(sci_packet, reserved, 20);
+AT(sci_packet, version, 24);
+AT(sci_packet, words, 32);
+SIZE(sci_stamped, 72);
+AT(sci_stamped, version, 0);
+AT(sci_stamped, words, 8);
+SIZE(sci_entry, 48);
+AT(sci_entry, node, 0);
+AT(sci_entry, has_word, 1);
+AT(sci_entry, reserved, 2);
+AT(sci_entry, serial, 4);
+AT(sci_entry, op, 8);
+AT(sci_entry, word, 32);
+AT(sci_entry, version, 40);
+SIZE(sci_verdict, 20);
+AT(sci_verdict, kind, 0);
+AT(sci_verdict, line, 4);
+AT(sci_verdict, has_entry, 8);
+AT(sci_verdict, node, 12);
+AT(sci_verdict, serial, 16);
+SIZE(sci_text_fault, 16);
+AT(sci_text_fault, line, 0);
+AT(sci_text_fault, kind, 8);
+SIZE(sci_machine, 16);
+AT(sci_machine, at, 0);
+AT(sci_machine, live, 8);
+SIZE(sci_node, 16);
+SIZE(sci_logs, 16);
+
+int main(void) {
+    const uint64_t here[8] = {
+        sizeof(sci_op),    sizeof(sci_event),   sizeof(sci_packet),     sizeof(sci_stamped),
+        sizeof(sci_entry), sizeof(sci_verdict), sizeof(sci_text_fault), sizeof(sci_machine),
+    };
+    uint64_t there[8] = { 0, 0, 0, 0, 0, 0, 0, 0 };
+    sci_layout(there);
+    for (int i = 0; i < 8; i++) {
+        if (here[i] != there[i]) {
+            printf("struct %d has %llu bytes here and %llu there\n", i, (unsigned long long)here[i], (unsigned long long)there[i]);
+            return 1;
+        }
+    }
+    return sci_version() == SCI_VERSION_MAJOR * 65536u + SCI_VERSION_MINOR ? 0 : 2;
+}

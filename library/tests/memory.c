@@ -1,0 +1,112 @@
+/* Each allocation of a run is refused in turn: the call says so, its objects are as they were, and nothing is lost. The linker
+** puts the functions below before malloc and realloc (--wrap). */
+#include <stdio.h>
+#include <stdlib.h>
+
+#include "sci.h"
+
+void *__real_malloc(size_t size);
+void *__real_realloc(void *at, size_t size);
+void __real_free(void *at);
+void *__wrap_malloc(size_t size);
+void *__wrap_realloc(void *at, size_t size);
+void __wrap_free(void *at);
+
+static long left = -1; /* allocations until one is refused, or -1 */
+static long live = 0;
+
+static int refuses(void) {
+    if (left < 0) {
+        return 0;
+    }
+    return left-- == 0;
+}
+
+void *__wrap_malloc(size_t size) {
+    if (refuses()) {
+        return NULL;
+    }
+    live++;
+    return __real_malloc(size);
+}
+
+void *__wrap_realloc(void *at, size_t size) {
+    return refuses() ? NULL : __real_realloc(at, size);
+}
+
+void __wrap_free(void *at) {
+    live -= at != NULL;
+    __real_free(at);
+}
+
+static const sci_op store = { SCI_STORE, 0, 3, 0, 0, 42 };
+
+/* One run, in which the allocation of that number is refused. Says whether there was one. */
+static int run(long refused) {
+    const uint8_t kinds[] = { SCI_ISSUE, SCI_ASK, SCI_SERVE, SCI_REPLY, SCI_ACCEPT, SCI_PERFORM };
+    sci_machine machine = SCI_INIT;
+    sci_logs logs = SCI_INIT, read = SCI_INIT;
+    sci_verdict verdict = { 9, 9, 9, 9, 9 };
+    sci_text_fault fault = { 0, 0, 0 };
+    uint8_t text[4096];
+    size_t used = 0;
+    uint32_t events = 0;
+    int was_refused = 0;
+    left = refused;
+
+/* Makes a call, and once more if memory was refused. Its object is as it was then. */
+#define MAKE(call, object)                                           \
+    do {                                                             \
+        const void *const at_ = (object).at;                         \
+        const uint32_t live_ = (object).live;                        \
+        sci_status status_ = (call);                                 \
+        if (status_ == SCI_NO_MEMORY) {                              \
+            was_refused++;                                           \
+            if ((object).at != at_ || (object).live != live_) {      \
+                exit(3);                                             \
+            }                                                        \
+            status_ = (call);                                        \
+        }                                                            \
+        if (status_ != SCI_OK) {                                     \
+            printf("%s: %s\n", #call, sci_status_text(status_));     \
+            exit(4);                                                 \
+        }                                                            \
+    } while (0)
+
+    MAKE(sci_machine_open(&machine, 2, 4, 2, 16), machine);
+    for (size_t i = 0; i < sizeof kinds; i++) {
+        const uint8_t node = kinds[i] == SCI_SERVE || kinds[i] == SCI_REPLY ? 0 : 1;
+        const sci_event event = { kinds[i], node, (uint8_t)(1 - node), 0, SCI_MREAD, store };
+        MAKE(sci_machine_step(&machine, &event), machine);
+    }
+    MAKE(sci_machine_settle(&machine, &events), machine);
+    MAKE(sci_machine_logs(&machine, &logs), logs);
+    MAKE(sci_logs_audit(&logs, &verdict), logs);
+    MAKE(sci_logs_write(&logs, text, sizeof text, &used), logs);
+    MAKE(sci_logs_read(&read, text, used, &fault), read);
+    for (uint32_t serial = 1; serial < 20; serial++) {
+        const sci_entry entry = { 1, 0, 0, serial, store, 0, serial + 1 };
+        MAKE(sci_logs_push(&read, &entry), read);
+    }
+    left = -1;
+    if (verdict.kind != SCI_LAWFUL || events == 0) {
+        exit(5);
+    }
+    if (sci_machine_close(&machine) || sci_logs_close(&logs) || sci_logs_close(&read) || live != 0) {
+        printf("%ld blocks are left\n", live);
+        exit(6);
+    }
+    return was_refused != 0;
+}
+
+int main(void) {
+    long count = 0;
+    while (run(count)) {
+        count++;
+    }
+    if (count < 15) {
+        printf("only %ld allocations were refused\n", count);
+        return 1;
+    }
+    return 0;
+}

@@ -1,0 +1,297 @@
+/* A call that can't be done answers its status and changes nothing: on an object that is empty, closed twice, open already or of
+** another kind, with numbers that are out of range, and with buffers that are too short. */
+#include <stdio.h>
+#include <string.h>
+
+#include "sci.h"
+
+static int failed = 0;
+
+static void expect(const char *call, sci_status found, sci_status wanted) {
+    if (found != wanted) {
+        printf("%s: %s, and not: %s\n", call, sci_status_text(found), sci_status_text(wanted));
+        failed = 1;
+    }
+}
+
+#define EXPECT(call, status) expect(#call, (call), (status))
+
+static void check(const char *what, int holds) {
+    if (!holds) {
+        printf("%s\n", what);
+        failed = 1;
+    }
+}
+
+#define CHECK(fact) check(#fact, (fact))
+
+/* An object seen as one of another kind. */
+static sci_machine *as_machine(void *object) { return object; }
+static sci_node *as_node(void *object) { return object; }
+static sci_logs *as_logs(void *object) { return object; }
+
+static const sci_op store = { SCI_STORE, 0, 3, 0, 0, 42 };
+static const sci_event issue = { SCI_ISSUE, 0, 0, 0, 0, { SCI_STORE, 0, 3, 0, 0, 42 } };
+static const sci_entry entry = { 0, 0, 0, 0, { SCI_STORE, 0, 3, 0, 0, 42 }, 0, 1 };
+
+/* Every call for a machine on an object that keeps none. */
+static void no_machine(void *object) {
+    sci_logs logs = SCI_INIT;
+    sci_stamped stamped = { 7, { 7, 7, 7, 7, 7, 7, 7, 7 } };
+    uint32_t events = 7;
+    uint8_t node = 7;
+    EXPECT(sci_machine_step(as_machine(object), &issue), SCI_MISUSE);
+    EXPECT(sci_machine_settle(as_machine(object), &events), SCI_MISUSE);
+    EXPECT(sci_machine_last(as_machine(object), 0, &stamped), SCI_MISUSE);
+    EXPECT(sci_machine_authority(as_machine(object), 0, &node), SCI_MISUSE);
+    EXPECT(sci_machine_logs(as_machine(object), &logs), SCI_MISUSE);
+    CHECK(events == 7 && node == 7 && stamped.version == 7 && logs.live == 0);
+}
+
+/* Every call for logs on an object that keeps none. */
+static void no_logs(void *object) {
+    sci_stamped stamped = { 7, { 7, 7, 7, 7, 7, 7, 7, 7 } };
+    sci_verdict verdict = { 7, 7, 7, 7, 7 };
+    sci_entry found = entry;
+    uint8_t nodes = 7, lines = 7, text[4] = { 7, 7, 7, 7 };
+    size_t count = 7;
+    EXPECT(sci_logs_push(as_logs(object), &entry), SCI_MISUSE);
+    EXPECT(sci_logs_set_last(as_logs(object), 0, &stamped), SCI_MISUSE);
+    EXPECT(sci_logs_last(as_logs(object), 0, &stamped), SCI_MISUSE);
+    EXPECT(sci_logs_size(as_logs(object), &nodes, &lines), SCI_MISUSE);
+    EXPECT(sci_logs_count(as_logs(object), 0, &count), SCI_MISUSE);
+    EXPECT(sci_logs_entry(as_logs(object), 0, 0, &found), SCI_MISUSE);
+    EXPECT(sci_logs_audit(as_logs(object), &verdict), SCI_MISUSE);
+    EXPECT(sci_logs_write(as_logs(object), text, sizeof text, &count), SCI_MISUSE);
+    CHECK(nodes == 7 && lines == 7 && count == 7 && verdict.kind == 7 && stamped.version == 7 && text[0] == 7);
+}
+
+/* Every call for a node on an object that keeps none. */
+static void no_node(void *object) {
+    uint8_t packet[SCI_PACKET_BYTES] = { 7 };
+    sci_op op = store;
+    sci_entry found = entry;
+    uint32_t number = 7;
+    size_t used = 7;
+    EXPECT(sci_node_issue(as_node(object), &store, &number), SCI_MISUSE);
+    EXPECT(sci_node_perform(as_node(object), 0, &found), SCI_MISUSE);
+    EXPECT(sci_node_ask(as_node(object), 0, SCI_MREAD, packet, &used), SCI_MISUSE);
+    EXPECT(sci_node_take_answer(as_node(object), packet, &used), SCI_MISUSE);
+    EXPECT(sci_node_serve(as_node(object), packet, sizeof packet), SCI_MISUSE);
+    EXPECT(sci_node_refuse(as_node(object), packet, sizeof packet), SCI_MISUSE);
+    EXPECT(sci_node_accept(as_node(object), packet, sizeof packet), SCI_MISUSE);
+    EXPECT(sci_node_pending(as_node(object), 0, &op, &number), SCI_MISUSE);
+    EXPECT(sci_node_is_at_rest(as_node(object), &number), SCI_MISUSE);
+    CHECK(number == 7 && used == 7 && packet[0] == 7);
+}
+
+static void packets(void) {
+    /* node 1 asks node 0 by mread about line 2 */
+    const uint8_t bytes[16] = { 0, 0, 0, 1, 0, 1, 0, 5, 0, 0, 0, 0, 0, 0x80, 0xFF, 0xFF };
+    uint8_t again[SCI_PACKET_BYTES];
+    uint64_t words[SCI_PACKET_WORDS] = { 0 };
+    sci_packet packet, untouched;
+    size_t used = 7;
+    memset(&packet, 7, sizeof packet);
+    untouched = packet;
+    EXPECT(sci_packet_decode(bytes, 0, &packet, &used), SCI_SHORT);
+    EXPECT(sci_packet_decode(bytes, 15, &packet, &used), SCI_SHORT);
+    EXPECT(sci_packet_from_words(words, 0, &packet, &used), SCI_SHORT);
+    EXPECT(sci_packet_from_words(words, 1, &packet, &used), SCI_SHORT);
+    EXPECT(sci_packet_from_words(words, 2, &packet, &used), SCI_UNKNOWN_COMMAND);
+    CHECK(used == 7 && memcmp(&packet, &untouched, sizeof packet) == 0);
+    EXPECT(sci_packet_decode(bytes, 16, &packet, &used), SCI_OK);
+    CHECK(used == 16 && packet.target == 0 && packet.source == 1 && packet.control == 5 && packet.line == 2);
+    CHECK(packet.command == 1 && packet.identifier == SCI_NO_NODE && packet.has_contents == 0 && packet.version == 0);
+    memset(again, 9, sizeof again);
+    EXPECT(sci_packet_encode(&packet, again, &used), SCI_OK);
+    CHECK(used == 16 && memcmp(again, bytes, 16) == 0 && again[16] == 9 && again[87] == 9);
+    EXPECT(sci_packet_to_words(&packet, words, &used), SCI_OK);
+    CHECK(used == 2 && words[0] == 0x0000000100010005 && words[1] == 0x000000000080FFFF);
+    used = 7;
+    packet.has_contents = 1;
+    EXPECT(sci_packet_encode(&packet, again, &used), SCI_RANGE);
+    packet.has_contents = 2;
+    EXPECT(sci_packet_encode(&packet, again, &used), SCI_RANGE);
+    packet.has_contents = 0;
+    packet.line = (uint64_t)1 << 42;
+    EXPECT(sci_packet_encode(&packet, again, &used), SCI_RANGE);
+    packet.line = 2;
+    packet.target = SCI_NO_NODE;
+    EXPECT(sci_packet_encode(&packet, again, &used), SCI_BAD_IDENTIFIER);
+    packet.target = 0;
+    packet.command = 0x7777;
+    EXPECT(sci_packet_to_words(&packet, words, &used), SCI_UNKNOWN_COMMAND);
+    CHECK(used == 7 && memcmp(again, bytes, 16) == 0);
+}
+
+static void machines(void) {
+    sci_machine machine = SCI_INIT;
+    sci_logs logs = SCI_INIT;
+    sci_stamped stamped = { 7, { 7, 7, 7, 7, 7, 7, 7, 7 } };
+    sci_event event = issue;
+    uint8_t node = 7;
+    no_machine(&machine);
+    EXPECT(sci_machine_open(&machine, 0, 4, 2, 16), SCI_RANGE);
+    EXPECT(sci_machine_open(&machine, 17, 4, 2, 16), SCI_RANGE);
+    EXPECT(sci_machine_open(&machine, 2, 65, 2, 16), SCI_RANGE);
+    EXPECT(sci_machine_open(&machine, 2, 4, 9, 16), SCI_RANGE);
+    EXPECT(sci_machine_open(&machine, 2, 4, 2, 0), SCI_RANGE);
+    EXPECT(sci_machine_open(&machine, 2, 4, 2, 65537), SCI_RANGE);
+    CHECK(machine.at == NULL && machine.live == 0);
+    EXPECT(sci_machine_open(&machine, 2, 4, 2, 16), SCI_OK);
+    EXPECT(sci_machine_open(&machine, 2, 4, 2, 16), SCI_MISUSE);
+    event.kind = 7;
+    EXPECT(sci_machine_step(&machine, &event), SCI_RANGE);
+    event = issue;
+    event.op.act = 7;
+    EXPECT(sci_machine_step(&machine, &event), SCI_RANGE);
+    event = issue;
+    event.node = 2;
+    EXPECT(sci_machine_step(&machine, &event), SCI_NOT_ENABLED);
+    EXPECT(sci_machine_step(&machine, &issue), SCI_OK);
+    EXPECT(sci_machine_step(&machine, &issue), SCI_NOT_ENABLED);
+    EXPECT(sci_machine_last(&machine, 4, &stamped), SCI_RANGE);
+    EXPECT(sci_machine_authority(&machine, 4, &node), SCI_RANGE);
+    EXPECT(sci_machine_authority(&machine, 0, &node), SCI_NOT_ENABLED);
+    CHECK(stamped.version == 7 && node == 7);
+    no_logs(&machine);
+    no_node(&machine);
+    EXPECT(sci_logs_close(as_logs(&machine)), SCI_MISUSE);
+    EXPECT(sci_node_close(as_node(&machine)), SCI_MISUSE);
+    EXPECT(sci_machine_logs(&machine, &logs), SCI_OK);
+    EXPECT(sci_machine_logs(&machine, &logs), SCI_MISUSE);
+    EXPECT(sci_logs_close(&logs), SCI_OK);
+    EXPECT(sci_machine_close(&machine), SCI_OK);
+    EXPECT(sci_machine_close(&machine), SCI_OK);
+    no_machine(&machine);
+}
+
+static void logs(void) {
+    static const char written[] = "log 2 2 1\nlast 0 @0 0 0 0 0 0 0 0 0\n0 0 store 0 3 42 = - @1\n";
+    const size_t length = sizeof written - 1;
+    sci_logs kept = SCI_INIT, other = SCI_INIT;
+    sci_stamped stamped = { 7, { 7, 7, 7, 7, 7, 7, 7, 7 } };
+    sci_text_fault fault = { 7, 7, 7 };
+    sci_verdict verdict = { 7, 7, 7, 7, 7 };
+    sci_entry wrong = entry, found = { 7, 7, 7, 7, { 7, 7, 7, 7, 7, 7 }, 7, 7 };
+    uint8_t text[128];
+    size_t used = 7;
+    no_logs(&kept);
+    EXPECT(sci_logs_open(&kept, 0, 1), SCI_RANGE);
+    EXPECT(sci_logs_open(&kept, 17, 1), SCI_RANGE);
+    EXPECT(sci_logs_open(&kept, 2, 65), SCI_RANGE);
+    EXPECT(sci_logs_open(&kept, 2, 1), SCI_OK);
+    EXPECT(sci_logs_open(&kept, 2, 1), SCI_MISUSE);
+    wrong.node = 2;
+    EXPECT(sci_logs_push(&kept, &wrong), SCI_RANGE);
+    wrong = entry;
+    wrong.op.line = 1;
+    EXPECT(sci_logs_push(&kept, &wrong), SCI_RANGE);
+    wrong = entry;
+    wrong.op.word = 8;
+    EXPECT(sci_logs_push(&kept, &wrong), SCI_RANGE);
+    wrong = entry;
+    wrong.has_word = 2;
+    EXPECT(sci_logs_push(&kept, &wrong), SCI_RANGE);
+    EXPECT(sci_logs_push(&kept, &entry), SCI_OK);
+    EXPECT(sci_logs_set_last(&kept, 1, &stamped), SCI_RANGE);
+    EXPECT(sci_logs_last(&kept, 1, &stamped), SCI_RANGE);
+    EXPECT(sci_logs_count(&kept, 16, &used), SCI_RANGE);
+    EXPECT(sci_logs_entry(&kept, 16, 0, &found), SCI_RANGE);
+    EXPECT(sci_logs_entry(&kept, 0, 1, &found), SCI_RANGE);
+    CHECK(stamped.version == 7 && used == 7 && found.version == 7);
+    EXPECT(sci_logs_entry(&kept, 0, 0, &found), SCI_OK);
+    CHECK(found.op.datum == 42 && found.version == 1 && found.has_word == 0);
+    EXPECT(sci_logs_count(&kept, 0, &used), SCI_OK);
+    CHECK(used == 1);
+    EXPECT(sci_logs_audit(&kept, &verdict), SCI_OK);
+    CHECK(verdict.kind == SCI_LAST_DIFFERS && verdict.line == 0 && verdict.has_entry == 0);
+    memset(text, 9, sizeof text);
+    EXPECT(sci_logs_write(&kept, text, 0, &used), SCI_FULL);
+    CHECK(used == length);
+    EXPECT(sci_logs_write(&kept, text, length - 1, &used), SCI_FULL);
+    CHECK(used == length && text[0] == 9);
+    EXPECT(sci_logs_write(&kept, text, length, &used), SCI_OK);
+    CHECK(used == length && memcmp(text, written, length) == 0 && text[length] == 9);
+    EXPECT(sci_logs_read(&kept, text, used, &fault), SCI_MISUSE);
+    EXPECT(sci_logs_read(&other, text, 0, &fault), SCI_TEXT);
+    EXPECT(sci_logs_read(&other, text, used - 1, &fault), SCI_TEXT);
+    CHECK(fault.line == 3 && fault.kind == SCI_TEXT_SYNTAX && other.live == 0);
+    EXPECT(sci_logs_read(&other, text, used, &fault), SCI_OK);
+    no_machine(&other);
+    no_node(&other);
+    EXPECT(sci_machine_close(as_machine(&other)), SCI_MISUSE);
+    EXPECT(sci_logs_close(&other), SCI_OK);
+    EXPECT(sci_logs_close(&other), SCI_OK);
+    EXPECT(sci_logs_close(&kept), SCI_OK);
+}
+
+static void nodes(void) {
+    sci_node node = SCI_INIT, home = SCI_INIT;
+    uint8_t packet[SCI_PACKET_BYTES], answer[SCI_PACKET_BYTES];
+    sci_op op = store, wrong = store;
+    sci_entry found = entry;
+    uint32_t serial = 7;
+    size_t used = 7, long_ = 7;
+    no_node(&node);
+    EXPECT(sci_node_open(&node, 2, 2, 4, 2, 16), SCI_RANGE);
+    EXPECT(sci_node_open(&node, 0, 17, 4, 2, 16), SCI_RANGE);
+    EXPECT(sci_node_open(&node, 1, 2, 4, 2, 0), SCI_RANGE);
+    EXPECT(sci_node_open(&node, 1, 2, 4, 2, 16), SCI_OK);
+    EXPECT(sci_node_open(&node, 1, 2, 4, 2, 16), SCI_MISUSE);
+    EXPECT(sci_node_open(&home, 0, 2, 4, 2, 16), SCI_OK);
+    no_machine(&node);
+    no_logs(&node);
+    wrong.act = 7;
+    EXPECT(sci_node_issue(&node, &wrong, &serial), SCI_RANGE);
+    wrong = store;
+    wrong.line = 4;
+    EXPECT(sci_node_issue(&node, &wrong, &serial), SCI_NOT_ENABLED);
+    EXPECT(sci_node_pending(&node, 0, &op, &serial), SCI_NOT_ENABLED);
+    CHECK(serial == 7);
+    EXPECT(sci_node_issue(&node, &store, &serial), SCI_OK);
+    CHECK(serial == 0);
+    EXPECT(sci_node_issue(&node, &store, &serial), SCI_NOT_ENABLED);
+    EXPECT(sci_node_pending(&node, 0, &op, &serial), SCI_OK);
+    CHECK(op.act == SCI_STORE && op.datum == 42);
+    EXPECT(sci_node_perform(&node, 0, &found), SCI_NOT_ENABLED);
+    EXPECT(sci_node_ask(&node, 0, 9, packet, &used), SCI_RANGE);
+    EXPECT(sci_node_ask(&node, 0, SCI_PURGE, packet, &used), SCI_NOT_ENABLED);
+    EXPECT(sci_node_take_answer(&node, packet, &used), SCI_NOT_ENABLED);
+    CHECK(used == 7);
+    EXPECT(sci_node_ask(&node, 0, SCI_MREAD, packet, &used), SCI_OK);
+    CHECK(used == 16);
+    EXPECT(sci_node_serve(&node, packet, used), SCI_RANGE);
+    EXPECT(sci_node_accept(&node, packet, used), SCI_RANGE);
+    EXPECT(sci_node_serve(&home, packet, 0), SCI_SHORT);
+    EXPECT(sci_node_serve(&home, packet, used - 1), SCI_SHORT);
+    EXPECT(sci_node_accept(&home, packet, used), SCI_NOT_ENABLED);
+    EXPECT(sci_node_serve(&home, packet, used), SCI_OK);
+    EXPECT(sci_node_serve(&home, packet, used), SCI_NOT_ENABLED);
+    EXPECT(sci_node_refuse(&home, packet, used), SCI_NOT_ENABLED);
+    EXPECT(sci_node_take_answer(&home, answer, &long_), SCI_OK);
+    CHECK(long_ == SCI_PACKET_BYTES);
+    EXPECT(sci_node_accept(&node, answer, long_ - 1), SCI_SHORT);
+    EXPECT(sci_node_serve(&node, answer, long_), SCI_RANGE);
+    EXPECT(sci_node_accept(&node, answer, long_), SCI_OK);
+    EXPECT(sci_node_accept(&node, answer, long_), SCI_NOT_ENABLED);
+    EXPECT(sci_node_perform(&node, 0, &found), SCI_OK);
+    CHECK(found.node == 1 && found.version == 1 && found.op.datum == 42);
+    EXPECT(sci_node_is_at_rest(&node, &serial), SCI_OK);
+    CHECK(serial == 0);
+    EXPECT(sci_node_is_at_rest(&home, &serial), SCI_OK);
+    CHECK(serial == 1);
+    EXPECT(sci_machine_close(as_machine(&node)), SCI_MISUSE);
+    EXPECT(sci_node_close(&node), SCI_OK);
+    EXPECT(sci_node_close(&node), SCI_OK);
+    EXPECT(sci_node_close(&home), SCI_OK);
+}
+
+int main(void) {
+    packets();
+    machines();
+    logs();
+    nodes();
+    return failed;
+}
