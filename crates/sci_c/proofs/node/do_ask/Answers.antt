@@ -1,0 +1,19 @@
+use Rattle.std.proofs.Common.{refl, ap}
+use Rattle.std.specs.Prelude.{Some}
+use Rattle.sci_c.specs.declared.thing.Thing.{Thing}
+use Rattle.sci_c.specs.Kinds.{node_in}
+use Rattle.sci_cache.specs.Cache.{letter_of}
+use Rattle.sci_c.proofs.node.do_ask.Goals as goal
+
+pub returns-in-Some-ask-clause-done : goal.returns-in-Some-ask-clause-done
+returns-in-Some-ask-clause-done c = λ status. record {
+  before = c.in-Node.node;
+  after = c.ask.new.self;
+  kind = c.in-Some.kind;
+  letter = letter_of c.in-Some-ask.packet;
+  was = ap (λ (thing : Thing). node_in (Some thing)) c.in-Node.is;
+  is_now = refl;
+  number = c.in-Some.ensures;
+  asked = c.in-Some-ask.ensures.asked;
+  spelled = record { packet = c.in-Some-ask.packet; letter_is = refl; bytes = c.encode.ensures.bytes; length_is = c.encode.ensures.length };
+}
