@@ -296,6 +296,96 @@ sci_status sci_machine_authority(const sci_machine *machine, uint8_t line, uint8
 **   SCI_NO_MEMORY */
 sci_status sci_machine_logs(const sci_machine *machine, sci_logs *logs);
 
+/* ---- nodes: the controller that a simulator has at each processor. The caller carries the packets. Their first two bytes are
+** the target, the higher one first. The nodes are together a coherent machine only if the caller gives each packet to its target
+** once, and those from one node to another in the order in which they were made, requests and answers apart. After sci_node_open
+** no call takes memory. */
+
+/* Puts the controller of node me in a machine of this size into an empty object. Its processor may issue limit operations
+** (sci_core::Node::new).
+**
+**   SCI_OK          The object keeps the node, until sci_node_close.
+**   SCI_MISUSE      The object isn't empty.
+**   SCI_RANGE       me is not below nodes, or not 1 to 16 nodes, 1 to 64 lines, 1 to 8 slots, or a limit of 1 to 65,536.
+**   SCI_NO_MEMORY */
+sci_status sci_node_open(sci_node *node, uint8_t me, uint8_t nodes, uint8_t lines, uint8_t slots, uint32_t limit);
+
+/* Lets the node go, and leaves the object empty. An empty object stays as it is.
+**
+**   SCI_OK
+**   SCI_MISUSE      The object keeps something else. */
+sci_status sci_node_close(sci_node *node);
+
+/* Issues an operation, and gives its serial: the count of operations issued before (Node::issue).
+**
+**   SCI_OK          The operation is pending on its line.
+**   SCI_NOT_ENABLED There is no such line or word, an operation is pending on the line, or limit operations were issued.
+**   SCI_RANGE       There is no such act.
+**   SCI_MISUSE      The object keeps no node. */
+sci_status sci_node_issue(sci_node *node, const sci_op *op, uint32_t *serial);
+
+/* Performs the operation that is pending on a line, and gives its entry, which ends the node's log (Node::perform).
+**
+**   SCI_OK
+**   SCI_NOT_ENABLED None is pending there, or the state of the line doesn't allow it.
+**   SCI_MISUSE      The object keeps no node. */
+sci_status sci_node_perform(sci_node *node, uint8_t line, sci_entry *entry);
+
+/* Makes a request of this kind about a line, and writes it over the first bytes, and how many. It is to be carried to its
+** target (Node::ask and sci_packets::encode).
+**
+**   SCI_OK
+**   SCI_NOT_ENABLED There is no such line, its state doesn't ask this, or no version slot is free.
+**   SCI_RANGE       There is no such kind.
+**   SCI_MISUSE      The object keeps no node. */
+sci_status sci_node_ask(sci_node *node, uint8_t line, uint8_t ask, uint8_t packet[SCI_PACKET_BYTES], size_t *used);
+
+/* Takes the answer that waits, and writes it over the first bytes, and how many. It is to be carried to its target
+** (Node::take_answer and sci_packets::encode).
+**
+**   SCI_OK
+**   SCI_NOT_ENABLED No answer waits.
+**   SCI_MISUSE      The object keeps no node. */
+sci_status sci_node_take_answer(sci_node *node, uint8_t packet[SCI_PACKET_BYTES], size_t *used);
+
+/* Serves the request that the bytes begin with: its answer waits then (sci_packets::decode and Node::serve).
+**
+**   SCI_OK
+**   SCI_NOT_ENABLED An answer waits already.
+**   SCI_RANGE       It is no request, not for this node, about a line that the machine hasn't, or for the home of a line that is
+**                   at another node.
+**   SCI_SHORT, SCI_UNKNOWN_COMMAND, SCI_BAD_OFFSET, SCI_BAD_IDENTIFIER
+**                   The bytes begin with no packet.
+**   SCI_MISUSE      The object keeps no node. */
+sci_status sci_node_serve(sci_node *node, const uint8_t *packet, size_t length);
+
+/* Answers the request that the bytes begin with as busy: that answer waits then (Node::refuse). The statuses are those of
+** sci_node_serve. SCI_NOT_ENABLED is answered for a setback too, which may not be refused. */
+sci_status sci_node_refuse(sci_node *node, const uint8_t *packet, size_t length);
+
+/* Accepts the answer that the bytes begin with (Node::accept).
+**
+**   SCI_OK
+**   SCI_NOT_ENABLED The node doesn't await it.
+**   SCI_RANGE       It is not for this node, or about a line that the machine hasn't.
+**   SCI_SHORT, SCI_UNKNOWN_COMMAND, SCI_BAD_OFFSET, SCI_BAD_IDENTIFIER
+**                   The bytes begin with no packet.
+**   SCI_MISUSE      The object keeps no node. */
+sci_status sci_node_accept(sci_node *node, const uint8_t *packet, size_t length);
+
+/* Tells the operation that is pending on a line, and its serial. An operand that its act doesn't have is 0 (Node::pending).
+**
+**   SCI_OK
+**   SCI_NOT_ENABLED None is pending there.
+**   SCI_MISUSE      The object keeps no node. */
+sci_status sci_node_pending(const sci_node *node, uint8_t line, sci_op *op, uint32_t *serial);
+
+/* Tells whether no operation is pending and no line has an entry: 1, and else 0 (Node::is_at_rest).
+**
+**   SCI_OK
+**   SCI_MISUSE      The object keeps no node. */
+sci_status sci_node_is_at_rest(const sci_node *node, uint32_t *at_rest);
+
 /* ---- logs: those of all nodes, with the last contents of each line, of this machine or of any other */
 
 /* Puts logs without entries into an empty object. Each line's last contents are zero words at version 0 (Logs::new and

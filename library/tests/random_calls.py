@@ -1,0 +1,197 @@
+#!/usr/bin/env python3
+"""Random calls of the C library from Python, against the text programs. The same events by `scimem replay` give the same logs; the
+same logs by `scimem audit` give the same verdict, or the same first fault; the controllers of the nodes, wired here, give the
+same logs as a machine; and packets are those that `scimem decode` prints.
+
+    random_calls.py SCIMEM CALLS
+
+The last line is 'N passed, M failed', of comparisons."""
+
+import os
+import random
+import re
+import subprocess
+import sys
+from collections import deque
+
+sys.path.insert(0, os.path.join(os.path.dirname(os.path.abspath(__file__)), "..", "..", "examples", "c"))
+import sci  # noqa: E402
+
+ACTS = ("load", "store", "mask-swap", "compare-swap", "fetch-add", "bounded-add", "wrap-add")
+ASKS = ("mread", "fread", "cread", "claim", "clear", "purge", "roll", "wback", "setback")
+FAULTS = {"syntax": 1, "range": 2, "too-many": 3}
+
+
+class Tally:
+    """Comparisons that passed and failed."""
+
+    def __init__(self, scimem):
+        self.scimem, self.passed, self.failed = scimem, 0, 0
+
+    def same(self, what, found, wanted):
+        if found == wanted:
+            self.passed += 1
+        else:
+            self.failed += 1
+            print(f"{what} FAILED: {str(found)[:300]} and not {str(wanted)[:300]}", flush=True)
+
+    def ran(self, command, given):
+        """What the program writes, of both kinds."""
+        ran = subprocess.run([self.scimem, command], input=given, stdout=subprocess.PIPE, stderr=subprocess.PIPE)
+        return ran.stdout + ran.stderr
+
+
+def operation(op):
+    """The text of an operation."""
+    operands = {"load": [], "store": [op.datum], "fetch-add": [op.datum]}.get(ACTS[op.act], [op.arg, op.datum])
+    return " ".join(str(part) for part in [ACTS[op.act], op.line, op.word, *operands])
+
+
+def line_of(event):
+    """The line of a schedule that says an event."""
+    return {
+        sci.ISSUE: lambda: f"issue {event.node} {operation(event.op)}",
+        sci.PERFORM: lambda: f"perform {event.node} {event.line}",
+        sci.ASK: lambda: f"ask {event.node} {event.line} {ASKS[event.ask]}",
+        sci.SERVE: lambda: f"serve {event.from_} {event.node}",
+        sci.REFUSE: lambda: f"refuse {event.from_} {event.node}",
+        sci.REPLY: lambda: f"reply {event.node}",
+        sci.ACCEPT: lambda: f"accept {event.from_} {event.node}",
+    }[event.kind]()
+
+
+def random_op(draw, lines):
+    return sci.Op(draw.randrange(7), draw.randrange(lines), draw.randrange(8), draw.randrange(256), draw.choice((0, 1, draw.getrandbits(64))),
+                  draw.choice((0, 1, draw.getrandbits(64))))
+
+
+def random_event(draw, nodes, lines):
+    """An event, of which the fields that it doesn't have are random too."""
+    return sci.Event(draw.randrange(7), draw.randrange(nodes), draw.randrange(nodes), draw.randrange(lines), draw.randrange(9),
+                     random_op(draw, lines))
+
+
+def verdict_line(verdict):
+    """What `scimem audit` prints of a verdict, without the name of the fault."""
+    if verdict:
+        return b"lawful\n"
+    at = f" node {verdict.node} serial {verdict.serial}" if verdict.has_entry else ""
+    return f"fault {verdict.kind} line {verdict.line}{at}\n".encode()
+
+
+def judged(text):
+    """What the library says of a text, in the words of `scimem audit`."""
+    try:
+        return verdict_line(sci.Logs.read(text).audit())
+    except sci.BadText as error:
+        kind = next(name for name, number in FAULTS.items() if number == error.args[1])
+        return f"refused at line {error.args[0]}: {kind}\n".encode()
+
+
+def printed(tally, text):
+    """What `scimem audit` says of a text, without the name of the fault."""
+    return re.sub(rb"^(fault \d+) [a-z-]+", rb"\1", tally.ran("audit", text))
+
+
+def changed(draw, text):
+    """The text with another number, or with bytes that are gone or twice there."""
+    number = draw.choice([it.span() for it in re.finditer(rb"\d+", text)])
+    start = draw.randrange(len(text))
+    return draw.choice((
+        text[: number[0]] + str(draw.randrange(4)).encode() + text[number[1]:],
+        text[:start] + text[start + draw.randrange(1, 4):],
+        text[:start] + text[max(0, start - 3):],
+    ))
+
+
+def machine_run(tally, draw, calls):
+    """A machine goes through random events, and so does the text program."""
+    size = draw.randrange(1, 5), draw.randrange(1, 4), draw.randrange(1, 3)
+    schedule = [f"machine {size[0]} {size[1]} {size[2]}"]
+    with sci.Machine(*size, 65536) as machine:
+        for _ in range(calls):
+            event = random_event(draw, *size[:2])
+            machine.try_step(event)
+            schedule.append(line_of(event))
+        logs = machine.logs()
+        text = logs.write()
+        tally.same(f"logs of a machine of {size}", text, tally.ran("replay", ("\n".join(schedule) + "\n").encode()))
+        tally.same("verdict", verdict_line(logs.audit()), b"lawful\n")
+        entries = list(logs)
+        copy = sci.Logs(size[0], size[1])
+        for entry in entries:
+            copy.push(entry)
+        for line in range(size[1]):
+            tally.same("last contents", machine.last(line), logs.last(line))
+            copy.set_last(line, logs.last(line))
+        tally.same("logs that are pushed again", copy.write(), text)
+        for _ in range(8):
+            other = changed(draw, text)
+            tally.same("a changed log", judged(other), printed(tally, other))
+
+
+class Wires:
+    """Controllers, and the packets between them on lanes of requests and of answers."""
+
+    def __init__(self, size):
+        self.nodes = [sci.Node(n, *size, 65536) for n in range(size[0])]
+        self.lanes = {(kind, a, b): deque() for kind in (0, 1) for a in range(size[0]) for b in range(size[0])}
+        self.sent = []
+
+    def send(self, kind, packet):
+        self.sent.append(packet)
+        self.lanes[kind, packet[5], packet[1]].append(packet)
+
+    def take(self, kind, event, how):
+        lane = self.lanes[kind, event.from_, event.node]
+        if not lane:
+            raise sci.NotEnabled()
+        how(lane[0])
+        lane.popleft()
+
+    def make(self, event):
+        """Makes an event by the calls of the nodes, or raises NotEnabled."""
+        node = self.nodes[event.node]
+        {
+            sci.ISSUE: lambda: node.issue(event.op),
+            sci.PERFORM: lambda: node.perform(event.line),
+            sci.ASK: lambda: self.send(0, node.ask(event.line, event.ask)),
+            sci.SERVE: lambda: self.take(0, event, node.serve),
+            sci.REFUSE: lambda: self.take(0, event, node.refuse),
+            sci.REPLY: lambda: self.send(1, node.take_answer()),
+            sci.ACCEPT: lambda: self.take(1, event, node.accept),
+        }[event.kind]()
+
+
+def wired_run(tally, draw, calls):
+    """Nodes that are wired here go through the events of a machine, and the same ones are enabled."""
+    size = draw.randrange(1, 5), draw.randrange(1, 4), draw.randrange(1, 3)
+    wires, differ = Wires(size), 0
+    with sci.Machine(*size, 65536) as machine:
+        for _ in range(calls // 2):
+            event = random_event(draw, *size[:2])
+            try:
+                wires.make(event)
+                made = True
+            except sci.NotEnabled:
+                made = False
+            differ += made != machine.try_step(event)
+    tally.same("events that are enabled", differ, 0)
+    data = b"".join(wires.sent)
+    tally.same("packets", tally.ran("decode", data).count(b"\n"), len(wires.sent))
+    again = b"".join(sci.encoded(sci.decoded(packet)[0]) for packet in wires.sent)
+    tally.same("packets that are encoded again", again, data)
+
+
+def main():
+    tally, calls = Tally(sys.argv[1]), int(sys.argv[2])
+    for seed in range(10):
+        draw = random.Random(seed)
+        machine_run(tally, draw, calls // 20)
+        wired_run(tally, draw, calls // 20)
+    print(f"{tally.passed} passed, {tally.failed} failed")
+    return 1 if tally.failed else 0
+
+
+if __name__ == "__main__":
+    sys.exit(main())

@@ -1,0 +1,239 @@
+#!/usr/bin/env python3
+"""Builds the C library (scripts/make/library.py) and checks it, of the archive that rt ci built:
+
+- the header compiles by itself as C11 and as C++17, without a warning;
+- the header declares the functions that the library has, no more and no less (nm), and each has the parameters of its export in
+  crates/sci_c; the numbers of statuses and the fields of structs are those of crates/sci_c_values;
+- the tests of library/tests run, with each allocation refused in turn, and under valgrind;
+- the examples of examples/c write what stands in library/tests/examples.txt;
+- random calls from Python do what the text programs do.
+
+What has no compiler or program here is left out, and a line says so. With --build the archive is built before. The last line is
+'N passed, M failed'."""
+
+import os
+import re
+import shutil
+import subprocess
+import sys
+import tempfile
+
+TOP = os.path.dirname(os.path.dirname(os.path.dirname(os.path.abspath(__file__))))
+sys.path.insert(0, f"{TOP}/scripts/make")
+import library  # noqa: E402
+
+HEADER = f"{TOP}/include/sci.h"
+CALLS = "200000"
+C = ["-std=c11", "-Wall", "-Wextra", "-Wpedantic", "-Werror", "-O2"]
+CXX = ["-std=c++17", "-Wall", "-Wextra", "-Wpedantic", "-Werror", "-O2"]
+# What stands in the header and not in the crates.
+HELPERS = {"sci_status_text"}
+# The types of C that a type of Rattle is.
+TYPES = {"u8": "uint8_t", "u16": "uint16_t", "u32": "uint32_t", "u64": "uint64_t", "usize": "size_t"}
+
+
+class Tally:
+    def __init__(self):
+        self.passed = self.failed = 0
+
+    def count(self, what, wrong):
+        """Counts a check, which passed if nothing is wrong."""
+        if wrong:
+            self.failed += 1
+            print(f"{what} FAILED: {wrong}", flush=True)
+        else:
+            self.passed += 1
+
+    def run(self, what, words, **how):
+        """Runs a program, which has to end well. Its output."""
+        ran = subprocess.run(words, stdout=subprocess.PIPE, stderr=subprocess.STDOUT, text=True, **how)
+        self.count(what, ran.returncode and f"status {ran.returncode}: {ran.stdout[-600:]}")
+        return ran.stdout
+
+
+def read(path):
+    with open(path, encoding="utf-8") as file:
+        return file.read()
+
+
+def header():
+    return re.sub(r"/\*.*?\*/", "", read(HEADER), flags=re.DOTALL)
+
+
+def rattle(crate):
+    """The sources of a crate, without comments."""
+    folder = f"{TOP}/crates/{crate}/src"
+    return "\n".join(re.sub(r"^\s*//.*", "", read(f"{folder}/{name}"), flags=re.MULTILINE) for name in sorted(os.listdir(folder)))
+
+
+def declared():
+    """The functions of the header: what each answers, and the types of its parameters, an array as its length."""
+    found = {}
+    for result, name, parameters in re.findall(r"^(\w[\w ]*?[ *]+)(sci_\w+)\(([^)]*)\);", header(), re.MULTILINE):
+        words = [re.sub(r"\s*\b\w+(\[\w+\])?$", r"\1", it.strip()) for it in parameters.split(",")]
+        found[name] = re.sub(r"\s*\*\s*", " *", result.strip()), [it for it in words if it not in ("void", "")]
+    return found
+
+
+def c_types(name, written):
+    """The parameters of C that one of an export is, without const."""
+    if written == "Global":
+        return []
+    if written in ("&mut SciObject", "&SciObject"):
+        return ["object *"]
+    pointer = re.fullmatch(r"&(mut )?(.+)", written)
+    if not pointer:
+        return [TYPES[written]]
+    inner = pointer[2]
+    if buffer := re.fullmatch(r"\[(\w+)\]", inner):
+        return [f"{TYPES[buffer[1]]} *", "size_t"]
+    if array := re.fullmatch(r"\[(\w+); (\d+)\]", inner):
+        return [f"{TYPES[array[1]]}[{array[2]}]"]
+    return [f"{TYPES.get(inner) or c_name(inner)} *"]
+
+
+def c_name(struct):
+    """`SciTextFault` as `sci_text_fault`."""
+    return re.sub(r"(?<!^)([A-Z])", r"_\1", struct).lower()
+
+
+def exports():
+    """The exports of crates/sci_c: whether each answers a status, and its parameters as C has them."""
+    found = {}
+    for name, parameters, result in re.findall(r'extern "C" fn (sci_\w+)\(([^)]*)\)( -> u32)?', rattle("sci_c")):
+        pairs = [re.fullmatch(r"(\w+): (.+)", it.strip()) for it in re.split(r",(?![^\[]*\])", parameters) if it.strip()]
+        found[name] = bool(result), [kind for pair in pairs for kind in c_types(pair[1], pair[2])]
+    return found
+
+
+def plain(kind):
+    """A type of the header without const, and an object's and an array's by what it is."""
+    kind = re.sub(r"\bconst\b", "", kind).strip()
+    kind = re.sub(r"\s*\*", " *", kind)
+    kind = re.sub(r"SCI_\w+", lambda it: re.search(it[0] + r" = (\w+)", header())[1], kind)
+    return re.sub(r"^sci_(machine|node|logs) \*$", "object *", kind)
+
+
+def check_signatures(tally):
+    of_header, of_crate = declared(), exports()
+    tally.count("functions", sorted((set(of_header) - HELPERS) ^ set(of_crate)))
+    for name, (answers, parameters) in of_crate.items():
+        result, kinds = of_header.get(name, ("", []))
+        wrong = [plain(it) for it in kinds] != parameters or (result not in ("sci_status", "uint32_t")) == answers
+        tally.count(name, wrong and f"{kinds} in the header, and {parameters} in the crate")
+        const = [it.startswith("const") for it in kinds if "sci_machine" in it or "sci_node" in it or "sci_logs" in it]
+        kept = "ensures kept {" in contract(name)
+        tally.count(f"{name}: const", bool(const) and (const[0] != kept) and "the header's const is not what the contract keeps")
+
+
+def contract(name):
+    """The clauses of an export."""
+    text = rattle("sci_c")
+    start = text.index(f'fn {name}(')
+    return text[start: text.index("\n{", start)]
+
+
+def fields_of(body, separator, swapped):
+    """Names and types of fields, arrays as `type[length]`."""
+    for part in body.split(separator):
+        words = re.sub(r"\bpub\b", "", part).strip().rstrip(",")
+        if not words or words.startswith("ghost"):
+            continue
+        name, kind = (it.strip() for it in words.split(":")) if swapped else words.rsplit(" ", 1)[::-1]
+        if swapped:
+            array = re.fullmatch(r"\[(\w+); (\d+)\]", kind)
+            yield (name, f"{TYPES[array[1]]}[{array[2]}]") if array else (name, TYPES.get(kind) or c_name(kind))
+        else:
+            name, _, length = name.partition("[")
+            yield name, f"{kind}[8]" if length else kind
+
+
+def check_structs(tally):
+    values = rattle("sci_c_values")
+    of_header = {name: list(fields_of(body, ";", False)) for body, name in re.findall(r"typedef struct sci_\w+ \{(.*?)\} (sci_\w+);", header(), re.DOTALL)}
+    for name, body in re.findall(r"#\[repr\(C\)\][^{]*pub struct (\w+) \{(.*?)\n\}", values, re.DOTALL):
+        wanted = list(fields_of(body, ",\n", True))
+        tally.count(name, of_header.get(c_name(name)) != wanted and f"{of_header.get(c_name(name))} in the header, and {wanted}")
+    numbers = dict(re.findall(r"pub const (SCI_\w+): u32 = (\d+);", values))
+    wrong = [name for name, number in numbers.items() if not re.search(rf"\b{name} = {number}\b", header())]
+    tally.count("statuses", wrong)
+
+
+def check_symbols(tally):
+    if not shutil.which("nm"):
+        print("nm is missing: the symbols of the library are left out")
+        return
+    for words in (["-D", "--defined-only", "libsci.so"], ["-g", "--defined-only", "libsci.a"]):
+        text = subprocess.run(["nm", *words], cwd=library.OUT, stdout=subprocess.PIPE, text=True, check=True).stdout
+        found = {it.split("@")[0] for it in re.findall(r" T (\S+)", text)}
+        others = set() if "libsci.so" in words else {it for it in found if it.startswith("rattle_")}
+        tally.count(f"symbols of {words[-1]}", sorted((found - others) ^ set(declared())))
+
+
+def check_programs(tally, cc, room):
+    """The header alone, the tests and the examples in C and C++."""
+    flags, archive = [f"-I{TOP}/include"], f"{library.OUT}/libsci.a"
+    memory = "-Wl,--wrap=malloc,--wrap=realloc,--wrap=free"
+    cxx = next((it for it in (os.environ.get("CXX"), "c++", "g++", "clang++") if it and shutil.which(it)), None)
+    tally.run("the header as C11", [cc, *C, *flags, "-fsyntax-only", "-x", "c", HEADER])
+    made = [(cc, C, f"library/tests/{name}.c", [memory] if name == "memory" else []) for name in ("layout", "misuse", "memory")]
+    made.append((cc, C, "examples/c/two_nodes.c", []))
+    if cxx:
+        tally.run("the header as C++17", [cxx, *CXX, *flags, "-fsyntax-only", "-x", "c++", HEADER])
+        made.append((cxx, CXX, "examples/c/machine.cpp", []))
+    else:
+        print("there is no C++ compiler: the example in C++ is left out")
+    if not shutil.which("valgrind"):
+        print("valgrind is missing: leaks are looked for by the counts of the tests alone")
+    for compiler, standard, source, more in made:
+        program = f"{room}/{os.path.basename(source)}.out"
+        tally.run(f"{source} compiles", [compiler, *standard, *flags, f"{TOP}/{source}", archive, *more, "-o", program])
+        if not os.path.exists(program):
+            continue
+        output = tally.run(source, [program])
+        if source.startswith("examples/"):
+            check_output(tally, os.path.basename(source), output)
+        if shutil.which("valgrind"):
+            tally.run(f"{source} under valgrind", ["valgrind", "-q", "--leak-check=full", "--error-exitcode=9", program])
+
+
+def check_output(tally, name, output):
+    """What an example writes stands in examples.txt, behind a line with its name."""
+    parts = re.split(r"^== (\S+)\n", read(f"{TOP}/library/tests/examples.txt"), flags=re.MULTILINE)
+    wanted = dict(zip(parts[1::2], parts[2::2])).get(name)
+    tally.count(f"output of {name}", output != wanted and output)
+
+
+def check_python(tally):
+    settings = {**os.environ, "SCI_LIBRARY": f"{library.OUT}/libsci.so"}
+    script = [sys.executable, "examples/c/random_schedule.py", "examples/last-differs.log", "examples/purge.schedule"]
+    check_output(tally, "random_schedule.py", tally.run("random_schedule.py", script, cwd=TOP, env=settings))
+    scimem = f"{TOP}/crates/scimem/out/scimem"
+    if not os.path.exists(scimem):
+        print("scimem isn't built: the comparison with the text programs is left out")
+        return
+    words = [sys.executable, "library/tests/random_calls.py", scimem, CALLS]
+    output = tally.run("random calls", words, cwd=TOP, env=settings)
+    found = re.search(r"(\d+) passed, (\d+) failed\n$", output)
+    tally.passed += int(found[1]) if found else 0
+
+
+def main():
+    tally, cc = Tally(), library.compiler()
+    if cc is None:
+        print("there is no C compiler: the C library is left out\n0 passed, 0 failed")
+        return 0
+    if "--build" in sys.argv:
+        subprocess.run(["rt", "lib"], cwd=f"{TOP}/crates/sci_c", check=True, stdout=subprocess.DEVNULL)
+    library.build(cc)
+    check_signatures(tally)
+    check_structs(tally)
+    check_symbols(tally)
+    with tempfile.TemporaryDirectory(prefix="library-") as room:
+        check_programs(tally, cc, room)
+    check_python(tally)
+    print(f"{tally.passed} passed, {tally.failed} failed")
+    return 1 if tally.failed else 0
+
+
+sys.exit(main())
