@@ -1,7 +1,6 @@
 -- What the calls for logs answer.
-use Rattle.std.specs.Prelude.{◌≡◌, ℕ, ◌<◌, ◌≤◌, ◌++◌, ◌∷◌, [], List, length, replicate, slice_get, slice_set, drop, Option, Some}
-use Rattle.sci_words.specs.declared.limits.TheConstants.{MAX_NODES, MAX_OPERATIONS, WORDS_PER_LINE}
-use Rattle.sci_words.specs.Stamped.{zero_stamped}
+use Rattle.std.specs.Prelude.{◌≡◌, ℕ, ◌<◌, ◌≤◌, ◌++◌, List, length, slice_get, drop, Option, Some}
+use Rattle.sci_words.specs.declared.limits.TheConstants.{MAX_OPERATIONS}
 use Rattle.sci_history.specs.declared.entry.Entry.{Entry}
 use Rattle.sci_history.specs.declared.verdict.Verdict.{Verdict}
 use Rattle.sci_history.specs.Audit.{IsVerdict}

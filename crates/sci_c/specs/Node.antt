@@ -1,5 +1,5 @@
 -- What the calls for nodes answer.
-use Rattle.std.specs.Prelude.{◌≡◌, ℕ, ◌<◌, ◌++◌, List, drop, length, take, Option, Some, None, is_some, true, false, Bool}
+use Rattle.std.specs.Prelude.{◌≡◌, ℕ, ◌++◌, List, drop, length, take, Option, Some, None}
 use Rattle.sci_words.specs.declared.event.AskKind.{AskKind}
 use Rattle.sci_words.specs.declared.operation.Op.{Op}
 use Rattle.sci_packets.specs.declared.packet.Packet.{Packet}
@@ -7,7 +7,7 @@ use Rattle.sci_packets.specs.Spelling.{Spells, spelling}
 use Rattle.sci_history.specs.declared.entry.Entry.{Entry}
 use Rattle.sci_cache.specs.Cache.{Letter, letter_of}
 use Rattle.sci_core.specs.declared.pending.Pending.{Pending}
-use Rattle.sci_core.specs.Node.{NodeOf, IsForNode, IsServable, node_issuing, node_performing, node_asking, node_replying, pending_on}
+use Rattle.sci_core.specs.Node.{NodeOf, node_issuing, node_performing, node_asking, node_replying, pending_on}
 use Rattle.sci_c_values.specs.declared.entry.SciEntry.{SciEntry}
 use Rattle.sci_c_values.specs.declared.operation.SciOp.{SciOp}
 use Rattle.sci_c_values.specs.Entry.{entry_struct}

@@ -3,21 +3,26 @@
 ghost use Rattle.std.specs.Prelude.{◌≡◌, ◌∷◌, []};
 
 use crate::handle::SciObject;
-use sci_c_values::{
-    SciEntry, SciEvent, SciOp, SciPacket, SciStamped, SciTextFault, SciVerdict,
-};
+use sci_c_values::{SciEntry, SciEvent, SciOp, SciPacket, SciStamped, SciTextFault, SciVerdict};
 use std::mem::size_of;
 
 /// 65,536 times the major number of the version, and the minor number.
 const VERSION: u32 = 1;
 
 const OP: usize = size_of::<SciOp>();
+
 const EVENT: usize = size_of::<SciEvent>();
+
 const PACKET: usize = size_of::<SciPacket>();
+
 const STAMPED: usize = size_of::<SciStamped>();
+
 const ENTRY: usize = size_of::<SciEntry>();
+
 const VERDICT: usize = size_of::<SciVerdict>();
+
 const TEXT_FAULT: usize = size_of::<SciTextFault>();
+
 const OBJECT: usize = size_of::<SciObject>();
 
 /// The version of the library.

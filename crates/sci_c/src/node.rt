@@ -119,11 +119,7 @@ fn issue(kept: &mut Thing, op: &SciOp, serial: &mut u32) -> u32
 
 /// Performs the operation that is pending on a line, and gives its entry.
 #[unsafe(no_mangle)]
-pub extern "C" fn sci_node_perform(
-    object: &mut SciObject,
-    line: u8,
-    entry: &mut SciEntry,
-) -> u32
+pub extern "C" fn sci_node_perform(object: &mut SciObject, line: u8, entry: &mut SciEntry) -> u32
     ensures done { result ≡ SCI_OK
         → IsPerformed object.old.value line entry.new object.new.value }
     ensures refused { result ≡ SCI_NOT_ENABLED → OnNode object.old.value

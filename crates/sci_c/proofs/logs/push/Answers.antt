@@ -1,5 +1,5 @@
 use Rattle.std.proofs.Common.{rules, refl, ap}
-use Rattle.std.specs.Prelude.{Option, Some}
+use Rattle.std.specs.Prelude.{Some}
 use Rattle.sci_c.specs.declared.thing.Thing.{Thing}
 use Rattle.sci_c.specs.Kinds.{logs_in}
 use Rattle.sci_c.proofs.logs.push.Goals as goal

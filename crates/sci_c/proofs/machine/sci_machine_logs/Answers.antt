@@ -21,7 +21,7 @@ returns-in-Ok-clause-done c = λ ok.
     record {
       machine = c.in-Machine.machine;
       was = ap (λ (object : SciObject). machine_in object.value) (sym c.live.ensures.same)
-        ∙ ap machine_in c.as_mut.ensures.value ∙ ap (λ (thing : Thing). machine_in (Some thing)) c.in-Machine.is;
+          ∙ ap machine_in c.as_mut.ensures.value ∙ ap (λ (thing : Thing). machine_in (Some thing)) c.in-Machine.is;
       are = ap logs_in (c.opened.ensures.opened ok) ∙ ap (λ (journal : JournalOf). Some journal) (c.of-journal.ensures ∙ made);
       lawful = subst (Lawful (logs_of c.in-Machine.machine)) c.last.ensures.last c.last.ensures.lawful;
       consistent = subst (IsSequentiallyConsistent (logs_of c.in-Machine.machine)) c.last.ensures.last c.last.ensures.consistent;
