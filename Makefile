@@ -8,7 +8,7 @@ NEED_CARGO = command -v cargo > /dev/null || { echo "cargo is missing: install R
 PROGRAMS = crates/scimem/out/scimem crates/sciview/out/sciview crates/sci_circle/out/sci_circle
 SOURCES = crates.txt HANDLES $(shell find crates -name out -prune -o -path '*_tests' -prune -o \( -name '*.rt' -o -name '*.antt' \) -print)
 
-.PHONY: run test check fmt bench fuzz soak faults install build plants cases examples charts clean
+.PHONY: run test check fmt bench fuzz soak faults install build library install-library plants cases examples charts clean
 
 PREFIX = /usr/local
 
@@ -37,6 +37,26 @@ $(PROGRAMS): $(SOURCES)
 	@$(NEED_RT)
 	@cd crates/$(@F) && { rt run -- $$(cat args) < stdin > /dev/null; [ $$? -eq $$(cat status 2> /dev/null || echo 0) ]; } && touch out/$(@F)
 
+# The C library: libsci.a, libsci.so and sci.pc in out/library.
+library: out/library/libsci.so
+
+crates/sci_c/out/libsci_c.a: $(SOURCES)
+	@$(NEED_RT)
+	@cd crates/sci_c && rt lib > out.log 2>&1 || { cat out.log; rm -f out.log; exit 1; }; rm -f out.log && touch out/libsci_c.a
+
+out/library/libsci.so: crates/sci_c/out/libsci_c.a include/sci.h library/support.c library/sci.map library/sci.pc.in scripts/make/library.py
+	@PREFIX="$(PREFIX)" scripts/make/library.py && touch out/library/libsci.so
+
+# Puts the C library, its header and sci.pc into PREFIX/lib, PREFIX/include and PREFIX/lib/pkgconfig, below DESTDIR if that is set.
+install-library: library
+	@install -d "$(DESTDIR)$(PREFIX)/lib/pkgconfig" "$(DESTDIR)$(PREFIX)/include"
+	@install -m 644 include/sci.h "$(DESTDIR)$(PREFIX)/include"
+	@install -m 644 out/library/libsci.a "$(DESTDIR)$(PREFIX)/lib"
+	@install -m 755 out/library/libsci.so.* "$(DESTDIR)$(PREFIX)/lib"
+	@ln -sf "$$(basename out/library/libsci.so.*)" "$(DESTDIR)$(PREFIX)/lib/libsci.so"
+	@sed 's|^prefix=.*|prefix=$(PREFIX)|' out/library/sci.pc > "$(DESTDIR)$(PREFIX)/lib/pkgconfig/sci.pc"
+	@echo "installed libsci.a, libsci.so, sci.h and sci.pc below $(DESTDIR)$(PREFIX)"
+
 # Runs the programs on the stored cases alone.
 cases: build
 	@scripts/gate/run_cases.py
@@ -59,6 +79,7 @@ install:
 	@install -m 644 docs/scimem.1 docs/sciview.1 "$(DESTDIR)$(PREFIX)/share/man/man1"
 	@scripts/make/manual_page.py > "$(DESTDIR)$(PREFIX)/share/man/man5/scimem.5"
 	@echo "installed scimem and sciview in $(DESTDIR)$(PREFIX)/bin, and scimem(1), sciview(1) and scimem(5) in $(DESTDIR)$(PREFIX)/share/man"
+	@if [ -f out/library/libsci.a ]; then $(MAKE) --no-print-directory -o library install-library; fi
 
 # Builds tests and the programs over what earlier checks kept, and has memory, reads and writes refused. With CRATE=NAME
 # it tries that crate alone.

@@ -31,7 +31,8 @@ module _ (R : RattleType) {M : Type 1} {𝓤 : Ura M} {𝓛 : Logic 𝓤} {K : T
       (subst (λ (p : Ptr). vs ≡ vstruct (of_list (ptr_val p ∷ [])) ∷ []) e (subst (λ (ps : List Val). vs ≡ vstruct (of_list (ps ++ [])) ∷ []) first whole))))))
 
   pub loose_in : K → (b o : ℕ) (x : R.Denot)
-      → Step K 𝓛 (‵ ((loose.the_row R).own_val (record { at = block_ptr b o; value = x }) (pointed b o ∷ [])) ∷ Γ) G (‵ (box_owns chunk R (block_ptr b o) x) ∷ Γ) G
+      → Step K 𝓛 (‵ ((loose.the_row R).own_val (record { at = block_ptr b o; value = x }) (pointed b o ∷ [])) ∷ Γ) G (‵ (box_owns chunk R
+      (block_ptr b o) x) ∷ Γ) G
   loose_in t b o x = step (λ s.
       nothing t $ feq_i t (List Val) (vptr b o ∷ []) (vptr b o ∷ []) refl $ fjoin t $ feq_i t (List Val) (pointed b o ∷ []) (pointed b o ∷ []) refl $ fjoin t $
       fpack t (Valss (RawPtr ∷ [])) (within (shape (loose.the_type R)) (block_ptr b o, tt) (pointed b o ∷ [])) (vptr b o ∷ [], tt) $ fjoin t $ s)

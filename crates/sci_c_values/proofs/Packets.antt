@@ -42,7 +42,8 @@ behind : (o : Option Stamped) (c : SciPacket) (f s count : ℕ) (zeros : List �
 behind None c f s count zeros ok counted flag version words = rw flag (rw counted refl)
 behind (Some stamped) c f s count zeros ok counted flag version words =
     let eleven : count ≡ 11 = omega (arith, counted, ok.width) in
-    rw flag (rw eleven (ap (λ (v : ℕ). v ∷ c.words) version ∙ ap (λ (ws : List ℕ). stamped.version ∷ ws) (words ∙ eight_first stamped.line (drop count zeros) ok.width)))
+    rw flag (rw eleven (ap (λ (v : ℕ). v ∷ c.words) version ∙ ap (λ (ws : List ℕ). stamped.version ∷ ws) (words ∙
+    eight_first stamped.line (drop count zeros) ok.width)))
 
 flag_low : (b : Bool) (n : ℕ) → n ≡ bool_byte b → n ≤ 1
 flag_low true n e = omega (arith, e)

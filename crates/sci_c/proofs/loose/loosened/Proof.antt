@@ -65,8 +65,10 @@ loosened_spec {M} 𝓤 𝓛 𝓜 𝓡 wired T L dx glue =
     let dd = impl ("sci_c::Destruct++none::drop" ∷ []) (tcons (layout AG) tnil) dnil in
     let E : box.Bx = record { row = T; laws = L; al = record { row = AG; laws = AG-laws; g = ghosts; d = dict; drops = dd } } in
     let hs : Stays En.signature.params En.kept = (stay_dropped (plain (λ _. boxes.the_row R G ghosts)) no, tt) in
-    proved_at 𝓛 En hs c 𝓜 𝓡 (Goes-blank 𝓛 1 (plain (λ _. boxes.the_row R G ghosts)) no (λ κs x f. tt), tt) (#self key) fn (code.unfolded 𝓤 H 𝓜 𝓡 wired (T, tt) dx) (λ z are.
-    let κ = z.0.0.0 in let q = z.0.1.0 in let v = z.0.3.0 in let Post : Val → SProp 𝓤 = (walk_of 𝓛 En hs c).post z in let Run : List Val → SProp 𝓤 = λ ws. WpFn 𝓤 H 𝓣.C 𝓣.Λ fn ws Post in
+    proved_at 𝓛 En hs c 𝓜 𝓡 (Goes-blank 𝓛 1 (plain (λ _. boxes.the_row R G ghosts)) no (λ κs x f. tt), tt) (#self key) fn (code.unfolded 𝓤 H 𝓜 𝓡 wired
+    (T, tt) dx) (λ z are.
+    let κ = z.0.0.0 in let q = z.0.1.0 in let v = z.0.3.0 in let Post : Val → SProp 𝓤 = (walk_of 𝓛 En hs c).post z in
+    let Run : List Val → SProp 𝓤 = λ ws. WpFn 𝓤 H 𝓣.C 𝓣.Λ fn ws Post in
     let asked = raw ((c z.0.0 z.0.3).requires z.1) in
     qed 𝓛 (((‵ (flft κ q) ⊛ ‵ ftrue) ⊛ ‵ (owns (types_at En.signature.params z.0.0) z.0.3 z.0.4)) ∷ asked ∷ []) ∵ split ! $ move ! (1 ∷ []) $ fsplit ! $
     box_out E ! v z.0.4.0 (λ b o hv e ws fits. box_in E ! v b o v.value e refl $
@@ -82,9 +84,13 @@ loosened_spec {M} 𝓤 𝓛 𝓜 𝓡 wired T L dx glue =
     suffices ! (Run (w ∷ [])) (subst (λ (us : List Val). ent 𝓤 (Run (w ∷ [])) (Run us)) (sym (λ i. ws i ++ [])) (id⊢ 𝓤 (Run (w ∷ [])))) $
     enter ! 𝓣.C 𝓣.Λ fn (w ∷ []) Post $ alloc_all ! (λ l. pass_all ! refl (typed, tt) $ sets ! (of_opd ! (get ! refl)) refl typed $
     calls_at ! (framed 𝓤 H 𝓜 𝓣) k (met 𝓤 𝓛 𝓜 𝓡 (code.calls-std_alloc::boxed::Box::into_raw 𝓡.env wired) T AG L AG-laws ghosts dict dd dx
-    (passed 𝓡.env (code.calls-std_heap::GlobalAllocator::allocate 𝓡.env wired) (code.calls-std_heap::GlobalAllocator::deallocate 𝓡.env wired) (code.calls-std_heap::GlobalAllocator::grow 𝓡.env wired) (code.calls-std_heap::GlobalAllocator::shrink 𝓡.env wired) M 𝓤 𝓛 𝓜 𝓡)
-    (glues "sci_c::Destruct++none::drop" 𝓡.env (code.calls-sci_c::Destruct++none::drop 𝓡.env wired) AG AG-laws M 𝓤 𝓛 𝓜 𝓡) glue) y (and_then ! (get ! refl) (no_more !)) (λ u.
-    use1 𝓛 (later (some (λ (r : Ptr). ((‵ (flft κ q) ⊛ ‵ (flft [] full_share) ⊛ ‵ ftrue) ⊛ ‵ (RawPtr.own_val r (u ∷ []))) ⊛ some (λ (ls : Lasts (callee.ended T AG ghosts dict dd dx) y.0.0 y.0.3). ‵ (lasts (callee.ended T AG ghosts dict dd dx) y.0.0 y.0.3 ls) ⊛ ‵ (box_owns chunk R r v.value))))) (id⊢ 𝓤 (k.post y u)) $
+    (passed 𝓡.env (code.calls-std_heap::GlobalAllocator::allocate 𝓡.env wired) (code.calls-std_heap::GlobalAllocator::deallocate 𝓡.env wired)
+    (code.calls-std_heap::GlobalAllocator::grow 𝓡.env wired) (code.calls-std_heap::GlobalAllocator::shrink 𝓡.env wired) M 𝓤 𝓛 𝓜 𝓡)
+    (glues "sci_c::Destruct++none::drop" 𝓡.env (code.calls-sci_c::Destruct++none::drop 𝓡.env wired) AG AG-laws M 𝓤 𝓛 𝓜 𝓡) glue) y (and_then ! (get ! refl)
+    (no_more !)) (λ u.
+    use1 𝓛 (later (some (λ (r : Ptr). ((‵ (flft κ q) ⊛ ‵ (flft [] full_share) ⊛ ‵ ftrue) ⊛ ‵ (RawPtr.own_val r (u ∷ []))) ⊛ some (λ (ls : Lasts
+    (callee.ended T AG ghosts dict dd dx) y.0.0 y.0.3). ‵ (lasts (callee.ended T AG ghosts dict dd dx) y.0.0 y.0.3 ls) ⊛ ‵ (box_owns chunk R r v.value)))))
+    (id⊢ 𝓤 (k.post y u)) $
     await ! tt $ pick ! (λ r. split ! $ move ! (1 ∷ []) $ pick ! (λ _. split ! $ drop ! $
     in_a_block ! r (λ p. box_owns chunk R p v.value) (fst∗ 𝓤 (never 𝓤) (sem 𝓛 (chunk (bare (lone R.mir)) null_ptr))) (λ b' o' at.
     move ! (1 ∷ []) $ split ! $ move ! (1 ∷ []) $ feq_l ! (λ eu.
@@ -92,4 +98,5 @@ loosened_spec {M} 𝓤 𝓛 𝓜 𝓡 wired T L dx glue =
     move ! (1 ∷ []) $ loose_in R ! b' o' v.value $
     returns ! (look_at ! 0 refl) $ free_all ! refl $
     suffices ! _ (ends_at 𝓛 En hs c z (pointed b' o') (record { at = block_ptr b' o'; value = v.value }) (tt, tt) (tt, tt)) $ says ! refl $
-    move ! (1 ∷ []) $ split3 ! $ move ! (1 ∷ []) $ drop ! $ nothing ! $ nothing ! $ join ! $ move ! (1 ∷ 2 ∷ []) $ join ! $ keep ! (0 ∷ 1 ∷ 2 ∷ []) $ done !))))))))
+    move ! (1 ∷ []) $ split3 ! $ move ! (1 ∷ []) $ drop ! $ nothing ! $ nothing ! $ join ! $ move ! (1 ∷ 2 ∷ []) $ join ! $ keep ! (0 ∷ 1 ∷ 2 ∷ []) $
+    done !))))))))

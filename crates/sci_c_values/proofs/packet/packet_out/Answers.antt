@@ -11,5 +11,6 @@ returns-clause-says c =
     let a = c.parted-before_control.ensures in let b = c.parted-before_source.ensures in let t = c.parted-target.ensures in let o = c.parted-offset.ensures in
     says_out _ c.args.packet.now c.to_words-count.new.to _ c.to_words-count.result c.to_words-count.ensures.packet c.to_words-count.ensures.words
     c.to_words-count.ensures.length (omega (arith, a.word, b.word, t.word))
-    (second_again c.args.packet.now c.to_words-count.new.to _ c.to_words-count.result _ _ c.to_words-count.ensures.packet c.to_words-count.ensures.words o.word o.back)
+    (second_again c.args.packet.now c.to_words-count.new.to _ c.to_words-count.result _ _ c.to_words-count.ensures.packet c.to_words-count.ensures.words
+    o.word o.back)
     (omega (arith, o.front)) c.from.ensures refl refl
