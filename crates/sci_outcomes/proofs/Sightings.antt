@@ -38,7 +38,8 @@ drawn_sighting script issuing seed rounds done schedule places logs last sightin
       run = subst (λ (d : Bool). IsRunOf script issuing d schedule) is_done run;
       rounds = rounds;
       played = played;
-      lawful = subst (λ (l : List Stamped). Lawful (logs_behind script schedule) l) last_are (subst (λ (ls : List (List Entry)). Lawful ls last) logs_are lawful);
+      lawful = subst (λ (l : List Stamped). Lawful (logs_behind script schedule) l) last_are
+          (subst (λ (ls : List (List Entry)). Lawful ls last) logs_are lawful);
       consistent = subst (λ (l : List Stamped). IsSequentiallyConsistent (logs_behind script schedule) l) last_are
           (subst (λ (ls : List (List Entry)). IsSequentiallyConsistent ls last) logs_are consistent);
       seen = subst (λ (ps : List Place). IsSeen ps (logs_behind script schedule) (last_behind script schedule) sighting) places_are

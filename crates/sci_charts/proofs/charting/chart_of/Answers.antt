@@ -35,7 +35,8 @@ returns-then-is_past c =
     let rows = draws_up_to c.args.request (shown_places c.args.request c.args.schedule.now) c.loop-event.drawing.rows c.loop-event.machine
     c.loop-event.number _ (sym c.is_past.ensures ∙ c.if-is_past.true) was.drawn in
     IfOk-weaker c.text.result (λ (text : Vec ℕ). EndsWith c.loop-event.drawing.rows text.items)
-    (λ (text : Vec ℕ). IsChart c.args.request c.args.schedule.now text.items) (λ text ends. record { rows = c.loop-event.drawing.rows; are_rows = rows; ends = ends }) c.text.ensures
+    (λ (text : Vec ℕ). IsChart c.args.request c.args.schedule.now text.items)
+    (λ text ends. record { rows = c.loop-event.drawing.rows; are_rows = rows; ends = ends }) c.text.ensures
 
 pub returns : goal.returns
 returns c =
@@ -47,4 +48,5 @@ returns c =
     let rows = draws_all c.args.request (shown_places c.args.request c.args.schedule.now) c.loop-event.drawing.rows c.loop-event.machine c.loop-event.number
     events k past was.drawn in
     IfOk-weaker c.text-2.result (λ (text : Vec ℕ). EndsWith c.loop-event.drawing.rows text.items)
-    (λ (text : Vec ℕ). IsChart c.args.request c.args.schedule.now text.items) (λ text ends. record { rows = c.loop-event.drawing.rows; are_rows = rows; ends = ends }) c.text-2.ensures
+    (λ (text : Vec ℕ). IsChart c.args.request c.args.schedule.now text.items)
+    (λ text ends. record { rows = c.loop-event.drawing.rows; are_rows = rows; ends = ends }) c.text-2.ensures
