@@ -5,3 +5,4 @@ pub mod OrderAnswer
 pub mod TextReadings
 pub mod Subject
 pub mod Faulty
+pub mod Window

@@ -1,5 +1,8 @@
 //! What a fault of a line means, in words, and the entries around it.
 
+ghost use Rattle.std.specs.Prelude.{◌≡◌, ◌≤◌, length};
+ghost use Rattle.sci_reports.specs.Window.{place_on_line, window};
+
 use crate::faulty::{Cause, FaultyEntry, contents_after, faulty_entry};
 use crate::numbered::{Numbered, placed};
 use sci_command::{push_contents, push_labelled};
@@ -123,19 +126,35 @@ fn push_cause(out: &mut Vec<u8>, at: Numbered, cause: Cause) -> Result<(), Alloc
     }
 }
 
+/// The place of the entry on this line of the text, or behind the last if there is none.
+fn place_on(placed: &[Numbered], text_line: usize) -> usize
+    ensures place { result ≡ place_on_line placed.now text_line }
+    ensures few { result ≤ length placed.now }
+{
+    for place in 0..placed.len() {
+        if placed[place].text_line == text_line {
+            return place;
+        }
+    }
+    placed.len()
+}
+
+/// The entries that are shown around the one on this line of the text: it, and up to three on either side.
+fn around<'a, 'b>(placed: &'b [Numbered<'a>], text_line: usize) -> &'b [Numbered<'a>]
+    ensures { result.now ≡ window placed.now text_line }
+{
+    let from = place_on(placed, text_line).saturating_sub(AROUND);
+    let shown = (placed.len() - from).min(2 * AROUND + 1);
+    &placed[from..from + shown]
+}
+
 /// Appends the lines of entries, of which the one on this line of the text is marked. Nothing if there are none.
 fn push_around(out: &mut Vec<u8>, placed: &[Numbered], marked: usize) -> Result<(), AllocError> {
     if placed.is_empty() {
         return Ok(());
     }
-    let place = placed
-        .iter()
-        .position(|it| it.text_line == marked)
-        .unwrap_or(placed.len());
-    let from = place.saturating_sub(AROUND);
-    let shown = AROUND.saturating_add(AROUND).saturating_add(1);
     push_text(out, "  entries of the line in the order of versions:\n")?;
-    for it in placed.iter().skip(from).take(shown) {
+    for it in around(placed, marked) {
         let mark: &[u8] = if it.text_line == marked {
             b"  > line"
         } else {
