@@ -9,8 +9,8 @@ returns c =
     let label = c.in_ok-push_label.ensures in
     let n2 = mark.1 ∙ ap (λ (l : List ℕ). l ++ mark.0) c.self-2.view_is in (
       event.0 ++ (mark.0 ++ label.0),
-      c.self-3.view_is ∙ joined3 c.args.self.now event.0 mark.0 label.0 c.push_event.new.self c.push_mark.new.out.items c.push_label.new.self
-          event.1 n2 label.1,
+      c.self-3.view_is
+          ∙ joined3 c.args.self.now event.0 mark.0 label.0 c.push_event.new.self c.push_mark.new.out.items c.push_label.new.self event.1 n2 label.1,
       record {
         event = event.0;
         mark = mark.0;
