@@ -6,4 +6,5 @@ pub mod Logs
 pub mod Machine
 pub mod Node
 pub mod Object
+pub mod Order
 pub mod Packet

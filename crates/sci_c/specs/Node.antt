@@ -1,17 +1,21 @@
 -- What the calls for nodes answer.
-use Rattle.std.specs.Prelude.{◌≡◌, ℕ, ◌++◌, List, drop, length, take, Option, Some, None}
+use Rattle.std.specs.Prelude.{◌≡◌, ℕ, ◌++◌, List, drop, length, take, Option, Some, None, ◌<◌, ◌%◌}
 use Rattle.sci_words.specs.declared.event.AskKind.{AskKind}
 use Rattle.sci_words.specs.declared.operation.Op.{Op}
+use Rattle.sci_words.specs.declared.stamped.Stamped.{Stamped}
 use Rattle.sci_packets.specs.declared.packet.Packet.{Packet}
 use Rattle.sci_packets.specs.Spelling.{Spells, spelling}
 use Rattle.sci_history.specs.declared.entry.Entry.{Entry}
 use Rattle.sci_cache.specs.Cache.{Letter, letter_of}
 use Rattle.sci_core.specs.declared.pending.Pending.{Pending}
-use Rattle.sci_core.specs.Node.{NodeOf, node_issuing, node_performing, node_asking, node_replying, pending_on}
+use Rattle.sci_home.specs.Serving.{current_of}
+use Rattle.sci_core.specs.Node.{NodeOf, node_issuing, node_performing, node_asking, node_replying, pending_on, home_of, lines_of}
 use Rattle.sci_c_values.specs.declared.entry.SciEntry.{SciEntry}
 use Rattle.sci_c_values.specs.declared.operation.SciOp.{SciOp}
 use Rattle.sci_c_values.specs.Entry.{entry_struct}
 use Rattle.sci_c_values.specs.Operation.{SaysOp, ask_number, op_struct}
+use Rattle.sci_c_values.specs.declared.stamped.SciStamped.{SciStamped}
+use Rattle.sci_c_values.specs.Stamped.{stamped_struct}
 use Rattle.sci_c.specs.declared.thing.Thing.{Thing}
 use Rattle.sci_c.specs.Kinds.{node_in}
 
@@ -118,3 +122,16 @@ pub record IsPendingOf (line : ℕ) (serial : ℕ) (c : SciOp) (node : NodeOf) :
   pub is_pending : pending_on node line ≡ Some pending
   pub serial_is : serial ≡ pending.serial
   pub struct_is : c ≡ op_struct pending.op
+
+-- the home of the line is here, and has its contents
+pub record IsHomeContents (line : ℕ) (c : SciStamped) (node : NodeOf) : Type 0 where
+  pub here : line < lines_of node
+  pub mine : line % node.cache.nodes ≡ node.cache.me
+  pub contents : Stamped
+  pub current : current_of (home_of node line) ≡ Some contents
+  pub struct_is : c ≡ stamped_struct contents
+
+-- the home of the line is at another node, or it doesn't have its contents
+pub record HasNoContents (line : ℕ) (node : NodeOf) : Type 0 where
+  pub here : line < lines_of node
+  pub none : line % node.cache.nodes ≡ node.cache.me → current_of (home_of node line) ≡ None

@@ -9,6 +9,7 @@ mod logs;
 mod loose;
 mod machine;
 mod node;
+mod ordering;
 mod packet;
 mod taking;
 mod texts;

@@ -1,25 +1,26 @@
 //! Nodes: the controller that a simulator has at each processor.
 
-ghost use Rattle.std.specs.Prelude.{◌≡◌, ◌≢◌, ◌≤◌, ◌<◌, ◌⊎◌, ◌↔◌, Some, None, IsSome};
-ghost use Rattle.sci_core.specs.Node.{IsAtRest, node_performing, node_replying, opening_node, pending_on};
+ghost use Rattle.std.specs.Prelude.{◌≡◌, ◌≢◌, ◌≤◌, ◌<◌, ◌⊎◌, ◌↔◌, Some, None, IsSome, ◌%◌, IfSome};
+ghost use Rattle.sci_home.specs.Serving.{current_of};
+ghost use Rattle.sci_core.specs.Node.{IsAtRest, home_of, lines_of, node_performing, node_replying, opening_node, pending_on};
 ghost use Rattle.sci_core.specs.Size.{IsMachineSize};
 ghost use Rattle.sci_c_values.specs.declared.status.TheConstants.{SCI_MISUSE, SCI_NOT_ENABLED, SCI_NO_MEMORY, SCI_OK, SCI_RANGE};
 ghost use Rattle.sci_c_values.specs.Operation.{SaysNoAsk, SaysNoOp};
 ghost use Rattle.sci_c.specs.declared.thing.Kind.TheVariants as kind;
 ghost use Rattle.sci_c.specs.Kinds.{IsOf, OnNode, node_in};
 ghost use Rattle.sci_c.specs.Machine.{size};
-ghost use Rattle.sci_c.specs.Node.{IsAsk, IsIssue, IsNoAsk, IsNoIssue, IsPendingOf, IsPerformed, IsReply};
+ghost use Rattle.sci_c.specs.Node.{HasNoContents, IsAsk, IsHomeContents, IsIssue, IsNoAsk, IsNoIssue, IsPendingOf, IsPerformed, IsReply};
 
 use crate::closing::{closed, opened};
 use crate::handle::SciObject;
 use crate::thing::{Kind, Thing};
 use sci_c_values::{
-    SCI_MISUSE, SCI_NO_MEMORY, SCI_NOT_ENABLED, SCI_OK, SCI_RANGE, SciEntry, SciOp, ask_in,
-    entry_out, op_in, op_out,
+    SCI_MISUSE, SCI_NO_MEMORY, SCI_NOT_ENABLED, SCI_OK, SCI_RANGE, SciEntry, SciOp, SciStamped,
+    ask_in, entry_out, op_in, op_out, stamped_out,
 };
 use sci_core::Node;
 use sci_packets::encode;
-use sci_words::{Extent, MAX_OPERATIONS};
+use sci_words::{Extent, MAX_OPERATIONS, Stamped};
 use std::alloc::Global;
 
 /// Puts a node's controller into an empty object.
@@ -309,5 +310,50 @@ pub extern "C" fn sci_node_is_at_rest(object: &mut SciObject, at_rest: &mut u32)
             SCI_OK
         }
         _ => SCI_MISUSE,
+    }
+}
+
+/// Reads the contents of a line whose home is at the node, if the home has them.
+#[unsafe(no_mangle)]
+pub extern "C" fn sci_node_home(object: &mut SciObject, line: u8, contents: &mut SciStamped) -> u32
+    ensures found { result ≡ SCI_OK → OnNode object.old.value (IsHomeContents line contents.new) }
+    ensures none { result ≡ SCI_NOT_ENABLED → OnNode object.old.value (HasNoContents line) }
+    ensures range { result ≡ SCI_RANGE → OnNode object.old.value (λ node. lines_of node ≤ line) }
+    ensures misuse { result ≡ SCI_MISUSE → node_in object.old.value ≡ None }
+    ensures status { (result ≤ SCI_MISUSE) × (result ≢ SCI_NO_MEMORY) }
+    ensures same { result ≢ SCI_OK → contents.new ≡ contents.old }
+    ensures kept { object.new.value ≡ object.old.value }
+{
+    if object.live() == 0 {
+        return SCI_MISUSE;
+    }
+    match object.as_mut() {
+        Thing::Node(node) => {
+            if line >= node.extent().lines {
+                return SCI_RANGE;
+            }
+            match home_contents(node, line) {
+                Some(found) => {
+                    *contents = stamped_out(&found);
+                    SCI_OK
+                }
+                None => SCI_NOT_ENABLED,
+            }
+        }
+        _ => SCI_MISUSE,
+    }
+}
+
+/// The contents of a line, if its home is at the node and has them.
+fn home_contents(node: &Node, line: u8) -> Option<Stamped>
+    requires { line < lines_of node.now }
+    ensures mine { IfSome result (λ found. line % node.now.cache.nodes ≡ node.now.cache.me) }
+    ensures found { IfSome result (λ found. current_of (home_of node.now line) ≡ Some found) }
+    ensures none { result ≡ None → line % node.now.cache.nodes ≡ node.now.cache.me
+        → current_of (home_of node.now line) ≡ None }
+{
+    match node.home(line) {
+        Some(home) => home.current(),
+        None => None,
     }
 }

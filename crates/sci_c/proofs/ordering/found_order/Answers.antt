@@ -1,0 +1,63 @@
+use Rattle.std.proofs.Common.{◌≡◌, ◌++◌, ◌∙◌, ℕ, List, Option, drop, length, map, sym, ap, subst}
+use Rattle.std.proofs.lemmas.Simd.{map-map}
+use Rattle.std.proofs.lemmas.List.{length-map}
+use denote.Ref.{Bor}
+use Rattle.std.specs.Global.{Vec}
+use Rattle.sci_words.specs.declared.limits.TheConstants.{MAX_NODES}
+use Rattle.sci_words.specs.declared.stamped.Stamped.{Stamped}
+use Rattle.sci_history.specs.declared.entry.Entry.{Entry}
+use Rattle.sci_history.specs.declared.verdict.FaultKind.{FaultKind}
+use Rattle.sci_history.specs.declared.verdict.Verdict.TheVariants as verdict
+use Rattle.sci_history.specs.declared.order_verdict.OrderVerdict.{OrderVerdict}
+use Rattle.sci_history.specs.declared.order_verdict.OrderVerdict.TheVariants as order_verdict
+use Rattle.sci_history.specs.Audit.{IsFault, entries_of}
+use Rattle.sci_history.specs.Cycle.{IsOrderVerdict}
+use Rattle.sci_history.specs.Lawful.{Lawful}
+use Rattle.sci_history.specs.Placed.{AreOwn}
+use Rattle.sci_history.specs.Sequential.{IsSequentialOrder}
+use Rattle.sci_history.proofs.AuditLines.{verdict_is}
+use Rattle.sci_c_values.specs.declared.entry.SciEntry.{SciEntry}
+use Rattle.sci_c_values.specs.Entry.{entry_struct}
+use Rattle.sci_c.specs.Order.{ref_struct}
+use Rattle.sci_c.proofs.ordering.found_order.Goals as goal
+
+fault_is_none : (line : ℕ) (kind : FaultKind) (at : Option (ℕ × ℕ)) → verdict.Fault line kind at ≡ verdict.Lawful → ⊥
+fault_is_none line kind at e = absurd cc
+
+-- logs with a fault aren't lawful
+faulty_not : (logs : List (List Entry)) (last : List Stamped) (line : ℕ) (kind : FaultKind) (at : Option (ℕ × ℕ)) → AreOwn logs → length logs ≡ MAX_NODES
+    → IsFault logs last line kind at → Lawful logs last → ⊥
+faulty_not logs last line kind at own sixteen fault lawful =
+    fault_is_none line kind at ((verdict_is logs last (verdict.Fault line kind at) own sixteen fault).1 lawful)
+
+-- the same of what was asked for, which is what the logs are
+faulty_for : (logs seen : List (List Entry)) (last kept : List Stamped) (found : OrderVerdict) (line : ℕ) (kind : FaultKind) (at : Option (ℕ × ℕ))
+    → seen ≡ logs → kept ≡ last → found ≡ order_verdict.Fault line kind at → AreOwn seen → length seen ≡ MAX_NODES → IsOrderVerdict seen kept found
+    → Lawful logs last → ⊥
+faulty_for logs seen last kept found line kind at p q r own sixteen h lawful =
+    faulty_not seen kept line kind at own sixteen (subst (IsOrderVerdict seen kept) r h)
+    (subst (λ (ls : List (List Entry)). Lawful ls kept) (sym p) (subst (Lawful logs) (sym q) lawful))
+
+ordered_for : (logs seen : List (List Entry)) (last kept : List Stamped) (found : OrderVerdict) (order : Vec (Bor Entry))
+    → seen ≡ logs → kept ≡ last → found ≡ order_verdict.Order order → IsOrderVerdict seen kept found → IsSequentialOrder logs last (entries_of order.items)
+ordered_for logs seen last kept found order p q r h =
+    subst (λ (ls : List (List Entry)). IsSequentialOrder ls last (entries_of order.items)) p
+    (subst (λ (l : List Stamped). IsSequentialOrder seen l (entries_of order.items)) q (subst (IsOrderVerdict seen kept) r h).1)
+
+pub returns-in-Ok-clause-order : goal.returns-in-Ok-clause-order
+returns-in-Ok-clause-order c = λ ok kind.
+    let order = c.in-Ok-Order.order in
+    let made = c.deref-in-Ok.ensures.value ∙ c.in-Ok.ensures ∙ ap (map ref_struct) c.deref.ensures.value ∙ sym (map-map entry_struct (λ ref. ref.now) order.items) in
+    record {
+      order = entries_of order.items;
+      is_order = ordered_for c.args.journal.now.logs c.logs-logs.result.now c.args.journal.now.last c.last.result.now c.in-Ok-Order.field-0 order
+          c.logs-logs.ensures.logs c.last.ensures c.in-Ok-Order.field-0-is c.in-Ok-Order.ensures.verdict;
+      entries = c.put.ensures.written ok ∙ ap (λ (structs : List SciEntry). structs ++ drop c.put.new.used c.args.entries.now) made;
+      length_is = c.put.ensures.used ∙ ap length made ∙ length-map (entries_of order.items) entry_struct;
+    }
+
+pub returns-in-Ok-Fault-clause-unlawful : goal.returns-in-Ok-Fault-clause-unlawful
+returns-in-Ok-Fault-clause-unlawful c = λ ok kind lawful.
+    faulty_for c.args.journal.now.logs c.logs-logs.result.now c.args.journal.now.last c.last.result.now c.in-Ok-Fault.field-0 _ _ _
+    c.logs-logs.ensures.logs c.last.ensures c.in-Ok-Fault.field-0-is c.nodes-sixteen.ensures.own
+    (sym c.nodes-sixteen.ensures.nodes ∙ c.nodes-sixteen.ensures.sixteen) c.in-Ok-Fault.ensures.verdict lawful

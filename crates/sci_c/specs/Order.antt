@@ -1,0 +1,48 @@
+-- What a look for one order of all entries answers.
+use Rattle.std.specs.Prelude.{◌≡◌, ℕ, ◌<◌, ◌⊎◌, List, ◌++◌, drop, length, map}
+use denote.Ref.{Bor}
+use Rattle.sci_history.specs.declared.entry.Entry.{Entry}
+use Rattle.sci_history.specs.declared.order_verdict.Step.{Step}
+use Rattle.sci_history.specs.Cycle.{HasNoShortcut, IsCycle}
+use Rattle.sci_history.specs.Sequential.{IsSequentialOrder}
+use Rattle.sci_c_values.specs.declared.entry.SciEntry.{SciEntry}
+use Rattle.sci_c_values.specs.Entry.{entry_struct}
+use Rattle.sci_c.specs.Journal.{JournalOf}
+
+-- the struct of an entry behind a reference, and of that of a step
+abbrev pub ref_struct : Bor Entry → SciEntry
+ref_struct ref = entry_struct ref.now
+
+abbrev pub step_struct : Step → SciEntry
+step_struct step = entry_struct step.entry
+
+-- an order of all entries, which makes the logs sequentially consistent, stands over the first structs
+pub record IsOrderIn (old new : List SciEntry) (used : ℕ) (journal : JournalOf) : Type 0 where
+  pub order : List Entry
+  pub is_order : IsSequentialOrder journal.logs journal.last order
+  pub entries : new ≡ map entry_struct order ++ drop used old
+  pub length_is : used ≡ length order
+
+-- a cycle of entries, of which none can be left out, stands there
+pub record IsCycleIn (old new : List SciEntry) (used : ℕ) (journal : JournalOf) : Type 0 where
+  pub steps : List Step
+  pub is_cycle : IsCycle journal.logs steps
+  pub no_shortcut : HasNoShortcut steps
+  pub entries : new ≡ map step_struct steps ++ drop used old
+  pub length_is : used ≡ length steps
+
+-- so many entries have an order, or are such a cycle
+pub record IsOrderOf (used : ℕ) (journal : JournalOf) : Type 0 where
+  pub order : List Entry
+  pub is_order : IsSequentialOrder journal.logs journal.last order
+  pub length_is : used ≡ length order
+
+pub record IsCycleOf (used : ℕ) (journal : JournalOf) : Type 0 where
+  pub steps : List Step
+  pub is_cycle : IsCycle journal.logs steps
+  pub length_is : used ≡ length steps
+
+-- there is less room than the order or the cycle needs
+pub record NeedsRoom (old : List SciEntry) (used : ℕ) (journal : JournalOf) : Type 0 where
+  pub more : length old < used
+  pub found : IsOrderOf used journal ⊎ IsCycleOf used journal

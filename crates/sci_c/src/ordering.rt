@@ -1,0 +1,148 @@
+//! One order of all entries of logs.
+
+ghost use Rattle.std.specs.Prelude.{◌≡◌, ◌≢◌, ◌≤◌, ◌<◌, ◌⊎◌, ◌↔◌, ◌++◌, Some, None, IsSome, IfOk, drop, length, map};
+ghost use Rattle.sci_history.specs.Lawful.{Lawful};
+ghost use Rattle.sci_history.specs.Sequential.{IsSequentiallyConsistent};
+ghost use Rattle.sci_c_values.specs.declared.status.TheConstants.{SCI_FULL, SCI_MISUSE, SCI_NO_MEMORY, SCI_OK};
+ghost use Rattle.sci_c.specs.declared.ordering.TheConstants.{CYCLE, ORDER, UNLAWFUL};
+ghost use Rattle.sci_c.specs.Kinds.{OnLogs, logs_in};
+ghost use Rattle.sci_c.specs.Order.{IsCycleIn, IsOrderIn, NeedsRoom, ref_struct, step_struct};
+
+use crate::handle::SciObject;
+use crate::journal::Journal;
+use crate::thing::Thing;
+use sci_c_values::{SCI_FULL, SCI_MISUSE, SCI_NO_MEMORY, SCI_OK, SciEntry, entry_out};
+use sci_history::{Entry, OrderVerdict, Step, sequential_order};
+use std::alloc::{AllocError, Global};
+
+/// There is an order.
+const ORDER: u32 = 0;
+
+/// There is none: each entry of a cycle would have to come after the next.
+const CYCLE: u32 = 1;
+
+/// The logs are not lawful.
+const UNLAWFUL: u32 = 2;
+
+/// The structs of entries.
+fn structs_of(alloc: Global, order: &[&Entry]) -> Result<Vec<SciEntry>, AllocError>
+    ensures { IfOk result (λ made. made.items ≡ map ref_struct order.now) }
+{
+    order.iter().map(|entry| entry_out(entry)).collect(alloc)
+}
+
+/// The structs of the entries of a cycle.
+fn cycle_structs(alloc: Global, steps: &[Step]) -> Result<Vec<SciEntry>, AllocError>
+    ensures { IfOk result (λ made. made.items ≡ map step_struct steps.now) }
+{
+    steps
+        .iter()
+        .map(|step| entry_out(&step.entry))
+        .collect(alloc)
+}
+
+/// Writes entries over the first ones, if there is room, with the kind of answer, and how many there are.
+fn put(
+    found: u32,
+    made: &[SciEntry],
+    kind: &mut u32,
+    entries: &mut [SciEntry],
+    used: &mut usize,
+) -> u32
+    ensures written { result ≡ SCI_OK → entries.new ≡ made.now ++ drop used.new entries.old }
+    ensures kind { result ≡ SCI_OK → kind.new ≡ found }
+    ensures full { result ≡ SCI_FULL → length entries.old < used.new }
+    ensures used { used.new ≡ length made.now }
+    ensures status { (result ≡ SCI_OK) ⊎ (result ≡ SCI_FULL) }
+    ensures same { result ≢ SCI_OK → entries.new ≡ entries.old }
+    ensures same_kind { result ≢ SCI_OK → kind.new ≡ kind.old }
+{
+    *used = made.len();
+    if made.len() > entries.len() {
+        return SCI_FULL;
+    }
+    entries[..made.len()].copy_from_slice(made);
+    *kind = found;
+    SCI_OK
+}
+
+/// Looks for one order of all entries.
+fn found_order(
+    alloc: Global,
+    journal: &Journal,
+    kind: &mut u32,
+    entries: &mut [SciEntry],
+    used: &mut usize,
+) -> u32
+    ensures order { result ≡ SCI_OK → kind.new ≡ ORDER
+        → IsOrderIn entries.old entries.new used.new journal.now }
+    ensures cycle { result ≡ SCI_OK → kind.new ≡ CYCLE
+        → IsCycleIn entries.old entries.new used.new journal.now }
+    ensures unlawful { result ≡ SCI_OK → kind.new ≡ UNLAWFUL
+        → Lawful journal.now.logs journal.now.last → ⊥ }
+    ensures kinds { result ≡ SCI_OK → kind.new ≤ UNLAWFUL }
+    ensures ordered { result ≡ SCI_OK → ((kind.new ≡ ORDER)
+        ↔ (Lawful journal.now.logs journal.now.last
+        × IsSequentiallyConsistent journal.now.logs journal.now.last)) }
+    ensures full { result ≡ SCI_FULL → NeedsRoom entries.old used.new journal.now }
+    ensures status { (result ≡ SCI_OK) ⊎ ((result ≡ SCI_FULL) ⊎ (result ≡ SCI_NO_MEMORY)) }
+    ensures same { result ≢ SCI_OK → entries.new ≡ entries.old }
+    ensures same_kind { result ≢ SCI_OK → kind.new ≡ kind.old }
+    ensures same_used { result ≡ SCI_NO_MEMORY → used.new ≡ used.old }
+{
+    let logs = journal.logs();
+    // Asked, so that the prover knows that there are sixteen logs, each with its own node's entries.
+    let _sixteen = logs.nodes();
+    match sequential_order(alloc, logs, journal.last()) {
+        Ok(OrderVerdict::Order(order)) => match structs_of(alloc, &order) {
+            Ok(made) => put(ORDER, &made, kind, entries, used),
+            Err(_) => SCI_NO_MEMORY,
+        },
+        Ok(OrderVerdict::Cycle(steps)) => match cycle_structs(alloc, &steps) {
+            Ok(made) => put(CYCLE, &made, kind, entries, used),
+            Err(_) => SCI_NO_MEMORY,
+        },
+        Ok(OrderVerdict::Fault { .. }) => put(UNLAWFUL, &[], kind, entries, used),
+        Err(_) => SCI_NO_MEMORY,
+    }
+}
+
+/// Looks for one order of all entries that makes logs sequentially consistent, and writes it over the first entries, or a cycle
+/// that shows that there is none.
+#[unsafe(no_mangle)]
+pub extern "C" fn sci_logs_order(
+    alloc: Global,
+    object: &mut SciObject,
+    kind: &mut u32,
+    entries: &mut [SciEntry],
+    used: &mut usize,
+) -> u32
+    ensures order { result ≡ SCI_OK → kind.new ≡ ORDER
+        → OnLogs object.old.value (IsOrderIn entries.old entries.new used.new) }
+    ensures cycle { result ≡ SCI_OK → kind.new ≡ CYCLE
+        → OnLogs object.old.value (IsCycleIn entries.old entries.new used.new) }
+    ensures unlawful { result ≡ SCI_OK → kind.new ≡ UNLAWFUL → OnLogs object.old.value
+        (λ journal. Lawful journal.logs journal.last → ⊥) }
+    ensures kinds { result ≡ SCI_OK → kind.new ≤ UNLAWFUL }
+    ensures ordered { result ≡ SCI_OK → OnLogs object.old.value (λ journal.
+        (kind.new ≡ ORDER) ↔ (Lawful journal.logs journal.last
+        × IsSequentiallyConsistent journal.logs journal.last)) }
+    ensures full { result ≡ SCI_FULL
+        → OnLogs object.old.value (NeedsRoom entries.old used.new) }
+    ensures memory { result ≡ SCI_NO_MEMORY → IsSome (logs_in object.old.value) }
+    ensures misuse { result ≡ SCI_MISUSE → logs_in object.old.value ≡ None }
+    ensures status { (result ≡ SCI_OK) ⊎ ((result ≡ SCI_FULL) ⊎ ((result ≡ SCI_NO_MEMORY) ⊎ (result ≡ SCI_MISUSE))) }
+    ensures same { result ≢ SCI_OK → entries.new ≡ entries.old }
+    ensures same_kind { result ≢ SCI_OK → kind.new ≡ kind.old }
+    ensures same_memory { result ≡ SCI_NO_MEMORY → used.new ≡ used.old }
+    ensures same_misuse { result ≡ SCI_MISUSE → used.new ≡ used.old }
+    ensures kept { object.new.value ≡ object.old.value }
+{
+    if object.live() == 0 {
+        return SCI_MISUSE;
+    }
+    match object.as_mut() {
+        Thing::Logs(journal) => found_order(alloc, journal, kind, entries, used),
+        _ => SCI_MISUSE,
+    }
+}
