@@ -161,6 +161,13 @@ enum {
     SCI_LAST_DIFFERS = 5     /* the last contents are others */
 };
 
+/* What a look for one order finds. */
+enum {
+    SCI_ORDER = 0,   /* there is one */
+    SCI_CYCLE = 1,   /* there is none, as a cycle of entries shows */
+    SCI_UNLAWFUL = 2 /* the logs aren't lawful */
+};
+
 /* What an audit finds: on which line, and the entry where the rule fails, if has_entry is 1. */
 typedef struct sci_verdict {
     uint32_t kind;
@@ -380,6 +387,15 @@ sci_status sci_node_accept(sci_node *node, const uint8_t *packet, size_t length)
 **   SCI_MISUSE      The object keeps no node. */
 sci_status sci_node_pending(const sci_node *node, uint8_t line, sci_op *op, uint32_t *serial);
 
+/* Reads the contents of a line whose home is at this node, if the home has them: nobody may have written since (Node::home and
+** sci_home::Home::current). The home of line l is at node l modulo the number of nodes.
+**
+**   SCI_OK
+**   SCI_NOT_ENABLED The home is at another node, or another node may have written.
+**   SCI_RANGE       The machine has no such line.
+**   SCI_MISUSE      The object keeps no node. */
+sci_status sci_node_home(const sci_node *node, uint8_t line, sci_stamped *contents);
+
 /* Tells whether no operation is pending and no line has an entry: 1, and else 0 (Node::is_at_rest).
 **
 **   SCI_OK
@@ -450,6 +466,16 @@ sci_status sci_logs_entry(const sci_logs *logs, uint8_t node, size_t place, sci_
 **   SCI_NO_MEMORY
 **   SCI_MISUSE      The object keeps no logs. */
 sci_status sci_logs_audit(const sci_logs *logs, sci_verdict *verdict);
+
+/* Looks for one order of all entries that keeps the order of each node's log and that one memory of one thread explains, and
+** writes it over the first entries, or a cycle of entries, each of which would have to come after the next, and the last after
+** the first. used is how many they are: all entries, or at most 32 (sci_history::sequential_order).
+**
+**   SCI_OK          kind, entries and used are written. used is 0 for SCI_UNLAWFUL.
+**   SCI_FULL        There is room for less. used says for how many; kind and entries are as they were.
+**   SCI_NO_MEMORY
+**   SCI_MISUSE      The object keeps no logs. */
+sci_status sci_logs_order(const sci_logs *logs, uint32_t *kind, sci_entry *entries, size_t room, size_t *used);
 
 /* Puts the logs whose text the bytes are into an empty object (sci_text::logs_of).
 **

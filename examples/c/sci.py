@@ -15,6 +15,7 @@ from ctypes import POINTER, byref, c_size_t, c_uint8, c_uint16, c_uint32, c_uint
 LOAD, STORE, MASK_SWAP, COMPARE_SWAP, FETCH_ADD, BOUNDED_ADD, WRAP_ADD = range(7)
 ISSUE, PERFORM, ASK, SERVE, REFUSE, REPLY, ACCEPT = range(7)
 MREAD, FREAD, CREAD, CLAIM, CLEAR, PURGE, ROLL, WBACK, SETBACK = range(9)
+ORDER, CYCLE, UNLAWFUL = range(3)
 LAWFUL, VERSION_TWICE, VERSION_MISSING, WRONG_REPLY, OUT_OF_ORDER, LAST_DIFFERS = range(6)
 PACKET_BYTES, PACKET_WORDS, MAX_NODES = 88, 11, 16
 
@@ -142,6 +143,7 @@ SIGNATURES = {
     "node_refuse": (OBJECT, BYTES, c_size_t),
     "node_accept": (OBJECT, BYTES, c_size_t),
     "node_pending": (OBJECT, c_uint8, POINTER(Op), POINTER(c_uint32)),
+    "node_home": (OBJECT, c_uint8, POINTER(Stamped)),
     "node_is_at_rest": (OBJECT, POINTER(c_uint32)),
     "logs_open": (OBJECT, c_uint8, c_uint8),
     "logs_close": (OBJECT,),
@@ -152,6 +154,7 @@ SIGNATURES = {
     "logs_count": (OBJECT, c_uint8, SIZE),
     "logs_entry": (OBJECT, c_uint8, c_size_t, POINTER(Entry)),
     "logs_audit": (OBJECT, POINTER(Verdict)),
+    "logs_order": (OBJECT, POINTER(c_uint32), POINTER(Entry), c_size_t, SIZE),
     "logs_read": (OBJECT, BYTES, c_size_t, POINTER(TextFault)),
     "logs_write": (OBJECT, POINTER(c_uint8), c_size_t, SIZE),
 }
@@ -306,6 +309,13 @@ class Logs(Owner):
         self._call("audit", verdict)
         return verdict
 
+    def order(self):
+        """One order of all entries as ORDER and the entries, or CYCLE and those of a cycle, or UNLAWFUL and none."""
+        kind, used = c_uint32(), c_size_t()
+        entries = (Entry * max(32, sum(1 for _ in self)))()
+        self._call("order", byref(kind), entries, len(entries), byref(used))
+        return kind.value, entries[: used.value]
+
 
 class Machine(Owner):
     """A machine: all nodes, and the packets between them."""
@@ -409,6 +419,15 @@ class Node(Owner):
         except NotEnabled:
             return None
         return op, serial.value
+
+    def home(self, line):
+        """The contents of a line whose home is here, or None if it is elsewhere or another node may have written."""
+        contents = Stamped()
+        try:
+            self._call("home", line, contents)
+        except NotEnabled:
+            return None
+        return contents
 
     def is_at_rest(self):
         """Whether no operation is pending and no line has an entry."""

@@ -48,7 +48,9 @@ static int run(long refused) {
     sci_logs logs = SCI_INIT, read = SCI_INIT;
     sci_verdict verdict = { 9, 9, 9, 9, 9 };
     sci_text_fault fault = { 0, 0, 0 };
+    sci_entry entries[4];
     uint8_t text[4096];
+    uint32_t kind = 9;
     size_t used = 0;
     uint32_t events = 0;
     int was_refused = 0;
@@ -82,6 +84,7 @@ static int run(long refused) {
     MAKE(sci_machine_settle(&machine, &events), machine);
     MAKE(sci_machine_logs(&machine, &logs), logs);
     MAKE(sci_logs_audit(&logs, &verdict), logs);
+    MAKE(sci_logs_order(&logs, &kind, entries, 4, &used), logs);
     MAKE(sci_logs_write(&logs, text, sizeof text, &used), logs);
     MAKE(sci_logs_read(&read, text, used, &fault), read);
     for (uint32_t serial = 1; serial < 20; serial++) {
@@ -89,7 +92,7 @@ static int run(long refused) {
         MAKE(sci_logs_push(&read, &entry), read);
     }
     left = -1;
-    if (verdict.kind != SCI_LAWFUL || events == 0) {
+    if (verdict.kind != SCI_LAWFUL || kind != SCI_ORDER || events == 0) {
         exit(5);
     }
     if (sci_machine_close(&machine) || sci_logs_close(&logs) || sci_logs_close(&read) || live != 0) {

@@ -54,6 +54,7 @@ static void no_logs(void *object) {
     sci_verdict verdict = { 7, 7, 7, 7, 7 };
     sci_entry found = entry;
     uint8_t nodes = 7, lines = 7, text[4] = { 7, 7, 7, 7 };
+    uint32_t number = 7;
     size_t count = 7;
     EXPECT(sci_logs_push(as_logs(object), &entry), SCI_MISUSE);
     EXPECT(sci_logs_set_last(as_logs(object), 0, &stamped), SCI_MISUSE);
@@ -62,13 +63,16 @@ static void no_logs(void *object) {
     EXPECT(sci_logs_count(as_logs(object), 0, &count), SCI_MISUSE);
     EXPECT(sci_logs_entry(as_logs(object), 0, 0, &found), SCI_MISUSE);
     EXPECT(sci_logs_audit(as_logs(object), &verdict), SCI_MISUSE);
+    EXPECT(sci_logs_order(as_logs(object), &number, &found, 1, &count), SCI_MISUSE);
     EXPECT(sci_logs_write(as_logs(object), text, sizeof text, &count), SCI_MISUSE);
+    CHECK(number == 7 && found.version == entry.version);
     CHECK(nodes == 7 && lines == 7 && count == 7 && verdict.kind == 7 && stamped.version == 7 && text[0] == 7);
 }
 
 /* Every call for a node on an object that keeps none. */
 static void no_node(void *object) {
     uint8_t packet[SCI_PACKET_BYTES] = { 7 };
+    sci_stamped stamped = { 7, { 7, 7, 7, 7, 7, 7, 7, 7 } };
     sci_op op = store;
     sci_entry found = entry;
     uint32_t number = 7;
@@ -82,6 +86,8 @@ static void no_node(void *object) {
     EXPECT(sci_node_accept(as_node(object), packet, sizeof packet), SCI_MISUSE);
     EXPECT(sci_node_pending(as_node(object), 0, &op, &number), SCI_MISUSE);
     EXPECT(sci_node_is_at_rest(as_node(object), &number), SCI_MISUSE);
+    EXPECT(sci_node_home(as_node(object), 0, &stamped), SCI_MISUSE);
+    CHECK(stamped.version == 7);
     CHECK(number == 7 && used == 7 && packet[0] == 7);
 }
 
@@ -176,6 +182,7 @@ static void logs(void) {
     sci_verdict verdict = { 7, 7, 7, 7, 7 };
     sci_entry wrong = entry, found = { 7, 7, 7, 7, { 7, 7, 7, 7, 7, 7 }, 7, 7 };
     uint8_t text[128];
+    uint32_t kind = 7;
     size_t used = 7;
     no_logs(&kept);
     EXPECT(sci_logs_open(&kept, 0, 1), SCI_RANGE);
@@ -207,6 +214,20 @@ static void logs(void) {
     CHECK(used == 1);
     EXPECT(sci_logs_audit(&kept, &verdict), SCI_OK);
     CHECK(verdict.kind == SCI_LAST_DIFFERS && verdict.line == 0 && verdict.has_entry == 0);
+    EXPECT(sci_logs_order(&kept, &kind, &found, 1, &used), SCI_OK);
+    CHECK(kind == SCI_UNLAWFUL && used == 0);
+    stamped = (sci_stamped){ 1, { 0, 0, 0, 42, 0, 0, 0, 0 } };
+    EXPECT(sci_logs_set_last(&kept, 0, &stamped), SCI_OK);
+    EXPECT(sci_logs_audit(&kept, &verdict), SCI_OK);
+    CHECK(verdict.kind == SCI_LAWFUL);
+    kind = 7;
+    found.version = 7;
+    EXPECT(sci_logs_order(&kept, &kind, &found, 0, &used), SCI_FULL);
+    CHECK(kind == 7 && used == 1 && found.version == 7);
+    EXPECT(sci_logs_order(&kept, &kind, &found, 1, &used), SCI_OK);
+    CHECK(kind == SCI_ORDER && used == 1 && found.version == 1 && found.op.datum == 42);
+    stamped = (sci_stamped){ 0, { 0, 0, 0, 0, 0, 0, 0, 0 } };
+    EXPECT(sci_logs_set_last(&kept, 0, &stamped), SCI_OK);
     memset(text, 9, sizeof text);
     EXPECT(sci_logs_write(&kept, text, 0, &used), SCI_FULL);
     CHECK(used == length);
@@ -230,6 +251,7 @@ static void logs(void) {
 static void nodes(void) {
     sci_node node = SCI_INIT, home = SCI_INIT;
     uint8_t packet[SCI_PACKET_BYTES], answer[SCI_PACKET_BYTES];
+    sci_stamped stamped = { 7, { 7, 7, 7, 7, 7, 7, 7, 7 } };
     sci_op op = store, wrong = store;
     sci_entry found = entry;
     uint32_t serial = 7;
@@ -282,6 +304,12 @@ static void nodes(void) {
     CHECK(serial == 0);
     EXPECT(sci_node_is_at_rest(&home, &serial), SCI_OK);
     CHECK(serial == 1);
+    EXPECT(sci_node_home(&home, 4, &stamped), SCI_RANGE);
+    EXPECT(sci_node_home(&home, 0, &stamped), SCI_NOT_ENABLED);
+    EXPECT(sci_node_home(&home, 1, &stamped), SCI_NOT_ENABLED);
+    CHECK(stamped.version == 7);
+    EXPECT(sci_node_home(&home, 2, &stamped), SCI_OK);
+    CHECK(stamped.version == 0 && stamped.words[3] == 0);
     EXPECT(sci_machine_close(as_machine(&node)), SCI_MISUSE);
     EXPECT(sci_node_close(&node), SCI_OK);
     EXPECT(sci_node_close(&node), SCI_OK);

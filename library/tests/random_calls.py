@@ -1,6 +1,6 @@
 #!/usr/bin/env python3
 """Random calls of the C library from Python, against the text programs. The same events by `scimem replay` give the same logs; the
-same logs by `scimem audit` give the same verdict, or the same first fault; the controllers of the nodes, wired here, give the
+same logs by `scimem audit` give the same verdict, or the same first fault, and by `sciview order` the same order; the controllers of the nodes, wired here, give the
 same logs as a machine; and packets are those that `scimem decode` prints.
 
     random_calls.py SCIMEM CALLS
@@ -14,7 +14,8 @@ import subprocess
 import sys
 from collections import deque
 
-sys.path.insert(0, os.path.join(os.path.dirname(os.path.abspath(__file__)), "..", "..", "examples", "c"))
+EXAMPLES = os.path.join(os.path.dirname(os.path.abspath(__file__)), "..", "..", "examples")
+sys.path.insert(0, os.path.join(EXAMPLES, "c"))
 import sci  # noqa: E402
 
 ACTS = ("load", "store", "mask-swap", "compare-swap", "fetch-add", "bounded-add", "wrap-add")
@@ -27,6 +28,8 @@ class Tally:
 
     def __init__(self, scimem):
         self.scimem, self.passed, self.failed = scimem, 0, 0
+        beside = scimem.replace("scimem", "sciview")
+        self.sciview = beside if os.path.exists(beside) else None
 
     def same(self, what, found, wanted):
         if found == wanted:
@@ -35,9 +38,9 @@ class Tally:
             self.failed += 1
             print(f"{what} FAILED: {str(found)[:300]} and not {str(wanted)[:300]}", flush=True)
 
-    def ran(self, command, given):
+    def ran(self, command, given, program=None, words=()):
         """What the program writes, of both kinds."""
-        ran = subprocess.run([self.scimem, command], input=given, stdout=subprocess.PIPE, stderr=subprocess.PIPE)
+        ran = subprocess.run([program or self.scimem, command, *words], input=given, stdout=subprocess.PIPE, stderr=subprocess.PIPE)
         return ran.stdout + ran.stderr
 
 
@@ -93,6 +96,31 @@ def printed(tally, text):
     return re.sub(rb"^(fault \d+) [a-z-]+", rb"\1", tally.ran("audit", text))
 
 
+def entry_line(entry):
+    """The line of a log that says an entry."""
+    reply = entry.word if entry.has_word else "-"
+    return f"{entry.node} {entry.serial} {operation(entry.op)} = {reply} @{entry.version}"
+
+
+def ordered(text):
+    """What a look for one order finds, in the words of `sciview order --show`, but for a cycle's entries and an audit's fault."""
+    try:
+        kind, entries = sci.Logs.read(text).order()
+    except sci.BadText:
+        return [b""]
+    if kind == sci.ORDER:
+        return [b"sequentially consistent", *(entry_line(it).encode() for it in entries)]
+    return [b"not sequentially consistent"] if kind == sci.CYCLE else [b"fault"]
+
+
+def shown(tally, text):
+    """The same of the program."""
+    lines = tally.ran("order", text, program=tally.sciview, words=("--show",)).splitlines() or [b""]
+    if lines[0] == b"sequentially consistent":
+        return lines
+    return [next((it for it in (b"not sequentially consistent", b"fault") if lines[0].startswith(it)), b"")]
+
+
 def changed(draw, text):
     """The text with another number, or with bytes that are gone or twice there."""
     number = draw.choice([it.span() for it in re.finditer(rb"\d+", text)])
@@ -125,8 +153,16 @@ def machine_run(tally, draw, calls):
             tally.same("last contents", machine.last(line), logs.last(line))
             copy.set_last(line, logs.last(line))
         tally.same("logs that are pushed again", copy.write(), text)
+        if tally.sciview:
+            tally.same("the order of a log", ordered(text), shown(tally, text))
+        kind, order = logs.order()
+        tally.same("an order", (kind, sorted(order, key=sci.Entry.values)), (sci.ORDER, sorted(entries, key=sci.Entry.values)))
+        for node in range(size[0]):
+            tally.same("the order of a node", [it for it in order if it.node == node], list(logs.of(node)))
         for _ in range(8):
             other = changed(draw, text)
+            if tally.sciview:
+                tally.same("the order of a changed log", ordered(other), shown(tally, other))
             tally.same("a changed log", judged(other), printed(tally, other))
 
 
@@ -189,6 +225,11 @@ def main():
         draw = random.Random(seed)
         machine_run(tally, draw, calls // 20)
         wired_run(tally, draw, calls // 20)
+    with open(os.path.join(EXAMPLES, "store-buffer.log"), "rb") as file:
+        kind, cycle = sci.Logs.read(file.read()).order()
+    tally.same("a cycle", (kind, [(it.node, it.serial) for it in cycle]), (sci.CYCLE, [(0, 0), (1, 1), (1, 0), (0, 1)]))
+    if not tally.sciview:
+        print("sciview isn't built: the comparison of orders is left out")
     print(f"{tally.passed} passed, {tally.failed} failed")
     return 1 if tally.failed else 0
 
