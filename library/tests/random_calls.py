@@ -1,7 +1,7 @@
 #!/usr/bin/env python3
 """Random calls of the C library from Python, against the text programs. The same events by `scimem replay` give the same logs; the
-same logs by `scimem audit` give the same verdict, or the same first fault, and by `sciview order` the same order; the controllers of the nodes, wired here, give the
-same logs as a machine; and packets are those that `scimem decode` prints.
+same logs by `scimem audit` give the same verdict, or the same first fault, and by `sciview order` the same order. The controllers
+of the nodes, wired here, do what a machine does, and their packets are read by `scimem decode`.
 
     random_calls.py SCIMEM CALLS
 

@@ -85,7 +85,7 @@ def c_types(name, written):
         return [TYPES[written]]
     inner = pointer[2]
     if buffer := re.fullmatch(r"\[(\w+)\]", inner):
-        return [f"{TYPES[buffer[1]]} *", "size_t"]
+        return [f"{TYPES.get(buffer[1]) or c_name(buffer[1])} *", "size_t"]
     if array := re.fullmatch(r"\[(\w+); (\d+)\]", inner):
         return [f"{TYPES[array[1]]}[{array[2]}]"]
     return [f"{TYPES.get(inner) or c_name(inner)} *"]
@@ -222,7 +222,7 @@ def main():
     if cc is None:
         print("there is no C compiler: the C library is left out\n0 passed, 0 failed")
         return 0
-    if subprocess.run(["make", "--no-print-directory", "library"], cwd=TOP).returncode:
+    if subprocess.run(["make", "-s", "library"], cwd=TOP).returncode:
         print("0 passed, 1 failed")
         return 1
     check_signatures(tally)

@@ -30,6 +30,8 @@ pub extern "C" fn sci_logs_open(alloc: Global, object: &mut SciObject, nodes: u8
     ensures misuse { result ≡ SCI_MISUSE → IsSome object.old.value }
     ensures range { result ≡ SCI_RANGE → IsSize nodes lines → ⊥ }
     ensures memory { result ≡ SCI_NO_MEMORY → IsSize nodes lines }
+    ensures range_empty { result ≡ SCI_RANGE → object.old.value ≡ None }
+    ensures memory_empty { result ≡ SCI_NO_MEMORY → object.old.value ≡ None }
     ensures status { (result ≤ SCI_MISUSE) × (result ≢ SCI_NOT_ENABLED) }
     ensures same { result ≢ SCI_OK → object.new.value ≡ object.old.value }
 {

@@ -35,6 +35,8 @@ pub extern "C" fn sci_machine_open(
     ensures misuse { result ≡ SCI_MISUSE → IsSome object.old.value }
     ensures range { result ≡ SCI_RANGE → IsMachineSize (size nodes lines slots limit) → ⊥ }
     ensures memory { result ≡ SCI_NO_MEMORY → IsMachineSize (size nodes lines slots limit) }
+    ensures range_empty { result ≡ SCI_RANGE → object.old.value ≡ None }
+    ensures memory_empty { result ≡ SCI_NO_MEMORY → object.old.value ≡ None }
     ensures status { (result ≤ SCI_MISUSE) × (result ≢ SCI_NOT_ENABLED) }
     ensures same { result ≢ SCI_OK → object.new.value ≡ object.old.value }
 {

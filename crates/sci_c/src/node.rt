@@ -42,6 +42,8 @@ pub extern "C" fn sci_node_open(
         → me < nodes → IsMachineSize (size nodes lines slots limit) → ⊥ }
     ensures memory { result ≡ SCI_NO_MEMORY → IsMachineSize (size nodes lines slots limit) }
     ensures memory_me { result ≡ SCI_NO_MEMORY → me < nodes }
+    ensures range_empty { result ≡ SCI_RANGE → object.old.value ≡ None }
+    ensures memory_empty { result ≡ SCI_NO_MEMORY → object.old.value ≡ None }
     ensures status { (result ≤ SCI_MISUSE) × (result ≢ SCI_NOT_ENABLED) }
     ensures same { result ≢ SCI_OK → object.new.value ≡ object.old.value }
 {

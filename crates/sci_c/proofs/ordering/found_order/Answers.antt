@@ -47,8 +47,8 @@ ordered_for logs seen last kept found order p q r h =
 pub returns-in-Ok-clause-order : goal.returns-in-Ok-clause-order
 returns-in-Ok-clause-order c = λ ok kind.
     let order = c.in-Ok-Order.order in
-    let made = c.deref-in-Ok.ensures.value ∙ c.in-Ok.ensures ∙ ap (map ref_struct) c.deref.ensures.value
-    ∙ sym (map-map entry_struct (λ ref. ref.now) order.items) in
+    let made = c.deref-in-Ok.ensures.value ∙ c.in-Ok.ensures ∙ ap (map ref_struct) c.deref.ensures.value ∙
+    sym (map-map entry_struct (λ ref. ref.now) order.items) in
     record {
       order = entries_of order.items;
       is_order = ordered_for c.args.journal.now.logs c.logs-logs.result.now c.args.journal.now.last c.last.result.now c.in-Ok-Order.field-0 order
