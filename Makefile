@@ -47,7 +47,7 @@ crates/sci_c/out/libsci_c.a: $(SOURCES)
 out/library/libsci.so: crates/sci_c/out/libsci_c.a include/sci.h library/support.c library/sci.map library/sci.pc.in scripts/make/library.py
 	@PREFIX="$(PREFIX)" scripts/make/library.py && touch out/library/libsci.so
 
-# Puts the C library, its header and sci.pc into PREFIX/lib, PREFIX/include and PREFIX/lib/pkgconfig, below DESTDIR if that is set.
+# Puts the C library, its header and sci.pc alone into PREFIX/lib, PREFIX/include and PREFIX/lib/pkgconfig, below DESTDIR if that is set.
 install-library: library
 	@install -d "$(DESTDIR)$(PREFIX)/lib/pkgconfig" "$(DESTDIR)$(PREFIX)/include"
 	@install -m 644 include/sci.h "$(DESTDIR)$(PREFIX)/include"
