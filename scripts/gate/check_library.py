@@ -220,7 +220,7 @@ def check_python(tally):
 def main():
     tally, cc = Tally(), library.compiler()
     if cc is None:
-        print("there is no C compiler: the C library is left out\n0 passed, 0 failed")
+        print("there is no C compiler with the headers of the C library: our C library is left out\n0 passed, 0 failed")
         return 0
     if subprocess.run(["make", "-s", "library"], cwd=TOP).returncode:
         print("0 passed, 1 failed")

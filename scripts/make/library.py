@@ -12,11 +12,18 @@ TOP = os.path.dirname(os.path.dirname(os.path.dirname(os.path.abspath(__file__))
 OUT = f"{TOP}/out/library"
 
 
+def works(name):
+    """Whether this is a C compiler that has the headers of the C library."""
+    program = b"#include <stdint.h>\n#include <stdlib.h>\n"
+    how = {"input": program, "stdout": subprocess.DEVNULL, "stderr": subprocess.DEVNULL}
+    return subprocess.run([name, "-fsyntax-only", "-x", "c", "-"], **how).returncode == 0
+
+
 def compiler():
     """The C compiler, or None."""
     kit = shutil.which("rt") and os.path.join(os.path.dirname(os.path.realpath(shutil.which("rt"))), "clang")
     for name in (os.environ.get("CC"), "cc", kit):
-        if name and shutil.which(name):
+        if name and shutil.which(name) and works(name):
             return name
     return None
 
@@ -54,7 +61,7 @@ def build(cc):
 def main():
     cc = compiler()
     if cc is None:
-        print("there is no C compiler: install one, or set CC")
+        print("there is no C compiler with the headers of the C library: install one, or set CC")
         return 1
     build(cc)
     return 0
