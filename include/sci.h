@@ -17,7 +17,7 @@
 ** All else is looked at. Any number may be passed in any field, and what can't be done is answered by a status.
 **
 ** STATUSES. Unless a function says otherwise, a call that answers another status than SCI_OK leaves the object and all that
-** its other arguments lead to as they were. Where more than one status would fit, SCI_MISUSE comes first, then SCI_RANGE.
+** its other arguments lead to as they were. Where more than one status would fit, SCI_MISUSE comes first and SCI_NO_MEMORY last.
 ** What is const stays the same in any case.
 */
 #ifndef SCI_H
