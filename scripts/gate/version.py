@@ -12,6 +12,8 @@ OTHERS = {
     "bench/Cargo.toml": r'^version = "(.*)"',
     "cases/sciview-version/output": r"^sciview (\S+)",
 }
+# The header of the C library has the first two numbers.
+HEADER = "include/sci.h"
 
 
 def found(path, pattern):
@@ -30,3 +32,6 @@ def wrong_versions():
     for path, pattern in OTHERS.items():
         if found(path, pattern) != version():
             yield f"{path} has {found(path, pattern)}, and not {version()}"
+    numbers = ".".join(str(found(HEADER, rf"^#define SCI_VERSION_{part} (\d+)")) for part in ("MAJOR", "MINOR"))
+    if not version().startswith(f"{numbers}."):
+        yield f"{HEADER} has {numbers}, and not the first two numbers of {version()}"
