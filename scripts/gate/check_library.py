@@ -179,9 +179,9 @@ def check_programs(tally, cc, room):
     made.append((cc, C, "examples/c/two_nodes.c", []))
     if cxx:
         tally.run("the header as C++17", [cxx, *CXX, *flags, "-fsyntax-only", "-x", "c++", HEADER])
-        made.append((cxx, CXX, "examples/c/machine.cpp", []))
+        made += [(cxx, CXX, f"examples/c/{name}.cpp", []) for name in ("two_nodes", "machine")]
     else:
-        print("there is no C++ compiler: the example in C++ is left out")
+        print("there is no C++ compiler: the examples in C++ are left out")
     if not shutil.which("valgrind"):
         print("valgrind is missing: leaks are looked for by the counts of the tests alone")
     for compiler, standard, source, more in made:
