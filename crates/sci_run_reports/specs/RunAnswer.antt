@@ -1,5 +1,6 @@
 -- What `run` writes for its input.
-use Rattle.std.specs.Prelude.{◌≡◌, ◌⊎◌, ℕ, Bool, true, false, List, Option}
+use Rattle.std.specs.Prelude.{◌≡◌, ◌≤◌, ◌⊎◌, ℕ, Bool, true, false, List, Option, unwrap_or}
+use Rattle.sci_words.specs.declared.limits.TheConstants.{MAX_TURNS}
 use Rattle.sci_text.specs.declared.fault.TextFaultKind.{TextFaultKind}
 use Rattle.sci_text.specs.declared.fault.TextFaultKind.TheVariants.{TooMany}
 use Rattle.sci_text.specs.FirstFault.{IsTold}
@@ -10,6 +11,7 @@ use Rattle.sci_command.specs.declared.outcome.Outcome.{Outcome}
 use Rattle.sci_command.specs.declared.outcome.Outcome.TheVariants.{Done, Unlawful, Refused}
 use Rattle.sci_command.specs.Input.{IsReadAs}
 use Rattle.sci_command.specs.Refusal.{IsRefusalBy}
+use Rattle.sci_runs.specs.Played.{IsPlayed}
 use Rattle.sci_runs.specs.Runs.{IsRunOf}
 use Rattle.sci_run_reports.specs.declared.running.RunRequest.{RunRequest}
 
@@ -23,13 +25,18 @@ pub record IsScriptText (input : List ℕ) : Type 0 where
 abbrev pub IsRunRefusal : TextFaultKind → Option (List ℕ) → Bool → ℕ → Type 0
 IsRunRefusal kind input failed at = IsTold IsScriptFault kind input failed at ⊎ ((kind ≡ TooMany) × (at ≡ 0) × IsReadAs input failed IsScriptText)
 
--- the input is the text of a script, and the schedule of a run of it is written
+-- The input is the text of a script, and the schedule of a run of it is written. The run has taken as many turns as it may,
+-- unless it is done, in the order that was asked for.
 pub record IsRunText (request : RunRequest) (done : Bool) (input text : List ℕ) : Type 0 where
   pub script : ScriptValue
   pub good : IsScript script
   pub read : input ≡ script_text script
   pub schedule : ScheduleValue
   pub run : IsRunOf script request.issuing done schedule
+  pub turns : ℕ
+  pub played : IsPlayed script request.issuing request.seed turns schedule
+  pub few : turns ≤ unwrap_or request.turns MAX_TURNS
+  pub all : done ≡ false → turns ≡ unwrap_or request.turns MAX_TURNS
   pub written : text ≡ schedule_text schedule
 
 -- what `run` writes, and how it ends, for the bytes of a reader, which has failed or not: Unlawful if the turns were used up
