@@ -61,6 +61,10 @@ pub record SpellsInWords (p : Packet) (words : List ℕ) : Type 0 where
   pub packet : IsPacket p
   pub spelled_so : words ≡ words_of p
 
+-- each packet whose first word this is has so many words
+abbrev pub CountsWords : ℕ → ℕ → Type 0
+CountsWords first count = (p : Packet) (rest : List ℕ) → SpellsInWords p (first ∷ rest) → count ≡ length (first ∷ rest)
+
 -- no packet begins the words
 abbrev pub NoneSpellsInWords : List ℕ → Type 0
 NoneSpellsInWords words = (p : Packet) (k : ℕ) → k ≤ length words → SpellsInWords p (take k words) → ⊥

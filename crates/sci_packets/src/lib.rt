@@ -18,4 +18,4 @@ pub use bytes::{decode, encode};
 pub use fault::PacketFault;
 pub use node_id::NodeId;
 pub use packet::Packet;
-pub use words::{from_words, to_words};
+pub use words::{from_words, to_words, word_count};

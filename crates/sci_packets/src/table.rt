@@ -3,7 +3,7 @@
 ghost use Rattle.std.specs.Prelude.{◌≡◌, IsTrue, IfOk, length};
 ghost use Rattle.std.specs.Result.{result_err};
 ghost use Rattle.sci_packets.specs.Fields.{contents_for};
-ghost use Rattle.sci_packets.specs.Table.{parts as parts_with, parts_of, is_command as is_command_of, body_fault};
+ghost use Rattle.sci_packets.specs.Table.{parts as parts_with, parts_of, is_command as is_command_of, takes_contents as takes_contents_of, body_fault};
 
 use crate::body::Body;
 use crate::command::*;
@@ -75,6 +75,13 @@ pub fn is_command(number: u16) -> bool
     ensures { result ≡ is_command_of number }
 {
     (MREAD..=CLEAR).contains(&number) || (MDATA..=FDATA).contains(&number)
+}
+
+/// Whether the packets of a command have contents.
+pub fn takes_contents(number: u16) -> bool
+    ensures { result ≡ takes_contents_of number }
+{
+    matches!(number, WBACK | MDATA | CDATA | FDATA)
 }
 
 /// The body of a packet with this command and identifier, of which the contents are read where it is spelled.

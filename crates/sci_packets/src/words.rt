@@ -1,17 +1,18 @@
 //! Packets as words: each eight bytes are one word, the highest byte first.
 
-ghost use Rattle.std.specs.Prelude.{◌≡◌, ◌≤◌, ◌↔◌, ◌⊎◌, ℕ, IfOk, IsErr, length, take, drop, ◌++◌};
+ghost use Rattle.std.specs.Prelude.{◌≡◌, ◌≤◌, ◌↔◌, ◌⊎◌, ◌/◌, ◌%◌, ◌^◌, ℕ, IfOk, IsErr, if◌then◌else◌, length, take, drop, ◌++◌};
 ghost use Rattle.std.specs.Result.{result_err};
 ghost use Rattle.sci_packets.specs.declared.packet.Packet.{Packet};
 ghost use Rattle.sci_packets.specs.Fault.{fault_of_words};
-ghost use Rattle.sci_packets.specs.Spelling.{IsPacket, SpellsInWords, NoneSpellsInWords, words_of};
+ghost use Rattle.sci_packets.specs.Spelling.{CountsWords, IsPacket, SpellsInWords, NoneSpellsInWords, words_of};
+ghost use Rattle.sci_packets.specs.Table.{takes_contents as takes_contents_of};
 
 use crate::bytes::{header_for, packet_of, size_of};
 use crate::contents::{InWords, LONG_WORDS, write_contents_words};
 use crate::fault::PacketFault;
 use crate::header::Header;
 use crate::packet::Packet;
-use crate::table::parts_in;
+use crate::table::{parts_in, takes_contents};
 
 /// The words of a packet without contents.
 const SHORT_WORDS: usize = 2;
@@ -34,6 +35,20 @@ pub fn to_words(p: &Packet, to: &mut [u64; 11]) -> usize
             write_contents_words(contents.version, &contents.line, to);
             LONG_WORDS
         }
+    }
+}
+
+/// How many words the packet has whose first word this is: 2, or 11 if its command is one with contents. A word that
+/// begins no packet is counted by the same 16 bits, the second highest.
+pub fn word_count(first: u64) -> usize
+    ensures command { result ≡ (if takes_contents_of (first / 2 ^ 32 % 2 ^ 16) then 11 else 2) }
+    ensures packet { CountsWords first result }
+    ensures sizes { (result ≡ 2) ⊎ (result ≡ 11) }
+{
+    if takes_contents((first / 0x1_0000_0000 % 0x1_0000) as u16) {
+        LONG_WORDS
+    } else {
+        SHORT_WORDS
     }
 }
 
