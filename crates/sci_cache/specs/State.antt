@@ -66,3 +66,30 @@ contents_of (Clearing c) = Some c
 contents_of (Returning c) = Some c
 contents_of (Rolling f b c) = Some c
 contents_of _ = None
+
+-- the node that stands behind an entry, or will if it is joining: the old head
+unfoldable pub forward_of : CacheState → Option ℕ
+forward_of (Joining p sent) = Some p
+forward_of (FreshJoining p sent c) = Some p
+forward_of (Head f c) = f
+forward_of (FreshHead f c) = f
+forward_of (Below f b c) = f
+forward_of (Purging q c) = Some q
+forward_of (Claiming f c) = f
+forward_of (Rolling f b c) = f
+forward_of (Telling r w sent) = Some r
+forward_of _ = None
+
+-- the node that stands before an entry
+unfoldable pub backward_of : CacheState → Option ℕ
+backward_of (Below f b c) = Some b
+backward_of (Rolling f b c) = Some b
+backward_of (Telling r w sent) = Some w
+backward_of _ = None
+
+-- whether the request was sent, of the states that come before and after it
+unfoldable pub is_sent : CacheState → Bool
+is_sent (Joining p sent) = sent
+is_sent (FreshJoining p sent c) = sent
+is_sent (Telling r w sent) = sent
+is_sent _ = false

@@ -188,45 +188,33 @@ impl Cache {
         ensures same { IsErr result → self.new ≡ self.old }
         ensures lines { length self.new.lines ≡ length self.old.lines }
     {
-        let packet = self.packet_asked(line, kind)?;
+        let packet = self.asked(line, kind)?;
         self.apply_ask(line, kind);
         Ok(packet)
     }
 
-    /// The packet that an ask of this kind about a line would send now, or None if the ask would be refused.
-    /// Requires that there is such a line.
-    pub fn asked(&self, line: u8, kind: AskKind) -> Option<Packet>
-        requires { line < length self.now.lines }
-        ensures asked { IfSome result
-            (λ packet. (next : CacheOf)
-            × (cache_asking self.now line kind ≡ Ok (next, letter_of packet))) }
-        ensures refused { result ≡ None → IsErr (cache_asking self.now line kind) }
-    {
-        // In place of `ok()`, for which the toolchain builds no proof here.
-        match self.packet_asked(line, kind) {
-            Ok(packet) => Some(packet),
-            Err(_) => None,
-        }
-    }
-
-    /// What `ask` would answer.
-    fn packet_asked(&self, line: u8, kind: AskKind) -> Result<Packet, AskFault>
+    /// The packet that `ask` would give now, or its refusal. Requires that there is such a line.
+    pub fn asked(&self, line: u8, kind: AskKind) -> Result<Packet, AskFault>
         requires { line < length self.now.lines }
         ensures asked { IfOk result
             (λ packet. (next : CacheOf)
             × (cache_asking self.now line kind ≡ Ok (next, letter_of packet))) }
         ensures refused { IfErr result (λ fault. cache_asking self.now line kind ≡ Err fault) }
     {
-        let free = self.has_slot();
-        let home = self.home_of(line);
         let part = &self.lines[usize::from(line)];
-        let question = part.asked(kind, free)?;
+        let Some((to, body)) = part.held().asked(kind) else {
+            return Err(AskFault::NotNow);
+        };
+        if part.is_out() && !self.has_slot() {
+            return Err(AskFault::NoSlot);
+        }
+        let home = self.home_of(line);
         Ok(Packet {
-            target: question.to.unwrap_or(home),
+            target: to.unwrap_or(home),
             source: node(self.me),
-            control: question.control,
+            control: part.next_control(),
             line: u64::from(line),
-            body: question.request,
+            body,
         })
     }
 

@@ -5,6 +5,7 @@
 mod accept;
 mod ask;
 mod cache;
+mod entry;
 mod fault;
 mod held;
 pub mod laws;

@@ -1,6 +1,6 @@
 //! A cache's part for one line.
 
-use crate::fault::{AskFault, NotAwaited};
+use crate::fault::NotAwaited;
 use crate::held::Held;
 use crate::states::OutState;
 use sci_packets::{Body, NodeId};
@@ -23,14 +23,6 @@ impl Model for CachedLine {
     ghost use Rattle.sci_cache.specs.Held.{state_of};
 
     ghost view = { λ line. record { state = state_of line.held; asks = line.asks } };
-}
-
-/// A request of a line: to whom, None for the line's home, what, and its control number.
-#[derive(Clone, Copy, Drop)]
-pub(crate) struct Question {
-    pub to: Option<NodeId>,
-    pub request: Body,
-    pub control: u16,
 }
 
 impl CachedLine {
@@ -77,26 +69,11 @@ impl CachedLine {
         self.held.is_out()
     }
 
-    /// The request of this kind; `free` says whether a version slot is free.
-    pub(crate) fn asked(&self, kind: AskKind, free: bool) -> Result<Question, AskFault>
-        ensures made { IfOk result
-            (λ question. (next : CacheState)
-            × (line_asking self.now kind free
-            ≡ Ok (record { to = question.to; request = question.request; next = next }))) }
-        ensures refused { IfErr result (λ fault. line_asking self.now kind free ≡ Err fault) }
-        ensures control { IfOk result (λ question. question.control ≡ next_control self.now) }
+    /// The control number of the line's next ask.
+    pub(crate) fn next_control(&self) -> u16
+        ensures { result ≡ next_control self.now }
     {
-        let Some((to, request)) = self.held.asked(kind) else {
-            return Err(AskFault::NotNow);
-        };
-        if self.held.is_out() && !free {
-            return Err(AskFault::NoSlot);
-        }
-        Ok(Question {
-            to,
-            request,
-            control: self.asks,
-        })
+        self.asks
     }
 
     /// Makes the request of this kind. Requires that the state makes it.

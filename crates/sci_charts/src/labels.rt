@@ -6,7 +6,7 @@ use sci_core::Machine;
 use sci_home::HomeState;
 use sci_packets::{Body, NodeId};
 use sci_text::{push_entry, push_field, push_text};
-use sci_traces::{backward, forward, head, home_name, push_node, state_name};
+use sci_traces::{home_name, push_node, state_name};
 use std::alloc::AllocError;
 
 /// What a chart says of a cache's state: its name and its neighbours.
@@ -22,8 +22,8 @@ impl CacheSight {
     fn of(held: &Held) -> CacheSight {
         CacheSight {
             name: state_name(held),
-            forward: forward(held),
-            backward: backward(held),
+            forward: held.forward(),
+            backward: held.backward(),
         }
     }
 
@@ -75,7 +75,7 @@ impl Sight {
 /// Appends what a home knows, as `GONE 2`.
 fn push_home(out: &mut Vec<u8>, state: &HomeState) -> Result<(), AllocError> {
     push_text(out, home_name(*state))?;
-    match head(*state) {
+    match state.head() {
         Some(head) => push_field(out, u64::from(head.get())),
         None => Ok(()),
     }

@@ -4,7 +4,6 @@ ghost use Rattle.std.specs.Prelude.{◌≡◌, ◌&&◌, map};
 ghost use Rattle.std.specs.List.{list_any};
 ghost use Rattle.sci_packets.specs.Table.{is_request};
 ghost use Rattle.sci_cache.specs.Held.{state_of};
-ghost use Rattle.sci_cache.specs.State.{waits as waits_of};
 ghost use Rattle.sci_cache.specs.Cache.{letter_of};
 ghost use Rattle.sci_core.specs.Sharing.{asked_node as asked_node_of, asks_about};
 
@@ -12,19 +11,6 @@ use crate::lane::{Lane, LaneKind};
 use crate::state::State;
 use sci_cache::Held;
 use sci_packets::{Body, Packet};
-
-/// Whether a line awaits an answer.
-fn waits(held: &Held) -> bool
-    ensures { result ≡ waits_of (state_of held.now) }
-{
-    match held {
-        Held::Out(_) | Held::Head(_) | Held::FreshHead(_) | Held::Below(_) => false,
-        Held::Joining(state) => state.sent,
-        Held::FreshJoining(state) => state.sent,
-        Held::Telling(state) => state.sent,
-        _ => true,
-    }
-}
 
 /// The node to which the request of a line that waits went, as its state has it. None if the state doesn't say.
 fn asked_node(held: &Held, home: u16) -> Option<u16>
@@ -91,7 +77,7 @@ impl State {
         ensures { IfSome result (λ answer. answer ≡ answer_to_of self.now n line) }
     {
         let held = self.node(n).held(line);
-        if !waits(held) {
+        if !held.waits() {
             return Some(None);
         }
         let home = u16::from(line % self.nodes());

@@ -15,6 +15,22 @@ pub enum LaneKind {
     Answers,
 }
 
+impl LaneKind {
+    ghost use Rattle.std.specs.Prelude.{◌≡◌, ◌<◌};
+    ghost use Rattle.sci_core.specs.Core.{kind_number};
+
+    /// Its number in the order of lanes: those of requests stand before those of answers.
+    pub fn index(self) -> usize
+        ensures number { result ≡ kind_number self }
+        ensures below { result < 2 }
+    {
+        match self {
+            LaneKind::Requests => 0,
+            LaneKind::Answers => 1,
+        }
+    }
+}
+
 /// The packets of one kind that are under way from one node to another, oldest first. Contracts see the list of
 /// them.
 #[derive(Drop)]

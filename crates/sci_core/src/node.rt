@@ -264,7 +264,11 @@ impl Node {
         if line >= self.extent.lines {
             return None;
         }
-        self.cache.asked(line, kind)
+        // By a `match`, as in `ask`.
+        match self.cache.asked(line, kind) {
+            Ok(packet) => Some(packet),
+            Err(_) => None,
+        }
     }
 
     /// Serves a request: its answer waits then. False, unchanged, if an answer waits already.

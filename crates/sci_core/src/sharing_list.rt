@@ -2,15 +2,10 @@
 //! that may change the line, and the line's last contents.
 
 ghost use Rattle.std.specs.Prelude.{◌≡◌, None, IfSome, IsSome, option_copied};
-ghost use Rattle.sci_cache.specs.Held.{state_of};
-ghost use Rattle.sci_cache.specs.Member.{link_of};
-ghost use Rattle.sci_home.specs.Serving.{head_of};
 
 use crate::last::contents_held;
 use crate::state::State;
-use sci_cache::Held;
-use sci_home::HomeState;
-use sci_packets::{Body, NodeId};
+use sci_packets::NodeId;
 use sci_words::Stamped;
 use std::alloc::{AllocError, Global};
 
@@ -37,54 +32,6 @@ struct Authority {
 struct Members {
     nodes: Vec<u8>,
     authority: Option<Authority>,
-}
-
-/// The entry behind a member, or none at a list's end, by its state and the answer that is under way to it; None for a
-/// line that is no member.
-fn link(held: &Held, answer: &Option<Body>) -> Option<Option<NodeId>>
-    ensures { result ≡ link_of (state_of held.now) answer.now }
-{
-    match held {
-        Held::Asking(_) => match answer {
-            Some(Body::Mdata(_)) => Some(None),
-            Some(Body::Mgone { old_head }) => Some(Some(*old_head)),
-            Some(Body::Fdata { old_head, .. }) => Some(*old_head),
-            _ => None,
-        },
-        Held::Joining(state) => Some(Some(state.old_head)),
-        Held::FreshJoining(state) => Some(Some(state.old_head)),
-        Held::Head(state) if answer.is_none() => Some(state.forward),
-        Held::FreshHead(state) if answer.is_none() => Some(state.forward),
-        Held::Below(state) if answer.is_none() => Some(state.forward),
-        Held::Purging(state) => match answer {
-            None | Some(Body::Busy) => Some(Some(state.next)),
-            Some(Body::Purged { forward }) => Some(*forward),
-            _ => None,
-        },
-        Held::Claiming(state) => match answer {
-            None | Some(Body::Busy | Body::Wbok | Body::Wbno) => Some(state.forward),
-            _ => None,
-        },
-        Held::Clearing(_) | Held::Returning(_) => match answer {
-            None | Some(Body::Busy | Body::Wbno) => Some(None),
-            _ => None,
-        },
-        Held::Rolling(state) => match answer {
-            None | Some(Body::Busy) => Some(state.forward),
-            _ => None,
-        },
-        _ => None,
-    }
-}
-
-/// The head of the list that a home knows.
-fn head(state: HomeState) -> Option<NodeId>
-    ensures { result ≡ head_of state }
-{
-    match state {
-        HomeState::Home(_) => None,
-        HomeState::Fresh { head, .. } | HomeState::Gone { head } => Some(head),
-    }
 }
 
 /// Notes the authority: a node that has the contents.
@@ -118,7 +65,7 @@ impl State {
         ensures { result ≡ head_of (home_at self.now line) }
     {
         match self.node(line % self.nodes()).home(line) {
-            Some(home) => head(home.state()),
+            Some(home) => home.state().head(),
             None => unreachable!(),
         }
     }
@@ -140,7 +87,7 @@ impl State {
         let held = self.node(n).held(line);
         let answer = self.answer_to(n, line);
         note(found, n, contents_held(held, &answer));
-        match link(held, &answer) {
+        match held.link(&answer) {
             Some(behind) => behind,
             None => unreachable!(),
         }

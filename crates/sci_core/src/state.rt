@@ -42,11 +42,7 @@ impl State {
         ensures below { result < 2 * self.now.size.nodes * self.now.size.nodes }
     {
         let nodes = usize::from(self.extent.nodes);
-        let first = match kind {
-            LaneKind::Requests => 0,
-            LaneKind::Answers => 1,
-        };
-        (first * nodes + from) * nodes + to
+        (kind.index() * nodes + from) * nodes + to
     }
 
     /// All lines Out and HOME with zero words at version 0, and all else empty. Refused if memory is.

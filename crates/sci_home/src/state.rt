@@ -18,7 +18,17 @@ pub enum HomeState {
 
 impl HomeState {
     ghost use Rattle.std.specs.Prelude.{◌≡◌};
-    ghost use Rattle.sci_home.specs.Serving.{serving_mread, serving_fread, serving_claim, serving_clear, serving_wback};
+    ghost use Rattle.sci_home.specs.Serving.{head_of, serving_mread, serving_fread, serving_claim, serving_clear, serving_wback};
+
+    /// The head of the list that the home knows.
+    pub fn head(&self) -> Option<NodeId>
+        ensures { result ≡ head_of self.now }
+    {
+        match self {
+            HomeState::Home(_) => None,
+            HomeState::Fresh { head, .. } | HomeState::Gone { head } => Some(*head),
+        }
+    }
 
     /// Serves an Mread of `sender`, and gives the answer.
     pub(crate) fn serve_mread(&mut self, sender: NodeId) -> Body

@@ -30,12 +30,8 @@ impl CellId {
     pub(crate) fn lane(&self, nodes: u8) -> usize
         ensures { result ≡ lane_number nodes self.now }
     {
-        let kind = match self.kind {
-            LaneKind::Requests => 0,
-            LaneKind::Answers => 1,
-        };
         let nodes = usize::from(nodes);
-        (kind * nodes + usize::from(self.sender)) * nodes + usize::from(self.receiver)
+        (self.kind.index() * nodes + usize::from(self.sender)) * nodes + usize::from(self.receiver)
     }
 
     /// The number of the cell's lane among the lanes to its receiver: the quotient of `lane` by the number of nodes.
@@ -46,11 +42,7 @@ impl CellId {
         ensures few { self.now.sender < nodes → result < 2 * nodes }
     {
         let sender = self.sender;
-        let kind = match self.kind {
-            LaneKind::Requests => 0,
-            LaneKind::Answers => 1,
-        };
-        kind * usize::from(nodes) + usize::from(sender)
+        self.kind.index() * usize::from(nodes) + usize::from(sender)
     }
 
     /// Where a word of the cell stands in the table of a machine of so many nodes.

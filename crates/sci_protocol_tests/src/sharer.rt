@@ -51,21 +51,20 @@ impl Sharer {
         if line >= self.lines {
             return None;
         }
-        let told = self.cache.asked(line, kind)?;
-        match self.cache.ask(line, kind) {
-            Ok(request) if request == told => Some(request),
+        match (self.cache.asked(line, kind), self.cache.ask(line, kind)) {
+            (Ok(told), Ok(request)) if request == told => Some(request),
             _ => None,
         }
     }
 
-    /// Why this kind isn't asked about a line, nor told that it would be.
+    /// Why this kind isn't asked about a line, which `asked` must give before.
     pub fn refusal(&mut self, line: u8, kind: AskKind) -> Option<AskFault> {
-        if line >= self.lines || self.cache.asked(line, kind).is_some() {
+        if line >= self.lines {
             return None;
         }
-        match self.cache.ask(line, kind) {
-            Ok(_) => None,
-            Err(fault) => Some(fault),
+        match (self.cache.asked(line, kind), self.cache.ask(line, kind)) {
+            (Err(told), Err(fault)) if fault == told => Some(fault),
+            _ => None,
         }
     }
 
@@ -75,11 +74,11 @@ impl Sharer {
             return None;
         }
         match self.cache.asked(line, kind) {
-            Some(request) => {
+            Ok(request) => {
                 self.cache.apply_ask(line, kind);
                 Some(request)
             }
-            None => None,
+            Err(_) => None,
         }
     }
 

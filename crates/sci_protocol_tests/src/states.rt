@@ -3,7 +3,6 @@
 use crate::words::{Link, push_contents, push_link};
 use sci_cache::Held;
 use sci_home::HomeState;
-use sci_words::Stamped;
 use std::alloc::{AllocError, Global};
 
 fn name(held: &Held) -> &'static str {
@@ -51,30 +50,6 @@ fn before(held: &Held) -> Option<Link> {
     }
 }
 
-fn is_sent(held: &Held) -> bool {
-    match held {
-        Held::Joining(state) => state.sent,
-        Held::FreshJoining(state) => state.sent,
-        Held::Telling(state) => state.sent,
-        _ => false,
-    }
-}
-
-fn contents(held: &Held) -> Option<Stamped> {
-    match held {
-        Held::FreshJoining(state) => Some(state.contents),
-        Held::Head(state) => Some(state.contents),
-        Held::FreshHead(state) => Some(state.contents),
-        Held::Below(state) => Some(state.contents),
-        Held::Purging(state) => Some(state.contents),
-        Held::Claiming(state) => Some(state.contents),
-        Held::Clearing(state) => Some(state.contents),
-        Held::Returning(state) => Some(state.contents),
-        Held::Rolling(state) => Some(state.contents),
-        _ => None,
-    }
-}
-
 /// The state of a line in a cache, as `Below forward none backward 1 @1 7` or `Joining old 0 sent`.
 pub fn state_text(alloc: Global, held: &Held) -> Result<String, AllocError> {
     let mut text = String::from_str(alloc, name(held))?;
@@ -84,10 +59,10 @@ pub fn state_text(alloc: Global, held: &Held) -> Result<String, AllocError> {
     if let Some((label, node)) = before(held) {
         push_link(&mut text, label, node)?;
     }
-    if is_sent(held) {
+    if held.is_sent() {
         text.push_str(" sent")?;
     }
-    if let Some(contents) = contents(held) {
+    if let Some(contents) = held.contents() {
         text.push(' ')?;
         push_contents(&mut text, &contents)?;
     }

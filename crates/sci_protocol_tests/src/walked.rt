@@ -127,11 +127,7 @@ impl Walked {
 
     fn place(&self, kind: LaneKind, from: u8, to: u8) -> usize {
         let nodes = usize::from(self.extent.nodes);
-        let first = match kind {
-            LaneKind::Requests => 0,
-            LaneKind::Answers => 1,
-        };
-        (first * nodes + usize::from(from)) * nodes + usize::from(to)
+        (kind.index() * nodes + usize::from(from)) * nodes + usize::from(to)
     }
 
     /// The packets under way from one node to another, oldest first.

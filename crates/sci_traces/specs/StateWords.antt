@@ -2,7 +2,7 @@
 use Rattle.std.specs.Prelude.{ℕ, Bool, false, List, [], ◌++◌, codes, Option, Some, None, if◌then◌else◌}
 use Rattle.sci_words.specs.declared.stamped.Stamped.{Stamped}
 use Rattle.sci_cache.specs.State.{CacheState, Out, Asking, Joining, FreshJoining, Head, FreshHead, Below, Purging, Claiming, Clearing, Returning, Rolling}
-use Rattle.sci_cache.specs.State.{Telling, Fading, contents_of}
+use Rattle.sci_cache.specs.State.{Telling, Fading, backward_of, contents_of, forward_of, is_sent}
 use Rattle.sci_home.specs.declared.state.HomeState.{HomeState}
 use Rattle.sci_home.specs.declared.state.HomeState.TheVariants as home
 use Rattle.sci_home.specs.Serving.{current_of, head_of}
@@ -24,33 +24,6 @@ state_name (Returning c) = codes "Returning"
 state_name (Rolling f b c) = codes "Rolling"
 state_name (Telling r w sent) = codes "Telling"
 state_name Fading = codes "Fading"
-
--- the node that stands behind an entry, or will if it is joining: the old head
-unfoldable pub forward_of : CacheState → Option ℕ
-forward_of (Joining p sent) = Some p
-forward_of (FreshJoining p sent c) = Some p
-forward_of (Head f c) = f
-forward_of (FreshHead f c) = f
-forward_of (Below f b c) = f
-forward_of (Purging q c) = Some q
-forward_of (Claiming f c) = f
-forward_of (Rolling f b c) = f
-forward_of (Telling r w sent) = Some r
-forward_of _ = None
-
--- the node that stands before an entry
-unfoldable pub backward_of : CacheState → Option ℕ
-backward_of (Below f b c) = Some b
-backward_of (Rolling f b c) = Some b
-backward_of (Telling r w sent) = Some w
-backward_of _ = None
-
--- whether the request was sent, of the states that come before and after it
-unfoldable pub is_sent : CacheState → Bool
-is_sent (Joining p sent) = sent
-is_sent (FreshJoining p sent c) = sent
-is_sent (Telling r w sent) = sent
-is_sent _ = false
 
 -- a label and a node, if there is one
 unfoldable pub node_text : List ℕ → Option ℕ → List ℕ

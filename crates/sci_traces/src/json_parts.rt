@@ -9,7 +9,7 @@ ghost use Rattle.sci_traces.specs.JsonParts.{both_members, contents_members, ent
 use crate::json_members::{
     write_flag, write_null, write_number, write_text, write_word, write_words,
 };
-use crate::state_words::{backward, contents, forward, head, home_name, is_sent, state_name};
+use crate::state_words::{home_name, state_name};
 use json::Writer;
 use sci_cache::Held;
 use sci_command::command_name;
@@ -101,10 +101,10 @@ pub fn write_state(out: &mut Writer, held: &Held) -> Result<(), AllocError>
     ensures { OnOk result (Adds out.old out.new (state_members (state_of held.now))) }
 {
     write_text(out, "state", state_name(held))?;
-    write_node(out, "forward", forward(held))?;
-    write_node(out, "backward", backward(held))?;
-    write_flag(out, "sent", is_sent(held))?;
-    write_version(out, contents(held))
+    write_node(out, "forward", held.forward())?;
+    write_node(out, "backward", held.backward())?;
+    write_flag(out, "sent", held.is_sent())?;
+    write_version(out, held.contents())
 }
 
 /// Writes the members of a home's state. Refused if memory is.
@@ -113,7 +113,7 @@ pub fn write_home(out: &mut Writer, home: &Home) -> Result<(), AllocError>
     ensures { OnOk result (Adds out.old out.new (home_members home.now)) }
 {
     write_text(out, "state", home_name(home.state()))?;
-    write_node(out, "head", head(home.state()))?;
+    write_node(out, "head", home.state().head())?;
     write_version(out, home.current())
 }
 

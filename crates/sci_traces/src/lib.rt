@@ -14,5 +14,5 @@ mod tracing;
 pub use event_words::{LineWords, push_changes, standing};
 pub use listing::lists;
 pub use sending::packets;
-pub use state_words::{backward, forward, head, home_name, push_node, state_name};
+pub use state_words::{home_name, push_node, state_name};
 pub use tracing::{TraceRequest, trace};

@@ -2,9 +2,7 @@
 
 ghost use Rattle.std.specs.Prelude.{◌≡◌, ◌++◌, OnOk};
 ghost use Rattle.sci_cache.specs.Held.{state_of};
-ghost use Rattle.sci_cache.specs.State.{contents_of};
-ghost use Rattle.sci_home.specs.Serving.{head_of};
-ghost use Rattle.sci_traces.specs.StateWords.{backward_of, forward_of, home_name as home_name_of, home_text, is_sent as is_sent_of, node_text, sent_text, state_name as state_name_of, state_text, version_text};
+ghost use Rattle.sci_traces.specs.StateWords.{home_name as home_name_of, home_text, node_text, sent_text, state_name as state_name_of, state_text, version_text};
 
 use sci_cache::Held;
 use sci_command::push_labelled;
@@ -34,69 +32,6 @@ pub fn state_name(held: &Held) -> &'static str
         Held::Rolling(_) => "Rolling",
         Held::Telling(_) => "Telling",
         Held::Fading(_) => "Fading",
-    }
-}
-
-/// The node behind an entry, or the old head for one that is joining.
-#[tactic(auto, unfolding(crate::specs::StateWords::forward_of))]
-pub fn forward(held: &Held) -> Option<NodeId>
-    ensures { result ≡ forward_of (state_of held.now) }
-{
-    match held {
-        Held::Joining(state) => Some(state.old_head),
-        Held::FreshJoining(state) => Some(state.old_head),
-        Held::Head(state) => state.forward,
-        Held::FreshHead(state) => state.forward,
-        Held::Below(state) => state.forward,
-        Held::Purging(state) => Some(state.next),
-        Held::Claiming(state) => state.forward,
-        Held::Rolling(state) => state.forward,
-        Held::Telling(state) => Some(state.behind),
-        _ => None,
-    }
-}
-
-/// The node before an entry.
-#[tactic(auto, unfolding(crate::specs::StateWords::backward_of))]
-pub fn backward(held: &Held) -> Option<NodeId>
-    ensures { result ≡ backward_of (state_of held.now) }
-{
-    match held {
-        Held::Below(state) => Some(state.backward),
-        Held::Rolling(state) => Some(state.backward),
-        Held::Telling(state) => Some(state.before),
-        _ => None,
-    }
-}
-
-/// Whether the request was sent, of the states that come before and after it.
-#[tactic(auto, unfolding(crate::specs::StateWords::is_sent))]
-pub fn is_sent(held: &Held) -> bool
-    ensures { result ≡ is_sent_of (state_of held.now) }
-{
-    match held {
-        Held::Joining(state) => state.sent,
-        Held::FreshJoining(state) => state.sent,
-        Held::Telling(state) => state.sent,
-        _ => false,
-    }
-}
-
-/// The contents that a state has.
-pub fn contents(held: &Held) -> Option<Stamped>
-    ensures { result ≡ contents_of (state_of held.now) }
-{
-    match held {
-        Held::FreshJoining(state) => Some(state.contents),
-        Held::Head(state) => Some(state.contents),
-        Held::FreshHead(state) => Some(state.contents),
-        Held::Below(state) => Some(state.contents),
-        Held::Purging(state) => Some(state.contents),
-        Held::Claiming(state) => Some(state.contents),
-        Held::Clearing(state) => Some(state.contents),
-        Held::Returning(state) => Some(state.contents),
-        Held::Rolling(state) => Some(state.contents),
-        _ => None,
     }
 }
 
@@ -144,10 +79,10 @@ pub fn push_state(out: &mut Vec<u8>, held: &Held) -> Result<(), AllocError>
     ensures { OnOk result (out.new.items ≡ out.old.items ++ state_text (state_of held.now)) }
 {
     push_text(out, state_name(held))?;
-    push_node(out, b" forward", forward(held))?;
-    push_node(out, b" backward", backward(held))?;
-    push_sent(out, is_sent(held))?;
-    push_version(out, contents(held))
+    push_node(out, b" forward", held.forward())?;
+    push_node(out, b" backward", held.backward())?;
+    push_sent(out, held.is_sent())?;
+    push_version(out, held.contents())
 }
 
 /// The name of a home's state.
@@ -162,16 +97,6 @@ pub fn home_name(state: HomeState) -> &'static str
     }
 }
 
-/// The head of the list that a home knows.
-pub fn head(state: HomeState) -> Option<NodeId>
-    ensures { result ≡ head_of state }
-{
-    match state {
-        HomeState::Home(_) => None,
-        HomeState::Fresh { head, .. } | HomeState::Gone { head } => Some(head),
-    }
-}
-
 /// Appends a home's state: its name, the head of the line's list, and the version of its contents, as `FRESH head 1 @3`.
 /// Refused if memory is.
 #[tactic(auto, unfolding(crate::specs::StateWords::home_text))]
@@ -179,6 +104,6 @@ pub fn push_home(out: &mut Vec<u8>, home: &Home) -> Result<(), AllocError>
     ensures { OnOk result (out.new.items ≡ out.old.items ++ home_text home.now) }
 {
     push_text(out, home_name(home.state()))?;
-    push_node(out, b" head", head(home.state()))?;
+    push_node(out, b" head", home.state().head())?;
     push_version(out, home.current())
 }
