@@ -1,7 +1,6 @@
 //! Receiving a whole packet.
 
 ghost use Rattle.std.specs.Prelude.{◌≡◌, ◌≢◌, ◌<◌, ◌≤◌, ℕ, [], ◌∷◌, length, take, None, IfOk, IfSome, IsErr, IsOk};
-ghost use Rattle.sci_packets.specs.Spelling.{NoneSpellsInWords};
 ghost use Rattle.sci_core.specs.Core.{lane_of, lane_place};
 ghost use Rattle.sci_lanes.specs.Shown.{inbound_at, me_of};
 ghost use Rattle.sci_lanes.specs.Telling.{IsShown, state_of};
@@ -13,10 +12,7 @@ use crate::budget::{Budget, Spent};
 use crate::sending::PACKET_WORDS;
 use sci_core::LaneKind;
 use sci_lanes::{CellId, LaneEnd};
-use sci_packets::{Packet, from_words};
-
-/// The words of a packet without contents.
-const SHORT_WORDS: usize = 2;
+use sci_packets::{Packet, from_words, word_count};
 
 /// A packet that was seen in the next cell of a lane.
 #[derive(Clone, Copy)]
@@ -66,71 +62,40 @@ pub fn read_packet(end: &mut LaneEnd, budget: &mut Budget, seen: Seen) -> Result
     ensures spent { IsErr result → budget.old.left ≢ None }
 {
     let Seen { cell, first } = seen;
-    budget.spend()?;
-    let second = end.read_word(cell, 1);
-    match from_words(&[first, second]) {
-        Ok((packet, _)) => Ok(packet),
-        Err(_) => read_long(end, budget, cell, first, second),
-    }
-}
-
-/// Reads a packet with contents, of which these two words are found. Requires that they are no packet.
-#[inline(never)]
-fn read_long(
-    end: &mut LaneEnd,
-    budget: &mut Budget,
-    cell: CellId,
-    first: u64,
-    second: u64,
-) -> Result<Packet, Spent>
-    requires next { IsNextToTake end.old.part cell }
-    requires shown { IsShown end.old.part }
-    requires found { (inbound_at end.old.part (lane_at_cell end.old.part cell)).found
-        ≡ first ∷ second ∷ [] }
-    requires long { NoneSpellsInWords (first ∷ second ∷ []) }
-    ensures read { IfOk result (HasRead end.new.part cell) }
-    ensures others { LeavesOthers (lane_at_cell end.old.part cell) end.old.part end.new.part }
-    ensures still { IsStill end.old end.new }
-    ensures budget { HasNoMore budget.old.left budget.new.left }
-    ensures spent { IsErr result → budget.old.left ≢ None }
-{
     let mut words = [0; PACKET_WORDS];
     words[0] = first;
-    words[1] = second;
-    read(end, budget, cell, &mut words, SHORT_WORDS, PACKET_WORDS)?;
+    read(end, budget, cell, &mut words, word_count(first))?;
     match from_words(&words) {
         Ok((packet, _)) => Ok(packet),
         Err(_) => unreachable!(),
     }
 }
 
-/// Reads the words of the next cell to take from, from one number to another. Requires that those before are
+/// Reads the words of the next cell to take from behind the first, up to a number of them. Requires that the first is
 /// found.
 fn read(
     end: &mut LaneEnd,
     budget: &mut Budget,
     cell: CellId,
     words: &mut [u64; PACKET_WORDS],
-    from: usize,
-    to: usize,
+    count: usize,
 ) -> Result<(), Spent>
     requires next { IsNextToTake end.old.part cell }
     requires shown { IsShown end.old.part }
     requires found { (inbound_at end.old.part (lane_at_cell end.old.part cell)).found
-        ≡ take from words.old }
-    requires some { 0 < from }
-    requires order { from ≤ to }
-    requires few { to ≤ 11 }
+        ≡ take 1 words.old }
+    requires some { 1 ≤ count }
+    requires few { count ≤ 11 }
     ensures still { IsStill end.old end.new }
     ensures shown { IsShown end.new.part }
     ensures found { IsOk result → (inbound_at end.new.part (lane_at_cell end.new.part cell)).found
-        ≡ take to words.new }
-    ensures begins { take from words.new ≡ take from words.old }
+        ≡ take count words.new }
+    ensures begins { take 1 words.new ≡ take 1 words.old }
     ensures others { LeavesOthers (lane_at_cell end.old.part cell) end.old.part end.new.part }
     ensures budget { HasNoMore budget.old.left budget.new.left }
     ensures spent { IsErr result → budget.old.left ≢ None }
 {
-    for index in from..to {
+    for index in 1..count {
         budget.spend()?;
         words[index] = end.read_word(cell, index);
     }

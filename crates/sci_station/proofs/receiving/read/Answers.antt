@@ -14,7 +14,6 @@ pub read_word-requires : goal.read_word-requires
 read_word-requires c =
     let i = c.loop-index.invariant in
     let order = i.order in
-    let some = c.requires.some in
     let few = c.requires.few in
     let below = c.loop-index-test.true in
     let long = i.long in
@@ -45,7 +44,7 @@ loop-index-preserved c =
       order = omega arith;
       found = found ∙ found_more (inbound_at c.loop-index.end.part (lane_at_cell c.loop-index.end.part c.args.cell)).found c.loop-index.words index
           c.read_word.result (omega arith) i.found;
-      begins = take-set-le c.args.from c.loop-index.words index c.read_word.result (omega arith) ∙ i.begins;
+      begins = take-set-le 1 c.loop-index.words index c.read_word.result (omega arith) ∙ i.begins;
       others = others_then _ c.args.end.now.part c.loop-index.end.part c.read_word.new.self.part i.others
           (subst (λ (l : ℕ). LeavesOthers l c.loop-index.end.part c.read_word.new.self.part) (lane_still c.args.end.now c.loop-index.end c.args.cell i.still)
           (read_others c.loop-index.end c.read_word.new.self c.args.cell index c.read_word.result c.read_word.ensures.part));

@@ -11,9 +11,9 @@ invariant-loop-index l = record {
   still : IsStill l.fn.end l.end;
   shown : IsShown l.end.part;
   long : length l.words ≡ 11;
-  order : l.from ≤ l.index;
+  order : 1 ≤ l.index;
   found : (inbound_at l.end.part (lane_at_cell l.end.part l.cell)).found ≡ take l.index l.words;
-  begins : take l.from l.words ≡ take l.from l.fn.words;
+  begins : take 1 l.words ≡ take 1 l.fn.words;
   others : LeavesOthers (lane_at_cell l.fn.end.part l.cell) l.fn.end.part l.end.part;
   budget : HasNoMore l.fn.budget.left l.budget.left;
 }

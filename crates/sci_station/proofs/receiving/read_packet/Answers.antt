@@ -1,45 +1,64 @@
-use Rattle.std.proofs.Common.{List, [], ◌∷◌, ◌++◌, ℕ, length, take, refl, ap, subst, ◌∙◌, arith}
-use Rattle.sci_lanes.specs.declared.view.Inbound.{Inbound}
-use Rattle.sci_station.proofs.Cells.{read_found}
-use Rattle.sci_station.proofs.Spelled.{short_packet}
-use Rattle.sci_station.proofs.Stills.{lane_still, others_then, read_others, read_still, still_takes, still_then}
-use Rattle.sci_station.specs.Ends.{LeavesOthers}
+use Rattle.std.proofs.Common.{◌≤◌, ◌≡◌, ℕ, List, [], ◌∷◌, length, get_or, take, refl, sym, ap, ◌∙◌, arith, inl, inr, ◌⊎◌}
+use Rattle.std.proofs.lemmas.List.{get_or-take, length-take-le}
+use Rattle.sci_packets.specs.Spelling.{CountsWords, SpellsInWords}
+use Rattle.sci_packets.specs.declared.packet.Packet.{Packet}
+use Rattle.sci_lanes.specs.Ends.{IsNextToTake, lane_at_cell}
+use Rattle.sci_lanes.specs.Shown.{inbound_at}
+use Rattle.sci_lanes.specs.Telling.{IsFront, IsShown}
+use Rattle.sci_lanes.specs.declared.cell.CellId.{CellId}
+use Rattle.sci_lanes.specs.declared.view.Part.{Part}
+use Rattle.sci_station.proofs.Cells.{front_found}
+use Rattle.sci_station.proofs.Spelled.{front_spelled, never_refused, only_that}
+use Rattle.sci_station.proofs.Stills.{still_takes}
 use Rattle.sci_station.proofs.receiving.read_packet.Goals as goal
 
-pub read_word-second-requires : goal.read_word-second-requires
-read_word-second-requires c =
-    let count = ap length c.requires.found in
-    record { next = c.requires.next; further = omega arith; within = omega arith; order = omega arith }
+some_few : {count : ℕ} → (count ≡ 2) ⊎ (count ≡ 11) → (1 ≤ count) × (count ≤ 11)
+some_few (inl two) = (omega arith, omega arith)
+some_few (inr eleven) = (omega arith, omega arith)
 
-pub returns-in-Ok-clause-read : goal.returns-in-Ok-clause-read
-returns-in-Ok-clause-read c =
-    let seen = c.args.seen in
-    let second = c.read_word-second in
-    let still = read_still c.args.end.now second.new.self seen.cell 1 second.result second.ensures.seen second.ensures.part in
-    let found = ap (λ (x : Inbound). x.found)
-    (read_found c.args.end.now second.new.self seen.cell 1 second.result c.requires.shown c.requires.next second.ensures.part) in
+-- the oldest packet of the lane, all words of which are found
+found_packet : (part : Part) (cell : CellId) (first count : ℕ) (words : List ℕ) → IsShown part → IsNextToTake part cell
+    → (inbound_at part (lane_at_cell part cell)).found ≡ take count words → length words ≡ 11 → take 1 words ≡ first ∷ []
+    → CountsWords first count → (1 ≤ count) × (count ≤ 11) → (q : Packet) × SpellsInWords q (inbound_at part (lane_at_cell part cell)).found
+found_packet part cell first count words shown next found long begins counts few =
+    let some = few.0 in
+    let within = few.1 in
+    let count_is = ap (λ (xs : List ℕ). length xs) found ∙ length-take-le count words (omega arith) in
+    let front : IsFront _ (inbound_at part (lane_at_cell part cell)).found = front_found part cell shown next (omega arith) in
+    let head = ap (λ (xs : List ℕ). get_or xs 0 0) found
+    ∙ (get_or-take count words 0 0 (omega arith) ∙ (sym (get_or-take 1 words 0 0 (omega arith)) ∙ ap (λ (xs : List ℕ). get_or xs 0 0) begins)) in
+    (front.packet, front_spelled _ (inbound_at part (lane_at_cell part cell)).found first count front count_is some head counts)
+
+pub read-requires-clause-some : goal.read-requires-clause-some
+read-requires-clause-some c = (some_few c.word_count.ensures.sizes).0
+
+pub read-requires-clause-few : goal.read-requires-clause-few
+read-requires-clause-few c = (some_few c.word_count.ensures.sizes).1
+
+pub unreachable-requires : goal.unreachable-requires
+unreachable-requires c =
+    let few = some_few c.word_count.ensures.sizes in
+    let within = few.1 in
+    let long = c.read.array_long in
+    let found = c.in_ok-read.ensures.found refl in
+    let next = still_takes c.args.end.now c.read.new.end c.args.seen.cell c.read.ensures.still c.requires.next in
+    let whole = found_packet c.read.new.end.part c.args.seen.cell c.args.seen.first c.word_count.result c.read.new.words c.read.ensures.shown next found long
+    c.read.ensures.begins c.word_count.ensures.packet few in
+    never_refused whole.0 c.word_count.result c.read.new.words _ c.in-Err.field-0 c.from_words.result whole.1 found (omega arith) c.from_words.ensures.only
+    c.in-Err.is
+
+pub returns-clause-read : goal.returns-clause-read
+returns-clause-read c =
+    let few = some_few c.word_count.ensures.sizes in
+    let within = few.1 in
+    let long = c.read.array_long in
+    let found = c.in_ok-read.ensures.found refl in
+    let next = still_takes c.args.end.now c.read.new.end c.args.seen.cell c.read.ensures.still c.requires.next in
+    let whole = found_packet c.read.new.end.part c.args.seen.cell c.args.seen.first c.word_count.result c.read.new.words c.read.ensures.shown next found long
+    c.read.ensures.begins c.word_count.ensures.packet few in
     record {
-      shown = second.ensures.shown;
-      next = still_takes c.args.end.now second.new.self seen.cell still c.requires.next;
-      spelled = short_packet c.in-Ok.packet c.in-Ok.field-0-1 (seen.first ∷ second.result ∷ []) _ c.in-Ok.ensures.found c.in-Ok.ensures.length refl
-          (found ∙ ap (λ (ws : List ℕ). take 1 ws ++ second.result ∷ []) c.requires.found);
+      shown = c.read.ensures.shown;
+      next = next;
+      spelled = only_that whole.0 c.in-Ok.packet c.word_count.result c.in-Ok.field-0-1 c.read.new.words _ c.from_words.result whole.1 found (omega arith)
+          c.from_words.ensures.only c.in-Ok.is;
     }
-
-pub returns-in-Err-clause-still : goal.returns-in-Err-clause-still
-returns-in-Err-clause-still c =
-    let second = c.read_word-second in
-    still_then c.args.end.now second.new.self c.read_long.new.end
-    (read_still c.args.end.now second.new.self c.args.seen.cell 1 second.result second.ensures.seen second.ensures.part) c.read_long.ensures.still
-
-pub returns-in-Ok-clause-others : goal.returns-in-Ok-clause-others
-returns-in-Ok-clause-others c = let second = c.read_word-second in
-    read_others c.args.end.now second.new.self c.args.seen.cell 1 second.result second.ensures.part
-
-pub returns-in-Err-clause-others : goal.returns-in-Err-clause-others
-returns-in-Err-clause-others c =
-    let second = c.read_word-second in
-    let lane = lane_still c.args.end.now second.new.self c.args.seen.cell
-    (read_still c.args.end.now second.new.self c.args.seen.cell 1 second.result second.ensures.seen second.ensures.part) in
-    others_then _ c.args.end.now.part second.new.self.part c.read_long.new.end.part
-    (read_others c.args.end.now second.new.self c.args.seen.cell 1 second.result second.ensures.part)
-    (subst (λ (l : ℕ). LeavesOthers l second.new.self.part c.read_long.new.end.part) lane c.read_long.ensures.others)
