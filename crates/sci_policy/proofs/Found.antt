@@ -21,7 +21,7 @@ found_fits p a (suc n) =
     found_by p a n (p a) refl (subst (λ (end : ℕ). IfSome (find p (range_with_len (a + 1) n)) (λ x. (x < end) × (p x ≡ true))) same (found_fits p (a + 1) n))
 
 -- a number that passes stands further on if the first doesn't
-further : (p : ℕ → Bool) (a x : ℕ) → a ≤ x → p x ≡ true → p a ≡ false → a + 1 ≤ x
+pub further : (p : ℕ → Bool) (a x : ℕ) → a ≤ x → p x ≡ true → p a ≡ false → a + 1 ≤ x
 further p a x from passes fails =
     elim (cases_eq a x) [
       | inl same ↦ absurd (let clash : false ≡ true = sym fails ∙ (ap p same ∙ passes) in cc)

@@ -2,6 +2,7 @@ pub mod Ranges
 pub mod Marks
 pub mod Oldest
 pub mod Found
+pub mod Least
 pub mod Wants
 pub mod Rests
 pub mod Idle

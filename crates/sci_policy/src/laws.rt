@@ -1,6 +1,6 @@
 //! Laws of the policy, each the contract of a function that does nothing. They hold on every node, reached or not.
 
-ghost use Rattle.std.specs.Prelude.{◌≡◌, ◌≢◌, ◌<◌, ℕ, Some, false, true};
+ghost use Rattle.std.specs.Prelude.{◌≡◌, ◌≢◌, ◌<◌, ◌≤◌, ℕ, Bool, Some, IfSome, false, true};
 ghost use Rattle.sci_words.specs.declared.event.AskKind.{AskKind};
 ghost use Rattle.sci_words.specs.declared.event.AskKind.TheVariants.{Claim, Clear, Wback};
 ghost use Rattle.sci_packets.specs.declared.body.Body.TheVariants.{Cread};
@@ -8,8 +8,29 @@ ghost use Rattle.sci_cache.specs.Cache.{Letter};
 ghost use Rattle.sci_cache.specs.Kinds.{joins};
 ghost use Rattle.sci_core.specs.Node.{NodeOf, lines_of};
 ghost use Rattle.sci_policy.specs.declared.want.Want.TheVariants.{Ask};
-ghost use Rattle.sci_policy.specs.Lines.{can_drain, state_on};
+ghost use Rattle.sci_policy.specs.Lines.{can_drain, has_pending, least, oldest, serial_on, state_on};
 ghost use Rattle.sci_policy.specs.Policy.{PolicyOf, awaits_home, has, kept_by, next_policy, next_wanted};
+
+/// The least line of which something is true is one of them, and stands before all others.
+pub fn the_least_line_comes_first()
+    ensures fits { (node : NodeOf) (test : ℕ → Bool)
+        → IfSome (least node test) (λ line. (line < lines_of node) × (test line ≡ true)) }
+    ensures first { (node : NodeOf) (test : ℕ → Bool) (other : ℕ)
+        → other < lines_of node → test other ≡ true
+        → (line : ℕ) × ((least node test ≡ Some line) × (line ≤ other)) }
+{}
+
+/// Of the lines with an operation pending, and of which something is true, the oldest is one, and its operation's serial is
+/// the least of theirs.
+pub fn the_oldest_has_the_least_serial()
+    ensures fits { (node : NodeOf) (test : ℕ → Bool)
+        → IfSome (oldest node test) (λ line. (line < lines_of node)
+        × ((has_pending node line ≡ true) × (test line ≡ true))) }
+    ensures least { (node : NodeOf) (test : ℕ → Bool) (other : ℕ)
+        → other < lines_of node → has_pending node other ≡ true → test other ≡ true
+        → (line : ℕ) × ((oldest node test ≡ Some line)
+        × (serial_on node line ≤ serial_on node other)) }
+{}
 
 /// While a line joins a list, the node wants no Claim, Clear or Wback, of that line or another. So nothing that another node
 /// might wait for is sent behind its Cread.
