@@ -1,5 +1,7 @@
 //! How a command ends.
 
+use std::process::ExitCode;
+
 /// How a command ends.
 #[derive(Clone, Copy, Debug, PartialEq, Eq)]
 pub enum Outcome {
@@ -13,16 +15,17 @@ pub enum Outcome {
 
 impl Outcome {
     ghost use Rattle.std.specs.Prelude.{◌≡◌};
+    ghost use Rattle.std.specs.Process.{exit_status};
     ghost use Rattle.sci_command.specs.Status.{status_of};
 
-    /// The exit status that tells it: 0, 1 and 2.
-    pub fn status(self) -> u8
-        ensures { result ≡ status_of self }
+    /// The exit status of the program: 0 for Done, 1 for Unlawful and 2 for Refused.
+    pub fn exit_code(self) -> ExitCode
+        ensures { exit_status result ≡ status_of self }
     {
-        match self {
+        ExitCode::from(match self {
             Outcome::Done => 0,
             Outcome::Unlawful => 1,
             Outcome::Refused => 2,
-        }
+        })
     }
 }

@@ -1,11 +1,8 @@
 //! The commands, each by its word.
 
 ghost use Rattle.std.specs.Prelude.{◌≡◌, false};
-ghost use Rattle.std.specs.Process.{exit_status};
 ghost use Rattle.sci_text.specs.Tap.{has_failed, is_called_again, tapped};
-ghost use Rattle.sci_command.specs.declared.outcome.Outcome.{Outcome};
 ghost use Rattle.scimem.specs.CommandAnswer.{IsAnswerTo};
-ghost use Rattle.sci_command.specs.Status.{status_of};
 ghost use Rattle.sci_command.specs.Writing.{HasWritten};
 
 use crate::audit::audit_text;
@@ -19,11 +16,11 @@ use sci_command::Outcome;
 use sci_text::Tap;
 use std::alloc::Global;
 use std::io::{Read, Write};
-use std::process::ExitCode;
 use std::thread::Threads;
 
-/// Carries out a command: reads its input to the end, and writes its answer.
-fn outcome_of<T: Threads + Sync, R: Read, W: Write>(
+/// Carries out a command: reads its input to the end, and writes its answer. After the first read or write that fails
+/// nothing more is read or written.
+pub fn carried_out<T: Threads + Sync, R: Read, W: Write>(
     rt: &T,
     alloc: Global,
     command: Command,
@@ -46,26 +43,4 @@ fn outcome_of<T: Threads + Sync, R: Read, W: Write>(
         Command::Audit => audit_text(alloc, reader, writer),
         Command::Upgrade => upgrade(alloc, reader, writer),
     }
-}
-
-/// Carries out a command, and answers the exit status of the program: 0 for Done, 1 for Unlawful and 2 for Refused.
-/// After the first read or write that fails nothing more is read or written.
-pub fn carried_out<T: Threads + Sync, R: Read, W: Write>(
-    rt: &T,
-    alloc: Global,
-    command: Command,
-    reader: &mut Tap<R>,
-    writer: &mut Tap<W>,
-) -> ExitCode
-    requires reader { has_failed reader.old ≡ false }
-    requires writer { has_failed writer.old ≡ false }
-    ensures written { (outcome : Outcome) × (exit_status result ≡ status_of outcome)
-        × HasWritten (W.contents (tapped writer.old)) (W.contents (tapped writer.new))
-        (has_failed writer.new) outcome
-        (IsAnswerTo command (R.remaining (tapped reader.old)) (has_failed reader.new)) }
-    ensures read_no_more { is_called_again reader.new ≡ is_called_again reader.old }
-    ensures wrote_no_more { is_called_again writer.new ≡ is_called_again writer.old }
-{
-    let outcome = outcome_of(rt, alloc, command, reader, writer);
-    ExitCode::from(outcome.status())
 }

@@ -18,5 +18,5 @@ fn main(rt: HostRuntime) -> ExitCode {
     };
     let mut reader = Tap::new(rt.stdin());
     let mut writer = Tap::new(rt.stdout());
-    carried_out(&rt, rt.alloc(), command, &mut reader, &mut writer)
+    carried_out(&rt, rt.alloc(), command, &mut reader, &mut writer).exit_code()
 }
