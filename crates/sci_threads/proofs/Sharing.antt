@@ -27,13 +27,11 @@ use Rattle.sci_core.specs.Outcome.{logs_of}
 use Rattle.sci_core.specs.Reached.{IsReached}
 use Rattle.sci_core.proofs.WellFormed.WellFormedSteps.{reached_well}
 use Rattle.sci_core.proofs.ReachedLaws.{log_at, log_beyond, beyond_log}
-use Rattle.sci_drive.specs.declared.driver.Issuing.{Issuing}
-use Rattle.sci_drive.specs.declared.driver.Issuing.TheVariants.{InOrder}
-use Rattle.sci_drive.specs.Script.{IsFrontOf, IsLogOf, IsWholeLogOf}
+use Rattle.sci_drive.specs.Script.{IsWholeLogOf}
 use Rattle.sci_station.specs.Ends.{IsSameEnd}
 use Rattle.sci_station.specs.Station.{StationOf, end_in, node_in, opening_station}
 use Rattle.sci_station.proofs.Belonging.{opened_of, same_of}
-use Rattle.sci_threads.specs.Shares.{HasRun, operations_of, own_of, size_for}
+use Rattle.sci_threads.specs.Shares.{operations_of, own_of, size_for}
 
 -- ---- sizes
 
@@ -200,42 +198,16 @@ written_back len new old is long =
     ap (λ rest. take len (new ++ rest)) (drop_all (length new) old (omega (arith, long)))
     ∙ (ap (take len) (append-nil new) ∙ take_all len new (omega (arith, is, long)))
 
-module _ {A : Type 0} (station : A → StationOf) (issuing : Issuing) (operations : ℕ → List Op) where
-  -- of what holds of each share, each end's log is of its operations
-  pub named_ends : {E : Type 0} (finished : A → Result Bool E) (shares : List A) → All (λ s. HasRun issuing operations (station s).end (finished s)) shares
-      → All (λ end. IsLogOf (operations (me_of end.part)) end.part.node.log) (map end_in (map station shares))
-  named_ends finished shares run =
-      let Good : EndOf → Type 0 = λ end. IsLogOf (operations (me_of end.part)) end.part.node.log in
-      All-map Good end_in (map station shares) (All-map (λ (s : StationOf). Good s.end) station shares (λ k d lt. (run k d lt).named))
+-- a log is whole if its share has finished
+pub whole_if : {E : Type 0} (script : List Op) (log : List Entry) (r : Result Bool E) → IfOk r (λ b. b ≡ true → IsWholeLogOf script log) → r ≡ Ok true
+    → IsWholeLogOf script log
+whole_if script log (Ok b) h is = h cc
+whole_if script log (Err e) h is = absurd cc
 
-  pub whole_ends : {E : Type 0} (finished : A → Result Bool E) (shares : List A) → All (λ s. HasRun issuing operations (station s).end (finished s)) shares
-      → All (λ s. finished s ≡ Ok true) shares
-      → All (λ end. IsWholeLogOf (operations (me_of end.part)) end.part.node.log) (map end_in (map station shares))
-  whole_ends finished shares run all =
-      let Good : EndOf → Type 0 = λ end. IsWholeLogOf (operations (me_of end.part)) end.part.node.log in
-      All-map Good end_in (map station shares)
-      (All-map (λ (s : StationOf). Good s.end) station shares
-      (λ k d lt. whole_if (operations (me_of (station (slice_index_or shares k d)).end.part)) (station (slice_index_or shares k d)).end.part.node.log
-      (finished (slice_index_or shares k d)) (run k d lt).whole (all k d lt)))
-    where
-      whole_if : {E : Type 0} (script : List Op) (log : List Entry) (r : Result Bool E) → IfOk r (λ b. b ≡ true → IsWholeLogOf script log) → r ≡ Ok true
-          → IsWholeLogOf script log
-      whole_if script log (Ok b) h is = h cc
-      whole_if script log (Err e) h is = absurd cc
-
-  pub ordered_ends : {E : Type 0} (finished : A → Result Bool E) (shares : List A) → issuing ≡ InOrder
-      → All (λ s. HasRun issuing operations (station s).end (finished s)) shares
-      → All (λ end. IsInProgramOrder end.part.node.log) (map end_in (map station shares))
-  ordered_ends finished shares is run =
-      let Good : EndOf → Type 0 = λ end. IsInProgramOrder end.part.node.log in
-      All-map Good end_in (map station shares) (All-map (λ (s : StationOf). Good s.end) station shares (λ k d lt. (run k d lt).ordered is))
-
-  pub front_ends : {E : Type 0} (finished : A → Result Bool E) (shares : List A) → issuing ≡ InOrder
-      → All (λ s. HasRun issuing operations (station s).end (finished s)) shares
-      → All (λ end. IsFrontOf (operations (me_of end.part)) end.part.node.log) (map end_in (map station shares))
-  front_ends finished shares is run =
-      let Good : EndOf → Type 0 = λ end. IsFrontOf (operations (me_of end.part)) end.part.node.log in
-      All-map Good end_in (map station shares) (All-map (λ (s : StationOf). Good s.end) station shares (λ k d lt. (run k d lt).front is))
+-- what is so of each share's end, of the ends
+pub each_end : {A : Type 0} (station : A → StationOf) (Good : EndOf → Type 0) (shares : List A) → All (λ s. Good (station s).end) shares
+    → All Good (map end_in (map station shares))
+each_end station Good shares all = All-map Good end_in (map station shares) (All-map (λ (s : StationOf). Good s.end) station shares all)
 
 module _ {A : Type 0} (station : A → StationOf) where
   -- what a run does to each share, it does to each station

@@ -1,6 +1,8 @@
-use Rattle.std.proofs.Common.{◌≡◌, ◌<◌, ◌≤◌, ℕ, List, All, Ok, true, Vec, length, map, get_or, sym, ap, subst, ◌∙◌}
+use Rattle.std.proofs.Common.{◌≡◌, ◌<◌, ◌≤◌, ℕ, List, All, Ok, true, Vec, ◌++◌, drop, length, map, take, get_or, sym, ap, subst, ◌∙◌}
 use Rattle.std.specs.Prelude.{slice_index_or}
 use Rattle.sci_words.specs.declared.operation.Op.{Op}
+use Rattle.sci_history.specs.declared.entry.Entry.{Entry}
+use Rattle.sci_history.specs.Placed.{log_of}
 use Rattle.sci_history.specs.Sequential.{IsInProgramOrder}
 use Rattle.sci_lanes.specs.Ends.{EndOf}
 use Rattle.sci_words.specs.declared.limits.TheConstants.{MAX_OPERATIONS}
@@ -11,12 +13,13 @@ use Rattle.sci_drive.specs.Driving.{HasSubmittedNothing}
 use Rattle.sci_drive.specs.Script.{IsFrontOf, IsLogOf, IsWholeLogOf}
 use Rattle.sci_station.specs.Ends.{IsSameEnd}
 use Rattle.sci_station.specs.Station.{StationOf, end_in, node_in}
-use Rattle.sci_threads.proofs.Sharing.{came_back, each_log, front_ends, in_order, opened_long, opened_known, opened_all_fresh, named_ends, ordered_ends}
-use Rattle.sci_threads.proofs.Sharing.{sized_for, whole_ends, written_back}
+use Rattle.sci_threads.proofs.Sharing.{came_back, each_end, each_log, in_order, opened_long, opened_known, opened_all_fresh}
+use Rattle.sci_threads.proofs.Sharing.{sized_for, whole_if, written_back}
 use Rattle.sci_threads.specs.declared.share.Share.{Share}
 use Rattle.sci_threads.proofs.Going.{all_run}
-use Rattle.sci_threads.specs.Shares.{AreLedTo, HaveGoneOn, IsWell, operations_of, own_of}
+use Rattle.sci_threads.specs.Shares.{AreLedTo, HasRun, HaveGoneOn, IsWell, operations_of, own_of}
 use Rattle.sci_threads.proofs.running.run.Goals as goal
+use Rattle.sci_threads.proofs.running.run.Goals.{In-Ok}
 
 pub shares-requires : goal.shares-requires
 shares-requires g c =
@@ -71,109 +74,67 @@ unreachable-requires g c =
     c.in-Err-Missing-default-default.ensures.missing c.in-Err-Missing-default-default.field-0-0-is
     (subst (λ (n : ℕ). AreAll n ends) (sym (ap (λ (z : Size). z.nodes) c.in_ok-fabric.ensures.size)) all)
 
-pub returns-in-Ok-clause-named : goal.returns-in-Ok-clause-named
-returns-in-Ok-clause-named g c =
+-- what each share has done
+has_run : (g : _) (c : In-Ok g)
+    → All (λ (s : Share g.row.G.Denot). HasRun c.args.issuing (own_of c.deref.result.now) s.station.end s.finished) c.run_all.new.shares
+has_run g c =
     let before = c.in_ok-shares.shares in
     let after = c.run_all.new.shares in
     let long : length after ≡ length before.items = c.run_all.auto.shares ∙ ap length c.deref_mut.ensures.value in
-    let stations : c.in_ok-stations.stations.items ≡ map (λ share. share.station) after =
-    c.in_ok-stations.ensures.stations ∙ ap (map (λ share. share.station)) (written_back before.len after before.items before.ok.0 long) in
+    let gone = subst (λ (xs : List (Share g.row.G.Denot)). (k : ℕ) (d : Share g.row.G.Denot) → k < length xs
+    → HaveGoneOn (λ (s : Share g.row.G.Denot). s.driver) (λ s. s.station.end) xs after k d) c.deref_mut.ensures.value c.run_all.ensures.gone in
+    all_run (λ (s : Share g.row.G.Denot). s.driver) (λ s. s.station.end) (λ s. s.finished) c.args.issuing (own_of c.deref.result.now) before.items after long
+    c.in_ok-shares.ensures.opened gone c.run_all.ensures.well
+
+-- the shares are all those that were made
+all_back : (g : _) (c : In-Ok g)
+    → take c.in_ok-shares.shares.len (c.run_all.new.shares ++ drop (length c.run_all.new.shares) c.in_ok-shares.shares.items) ≡ c.run_all.new.shares
+all_back g c =
+    let before = c.in_ok-shares.shares in
+    written_back before.len c.run_all.new.shares before.items before.ok.0 (c.run_all.auto.shares ∙ ap length c.deref_mut.ensures.value)
+
+nodes_are : (g : _) (c : In-Ok g) → c.in_ok-fabric.fabric.size.nodes ≡ c.args.script.now.nodes
+nodes_are g c = ap (λ (z : Size). z.nodes) c.in_ok-fabric.ensures.size ∙ c.extent.ensures.nodes
+
+-- what is so of each share's log, of each node's
+logs_by : (g : _) (c : In-Ok g) (Good : List Op → List Entry → Type 0)
+    → All (λ (s : Share g.row.G.Denot). Good (own_of c.deref.result.now (me_of s.station.end.part)) s.station.end.part.node.log) c.run_all.new.shares
+    → (node : ℕ) → node < c.args.script.now.nodes → Good (operations_of node c.args.script.now.operations) (log_of c.in-Ok.field-0.logs node)
+logs_by g c Good good =
     let operations = c.deref.result.now in
     let script = c.args.script.now in
     let many : length operations ≡ script.nodes = ap length c.deref.ensures.value ∙ c.in_ok-operations.ensures.nodes in
     let own : (n : ℕ) (d : Vec Op _) → n < script.nodes → (slice_index_or operations n d).items ≡ operations_of n script.operations =
     subst (λ (all : List (Vec Op _)). (n : ℕ) (d : Vec Op _) → n < script.nodes → (slice_index_or all n d).items ≡ operations_of n script.operations)
     (sym c.deref.ensures.value) c.in_ok-operations.ensures.each in
-    let nodes : c.in_ok-fabric.fabric.size.nodes ≡ script.nodes = ap (λ (z : Size). z.nodes) c.in_ok-fabric.ensures.size ∙ c.extent.ensures.nodes in
-    let ends = map end_in c.in_ok-stations.stations.items in
-    let all = subst (λ (n : ℕ). AreAll n ends) nodes c.in-Ok.ensures.all in
-    let Good : EndOf → Type 0 = λ end. IsLogOf (own_of operations (me_of end.part)) end.part.node.log in
-    let gone = subst (λ (xs : List (Share g.row.G.Denot)). (k : ℕ) (d : Share g.row.G.Denot) → k < length xs
-    → HaveGoneOn (λ (s : Share g.row.G.Denot). s.driver) (λ s. s.station.end) xs after k d) c.deref_mut.ensures.value c.run_all.ensures.gone in
-    let ran = all_run (λ (s : Share g.row.G.Denot). s.driver) (λ s. s.station.end) (λ s. s.finished) c.args.issuing (own_of c.deref.result.now) before.items
-    after long c.in_ok-shares.ensures.opened gone c.run_all.ensures.well in
-    let good = subst (λ (xs : List StationOf). All Good (map end_in xs)) (sym stations)
-    (named_ends (λ share. share.station) c.args.issuing (own_of operations) (λ share. share.finished) after ran) in
-    each_log IsLogOf script operations ends c.in-Ok.field-0.logs many own all c.in-Ok.ensures.logs good
+    let all = subst (λ (n : ℕ). AreAll n (map end_in c.in_ok-stations.stations.items)) (nodes_are g c) c.in-Ok.ensures.all in
+    let stations : c.in_ok-stations.stations.items ≡ map (λ share. share.station) c.run_all.new.shares =
+    c.in_ok-stations.ensures.stations ∙ ap (map (λ share. share.station)) (all_back g c) in
+    let Each : EndOf → Type 0 = λ end. Good (own_of operations (me_of end.part)) end.part.node.log in
+    each_log Good script operations (map end_in c.in_ok-stations.stations.items) c.in-Ok.field-0.logs many own all c.in-Ok.ensures.logs
+    (subst (λ (xs : List StationOf). All Each (map end_in xs)) (sym stations) (each_end (λ share. share.station) Each c.run_all.new.shares good))
+
+pub returns-in-Ok-clause-named : goal.returns-in-Ok-clause-named
+returns-in-Ok-clause-named g c = let d = (goal.at.returns-in-Ok-clause-named g c).In-Ok in logs_by g d IsLogOf (λ k x lt. (has_run g d k x lt).named)
 
 pub returns-in-Ok-clause-whole : goal.returns-in-Ok-clause-whole
 returns-in-Ok-clause-whole g c = λ finished.
-    let before = c.in_ok-shares.shares in
-    let after = c.run_all.new.shares in
-    let long : length after ≡ length before.items = c.run_all.auto.shares ∙ ap length c.deref_mut.ensures.value in
-    let stations : c.in_ok-stations.stations.items ≡ map (λ share. share.station) after =
-    c.in_ok-stations.ensures.stations ∙ ap (map (λ share. share.station)) (written_back before.len after before.items before.ok.0 long) in
-    let operations = c.deref.result.now in
-    let script = c.args.script.now in
-    let many : length operations ≡ script.nodes = ap length c.deref.ensures.value ∙ c.in_ok-operations.ensures.nodes in
-    let own : (n : ℕ) (d : Vec Op _) → n < script.nodes → (slice_index_or operations n d).items ≡ operations_of n script.operations =
-    subst (λ (all : List (Vec Op _)). (n : ℕ) (d : Vec Op _) → n < script.nodes → (slice_index_or all n d).items ≡ operations_of n script.operations)
-    (sym c.deref.ensures.value) c.in_ok-operations.ensures.each in
-    let nodes : c.in_ok-fabric.fabric.size.nodes ≡ script.nodes = ap (λ (z : Size). z.nodes) c.in_ok-fabric.ensures.size ∙ c.extent.ensures.nodes in
-    let ends = map end_in c.in_ok-stations.stations.items in
-    let all = subst (λ (n : ℕ). AreAll n ends) nodes c.in-Ok.ensures.all in
-    let done = subst (All (λ share. share.finished ≡ Ok true)) (written_back before.len after before.items before.ok.0 long)
-    (c.in_ok-stations.ensures.finished finished) in
-    let Good : EndOf → Type 0 = λ end. IsWholeLogOf (own_of operations (me_of end.part)) end.part.node.log in
-    let gone = subst (λ (xs : List (Share g.row.G.Denot)). (k : ℕ) (d : Share g.row.G.Denot) → k < length xs
-    → HaveGoneOn (λ (s : Share g.row.G.Denot). s.driver) (λ s. s.station.end) xs after k d) c.deref_mut.ensures.value c.run_all.ensures.gone in
-    let ran = all_run (λ (s : Share g.row.G.Denot). s.driver) (λ s. s.station.end) (λ s. s.finished) c.args.issuing (own_of c.deref.result.now) before.items
-    after long c.in_ok-shares.ensures.opened gone c.run_all.ensures.well in
-    let good = subst (λ (xs : List StationOf). All Good (map end_in xs)) (sym stations)
-    (whole_ends (λ share. share.station) c.args.issuing (own_of operations) (λ share. share.finished) after ran done) in
-    each_log IsWholeLogOf script operations ends c.in-Ok.field-0.logs many own all c.in-Ok.ensures.logs good
+    let d = (goal.at.returns-in-Ok-clause-whole g c).In-Ok in
+    let done = subst (All (λ (s : Share g.row.G.Denot). s.finished ≡ Ok true)) (all_back g d) (c.in_ok-stations.ensures.finished finished) in
+    logs_by g d IsWholeLogOf (λ k x lt. whole_if _ _ _ (has_run g d k x lt).whole (done k x lt))
 
 pub returns-in-Ok-clause-ordered : goal.returns-in-Ok-clause-ordered
 returns-in-Ok-clause-ordered g c = λ is.
-    let before = c.in_ok-shares.shares in
-    let after = c.run_all.new.shares in
-    let long : length after ≡ length before.items = c.run_all.auto.shares ∙ ap length c.deref_mut.ensures.value in
-    let stations : c.in_ok-stations.stations.items ≡ map (λ share. share.station) after =
-    c.in_ok-stations.ensures.stations ∙ ap (map (λ share. share.station)) (written_back before.len after before.items before.ok.0 long) in
-    let operations = c.deref.result.now in
-    let script = c.args.script.now in
-    let many : length operations ≡ script.nodes = ap length c.deref.ensures.value ∙ c.in_ok-operations.ensures.nodes in
-    let own : (n : ℕ) (d : Vec Op _) → n < script.nodes → (slice_index_or operations n d).items ≡ operations_of n script.operations =
-    subst (λ (all : List (Vec Op _)). (n : ℕ) (d : Vec Op _) → n < script.nodes → (slice_index_or all n d).items ≡ operations_of n script.operations)
-    (sym c.deref.ensures.value) c.in_ok-operations.ensures.each in
-    let nodes : c.in_ok-fabric.fabric.size.nodes ≡ script.nodes = ap (λ (z : Size). z.nodes) c.in_ok-fabric.ensures.size ∙ c.extent.ensures.nodes in
-    let ends = map end_in c.in_ok-stations.stations.items in
-    let all = subst (λ (n : ℕ). AreAll n ends) nodes c.in-Ok.ensures.all in
-    let Good : EndOf → Type 0 = λ end. IsInProgramOrder end.part.node.log in
-    let gone = subst (λ (xs : List (Share g.row.G.Denot)). (k : ℕ) (d : Share g.row.G.Denot) → k < length xs
-    → HaveGoneOn (λ (s : Share g.row.G.Denot). s.driver) (λ s. s.station.end) xs after k d) c.deref_mut.ensures.value c.run_all.ensures.gone in
-    let ran = all_run (λ (s : Share g.row.G.Denot). s.driver) (λ s. s.station.end) (λ s. s.finished) c.args.issuing (own_of c.deref.result.now) before.items
-    after long c.in_ok-shares.ensures.opened gone c.run_all.ensures.well in
-    let good = subst (λ (xs : List StationOf). All Good (map end_in xs)) (sym stations)
-    (ordered_ends (λ share. share.station) c.args.issuing (own_of operations) (λ share. share.finished) after is ran) in
-    let each = each_log (λ _. IsInProgramOrder) script operations ends c.in-Ok.field-0.logs many own all c.in-Ok.ensures.logs good in
-    in_order c.in-Ok.field-0.logs script.nodes c.in-Ok.ensures.gathered.core c.in-Ok.ensures.gathered.reached c.in-Ok.ensures.gathered.logs_are
-    (ap (λ (z : Size). z.nodes) c.in-Ok.ensures.gathered.sized ∙ nodes) each
+    let d = (goal.at.returns-in-Ok-clause-ordered g c).In-Ok in
+    let gathered = c.in-Ok.ensures.gathered in
+    in_order c.in-Ok.field-0.logs c.args.script.now.nodes gathered.core gathered.reached gathered.logs_are
+    (ap (λ (z : Size). z.nodes) gathered.sized ∙ nodes_are g d)
+    (logs_by g d (λ _. IsInProgramOrder) (λ k x lt. (has_run g d k x lt).ordered is))
 
 pub returns-in-Ok-clause-front : goal.returns-in-Ok-clause-front
 returns-in-Ok-clause-front g c = λ is.
-    let before = c.in_ok-shares.shares in
-    let after = c.run_all.new.shares in
-    let long : length after ≡ length before.items = c.run_all.auto.shares ∙ ap length c.deref_mut.ensures.value in
-    let stations : c.in_ok-stations.stations.items ≡ map (λ share. share.station) after =
-    c.in_ok-stations.ensures.stations ∙ ap (map (λ share. share.station)) (written_back before.len after before.items before.ok.0 long) in
-    let operations = c.deref.result.now in
-    let script = c.args.script.now in
-    let many : length operations ≡ script.nodes = ap length c.deref.ensures.value ∙ c.in_ok-operations.ensures.nodes in
-    let own : (n : ℕ) (d : Vec Op _) → n < script.nodes → (slice_index_or operations n d).items ≡ operations_of n script.operations =
-    subst (λ (all : List (Vec Op _)). (n : ℕ) (d : Vec Op _) → n < script.nodes → (slice_index_or all n d).items ≡ operations_of n script.operations)
-    (sym c.deref.ensures.value) c.in_ok-operations.ensures.each in
-    let nodes : c.in_ok-fabric.fabric.size.nodes ≡ script.nodes = ap (λ (z : Size). z.nodes) c.in_ok-fabric.ensures.size ∙ c.extent.ensures.nodes in
-    let ends = map end_in c.in_ok-stations.stations.items in
-    let all = subst (λ (n : ℕ). AreAll n ends) nodes c.in-Ok.ensures.all in
-    let Good : EndOf → Type 0 = λ end. IsFrontOf (own_of operations (me_of end.part)) end.part.node.log in
-    let gone = subst (λ (xs : List (Share g.row.G.Denot)). (k : ℕ) (d : Share g.row.G.Denot) → k < length xs
-    → HaveGoneOn (λ (s : Share g.row.G.Denot). s.driver) (λ s. s.station.end) xs after k d) c.deref_mut.ensures.value c.run_all.ensures.gone in
-    let ran = all_run (λ (s : Share g.row.G.Denot). s.driver) (λ s. s.station.end) (λ s. s.finished) c.args.issuing (own_of c.deref.result.now) before.items
-    after long c.in_ok-shares.ensures.opened gone c.run_all.ensures.well in
-    let good = subst (λ (xs : List StationOf). All Good (map end_in xs)) (sym stations)
-    (front_ends (λ share. share.station) c.args.issuing (own_of operations) (λ share. share.finished) after is ran) in
-    each_log IsFrontOf script operations ends c.in-Ok.field-0.logs many own all c.in-Ok.ensures.logs good
+    let d = (goal.at.returns-in-Ok-clause-front g c).In-Ok in
+    logs_by g d IsFrontOf (λ k x lt. (has_run g d k x lt).front is)
 
 pub returns-in-Ok-clause-led : goal.returns-in-Ok-clause-led
 returns-in-Ok-clause-led g c =
