@@ -1,4 +1,5 @@
 -- What the C interface says.
+pub mod Closing
 pub mod Journal
 pub mod Kinds
 pub mod Lending
@@ -8,3 +9,4 @@ pub mod Node
 pub mod Object
 pub mod Order
 pub mod Packet
+pub mod Taking

@@ -1,10 +1,10 @@
 -- What the calls for nodes answer.
-use Rattle.std.specs.Prelude.{◌≡◌, ℕ, ◌++◌, List, drop, length, take, Option, Some, None, ◌<◌, ◌%◌}
+use Rattle.std.specs.Prelude.{◌≡◌, ℕ, ◌++◌, List, drop, length, Option, Some, None, ◌<◌, ◌%◌}
 use Rattle.sci_words.specs.declared.event.AskKind.{AskKind}
 use Rattle.sci_words.specs.declared.operation.Op.{Op}
 use Rattle.sci_words.specs.declared.stamped.Stamped.{Stamped}
 use Rattle.sci_packets.specs.declared.packet.Packet.{Packet}
-use Rattle.sci_packets.specs.Spelling.{Spells, spelling}
+use Rattle.sci_packets.specs.Spelling.{spelling}
 use Rattle.sci_history.specs.declared.entry.Entry.{Entry}
 use Rattle.sci_cache.specs.Cache.{Letter, letter_of}
 use Rattle.sci_core.specs.declared.pending.Pending.{Pending}
@@ -84,37 +84,6 @@ pub record IsReply (old : Option Thing) (bytes written : List ℕ) (used : ℕ) 
   pub is_now : node_in new ≡ Some after
   pub replied : node_replying before ≡ Some (after, letter)
   pub spelled : IsSpelled letter bytes written used
-
--- the first bytes are those of a packet that may be given to the node for this
-pub record IsTaken (may : NodeOf → Letter → Type 0) (taking : NodeOf → Letter → Option NodeOf) (bytes : List ℕ) (old new : Option Thing) : Type 0 where
-  pub before : NodeOf
-  pub after : NodeOf
-  pub packet : Packet
-  pub used : ℕ
-  pub was : node_in old ≡ Some before
-  pub is_now : node_in new ≡ Some after
-  pub spells : Spells packet (take used bytes)
-  pub may_be : may before (letter_of packet)
-  pub taken : taking before (letter_of packet) ≡ Some after
-
--- it may be given to it, but the node doesn't take it
-pub record IsNotTaken (may : NodeOf → Letter → Type 0) (taking : NodeOf → Letter → Option NodeOf) (bytes : List ℕ) (old : Option Thing) : Type 0 where
-  pub node : NodeOf
-  pub packet : Packet
-  pub used : ℕ
-  pub was : node_in old ≡ Some node
-  pub spells : Spells packet (take used bytes)
-  pub may_be : may node (letter_of packet)
-  pub none : taking node (letter_of packet) ≡ None
-
--- it may not be given to it
-pub record IsNotForIt (may : NodeOf → Letter → Type 0) (bytes : List ℕ) (old : Option Thing) : Type 0 where
-  pub node : NodeOf
-  pub packet : Packet
-  pub used : ℕ
-  pub was : node_in old ≡ Some node
-  pub spells : Spells packet (take used bytes)
-  pub may_not : may node (letter_of packet) → ⊥
 
 -- the operation that is pending on a line
 pub record IsPendingOf (line : ℕ) (serial : ℕ) (c : SciOp) (node : NodeOf) : Type 0 where

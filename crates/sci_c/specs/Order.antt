@@ -1,12 +1,15 @@
 -- What a look for one order of all entries answers.
-use Rattle.std.specs.Prelude.{◌≡◌, ℕ, ◌<◌, ◌⊎◌, List, ◌++◌, drop, length, map}
+use Rattle.std.specs.Prelude.{◌≡◌, ℕ, ◌<◌, ◌≤◌, ◌⊎◌, ◌↔◌, List, ◌++◌, drop, length, map}
 use denote.Ref.{Bor}
 use Rattle.sci_history.specs.declared.entry.Entry.{Entry}
 use Rattle.sci_history.specs.declared.order_verdict.Step.{Step}
 use Rattle.sci_history.specs.Cycle.{HasNoShortcut, IsCycle}
-use Rattle.sci_history.specs.Sequential.{IsSequentialOrder}
+use Rattle.sci_history.specs.Lawful.{Lawful}
+use Rattle.sci_history.specs.Sequential.{IsSequentialOrder, IsSequentiallyConsistent}
 use Rattle.sci_c_values.specs.declared.entry.SciEntry.{SciEntry}
+use Rattle.sci_c_values.specs.declared.status.TheConstants.{SCI_FULL, SCI_OK}
 use Rattle.sci_c_values.specs.Entry.{entry_struct}
+use Rattle.sci_c.specs.declared.ordering.TheConstants.{CYCLE, ORDER, UNLAWFUL}
 use Rattle.sci_c.specs.Journal.{JournalOf}
 
 -- the struct of an entry behind a reference, and of that of a step
@@ -46,3 +49,12 @@ pub record IsCycleOf (used : ℕ) (journal : JournalOf) : Type 0 where
 pub record NeedsRoom (old : List SciEntry) (used : ℕ) (journal : JournalOf) : Type 0 where
   pub more : length old < used
   pub found : IsOrderOf used journal ⊎ IsCycleOf used journal
+
+-- what each status of a look for an order of these logs says
+pub record IsOrdering (old new : List SciEntry) (kind used status : ℕ) (journal : JournalOf) : Type 0 where
+  pub order : status ≡ SCI_OK → kind ≡ ORDER → IsOrderIn old new used journal
+  pub cycle : status ≡ SCI_OK → kind ≡ CYCLE → IsCycleIn old new used journal
+  pub unlawful : status ≡ SCI_OK → kind ≡ UNLAWFUL → Lawful journal.logs journal.last → ⊥
+  pub kinds : status ≡ SCI_OK → kind ≤ UNLAWFUL
+  pub ordered : status ≡ SCI_OK → (kind ≡ ORDER) ↔ (Lawful journal.logs journal.last × IsSequentiallyConsistent journal.logs journal.last)
+  pub full : status ≡ SCI_FULL → NeedsRoom old used journal

@@ -1,8 +1,8 @@
 //! Opening and closing of objects.
 
-ghost use Rattle.std.specs.Prelude.{◌≡◌, ◌≢◌, ◌⊎◌, Some, None, IsSome};
+ghost use Rattle.std.specs.Prelude.{◌≡◌, ◌≢◌, ◌⊎◌, Some, None};
 ghost use Rattle.sci_c_values.specs.declared.status.TheConstants.{SCI_MISUSE, SCI_NO_MEMORY, SCI_OK};
-ghost use Rattle.sci_c.specs.Kinds.{IsOf};
+ghost use Rattle.sci_c.specs.Closing.{IsClosed};
 
 use crate::handle::SciObject;
 use crate::thing::{Kind, Thing};
@@ -27,12 +27,7 @@ pub(crate) fn opened(alloc: Global, object: &mut SciObject, thing: Thing) -> u32
 
 /// Lets a thing of this kind go, and leaves the object empty, as it may be already.
 pub(crate) fn closed(alloc: Global, object: &mut SciObject, kind: Kind) -> u32
-    ensures closed { result ≡ SCI_OK → object.new.value ≡ None }
-    ensures kind { result ≡ SCI_OK → (object.old.value ≡ None) ⊎ IsOf kind object.old.value }
-    ensures misuse { result ≡ SCI_MISUSE → IsSome object.old.value }
-    ensures other { result ≡ SCI_MISUSE → IsOf kind object.old.value → ⊥ }
-    ensures status { (result ≡ SCI_OK) ⊎ (result ≡ SCI_MISUSE) }
-    ensures same { result ≢ SCI_OK → object.new.value ≡ object.old.value }
+    ensures { IsClosed kind object.old.value result object.new.value }
 {
     if object.live() == 0 {
         return SCI_OK;

@@ -31,7 +31,7 @@ impl Model for SciObject {
 
 impl SciObject {
     ghost use Rattle.std.specs.Borrow.{Lends};
-    ghost use Rattle.std.specs.Prelude.{IsSome, is_some};
+    ghost use Rattle.std.specs.Prelude.{IsSome};
     ghost use Rattle.sci_c.specs.contracts.handle.SciObject.{the_row};
     ghost use Rattle.sci_c.specs.contracts.thing.Thing.{the_row as thing_row};
     ghost use Rattle.sci_c.specs.Lending.{with_thing};

@@ -7,8 +7,9 @@ ghost use Rattle.sci_text.specs.LogValue.{IsSize};
 ghost use Rattle.sci_c_values.specs.declared.status.TheConstants.{SCI_FULL, SCI_MISUSE, SCI_NOT_ENABLED, SCI_NO_MEMORY, SCI_OK, SCI_RANGE};
 ghost use Rattle.sci_c_values.specs.Entry.{SaysNoEntry};
 ghost use Rattle.sci_c.specs.declared.thing.Kind.TheVariants as kind;
+ghost use Rattle.sci_c.specs.Closing.{IsClosed, IsOpened};
 ghost use Rattle.sci_c.specs.Journal.{FitsJournal, empty_journal};
-ghost use Rattle.sci_c.specs.Kinds.{IsOf, OnLogs, logs_in};
+ghost use Rattle.sci_c.specs.Kinds.{OnLogs, logs_in};
 ghost use Rattle.sci_c.specs.Logs.{IsEntryAt, IsFull, IsLastOf, IsLastSet, IsPushed};
 
 use crate::closing::{closed, opened};
@@ -25,15 +26,8 @@ use std::alloc::Global;
 /// Puts logs without entries into an empty object. The last contents are zero words at version 0.
 #[unsafe(no_mangle)]
 pub extern "C" fn sci_logs_open(alloc: Global, object: &mut SciObject, nodes: u8, lines: u8) -> u32
-    ensures opened { result ≡ SCI_OK → logs_in object.new.value ≡ Some (empty_journal nodes lines) }
-    ensures empty { result ≡ SCI_OK → object.old.value ≡ None }
-    ensures misuse { result ≡ SCI_MISUSE → IsSome object.old.value }
-    ensures range { result ≡ SCI_RANGE → IsSize nodes lines → ⊥ }
-    ensures memory { result ≡ SCI_NO_MEMORY → IsSize nodes lines }
-    ensures range_empty { result ≡ SCI_RANGE → object.old.value ≡ None }
-    ensures memory_empty { result ≡ SCI_NO_MEMORY → object.old.value ≡ None }
-    ensures status { (result ≤ SCI_MISUSE) × (result ≢ SCI_NOT_ENABLED) }
-    ensures same { result ≢ SCI_OK → object.new.value ≡ object.old.value }
+    ensures { IsOpened (IsSize nodes lines) (λ new. logs_in new ≡ Some (empty_journal nodes lines))
+        object.old.value result object.new.value }
 {
     if object.live() != 0 {
         return SCI_MISUSE;
@@ -51,13 +45,7 @@ pub extern "C" fn sci_logs_open(alloc: Global, object: &mut SciObject, nodes: u8
 /// Lets logs go, and leaves the object empty.
 #[unsafe(no_mangle)]
 pub extern "C" fn sci_logs_close(alloc: Global, object: &mut SciObject) -> u32
-    ensures closed { result ≡ SCI_OK → object.new.value ≡ None }
-    ensures kind { result ≡ SCI_OK
-        → (object.old.value ≡ None) ⊎ IsOf kind.Logs object.old.value }
-    ensures misuse { result ≡ SCI_MISUSE → IsSome object.old.value }
-    ensures other { result ≡ SCI_MISUSE → IsOf kind.Logs object.old.value → ⊥ }
-    ensures status { (result ≡ SCI_OK) ⊎ (result ≡ SCI_MISUSE) }
-    ensures same { result ≢ SCI_OK → object.new.value ≡ object.old.value }
+    ensures { IsClosed kind.Logs object.old.value result object.new.value }
 {
     closed(alloc, object, Kind::Logs)
 }
@@ -78,21 +66,7 @@ pub extern "C" fn sci_logs_push(object: &mut SciObject, entry: &SciEntry) -> u32
     if object.live() == 0 {
         return SCI_MISUSE;
     }
-    push(object.as_mut(), entry)
-}
-
-fn push(kept: &mut Thing, entry: &SciEntry) -> u32
-    ensures pushed { result ≡ SCI_OK → IsPushed (Some kept.old) entry.now (Some kept.new) }
-    ensures full { result ≡ SCI_FULL → OnLogs (Some kept.old) (IsFull entry.now) }
-    ensures range { result ≡ SCI_RANGE → OnLogs (Some kept.old)
-        (λ journal. FitsJournal journal entry.now → SaysNoEntry entry.now) }
-    ensures memory { result ≡ SCI_NO_MEMORY → OnLogs (Some kept.old)
-        (λ journal. FitsJournal journal entry.now) }
-    ensures misuse { result ≡ SCI_MISUSE → logs_in (Some kept.old) ≡ None }
-    ensures status { (result ≤ SCI_FULL) × (result ≢ SCI_NOT_ENABLED) }
-    ensures same { result ≢ SCI_OK → kept.new ≡ kept.old }
-{
-    match kept {
+    match object.as_mut() {
         Thing::Logs(journal) => {
             if !journal.takes(entry) {
                 return SCI_RANGE;
@@ -120,18 +94,7 @@ pub extern "C" fn sci_logs_set_last(object: &mut SciObject, line: u8, contents: 
     if object.live() == 0 {
         return SCI_MISUSE;
     }
-    set_last(object.as_mut(), line, contents)
-}
-
-fn set_last(kept: &mut Thing, line: u8, contents: &SciStamped) -> u32
-    ensures done { result ≡ SCI_OK → IsLastSet (Some kept.old) line contents.now (Some kept.new) }
-    ensures range { result ≡ SCI_RANGE → OnLogs (Some kept.old)
-        (λ journal. length journal.last ≤ line) }
-    ensures misuse { result ≡ SCI_MISUSE → logs_in (Some kept.old) ≡ None }
-    ensures status { (result ≡ SCI_OK) ⊎ ((result ≡ SCI_RANGE) ⊎ (result ≡ SCI_MISUSE)) }
-    ensures same { result ≢ SCI_OK → kept.new ≡ kept.old }
-{
-    match kept {
+    match object.as_mut() {
         Thing::Logs(journal) => {
             if line >= journal.last().lines() {
                 return SCI_RANGE;

@@ -5,7 +5,8 @@ ghost use Rattle.sci_core.specs.Size.{IsMachineSize};
 ghost use Rattle.sci_c_values.specs.declared.status.TheConstants.{SCI_MISUSE, SCI_NOT_ENABLED, SCI_NO_MEMORY, SCI_OK, SCI_RANGE};
 ghost use Rattle.sci_c_values.specs.Operation.{SaysNoEvent};
 ghost use Rattle.sci_c.specs.declared.thing.Kind.TheVariants as kind;
-ghost use Rattle.sci_c.specs.Kinds.{IsOf, OnMachine, machine_in};
+ghost use Rattle.sci_c.specs.Closing.{IsClosed, IsOpened};
+ghost use Rattle.sci_c.specs.Kinds.{OnMachine, machine_in};
 ghost use Rattle.sci_c.specs.Machine.{AreLogsOf, HasNoAuthority, IsAuthorityOf, IsMachineLast, IsNotEnabled, IsOpening, IsPartOfSettling, IsSending, IsSettling, IsStep, size};
 
 use crate::closing::{closed, opened};
@@ -30,15 +31,8 @@ pub extern "C" fn sci_machine_open(
     slots: u8,
     limit: u32,
 ) -> u32
-    ensures opened { result ≡ SCI_OK → IsOpening (size nodes lines slots limit) object.new.value }
-    ensures empty { result ≡ SCI_OK → object.old.value ≡ None }
-    ensures misuse { result ≡ SCI_MISUSE → IsSome object.old.value }
-    ensures range { result ≡ SCI_RANGE → IsMachineSize (size nodes lines slots limit) → ⊥ }
-    ensures memory { result ≡ SCI_NO_MEMORY → IsMachineSize (size nodes lines slots limit) }
-    ensures range_empty { result ≡ SCI_RANGE → object.old.value ≡ None }
-    ensures memory_empty { result ≡ SCI_NO_MEMORY → object.old.value ≡ None }
-    ensures status { (result ≤ SCI_MISUSE) × (result ≢ SCI_NOT_ENABLED) }
-    ensures same { result ≢ SCI_OK → object.new.value ≡ object.old.value }
+    ensures { IsOpened (IsMachineSize (size nodes lines slots limit)) (IsOpening (size nodes lines slots limit))
+        object.old.value result object.new.value }
 {
     if object.live() != 0 {
         return SCI_MISUSE;
@@ -70,20 +64,7 @@ pub extern "C" fn sci_machine_step(object: &mut SciObject, event: &SciEvent) -> 
     if object.live() == 0 {
         return SCI_MISUSE;
     }
-    step(object.as_mut(), event)
-}
-
-fn step(kept: &mut Thing, event: &SciEvent) -> u32
-    ensures done { result ≡ SCI_OK → IsStep (Some kept.old) event.now (Some kept.new) }
-    ensures refused { result ≡ SCI_NOT_ENABLED → IsNotEnabled (Some kept.old) event.now }
-    ensures memory { result ≡ SCI_NO_MEMORY → IsSending (Some kept.old) event.now }
-    ensures range { result ≡ SCI_RANGE → SaysNoEvent event.now }
-    ensures range_machine { result ≡ SCI_RANGE → IsSome (machine_in (Some kept.old)) }
-    ensures misuse { result ≡ SCI_MISUSE → machine_in (Some kept.old) ≡ None }
-    ensures status { result ≤ SCI_MISUSE }
-    ensures same { result ≢ SCI_OK → kept.new ≡ kept.old }
-{
-    match kept {
+    match object.as_mut() {
         Thing::Machine(machine) => match event_in(event) {
             Some(event) => match machine.apply(&event) {
                 Ok(()) => SCI_OK,
@@ -99,13 +80,7 @@ fn step(kept: &mut Thing, event: &SciEvent) -> u32
 /// Lets a machine go, and leaves the object empty.
 #[unsafe(no_mangle)]
 pub extern "C" fn sci_machine_close(alloc: Global, object: &mut SciObject) -> u32
-    ensures closed { result ≡ SCI_OK → object.new.value ≡ None }
-    ensures kind { result ≡ SCI_OK
-        → (object.old.value ≡ None) ⊎ IsOf kind.Machine object.old.value }
-    ensures misuse { result ≡ SCI_MISUSE → IsSome object.old.value }
-    ensures other { result ≡ SCI_MISUSE → IsOf kind.Machine object.old.value → ⊥ }
-    ensures status { (result ≡ SCI_OK) ⊎ (result ≡ SCI_MISUSE) }
-    ensures same { result ≢ SCI_OK → object.new.value ≡ object.old.value }
+    ensures { IsClosed kind.Machine object.old.value result object.new.value }
 {
     closed(alloc, object, Kind::Machine)
 }
@@ -126,19 +101,7 @@ pub extern "C" fn sci_machine_settle(object: &mut SciObject, events: &mut u32) -
     if object.live() == 0 {
         return SCI_MISUSE;
     }
-    settle(object.as_mut(), events)
-}
-
-fn settle(kept: &mut Thing, events: &mut u32) -> u32
-    ensures settled { result ≡ SCI_OK
-        → IsSettling (Some kept.old) events.new (Some kept.new) }
-    ensures memory { result ≡ SCI_NO_MEMORY → IsPartOfSettling (Some kept.old) (Some kept.new) }
-    ensures misuse { result ≡ SCI_MISUSE → machine_in (Some kept.old) ≡ None }
-    ensures status { (result ≡ SCI_OK) ⊎ ((result ≡ SCI_NO_MEMORY) ⊎ (result ≡ SCI_MISUSE)) }
-    ensures same { result ≡ SCI_MISUSE → kept.new ≡ kept.old }
-    ensures same_events { result ≢ SCI_OK → events.new ≡ events.old }
-{
-    match kept {
+    match object.as_mut() {
         Thing::Machine(machine) => match machine.settle() {
             Ok(count) => {
                 *events = count;

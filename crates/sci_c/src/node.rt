@@ -7,7 +7,8 @@ ghost use Rattle.sci_core.specs.Size.{IsMachineSize};
 ghost use Rattle.sci_c_values.specs.declared.status.TheConstants.{SCI_MISUSE, SCI_NOT_ENABLED, SCI_NO_MEMORY, SCI_OK, SCI_RANGE};
 ghost use Rattle.sci_c_values.specs.Operation.{SaysNoAsk, SaysNoOp};
 ghost use Rattle.sci_c.specs.declared.thing.Kind.TheVariants as kind;
-ghost use Rattle.sci_c.specs.Kinds.{IsOf, OnNode, node_in};
+ghost use Rattle.sci_c.specs.Closing.{IsClosed, IsOpened};
+ghost use Rattle.sci_c.specs.Kinds.{OnNode, node_in};
 ghost use Rattle.sci_c.specs.Machine.{size};
 ghost use Rattle.sci_c.specs.Node.{HasNoContents, IsAsk, IsHomeContents, IsIssue, IsNoAsk, IsNoIssue, IsPendingOf, IsPerformed, IsReply};
 
@@ -34,18 +35,9 @@ pub extern "C" fn sci_node_open(
     slots: u8,
     limit: u32,
 ) -> u32
-    ensures opened { result ≡ SCI_OK
-        → node_in object.new.value ≡ Some (opening_node me (size nodes lines slots limit)) }
-    ensures empty { result ≡ SCI_OK → object.old.value ≡ None }
-    ensures misuse { result ≡ SCI_MISUSE → IsSome object.old.value }
-    ensures range { result ≡ SCI_RANGE
-        → me < nodes → IsMachineSize (size nodes lines slots limit) → ⊥ }
-    ensures memory { result ≡ SCI_NO_MEMORY → IsMachineSize (size nodes lines slots limit) }
-    ensures memory_me { result ≡ SCI_NO_MEMORY → me < nodes }
-    ensures range_empty { result ≡ SCI_RANGE → object.old.value ≡ None }
-    ensures memory_empty { result ≡ SCI_NO_MEMORY → object.old.value ≡ None }
-    ensures status { (result ≤ SCI_MISUSE) × (result ≢ SCI_NOT_ENABLED) }
-    ensures same { result ≢ SCI_OK → object.new.value ≡ object.old.value }
+    ensures { IsOpened ((me < nodes) × IsMachineSize (size nodes lines slots limit))
+        (λ new. node_in new ≡ Some (opening_node me (size nodes lines slots limit)))
+        object.old.value result object.new.value }
 {
     if object.live() != 0 {
         return SCI_MISUSE;
@@ -65,13 +57,7 @@ pub extern "C" fn sci_node_open(
 /// Lets a node's controller go, and leaves the object empty.
 #[unsafe(no_mangle)]
 pub extern "C" fn sci_node_close(alloc: Global, object: &mut SciObject) -> u32
-    ensures closed { result ≡ SCI_OK → object.new.value ≡ None }
-    ensures kind { result ≡ SCI_OK
-        → (object.old.value ≡ None) ⊎ IsOf kind.Node object.old.value }
-    ensures misuse { result ≡ SCI_MISUSE → IsSome object.old.value }
-    ensures other { result ≡ SCI_MISUSE → IsOf kind.Node object.old.value → ⊥ }
-    ensures status { (result ≡ SCI_OK) ⊎ (result ≡ SCI_MISUSE) }
-    ensures same { result ≢ SCI_OK → object.new.value ≡ object.old.value }
+    ensures { IsClosed kind.Node object.old.value result object.new.value }
 {
     closed(alloc, object, Kind::Node)
 }
@@ -92,20 +78,7 @@ pub extern "C" fn sci_node_issue(object: &mut SciObject, op: &SciOp, serial: &mu
     if object.live() == 0 {
         return SCI_MISUSE;
     }
-    issue(object.as_mut(), op, serial)
-}
-
-fn issue(kept: &mut Thing, op: &SciOp, serial: &mut u32) -> u32
-    ensures done { result ≡ SCI_OK → IsIssue (Some kept.old) op.now serial.new (Some kept.new) }
-    ensures refused { result ≡ SCI_NOT_ENABLED → IsNoIssue (Some kept.old) op.now }
-    ensures range { result ≡ SCI_RANGE → SaysNoOp op.now }
-    ensures range_node { result ≡ SCI_RANGE → IsSome (node_in (Some kept.old)) }
-    ensures misuse { result ≡ SCI_MISUSE → node_in (Some kept.old) ≡ None }
-    ensures status { (result ≤ SCI_MISUSE) × (result ≢ SCI_NO_MEMORY) }
-    ensures same { result ≢ SCI_OK → kept.new ≡ kept.old }
-    ensures same_serial { result ≢ SCI_OK → serial.new ≡ serial.old }
-{
-    match kept {
+    match object.as_mut() {
         Thing::Node(node) => match op_in(op) {
             Some(said) => match node.issue(said) {
                 Some(number) => {
@@ -135,19 +108,7 @@ pub extern "C" fn sci_node_perform(object: &mut SciObject, line: u8, entry: &mut
     if object.live() == 0 {
         return SCI_MISUSE;
     }
-    perform(object.as_mut(), line, entry)
-}
-
-fn perform(kept: &mut Thing, line: u8, entry: &mut SciEntry) -> u32
-    ensures done { result ≡ SCI_OK → IsPerformed (Some kept.old) line entry.new (Some kept.new) }
-    ensures refused { result ≡ SCI_NOT_ENABLED → OnNode (Some kept.old)
-        (λ node. node_performing node line ≡ None) }
-    ensures misuse { result ≡ SCI_MISUSE → node_in (Some kept.old) ≡ None }
-    ensures status { (result ≡ SCI_OK) ⊎ ((result ≡ SCI_NOT_ENABLED) ⊎ (result ≡ SCI_MISUSE)) }
-    ensures same { result ≢ SCI_OK → kept.new ≡ kept.old }
-    ensures same_entry { result ≢ SCI_OK → entry.new ≡ entry.old }
-{
-    match kept {
+    match object.as_mut() {
         Thing::Node(node) => match node.perform(line) {
             Some(done) => {
                 *entry = entry_out(&done);
@@ -182,22 +143,7 @@ pub extern "C" fn sci_node_ask(
     if object.live() == 0 {
         return SCI_MISUSE;
     }
-    do_ask(object.as_mut(), line, ask, bytes, used)
-}
-
-fn do_ask(kept: &mut Thing, line: u8, ask: u8, bytes: &mut [u8; 88], used: &mut usize) -> u32
-    ensures done { result ≡ SCI_OK
-        → IsAsk (Some kept.old) line ask bytes.old bytes.new used.new (Some kept.new) }
-    ensures refused { result ≡ SCI_NOT_ENABLED → IsNoAsk (Some kept.old) line ask }
-    ensures range { result ≡ SCI_RANGE → SaysNoAsk ask }
-    ensures range_node { result ≡ SCI_RANGE → IsSome (node_in (Some kept.old)) }
-    ensures misuse { result ≡ SCI_MISUSE → node_in (Some kept.old) ≡ None }
-    ensures status { (result ≤ SCI_MISUSE) × (result ≢ SCI_NO_MEMORY) }
-    ensures same { result ≢ SCI_OK → kept.new ≡ kept.old }
-    ensures same_bytes { result ≢ SCI_OK → bytes.new ≡ bytes.old }
-    ensures same_used { result ≢ SCI_OK → used.new ≡ used.old }
-{
-    match kept {
+    match object.as_mut() {
         Thing::Node(node) => match ask_in(ask) {
             Some(kind) => match node.ask(line, kind) {
                 Some(packet) => {
@@ -232,21 +178,7 @@ pub extern "C" fn sci_node_take_answer(
     if object.live() == 0 {
         return SCI_MISUSE;
     }
-    take_answer(object.as_mut(), bytes, used)
-}
-
-fn take_answer(kept: &mut Thing, bytes: &mut [u8; 88], used: &mut usize) -> u32
-    ensures done { result ≡ SCI_OK
-        → IsReply (Some kept.old) bytes.old bytes.new used.new (Some kept.new) }
-    ensures refused { result ≡ SCI_NOT_ENABLED → OnNode (Some kept.old)
-        (λ node. node_replying node ≡ None) }
-    ensures misuse { result ≡ SCI_MISUSE → node_in (Some kept.old) ≡ None }
-    ensures status { (result ≡ SCI_OK) ⊎ ((result ≡ SCI_NOT_ENABLED) ⊎ (result ≡ SCI_MISUSE)) }
-    ensures same { result ≢ SCI_OK → kept.new ≡ kept.old }
-    ensures same_bytes { result ≢ SCI_OK → bytes.new ≡ bytes.old }
-    ensures same_used { result ≢ SCI_OK → used.new ≡ used.old }
-{
-    match kept {
+    match object.as_mut() {
         Thing::Node(node) => match node.take_answer() {
             Some(packet) => {
                 *used = encode(&packet, bytes);

@@ -1,12 +1,10 @@
 //! One order of all entries of logs.
 
-ghost use Rattle.std.specs.Prelude.{◌≡◌, ◌≢◌, ◌≤◌, ◌<◌, ◌⊎◌, ◌↔◌, ◌++◌, Some, None, IsSome, IfOk, drop, length, map};
-ghost use Rattle.sci_history.specs.Lawful.{Lawful};
-ghost use Rattle.sci_history.specs.Sequential.{IsSequentiallyConsistent};
+ghost use Rattle.std.specs.Prelude.{◌≡◌, ◌≢◌, ◌<◌, ◌⊎◌, ◌++◌, None, IfOk, drop, length, map};
 ghost use Rattle.sci_c_values.specs.declared.status.TheConstants.{SCI_FULL, SCI_MISUSE, SCI_NO_MEMORY, SCI_OK};
 ghost use Rattle.sci_c.specs.declared.ordering.TheConstants.{CYCLE, ORDER, UNLAWFUL};
 ghost use Rattle.sci_c.specs.Kinds.{OnLogs, logs_in};
-ghost use Rattle.sci_c.specs.Order.{IsCycleIn, IsOrderIn, NeedsRoom, ref_struct, step_struct};
+ghost use Rattle.sci_c.specs.Order.{IsOrdering, ref_struct, step_struct};
 
 use crate::handle::SciObject;
 use crate::journal::Journal;
@@ -74,17 +72,7 @@ fn found_order(
     entries: &mut [SciEntry],
     used: &mut usize,
 ) -> u32
-    ensures order { result ≡ SCI_OK → kind.new ≡ ORDER
-        → IsOrderIn entries.old entries.new used.new journal.now }
-    ensures cycle { result ≡ SCI_OK → kind.new ≡ CYCLE
-        → IsCycleIn entries.old entries.new used.new journal.now }
-    ensures unlawful { result ≡ SCI_OK → kind.new ≡ UNLAWFUL
-        → Lawful journal.now.logs journal.now.last → ⊥ }
-    ensures kinds { result ≡ SCI_OK → kind.new ≤ UNLAWFUL }
-    ensures ordered { result ≡ SCI_OK → ((kind.new ≡ ORDER)
-        ↔ (Lawful journal.now.logs journal.now.last
-        × IsSequentiallyConsistent journal.now.logs journal.now.last)) }
-    ensures full { result ≡ SCI_FULL → NeedsRoom entries.old used.new journal.now }
+    ensures answer { IsOrdering entries.old entries.new kind.new used.new result journal.now }
     ensures status { (result ≡ SCI_OK) ⊎ ((result ≡ SCI_FULL) ⊎ (result ≡ SCI_NO_MEMORY)) }
     ensures same { result ≢ SCI_OK → entries.new ≡ entries.old }
     ensures same_kind { result ≢ SCI_OK → kind.new ≡ kind.old }
@@ -117,19 +105,8 @@ pub extern "C" fn sci_logs_order(
     entries: &mut [SciEntry],
     used: &mut usize,
 ) -> u32
-    ensures order { result ≡ SCI_OK → kind.new ≡ ORDER
-        → OnLogs object.old.value (IsOrderIn entries.old entries.new used.new) }
-    ensures cycle { result ≡ SCI_OK → kind.new ≡ CYCLE
-        → OnLogs object.old.value (IsCycleIn entries.old entries.new used.new) }
-    ensures unlawful { result ≡ SCI_OK → kind.new ≡ UNLAWFUL → OnLogs object.old.value
-        (λ journal. Lawful journal.logs journal.last → ⊥) }
-    ensures kinds { result ≡ SCI_OK → kind.new ≤ UNLAWFUL }
-    ensures ordered { result ≡ SCI_OK → OnLogs object.old.value (λ journal.
-        (kind.new ≡ ORDER) ↔ (Lawful journal.logs journal.last
-        × IsSequentiallyConsistent journal.logs journal.last)) }
-    ensures full { result ≡ SCI_FULL
-        → OnLogs object.old.value (NeedsRoom entries.old used.new) }
-    ensures memory { result ≡ SCI_NO_MEMORY → IsSome (logs_in object.old.value) }
+    ensures answer { result ≢ SCI_MISUSE → OnLogs object.old.value
+        (IsOrdering entries.old entries.new kind.new used.new result) }
     ensures misuse { result ≡ SCI_MISUSE → logs_in object.old.value ≡ None }
     ensures status { (result ≡ SCI_OK) ⊎ ((result ≡ SCI_FULL) ⊎ ((result ≡ SCI_NO_MEMORY) ⊎ (result ≡ SCI_MISUSE))) }
     ensures same { result ≢ SCI_OK → entries.new ≡ entries.old }

@@ -1,13 +1,9 @@
 //! What a node does with a packet that has come to it.
 
-ghost use Rattle.std.specs.Prelude.{◌≡◌, ◌≢◌, ◌≤◌, ◌<◌, ◌↔◌, IsTrue, Some, None, IsSome};
-ghost use Rattle.sci_packets.specs.Fault.{fault_of};
+ghost use Rattle.std.specs.Prelude.{◌≡◌, ◌↔◌, IsTrue, Some, None, false};
 ghost use Rattle.sci_cache.specs.Cache.{letter_of};
 ghost use Rattle.sci_core.specs.Node.{IsForNode, IsServable, node_accepting, node_refusing, node_serving};
-ghost use Rattle.sci_c_values.specs.declared.status.TheConstants.{SCI_BAD_IDENTIFIER, SCI_FULL, SCI_MISUSE, SCI_NOT_ENABLED, SCI_NO_MEMORY, SCI_OK, SCI_RANGE};
-ghost use Rattle.sci_c.specs.Kinds.{node_in};
-ghost use Rattle.sci_c.specs.Node.{IsNotForIt, IsNotTaken, IsTaken};
-ghost use Rattle.sci_c.specs.Packet.{fault_status};
+ghost use Rattle.sci_c.specs.Taking.{IsGiving, IsTakable, node_taking};
 
 use crate::handle::SciObject;
 use crate::thing::Thing;
@@ -34,145 +30,79 @@ fn is_servable(node: &Node, packet: &Packet) -> bool
         || packet.line % u64::from(node.extent().nodes) == u64::from(node.me())
 }
 
+/// What a node does with a packet: it serves or refuses a request, or accepts an answer.
+#[derive(Clone, Copy)]
+enum Taking {
+    Serve,
+    Refuse,
+    Accept,
+}
+
+impl Taking {
+    /// Whether the packet may be given to the node for it.
+    fn may(self, node: &Node, packet: &Packet) -> bool
+        ensures { IsTrue result ↔ IsTakable self node.now (letter_of packet.now) }
+    {
+        match self {
+            Taking::Serve | Taking::Refuse => is_servable(node, packet),
+            Taking::Accept => is_for_node(node, packet),
+        }
+    }
+
+    /// Gives the packet to the node. False, unchanged, if the node doesn't take it.
+    fn give(self, node: &mut Node, packet: &Packet) -> bool
+        requires { IsTakable self node.old (letter_of packet.now) }
+        ensures taken { IsTrue result
+            → node_taking self node.old (letter_of packet.now) ≡ Some node.new }
+        ensures not { result ≡ false → node_taking self node.old (letter_of packet.now) ≡ None }
+        ensures same { result ≡ false → node.new ≡ node.old }
+    {
+        match self {
+            Taking::Serve => node.serve(packet),
+            Taking::Refuse => node.refuse(packet),
+            Taking::Accept => node.accept(packet),
+        }
+    }
+}
+
 /// Serves the request that the bytes begin with. Its answer waits then.
 #[unsafe(no_mangle)]
 pub extern "C" fn sci_node_serve(object: &mut SciObject, bytes: &[u8]) -> u32
-    ensures done { result ≡ SCI_OK
-        → IsTaken IsServable node_serving bytes.now object.old.value object.new.value }
-    ensures refused { result ≡ SCI_NOT_ENABLED
-        → IsNotTaken IsServable node_serving bytes.now object.old.value }
-    ensures range { result ≡ SCI_RANGE → IsNotForIt IsServable bytes.now object.old.value }
-    ensures fault { SCI_FULL < result → result ≡ fault_status (fault_of bytes.now) }
-    ensures fault_node { SCI_FULL < result → IsSome (node_in object.old.value) }
-    ensures misuse { result ≡ SCI_MISUSE → node_in object.old.value ≡ None }
-    ensures status { (result ≤ SCI_BAD_IDENTIFIER) × (result ≢ SCI_NO_MEMORY) × (result ≢ SCI_FULL) }
-    ensures same { result ≢ SCI_OK → object.new.value ≡ object.old.value }
+    ensures { IsGiving IsServable node_serving bytes.now object.old.value result object.new.value }
 {
-    if object.live() == 0 {
-        return SCI_MISUSE;
-    }
-    serve(object.as_mut(), bytes)
-}
-
-fn serve(kept: &mut Thing, bytes: &[u8]) -> u32
-    ensures done { result ≡ SCI_OK
-        → IsTaken IsServable node_serving bytes.now (Some kept.old) (Some kept.new) }
-    ensures refused { result ≡ SCI_NOT_ENABLED
-        → IsNotTaken IsServable node_serving bytes.now (Some kept.old) }
-    ensures range { result ≡ SCI_RANGE → IsNotForIt IsServable bytes.now (Some kept.old) }
-    ensures fault { SCI_FULL < result → result ≡ fault_status (fault_of bytes.now) }
-    ensures fault_node { SCI_FULL < result → IsSome (node_in (Some kept.old)) }
-    ensures misuse { result ≡ SCI_MISUSE → node_in (Some kept.old) ≡ None }
-    ensures status { (result ≤ SCI_BAD_IDENTIFIER) × (result ≢ SCI_NO_MEMORY) × (result ≢ SCI_FULL) }
-    ensures same { result ≢ SCI_OK → kept.new ≡ kept.old }
-{
-    match kept {
-        Thing::Node(node) => match decode(bytes) {
-            Ok((packet, _)) => {
-                if !is_servable(node, &packet) {
-                    return SCI_RANGE;
-                }
-                if node.serve(&packet) {
-                    SCI_OK
-                } else {
-                    SCI_NOT_ENABLED
-                }
-            }
-            Err(fault) => status_of_fault(fault),
-        },
-        _ => SCI_MISUSE,
-    }
+    take(object, Taking::Serve, bytes)
 }
 
 /// Answers the request that the bytes begin with as busy. The answer waits then.
 #[unsafe(no_mangle)]
 pub extern "C" fn sci_node_refuse(object: &mut SciObject, bytes: &[u8]) -> u32
-    ensures done { result ≡ SCI_OK
-        → IsTaken IsServable node_refusing bytes.now object.old.value object.new.value }
-    ensures refused { result ≡ SCI_NOT_ENABLED
-        → IsNotTaken IsServable node_refusing bytes.now object.old.value }
-    ensures range { result ≡ SCI_RANGE → IsNotForIt IsServable bytes.now object.old.value }
-    ensures fault { SCI_FULL < result → result ≡ fault_status (fault_of bytes.now) }
-    ensures fault_node { SCI_FULL < result → IsSome (node_in object.old.value) }
-    ensures misuse { result ≡ SCI_MISUSE → node_in object.old.value ≡ None }
-    ensures status { (result ≤ SCI_BAD_IDENTIFIER) × (result ≢ SCI_NO_MEMORY) × (result ≢ SCI_FULL) }
-    ensures same { result ≢ SCI_OK → object.new.value ≡ object.old.value }
+    ensures { IsGiving IsServable node_refusing bytes.now object.old.value result object.new.value }
 {
-    if object.live() == 0 {
-        return SCI_MISUSE;
-    }
-    refuse(object.as_mut(), bytes)
-}
-
-fn refuse(kept: &mut Thing, bytes: &[u8]) -> u32
-    ensures done { result ≡ SCI_OK
-        → IsTaken IsServable node_refusing bytes.now (Some kept.old) (Some kept.new) }
-    ensures refused { result ≡ SCI_NOT_ENABLED
-        → IsNotTaken IsServable node_refusing bytes.now (Some kept.old) }
-    ensures range { result ≡ SCI_RANGE → IsNotForIt IsServable bytes.now (Some kept.old) }
-    ensures fault { SCI_FULL < result → result ≡ fault_status (fault_of bytes.now) }
-    ensures fault_node { SCI_FULL < result → IsSome (node_in (Some kept.old)) }
-    ensures misuse { result ≡ SCI_MISUSE → node_in (Some kept.old) ≡ None }
-    ensures status { (result ≤ SCI_BAD_IDENTIFIER) × (result ≢ SCI_NO_MEMORY) × (result ≢ SCI_FULL) }
-    ensures same { result ≢ SCI_OK → kept.new ≡ kept.old }
-{
-    match kept {
-        Thing::Node(node) => match decode(bytes) {
-            Ok((packet, _)) => {
-                if !is_servable(node, &packet) {
-                    return SCI_RANGE;
-                }
-                if node.refuse(&packet) {
-                    SCI_OK
-                } else {
-                    SCI_NOT_ENABLED
-                }
-            }
-            Err(fault) => status_of_fault(fault),
-        },
-        _ => SCI_MISUSE,
-    }
+    take(object, Taking::Refuse, bytes)
 }
 
 /// Accepts the answer that the bytes begin with.
 #[unsafe(no_mangle)]
 pub extern "C" fn sci_node_accept(object: &mut SciObject, bytes: &[u8]) -> u32
-    ensures done { result ≡ SCI_OK
-        → IsTaken IsForNode node_accepting bytes.now object.old.value object.new.value }
-    ensures refused { result ≡ SCI_NOT_ENABLED
-        → IsNotTaken IsForNode node_accepting bytes.now object.old.value }
-    ensures range { result ≡ SCI_RANGE → IsNotForIt IsForNode bytes.now object.old.value }
-    ensures fault { SCI_FULL < result → result ≡ fault_status (fault_of bytes.now) }
-    ensures fault_node { SCI_FULL < result → IsSome (node_in object.old.value) }
-    ensures misuse { result ≡ SCI_MISUSE → node_in object.old.value ≡ None }
-    ensures status { (result ≤ SCI_BAD_IDENTIFIER) × (result ≢ SCI_NO_MEMORY) × (result ≢ SCI_FULL) }
-    ensures same { result ≢ SCI_OK → object.new.value ≡ object.old.value }
+    ensures { IsGiving IsForNode node_accepting bytes.now object.old.value result object.new.value }
+{
+    take(object, Taking::Accept, bytes)
+}
+
+/// Gives the node the packet that the bytes begin with.
+fn take(object: &mut SciObject, taking: Taking, bytes: &[u8]) -> u32
+    ensures { IsGiving (IsTakable taking) (node_taking taking) bytes.now object.old.value result object.new.value }
 {
     if object.live() == 0 {
         return SCI_MISUSE;
     }
-    accept(object.as_mut(), bytes)
-}
-
-fn accept(kept: &mut Thing, bytes: &[u8]) -> u32
-    ensures done { result ≡ SCI_OK
-        → IsTaken IsForNode node_accepting bytes.now (Some kept.old) (Some kept.new) }
-    ensures refused { result ≡ SCI_NOT_ENABLED
-        → IsNotTaken IsForNode node_accepting bytes.now (Some kept.old) }
-    ensures range { result ≡ SCI_RANGE → IsNotForIt IsForNode bytes.now (Some kept.old) }
-    ensures fault { SCI_FULL < result → result ≡ fault_status (fault_of bytes.now) }
-    ensures fault_node { SCI_FULL < result → IsSome (node_in (Some kept.old)) }
-    ensures misuse { result ≡ SCI_MISUSE → node_in (Some kept.old) ≡ None }
-    ensures status { (result ≤ SCI_BAD_IDENTIFIER) × (result ≢ SCI_NO_MEMORY) × (result ≢ SCI_FULL) }
-    ensures same { result ≢ SCI_OK → kept.new ≡ kept.old }
-{
-    match kept {
+    match object.as_mut() {
         Thing::Node(node) => match decode(bytes) {
             Ok((packet, _)) => {
-                if !is_for_node(node, &packet) {
+                if !taking.may(node, &packet) {
                     return SCI_RANGE;
                 }
-                if node.accept(&packet) {
+                if taking.give(node, &packet) {
                     SCI_OK
                 } else {
                     SCI_NOT_ENABLED

@@ -1,6 +1,6 @@
 //! Audits of logs, and logs as text.
 
-ghost use Rattle.std.specs.Prelude.{◌≡◌, ◌≢◌, ◌⊎◌, ◌↔◌, Some, None, IsSome};
+ghost use Rattle.std.specs.Prelude.{◌≡◌, ◌≢◌, ◌⊎◌, ◌↔◌, None, IsSome};
 ghost use Rattle.sci_history.specs.Lawful.{Lawful};
 ghost use Rattle.sci_c_values.specs.declared.status.TheConstants.{SCI_FULL, SCI_MISUSE, SCI_NO_MEMORY, SCI_OK, SCI_TEXT};
 ghost use Rattle.sci_c.specs.Kinds.{OnLogs, logs_in};

@@ -1,4 +1,5 @@
-use Rattle.std.proofs.Common.{◌≡◌, ◌++◌, ◌∙◌, ℕ, List, Option, drop, length, map, sym, ap, subst}
+use Rattle.std.proofs.Common.{rules, arith, ◌≡◌, ◌++◌, ◌∙◌, ℕ, List, Option, drop, length, map, sym, ap, subst}
+use Rattle.std.proofs.lemmas.Grind.{common_steps}
 use Rattle.std.proofs.lemmas.Simd.{map-map}
 use Rattle.std.proofs.lemmas.List.{length-map}
 use denote.Ref.{Bor}
@@ -44,21 +45,35 @@ ordered_for logs seen last kept found order p q r h =
     subst (λ (ls : List (List Entry)). IsSequentialOrder ls last (entries_of order.items)) p
     (subst (λ (l : List Stamped). IsSequentialOrder seen l (entries_of order.items)) q (subst (IsOrderVerdict seen kept) r h).1)
 
-pub returns-in-Ok-clause-order : goal.returns-in-Ok-clause-order
-returns-in-Ok-clause-order c = λ ok kind.
+pub returns-in-Ok-clause-answer : goal.returns-in-Ok-clause-answer
+returns-in-Ok-clause-answer c =
     let order = c.in-Ok-Order.order in
     let made = c.deref-in-Ok.ensures.value ∙ c.in-Ok.ensures ∙ ap (map ref_struct) c.deref.ensures.value ∙
     sym (map-map entry_struct (λ ref. ref.now) order.items) in
     record {
-      order = entries_of order.items;
-      is_order = ordered_for c.args.journal.now.logs c.logs-logs.result.now c.args.journal.now.last c.last.result.now c.in-Ok-Order.field-0 order
-          c.logs-logs.ensures.logs c.last.ensures c.in-Ok-Order.field-0-is c.in-Ok-Order.ensures.verdict;
-      entries = c.put.ensures.written ok ∙ ap (λ (structs : List SciEntry). structs ++ drop c.put.new.used c.args.entries.now) made;
-      length_is = c.put.ensures.used ∙ ap length made ∙ length-map (entries_of order.items) entry_struct;
+      order = λ ok kind. record {
+        order = entries_of order.items;
+        is_order = ordered_for c.args.journal.now.logs c.logs-logs.result.now c.args.journal.now.last c.last.result.now c.in-Ok-Order.field-0 order
+            c.logs-logs.ensures.logs c.last.ensures c.in-Ok-Order.field-0-is c.in-Ok-Order.ensures.verdict;
+        entries = c.put.ensures.written ok ∙ ap (λ (structs : List SciEntry). structs ++ drop c.put.new.used c.args.entries.now) made;
+        length_is = c.put.ensures.used ∙ ap length made ∙ length-map (entries_of order.items) entry_struct;
+      };
+      cycle = search rules;
+      unlawful = search rules;
+      kinds = search rules;
+      ordered = search rules;
+      full = grind (arith, common_steps);
     }
 
-pub returns-in-Ok-Fault-clause-unlawful : goal.returns-in-Ok-Fault-clause-unlawful
-returns-in-Ok-Fault-clause-unlawful c = λ ok kind lawful.
-    faulty_for c.args.journal.now.logs c.logs-logs.result.now c.args.journal.now.last c.last.result.now c.in-Ok-Fault.field-0 _ _ _
-    c.logs-logs.ensures.logs c.last.ensures c.in-Ok-Fault.field-0-is c.nodes-sixteen.ensures.own
-    (sym c.nodes-sixteen.ensures.nodes ∙ c.nodes-sixteen.ensures.sixteen) c.in-Ok-Fault.ensures.verdict lawful
+pub returns-in-Ok-Fault-clause-answer : goal.returns-in-Ok-Fault-clause-answer
+returns-in-Ok-Fault-clause-answer c = record {
+  order = search rules;
+  cycle = search rules;
+  unlawful = λ ok kind lawful.
+      faulty_for c.args.journal.now.logs c.logs-logs.result.now c.args.journal.now.last c.last.result.now c.in-Ok-Fault.field-0 _ _ _
+      c.logs-logs.ensures.logs c.last.ensures c.in-Ok-Fault.field-0-is c.nodes-sixteen.ensures.own
+      (sym c.nodes-sixteen.ensures.nodes ∙ c.nodes-sixteen.ensures.sixteen) c.in-Ok-Fault.ensures.verdict lawful;
+  kinds = search rules;
+  ordered = search rules;
+  full = search rules;
+}

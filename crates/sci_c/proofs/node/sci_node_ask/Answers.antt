@@ -1,9 +1,6 @@
-use Rattle.std.proofs.Common.{refl, ap}
-use Rattle.std.specs.Prelude.{Some}
-use Rattle.sci_c.specs.declared.thing.Thing.{Thing}
-use Rattle.sci_c.specs.Kinds.{node_in}
+use Rattle.std.proofs.Common.{rules, refl}
 use Rattle.sci_cache.specs.Cache.{letter_of}
-use Rattle.sci_c.proofs.node.do_ask.Goals as goal
+use Rattle.sci_c.proofs.node.sci_node_ask.Goals as goal
 
 pub returns-in-Some-ask-clause-done : goal.returns-in-Some-ask-clause-done
 returns-in-Some-ask-clause-done c = λ status. record {
@@ -11,7 +8,7 @@ returns-in-Some-ask-clause-done c = λ status. record {
   after = c.ask.new.self;
   kind = c.in-Some.kind;
   letter = letter_of c.in-Some-ask.packet;
-  was = ap (λ (thing : Thing). node_in (Some thing)) c.in-Node.is;
+  was = search rules;
   is_now = refl;
   number = c.in-Some.ensures;
   asked = c.in-Some-ask.ensures.asked;

@@ -1,16 +1,13 @@
-use Rattle.std.proofs.Common.{refl, ap}
-use Rattle.std.specs.Prelude.{Some}
-use Rattle.sci_c.specs.declared.thing.Thing.{Thing}
-use Rattle.sci_c.specs.Kinds.{node_in}
+use Rattle.std.proofs.Common.{rules, refl}
 use Rattle.sci_cache.specs.Cache.{letter_of}
-use Rattle.sci_c.proofs.node.take_answer.Goals as goal
+use Rattle.sci_c.proofs.node.sci_node_take_answer.Goals as goal
 
 pub returns-in-Some-clause-done : goal.returns-in-Some-clause-done
 returns-in-Some-clause-done c = λ status. record {
   before = c.in-Node.node;
   after = c.take_answer.new.self;
   letter = letter_of c.in-Some.packet;
-  was = ap (λ (thing : Thing). node_in (Some thing)) c.in-Node.is;
+  was = search rules;
   is_now = refl;
   replied = c.in-Some.ensures.taken;
   spelled = record { packet = c.in-Some.packet; letter_is = refl; bytes = c.encode.ensures.bytes; length_is = c.encode.ensures.length };
