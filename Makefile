@@ -8,7 +8,7 @@ NEED_CARGO = command -v cargo > /dev/null || { echo "cargo is missing: install R
 PROGRAMS = crates/scimem/out/scimem crates/sciview/out/sciview crates/sci_circle/out/sci_circle
 SOURCES = crates.txt HANDLES $(shell find crates -name out -prune -o -path '*_tests' -prune -o \( -name '*.rt' -o -name '*.antt' \) -print)
 
-.PHONY: run test check fmt bench fuzz soak faults install build library install-library plants cases examples charts clean
+.PHONY: run test check fmt bench growth fuzz soak faults install build library install-library plants cases examples charts clean
 
 PREFIX = /usr/local
 
@@ -96,6 +96,10 @@ soak: build
 # gate.
 fuzz: build
 	@scripts/measure/fuzz.py $(or $(SECONDS),60) $(or $(SEED),1)
+
+# Builds both programs, and prints how the cost of each command grows with its input. It isn't part of the gate.
+growth: build
+	@scripts/measure/growth.py $(or $(RUNS),5)
 
 # Builds the programs, and the plain program of bench/ by cargo; checks that they write the same bytes, and prints what each
 # takes: make bench RUNS=9 SUBJECTS="oracle replay". It isn't part of the gate.

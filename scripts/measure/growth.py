@@ -1,0 +1,118 @@
+#!/usr/bin/env python3
+"""Prints how the cost of each command grows with its input: two tables, of sizes and of nodes.
+
+    scripts/measure/growth.py [RUNS]    the least processor time of so many runs of each, 5 if it isn't said
+
+A size is a number of operations of a script, of events of a schedule, of entries of a log, or of packets. The slope is that of
+the time from the last size but one to the last: 1 if twice the input takes twice the time. The second table has the packets and
+the words of packets an operation, by the nodes of a machine, in runs of `sciview run`. It needs the built programs."""
+
+import math
+import os
+import re
+import resource
+import subprocess
+import sys
+
+TOP = os.path.dirname(os.path.dirname(os.path.dirname(os.path.abspath(__file__))))
+SCIMEM, SCIVIEW = (f"{TOP}/crates/{it}/out/{it}" for it in ("scimem", "sciview"))
+INPUTS = f"{TOP}/scripts/make/inputs.py"
+SIZES = [2**it for it in range(10, 21, 2)]
+# A schedule has at most 500,000 events.
+EVENTS = [it for it in SIZES if it < 2**19] + [500_000]
+NODES = (1, 2, 4, 8, 16)
+# The commands with the input that each reads.
+COMMANDS = [
+    (SCIMEM, "oracle", "script"),
+    (SCIMEM, "audit", "log"),
+    (SCIMEM, "upgrade", "log"),
+    (SCIMEM, "decode", "packets"),
+    (SCIVIEW, "order", "log"),
+    (SCIVIEW, "explain", "log"),
+    (SCIMEM, "replay", "schedule"),
+    (SCIVIEW, "packets", "schedule"),
+    (SCIVIEW, "trace", "schedule"),
+    (SCIVIEW, "lists", "schedule"),
+    (SCIVIEW, "stats", "schedule"),
+    (SCIVIEW, "chart", "schedule"),
+    (SCIVIEW, "check", "schedule"),
+    (SCIVIEW, "random 16 64 8 SIZE 1", None),
+]
+
+
+def output(words, given=None):
+    return subprocess.run(words, input=given, stdout=subprocess.PIPE, check=True).stdout
+
+
+def inputs():
+    """The largest inputs by their kinds."""
+    script = output([INPUTS, "script", "65536"])
+    return {
+        "script": script.splitlines(True),
+        "log": {it: output([SCIMEM, "oracle"], b"".join(script.splitlines(True)[: it + 1])) for it in SIZES},
+        "schedule": output([INPUTS, "schedule"]).splitlines(True),
+        "packets": {it: output([INPUTS, "packets", str(it // 8)]) for it in SIZES},
+    }
+
+
+def given_of(made, kind, size):
+    """The input of a kind that has this size."""
+    if kind is None:
+        return b""
+    of_kind = made[kind]
+    return of_kind[size] if isinstance(of_kind, dict) else b"".join(of_kind[: size + 1])
+
+
+def seconds(words, given):
+    """The processor time of a run."""
+    before = resource.getrusage(resource.RUSAGE_CHILDREN)
+    subprocess.run(words, input=given, stdout=subprocess.DEVNULL, check=True)
+    after = resource.getrusage(resource.RUSAGE_CHILDREN)
+    return after.ru_utime + after.ru_stime - before.ru_utime - before.ru_stime
+
+
+def row(made, program, command, kind, runs):
+    """The cells of a command."""
+    sizes = EVENTS if kind in ("schedule", None) else SIZES
+    took = []
+    for size in sizes:
+        words = [program, *command.replace("SIZE", str(size)).split()]
+        given = given_of(made, kind, size)
+        took.append(min(seconds(words, given) for _ in range(runs)))
+    slope = math.log(took[-1] / took[-2]) / math.log(sizes[-1] / sizes[-2])
+    return [f"`{command.split()[0]}`", *(f"{it:.3f}" for it in took), f"{slope:.2f}"]
+
+
+def moved(nodes):
+    """Packets and words an operation, of 1,000 operations a node."""
+    head, *lines = output([INPUTS, "workload", "mixed", str(nodes)]).splitlines(True)
+    kept, script = [0] * nodes, [head]
+    for line in lines:
+        node = int(line.split()[1])
+        if kept[node] < 1000:
+            kept[node] += 1
+            script.append(line)
+    figures = output([SCIVIEW, "stats"], output([SCIVIEW, "run"], b"".join(script))).decode()
+    figure = lambda name: int(re.search(rf"^{name} (\d+)$", figures, re.M).group(1))
+    count = sum(kept)
+    return [str(nodes), f"{figure('packets.sent') / count:.2f}", f"{figure('packets.bytes') / 8 / count:.1f}", f"{figure('events.enabled') / count:.2f}"]
+
+
+def tell(cells):
+    print("| " + " | ".join(cells) + " |", flush=True)
+
+
+def main(words):
+    runs, made = int(words[0]) if words else 5, inputs()
+    tell(["seconds", *(f"{it:,}" for it in SIZES[:-1]), f"{SIZES[-1]:,}, or {EVENTS[-1]:,} events", "slope"])
+    tell(["---"] * (len(SIZES) + 2))
+    for program, command, kind in COMMANDS:
+        tell(row(made, program, command, kind, runs))
+    print()
+    tell(["nodes", "packets an operation", "words an operation", "events an operation"])
+    tell(["---"] * 4)
+    for nodes in NODES:
+        tell(moved(nodes))
+
+
+main(sys.argv[1:])
