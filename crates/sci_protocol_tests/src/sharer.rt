@@ -51,8 +51,11 @@ impl Sharer {
         if line >= self.lines {
             return None;
         }
-        match (self.cache.asked(line, kind), self.cache.ask(line, kind)) {
-            (Ok(told), Ok(request)) if request == told => Some(request),
+        let Ok(told) = self.cache.asked(line, kind) else {
+            return None;
+        };
+        match self.cache.ask(line, kind) {
+            Ok(request) if request == told => Some(request),
             _ => None,
         }
     }
@@ -62,8 +65,11 @@ impl Sharer {
         if line >= self.lines {
             return None;
         }
-        match (self.cache.asked(line, kind), self.cache.ask(line, kind)) {
-            (Err(told), Err(fault)) if fault == told => Some(fault),
+        let Err(told) = self.cache.asked(line, kind) else {
+            return None;
+        };
+        match self.cache.ask(line, kind) {
+            Err(fault) if fault == told => Some(fault),
             _ => None,
         }
     }
