@@ -11,6 +11,7 @@ use Rattle.sci_station.proofs.Cells.{front_found}
 use Rattle.sci_station.proofs.Spelled.{front_spelled, never_refused, only_that}
 use Rattle.sci_station.proofs.Stills.{still_takes}
 use Rattle.sci_station.proofs.receiving.read_packet.Goals as goal
+use Rattle.sci_station.proofs.receiving.read_packet.Goals.{After-from_words}
 
 some_few : {count : ℕ} → (count ≡ 2) ⊎ (count ≡ 11) → (1 ≤ count) × (count ≤ 11)
 some_few (inl two) = (omega arith, omega arith)
@@ -35,30 +36,29 @@ read-requires-clause-some c = (some_few c.word_count.ensures.sizes).0
 pub read-requires-clause-few : goal.read-requires-clause-few
 read-requires-clause-few c = (some_few c.word_count.ensures.sizes).1
 
+few_words : (c : After-from_words) → c.word_count.result ≤ length c.read.new.words
+few_words c = let within = (some_few c.word_count.ensures.sizes).1 in let long = c.read.array_long in omega arith
+
+still_next : (c : After-from_words) → IsNextToTake c.read.new.end.part c.args.seen.cell
+still_next c = still_takes c.args.end.now c.read.new.end c.args.seen.cell c.read.ensures.still c.requires.next
+
+whole : (c : After-from_words)
+    → (q : Packet) × SpellsInWords q (inbound_at c.read.new.end.part (lane_at_cell c.read.new.end.part c.args.seen.cell)).found
+whole c =
+    found_packet c.read.new.end.part c.args.seen.cell c.args.seen.first c.word_count.result c.read.new.words c.read.ensures.shown (still_next c)
+    (c.in_ok-read.ensures.found refl) c.read.array_long c.read.ensures.begins c.word_count.ensures.packet (some_few c.word_count.ensures.sizes)
+
 pub unreachable-requires : goal.unreachable-requires
 unreachable-requires c =
-    let few = some_few c.word_count.ensures.sizes in
-    let within = few.1 in
-    let long = c.read.array_long in
-    let found = c.in_ok-read.ensures.found refl in
-    let next = still_takes c.args.end.now c.read.new.end c.args.seen.cell c.read.ensures.still c.requires.next in
-    let whole = found_packet c.read.new.end.part c.args.seen.cell c.args.seen.first c.word_count.result c.read.new.words c.read.ensures.shown next found long
-    c.read.ensures.begins c.word_count.ensures.packet few in
-    never_refused whole.0 c.word_count.result c.read.new.words _ c.in-Err.field-0 c.from_words.result whole.1 found (omega arith) c.from_words.ensures.only
-    c.in-Err.is
+    let d = (goal.at.unreachable-requires c).After-from_words in
+    never_refused (whole d).0 c.word_count.result c.read.new.words _ c.in-Err.field-0 c.from_words.result (whole d).1 (c.in_ok-read.ensures.found refl)
+    (few_words d) c.from_words.ensures.only c.in-Err.is
 
 pub returns-clause-read : goal.returns-clause-read
 returns-clause-read c =
-    let few = some_few c.word_count.ensures.sizes in
-    let within = few.1 in
-    let long = c.read.array_long in
-    let found = c.in_ok-read.ensures.found refl in
-    let next = still_takes c.args.end.now c.read.new.end c.args.seen.cell c.read.ensures.still c.requires.next in
-    let whole = found_packet c.read.new.end.part c.args.seen.cell c.args.seen.first c.word_count.result c.read.new.words c.read.ensures.shown next found long
-    c.read.ensures.begins c.word_count.ensures.packet few in
-    record {
+    let d = (goal.at.returns-clause-read c).After-from_words in record {
       shown = c.read.ensures.shown;
-      next = next;
-      spelled = only_that whole.0 c.in-Ok.packet c.word_count.result c.in-Ok.field-0-1 c.read.new.words _ c.from_words.result whole.1 found (omega arith)
-          c.from_words.ensures.only c.in-Ok.is;
+      next = still_next d;
+      spelled = only_that (whole d).0 c.in-Ok.packet c.word_count.result c.in-Ok.field-0-1 c.read.new.words _ c.from_words.result (whole d).1
+          (c.in_ok-read.ensures.found refl) (few_words d) c.from_words.ensures.only c.in-Ok.is;
     }
