@@ -12,7 +12,6 @@ mod laws;
 mod machine;
 mod node;
 mod obstacle;
-mod outcome;
 mod pending;
 mod progress;
 mod queue;
@@ -36,7 +35,6 @@ pub use laws::{
 pub use machine::Machine;
 pub use node::Node;
 pub use obstacle::Obstacle;
-pub use outcome::push_log;
 pub use pending::Pending;
 pub use progress::{packets_move_on, packets_run_out, weightless_is_drained, weights_are_bounded};
 pub use queue::{first_come_first_served, members_wait_in_line, the_first_is_served};

@@ -3,7 +3,6 @@
 use crate::fault::ApplyFault;
 use crate::lane::{Lane, LaneKind};
 use crate::node::Node;
-use crate::outcome::push_log;
 use crate::sharing_list::Sharing;
 use crate::state::State;
 use sci_history::{Entry, Last, Logs};
@@ -240,7 +239,7 @@ impl Machine {
     {
         let mut logs = Logs::new(alloc);
         for n in 0..self.state.nodes() {
-            push_log(&mut logs, n, self.state.node(n).log())?;
+            logs.put(n, Vec::from_slice(alloc, self.state.node(n).log())?);
         }
         Ok(logs)
     }
@@ -307,5 +306,18 @@ impl Machine {
             last.set(line, self.state.last_at(line));
         }
         last
+    }
+
+    /// Ends the machine, and gives its logs and its last contents, which are those of `logs` and `last`. Takes no memory.
+    pub fn finish(self, alloc: Global) -> (Logs, Last)
+        ensures logs { result.0 ≡ logs_of self }
+        ensures last { result.1 ≡ last_of self }
+        ensures within { AreWithin self.size.lines result.0 }
+        ensures lines { length result.1 ≡ self.size.lines }
+        ensures lawful { Lawful result.0 result.1 }
+        ensures consistent { IsSequentiallyConsistent result.0 result.1 }
+    {
+        let last = self.last();
+        (self.state.into_logs(alloc), last)
     }
 }

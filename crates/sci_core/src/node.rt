@@ -138,6 +138,13 @@ impl Node {
         })
     }
 
+    /// The log of the node, which ends with that.
+    pub fn into_log(self) -> Vec<Entry>
+        ensures { result.items ≡ self.log }
+    {
+        self.log
+    }
+
     /// Takes the answer that waits, to be sent to its target. None, unchanged, if none waits.
     pub fn take_answer(&mut self) -> Option<Packet>
         ensures taken { IfSome result

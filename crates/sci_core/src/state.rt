@@ -2,6 +2,7 @@
 
 use crate::lane::{Lane, LaneKind};
 use crate::node::Node;
+use sci_history::Logs;
 use sci_packets::{Body, Packet};
 use sci_words::Extent;
 use std::alloc::{AllocError, Global};
@@ -33,6 +34,8 @@ impl State {
     ghost use Rattle.sci_core.specs.Node.{NodeOf};
     ghost use Rattle.sci_core.specs.Core.{core_of, lane_place, lane_of, with_lane, with_sent, node_at, opening, HasSize};
     ghost use Rattle.sci_core.specs.Size.{size_of};
+    ghost use Rattle.sci_core.specs.Outcome.{logs_of};
+    ghost use Rattle.sci_core.specs.WellFormed.{IsWellFormed};
 
     /// Where a lane stands among all: in the order of kinds, then of senders, then of receivers.
     fn place(&self, kind: LaneKind, from: usize, to: usize) -> usize
@@ -79,6 +82,18 @@ impl State {
             nodes,
             lanes,
         }
+    }
+
+    /// The logs of all nodes; those beyond the machine's are empty. Takes no memory.
+    pub(crate) fn into_logs(self, alloc: Global) -> Logs
+        requires { IsWellFormed self }
+        ensures { result ≡ logs_of self }
+    {
+        let mut logs = Logs::new(alloc);
+        for node in self.nodes {
+            logs.put(node.me(), node.into_log());
+        }
+        logs
     }
 
     /// A copy of all nodes and lanes. Refused if memory is.

@@ -1,6 +1,7 @@
 //! The logs of all nodes.
 
 ghost use Rattle.std.specs.Prelude.{◌≡◌, ◌≢◌, ◌≤◌, ◌<◌, ◌++◌, ◌∷◌, [], ◌↔◌, List, ℕ, length, replicate, slice_set, IfOk, OnOk, OnErr, IsErrOf};
+ghost use Rattle.std.specs.List.{All};
 ghost use Rattle.sci_words.specs.declared.limits.TheConstants.{MAX_NODES, MAX_OPERATIONS};
 ghost use Rattle.sci_history.specs.Placed.{AreOwn, in_serial_order as in_serial_order_of, log_of};
 ghost use Rattle.sci_history.specs.Sequential.{by_serial as by_serial_of};
@@ -81,6 +82,16 @@ impl Logs {
     {
         let log = &mut self.lists[entry.node as usize];
         push_entry(log, entry)
+    }
+
+    /// Makes these entries the log of a node, in place of those that it has. Requires that the node is below 16, and that
+    /// the entries are its own.
+    pub fn put(&mut self, node: u8, log: Vec<Entry>)
+        requires node { node < MAX_NODES }
+        requires own { All (λ entry. entry.node ≡ node) log.items }
+        ensures { self.new ≡ slice_set self.old node log.items }
+    {
+        self.lists[node as usize] = log;
     }
 
     /// The number of logs, which is 16. Each has its own node's entries.

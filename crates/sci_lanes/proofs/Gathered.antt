@@ -18,14 +18,13 @@ use Rattle.sci_core.specs.Core.{Core, core_of, node_at, lane_at, run}
 use Rattle.sci_core.specs.Reached.{IsReached}
 use Rattle.sci_core.specs.Outcome.{logs_of}
 use Rattle.sci_core.proofs.WellFormed.WellFormedSteps.{reached_well}
-use Rattle.sci_core.proofs.Basics.Logs.{all_logs}
 use Rattle.sci_core.proofs.ReachedLaws.{log_at, log_beyond, schedule_log}
 use Rattle.sci_lanes.specs.declared.view.Part.{Part}
 use Rattle.sci_lanes.specs.Cells.{lane_count, receiver_of, word_count}
 use Rattle.sci_lanes.specs.Shown.{AreEnabled, Fits, nodes_of, me_of, IsKnown, IsSeen}
 use Rattle.sci_lanes.specs.Telling.{no_part, size_in}
 use Rattle.sci_lanes.specs.Ends.{EndOf, LanesOf}
-use Rattle.sci_lanes.specs.Gathering.{IsOf, AreAll, AreGathered, AreJoined, AreKept, AreLanes, AreLogged, AreMadeBy, HasNodes, HaveInboxTurns, HaveLogs}
+use Rattle.sci_lanes.specs.Gathering.{IsOf, AreAll, AreGathered, AreJoined, AreKept, AreLanes, AreMadeBy, HasNodes, HaveInboxTurns, HaveLogs}
 use Rattle.sci_lanes.specs.Gathering.{IsReadOff, TakesFrom}
 use Rattle.sci_lanes.proofs.Keeping.{all_at}
 use Rattle.sci_lanes.proofs.Events.{count_is}
@@ -131,17 +130,6 @@ module _ {Z : Type 0} where
 
     pub led_enabled : AreEnabled (size_of extent limit) [] r.whole.schedule
     led_enabled = subst (λ (z : Size). AreEnabled z [] r.whole.schedule) sized r.enabled
-
-    -- the logs of the ends are its logs
-    pub logs_there : (logs : List (List Entry)) → AreLogged extent.nodes ends logs → logs ≡ logs_of (core_of extent limit nodes lanes)
-    logs_there logs a = all_logs (core_of extent limit nodes lanes) logs extent.nodes j.nodes_long a.sixteen each
-      where
-        each : (k : ℕ) → log_of logs k ≡ if nat_lt k extent.nodes then (get_or nodes k no_node).log else []
-        each k = elim (cases_lt k extent.nodes) [
-          | inl lt ↦ rw (lt-ltb k extent.nodes lt) (let h = a.here k lt in
-              h.4 ∙ ap (λ (x : NodeOf). x.log) (sym (ap (λ (m : ℕ). get_or nodes m no_node) (sym h.3) ∙ end_node h.0 h.1 h.2)))
-          | inr le ↦ rw (le-ltb k extent.nodes le) (a.none k le)
-        ]
 
 -- logs of the state where a schedule leads are what it makes
 pub logs_made : (size : Size) (schedule : List Event) (core : Core) (logs : List (List Entry)) → IsSize size → run size schedule ≡ core → logs ≡ logs_of core

@@ -15,6 +15,5 @@ pub mod Places
 pub mod Uniqueness
 pub mod Gathering
 pub mod Reading
-pub mod Logged
 pub mod Joining
 pub mod Gathered

@@ -164,12 +164,6 @@ pub record IsFresh (count : ℕ) (room : Room) : Type 0 where
   pub packets_long : length room.packets.items ≡ lane_count count
   pub packets : AllByRecursion (λ q. HasFour q.items (deque_len q) (deque_capacity q)) room.packets.items
 
--- sixteen logs: that of an end of each node, and empty ones for the others
-pub record AreLogged (nodes : ℕ) (ends : List EndOf) (logs : List (List Entry)) : Type 0 where
-  pub sixteen : length logs ≡ MAX_NODES
-  pub here : (n : ℕ) → n < nodes → (place : ℕ) × (end : EndOf) × (slice_get ends place ≡ Some end) × (me_of end.part ≡ n) × (log_of logs n ≡ end.part.node.log)
-  pub none : (n : ℕ) → nodes ≤ n → log_of logs n ≡ []
-
 module _ {Z : Type 0} where
   -- the number of the cell of a lane to take from is this one
   abbrev pub TakesFrom : ℕ → List (Vec ℕ Z) → ℕ → ℕ → Type 0

@@ -6,7 +6,7 @@ use crate::lanes::Lanes;
 use crate::rule::{Gather, LaneTable};
 use crate::view::View;
 use atomic_table::Seat;
-use sci_core::{Lane, Machine, Node, push_log};
+use sci_core::{Lane, Machine, Node};
 use sci_history::{Last, Logs};
 use sci_packets::{Packet, from_words};
 use sci_words::LANE_CELLS;
@@ -28,7 +28,7 @@ impl Lanes {
     ghost use Rattle.sci_history.specs.Lawful.{Lawful};
     ghost use Rattle.sci_history.specs.Sequential.{IsSequentiallyConsistent};
     ghost use Rattle.sci_lanes.specs.declared.gather.FinishFault.TheVariants.{Memory, Missing};
-    ghost use Rattle.sci_lanes.specs.Gathering.{AreAll, AreGathered, AreLogged, AreOf, HaveLogs, IsFresh};
+    ghost use Rattle.sci_lanes.specs.Gathering.{AreAll, AreGathered, AreOf, HaveLogs, IsFresh};
 
     /// Gives the logs of all nodes, and the last contents of each line, in the state that the table shows. The ends may
     /// come in any order, with packets in their lanes, or with who has them. Requires that they are ends of
@@ -60,18 +60,17 @@ impl Lanes {
         if !are_all(&ends, self.extent.nodes) {
             return Err((FinishFault::Missing, self, ends));
         }
-        match Room::new(alloc, self.extent.nodes, &ends) {
-            Ok(room) => Ok(self.read(ends, room)),
+        match Room::new(alloc, self.extent.nodes) {
+            Ok(room) => Ok(self.read(alloc, ends, room)),
             Err(_) => Err((FinishFault::Memory, self, ends)),
         }
     }
 
     /// Joins the ends, and reads the state that the table shows.
-    fn read<E: HasEnd + Drop>(self, ends: Vec<E>, room: Room) -> (Logs, Last)
+    fn read<E: HasEnd + Drop>(self, alloc: Global, ends: Vec<E>, room: Room) -> (Logs, Last)
         requires own { AreOf self (map E.end_of ends.items) }
         requires all { AreAll self.size.nodes (map E.end_of ends.items) }
         requires fresh { IsFresh self.size.nodes room }
-        requires logs { AreLogged self.size.nodes (map E.end_of ends.items) room.logs }
         ensures { AreGathered self.size (map E.end_of ends.items) result.0 result.1 }
     {
         let Lanes {
@@ -81,7 +80,6 @@ impl Lanes {
             limit,
         } = self;
         let Room {
-            logs,
             mut nodes,
             mut inbox_turns,
             mut words,
@@ -91,8 +89,7 @@ impl Lanes {
         join_all(&mut seat, ends, &mut nodes, &mut inbox_turns, extent.nodes);
         read_words(&table, &mut seat, &mut words, extent.nodes);
         read_lanes(&mut lanes, packets, &words, &inbox_turns, extent.nodes);
-        let machine = Machine::of_parts(extent, limit, nodes, lanes);
-        (logs, machine.last())
+        Machine::of_parts(extent, limit, nodes, lanes).finish(alloc)
     }
 }
 
@@ -109,13 +106,11 @@ ghost use Rattle.sci_lanes.specs.declared.view.Outbound.{Outbound};
 ghost use Rattle.sci_lanes.specs.Cells.{lane_count, word_count};
 ghost use Rattle.sci_lanes.specs.Shown.{Fits, me_of};
 ghost use Rattle.sci_lanes.specs.Ends.{EndOf, no_view, nodes_in};
-ghost use Rattle.sci_lanes.specs.Gathering.{AreAll, AreJoined, AreKept, AreLanes, AreLogged, HasEndOf};
+ghost use Rattle.sci_lanes.specs.Gathering.{AreAll, AreJoined, AreKept, AreLanes, HasEndOf};
 ghost use Rattle.sci_lanes.specs.Gathering.{HasFour, HasNodes, HasRoom, HaveInboxTurns, IsFresh, IsPacketAt, IsReadOff};
 
 /// Memory for a gathering, all of it made before the first end is joined.
 struct Room {
-    /// The logs of all nodes.
-    logs: Logs,
     nodes: Vec<Node>,
     /// For each node the numbers of the cells from which it takes next, for each lane to it.
     inbox_turns: Vec<Vec<u8>>,
@@ -126,12 +121,10 @@ struct Room {
 }
 
 impl Room {
-    /// Memory for the gathering of these ends, which are those of all nodes, with their logs.
-    fn new<E: HasEnd>(alloc: Global, nodes: u8, ends: &[E]) -> Result<Room, AllocError>
+    /// Memory for the gathering of so many nodes.
+    fn new(alloc: Global, nodes: u8) -> Result<Room, AllocError>
         requires few { nodes ≤ MAX_NODES }
-        requires all { AreAll nodes (map E.end_of ends.now) }
         ensures fresh { IfOk result (IsFresh nodes) }
-        ensures logs { IfOk result (λ room. AreLogged nodes (map E.end_of ends.now) room.logs) }
     {
         let count = usize::from(nodes);
         let lane_count = 2 * count * count;
@@ -140,7 +133,6 @@ impl Room {
             packets.push_reserved(VecDeque::with_capacity(alloc, usize::from(LANE_CELLS))?);
         }
         Ok(Room {
-            logs: logs_of(alloc, nodes, ends)?,
             nodes: Vec::with_capacity(alloc, count)?,
             inbox_turns: Vec::with_capacity(alloc, count)?,
             words: Vec::with_capacity(alloc, own_word(nodes, nodes))?,
@@ -148,22 +140,6 @@ impl Room {
             lanes: Vec::with_capacity(alloc, lane_count)?,
         })
     }
-}
-
-/// The logs of these ends, which are those of all nodes. Refused if memory is.
-fn logs_of<E: HasEnd>(alloc: Global, nodes: u8, ends: &[E]) -> Result<Logs, AllocError>
-    requires few { nodes ≤ MAX_NODES }
-    requires all { AreAll nodes (map E.end_of ends.now) }
-    ensures { IfOk result (AreLogged nodes (map E.end_of ends.now)) }
-{
-    let mut logs = Logs::new(alloc);
-    for n in 0..nodes {
-        let Some(place) = place_of(ends, n) else {
-            unreachable!()
-        };
-        push_log(&mut logs, n, ends[place].end().node().log())?;
-    }
-    Ok(logs)
 }
 
 /// Where the end of a node is.

@@ -183,30 +183,28 @@ impl Recorder {
     }
 
     /// The schedule of all that has happened, with the logs and the last contents that it leads to. Requires that no event
-    /// was lost. Refused if memory is.
-    pub(crate) fn finish(self, alloc: Global) -> Result<Ended, AllocError>
+    /// was lost.
+    pub(crate) fn finish(self, alloc: Global) -> Ended
         requires { self.lost ≡ None }
-        ensures schedule { IfOk result (λ ended. ended.schedule ≡ self.schedule) }
-        ensures logs { IfOk result (λ ended. ended.logs ≡ logs_of self.core) }
-        ensures last { IfOk result (λ ended. ended.last ≡ last_of self.core) }
-        ensures good { IfOk result (λ ended. IsSchedule ended.schedule) }
+        ensures schedule { result.schedule ≡ self.schedule }
+        ensures logs { result.logs ≡ logs_of self.core }
+        ensures last { result.last ≡ last_of self.core }
+        ensures good { IsSchedule result.schedule }
         ensures reached { IsReached self.core }
-        ensures led { IfOk result (λ ended. HasLed ended.schedule.events self.core) }
-        ensures sized { IfOk result (λ ended. IsOfSize self.core.size ended.schedule) }
-        ensures lines { IfOk result (λ ended. length ended.last ≡ self.core.size.lines) }
-        ensures within { IfOk result (λ ended. AreWithin self.core.size.lines ended.logs) }
-        ensures lawful { IfOk result (λ ended. Lawful ended.logs ended.last) }
-        ensures consistent { IfOk result
-            (λ ended. IsSequentiallyConsistent ended.logs ended.last) }
+        ensures led { HasLed result.schedule.events self.core }
+        ensures sized { IsOfSize self.core.size result.schedule }
+        ensures lines { length result.last ≡ self.core.size.lines }
+        ensures within { AreWithin self.core.size.lines result.logs }
+        ensures lawful { Lawful result.logs result.last }
+        ensures consistent { IsSequentiallyConsistent result.logs result.last }
     {
         // Read, so that the prover knows that the schedule is one.
         let _events = self.events.schedule.events();
-        let logs = self.machine.logs(alloc)?;
-        let last = self.machine.last();
-        Ok(Ended {
+        let (logs, last) = self.machine.finish(alloc);
+        Ended {
             schedule: self.events.schedule,
             logs,
             last,
-        })
+        }
     }
 }

@@ -62,7 +62,7 @@ pub fn run_script(alloc: Global, script: &Script, plan: Plan) -> Result<Run, Run
     let mut table = Table::new(alloc, script, &operations, plan.issuing)?;
     let mut order = Order::new(plan.seed);
     let ran = table.go_on(&mut order, plan.turns)?;
-    let ended = table.finish(alloc)?;
+    let ended = table.finish(alloc);
     Ok(Run {
         schedule: ended.schedule,
         logs: ended.logs,

@@ -161,27 +161,21 @@ impl<'a> Table<'a> {
         })
     }
 
-    /// The schedule of the run so far, with the logs and the last contents behind it. Requires that no event was lost. Refused
-    /// if memory is.
-    pub(crate) fn finish(self, alloc: Global) -> Result<Ended, RunFault>
+    /// The schedule of the run so far, with the logs and the last contents behind it. Requires that no event was lost.
+    pub(crate) fn finish(self, alloc: Global) -> Ended
         requires { self.recorder.lost ≡ None }
-        ensures run { IfOk result
-            (λ ended. IsRunOf self.entry.script self.entry.issuing false ended.schedule) }
-        ensures whole { All IsAnswered self.entry.drivers → IfOk result
-            (λ ended. IsRunOf self.entry.script self.entry.issuing true ended.schedule) }
-        ensures behind { IfOk result (λ ended.
-            run (size_for self.entry.script) ended.schedule.events
-            ≡ raised MAX_OPERATIONS self.entry.recorder.core) }
-        ensures logs { IfOk result
-            (λ ended. ended.logs ≡ logs_behind self.entry.script ended.schedule) }
-        ensures last { IfOk result
-            (λ ended. ended.last ≡ last_behind self.entry.script ended.schedule) }
-        ensures lines { IfOk result (λ ended. length ended.last ≡ self.entry.script.lines) }
-        ensures within { IfOk result (λ ended. AreWithin self.entry.script.lines ended.logs) }
-        ensures lawful { IfOk result (λ ended. Lawful ended.logs ended.last) }
-        ensures consistent { IfOk result
-            (λ ended. IsSequentiallyConsistent ended.logs ended.last) }
+        ensures run { IsRunOf self.entry.script self.entry.issuing false result.schedule }
+        ensures whole { All IsAnswered self.entry.drivers →
+            IsRunOf self.entry.script self.entry.issuing true result.schedule }
+        ensures behind { run (size_for self.entry.script) result.schedule.events
+            ≡ raised MAX_OPERATIONS self.entry.recorder.core }
+        ensures logs { result.logs ≡ logs_behind self.entry.script result.schedule }
+        ensures last { result.last ≡ last_behind self.entry.script result.schedule }
+        ensures lines { length result.last ≡ self.entry.script.lines }
+        ensures within { AreWithin self.entry.script.lines result.logs }
+        ensures lawful { Lawful result.logs result.last }
+        ensures consistent { IsSequentiallyConsistent result.logs result.last }
     {
-        Ok(self.recorder.finish(alloc)?)
+        self.recorder.finish(alloc)
     }
 }

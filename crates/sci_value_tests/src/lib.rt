@@ -14,6 +14,8 @@ mod packet_tests;
 #[cfg(test)]
 mod random_tests;
 #[cfg(test)]
+mod readers;
+#[cfg(test)]
 mod ring_tests;
 #[cfg(test)]
 mod schedule_tests;

@@ -28,6 +28,22 @@ fn contents() -> Stamped {
     Stamped { line, version: 9 }
 }
 
+/// A header of these two words, and contents of zero words at version 0.
+fn zeros(first: u64, second: u64) -> [u64; 11] {
+    let mut words = [0; 11];
+    words[0] = first;
+    words[1] = second;
+    words
+}
+
+/// A header of these two words, and contents of version 1 with 7 as their first word.
+fn one_seven(first: u64, second: u64) -> [u64; 11] {
+    let mut words = zeros(first, second);
+    words[2] = 1;
+    words[3] = 7;
+    words
+}
+
 /// The words of a packet with those contents, whose header these two are.
 fn long(first: u64, second: u64) -> [u64; 11] {
     [first, second, 9, 0x0102_0304_0506_0708, 2, 3, 4, 5, 6, 7, 8]
@@ -137,7 +153,7 @@ fn packets(rt: HostRuntime) -> Result<(), Fail> {
         body: Body::Mread,
     };
     let first = 0x0000_0001_0001_0000;
-    let words = [first, NONE, 0, 0, 0, 0, 0, 0, 0, 0, 0];
+    let words = zeros(first, NONE);
     both_ways(&rt, mread, &words, 2);
     let bytes = bytes_of(&words);
     assert_eq!(rt; decode(&bytes[..16]), Ok((mread, 16)));
@@ -157,19 +173,7 @@ fn packets(rt: HostRuntime) -> Result<(), Fail> {
         line: 3,
         body: Body::Mgone { old_head: node(0)? },
     };
-    let words = [
-        0x0001_0102_0000_0002,
-        0x00C0_0000,
-        0,
-        0,
-        0,
-        0,
-        0,
-        0,
-        0,
-        0,
-        0,
-    ];
+    let words = zeros(0x0001_0102_0000_0002, 0x00C0_0000);
     both_ways(&rt, mgone, &words, 2);
     Ok(())
 }
@@ -186,19 +190,7 @@ fn mdata(rt: HostRuntime) -> Result<(), Fail> {
             version: 1,
         }),
     };
-    let words = [
-        0x0001_0101_0000_FFFF,
-        0x0040_FFFF,
-        1,
-        7,
-        0,
-        0,
-        0,
-        0,
-        0,
-        0,
-        0,
-    ];
+    let words = one_seven(0x0001_0101_0000_FFFF, 0x0040_FFFF);
     both_ways(&rt, packet, &words, 11);
     Ok(())
 }
@@ -218,53 +210,17 @@ fn fdata(rt: HostRuntime) -> Result<(), Fail> {
             },
         },
     };
-    let words = [
-        0x0001_010A_0000_0002,
-        0x00C0_0000,
-        0,
-        0,
-        0,
-        0,
-        0,
-        0,
-        0,
-        0,
-        0,
-    ];
+    let words = zeros(0x0001_010A_0000_0002, 0x00C0_0000);
     both_ways(&rt, packet, &words, 11);
     Ok(())
 }
 
 #[test]
 fn decode_faults(rt: HostRuntime) {
-    let words = [
-        0x0001_0101_0000_FFFF,
-        0x0040_FFFF,
-        1,
-        7,
-        0,
-        0,
-        0,
-        0,
-        0,
-        0,
-        0,
-    ];
+    let words = one_seven(0x0001_0101_0000_FFFF, 0x0040_FFFF);
     assert_eq!(rt; decode(&bytes_of(&words)[..16]), Err(PacketFault::Short));
     assert_eq!(rt; from_words(&words[..2]), Err(PacketFault::Short));
-    let words = [
-        0x0001_0101_0000_FFFF,
-        0x0041_FFFF,
-        1,
-        7,
-        0,
-        0,
-        0,
-        0,
-        0,
-        0,
-        0,
-    ];
+    let words = one_seven(0x0001_0101_0000_FFFF, 0x0041_FFFF);
     assert_eq!(rt;
         decode(&bytes_of(&words)[..16]),
         Err(PacketFault::BadOffset)

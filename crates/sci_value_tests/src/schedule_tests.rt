@@ -1,10 +1,10 @@
 //! Schedules that are read, and schedules that are refused.
 
+use crate::readers::{Dripping, Many, at, repeated};
 use sci_text::*;
 use sci_words::{Act, AskKind, Event, Extent, Op};
-use std::alloc::{AllocError, Global};
-use std::io;
-use std::io::{ErrorKind, Read};
+use std::alloc::Global;
+use std::io::ErrorKind;
 use std::test::Fail;
 
 const ONE_STORE: &[u8] =
@@ -18,21 +18,8 @@ fn fault_of(alloc: Global, text: &[u8]) -> Option<TextFault> {
     read(alloc, text).err()
 }
 
-fn at(line: usize, kind: TextFaultKind) -> Option<TextFault> {
-    Some(TextFault { line, kind })
-}
-
 fn ask(node: u8, line: u8, kind: AskKind) -> Event {
     Event::Ask { node, line, kind }
-}
-
-/// A text of `front` and `count` times `line`.
-fn repeated(alloc: Global, front: &[u8], line: &[u8], count: usize) -> Result<Vec<u8>, AllocError> {
-    let mut text = Vec::from_slice(alloc, front)?;
-    for _ in 0..count {
-        text.extend_from_slice(line)?;
-    }
-    Ok(text)
 }
 
 #[test]
@@ -198,63 +185,17 @@ fn too_many_events(rt: HostRuntime) -> Result<(), Fail> {
     Ok(())
 }
 
-/// Gives so many bytes.
-#[derive(Drop)]
-struct Many(usize);
-
-impl Read for Many {
-    fn read(&mut self, buf: &mut [u8]) -> io::Result<usize> {
-        let count = buf.len().min(self.0);
-        for byte in buf.iter_mut() {
-            *byte = b'm';
-        }
-        self.0 -= count;
-        Ok(count)
-    }
-}
-
 #[test]
 fn too_long_a_schedule(rt: HostRuntime) {
     let more = read_schedule(rt.alloc(), &mut Tap::new(Many(134_217_729)));
     assert_eq!(rt; more.err(), at(0, TextFaultKind::TooMany));
 }
 
-/// Gives one byte at a time, and fails at the read of this number alone.
-#[derive(Drop)]
-struct Dripping<'a> {
-    rest: &'a [u8],
-    reads: usize,
-    fails_at: usize,
-}
-
-impl Read for Dripping<'_> {
-    fn read(&mut self, buf: &mut [u8]) -> io::Result<usize> {
-        let fails = self.reads == self.fails_at;
-        self.reads = self.reads.saturating_add(1);
-        if fails {
-            return Err(io::Error::from(ErrorKind::Other));
-        }
-        let Some((first, rest)) = self.rest.split_first() else {
-            return Ok(0);
-        };
-        if buf.is_empty() {
-            return Ok(0);
-        }
-        buf[0] = *first;
-        self.rest = rest;
-        Ok(1)
-    }
-}
-
 #[test]
 fn each_read_of_a_schedule_fails_in_turn(rt: HostRuntime) -> Result<(), Fail> {
     let whole = read(rt.alloc(), ONE_STORE)?;
     for fails_at in 0..=ONE_STORE.len() + 1 {
-        let mut tap = Tap::new(Dripping {
-            rest: ONE_STORE,
-            reads: 0,
-            fails_at,
-        });
+        let mut tap = Tap::new(Dripping::new(rt.alloc(), ONE_STORE, fails_at, ErrorKind::Other));
         let result = read_schedule(rt.alloc(), &mut tap);
         let fails = fails_at <= ONE_STORE.len();
         assert_eq!(rt; tap.failed(), fails, "{fails_at}");

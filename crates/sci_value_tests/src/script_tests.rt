@@ -1,10 +1,10 @@
 //! Texts that are read, and texts that are refused, by readers of several kinds.
 
+use crate::readers::{Dripping, KINDS, Many, at, repeated};
 use sci_text::*;
 use sci_words::{Act, Extent, LockOp, Op};
-use std::alloc::{AllocError, Global};
-use std::io;
-use std::io::{ErrorKind, Read};
+use std::alloc::Global;
+use std::io::ErrorKind;
 use std::test::Fail;
 
 const STORE_THEN_LOAD: &[u8] = b"machine 2 1 1\np 0 store 0 0 7\np 1 load 0 0\n";
@@ -17,21 +17,8 @@ fn fault_of(alloc: Global, text: &[u8]) -> Option<TextFault> {
     read(alloc, text).err()
 }
 
-fn at(line: usize, kind: TextFaultKind) -> Option<TextFault> {
-    Some(TextFault { line, kind })
-}
-
 fn op(line: u8, word: u8, act: Act) -> Op {
     Op { line, word, act }
-}
-
-/// A text of `front` and `count` times `line`.
-fn repeated(alloc: Global, front: &[u8], line: &[u8], count: usize) -> Result<Vec<u8>, AllocError> {
-    let mut text = Vec::from_slice(alloc, front)?;
-    for _ in 0..count {
-        text.extend_from_slice(line)?;
-    }
-    Ok(text)
 }
 
 #[test]
@@ -231,55 +218,12 @@ fn limits(rt: HostRuntime) -> Result<(), Fail> {
     Ok(())
 }
 
-/// Gives so many bytes.
-#[derive(Drop)]
-struct Many(usize);
-
-impl Read for Many {
-    fn read(&mut self, buf: &mut [u8]) -> io::Result<usize> {
-        let count = buf.len().min(self.0);
-        for byte in buf.iter_mut() {
-            *byte = b'p';
-        }
-        self.0 -= count;
-        Ok(count)
-    }
-}
-
 #[test]
 fn too_long(rt: HostRuntime) {
     let most = read_script(rt.alloc(), &mut Tap::new(Many(134_217_728)));
     assert_eq!(rt; most.err(), at(1, TextFaultKind::Syntax));
     let more = read_script(rt.alloc(), &mut Tap::new(Many(134_217_729)));
     assert_eq!(rt; more.err(), at(0, TextFaultKind::TooMany));
-}
-
-/// Gives one byte at a time, and fails at the read of this number alone.
-#[derive(Drop)]
-struct Dripping<'a> {
-    rest: &'a [u8],
-    reads: usize,
-    fails_at: usize,
-    with: ErrorKind,
-}
-
-impl Read for Dripping<'_> {
-    fn read(&mut self, buf: &mut [u8]) -> io::Result<usize> {
-        let fails = self.reads == self.fails_at;
-        self.reads = self.reads.saturating_add(1);
-        if fails {
-            return Err(io::Error::from(self.with));
-        }
-        let Some((first, rest)) = self.rest.split_first() else {
-            return Ok(0);
-        };
-        if buf.is_empty() {
-            return Ok(0);
-        }
-        buf[0] = *first;
-        self.rest = rest;
-        Ok(1)
-    }
 }
 
 #[test]
@@ -291,12 +235,7 @@ fn a_reader_of_one_byte_at_a_time(rt: HostRuntime) -> Result<(), Fail> {
         b"",
     ];
     for text in texts {
-        let mut tap = Tap::new(Dripping {
-            rest: text,
-            reads: 0,
-            fails_at: usize::MAX,
-            with: ErrorKind::Other,
-        });
+        let mut tap = Tap::new(Dripping::new(rt.alloc(), text, usize::MAX, ErrorKind::Other));
         let whole = read(rt.alloc(), text);
         let dripped = read_script(rt.alloc(), &mut tap);
         assert!(rt; !tap.failed());
@@ -311,14 +250,9 @@ fn a_reader_of_one_byte_at_a_time(rt: HostRuntime) -> Result<(), Fail> {
 
 #[test]
 fn each_read_fails_in_turn(rt: HostRuntime) {
-    for with in [ErrorKind::Other, ErrorKind::Interrupted] {
+    for with in KINDS {
         for fails_at in 0..=STORE_THEN_LOAD.len() + 1 {
-            let mut tap = Tap::new(Dripping {
-                rest: STORE_THEN_LOAD,
-                reads: 0,
-                fails_at,
-                with,
-            });
+            let mut tap = Tap::new(Dripping::new(rt.alloc(), STORE_THEN_LOAD, fails_at, with));
             let result = read_script(rt.alloc(), &mut tap);
             let fails = fails_at <= STORE_THEN_LOAD.len();
             assert_eq!(rt; tap.failed(), fails, "{fails_at}");

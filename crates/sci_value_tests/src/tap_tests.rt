@@ -1,49 +1,11 @@
 //! Taps: each call is passed on, once, with the whole buffer, and nothing comes after the first that fails.
 
+use crate::readers::{Dripping, KINDS, at};
 use sci_history::{Last, Logs};
 use sci_text::*;
 use std::alloc::Global;
 use std::io;
 use std::io::{ErrorKind, Read, Write};
-
-/// Gives one byte at a time, fails at the read of this number alone, and notes how large each buffer was.
-#[derive(Drop)]
-struct Noting<'a> {
-    rest: &'a [u8],
-    fails_at: usize,
-    with: ErrorKind,
-    sizes: Vec<usize>,
-}
-
-impl<'a> Noting<'a> {
-    fn new(alloc: Global, rest: &'a [u8], fails_at: usize, with: ErrorKind) -> Noting<'a> {
-        Noting {
-            rest,
-            fails_at,
-            with,
-            sizes: Vec::new(alloc),
-        }
-    }
-}
-
-impl Read for Noting<'_> {
-    fn read(&mut self, buf: &mut [u8]) -> io::Result<usize> {
-        let fails = self.sizes.len() == self.fails_at;
-        self.sizes.push(buf.len())?;
-        if fails {
-            return Err(io::Error::from(self.with));
-        }
-        let Some((first, rest)) = self.rest.split_first() else {
-            return Ok(0);
-        };
-        if buf.is_empty() {
-            return Ok(0);
-        }
-        buf[0] = *first;
-        self.rest = rest;
-        Ok(1)
-    }
-}
 
 /// Takes up to so many bytes of each write, except that the call of number `fails_at` fails or takes nothing, and
 /// notes how large each buffer was; for a flush it notes 1,000.
@@ -89,12 +51,10 @@ impl Write for Taking {
 
 const SCRIPT: &[u8] = b"machine 1 1 1\n";
 
-const KINDS: [ErrorKind; 2] = [ErrorKind::Other, ErrorKind::Interrupted];
-
 #[test]
 fn a_read_is_passed_on_once(rt: HostRuntime) {
     for with in KINDS {
-        let mut inner = Noting::new(rt.alloc(), b"ab", 1, with);
+        let mut inner = Dripping::new(rt.alloc(), b"ab", 1, with);
         let mut tap = Tap::new(&mut inner);
         let mut long = [0u8; 100];
         let mut middle = [0u8; 60];
@@ -156,14 +116,10 @@ fn a_write_of_no_bytes_fails_only_by_an_error(rt: HostRuntime) {
 fn nothing_is_read_after_a_failed_read(rt: HostRuntime) {
     for with in KINDS {
         for fails_at in 0..=SCRIPT.len() {
-            let mut inner = Noting::new(rt.alloc(), SCRIPT, fails_at, with);
+            let mut inner = Dripping::new(rt.alloc(), SCRIPT, fails_at, with);
             let mut tap = Tap::new(&mut inner);
             let read = read_script(rt.alloc(), &mut tap);
-            let fault = TextFault {
-                line: 0,
-                kind: TextFaultKind::Read,
-            };
-            assert_eq!(rt; read.err(), Some(fault));
+            assert_eq!(rt; read.err(), at(0, TextFaultKind::Read));
             assert!(rt; !tap.called_again());
             assert_eq!(rt; inner.sizes.len(), fails_at + 1);
         }
@@ -180,11 +136,7 @@ fn nothing_is_written_after_a_failed_write(rt: HostRuntime) {
             let mut inner = Taking::new(rt.alloc(), 5, fails_at, with);
             let mut tap = Tap::new(&mut inner);
             let wrote = write_logs(rt.alloc(), &mut tap, 1, &logs, &last);
-            let fault = TextFault {
-                line: 0,
-                kind: TextFaultKind::Write,
-            };
-            assert_eq!(rt; wrote.err(), Some(fault), "{fails_at}");
+            assert_eq!(rt; wrote.err(), at(0, TextFaultKind::Write), "{fails_at}");
             assert!(rt; tap.failed());
             assert!(rt; !tap.called_again());
             assert_eq!(rt; inner.sizes.len(), fails_at + 1);

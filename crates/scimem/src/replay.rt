@@ -30,9 +30,7 @@ fn answer<R: Read>(alloc: Global, reader: &mut Tap<R>) -> Result<Answer, TextFau
     let mut machine = Machine::new(alloc, extent, MAX_OPERATIONS)?;
     machine.run(schedule.events())?;
     drop(schedule);
-    let logs = machine.logs(alloc)?;
-    let last = machine.last();
-    drop(machine);
+    let (logs, last) = machine.finish(alloc);
     let text = logs_text(alloc, extent.nodes, &logs, &last)?;
     Ok(Answer {
         text,

@@ -1,20 +1,17 @@
 -- Logs that are filled one after another.
-use Rattle.std.proofs.Common.{◌≡◌, ℕ, ◌+◌, ◌<◌, ◌≤◌, nat_lt, if◌then◌else◌, List, [], ◌∷◌, ◌++◌, length, get_or, set, take, ◌∙◌, arith}
+use Rattle.std.proofs.Common.{◌≡◌, ℕ, ◌+◌, ◌<◌, ◌≤◌, nat_lt, if◌then◌else◌, inl, inr, List, [], ◌∷◌, ◌++◌, length, get_or, set, sym, refl, ap, subst, ◌∙◌, arith}
 use Rattle.std.specs.List.{All}
-use Rattle.std.proofs.lemmas.Bool.{cases_lt, lt-ltb, le-ltb}
-use Rattle.std.proofs.lemmas.List.{get_or_past, get_or-set_same, take_more, set-set}
+use Rattle.std.proofs.Math.Seq.{get_or-append_seam}
+use Rattle.std.proofs.lemmas.Bool.{cases_eq, cases_lt, lt-ltb, le-ltb}
+use Rattle.std.proofs.lemmas.List.{get_or_past, get_or-set_same, get_or-set_other, length-append}
 use Rattle.std.proofs.lemmas.List.FromFn.{fill_by_all}
 use Rattle.sci_words.specs.declared.limits.TheConstants.{MAX_OPERATIONS}
 use Rattle.sci_history.specs.declared.entry.Entry.{Entry}
 use Rattle.sci_history.specs.Placed.{log_of}
+use Rattle.sci_core.specs.Node.{NodeOf, no_node}
 use Rattle.sci_core.specs.Core.{Core, node_at}
 use Rattle.sci_core.specs.Outcome.{logs_of}
 use Rattle.sci_core.specs.WellFormed.{IsWellFormed}
-
-pub pushed_more : (logs now new : List (List Entry)) (n place : ℕ) (log : List Entry) (i : ℕ) (d : Entry) → n < length logs → place ≡ n → i < length log
-    → now ≡ set logs n (take i log)
-    → new ≡ set now place (log_of now place ++ get_or log i d ∷ []) → new ≡ set logs n (take (i + 1) log)
-pushed_more logs now new n place log i d below is inside e f = grind (arith, get_or-set_same, set-set, take_more)
 
 log_at : (core : Core) (n : ℕ) (k : ℕ) → length core.parts ≡ n → (if nat_lt k n then (node_at core k).log else []) ≡ (node_at core k).log
 log_at core n k long = grind (arith, cases_lt, lt-ltb, get_or_past, le-ltb)
@@ -30,3 +27,39 @@ pub short_log : (core : Core) (n : ℕ) → IsWellFormed core → core.size.limi
     → length (node_at core n).log ≤ MAX_OPERATIONS
 short_log core n well few lt = let part = well.each_part n lt in let most = part.most in let logged = part.fits.logged in let issued = part.fits.issued in
     omega arith
+
+-- the node that comes after so many others has their number, and its log is its own
+pub record IsNextNode (core : Core) (n : ℕ) (node : NodeOf) : Type 0 where
+  pub here : node_at core n ≡ node
+  pub below : n < core.size.nodes
+  pub numbered : node.cache.me ≡ n
+  pub own : All (λ (entry : Entry). entry.node ≡ n) node.log
+
+pub next_node : (core : Core) (before : List NodeOf) (node : NodeOf) (rest : List NodeOf) → IsWellFormed core → before ++ node ∷ rest ≡ core.parts
+    → IsNextNode core (length before) node
+next_node core before node rest well is =
+    let here : node_at core (length before) ≡ node =
+    ap (λ (parts : List NodeOf). get_or parts (length before) no_node) (sym is) ∙ get_or-append_seam before node rest no_node in
+    let longer = ap (λ (parts : List NodeOf). length parts) is in
+    let long = length-append before (node ∷ rest) in
+    let count = well.sizes.parts_long in
+    let below : length before < core.size.nodes = omega arith in
+    record {
+      here = here;
+      below = below;
+      numbered = subst (λ (part : NodeOf). part.cache.me ≡ length before) here (well.each_part (length before) below).me;
+      own = subst (λ (part : NodeOf). All (λ (entry : Entry). entry.node ≡ length before) part.log) here (own_log core (length before) well below);
+    }
+
+-- one node's log more
+pub logged_more : (core : Core) (logs : List (List Entry)) (n : ℕ) (log : List Entry) → n < length logs → log ≡ (node_at core n).log
+    → ((k : ℕ) → log_of logs k ≡ if nat_lt k n then (node_at core k).log else [])
+    → (k : ℕ) → log_of (set logs n log) k ≡ if nat_lt k (n + 1) then (node_at core k).log else []
+logged_more core logs n log few is each k = elim (cases_eq k n) [
+  | inl same ↦ rw (lt-ltb k (n + 1) (omega arith))
+      (ap (λ (j : ℕ). get_or (set logs n log) j []) same ∙ (get_or-set_same logs n log [] few ∙ (is ∙ ap (λ (j : ℕ). (node_at core j).log) (sym same))))
+  | inr apart ↦ get_or-set_other logs n k log [] apart ∙ (each k ∙ elim (cases_lt k n) [
+        | inl lt ↦ rw (lt-ltb k n lt, lt-ltb k (n + 1) (omega arith)) refl
+        | inr le ↦ rw (le-ltb k n le, le-ltb k (n + 1) (omega arith)) refl
+      ])
+]

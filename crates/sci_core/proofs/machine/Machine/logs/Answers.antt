@@ -1,4 +1,4 @@
--- Each node's log has its own entries, no more than it may issue.
+-- Each node's log has its own entries.
 use Rattle.std.proofs.Common.{◌≡◌, ◌≤◌, List, length, ap, sym, subst, ◌∙◌, arith}
 use Rattle.std.specs.List.{All}
 use Rattle.sci_words.specs.declared.limits.TheConstants.{MAX_OPERATIONS}
@@ -12,20 +12,14 @@ use Rattle.sci_core.specs.Outcome.{logs_of}
 use Rattle.sci_core.specs.Sharing.{last_of}
 use Rattle.sci_core.proofs.WellFormed.WellFormedSteps.{reached_well}
 use Rattle.sci_core.proofs.ReachedLaws.{reached_consistent, reached_lawful, reached_within}
-use Rattle.sci_core.proofs.Basics.Logs.{all_logs, own_log, short_log}
+use Rattle.sci_core.proofs.Basics.Logs.{all_logs, own_log}
 use Rattle.sci_core.proofs.machine.Machine.logs.Goals as goal
 
-pub push_log-requires-clause-own : goal.push_log-requires-clause-own
-push_log-requires-clause-own c =
-    let log = c.log.ensures ∙ ap (λ (node : NodeOf). node.log) c.node.ensures in
+pub put-requires-clause-own : goal.put-requires-clause-own
+put-requires-clause-own c =
+    let log = c.in_ok-from_slice.ensures.items ∙ (c.log.ensures ∙ ap (λ (node : NodeOf). node.log) c.node.ensures) in
     subst (All (λ (entry : Entry). entry.node ≡ c.loop-n.n)) (sym log)
     (own_log c.self.inside.state c.loop-n.n (reached_well c.self.inside.state c.self.invariant) (omega arith))
-
-pub push_log-requires-clause-room : goal.push_log-requires-clause-room
-push_log-requires-clause-room c =
-    let log = c.log.ensures ∙ ap (λ (node : NodeOf). node.log) c.node.ensures in
-    subst (λ (entries : List Entry). length entries ≤ MAX_OPERATIONS) (sym log)
-    (short_log c.self.inside.state c.loop-n.n (reached_well c.self.inside.state c.self.invariant) c.self.invariant.size.few_operations (omega arith))
 
 pub returns-clause-logs : goal.returns-clause-logs
 returns-clause-logs c =

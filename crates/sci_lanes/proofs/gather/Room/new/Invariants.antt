@@ -7,7 +7,7 @@ use Rattle.sci_lanes.specs.Gathering.{HasFour}
 use Rattle.sci_lanes.proofs.gather.Room.new.Given as goal
 
 abbrev pub invariant-loop-lane : goal.invariant-loop-lane
-invariant-loop-lane g l =
+invariant-loop-lane l =
     (length l.packets.items ≡ l._lane)
     × (l.lane_count ≤ vec_capacity l.packets)
     × AllByRecursion (λ q. HasFour q.items (deque_len q) (deque_capacity q)) l.packets.items

@@ -1,13 +1,14 @@
 use Rattle.std.proofs.Common.{ℕ, [], sym, ap, subst, ◌∙◌, map}
 use Rattle.sci_core.specs.Core.{core_of, run}
 use Rattle.sci_core.specs.Sharing.{last_of}
+use Rattle.sci_core.specs.Outcome.{logs_of}
 use Rattle.sci_core.specs.Size.{Size, IsSize}
 use Rattle.sci_core.proofs.WellFormed.WellFormedSteps.{is_size}
 use Rattle.sci_lanes.specs.Shown.{AreEnabled}
 use Rattle.sci_lanes.specs.Cells.{lane_count}
 use Rattle.sci_lanes.specs.Ends.{LanesOf}
-use Rattle.sci_lanes.specs.Gathering.{AreAll, AreLanes, AreLogged, HaveInboxTurns}
-use Rattle.sci_lanes.proofs.Gathered.{every_node, every_turn, end_node, end_seen, reached_core, led_core, led_enabled, logs_there, logs_made}
+use Rattle.sci_lanes.specs.Gathering.{AreAll, AreLanes, HaveInboxTurns}
+use Rattle.sci_lanes.proofs.Gathered.{every_node, every_turn, end_node, end_seen, reached_core, led_core, led_enabled, logs_made}
 use Rattle.sci_lanes.proofs.lanes.Lanes.read.Goals as goal
 
 pub join_all-requires-clause-own : goal.join_all-requires-clause-own
@@ -22,8 +23,8 @@ pub read_lanes-requires-clause-turns : goal.read_lanes-requires-clause-turns
 read_lanes-requires-clause-turns g c =
     subst (λ bs. HaveInboxTurns c.self.inside.extent.nodes bs) (sym c.deref-3.ensures.value) (every_turn _ _ _ _ c.join_all.ensures.joined)
 
-pub of_parts-machine-requires : goal.of_parts-machine-requires
-of_parts-machine-requires g c =
+pub of_parts-requires : goal.of_parts-requires
+of_parts-requires g c =
     let extent = c.self.inside.extent in
     let read = subst (λ bs. AreLanes extent.nodes c.deref-2.result.now bs (lane_count extent.nodes) c.read_lanes.new.lanes.items) c.deref-3.ensures.value
     c.read_lanes.ensures in
@@ -51,11 +52,7 @@ returns g c =
     ∙ led_core c.args.self extent c.self.inside.limit (map g.E.HasEnd.end_of c.args.ends.items) c.join_all.new.seat.me.0.parts c.join_all.new.nodes.items
     c.join_all.new.inbox_turns.items c.read_words.new.words.items c.read_lanes.new.lanes.items extent.has_node (sym size)
     c.requires.own all c.join_all.ensures.joined c.join_all.ensures.kept c.read_words.ensures.read c.read_words.ensures.long read in
-    let logs = logs_there c.args.self extent c.self.inside.limit (map g.E.HasEnd.end_of c.args.ends.items) c.join_all.new.seat.me.0.parts
-    c.join_all.new.nodes.items c.join_all.new.inbox_turns.items c.read_words.new.words.items c.read_lanes.new.lanes.items extent.has_node (sym size)
-    c.requires.own all c.join_all.ensures.joined c.join_all.ensures.kept c.read_words.ensures.read c.read_words.ensures.long read c.args.room.logs
-    (subst (λ (n : ℕ). AreLogged n (map g.E.HasEnd.end_of c.args.ends.items) c.args.room.logs) (sym (ap (λ (l : LanesOf). l.size.nodes) c.self.view_is))
-    c.requires.logs) in
+    let logs = c.finish.ensures.logs ∙ ap logs_of c.of_parts.ensures.parts in
     record {
       core = core_of extent c.self.inside.limit c.join_all.new.nodes.items c.read_lanes.new.lanes.items;
       reached = reached;
@@ -74,5 +71,5 @@ returns g c =
           c.requires.own all c.join_all.ensures.joined c.join_all.ensures.kept c.read_words.ensures.read c.read_words.ensures.long read;
       logs_are = logs;
       made = logs_made _ c.read_words.ensures.read.whole.schedule _ _ (subst IsSize size (is_size _ reached.size)) leads logs;
-      last_are = c.last.ensures.last ∙ ap last_of c.of_parts-machine.ensures.parts;
+      last_are = c.finish.ensures.last ∙ ap last_of c.of_parts.ensures.parts;
     }

@@ -3,21 +3,21 @@ use Rattle.sci_runs.proofs.Finished.{behind_of, ends_of, run_of}
 use Rattle.sci_runs.proofs.table.Table.finish.Goals as goal
 
 pub returns-clause-run : goal.returns-clause-run
-returns-clause-run c = run_of _ _ c.in_ok-finish.field-0.schedule c.self.view_is c.self.invariant c.in_ok-finish.ensures.led c.finish.ensures.reached
-    c.in_ok-finish.ensures.good c.in_ok-finish.ensures.sized false (λ is. absurd cc)
+returns-clause-run c = run_of _ _ c.finish.result.schedule c.self.view_is c.self.invariant c.finish.ensures.led c.finish.ensures.reached
+    c.finish.ensures.good c.finish.ensures.sized false (λ is. absurd cc)
 
 pub returns-clause-whole : goal.returns-clause-whole
 returns-clause-whole c = λ answered.
-    run_of _ _ c.in_ok-finish.field-0.schedule c.self.view_is c.self.invariant c.in_ok-finish.ensures.led c.finish.ensures.reached c.in_ok-finish.ensures.good
-    c.in_ok-finish.ensures.sized true (λ is. answered)
+    run_of _ _ c.finish.result.schedule c.self.view_is c.self.invariant c.finish.ensures.led c.finish.ensures.reached c.finish.ensures.good
+    c.finish.ensures.sized true (λ is. answered)
 
 pub returns-clause-logs : goal.returns-clause-logs
-returns-clause-logs c = (ends_of _ _ c.in_ok-finish.field-0.schedule _ _ c.self.view_is c.self.invariant c.in_ok-finish.ensures.led c.finish.ensures.reached
-    c.in_ok-finish.ensures.good c.in_ok-finish.ensures.sized c.in_ok-finish.ensures.logs c.in_ok-finish.ensures.last).0
+returns-clause-logs c = (ends_of _ _ c.finish.result.schedule _ _ c.self.view_is c.self.invariant c.finish.ensures.led c.finish.ensures.reached
+    c.finish.ensures.good c.finish.ensures.sized c.finish.ensures.logs c.finish.ensures.last).0
 
 pub returns-clause-last : goal.returns-clause-last
-returns-clause-last c = (ends_of _ _ c.in_ok-finish.field-0.schedule _ _ c.self.view_is c.self.invariant c.in_ok-finish.ensures.led c.finish.ensures.reached
-    c.in_ok-finish.ensures.good c.in_ok-finish.ensures.sized c.in_ok-finish.ensures.logs c.in_ok-finish.ensures.last).1
+returns-clause-last c = (ends_of _ _ c.finish.result.schedule _ _ c.self.view_is c.self.invariant c.finish.ensures.led c.finish.ensures.reached
+    c.finish.ensures.good c.finish.ensures.sized c.finish.ensures.logs c.finish.ensures.last).1
 
 pub returns-clause-behind : goal.returns-clause-behind
-returns-clause-behind c = behind_of _ _ c.in_ok-finish.field-0.schedule c.self.view_is c.self.invariant c.in_ok-finish.ensures.led
+returns-clause-behind c = behind_of _ _ c.finish.result.schedule c.self.view_is c.self.invariant c.finish.ensures.led
