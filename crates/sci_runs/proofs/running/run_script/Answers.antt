@@ -9,7 +9,7 @@ pub returns-clause-run : goal.returns-clause-run
 returns-clause-run c =
     let table = c.go_on.new.self in
     let done = c.in_ok-ran.ran.done in
-    let ended = c.finish in
+    let ended = c.finish-ended in
     let schedule = ended.result.schedule in
     subst (λ (s : ScriptValue). IsRunOf s c.args.plan.issuing done schedule) (c.go_on.ensures.script ∙ c.in_ok-table.ensures.script)
     (subst (λ (i : Issuing). IsRunOf table.script i done schedule) (c.go_on.ensures.issuing ∙ c.in_ok-table.ensures.issuing)
