@@ -1,7 +1,7 @@
 -- What the policy decides of a request, and what it never does.
 use Rattle.std.proofs.Common.{◌≡◌, ℕ, Bool, true, false, if◌then◌else◌, Option, Some, None, sym, ◌∙◌, refl}
 use Rattle.std.specs.Prelude.{is_some, not, ◌==◌}
-use Rattle.std.proofs.lemmas.Bool.{and_parts, eq-eqb}
+use Rattle.std.proofs.lemmas.Bool.{and_parts, both_ways, eq-eqb, not-true}
 use Rattle.sci_packets.specs.declared.body.Body.{Body}
 use Rattle.sci_packets.specs.declared.body.Body.TheVariants as body
 use Rattle.sci_cache.specs.Cache.{Letter}
@@ -39,16 +39,12 @@ kept_if true refuse e = refl
 kept_if false true e = cc
 kept_if false false e = cc
 
-not_true : (b : Bool) → not b ≡ true → b ≡ true → ⊥
-not_true true e f = cc
-not_true false e f = cc
-
 -- a node's own requests are never kept
 pub keeps_no_own : (policy : PolicyOf) (node : NodeOf) (request : Letter) → request.source ≡ node.cache.me → decided policy node request ≡ decision.Keep → ⊥
 keeps_no_own policy node request own keep =
     let kept : kept_by policy node request ≡ true = kept_if (kept_by policy node request) (refused_by policy node request) keep in
     let other = (and_parts _ (not (request.source == node.cache.me)) (and_parts _ _ kept).0).1 in
-    not_true (request.source == node.cache.me) other (eq-eqb request.source node.cache.me own)
+    both_ways (request.source == node.cache.me) (not-true _ other) (eq-eqb request.source node.cache.me own)
 
 -- only what is kept is taken by no event
 pub keep_of : (d : Decision) (from n : ℕ) → decided_event d from n ≡ None → d ≡ decision.Keep

@@ -3,7 +3,7 @@ use Rattle.std.proofs.Common.{◌≡◌, ℕ, zero, suc, ◌+◌, ◌<◌, ◌�
 use Rattle.std.proofs.Common.{Some, None, refl, ap, arith, inl, inr}
 use Rattle.std.specs.List.{find, range_with_len}
 use Rattle.std.specs.Prelude.{IfSome}
-use Rattle.std.proofs.lemmas.Bool.{cases_eq}
+use Rattle.std.proofs.lemmas.Bool.{and_parts, cases_eq}
 use Rattle.std.proofs.lemmas.Option.{IfSome_then}
 use Rattle.sci_core.specs.Node.{NodeOf, lines_of}
 use Rattle.sci_policy.specs.Lines.{has_pending, least, oldest, oldest_of, older, serial_on}
@@ -80,11 +80,6 @@ oldest_least node test other below pending passes =
     let both : (has_pending node other && test other) ≡ true = rw (pending, passes) refl in
     oldest_found node (λ line. has_pending node line && test line) 0 (lines_of node) other (omega arith) (omega arith) both
 
-both_true : (a b : Bool) → (a && b) ≡ true → (a ≡ true) × (b ≡ true)
-both_true true true e = (refl, refl)
-both_true true false e = cc
-both_true false b e = cc
-
 pub oldest_meant : (node : NodeOf) (test : ℕ → Bool)
     → IfSome (oldest node test) (λ line. (line < lines_of node) × ((has_pending node line ≡ true) × (test line ≡ true)))
-oldest_meant node test = IfSome_then (oldest node test) (oldest_fits node test) (λ line fits. (fits.0, both_true (has_pending node line) (test line) fits.1))
+oldest_meant node test = IfSome_then (oldest node test) (oldest_fits node test) (λ line fits. (fits.0, and_parts (has_pending node line) (test line) fits.1))

@@ -3,7 +3,7 @@ use Rattle.std.proofs.Common.{◌≡◌, ℕ, zero, suc, ◌+◌, ◌-◌, ◌<�
 use Rattle.std.proofs.Common.{Some, None, refl, sym, ap, subst, ◌∙◌, arith, inl, inr}
 use Rattle.std.specs.Prelude.{IfSome, is_some, option_map}
 use Rattle.std.specs.List.{range_with_len}
-use Rattle.std.proofs.lemmas.Bool.{cases_Bool}
+use Rattle.std.proofs.lemmas.Bool.{cases_Bool, false_from_ne_true}
 use Rattle.std.proofs.lemmas.List.{append-nil}
 use Rattle.std.proofs.lemmas.List.Elements.{filter-append, filter_agree}
 use Rattle.sci_core.specs.Node.{NodeOf, pending_on}
@@ -75,16 +75,13 @@ found_next node tested line (Some f) is same passes older =
     sym (oldest_next node tested line passes
     ∙ (ap (λ (o : Option ℕ). Some (next_oldest node o line)) (sym same) ∙ ap (λ (b : Bool). Some (if b then line else f.0)) least))
 
-not_true : (b : Bool) → (b ≡ true → ⊥) → b ≡ false
-not_true b never = elim (cases_Bool b) [ inl is ↦ absurd (never is) | inr is ↦ is ]
-
 kept : (node : NodeOf) (tested : ℕ → Bool) (line : ℕ) (found : Option (ℕ × ℕ)) → IsFound node found → line_found found ≡ oldest_below node tested line
     → (has_pending node line && tested line) ≡ true → (is_older_than (serial_on node line) found ≡ true → ⊥)
     → line_found found ≡ oldest_below node tested (line + 1)
 kept node tested line None is same passes younger = absurd (younger refl)
 kept node tested line (Some f) is same passes younger =
     let least : nat_lt (serial_on node line) (serial_on node f.0) ≡ false =
-    subst (λ (s : ℕ). nat_lt (serial_on node line) s ≡ false) is (not_true (nat_lt (serial_on node line) f.1) younger) in
+    subst (λ (s : ℕ). nat_lt (serial_on node line) s ≡ false) is (false_from_ne_true (nat_lt (serial_on node line) f.1) younger) in
     sym (oldest_next node tested line passes
     ∙ (ap (λ (o : Option ℕ). Some (next_oldest node o line)) (sym same) ∙ ap (λ (b : Bool). Some (if b then line else f.0)) least))
 

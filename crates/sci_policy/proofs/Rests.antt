@@ -1,13 +1,13 @@
 -- A node of a reached state always wants something, unless nothing is pending or a line awaits an answer.
-use Rattle.std.proofs.Common.{◌≡◌, ℕ, ◌<◌, ◌≤◌, ◌&&◌, ◌||◌, not, Bool, true, false, if◌then◌else◌, get_or, Option, Some, None, refl, sym, ap, subst, ◌∙◌, arith}
+use Rattle.std.proofs.Common.{◌≡◌, ℕ, ◌<◌, ◌≤◌, ◌&&◌, not, Bool, true, false, if◌then◌else◌, get_or, Option, Some, None, refl, sym, ap, subst, ◌∙◌, arith}
 use Rattle.std.proofs.Common.{inl, inr}
 use Rattle.std.specs.Prelude.{IfSome, IsSome, is_some, option_map}
 use Rattle.std.specs.Option.{option_or, option_and_then}
-use Rattle.std.proofs.lemmas.Bool.{and_parts, cases_Bool, cases_lt, lt-ltb}
+use Rattle.std.proofs.lemmas.Bool.{and_parts, and_right, cases_Bool, cases_lt, lt-ltb, not_from_true, or_right, true_from_ne_false}
 use Rattle.std.proofs.lemmas.List.{get_or_past}
 use Rattle.sci_words.specs.declared.event.AskKind.{AskKind}
 use Rattle.sci_words.specs.declared.event.AskKind.TheVariants as kind
-use Rattle.sci_cache.specs.State.{CacheState, Out, Asking, Joining, FreshJoining, Head, FreshHead, Below, Purging, Claiming, Clearing, Returning, Rolling}
+use Rattle.sci_cache.specs.State.{CacheState, Out, Joining, FreshJoining, Head, FreshHead, Below, Purging, Claiming, Clearing, Returning, Rolling}
 use Rattle.sci_cache.specs.State.{Telling, Fading, is_out, waits}
 use Rattle.sci_cache.specs.Line.{LineState, untouched}
 use Rattle.sci_cache.specs.Cache.{has_slot, slots_taken}
@@ -60,9 +60,7 @@ some_there (Some x) e = (x, refl)
 must_ask : (maker : Bool) (state : CacheState) → must_send state ≡ true
     → (k : AskKind) × (own_ask maker state ≡ Some k) × ((line : ℕ) → asks_home_to_change (Ask line k) ≡ false)
 must_ask maker (Joining p false) e = (kind.Cread, refl, λ line. refl)
-must_ask maker (Joining p true) e = cc
 must_ask maker (FreshJoining p false c) e = (kind.Cread, refl, λ line. refl)
-must_ask maker (FreshJoining p true c) e = cc
 must_ask maker (Telling r w false) e = (kind.Setback, refl, λ line. refl)
 must_ask maker _ e = cc
 
@@ -92,19 +90,13 @@ quiet_gives _ h = refl
 
 quiet_could : (state : CacheState) → IsQuiet state → is_out state ≡ false → could_give_way state ≡ true
 quiet_could Out h e = cc
-quiet_could Asking h e = let clash = h.idle in cc
 quiet_could (Joining p sent) h e = absurd (unsent sent h.idle h.sent)
 quiet_could (FreshJoining p sent c) h e = absurd (unsent sent h.idle h.sent)
 quiet_could (Head f c) h e = refl
 quiet_could (FreshHead f c) h e = refl
 quiet_could (Below f b c) h e = refl
-quiet_could (Purging q c) h e = let clash = h.idle in cc
-quiet_could (Claiming f c) h e = let clash = h.idle in cc
-quiet_could (Clearing c) h e = let clash = h.idle in cc
-quiet_could (Returning c) h e = let clash = h.idle in cc
-quiet_could (Rolling f b c) h e = let clash = h.idle in cc
 quiet_could (Telling r w sent) h e = absurd (unsent sent h.idle h.sent)
-quiet_could Fading h e = let clash = h.idle in cc
+quiet_could _ h e = let clash = h.idle in cc
 
 could_ask : (maker : Bool) (state : CacheState) → could_give_way state ≡ true → is_some (own_ask maker state) ≡ true
 could_ask maker (Head None c) e = refl
@@ -142,10 +134,6 @@ has_entry node some full none =
     let clash : true ≡ false = sym free ∙ full in
     cc
 
-kept_out : (out : Bool) → (out ≡ false → ⊥) → not out ≡ false
-kept_out true never = refl
-kept_out false never = absurd (never refl)
-
 then_some : {A B : Type 0} (f : A → Option B) (o : Option A) (P : A → Type 0) → is_some o ≡ true → IfSome o P → ((x : A) → P x → is_some (f x) ≡ true)
     → is_some (option_and_then f o) ≡ true
 then_some f None P some h each = cc
@@ -161,9 +149,9 @@ gives_slot node line quiet out full =
       | inl is ↦ is
       | inr none ↦ absurd (has_entry node quiet.some_slot full
           (none_passes node (λ other. not (is_out (state_on node other)))
-          (λ other below. kept_out (is_out (state_on node other))
+          (λ other below. not_from_true (is_out (state_on node other)) (true_from_ne_false (is_out (state_on node other))
           (λ entry. (let clash : true ≡ false = sym (quiet_could (state_on node other) (quiet.lines other below) entry)
-          ∙ least_none node (λ o. could_give_way (state_on node o)) none other below in cc)))))
+          ∙ least_none node (λ o. could_give_way (state_on node o)) none other below in cc))))))
     ] in
     ap (λ (b : Bool). is_some (if b then option_and_then (ask_of node) (least node (λ other. could_give_way (state_on node other))) else None)) lacks
     ∙ then_some (ask_of node) (least node (λ other. could_give_way (state_on node other))) _ found
@@ -173,10 +161,6 @@ gives_slot node line quiet out full =
 asks_if : (node : NodeOf) (line : ℕ) (free : Bool) → is_some (if free then Some (Ask line (read_kind (has_maker node line))) else None) ≡ free
 asks_if node line true = refl
 asks_if node line false = refl
-
-or_true : (b : Bool) → (b || true) ≡ true
-or_true true = refl
-or_true false = refl
 
 -- in each state of a quiet line with an operation, a rule fits
 rule_fits : (policy : PolicyOf) (node : NodeOf) (line : ℕ) (state : CacheState) → IsQuietNode node → line < lines_of node → has_pending node line ≡ true
@@ -196,17 +180,11 @@ rule_fits policy node line (Head None c) quiet below pending is q none never =
     (oldest_some node (λ l. is_some (node_performing node l)) line below pending (quiet.sole line c below pending is))
 rule_fits policy node line (Head (Some f) c) quiet below pending is q none never =
     mapped_none (λ l. Ask l kind.Purge) (least node (is_purged policy node)) (or_first (purge_wanted policy node) _ (or_second (perform_wanted node) _ none))
-    (least_some node (is_purged policy node) line below (rw (is, pending) (or_true (has policy.draining line))))
-rule_fits policy node line Asking quiet below pending is q none never = let clash = q.idle in cc
+    (least_some node (is_purged policy node) line below (rw (is, pending) (or_right (has policy.draining line) true refl)))
 rule_fits policy node line (Joining p sent) quiet below pending is q none never = absurd (unsent sent q.idle q.sent)
 rule_fits policy node line (FreshJoining p sent c) quiet below pending is q none never = absurd (unsent sent q.idle q.sent)
-rule_fits policy node line (Purging n c) quiet below pending is q none never = let clash = q.idle in cc
-rule_fits policy node line (Claiming f c) quiet below pending is q none never = let clash = q.idle in cc
-rule_fits policy node line (Clearing c) quiet below pending is q none never = let clash = q.idle in cc
-rule_fits policy node line (Returning c) quiet below pending is q none never = let clash = q.idle in cc
-rule_fits policy node line (Rolling f b c) quiet below pending is q none never = let clash = q.idle in cc
 rule_fits policy node line (Telling r w sent) quiet below pending is q none never = absurd (unsent sent q.idle q.sent)
-rule_fits policy node line Fading quiet below pending is q none never = let clash = q.idle in cc
+rule_fits policy node line _ quiet below pending is q none never = let clash = q.idle in cc
 
 -- the oldest operation of a quiet node has a rule
 oldest_wants : (policy : PolicyOf) (node : NodeOf) (line : ℕ) → IsQuietNode node → oldest node (λ l. true) ≡ Some line → line < lines_of node
@@ -257,17 +235,13 @@ send_free node (Some line) some fits =
     let asks = must_ask (has_maker node line) (state_on node line) fits.1 in
     record { want = Ask line asks.0; is = ap (option_map (Ask line)) asks.1; free = asks.2 line }
 
-and_no : (a b : Bool) → b ≡ false → (a && b) ≡ false
-and_no true b e = e
-and_no false b e = refl
-
 not_held : (joining : Bool) (wants : Option Want) → HasFree wants → held_back joining wants ≡ None → ⊥
 not_held joining None free none = let clash = free.is in cc
 not_held joining (Some want) free none =
     let same : want ≡ free.want = cc in
     let plain : asks_home_to_change want ≡ false = ap asks_home_to_change same ∙ free.free in
     let kept : (if joining && asks_home_to_change want then None else Some want) ≡ Some want =
-    ap (λ (b : Bool). if b then None else Some want) (and_no joining (asks_home_to_change want) plain) in
+    ap (λ (b : Bool). if b then None else Some want) (and_right joining (asks_home_to_change want) plain) in
     let clash : Some want ≡ None = sym kept ∙ none in
     cc
 
