@@ -7,11 +7,12 @@ use Rattle.sci_words.specs.declared.event.Event.TheVariants as event
 use Rattle.sci_cache.specs.Cache.{Letter}
 use Rattle.sci_core.specs.declared.lane.LaneKind.{LaneKind}
 use Rattle.sci_core.specs.declared.lane.LaneKind.TheVariants.{Answers, Requests}
-use Rattle.sci_core.specs.Core.{Core, IsEnabled, lane_of, node_at, sends, sent_by}
-use Rattle.sci_core.specs.Node.{NodeOf, is_setback, node_accepting, node_asking, node_refusing, node_replying, node_serving, replied_by}
+use Rattle.sci_core.specs.Core.{Core, IsEnabled, Takes, lane_of, node_at, node_of, sends, sent_by, side}
+use Rattle.sci_core.specs.Node.{NodeOf, is_setback, node_accepting, node_asking, node_refusing, node_serving}
 use Rattle.sci_core.specs.Sides.{TakesFront, taken_to}
 use Rattle.sci_core.proofs.Tidy.Enabled.{accept_enabled, request_enabled}
 use Rattle.sci_core.proofs.Basics.Options.{same_some}
+use Rattle.sci_core.proofs.Step.Applied.{waits_replying}
 use Rattle.sci_core.proofs.Step.Sides.{steps_by_sides}
 use Rattle.sci_policy.specs.declared.decision.Decision.{Decision}
 use Rattle.sci_policy.specs.declared.decision.Decision.TheVariants as decision
@@ -25,7 +26,7 @@ there : {A B : Type 0} (f : A → B) (o : Option A) → IsSome o → IsSome (opt
 there f None e = cc
 there f (Some x) e = refl
 
-some_of : {A : Type 0} (o : Option A) → IsSome o → (x : A) × (o ≡ Some x)
+pub some_of : {A : Type 0} (o : Option A) → IsSome o → (x : A) × (o ≡ Some x)
 some_of None e = cc
 some_of (Some x) e = (x, refl)
 
@@ -34,56 +35,42 @@ front_taken : (core : Core) (n from : ℕ) (kind : LaneKind) (taking : NodeOf �
 front_taken core n from kind taking e letter rest takes is some =
     subst IsSome (sym (takes.front letter rest is)) (there (taken_to core n kind from rest) (taking (node_at core n) letter) some)
 
+-- an event by which the node takes the oldest packet of a lane
+takes_oldest : (post : PostOf) (from : ℕ) (kind : LaneKind) (letter : Letter) (e : Event) (taking : NodeOf → Letter → Option NodeOf) → from < nodes_in post
+    → node_of e ≡ post.me → side (node_in post) e ≡ Takes kind from (taking (node_in post)) → IsFront post kind from letter
+    → TakesFront post.core post.me kind taking from e → IsSome (taking (node_in post) letter) → MayTake post kind from letter e
+takes_oldest post from kind letter e taking f own side_is front takes some =
+    let next = some_of (taking (node_in post) letter) some in
+    record {
+      own = own;
+      front = front;
+      enabled = front_taken post.core post.me from kind taking e letter front.0 takes front.1 some;
+      sender = f;
+      taking = taking (node_in post);
+      next = next.0;
+      side_is = side_is;
+      gives = next.1;
+    }
+
 pub may_accept : (post : PostOf) (from : ℕ) (letter : Letter) → IsPost post → from < nodes_in post → IsFront post Answers from letter
     → MayTake post Answers from letter (event.Accept from post.me)
 may_accept post from letter here f front =
-    let some = accept_enabled post.core from post.me here.reached f here.some letter front.0 front.1 in
-    let next = some_of (node_accepting (node_in post) letter) some in
-    record {
-      own = refl;
-      front = front;
-      enabled = front_taken post.core post.me from Answers node_accepting (event.Accept from post.me) letter front.0
-          ((steps_by_sides post.core post.me here.some).accept from f) front.1 some;
-      sender = f;
-      taking = node_accepting (node_in post);
-      next = next.0;
-      side_is = refl;
-      gives = next.1;
-    }
+    takes_oldest post from Answers letter (event.Accept from post.me) node_accepting f refl refl front
+    ((steps_by_sides post.core post.me here.some).accept from f) (accept_enabled post.core from post.me here.reached f here.some letter front.0 front.1)
 
 may_serve : (post : PostOf) (from : ℕ) (letter : Letter) → IsPost post → from < nodes_in post → IsFront post Requests from letter
     → (node_in post).waiting ≡ None → MayTake post Requests from letter (event.Serve from post.me)
 may_serve post from letter here f front free =
-    let some = (request_enabled post.core from post.me here.reached f here.some).served letter front.0 front.1 free in
-    let next = some_of (node_serving (node_in post) letter) some in
-    record {
-      own = refl;
-      front = front;
-      enabled = front_taken post.core post.me from Requests node_serving (event.Serve from post.me) letter front.0
-          ((steps_by_sides post.core post.me here.some).serve from f) front.1 some;
-      sender = f;
-      taking = node_serving (node_in post);
-      next = next.0;
-      side_is = refl;
-      gives = next.1;
-    }
+    takes_oldest post from Requests letter (event.Serve from post.me) node_serving f refl refl front
+    ((steps_by_sides post.core post.me here.some).serve from f)
+    ((request_enabled post.core from post.me here.reached f here.some).served letter front.0 front.1 free)
 
 may_refuse : (post : PostOf) (from : ℕ) (letter : Letter) → IsPost post → from < nodes_in post → IsFront post Requests from letter
     → (node_in post).waiting ≡ None → is_setback letter.body ≡ false → MayTake post Requests from letter (event.Refuse from post.me)
 may_refuse post from letter here f front free other =
-    let some = (request_enabled post.core from post.me here.reached f here.some).refused letter front.0 front.1 free other in
-    let next = some_of (node_refusing (node_in post) letter) some in
-    record {
-      own = refl;
-      front = front;
-      enabled = front_taken post.core post.me from Requests node_refusing (event.Refuse from post.me) letter front.0
-          ((steps_by_sides post.core post.me here.some).refuse from f) front.1 some;
-      sender = f;
-      taking = node_refusing (node_in post);
-      next = next.0;
-      side_is = refl;
-      gives = next.1;
-    }
+    takes_oldest post from Requests letter (event.Refuse from post.me) node_refusing f refl refl front
+    ((steps_by_sides post.core post.me here.some).refuse from f)
+    ((request_enabled post.core from post.me here.reached f here.some).refused letter front.0 front.1 free other)
 
 -- a request is taken as the policy decides
 pub may_take : (post : PostOf) (from : ℕ) (letter : Letter) (policy : PolicyOf) (d : Decision) (e : Event) → IsPost post → from < nodes_in post
@@ -98,9 +85,6 @@ may_take post from letter policy decision.Serve e here f front free decides take
 
 -- ---- sending
 
-replying : (node : NodeOf) (answer : Letter) → node.waiting ≡ Some answer → node_replying node ≡ Some (record node { waiting = None }, answer)
-replying node answer waits = ap (replied_by node) waits
-
 pub may_reply : (post : PostOf) (answer : Letter) → IsPost post → (node_in post).waiting ≡ Some answer → MaySend post Answers answer (event.Reply post.me)
 may_reply post answer here waits =
     let node = node_in post in
@@ -108,9 +92,9 @@ may_reply post answer here waits =
       own = refl;
       enabled = subst IsSome (sym ((steps_by_sides post.core post.me here.some).reply
           ∙ ap (λ (o : Option (NodeOf × Letter)). option_map (λ (s : NodeOf × Letter). sent_by post.core post.me Answers s.0 s.1) o)
-          (replying node answer waits))) refl;
+          (waits_replying node answer waits))) refl;
       next = record node { waiting = None };
-      side_is = ap (sends Answers) (replying node answer waits);
+      side_is = ap (sends Answers) (waits_replying node answer waits);
       target = waiting_target post.core post.me answer here.reached here.some waits;
     }
 

@@ -35,6 +35,7 @@ use Rattle.sci_turn.specs.Moves.{taken_next, taking_event}
 use Rattle.sci_turn.specs.Idle.{AsksNothing, IsHeldUp, IsIdleTurn, IsReplyHeldUp, TookNone, WasEmpty, WasSo}
 use Rattle.sci_turn.proofs.Moments.{node_stays, so_after, so_still}
 use Rattle.sci_turn.proofs.Stills.{still_then}
+use Rattle.sci_turn.proofs.Enabled.{some_of}
 
 -- what each step of the turn has found
 pub idle_turn : (before begun policy after : PolicyOf) (old replied accepted taken new : PostOf) (told : Progress) → begun ≡ turned before → IsStill old replied
@@ -169,10 +170,6 @@ awaits_others before after old new here idle line awaits =
 idle_by : (before after : PolicyOf) (old new : PostOf) → IsPost new → IsIdleTurn before old after new → MayRest (node_in new) → MayIdle (node_in new)
 idle_by before after old new here idle (NothingPending none) = NothingPends none
 idle_by before after old new here idle (Awaits line awaits) = awaits_others before after old new here idle line awaits
-
-some_of : {A : Type 0} (o : Option A) → IsSome o → (x : A) × (o ≡ Some x)
-some_of None e = cc
-some_of (Some x) e = (x, refl)
 
 -- a request is under way whose lane is full: its line awaits the answer
 held_idle : (before after : PolicyOf) (old new : PostOf) (line : ℕ) (kind : AskKind) → IsPost new → IsIdleTurn before old after new

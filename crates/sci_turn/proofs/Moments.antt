@@ -1,9 +1,8 @@
 -- What was so at a moment of a turn that reports nothing.
-use Rattle.std.proofs.Common.{◌≡◌, ◌<◌, ℕ, Bool, true, if◌then◌else◌, List, [], Option, Some, None, refl, sym, ap, subst, ◌∙◌}
+use Rattle.std.proofs.Common.{◌≡◌, ◌<◌, ℕ, if◌then◌else◌, List, [], Option, None, sym, ap, subst, ◌∙◌}
 use Rattle.std.specs.Prelude.{Result, Ok, Err, IfOk, is_some, slice_get}
 use Rattle.sci_cache.specs.Cache.{Letter}
 use Rattle.sci_core.specs.declared.lane.LaneKind.TheVariants.{Requests}
-use Rattle.sci_core.specs.Node.{NodeOf}
 use Rattle.sci_core.specs.Size.{Size}
 use Rattle.sci_policy.specs.Policy.{PolicyOf, decided}
 use Rattle.sci_policy.specs.Turn.{decided_event}
@@ -26,13 +25,6 @@ pub node_stays : (from : ℕ) (old new : PostOf) → IsSamePost old new → from
 node_stays from old new same lt = subst (λ (size : Size). from < size.nodes) (sym same.size) lt
 
 -- ---- no request was taken
-
-waits_by : (policy : PolicyOf) (node : NodeOf) (from n : ℕ) (front : Option Letter) → is_some node.waiting ≡ true → taking_event policy node from n front ≡ None
-waits_by policy node from n None waits = refl
-waits_by policy node from n (Some request) waits = ap (λ (b : Bool). if b then None else decided_event (decided policy node request) from n) waits
-
-pub none_waits : (policy : PolicyOf) (from : ℕ) (post : PostOf) → is_some (node_in post).waiting ≡ true → taken_next policy post.core from post.me ≡ None
-none_waits policy from post waits = waits_by policy (node_in post) from post.me (slice_get (lane_to post Requests from) 0) waits
 
 pub none_came : (policy : PolicyOf) (from : ℕ) (post : PostOf) → lane_to post Requests from ≡ [] → taken_next policy post.core from post.me ≡ None
 none_came policy from post empty = ap (λ (lane : List Letter). taking_event policy (node_in post) from post.me (slice_get lane 0)) empty

@@ -5,12 +5,13 @@ use Rattle.sci_policy.specs.Policy.{decided}
 use Rattle.sci_policy.specs.Turn.{decided_event}
 use Rattle.sci_policy.proofs.Telling.{tells_something}
 use Rattle.sci_turn.specs.Posts.{PostOf, node_in}
-use Rattle.sci_turn.specs.Moves.{taken_next}
+use Rattle.sci_turn.specs.Moves.{GoesOn, taken_next}
 use Rattle.sci_turn.proofs.Enabled.{may_take}
 use Rattle.sci_turn.proofs.Events.{goes_taken, take_is_own}
 use Rattle.sci_turn.proofs.Moments.{so_now, taken_event}
 use Rattle.sci_turn.proofs.Turns.{goes_still, goes_then}
 use Rattle.sci_turn.proofs.turn.take_seen.Goals as goal
+use Rattle.sci_turn.proofs.turn.take_seen.Goals.{After-reply}
 
 pub take-requires-clause-may : goal.take-requires-clause-may
 take-requires-clause-may g c =
@@ -28,33 +29,23 @@ returns-in_err-take-clause-goes g c =
     goes_still c.args.policy.now (g.P.Post.post c.args.post.now) (g.P.Post.post c.take.new.self) c.args.progress.now c.args.progress.now
     (c.in_err-take.ensures.cut refl) refl
 
-pub returns-in_err-reply-clause-goes : goal.returns-in_err-reply-clause-goes
-returns-in_err-reply-clause-goes g c =
-    let old = g.P.Post.post c.args.post.now in
-    let mid = g.P.Post.post c.take.new.self in
-    let new = g.P.Post.post c.reply.new.post in
+-- the request is taken, and its answer sent
+served : (g : _) (c : After-reply g) → GoesOn c.args.policy.now (g.P.Post.post c.args.post.now) c.served.new.self (g.P.Post.post c.reply.new.post)
+    c.args.progress.now c.reply.new.progress
+served g c =
     let request = letter_of c.front-request.result.now in
-    let decides : decided c.args.policy.now (node_in old) request ≡ c.decide.result =
-    ap (λ (m : NodeOf). decided c.args.policy.now m request) (sym c.node.ensures.node) ∙ sym c.decide.ensures in
-    goes_then c.args.policy.now c.served.new.self c.served.new.self old mid new c.args.progress.now c.count.new.self c.reply.new.progress
-    (goes_taken c.args.policy.now c.served.new.self old mid c.me-me.result c.args.from c.decide.result c.in-Some.event request c.args.progress.now
-    c.count.new.self c.me-me.ensures c.requires.free decides c.in-Some.ensures (c.in_ok-take.ensures.taken request c.front-request.ensures) c.served.ensures
-    c.count.ensures.more c.count.ensures.counted)
+    let decides = ap (λ (m : NodeOf). decided c.args.policy.now m request) (sym c.node.ensures.node) ∙ sym c.decide.ensures in
+    goes_then _ c.served.new.self c.served.new.self _ (g.P.Post.post c.take.new.self) _ _ c.count.new.self _
+    (goes_taken c.args.policy.now c.served.new.self _ (g.P.Post.post c.take.new.self) c.me-me.result c.args.from c.decide.result c.in-Some.event request
+    c.args.progress.now c.count.new.self c.me-me.ensures c.requires.free decides c.in-Some.ensures
+    (c.in_ok-take.ensures.taken request c.front-request.ensures) c.served.ensures c.count.ensures.more c.count.ensures.counted)
     (c.reply.ensures.goes c.served.new.self)
 
+pub returns-in_err-reply-clause-goes : goal.returns-in_err-reply-clause-goes
+returns-in_err-reply-clause-goes g c = served g (goal.at.returns-in_err-reply-clause-goes g c).After-reply
+
 pub returns-clause-goes : goal.returns-clause-goes
-returns-clause-goes g c =
-    let old = g.P.Post.post c.args.post.now in
-    let mid = g.P.Post.post c.take.new.self in
-    let new = g.P.Post.post c.reply.new.post in
-    let request = letter_of c.front-request.result.now in
-    let decides : decided c.args.policy.now (node_in old) request ≡ c.decide.result =
-    ap (λ (m : NodeOf). decided c.args.policy.now m request) (sym c.node.ensures.node) ∙ sym c.decide.ensures in
-    goes_then c.args.policy.now c.served.new.self c.served.new.self old mid new c.args.progress.now c.count.new.self c.reply.new.progress
-    (goes_taken c.args.policy.now c.served.new.self old mid c.me-me.result c.args.from c.decide.result c.in-Some.event request c.args.progress.now
-    c.count.new.self c.me-me.ensures c.requires.free decides c.in-Some.ensures (c.in_ok-take.ensures.taken request c.front-request.ensures) c.served.ensures
-    c.count.ensures.more c.count.ensures.counted)
-    (c.reply.ensures.goes c.served.new.self)
+returns-clause-goes g c = served g (goal.at.returns-clause-goes g c).After-reply
 
 pub returns-clause-told : goal.returns-clause-told
 returns-clause-told g c = λ _ nothing.

@@ -1,76 +1,108 @@
-use Rattle.std.proofs.Common.{refl, sym, subst, ◌∙◌}
-use Rattle.sci_policy.specs.Policy.{PolicyOf}
-use Rattle.sci_policy.specs.Turn.{MayPerform}
+use Rattle.std.proofs.Common.{◌≡◌, [], None, refl, sym, subst, ◌∙◌}
+use Rattle.sci_policy.specs.declared.progress.Progress.{Progress}
+use Rattle.sci_policy.specs.Policy.{PolicyOf, turned}
+use Rattle.sci_policy.specs.Turn.{Counts, MayPerform}
+use Rattle.sci_policy.specs.Worker.{HasSameWork, IsNodeTurn}
 use Rattle.sci_policy.proofs.Telling.{idle_tells}
-use Rattle.sci_turn.specs.Posts.{node_in}
-use Rattle.sci_turn.specs.Moves.{HasEnded}
+use Rattle.sci_turn.specs.Posts.{IsPost, PostOf, node_in}
+use Rattle.sci_turn.specs.Moves.{GoesOn, HasEnded, HasMoved, IsTurn}
 use Rattle.sci_turn.specs.Far.{HasAskedAll}
 use Rattle.sci_turn.proofs.Idling.{idle_turn, may_idle}
-use Rattle.sci_turn.proofs.Turns.{ends_there, turn_begins}
+use Rattle.sci_turn.proofs.Turns.{ends_there, goes_then, turn_begins}
 use Rattle.sci_turn.proofs.Working.{node_turn, post_after, turn_work}
 use Rattle.sci_turn.proofs.turn.take_turn.Goals as goal
+use Rattle.sci_turn.proofs.turn.take_turn.Goals.{After-reply, After-accept_all, After-take_all}
+
+-- what a turn that came so far is
+record Came (before : PolicyOf) (old : PostOf) (after : PolicyOf) (new : PostOf) (tells : Progress) : Type 0 where
+  turn : IsTurn before old after new tells
+  ready : MayPerform (node_in new) tells.ready
+  node : IsNodeTurn (node_in old) (node_in new) tells
+  work : HasSameWork (node_in old) (node_in new)
+
+came : (before begun after : PolicyOf) (old new : PostOf) (told tells : Progress) → begun ≡ turned before → Counts [] told → told.ready ≡ None → IsPost old
+    → GoesOn begun old after new told tells → Came before old after new tells
+came before begun after old new told tells begins nothing none here goes =
+    let turn : IsTurn before old after new tells =
+    subst (λ (p : PolicyOf). HasEnded p old after new tells) begins
+    (ends_there begun old after new tells (goes.turn begun old (turn_begins begun old told nothing))) in
+    let ready : MayPerform (node_in new) tells.ready = subst (MayPerform (node_in new)) (sym (goes.ready ∙ none)) tt in
+    record {
+      turn = turn;
+      ready = ready;
+      node = node_turn before old after new tells here turn ready;
+      work = turn_work before old after new tells here turn ready;
+    }
+
+replied : (g : _) (c : After-reply g)
+    → Came c.args.policy.now (g.P.Post.post c.args.post.now) c.begin_turn.new.self (g.P.Post.post c.reply.new.post) c.reply.new.progress
+replied g c = came _ c.begin_turn.new.self _ _ _ c.args.progress.now _ c.begin_turn.ensures c.requires.nothing c.requires.ready c.node-here.ensures.post
+    (c.reply.ensures.goes c.begin_turn.new.self)
+
+accepted : (g : _) (c : After-accept_all g)
+    → Came c.args.policy.now (g.P.Post.post c.args.post.now) c.begin_turn.new.self (g.P.Post.post c.accept_all.new.post) c.accept_all.new.progress
+accepted g c = let p = c.begin_turn.new.self in
+    came _ p _ _ _ c.args.progress.now _ c.begin_turn.ensures c.requires.nothing c.requires.ready c.node-here.ensures.post
+    (goes_then p p p _ _ _ _ _ _ (c.reply.ensures.goes p) (c.accept_all.ensures.goes p))
+
+-- the steps before the policy is asked
+taken_goes : (g : _) (c : After-take_all g) → GoesOn c.begin_turn.new.self (g.P.Post.post c.args.post.now) c.take_all.new.policy
+    (g.P.Post.post c.take_all.new.post) c.args.progress.now c.take_all.new.progress
+taken_goes g c = let p = c.begin_turn.new.self in
+    goes_then _ _ _ _ _ _ _ _ _ (goes_then p p p _ _ _ _ _ _ (c.reply.ensures.goes p) (c.accept_all.ensures.goes p)) c.take_all.ensures.goes
+
+taken_moved : (g : _) (c : After-take_all g) → HasMoved c.begin_turn.new.self (g.P.Post.post c.args.post.now) c.take_all.new.policy
+    (g.P.Post.post c.take_all.new.post) c.take_all.new.progress
+taken_moved g c = (taken_goes g c).turn _ _ (turn_begins c.begin_turn.new.self (g.P.Post.post c.args.post.now) c.args.progress.now c.requires.nothing)
+
+taken : (g : _) (c : After-take_all g)
+    → Came c.args.policy.now (g.P.Post.post c.args.post.now) c.take_all.new.policy (g.P.Post.post c.take_all.new.post) c.take_all.new.progress
+taken g c = came _ c.begin_turn.new.self _ _ _ c.args.progress.now _ c.begin_turn.ensures c.requires.nothing c.requires.ready c.node-here.ensures.post
+    (taken_goes g c)
 
 pub returns-in_err-reply-clause-turn : goal.returns-in_err-reply-clause-turn
-returns-in_err-reply-clause-turn g c =
-    let policy = c.begin_turn.new.self in
-    let old = g.P.Post.post c.args.post.now in
-    let begun = turn_begins policy old c.args.progress.now c.requires.nothing in
-    let one = (c.reply.ensures.goes policy).turn policy old begun in
-    subst (λ (p : PolicyOf). HasEnded p old policy (g.P.Post.post c.reply.new.post) c.reply.new.progress) c.begin_turn.ensures
-    (ends_there policy old policy _ _ one)
+returns-in_err-reply-clause-turn g c = (replied g (goal.at.returns-in_err-reply-clause-turn g c).After-reply).turn
 
 pub returns-in_err-reply-clause-ready : goal.returns-in_err-reply-clause-ready
-returns-in_err-reply-clause-ready g c =
-    subst (MayPerform (node_in (g.P.Post.post c.reply.new.post))) (sym ((c.reply.ensures.goes c.begin_turn.new.self).ready ∙ c.requires.ready)) tt
+returns-in_err-reply-clause-ready g c = (replied g (goal.at.returns-in_err-reply-clause-ready g c).After-reply).ready
+
+pub returns-in_err-reply-clause-node : goal.returns-in_err-reply-clause-node
+returns-in_err-reply-clause-node g c = (replied g (goal.at.returns-in_err-reply-clause-node g c).After-reply).node
+
+pub returns-in_err-reply-clause-work : goal.returns-in_err-reply-clause-work
+returns-in_err-reply-clause-work g c = (replied g (goal.at.returns-in_err-reply-clause-work g c).After-reply).work
 
 pub returns-in_err-accept_all-clause-turn : goal.returns-in_err-accept_all-clause-turn
-returns-in_err-accept_all-clause-turn g c =
-    let policy = c.begin_turn.new.self in
-    let old = g.P.Post.post c.args.post.now in
-    let begun = turn_begins policy old c.args.progress.now c.requires.nothing in
-    let one = (c.reply.ensures.goes policy).turn policy old begun in
-    let two = (c.accept_all.ensures.goes policy).turn policy old one in
-    subst (λ (p : PolicyOf). HasEnded p old policy (g.P.Post.post c.accept_all.new.post) c.accept_all.new.progress) c.begin_turn.ensures
-    (ends_there policy old policy _ _ two)
+returns-in_err-accept_all-clause-turn g c = (accepted g (goal.at.returns-in_err-accept_all-clause-turn g c).After-accept_all).turn
 
 pub returns-in_err-accept_all-clause-ready : goal.returns-in_err-accept_all-clause-ready
-returns-in_err-accept_all-clause-ready g c =
-    subst (MayPerform (node_in (g.P.Post.post c.accept_all.new.post)))
-    (sym ((c.accept_all.ensures.goes c.begin_turn.new.self).ready ∙ ((c.reply.ensures.goes c.begin_turn.new.self).ready ∙ c.requires.ready))) tt
+returns-in_err-accept_all-clause-ready g c = (accepted g (goal.at.returns-in_err-accept_all-clause-ready g c).After-accept_all).ready
+
+pub returns-in_err-accept_all-clause-node : goal.returns-in_err-accept_all-clause-node
+returns-in_err-accept_all-clause-node g c = (accepted g (goal.at.returns-in_err-accept_all-clause-node g c).After-accept_all).node
+
+pub returns-in_err-accept_all-clause-work : goal.returns-in_err-accept_all-clause-work
+returns-in_err-accept_all-clause-work g c = (accepted g (goal.at.returns-in_err-accept_all-clause-work g c).After-accept_all).work
 
 pub returns-in_err-take_all-clause-turn : goal.returns-in_err-take_all-clause-turn
-returns-in_err-take_all-clause-turn g c =
-    let policy = c.begin_turn.new.self in
-    let old = g.P.Post.post c.args.post.now in
-    let begun = turn_begins policy old c.args.progress.now c.requires.nothing in
-    let one = (c.reply.ensures.goes policy).turn policy old begun in
-    let two = (c.accept_all.ensures.goes policy).turn policy old one in
-    let three = c.take_all.ensures.goes.turn policy old two in
-    subst (λ (p : PolicyOf). HasEnded p old c.take_all.new.policy (g.P.Post.post c.take_all.new.post) c.take_all.new.progress) c.begin_turn.ensures
-    (ends_there policy old c.take_all.new.policy _ _ three)
+returns-in_err-take_all-clause-turn g c = (taken g (goal.at.returns-in_err-take_all-clause-turn g c).After-take_all).turn
 
 pub returns-in_err-take_all-clause-ready : goal.returns-in_err-take_all-clause-ready
-returns-in_err-take_all-clause-ready g c =
-    subst (MayPerform (node_in (g.P.Post.post c.take_all.new.post)))
-    (sym (c.take_all.ensures.goes.ready
-    ∙ ((c.accept_all.ensures.goes c.begin_turn.new.self).ready ∙ ((c.reply.ensures.goes c.begin_turn.new.self).ready ∙ c.requires.ready)))) tt
+returns-in_err-take_all-clause-ready g c = (taken g (goal.at.returns-in_err-take_all-clause-ready g c).After-take_all).ready
+
+pub returns-in_err-take_all-clause-node : goal.returns-in_err-take_all-clause-node
+returns-in_err-take_all-clause-node g c = (taken g (goal.at.returns-in_err-take_all-clause-node g c).After-take_all).node
+
+pub returns-in_err-take_all-clause-work : goal.returns-in_err-take_all-clause-work
+returns-in_err-take_all-clause-work g c = (taken g (goal.at.returns-in_err-take_all-clause-work g c).After-take_all).work
 
 pub ask_some-requires : goal.ask_some-requires
-ask_some-requires g c = record {
-  ready = c.take_all.ensures.goes.ready
-      ∙ ((c.accept_all.ensures.goes c.begin_turn.new.self).ready ∙ ((c.reply.ensures.goes c.begin_turn.new.self).ready ∙ c.requires.ready));
-}
+ask_some-requires g c = record { ready = (taken_goes g (goal.at.ask_some-requires g c).After-take_all).ready ∙ c.requires.ready }
 
 pub returns-clause-turn : goal.returns-clause-turn
 returns-clause-turn g c =
-    let policy = c.begin_turn.new.self in
-    let old = g.P.Post.post c.args.post.now in
-    let begun = turn_begins policy old c.args.progress.now c.requires.nothing in
-    let one = (c.reply.ensures.goes policy).turn policy old begun in
-    let two = (c.accept_all.ensures.goes policy).turn policy old one in
-    let three = c.take_all.ensures.goes.turn policy old two in
-    subst (λ (p : PolicyOf). HasEnded p old c.ask_some.new.policy (g.P.Post.post c.ask_some.new.post) c.ask_some.new.progress) c.begin_turn.ensures
-    (c.ask_some.ensures.turn policy old three)
+    subst (λ (p : PolicyOf). HasEnded p (g.P.Post.post c.args.post.now) c.ask_some.new.policy (g.P.Post.post c.ask_some.new.post) c.ask_some.new.progress)
+    c.begin_turn.ensures (c.ask_some.ensures.turn _ _ (taken_moved g (goal.at.returns-clause-turn g c).After-take_all))
 
 pub returns-clause-idle : goal.returns-clause-idle
 returns-clause-idle g c = λ ok idle.
@@ -87,19 +119,9 @@ returns-clause-idle g c = λ ok idle.
 
 pub returns-clause-rest : goal.returns-clause-rest
 returns-clause-rest g c = λ ok idle.
-    let policy = c.begin_turn.new.self in
-    let tells = idle_tells c.ask_some.new.progress idle in
-    let asks = c.ask_some.ensures.idle ok tells.0 tells.1 in
-    let third = c.take_all.ensures.goes.still asks.nothing in
-    let second = (c.accept_all.ensures.goes policy).still third.nothing in
-    let first = (c.reply.ensures.goes policy).still second.nothing in
-    let turn = idle_turn c.args.policy.now policy c.take_all.new.policy c.ask_some.new.policy (g.P.Post.post c.args.post.now) (g.P.Post.post c.reply.new.post)
-    (g.P.Post.post c.accept_all.new.post) (g.P.Post.post c.take_all.new.post) (g.P.Post.post c.ask_some.new.post) c.take_all.new.progress
-    c.begin_turn.ensures first.post second.post third.post third.policy (c.in_ok-reply.ensures.idle refl second.nothing)
-    (c.in_ok-accept_all.ensures.idle refl third.nothing) (c.in_ok-take_all.ensures.idle refl asks.nothing) asks in
     may_idle c.args.policy.now c.ask_some.new.policy (g.P.Post.post c.args.post.now) (g.P.Post.post c.ask_some.new.post)
     (post_after c.args.policy.now (g.P.Post.post c.args.post.now) c.ask_some.new.policy (g.P.Post.post c.ask_some.new.post) c.ask_some.new.progress
-    c.node-here.ensures.post (returns-clause-turn g c)) turn
+    c.node-here.ensures.post (returns-clause-turn g c)) (returns-clause-idle g c ok idle)
 
 -- ---- what stays
 
@@ -121,36 +143,6 @@ returns-clause-stays g c = g.met.P.Post.stays_through c.args.post.now c.take_all
 
 -- ---- the node
 
-pub returns-in_err-reply-clause-node : goal.returns-in_err-reply-clause-node
-returns-in_err-reply-clause-node g c =
-    node_turn c.args.policy.now (g.P.Post.post c.args.post.now) c.begin_turn.new.self (g.P.Post.post c.reply.new.post) c.reply.new.progress
-    c.node-here.ensures.post (returns-in_err-reply-clause-turn g c) (returns-in_err-reply-clause-ready g c)
-
-pub returns-in_err-reply-clause-work : goal.returns-in_err-reply-clause-work
-returns-in_err-reply-clause-work g c =
-    turn_work c.args.policy.now (g.P.Post.post c.args.post.now) c.begin_turn.new.self (g.P.Post.post c.reply.new.post) c.reply.new.progress
-    c.node-here.ensures.post (returns-in_err-reply-clause-turn g c) (returns-in_err-reply-clause-ready g c)
-
-pub returns-in_err-accept_all-clause-node : goal.returns-in_err-accept_all-clause-node
-returns-in_err-accept_all-clause-node g c =
-    node_turn c.args.policy.now (g.P.Post.post c.args.post.now) c.begin_turn.new.self (g.P.Post.post c.accept_all.new.post) c.accept_all.new.progress
-    c.node-here.ensures.post (returns-in_err-accept_all-clause-turn g c) (returns-in_err-accept_all-clause-ready g c)
-
-pub returns-in_err-accept_all-clause-work : goal.returns-in_err-accept_all-clause-work
-returns-in_err-accept_all-clause-work g c =
-    turn_work c.args.policy.now (g.P.Post.post c.args.post.now) c.begin_turn.new.self (g.P.Post.post c.accept_all.new.post) c.accept_all.new.progress
-    c.node-here.ensures.post (returns-in_err-accept_all-clause-turn g c) (returns-in_err-accept_all-clause-ready g c)
-
-pub returns-in_err-take_all-clause-node : goal.returns-in_err-take_all-clause-node
-returns-in_err-take_all-clause-node g c =
-    node_turn c.args.policy.now (g.P.Post.post c.args.post.now) c.take_all.new.policy (g.P.Post.post c.take_all.new.post) c.take_all.new.progress
-    c.node-here.ensures.post (returns-in_err-take_all-clause-turn g c) (returns-in_err-take_all-clause-ready g c)
-
-pub returns-in_err-take_all-clause-work : goal.returns-in_err-take_all-clause-work
-returns-in_err-take_all-clause-work g c =
-    turn_work c.args.policy.now (g.P.Post.post c.args.post.now) c.take_all.new.policy (g.P.Post.post c.take_all.new.post) c.take_all.new.progress
-    c.node-here.ensures.post (returns-in_err-take_all-clause-turn g c) (returns-in_err-take_all-clause-ready g c)
-
 pub returns-clause-node : goal.returns-clause-node
 returns-clause-node g c = node_turn c.args.policy.now (g.P.Post.post c.args.post.now) c.ask_some.new.policy (g.P.Post.post c.ask_some.new.post)
     c.ask_some.new.progress c.node-here.ensures.post (returns-clause-turn g c) c.ask_some.ensures.ready
@@ -163,11 +155,5 @@ returns-clause-work g c = turn_work c.args.policy.now (g.P.Post.post c.args.post
 
 pub returns-clause-asks : goal.returns-clause-asks
 returns-clause-asks g c = λ ok.
-    let policy = c.begin_turn.new.self in
-    let old = g.P.Post.post c.args.post.now in
-    let begun = turn_begins policy old c.args.progress.now c.requires.nothing in
-    let one = (c.reply.ensures.goes policy).turn policy old begun in
-    let two = (c.accept_all.ensures.goes policy).turn policy old one in
-    let three = c.take_all.ensures.goes.turn policy old two in
-    subst (λ (p : PolicyOf). HasAskedAll p old c.ask_some.new.policy (g.P.Post.post c.ask_some.new.post) c.ask_some.new.progress) c.begin_turn.ensures
-    (c.ask_some.ensures.asks ok policy old three)
+    subst (λ (p : PolicyOf). HasAskedAll p (g.P.Post.post c.args.post.now) c.ask_some.new.policy (g.P.Post.post c.ask_some.new.post) c.ask_some.new.progress)
+    c.begin_turn.ensures (c.ask_some.ensures.asks ok _ _ (taken_moved g (goal.at.returns-clause-asks g c).After-take_all))
