@@ -1,15 +1,16 @@
 -- Each kind of step keeps the rule, and tells its seat what it should.
-use Rattle.std.proofs.Common.{◌≡◌, ◌≢◌, ℕ, zero, suc, ◌+◌, ◌%◌, ◌<◌, inl, inr, Bool, true, false, if◌then◌else◌, eqb, List, [], ◌∷◌, length, get_or, set, refl}
+use Rattle.std.proofs.Common.{◌≡◌, ◌≢◌, ℕ, ◌+◌, ◌%◌, ◌<◌, inl, inr, Bool, true, false, if◌then◌else◌, eqb, List, [], ◌∷◌, length, get_or, set, refl}
 use Rattle.std.proofs.Common.{sym, ap, subst, ◌∙◌, arith}
 use Rattle.std.specs.Prelude.{map, not}
-use Rattle.std.proofs.lemmas.Bool.{and_parts, and_left, eq-eqb, eqb-true, ne_eqb, cases_lt}
+use Rattle.std.proofs.lemmas.Bool.{and_parts, and_left, both_ways, not-true, eq-eqb, eqb-true, ne_eqb, cases_lt}
 use Rattle.std.proofs.lemmas.List.{set-get_or}
-use mathlib.Core.Option.{some, none, some-ne-none}
+use mathlib.Core.Option.{some, none}
 use lib.ListN.{get_elem?}
 use Rattle.atomic_table.specs.Table.{State, Me, step, keeps, Allows}
 use Rattle.atomic_table.proofs.Lists.{set_here}
 use Rattle.sci_packets.specs.declared.packet.Packet.{Packet}
 use Rattle.sci_core.specs.Size.{Size}
+use Rattle.sci_core.specs.Node.{NodeOf}
 use Rattle.sci_words.specs.declared.event.Event.{Event}
 use Rattle.sci_cache.specs.Cache.{Letter, letter_of}
 use Rattle.sci_core.specs.Core.{Core, lane_at, run}
@@ -20,12 +21,12 @@ use Rattle.sci_lanes.specs.declared.view.Part.{Part}
 use Rattle.sci_lanes.specs.declared.view.View.{View}
 use Rattle.sci_lanes.specs.Cells.{cell_place, lane_count, sender_of, receiver_of, word_at}
 use Rattle.sci_lanes.specs.Shown.{AreEnabled, Fits, ShowsLane, Whole, nodes_of, me_of, single, informed, outbound_at, inbound_at, IsKnown, Shows, IsKept}
-use Rattle.sci_lanes.specs.Knowing.{has_sent_more, is_sending, is_receiving, looked_out, looked_in, looked}
+use Rattle.sci_lanes.specs.Knowing.{has_sent_more, is_sending, is_receiving, looked_out, looked_in, looked, with_lane_known}
 use Rattle.sci_lanes.specs.Telling.{IsShown, IsSameNode, size_in}
 use Rattle.sci_lanes.specs.Plays.{lane_in, number_in, index_in, Looks}
 use Rattle.sci_lanes.proofs.Words.{same_cell}
 use Rattle.sci_lanes.proofs.LaneSteps.{first_full, out_looked, in_looked, sender_finds_empty}
-use Rattle.sci_lanes.proofs.Keeping.{no_further}
+use Rattle.sci_lanes.proofs.Keeping.{no_further, within}
 use Rattle.sci_lanes.proofs.Turning.{IsTurn, turned_whole, lane_step}
 use Rattle.sci_lanes.proofs.Facts.{lane_length, known_part, shown}
 
@@ -44,11 +45,6 @@ unfolding cell_place
 index_found lane turn index few = omega arith
 
 -- ---- one step
-
-pub within : {A : Type 0} (xs : List A) (k : ℕ) (a : A) → get_elem? xs k ≡ some a → k < length xs
-within [] k a e = absurd (some-ne-none a (sym e))
-within (z ∷ xs) zero a e = omega arith
-within (z ∷ xs) (suc k) a e = let later = within xs k a e in omega arith
 
 -- after a step of a seat that has one node, words and views show a state, and the seat's part is of it
 pub record Goes (size : Size) (s : State (Unit {0}) View) (id place value : ℕ) (part next : Part) : Type 0 where
@@ -86,6 +82,21 @@ goes size s kept id place value part next y reached sized leads enabled all here
             ∙ sym (size_known kept.whole id part size kept.reached kept.sized (kept.shown.known id (single part) here).0);
       };
     }
+
+-- after a step on one lane
+pub lane_goes : (size : Size) (s : State (Unit {0}) View) (kept : IsKept size s) (id lane turn index place value : ℕ) (part : Part) {core : Core}
+    {schedule : List Event} {next : NodeOf} {o o' : Outbound} {i i' : Inbound} → get_elem? s.views id ≡ some (single part) → index < 11
+    → place ≡ cell_place lane turn + index → IsReached core → run size schedule ≡ core → AreEnabled size [] schedule
+    → IsTurn kept.whole part lane core schedule next o o' i i'
+    → ShowsLane (set s.words (cell_place lane turn + index) value) lane (lane_at core lane) o' i'
+    → Goes size s id place value part (informed schedule (with_lane_known lane next o i part))
+lane_goes size s kept id lane turn index place value part {core = core} {schedule = schedule} {next = next} {o = o} {o' = o'} {i = i} {i' = i'} here few is
+    reached leads enabled t shows =
+    let later = informed schedule (with_lane_known lane next o i part) in
+    let y = turned_whole kept.whole lane core schedule o' i' in
+    goes size s kept id place value part later y reached (t.size ∙ kept.sized) leads enabled refl here t.me
+    (subst (λ (p : ℕ). Shows y (set s.words p value) (set s.views id (single later))) (sym is)
+    (lane_step kept.whole s.words s.views id lane turn index value part core schedule next o o' i i' kept.shown here few t shows))
 
 -- what a step owes, and what it tells
 abbrev pub Owes : Size → ℕ → ℕ → Part → (ℕ → ℕ) → (ℕ → Me (Unit {0}) View → Type 0) → Type 0
@@ -141,10 +152,6 @@ maybe_in false sure words lane word packets o i is there f = f
 if_false : {X : Type 0} (b : Bool) (x y : X) → b ≡ false → (if b then x else y) ≡ y
 if_false true x y e = cc
 if_false false x y e = refl
-
-not_true : (b : Bool) → not b ≡ true → b ≡ true → ⊥
-not_true true e f = cc
-not_true false e f = cc
 
 -- no packet is in a lane whose next cell to take from is empty
 emptied : (words : List ℕ) (place : ℕ) (lane : List Letter) (o : Outbound) (i : Inbound) → ShowsLane words place lane o i → word_at words place i.taken 0 ≡ 0
@@ -216,9 +223,6 @@ looks size slots id lane number part lt few = allows size slots id place part (�
         i' : Inbound
         i' = if c then looked_in sure word (x.inbound lane) else x.inbound lane
 
-        y : Whole
-        y = turned_whole x lane x.core x.schedule o' i'
-
         out_is : sender_of (nodes_of x) lane ≡ me_of part → outbound_at part lane ≡ x.outbound lane
         out_is is = k.outbound lane lane_ok is
 
@@ -262,7 +266,7 @@ looks size slots id lane number part lt few = allows size slots id place part (�
               | inr few ↦
                   let same : (outbound_at part lane).sent ≡ (inbound_at part lane).taken = omega arith in
                   let yes = eq-eqb (outbound_at part lane).sent (inbound_at part lane).taken same in
-                  absurd (not_true (eqb (outbound_at part lane).sent (inbound_at part lane).taken) sends.1 yes)
+                  absurd (both_ways (eqb (outbound_at part lane).sent (inbound_at part lane).taken) (not-true _ sends.1) yes)
             ]
 
         shows_lane : ShowsLane (set s.words place word) lane (lane_at x.core lane) o' i'
@@ -274,12 +278,10 @@ looks size slots id lane number part lt few = allows size slots id place part (�
               (maybe_out b s.words lane word old.packets (x.outbound lane) (x.inbound lane) sends_here old.fits));
         }
 
-        shows : Shows y (set s.words place word) (set s.views id (single (informed x.schedule (looked lane number word part))))
-        shows = lane_step x s.words s.views id lane number 0 word part x.core x.schedule part.node
-            (if b then looked_out word (outbound_at part lane) else outbound_at part lane) o'
-            (if c then looked_in sure word (inbound_at part lane) else inbound_at part lane) i'
-            kept.shown here (omega arith)
-            (still x id part lane _ o' _ i' k lane_ok
+        went : Goes size s id place word part (informed x.schedule (looked lane number word part))
+        went = lane_goes size s kept id lane number 0 place word part here (omega arith) refl kept.reached kept.leads kept.enabled
+            (still x id part lane (if b then looked_out word (outbound_at part lane) else outbound_at part lane) o'
+            (if c then looked_in sure word (inbound_at part lane) else inbound_at part lane) i' k lane_ok
             (λ is. ap (λ (o : Outbound). if b then looked_out word o else o) (out_is is))
             (λ apart. if_false b _ (x.outbound lane)
             (and_left (eqb (sender_of part.node.cache.nodes lane) (me_of part)) _
@@ -289,10 +291,6 @@ looks size slots id lane number part lt few = allows size slots id place part (�
             (and_left (eqb (receiver_of part.node.cache.nodes lane) (me_of part)) _
             (ne_eqb (receiver_of part.node.cache.nodes lane) (me_of part) (λ e. apart (subst (λ (n : ℕ). receiver_of n lane ≡ me_of part) nodes e))))))
             shows_lane
-
-        went : Goes size s id place word part (informed x.schedule (looked lane number word part))
-        went = goes size s kept id place word part (informed x.schedule (looked lane number word part)) y kept.reached kept.sized kept.leads kept.enabled refl
-            here refl shows
 
         four : word ≡ word_at s.words lane (x.outbound lane).sent 0 → word ≢ 0 → length (lane_at x.core lane) ≡ 4
         four is some_word =

@@ -5,7 +5,7 @@ use Rattle.std.proofs.lemmas.List.{get_or_read}
 use Rattle.sci_words.specs.declared.event.Event.{Event}
 use Rattle.sci_words.specs.declared.event.Event.TheVariants as event
 use Rattle.sci_packets.specs.declared.packet.Packet.{Packet}
-use Rattle.sci_packets.specs.Spelling.{SpellsInWords, words_of}
+use Rattle.sci_packets.specs.Spelling.{SpellsInWords}
 use Rattle.sci_packets.proofs.Whole.{one_by_words}
 use Rattle.sci_cache.specs.Cache.{Letter, letter_of, line_of}
 use Rattle.sci_cache.specs.State.{waits}
@@ -25,7 +25,8 @@ use Rattle.sci_lanes.specs.Shown.{informed, me_of, outbound_at, inbound_at}
 use Rattle.sci_lanes.specs.Telling.{IsFront, IsFull, IsShown, IsSending, IsTaking, SomeLineWaits}
 use Rattle.sci_lanes.specs.Ends.{nodes_in, lane_at_cell, IsNextToSend, IsNextToTake, MayPublish, MayFree, MayBeat, node_after, taken_by, MayBeGiven, FitsInside}
 use Rattle.sci_lanes.proofs.Seats.{IsInLane, takes_in, shown_nodes}
-use Rattle.sci_lanes.proofs.Events.{sent_place, words_some as words_some_of}
+use Rattle.sci_lanes.proofs.Events.{sent_place, takes_what}
+use Rattle.sci_lanes.proofs.LaneSteps.{words_some as words_some_of}
 use Rattle.sci_lanes.proofs.Inside.{inbox_within}
 
 -- ---- the next cells
@@ -140,10 +141,7 @@ given part cell e s may = by_event e may.side_is
     lane = lane_at_cell part cell
 
     words_some : 0 < length (inbound_at part lane).found
-    words_some = subst (λ (ws : List ℕ). 0 < length ws) (sym may.spelled.spelled_so) (above may.packet)
-      where
-        above : (p : Packet) → 0 < length (words_of p)
-        above p = words_some_of p
+    words_some = subst (λ (ws : List ℕ). 0 < length ws) (sym may.spelled.spelled_so) (words_some_of may.packet)
 
     front : IsFront (lane_at s.core lane) (inbound_at part lane).found
     front = s.found lane (subst (λ (n : ℕ). lane < lane_count n) nodes at.lane) (subst (λ (n : ℕ). receiver_of n lane ≡ me) nodes (at.receiver ∙ may.next.mine))
@@ -173,25 +171,11 @@ given part cell e s may = by_event e may.side_is
         (acceptable s.core from me (letter_of may.packet) (reached_well s.core s.reached) (subst (λ (j : ℕ). j < s.core.size.nodes) f sender) s.some_node
         (begins Answers from k f))
 
-    takes_as : (kind k : LaneKind) (from f : ℕ) (t u : Letter → Option NodeOf) → Takes kind from t ≡ Takes k f u → (k ≡ kind) × (f ≡ from)
-    takes_as kind k from f t u e = (ap kind_of (sym e), ap from_of (sym e))
-      where
-        kind_of : Side → LaneKind
-        kind_of (Takes a b c) = a
-        kind_of _ = Requests
-
-        from_of : Side → ℕ
-        from_of (Takes a b c) = b
-        from_of _ = 0
-
     by_event : (v : Event) → side part.node v ≡ Takes cell.kind cell.sender may.taking → MayBeGiven v part.node (letter_of may.packet)
-    by_event (event.Issue n op) is = tt
-    by_event (event.Perform n l) is = tt
-    by_event (event.Ask n l k) is = tt
-    by_event (event.Serve from n) is = let w = takes_as Requests cell.kind from cell.sender _ may.taking is in serves from w.0 w.1
-    by_event (event.Refuse from n) is = let w = takes_as Requests cell.kind from cell.sender _ may.taking is in serves from w.0 w.1
-    by_event (event.Reply n) is = tt
-    by_event (event.Accept from n) is = let w = takes_as Answers cell.kind from cell.sender _ may.taking is in accepts from w.0 w.1
+    by_event (event.Serve from n) is = let w = takes_what Requests cell.kind from cell.sender _ may.taking is in serves from (sym w.0) (sym w.1)
+    by_event (event.Refuse from n) is = let w = takes_what Requests cell.kind from cell.sender _ may.taking is in serves from (sym w.0) (sym w.1)
+    by_event (event.Accept from n) is = let w = takes_what Answers cell.kind from cell.sender _ may.taking is in accepts from (sym w.0) (sym w.1)
+    by_event _ is = tt
 
 -- two packets with the same words are one
 pub one_spelled : (p q : Packet) (words : List ℕ) → SpellsInWords p words → SpellsInWords q words → p ≡ q

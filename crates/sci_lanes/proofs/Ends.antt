@@ -9,13 +9,12 @@ use Rattle.sci_lanes.specs.declared.view.Outbound.{Outbound}
 use Rattle.sci_lanes.specs.declared.view.Inbound.{Inbound}
 use Rattle.sci_lanes.specs.declared.view.Part.{Part}
 use Rattle.sci_lanes.specs.Cells.{cell_place, lane_count, sender_of, receiver_of}
-use Rattle.sci_lanes.specs.Shown.{Fits, ShowsLane, Whole, nodes_of, me_of, single, informed, outbound_at, inbound_at, IsKnown, Shows, IsKept}
+use Rattle.sci_lanes.specs.Shown.{Fits, ShowsLane, Whole, nodes_of, me_of, single, informed, outbound_at, inbound_at, IsKnown, IsKept}
 use Rattle.sci_lanes.specs.Knowing.{filled_out, filled, read_in, read}
 use Rattle.sci_lanes.specs.Plays.{Fills, Reads}
 use Rattle.sci_lanes.proofs.Words.{same_cell, place_within}
 use Rattle.sci_lanes.proofs.LaneSteps.{out_filled, in_read}
-use Rattle.sci_lanes.proofs.Turning.{turned_whole, lane_step}
-use Rattle.sci_lanes.proofs.Allowed.{lane_found, index_found, goes, Goes, Owes, allows, still}
+use Rattle.sci_lanes.proofs.Allowed.{lane_found, index_found, lane_goes, Goes, Owes, allows, still}
 
 -- what is known where a word of a part's next cell is filled
 pub record MayFill (size : Size) (part : Part) (lane number index : ℕ) : Type 0 where
@@ -80,27 +79,17 @@ fills size slots id lane number index word part may =
         turn : place ≡ cell_place lane o.sent + index
         turn = let e = may.next in let p = ap (λ (u : Outbound). u.sent) out_is in ap (λ (c : ℕ). c + index) (same_cell lane number o.sent (omega arith))
 
-        y : Whole
-        y = turned_whole x lane x.core x.schedule (filled_out index word o) (x.inbound lane)
-
         fits : Fits (set s.words (cell_place lane o.sent + index) word) lane old.packets (filled_out index word o) (x.inbound lane)
         fits = out_filled s.words lane index word old.packets o (x.inbound lane) (ap (λ (u : Outbound). u.vacant) (sym out_is) ∙ may.vacant) may.further
             may.within (subst (λ (u : Outbound). index ≤ length u.filled + 1) out_is may.order)
             (subst (λ (n : ℕ). cell_place lane o.sent + index < n) (sym kept.shown.long) (place_within (nodes_of x) lane o.sent index lane_ok may.within))
             old.fits
 
-        shows : Shows y (set s.words (cell_place lane o.sent + index) word) (set s.views id (single (informed x.schedule (filled lane index word part))))
-        shows = lane_step x s.words s.views id lane o.sent index word part x.core x.schedule part.node (filled_out index word (outbound_at part lane))
-            (filled_out index word o) (inbound_at part lane) (x.inbound lane)
-            kept.shown here may.within
-            (still x id part lane _ (filled_out index word o) _ (x.inbound lane) k lane_ok (λ is. ap (filled_out index word) out_is)
-            (λ apart. absurd (apart sends)) (k.inbound lane lane_ok) (λ apart. refl))
-            (record { packets = old.packets; letters = old.letters; fits = fits })
-
         went : Goes size s id place word part (informed x.schedule (filled lane index word part))
-        went = goes size s kept id place word part (informed x.schedule (filled lane index word part)) y kept.reached kept.sized kept.leads kept.enabled refl
-            here refl
-            (subst (λ (p : ℕ). Shows y (set s.words p word) (set s.views id (single (informed x.schedule (filled lane index word part))))) (sym turn) shows)
+        went = lane_goes size s kept id lane o.sent index place word part here may.within turn kept.reached kept.leads kept.enabled
+            (still x id part lane (filled_out index word (outbound_at part lane)) (filled_out index word o) (inbound_at part lane) (x.inbound lane) k lane_ok
+            (λ is. ap (filled_out index word) out_is) (λ apart. absurd (apart sends)) (k.inbound lane lane_ok) (λ apart. refl))
+            (record { packets = old.packets; letters = old.letters; fits = fits })
 
 pub reads : (size : Size) (slots id lane number index : ℕ) (part : Part) → MayRead size part lane number index
     → Allows (IsKept size) slots id (single part, []) (cell_place lane number + index) (λ n. n)
@@ -148,26 +137,17 @@ reads size slots id lane number index part may = allows size slots id place part
         turn : place ≡ cell_place lane i.taken + index
         turn = let e = may.next in let p = ap (λ (u : Inbound). u.taken) in_is in ap (λ (c : ℕ). c + index) (same_cell lane number i.taken (omega arith))
 
-        y : Whole
-        y = turned_whole x lane x.core x.schedule (x.outbound lane) (read_in index word i)
-
         fits : Fits s.words lane old.packets (x.outbound lane) (read_in index word i)
         fits = subst (λ (p : ℕ). Fits s.words lane old.packets (x.outbound lane) (read_in index (get_or s.words p 0) i)) (sym turn)
             (in_read s.words lane index old.packets (x.outbound lane) i may.further may.within (subst (λ (u : Inbound). index ≤ length u.found) in_is may.order)
             old.fits)
 
-        shows : Shows y (set s.words place word) (set s.views id (single (informed x.schedule (read lane index word part))))
-        shows = lane_step x s.words s.views id lane number index word part x.core x.schedule part.node (outbound_at part lane) (x.outbound lane)
-            (read_in index word (inbound_at part lane)) (read_in index word i)
-            kept.shown here may.within
-            (still x id part lane _ (x.outbound lane) _ (read_in index word i) k lane_ok (k.outbound lane lane_ok) (λ apart. refl)
-            (λ is. ap (read_in index word) in_is) (λ apart. absurd (apart receives)))
+        went : Goes size s id place word part (informed x.schedule (read lane index word part))
+        went = lane_goes size s kept id lane number index place word part here may.within refl kept.reached kept.leads kept.enabled
+            (still x id part lane (outbound_at part lane) (x.outbound lane) (read_in index word (inbound_at part lane)) (read_in index word i) k lane_ok
+            (k.outbound lane lane_ok) (λ apart. refl) (λ is. ap (read_in index word) in_is) (λ apart. absurd (apart receives)))
             (record {
               packets = old.packets;
               letters = old.letters;
               fits = subst (λ (ws : List ℕ). Fits ws lane old.packets (x.outbound lane) (read_in index word i)) (sym (set-get_or s.words place 0)) fits;
             })
-
-        went : Goes size s id place word part (informed x.schedule (read lane index word part))
-        went = goes size s kept id place word part (informed x.schedule (read lane index word part)) y kept.reached kept.sized kept.leads kept.enabled refl here
-            refl shows

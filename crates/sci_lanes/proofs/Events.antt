@@ -14,7 +14,7 @@ use Rattle.sci_packets.proofs.Whole.{one_by_words}
 use Rattle.sci_cache.specs.Cache.{Letter, letter_of}
 use Rattle.sci_core.specs.Size.{Size}
 use Rattle.sci_core.specs.declared.lane.LaneKind.{LaneKind}
-use Rattle.sci_core.specs.Node.{NodeOf, no_node}
+use Rattle.sci_core.specs.Node.{NodeOf, no_node, node_accepting, node_refusing, node_serving}
 use Rattle.sci_core.specs.Core.{Core, node_at, with_node, with_lane, lane_at, lane_of, lane_place, side, node_of, sent_by, taken_as, taken_from, IsEnabled}
 use Rattle.sci_core.specs.Core.{stepping, step as machine_step, opening, run}
 use Rattle.sci_core.specs.Reached.{IsReached}
@@ -25,20 +25,18 @@ use Rattle.sci_lanes.specs.declared.view.Outbound.{Outbound}
 use Rattle.sci_lanes.specs.declared.view.Inbound.{Inbound}
 use Rattle.sci_lanes.specs.declared.view.Part.{Part}
 use Rattle.sci_lanes.specs.Cells.{cell_place, own_place, lane_count, sender_of, receiver_of, word_at}
-use Rattle.sci_lanes.specs.Shown.{AreEnabled, Fits, ShowsLane, Whole, nodes_of, me_of, single, informed, outbound_at, inbound_at, IsKnown, Shows, IsKept}
+use Rattle.sci_lanes.specs.Shown.{AreEnabled, Fits, ShowsLane, Whole, nodes_of, me_of, single, informed, outbound_at, inbound_at, IsKnown, IsKept}
 use Rattle.sci_lanes.specs.Knowing.{published_out, published, freed_in, freed, with_node_known}
 use Rattle.sci_words.specs.declared.event.Event.TheVariants as event_is
-use Rattle.sci_history.specs.declared.entry.Entry.{Entry}
 use Rattle.sci_core.specs.Core.{Side, Takes, changes, performs, sends}
 use Rattle.sci_core.specs.declared.lane.LaneKind.TheVariants.{Requests, Answers}
 use Rattle.sci_lanes.specs.Telling.{IsMade, IsSending, IsTaken, IsTaking, IsBeating, lane_taken}
 use Rattle.sci_lanes.specs.Plays.{Publishes, Frees, Beats}
 use Rattle.sci_lanes.proofs.Words.{same_cell, place_within, own_apart, stored_else}
-use Rattle.sci_lanes.proofs.LaneSteps.{agreeing, out_published, in_freed}
+use Rattle.sci_lanes.proofs.LaneSteps.{agreeing, out_published, in_freed, words_some}
 use Rattle.sci_lanes.proofs.Keeping.{step_shows, one_further, seen_all}
-use Rattle.sci_lanes.proofs.Turning.{turned_whole, lane_step}
 use Rattle.sci_lanes.proofs.Facts.{known_part}
-use Rattle.sci_lanes.proofs.Allowed.{lane_found, size_known, leads_here, goes, Goes, Owes, allows}
+use Rattle.sci_lanes.proofs.Allowed.{lane_found, size_known, leads_here, goes, lane_goes, Goes, Owes, allows}
 
 -- ---- places of lanes
 
@@ -80,7 +78,7 @@ pub run_further : (size : Size) (schedule : List Event) (old new : Core) (e : Ev
 run_further size schedule old new e leads steps =
     fold_push machine_step (opening size) schedule e ∙ (ap (λ (k : Core). machine_step k e) leads ∙ ap (λ (o : Option Core). unwrap_or o old) steps)
 
-enabled_more : (size : Size) (known xs : List Event) (e : Event) → AreEnabled size known xs → IsEnabled (run size (known ++ xs)) e
+pub enabled_more : (size : Size) (known xs : List Event) (e : Event) → AreEnabled size known xs → IsEnabled (run size (known ++ xs)) e
     → AreEnabled size known (xs ++ e ∷ [])
 enabled_more size known [] e all one = (subst (λ (es : List Event). IsEnabled (run size es) e) (append-nil known) one, tt)
 enabled_more size known (x ∷ xs) e all one =
@@ -186,18 +184,15 @@ publishes size slots id lane number first part event next number_is may =
         turn : place ≡ cell_place lane o.sent + 0
         turn = let p = ap (λ (u : Outbound). u.sent) out_is in ap (λ (c : ℕ). c + 0) (same_cell lane number o.sent (omega arith))
 
-        y : Whole
-        y = turned_whole x lane core (x.schedule ++ event ∷ []) (published_out o) (x.inbound lane)
-
         fits : Fits (set s.words (cell_place lane o.sent + 0) first) lane (old.packets ++ may.packet ∷ []) (published_out o) (x.inbound lane)
         fits = out_published s.words lane first may.packet old.packets o (x.inbound lane) (ap (λ (u : Outbound). u.vacant) (sym out_is) ∙ may.vacant)
             may.spelled.packet (sym may.spelled.spelled_so ∙ ap (λ (u : Outbound). first ∷ u.filled) out_is)
             (subst (λ (n : ℕ). cell_place lane o.sent + 0 < n) (sym kept.shown.long) (place_within (nodes_of x) lane o.sent 0 at.0 (omega arith))) old.fits
 
-        shows : Shows y (set s.words (cell_place lane o.sent + 0) first)
-            (set s.views id (single (informed (x.schedule ++ event ∷ []) (published lane next part))))
-        shows = lane_step x s.words s.views id lane o.sent 0 first part core (x.schedule ++ event ∷ []) next (published_out (outbound_at part lane))
-            (published_out o) (inbound_at part lane) (x.inbound lane) kept.shown here (omega arith)
+        went : Goes size s id place first part (informed (x.schedule ++ event ∷ []) (published lane next part))
+        went = lane_goes size s kept id lane o.sent 0 place first part {o = published_out (outbound_at part lane)} {i = inbound_at part lane} here (omega arith)
+            turn reached (run_further size x.schedule x.core core event kept.leads stepped)
+            (one_enabled size x.schedule x.core core event kept.enabled kept.leads stepped)
             (record {
               lane_ok = at.0;
               size = refl;
@@ -218,52 +213,29 @@ publishes size slots id lane number first part event next number_is may =
               fits = fits;
             })
 
-        went : Goes size s id place first part (informed (x.schedule ++ event ∷ []) (published lane next part))
-        went = goes size s kept id place first part (informed (x.schedule ++ event ∷ []) (published lane next part)) y reached kept.sized
-            (run_further size x.schedule x.core core event kept.leads stepped) (one_enabled size x.schedule x.core core event kept.enabled kept.leads stepped)
-            refl here (me_stays core me next reached k.some_node mine)
-            (subst (λ (p : ℕ). Shows y (set s.words p first) (set s.views id (single (informed (x.schedule ++ event ∷ []) (published lane next part)))))
-            (sym turn) shows)
-
 -- ---- free
 
-takes_as : {kind k : LaneKind} {from f : ℕ} {t u : Letter → Option NodeOf} → Takes kind from t ≡ Takes k f u → (kind ≡ k) × (from ≡ f)
-takes_as e = (ap kind_of e, ap from_of e)
-  where
-    kind_of : Side → LaneKind
-    kind_of (Takes a b c) = a
-    kind_of _ = Requests
+-- a side that is made of an option, by the option's cases
+pub by_option : {A T : Type 0} (f : Option A → Side) (s : Side) → (f None ≡ s → T) → ((x : A) → f (Some x) ≡ s → T) → (o : Option A) → f o ≡ s → T
+by_option f s empty full None is = empty is
+by_option f s empty full (Some x) is = full x is
 
-    from_of : Side → ℕ
-    from_of (Takes a b c) = b
-    from_of _ = 0
+pub takes_what : (k kind : LaneKind) (f from : ℕ) (t taking : Letter → Option NodeOf) → Takes k f t ≡ Takes kind from taking → (k ≡ kind) × (f ≡ from)
+takes_what k kind f from t taking e = (cc, cc)
 
 -- the lane from which an event takes, by its side at its node
-taken_lane : (core : Core) (node : NodeOf) (e : Event) (kind : LaneKind) (from : ℕ) (taking : Letter → Option NodeOf) → side node e ≡ Takes kind from taking
-    → lane_taken core e ≡ lane_of core kind from (node_of e)
-taken_lane core node (event_is.Issue n op) kind from taking is = absurd (none _ is)
-  where
-    none : (o : Option NodeOf) → changes o ≡ Takes kind from taking → ⊥
-    none None e = cc
-    none (Some x) e = cc
-taken_lane core node (event_is.Perform n line) kind from taking is = absurd (none _ is)
-  where
-    none : (o : Option (NodeOf × Entry)) → performs o ≡ Takes kind from taking → ⊥
-    none None e = cc
-    none (Some x) e = cc
-taken_lane core node (event_is.Ask n line k) kind from taking is = absurd (none _ is)
-  where
-    none : (o : Option (NodeOf × Letter)) → sends Requests o ≡ Takes kind from taking → ⊥
-    none None e = cc
-    none (Some x) e = cc
-taken_lane core node (event_is.Serve f n) kind from taking is = let e = takes_as is in (λ i. lane_of core (e.0 i) (e.1 i) n)
-taken_lane core node (event_is.Refuse f n) kind from taking is = let e = takes_as is in (λ i. lane_of core (e.0 i) (e.1 i) n)
-taken_lane core node (event_is.Reply n) kind from taking is = absurd (none _ is)
-  where
-    none : (o : Option (NodeOf × Letter)) → sends Answers o ≡ Takes kind from taking → ⊥
-    none None e = cc
-    none (Some x) e = cc
-taken_lane core node (event_is.Accept f n) kind from taking is = let e = takes_as is in (λ i. lane_of core (e.0 i) (e.1 i) n)
+pub taken_lane : (core : Core) (node : NodeOf) (e : Event) (kind : LaneKind) (from : ℕ) (taking : Letter → Option NodeOf)
+    → side node e ≡ Takes kind from taking → lane_taken core e ≡ lane_of core kind from (node_of e)
+taken_lane core node (event_is.Issue n op) kind from taking is = by_option changes _ (λ e. cc) (λ x e. cc) _ is
+taken_lane core node (event_is.Perform n line) kind from taking is = by_option performs _ (λ e. cc) (λ x e. cc) _ is
+taken_lane core node (event_is.Ask n line k) kind from taking is = by_option (sends Requests) _ (λ e. cc) (λ x e. cc) _ is
+taken_lane core node (event_is.Reply n) kind from taking is = by_option (sends Answers) _ (λ e. cc) (λ x e. cc) _ is
+taken_lane core node (event_is.Serve f n) kind from taking is =
+    let e = takes_what Requests kind f from (node_serving node) taking is in (λ i. lane_of core (e.0 i) (e.1 i) n)
+taken_lane core node (event_is.Refuse f n) kind from taking is =
+    let e = takes_what Requests kind f from (node_refusing node) taking is in (λ i. lane_of core (e.0 i) (e.1 i) n)
+taken_lane core node (event_is.Accept f n) kind from taking is =
+    let e = takes_what Answers kind f from (node_accepting node) taking is in (λ i. lane_of core (e.0 i) (e.1 i) n)
 
 -- the lane begins with a packet that the node takes
 takes_front : (core : Core) (me place : ℕ) (taking : Letter → Option NodeOf) (lane : List Letter) (letter : Letter) (rest : List Letter) (next : NodeOf)
@@ -279,10 +251,6 @@ record IsOldest (words : List ℕ) (lane : ℕ) (letters : List Letter) (o : Out
   packets : List Packet
   letters_are : letters ≡ letter_of p ∷ map letter_of packets
   fits : Fits words lane (p ∷ packets) o i
-
-pub words_some : (p : Packet) → 0 < length (words_of p)
-unfolding words_of
-words_some p = omega arith
 
 oldest : (words : List ℕ) (lane : ℕ) (letters : List Letter) (o : Outbound) (i : Inbound) (p : Packet) (packets : List Packet) → map letter_of packets ≡ letters
     → Fits words lane packets o i → IsPacket p → i.found ≡ words_of p
@@ -400,12 +368,10 @@ frees size slots id lane number part event next number_is may =
         turn : place ≡ cell_place lane i.taken + 0
         turn = let p = ap (λ (u : Inbound). u.taken) in_is in ap (λ (c : ℕ). c + 0) (same_cell lane number i.taken (omega arith))
 
-        y : Whole
-        y = turned_whole x lane core (x.schedule ++ event ∷ []) (x.outbound lane) (freed_in i)
-
-        shows : Shows y (set s.words (cell_place lane i.taken + 0) 0) (set s.views id (single (informed (x.schedule ++ event ∷ []) (freed lane next part))))
-        shows = lane_step x s.words s.views id lane i.taken 0 0 part core (x.schedule ++ event ∷ []) next (outbound_at part lane) (x.outbound lane)
-            (freed_in (inbound_at part lane)) (freed_in i) kept.shown here (omega arith)
+        went : Goes size s id place 0 part (informed (x.schedule ++ event ∷ []) (freed lane next part))
+        went = lane_goes size s kept id lane i.taken 0 place 0 part {o = outbound_at part lane} {i = freed_in (inbound_at part lane)} here (omega arith) turn
+            reached (run_further size x.schedule x.core core event kept.leads stepped)
+            (one_enabled size x.schedule x.core core event kept.enabled kept.leads stepped)
             (record {
               lane_ok = at.0;
               size = refl;
@@ -426,13 +392,6 @@ frees size slots id lane number part event next number_is may =
                   (subst (λ (n : ℕ). cell_place lane i.taken + 0 < n) (sym kept.shown.long) (place_within (nodes_of x) lane i.taken 0 at.0 (omega arith)))
                   old.fits;
             })
-
-        went : Goes size s id place 0 part (informed (x.schedule ++ event ∷ []) (freed lane next part))
-        went = goes size s kept id place 0 part (informed (x.schedule ++ event ∷ []) (freed lane next part)) y reached kept.sized
-            (run_further size x.schedule x.core core event kept.leads stepped) (one_enabled size x.schedule x.core core event kept.enabled kept.leads stepped)
-            refl here (me_stays core me next reached k.some_node mine)
-            (subst (λ (p : ℕ). Shows y (set s.words p 0) (set s.views id (single (informed (x.schedule ++ event ∷ []) (freed lane next part))))) (sym turn)
-            shows)
 
 -- ---- beat
 

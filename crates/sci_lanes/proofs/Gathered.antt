@@ -1,8 +1,8 @@
 -- The state that is gathered is the one that the table shows.
-use Rattle.std.proofs.Common.{◌≡◌, ℕ, ◌%◌, ◌<◌, inl, inr, nat_lt, if◌then◌else◌, List, [], length, get_or, Some, refl, sym, ap, subst, ◌∙◌, arith}
+use Rattle.std.proofs.Common.{◌≡◌, ℕ, ◌%◌, ◌<◌, inl, inr, List, [], length, get_or, Some, refl, sym, ap, subst, ◌∙◌, arith}
 use Rattle.std.specs.Prelude.{Vec, slice_get}
 use Rattle.std.proofs.Math.Nat.{mod-lt}
-use Rattle.std.proofs.lemmas.Bool.{cases_lt, lt-ltb, le-ltb}
+use Rattle.std.proofs.lemmas.Bool.{cases_lt}
 use Rattle.std.proofs.lemmas.List.{ext_get_or, get_or_past}
 use Rattle.std.proofs.lemmas.Option.{slice_get-get_or}
 use Rattle.sci_words.specs.declared.event.Event.{Event}
@@ -29,6 +29,14 @@ use Rattle.sci_lanes.specs.Gathering.{IsReadOff, TakesFrom}
 use Rattle.sci_lanes.proofs.Keeping.{all_at}
 use Rattle.sci_lanes.proofs.Events.{count_is}
 use Rattle.sci_lanes.proofs.Allowed.{size_known}
+
+-- The schedule leads to the state of these nodes and lanes; each end knows a beginning of it, and its node is there.
+pub record IsLed (extent : Extent) (limit : ℕ) (ends : List EndOf) (nodes : List NodeOf) (lanes : List (List Letter)) (schedule : List Event) : Type 0 where
+  pub reached : IsReached (core_of extent limit nodes lanes)
+  pub leads : run (size_of extent limit) schedule ≡ core_of extent limit nodes lanes
+  pub enabled : AreEnabled (size_of extent limit) [] schedule
+  pub seen : (place : ℕ) (end : EndOf) → slice_get ends place ≡ Some end → IsSeen end.part schedule
+  pub there : (place : ℕ) (end : EndOf) → slice_get ends place ≡ Some end → get_or nodes (me_of end.part) no_node ≡ end.part.node
 
 module _ {Z : Type 0} where
   -- every node is among the parts that were joined
@@ -66,12 +74,8 @@ module _ {Z : Type 0} where
         nothing k e h = cc
 
     -- the node of each end is there
-    pub end_node : (place : ℕ) (end : EndOf) → slice_get ends place ≡ Some end → get_or nodes (me_of end.part) no_node ≡ end.part.node
+    end_node : (place : ℕ) (end : EndOf) → slice_get ends place ≡ Some end → get_or nodes (me_of end.part) no_node ≡ end.part.node
     end_node place end is = let h = end_part place end is in (j.each (me_of end.part) h.0).node ∙ ap (λ (x : Part). x.node) h.1
-
-    -- each end knows a beginning of the schedule
-    pub end_seen : (place : ℕ) (end : EndOf) → slice_get ends place ≡ Some end → IsSeen end.part r.whole.schedule
-    end_seen place end is = let h = end_part place end is in subst (λ (x : Part). IsSeen x r.whole.schedule) h.1 (part_at (me_of end.part) h.0).seen
 
     sized : r.whole.core.size ≡ size_of extent limit
     sized =
@@ -121,15 +125,15 @@ module _ {Z : Type 0} where
         ext_get_or [] r.whole.core.lanes lanes lanes_long (λ l lt. lane_there l (subst (λ (m : ℕ). l < m) (lanes_long ∙ read.long) lt)) in
         λ k. record { size = sized k; parts = parts_are k; lanes = lanes_are k }
 
-    pub reached_core : IsReached (core_of extent limit nodes lanes)
-    reached_core = subst IsReached core_is r.reached
-
-    -- the schedule leads there
-    pub led_core : run (size_of extent limit) r.whole.schedule ≡ core_of extent limit nodes lanes
-    led_core = ap (λ (z : Size). run z r.whole.schedule) (sym sized) ∙ (r.leads ∙ core_is)
-
-    pub led_enabled : AreEnabled (size_of extent limit) [] r.whole.schedule
-    led_enabled = subst (λ (z : Size). AreEnabled z [] r.whole.schedule) sized r.enabled
+    pub led : IsLed extent limit ends nodes lanes r.whole.schedule
+    led = record {
+      reached = subst IsReached core_is r.reached;
+      leads = ap (λ (z : Size). run z r.whole.schedule) (sym sized) ∙ (r.leads ∙ core_is);
+      enabled = subst (λ (z : Size). AreEnabled z [] r.whole.schedule) sized r.enabled;
+      seen = λ place end is. (
+          let h = end_part place end is in subst (λ (x : Part). IsSeen x r.whole.schedule) h.1 (part_at (me_of end.part) h.0).seen);
+      there = end_node;
+    }
 
 -- logs of the state where a schedule leads are what it makes
 pub logs_made : (size : Size) (schedule : List Event) (core : Core) (logs : List (List Entry)) → IsSize size → run size schedule ≡ core → logs ≡ logs_of core

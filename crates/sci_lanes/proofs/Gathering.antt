@@ -2,8 +2,7 @@
 use Rattle.std.proofs.Common.{◌≡◌, ℕ, ◌+◌, ◌<◌, inl, inr, List, [], ◌∷◌, ◌++◌, length, get_or, set, refl, sym, ap, subst, ◌∙◌, arith}
 use Rattle.std.specs.Prelude.{slice_get}
 use Rattle.std.specs.List.{AllByRecursion}
-use Rattle.std.proofs.lemmas.Bool.{cases_lt}
-use Rattle.std.proofs.lemmas.List.{set-get_or, get_or_append_left, get_or_push}
+use Rattle.std.proofs.lemmas.List.{set-get_or}
 use mathlib.Core.Option.{some, none, some-injective}
 use lib.ListN.{get_elem?, length-append}
 use Rattle.atomic_table.specs.Table.{Joins, Allows, State, step, keeps}
@@ -15,9 +14,9 @@ use Rattle.sci_lanes.specs.Cells.{word_count}
 use Rattle.sci_lanes.specs.Shown.{AreEnabled, Whole, nodes_of, IsKnown, HasRead, IsCovered, Shows, IsKept}
 use Rattle.sci_lanes.specs.Ends.{no_view}
 use Rattle.sci_lanes.specs.Gathering.{Gathers, HasNodes, both_views, read_more}
-use Rattle.sci_lanes.proofs.Keeping.{all_at}
-use Rattle.sci_lanes.proofs.Allowed.{within}
-use Rattle.sci_lanes.proofs.Sharing.{joins}
+use Rattle.sci_lanes.proofs.Words.{one_more}
+use Rattle.sci_lanes.proofs.Keeping.{all_at, within}
+use Rattle.sci_lanes.proofs.Sharing.{joins, kept_owned}
 
 -- ---- joining
 
@@ -64,13 +63,7 @@ module _ (size : Size) (slots id place : ℕ) (view : View) (every : HasNodes si
           let more : length (view.words ++ word ∷ []) ≡ length view.words + 1 = length-append view.words (word ∷ []) in
           let within : place < word_count (nodes_of x) = subst (λ (n : ℕ). place < word_count n) (sym nodes) few in
           omega arith);
-      same = λ k lt. elim (cases_lt k (length view.words)) [
-        | inl less ↦ r.same k less ∙ sym (get_or_append_left view.words (word ∷ []) 0 k less)
-        | inr not ↦ (
-            let more : length (view.words ++ word ∷ []) ≡ length view.words + 1 = length-append view.words (word ∷ []) in
-            let at : k ≡ length view.words = omega arith in
-            ap (λ (j : ℕ). get_or s.words j 0) (at ∙ sym is) ∙ sym (get_or_push view.words word 0 k (sym at)))
-      ];
+      same = one_more (λ k. get_or s.words k 0) view.words word (ap (λ (k : ℕ). get_or s.words k 0) (sym is)) r.same;
       every = λ some_read n lt. mine n lt;
     }
 
@@ -109,14 +102,8 @@ module _ (size : Size) (slots id place : ℕ) (view : View) (every : HasNodes si
     after s kept here,
     keeps,
     tt,
-    record {
-      whole = kept.whole;
-      reached = kept.reached;
-      sized = kept.sized;
-      leads = kept.leads;
-      enabled = kept.enabled;
-      shown = subst (λ (ws : List ℕ). Shows kept.whole ws (set s.views id (after s kept here))) (sym (set-get_or s.words place 0)) (shows s kept here);
-    },
+    kept_owned size s _ kept kept.whole.owner
+        (subst (λ (ws : List ℕ). Shows kept.whole ws (set s.views id (after s kept here))) (sym (set-get_or s.words place 0)) (shows s kept here)),
     record {
       more = refl;
       read = record {

@@ -14,7 +14,7 @@ use Rattle.sci_lanes.specs.Cells.{lane_count, receiver_of, lane_number}
 use Rattle.sci_words.specs.declared.event.Event.{Event}
 use Rattle.sci_lanes.specs.Shown.{me_of, informed, no_outbound, no_inbound, outbound_at, inbound_at}
 use Rattle.sci_lanes.specs.Knowing.{has_sent_more, with_lane_known, looked_in, looked_out, looked, is_sending, is_receiving, filled, filled_out, read, read_in}
-use Rattle.sci_lanes.specs.Knowing.{published, published_out, freed, freed_in, with_node_known}
+use Rattle.sci_lanes.specs.Knowing.{published, published_out, freed, freed_in}
 use Rattle.sci_lanes.specs.Telling.{IsShown, IsSameNode}
 use Rattle.sci_lanes.specs.Ends.{nodes_in, lane_at_cell, FitsInside}
 use Rattle.sci_lanes.proofs.Seats.{IsInLane}
@@ -93,35 +93,29 @@ module _ (part : Part) (node : NodeOf) (me nodes : ℕ) (turns inbox_turns : Lis
       (subst (λ (l : ℕ). l / nodes < 2 * nodes) (ap (λ (n : ℕ). lane_number n cell) (sym f.nodes_is)) (inbox_within nodes lane (omega arith) lane_here))
 
   -- the turns stay
-  unturned : (o : Outbound) (i : Inbound) → o.sent ≡ (outbound_at part lane).sent → i.taken ≡ (inbound_at part lane).taken
-      → IsChange part me nodes turns turns inbox_turns inbox_turns lane o i
-  unturned o i sent taken = record {
-    lane_ok = lane_here;
-    turns_long = refl;
-    inbox_turns_long = refl;
-    turn = f.turns_are lane lane_here ∙ ap (λ (k : ℕ). k % 4) (sym sent);
-    turns_same = λ other apart. refl;
-    taken = λ is. f.taken_are lane lane_here is ∙ ap (λ (k : ℕ). k % 4) (sym taken);
-    taken_same = λ other apart is. refl;
-  }
+  unturned : (new : Part) (o : Outbound) (i : Inbound) → o.sent ≡ (outbound_at part lane).sent → i.taken ≡ (inbound_at part lane).taken
+      → new ≡ informed new.schedule (with_lane_known lane part.node o i part) → IsShown new → FitsInside new node me nodes turns inbox_turns
+  unturned new o i sent taken is shown =
+      subst (λ (p : Part). FitsInside p node me nodes turns inbox_turns) (sym is)
+      (inside_changed part node me nodes turns turns inbox_turns inbox_turns lane new.schedule part.node node o i f
+      (record {
+        lane_ok = lane_here;
+        turns_long = refl;
+        inbox_turns_long = refl;
+        turn = f.turns_are lane lane_here ∙ ap (λ (k : ℕ). k % 4) (sym sent);
+        turns_same = λ other apart. refl;
+        taken = λ to_here. f.taken_are lane lane_here to_here ∙ ap (λ (k : ℕ). k % 4) (sym taken);
+        taken_same = λ other apart to_here. refl;
+      })
+      (subst IsShown is shown) f.node_is refl refl)
 
   pub filled_inside : (new : Part) (index word : ℕ) → new ≡ informed new.schedule (filled lane index word part) → IsShown new
       → FitsInside new node me nodes turns inbox_turns
-  filled_inside new index word is shown =
-      subst (λ (p : Part). FitsInside p node me nodes turns inbox_turns) (sym is)
-      (inside_changed part node me nodes turns turns inbox_turns inbox_turns lane new.schedule part.node node (filled_out index word (outbound_at part lane))
-      (inbound_at part lane) f
-      (unturned (filled_out index word (outbound_at part lane)) (inbound_at part lane) refl refl)
-      (subst IsShown is shown) f.node_is refl refl)
+  filled_inside new index word is shown = unturned new (filled_out index word (outbound_at part lane)) (inbound_at part lane) refl refl is shown
 
   pub read_inside : (new : Part) (index word : ℕ) → new ≡ informed new.schedule (read lane index word part) → IsShown new
       → FitsInside new node me nodes turns inbox_turns
-  read_inside new index word is shown =
-      subst (λ (p : Part). FitsInside p node me nodes turns inbox_turns) (sym is)
-      (inside_changed part node me nodes turns turns inbox_turns inbox_turns lane new.schedule part.node node (outbound_at part lane)
-      (read_in index word (inbound_at part lane)) f
-      (unturned (outbound_at part lane) (read_in index word (inbound_at part lane)) refl refl)
-      (subst IsShown is shown) f.node_is refl refl)
+  read_inside new index word is shown = unturned new (outbound_at part lane) (read_in index word (inbound_at part lane)) refl refl is shown
 
   out_sent : (b : Bool) (word : ℕ) (o : Outbound) → (if b then looked_out word o else o).sent ≡ o.sent
   out_sent true word o = refl
@@ -134,13 +128,10 @@ module _ (part : Part) (node : NodeOf) (me nodes : ℕ) (turns inbox_turns : Lis
   pub looked_inside : (new : Part) (word : ℕ) → new ≡ informed new.schedule (looked lane cell.number word part) → IsShown new
       → FitsInside new node me nodes turns inbox_turns
   looked_inside new word is shown =
-      let o = if is_sending part lane cell.number then looked_out word (outbound_at part lane) else outbound_at part lane in
-      let i = if is_receiving part lane cell.number then looked_in (has_sent_more part lane) word (inbound_at part lane) else inbound_at part lane in
-      subst (λ (p : Part). FitsInside p node me nodes turns inbox_turns) (sym is)
-      (inside_changed part node me nodes turns turns inbox_turns inbox_turns lane new.schedule part.node node o i f
-      (unturned o i (out_sent (is_sending part lane cell.number) word (outbound_at part lane))
-      (in_taken (is_receiving part lane cell.number) (has_sent_more part lane) word (inbound_at part lane)))
-      (subst IsShown is shown) f.node_is refl refl)
+      unturned new (if is_sending part lane cell.number then looked_out word (outbound_at part lane) else outbound_at part lane)
+      (if is_receiving part lane cell.number then looked_in (has_sent_more part lane) word (inbound_at part lane) else inbound_at part lane)
+      (out_sent (is_sending part lane cell.number) word (outbound_at part lane))
+      (in_taken (is_receiving part lane cell.number) (has_sent_more part lane) word (inbound_at part lane)) is shown
 
   pub published_inside : (new : Part) (next node' : NodeOf) (turn : ℕ) → cell.number ≡ (outbound_at part lane).sent % 4 → turn ≡ (cell.number + 1) % 4
       → new ≡ informed new.schedule (published lane next part) → IsShown new → node' ≡ next → IsSameNode part new
@@ -187,24 +178,3 @@ module _ (part : Part) (node : NodeOf) (me nodes : ℕ) (turns inbox_turns : Lis
             (λ e. inbox_apart nodes lane other apart (to_here ∙ sym receives) (e ∙ ap (λ (l : ℕ). l / nodes) here));
       })
       (subst IsShown is shown) node_is same'.me (ap (λ z. z.nodes) same'.sized))
-
-pub beaten_inside : (part new : Part) (node : NodeOf) (me nodes : ℕ) (turns inbox_turns : List ℕ) (next node' : NodeOf)
-    → FitsInside part node me nodes turns inbox_turns → new ≡ informed new.schedule (with_node_known next part) → IsShown new → node' ≡ next
-    → IsSameNode part new
-    → FitsInside new node' me nodes turns inbox_turns
-beaten_inside part new node me nodes turns inbox_turns next node' f is shown node_is same =
-    let same' : IsSameNode part (informed new.schedule (with_node_known next part)) = subst (λ (p : Part). IsSameNode part p) is same in
-    subst (λ (p : Part). FitsInside p node' me nodes turns inbox_turns) (sym is)
-    (record {
-      shown = subst IsShown is shown;
-      node_is = node_is;
-      me_is = f.me_is ∙ sym same'.me;
-      nodes_is = f.nodes_is ∙ sym (ap (λ z. z.nodes) same'.sized);
-      some_node = f.some_node;
-      outbound_long = f.outbound_long;
-      inbound_long = f.inbound_long;
-      turns_long = f.turns_long;
-      inbox_turns_long = f.inbox_turns_long;
-      turns_are = f.turns_are;
-      taken_are = f.taken_are;
-    })

@@ -10,7 +10,7 @@ use Rattle.sci_lanes.specs.declared.view.Part.{Part}
 use Rattle.sci_lanes.specs.Shown.{me_of}
 use Rattle.sci_lanes.specs.Telling.{no_part}
 use Rattle.sci_lanes.specs.Ends.{EndOf, nodes_in}
-use Rattle.sci_lanes.specs.Gathering.{HasEndOf, HasTurns, IsJoinedAt, AreJoined, AreKept, AreAll}
+use Rattle.sci_lanes.specs.Gathering.{HasEndOf, HasTurns, IsJoinedAt, AreJoined, AreKept}
 use Rattle.sci_core.proofs.Basics.Options.{same_some}
 
 -- ---- a list with one element less
@@ -62,23 +62,6 @@ module _ {Z : Type 0} where
     pub rest : length left + count ≡ all
     pub every : (n : ℕ) → count ≤ n → n < all → HasEndOf left n
     pub own : (place : ℕ) (end : EndOf) → slice_get left place ≡ Some end → (end.table ≡ table) × (nodes_in end.part ≡ all)
-
-  pub none_joined : (table : TableId) (all : ℕ) (ends : List EndOf) (parts : List Part) (nodes : List NodeOf) (inbox_turns : List (Vec ℕ Z)) → parts ≡ []
-      → nodes ≡ [] → inbox_turns ≡ [] → AreAll all ends
-      → ((place : ℕ) (end : EndOf) → slice_get ends place ≡ Some end → (end.table ≡ table) × (nodes_in end.part ≡ all))
-      → AreJoining table all 0 ends ends parts nodes inbox_turns
-  none_joined table all ends parts nodes inbox_turns no_parts no_nodes no_turns a own = record {
-    joined = record {
-      parts_long = ap length no_parts;
-      nodes_long = ap length no_nodes;
-      inbox_turns_long = ap length no_turns;
-      each = λ n lt. absurd (omega arith);
-    };
-    kept = λ place end is. inl (place, is);
-    rest = (let count = a.count in omega arith);
-    every = λ n le lt. a.every n lt;
-    own = own;
-  }
 
   module _ (table : TableId) (all count : ℕ) (ends left : List EndOf) (parts : List Part) (nodes : List NodeOf) (inbox_turns : List (Vec ℕ Z)) (place : ℕ)
       (end : EndOf) (node : NodeOf) (turns : Vec ℕ Z)

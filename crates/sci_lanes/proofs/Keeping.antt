@@ -40,6 +40,11 @@ pub get_right : {X : Type 0} (xs ys : List X) (k : ℕ) (x : X) → slice_get ys
 get_right [] ys k x e = (k, e)
 get_right (y ∷ xs) ys k x e = let later = get_right xs ys k x e in (suc later.0, later.1)
 
+pub within : {A : Type 0} (xs : List A) (k : ℕ) (a : A) → get_elem? xs k ≡ some a → k < length xs
+within [] k a e = absurd (some-ne-none a (sym e))
+within (z ∷ xs) zero a e = omega arith
+within (z ∷ xs) (suc k) a e = let later = within xs k a e in omega arith
+
 -- ---- functions of lanes and of nodes, changed in one place
 
 abbrev pub changed_at : {A : Type 0} → (ℕ → A) → ℕ → A → ℕ → A
@@ -87,6 +92,18 @@ seen_further p n old new not f s = record {
   further = f.more ∙ (ap (λ (es : List Event). es ++ f.events) s.further ∙ append_assoc p.schedule s.others f.events);
   apart = all_join (λ e. node_of e ≢ me_of p) s.others f.events s.apart
       (all_by (λ e. node_of e ≡ n) (λ e. node_of e ≢ me_of p) (λ e own is. not (sym is ∙ own)) f.events f.own);
+}
+
+-- a node whose seat and its view stay is covered
+pub covered_still : (x y : Whole) (views others : List View) (n : ℕ) → y.owner n ≡ x.owner n → (c : IsCovered x views n)
+    → get_elem? others (x.owner n) ≡ some c.view → IsCovered y others n
+covered_still x y views others n owner c seated = record {
+  view = c.view;
+  place = c.place;
+  part = c.part;
+  seated = ap (λ (k : ℕ). get_elem? others k) owner ∙ seated;
+  there = c.there;
+  of_node = c.of_node;
 }
 
 -- ---- one step of a seat that has one node
@@ -141,11 +158,6 @@ step_shows x y words views seat place value part next s here t lanes = record {
 
     seated : seat < length views
     seated = within views seat (single part) here
-      where
-        within : {A : Type 0} (xs : List A) (k : ℕ) (a : A) → get_elem? xs k ≡ some a → k < length xs
-        within [] k a e = absurd (some-ne-none a (sym e))
-        within (z ∷ xs) zero a e = omega arith
-        within (z ∷ xs) (suc k) a e = let later = within xs k a e in omega arith
 
     known : (other : ℕ) (view : View) → get_elem? (set views seat (single next)) other ≡ some view → AllByRecursion (IsKnown y other) view.parts
     known other view e = elim (at_set views seat other (single next) view e) [
@@ -171,15 +183,8 @@ step_shows x y words views seat place value part next s here t lanes = record {
                     refl;
                 of_node = t.me ∙ (ap me_of part_is ∙ old.of_node);
               })
-          | inr apart ↦ record {
-            view = old.view;
-            place = old.place;
-            part = old.part;
-            seated = ap (λ (k : ℕ). get_elem? (set views seat (single next)) k) (t.owner n)
-                ∙ (set_else views seat (x.owner n) (single next) apart ∙ old.seated);
-            there = old.there;
-            of_node = old.of_node;
-          }
+          | inr apart ↦ covered_still x y views (set views seat (single next)) n (t.owner n) old
+              (set_else views seat (x.owner n) (single next) apart ∙ old.seated)
         ]
       where
         only : (p q : Part) (k : ℕ) → slice_get (p ∷ []) k ≡ Some q → p ≡ q

@@ -3,7 +3,7 @@ use Rattle.std.proofs.Common.{◌≡◌, ◌≢◌, ℕ, zero, suc, ◌+◌, ◌
 use Rattle.std.proofs.Common.{Some, refl, sym, ap, subst, ◌∙◌, arith}
 use Rattle.std.specs.Prelude.{slice_get}
 use Rattle.std.proofs.lemmas.Bool.{cases_lt, eqb-true, eqb-false, ne_eqb}
-use Rattle.std.proofs.lemmas.List.{length-take-le, length_push, get_or-take, get_or_append_left, get_or_push}
+use Rattle.std.proofs.lemmas.List.{length-take-le, length_push, get_or-take}
 use Rattle.std.proofs.lemmas.Option.{slice_get_within}
 use Rattle.sci_packets.specs.declared.packet.Packet.{Packet}
 use Rattle.sci_packets.specs.Spelling.{IsPacket, words_of}
@@ -13,7 +13,7 @@ use Rattle.sci_lanes.specs.declared.view.Inbound.{Inbound}
 use Rattle.sci_lanes.specs.Cells.{cell_place, word_at}
 use Rattle.sci_lanes.specs.Shown.{Fits}
 use Rattle.sci_lanes.specs.Knowing.{looked_out, looked_in, filled_out, read_in, published_out, freed_in, found_first}
-use Rattle.sci_lanes.proofs.Words.{other_lane, other_cell, other_index, same_cell, stored_else, stored_here, at_end}
+use Rattle.sci_lanes.proofs.Words.{one_more, other_lane, other_cell, other_index, same_cell, stored_else, stored_here, at_end}
 
 -- ---- other words in place of these
 
@@ -66,26 +66,53 @@ stored_elsewhere words lane other turn index value packets o i apart few f =
 
 -- ---- what is known
 
+-- what the sender knows, in place of what it knew
+sender_knows : {words : List ℕ} {lane : ℕ} {packets : List Packet} {o : Outbound} {i : Inbound} (f : Fits words lane packets o i) (vacant : Bool)
+    (filled : List ℕ) → (vacant ≡ true → length packets < 4) → (vacant ≡ false → filled ≡ []) → length filled < 11
+    → ((j : ℕ) → j < length filled → word_at words lane o.sent (suc j) ≡ get_or filled j 0)
+    → Fits words lane packets (record { sent = o.sent; vacant = vacant; filled = filled }) i
+sender_knows f vacant filled room none few same = record {
+  good = f.good;
+  counted = f.counted;
+  room = f.room;
+  full = f.full;
+  empty = f.empty;
+  vacant = room;
+  unfilled = none;
+  few_filled = few;
+  filled = same;
+  few_found = f.few_found;
+  there = f.there;
+  found = f.found;
+}
+
+-- and the receiver
+receiver_knows : {words : List ℕ} {lane : ℕ} {packets : List Packet} {o : Outbound} {i : Inbound} (f : Fits words lane packets o i) (found : List ℕ)
+    → length found ≤ 11 → (0 < length found → 0 < length packets) → ((j : ℕ) → j < length found → word_at words lane i.taken j ≡ get_or found j 0)
+    → Fits words lane packets o (record { taken = i.taken; found = found })
+receiver_knows f found few there same = record {
+  good = f.good;
+  counted = f.counted;
+  room = f.room;
+  full = f.full;
+  empty = f.empty;
+  vacant = f.vacant;
+  unfilled = f.unfilled;
+  few_filled = f.few_filled;
+  filled = f.filled;
+  few_found = few;
+  there = there;
+  found = same;
+}
+
 -- fewer words filled
 forget_filled : (words : List ℕ) (lane n : ℕ) (packets : List Packet) (o : Outbound) (i : Inbound) → n ≤ length o.filled → Fits words lane packets o i
     → Fits words lane packets (record o { filled = take n o.filled }) i
 forget_filled words lane n packets o i le f =
     let count : length (take n o.filled) ≡ n = length-take-le n o.filled le in
     let most = f.few_filled in
-    record {
-      good = f.good;
-      counted = f.counted;
-      room = f.room;
-      full = f.full;
-      empty = f.empty;
-      vacant = f.vacant;
-      unfilled = λ not. ap (λ (ws : List ℕ). take n ws) (f.unfilled not) ∙ take_nil n;
-      few_filled = omega arith;
-      filled = λ j lt. f.filled j (omega arith) ∙ sym (get_or-take n o.filled j 0 (omega arith));
-      few_found = f.few_found;
-      there = f.there;
-      found = f.found;
-    }
+    sender_knows f o.vacant (take n o.filled) f.vacant (λ not. ap (λ (ws : List ℕ). take n ws) (f.unfilled not) ∙ take_nil n) (omega arith)
+    (λ j lt. f.filled j (omega arith) ∙ sym (get_or-take n o.filled j 0 (omega arith)))
   where
     take_nil : (k : ℕ) → take {A = ℕ} k [] ≡ []
     take_nil zero = refl
@@ -97,28 +124,8 @@ more_filled : (words : List ℕ) (lane word : ℕ) (packets : List Packet) (o : 
     → Fits words lane packets o i → Fits words lane packets (record o { filled = o.filled ++ word ∷ [] }) i
 more_filled words lane word packets o i vacant few here f =
     let count : length (o.filled ++ word ∷ []) ≡ length o.filled + 1 = length_push o.filled word in
-    record {
-      good = f.good;
-      counted = f.counted;
-      room = f.room;
-      full = f.full;
-      empty = f.empty;
-      vacant = f.vacant;
-      unfilled = λ not. absurd (true_not_false (sym vacant ∙ not));
-      few_filled = omega arith;
-      filled = λ j lt. elim (cases_lt j (length o.filled)) [
-        | inl less ↦ f.filled j less ∙ sym (get_or_append_left o.filled (word ∷ []) 0 j less)
-        | inr le ↦ (let same : j ≡ length o.filled = omega arith in
-            subst (λ (k : ℕ). word_at words lane o.sent (suc k) ≡ get_or (o.filled ++ word ∷ []) k 0) (sym same)
-            (here ∙ sym (get_or_push o.filled word 0 (length o.filled) refl)))
-      ];
-      few_found = f.few_found;
-      there = f.there;
-      found = f.found;
-    }
-  where
-    true_not_false : true ≡ false → ⊥
-    true_not_false e = cc
+    sender_knows f o.vacant (o.filled ++ word ∷ []) f.vacant (λ not. cc) (omega arith)
+    (one_more (λ j. word_at words lane o.sent (suc j)) o.filled word here f.filled)
 
 -- fewer words found
 forget_found : (words : List ℕ) (lane n : ℕ) (packets : List Packet) (o : Outbound) (i : Inbound) → n ≤ length i.found → Fits words lane packets o i
@@ -126,20 +133,8 @@ forget_found : (words : List ℕ) (lane n : ℕ) (packets : List Packet) (o : Ou
 forget_found words lane n packets o i le f =
     let count : length (take n i.found) ≡ n = length-take-le n i.found le in
     let most = f.few_found in
-    record {
-      good = f.good;
-      counted = f.counted;
-      room = f.room;
-      full = f.full;
-      empty = f.empty;
-      vacant = f.vacant;
-      unfilled = f.unfilled;
-      few_filled = f.few_filled;
-      filled = f.filled;
-      few_found = omega arith;
-      there = λ lt. f.there (omega arith);
-      found = λ j lt. f.found j (omega arith) ∙ sym (get_or-take n i.found j 0 (omega arith));
-    }
+    receiver_knows f (take n i.found) (omega arith) (λ lt. f.there (omega arith))
+    (λ j lt. f.found j (omega arith) ∙ sym (get_or-take n i.found j 0 (omega arith)))
 
 -- one word more found
 more_found : (words : List ℕ) (lane word : ℕ) (packets : List Packet) (o : Outbound) (i : Inbound) → 0 < length packets → length i.found < 11
@@ -147,25 +142,7 @@ more_found : (words : List ℕ) (lane word : ℕ) (packets : List Packet) (o : O
     → Fits words lane packets o i → Fits words lane packets o (record i { found = i.found ++ word ∷ [] })
 more_found words lane word packets o i some few here f =
     let count : length (i.found ++ word ∷ []) ≡ length i.found + 1 = length_push i.found word in
-    record {
-      good = f.good;
-      counted = f.counted;
-      room = f.room;
-      full = f.full;
-      empty = f.empty;
-      vacant = f.vacant;
-      unfilled = f.unfilled;
-      few_filled = f.few_filled;
-      filled = f.filled;
-      few_found = omega arith;
-      there = λ lt. some;
-      found = λ j lt. elim (cases_lt j (length i.found)) [
-        | inl less ↦ f.found j less ∙ sym (get_or_append_left i.found (word ∷ []) 0 j less)
-        | inr le ↦ (let same : j ≡ length i.found = omega arith in
-            subst (λ (k : ℕ). word_at words lane i.taken k ≡ get_or (i.found ++ word ∷ []) k 0) (sym same)
-            (here ∙ sym (get_or_push i.found word 0 (length i.found) refl)))
-      ];
-    }
+    receiver_knows f (i.found ++ word ∷ []) (omega arith) (λ lt. some) (one_more (λ j. word_at words lane i.taken j) i.found word here f.found)
 
 -- ---- looks
 
@@ -173,16 +150,16 @@ first_empty : {words : List ℕ} {lane : ℕ} {packets : List Packet} {o : Outbo
     → k < 4 → (turn : ℕ) → turn ≡ i.taken + k → word_at words lane turn 0 ≡ 0
 first_empty {words = words} {lane = lane} f k le lt turn is = ap (λ (t : ℕ). word_at words lane t 0) is ∙ f.empty k le lt
 
-count_above : (q : Packet) → 0 < length (words_of q)
+pub words_some : (p : Packet) → 0 < length (words_of p)
 unfolding words_of
-count_above q = omega arith
+words_some p = omega arith
 
 -- the first word of the oldest packet is not 0
 pub first_full : (words : List ℕ) (lane : ℕ) (packets : List Packet) (o : Outbound) (i : Inbound) → Fits words lane packets o i → 0 < length packets
     → 0 < word_at words lane i.taken 0
 first_full words lane [] o i f some = absurd (omega arith)
 first_full words lane (p ∷ packets) o i f some =
-    let here : word_at words lane (i.taken + 0) 0 ≡ get_or (words_of p) 0 0 = f.full 0 0 p refl (omega (arith, count_above p)) in
+    let here : word_at words lane (i.taken + 0) 0 ≡ get_or (words_of p) 0 0 = f.full 0 0 p refl (omega (arith, words_some p)) in
     let turn : i.taken + 0 ≡ i.taken = omega arith in
     let above = first_word-above p in
     let same : word_at words lane i.taken 0 ≡ get_or (words_of p) 0 0 = ap (λ (t : ℕ). word_at words lane t 0) (sym turn) ∙ here in
@@ -204,25 +181,15 @@ pub out_looked : (words : List ℕ) (lane : ℕ) (packets : List Packet) (o : Ou
     → Fits words lane packets (looked_out (word_at words lane o.sent 0) o) i
 out_looked words lane packets o i f =
     let most = f.room in
-    record {
-      good = f.good;
-      counted = f.counted;
-      room = f.room;
-      full = f.full;
-      empty = f.empty;
-      vacant = λ is. elim (cases_lt (length packets) 4) [
-        | inl less ↦ less
-        | inr le ↦ (let full = sender_finds_full words lane packets o i f (omega arith) in let zero = eqb-true (word_at words lane o.sent 0) 0 is in
-            absurd (omega arith))
-      ];
-      unfilled = λ not. nothing_filled f.unfilled
-          (λ is. not_vacant (word_at words lane o.sent 0) (sender_finds_empty words lane packets o i f (f.vacant is)) not);
-      few_filled = f.few_filled;
-      filled = f.filled;
-      few_found = f.few_found;
-      there = f.there;
-      found = f.found;
-    }
+    sender_knows f (looked_out (word_at words lane o.sent 0) o).vacant o.filled
+    (λ is. elim (cases_lt (length packets) 4) [
+      | inl less ↦ less
+      | inr le ↦ (let full = sender_finds_full words lane packets o i f (omega arith) in let zero = eqb-true (word_at words lane o.sent 0) 0 is in
+          absurd (omega arith))
+    ])
+    (λ not. nothing_filled f.unfilled
+    (λ is. not_vacant (word_at words lane o.sent 0) (sender_finds_empty words lane packets o i f (f.vacant is)) not))
+    f.few_filled f.filled
   where
     not_vacant : (word : ℕ) → word ≡ 0 → eqb word 0 ≡ false → ⊥
     not_vacant word e not = eqb-false word 0 not e

@@ -34,7 +34,7 @@ reached_opening size ok = record { size = ok; schedule = []; leads = refl }
 pub node_opened : (size : Size) (n : ℕ) → n < size.nodes → node_at (opening size) n ≡ opening_node n size
 node_opened size n lt = get_or-map-range_with_len (λ m. opening_node m size) 0 size.nodes n n no_node lt (omega arith)
 
-replicated : {A : Type 0} (count k : ℕ) (a : A) → get_or (replicate count a) k a ≡ a
+pub replicated : {A : Type 0} (count k : ℕ) (a : A) → get_or (replicate count a) k a ≡ a
 replicated count k a = elim (cases_lt k count) [
   | inl lt ↦ get_or-replicate count k a a lt
   | inr le ↦ get_or_past (replicate count a) k a (let c = length-replicate count a in omega arith)
@@ -120,9 +120,6 @@ opened size words ok long zeros = record {
     read zero view e = subst (λ (v : View). HasRead x 0 words v.words) (some-injective (first_view size) view e) (read_none x 0 words)
     read (suc seat) view e = absurd (some-ne-none view (sym e))
 
-pub zeros_are : (count k : ℕ) → get_or (replicate {A = ℕ} count 0) k 0 ≡ 0
-zeros_are count k = replicated count k 0
-
 -- ---- splitting
 
 rest_is : (size : Size) (n : ℕ) → n < size.nodes
@@ -186,8 +183,8 @@ inside_opened size n node ok lt is =
       inbound_long = length-replicate (lane_count size.nodes) no_inbound;
       turns_long = length-replicate (lane_count size.nodes) 0;
       inbox_turns_long = length-replicate (2 * size.nodes) 0;
-      turns_are = λ lane less. zeros_are (lane_count size.nodes) lane ∙ ap (λ u. u.sent % 4) (sym (replicated (lane_count size.nodes) lane no_outbound));
-      taken_are = λ lane less here. zeros_are (2 * size.nodes) (lane / size.nodes)
+      turns_are = λ lane less. replicated (lane_count size.nodes) lane 0 ∙ ap (λ u. u.sent % 4) (sym (replicated (lane_count size.nodes) lane no_outbound));
+      taken_are = λ lane less here. replicated (2 * size.nodes) (lane / size.nodes) 0
           ∙ ap (λ u. u.taken % 4) (sym (replicated (lane_count size.nodes) lane no_inbound));
     })
 

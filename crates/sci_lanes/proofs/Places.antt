@@ -1,5 +1,5 @@
 -- Where the next cells to take from begin.
-use Rattle.std.proofs.Common.{◌≡◌, ℕ, ◌+◌, ◌*◌, ◌/◌, ◌%◌, ◌<◌, inl, inr, List, [], ◌∷◌, ◌++◌, length, get_or, set, replicate, sym, ap, subst, ◌∙◌, arith}
+use Rattle.std.proofs.Common.{◌≡◌, ℕ, ◌+◌, ◌*◌, ◌/◌, ◌%◌, ◌<◌, inl, inr, List, [], ◌∷◌, ◌++◌, length, get_or, set, sym, ap, subst, ◌∙◌, arith}
 use Rattle.std.proofs.lemmas.Bool.{cases_eq, cases_lt}
 use Rattle.std.proofs.Math.Nat.{div-add-mod}
 use Rattle.std.proofs.Common.{mul_comm}
@@ -12,7 +12,6 @@ use Rattle.sci_lanes.specs.Shown.{inbound_at}
 use Rattle.sci_lanes.specs.Ends.{ArePlaces, FitsInside, IsNextToTake, lane_at_cell}
 use Rattle.sci_lanes.proofs.Inside.{inbox_within}
 use Rattle.sci_lanes.proofs.Seats.{takes_in}
-use Rattle.sci_lanes.proofs.Opening.{zeros_are}
 
 -- ---- the first places
 
@@ -33,12 +32,6 @@ one_more nodes me count place places more first is more_is = subst (AreFirst nod
         get_or_push places place 0 inbox (first.long ∙ sym same) ∙ (is ∙ ap (λ (n : ℕ). (n * nodes + me) * 4 * 11) (sym same) ∙ omega arith)
   ];
 })
-
-pub first_are : (nodes me : ℕ) (places : List ℕ) → AreFirst nodes me (2 * nodes) places → ArePlaces nodes me (replicate (2 * nodes) 0) places
-first_are nodes me places first = record {
-  long = first.long;
-  are = λ inbox lt. first.are inbox lt ∙ ap (λ (turn : ℕ). cell_place (inbox * nodes + me) turn) (sym (zeros_are (2 * nodes) inbox));
-}
 
 -- ---- a place that is looked up
 

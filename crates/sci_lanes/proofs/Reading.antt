@@ -16,7 +16,7 @@ use Rattle.sci_lanes.specs.declared.view.Inbound.{Inbound}
 use Rattle.sci_lanes.specs.Cells.{cell_place, lane_count, word_at}
 use Rattle.sci_lanes.specs.Shown.{Fits}
 use Rattle.sci_lanes.specs.Gathering.{AreLanes, HaveInboxTurns, IsPacketAt, TakesFrom}
-use Rattle.sci_lanes.proofs.Events.{words_some}
+use Rattle.sci_lanes.proofs.LaneSteps.{words_some}
 use Rattle.sci_lanes.proofs.Inside.{inbox_within}
 
 -- the packet at a place is spelled by the words from there on

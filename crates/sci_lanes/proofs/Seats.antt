@@ -15,7 +15,7 @@ use Rattle.sci_lanes.specs.Cells.{cell_place, own_place, lane_count, sender_of, 
 use Rattle.sci_words.specs.declared.event.Event.{Event}
 use Rattle.sci_lanes.specs.Shown.{me_of, single, informed, inbound_at, outbound_at, IsKept}
 use Rattle.sci_lanes.specs.Knowing.{is_receiving, is_sending}
-use Rattle.sci_lanes.specs.Telling.{part_of, size_in, IsShown, IsSameNode, IsSending, IsTaking, IsBeating, Tells}
+use Rattle.sci_lanes.specs.Telling.{part_of, IsShown, IsSending, IsTaking, IsBeating, Tells}
 use Rattle.sci_lanes.specs.Plays.{lane_in, number_in, index_in, LooksAt, Looks, Fills, Reads, Publishes, Frees, Beats}
 use Rattle.sci_lanes.specs.Ends.{EndOf, with_part, nodes_in, lane_at_cell, IsNextToSend, IsNextToTake, MayFill, MayRead, IsSeated}
 use Rattle.sci_lanes.proofs.Words.{place_within}
@@ -70,38 +70,6 @@ place_in_table key table seat knows s lane turn index place lt few is =
     let long : table.words ≡ word_count (nodes_in (part_of knows.0)) = s.long ∙ ap word_count (sym (key_nodes key table seat knows s)) in
     subst (λ (n : ℕ). place < n) (sym long) (subst (λ (p : ℕ). p < word_count (nodes_in (part_of knows.0))) (sym is) within)
 
-pub look_asks : (key : Extent × ℕ) (table seat : TableId) (id : ℕ) (knows : Me (Unit {0}) View) (cell : CellId) (nodes place : ℕ)
-    → IsSeated key table seat knows → nodes ≡ nodes_in (part_of knows.0)
-    → IsNextToSend (part_of knows.0) cell ⊎ IsNextToTake (part_of knows.0) cell → place ≡ cell_place (lane_number nodes cell) cell.number + 0
-    → Asks key table seat id knows place (λ n. n) (Looks (step table.slots place 0 0 none) knows)
-look_asks key table seat id knows cell nodes place s nodes_are next is =
-    let part = part_of knows.0 in
-    let at = either_in part cell s.shown next in
-    let lane = lane_at_cell part cell in
-    let place_is : place ≡ cell_place lane cell.number + 0 = is ∙ ap (λ (n : ℕ). cell_place (lane_number n cell) cell.number + 0) nodes_are in
-    let lane_ok : lane < lane_count key.0.nodes = subst (λ (n : ℕ). lane < lane_count n) (key_nodes key table seat knows s) at.lane in (
-      s.same,
-      place_in_table key table seat knows s lane cell.number 0 place at.lane (omega arith) place_is,
-      subst (λ (k : Me (Unit {0}) View). Allows (IsKept (size_of key.0 key.1)) table.slots id k place (λ n. n) (Looks (step table.slots place 0 0 none) k))
-          (sym s.seated)
-          (subst (λ (p : ℕ). Allows (IsKept (size_of key.0 key.1)) table.slots id (single part, []) p (λ n. n)
-          (Looks (step table.slots p 0 0 none) (single part, []))) (sym place_is)
-          (looks (size_of key.0 key.1) table.slots id lane cell.number part lane_ok at.number)),
-    )
-
--- after a step the seat has the next part
-pub seated_after : (key : Extent × ℕ) (table seat later : TableId) (knows after : Me (Unit {0}) View) (how : List Event → Type 0) (next : Part)
-    → IsSeated key table seat knows → later ≡ seat → Tells how (part_of knows.0) next after → IsSeated key table later after
-seated_after key table seat later knows after how next s same t =
-    let next_is : part_of after.0 ≡ informed t.schedule next = ap (λ (k : Me (Unit {0}) View). part_of k.0) t.view in
-    record {
-      same = same ∙ s.same;
-      long = s.long;
-      seated = t.view ∙ ap (λ (p : Part). (single p, [])) (sym next_is);
-      shown = subst IsShown (sym next_is) t.shown;
-      sized = ap size_in next_is ∙ (t.same.sized ∙ s.sized);
-    }
-
 pub part_after : (how : List Event → Type 0) (part next : Part) (after : Me (Unit {0}) View) (t : Tells how part next after)
     → part_of after.0 ≡ informed t.schedule next
 part_after how part next after t = ap (λ (k : Me (Unit {0}) View). part_of k.0) t.view
@@ -109,12 +77,6 @@ part_after how part next after t = ap (λ (k : Me (Unit {0}) View). part_of k.0)
 -- what is told of the schedule, that the part knows then
 pub went_after : (how : List Event → Type 0) (part next : Part) (after : Me (Unit {0}) View) (t : Tells how part next after) → how (part_of after.0).schedule
 went_after how part next after t = subst how (sym (ap (λ (p : Part). p.schedule) (part_after how part next after t))) t.went
-
--- the part is still of the node
-pub same_after : (how : List Event → Type 0) (part old next : Part) (after : Me (Unit {0}) View) → part ≡ old → Tells how part next after
-    → IsSameNode old (part_of after.0)
-same_after how part old next after is t =
-    subst (λ (p : Part). IsSameNode old p) (sym (part_after how part next after t)) (subst (λ (p : Part). IsSameNode p (informed t.schedule next)) is t.same)
 
 -- what a look told
 pub look_told : (knows after : Me (Unit {0}) View) (cell : CellId) (nodes place word slots : ℕ)
@@ -172,6 +134,34 @@ allowed_seated key slots id place at knows part f told seated is allowed =
     subst (λ (k : Me (Unit {0}) View). Allows (IsKept (size_of key.0 key.1)) slots id k place f (told place k)) (sym seated)
     (subst (λ (p : ℕ). Allows (IsKept (size_of key.0 key.1)) slots id (single part, []) p f (told p (single part, []))) (sym is) allowed)
 
+-- a step on a word of a cell is one of the seat, where it is one of a seat with this one node
+asks_at : (key : Extent × ℕ) (table seat : TableId) (id : ℕ) (knows : Me (Unit {0}) View) (s : IsSeated key table seat knows) (cell : CellId)
+    (nodes index place : ℕ) (f : ℕ → ℕ) (told : ℕ → Me (Unit {0}) View → ℕ → Me (Unit {0}) View → Type 0) → IsInLane (part_of knows.0) cell
+    → nodes ≡ nodes_in (part_of knows.0) → index < 11 → place ≡ cell_place (lane_number nodes cell) cell.number + index
+    → Allows (IsKept (size_of key.0 key.1)) table.slots id (single (part_of knows.0), [])
+    (cell_place (lane_at_cell (part_of knows.0) cell) cell.number + index) f
+    (told (cell_place (lane_at_cell (part_of knows.0) cell) cell.number + index) (single (part_of knows.0), []))
+    → Asks key table seat id knows place f (told place knows)
+asks_at key table seat id knows s cell nodes index place f told at nodes_are few is allowed =
+    let part = part_of knows.0 in
+    let place_is = place_now part cell nodes place index nodes_are is in (
+      s.same,
+      place_in_table key table seat knows s (lane_at_cell part cell) cell.number index place at.lane few place_is,
+      allowed_seated key table.slots id place _ knows part f told s.seated place_is allowed,
+    )
+
+pub look_asks : (key : Extent × ℕ) (table seat : TableId) (id : ℕ) (knows : Me (Unit {0}) View) (cell : CellId) (nodes place : ℕ)
+    → IsSeated key table seat knows → nodes ≡ nodes_in (part_of knows.0)
+    → IsNextToSend (part_of knows.0) cell ⊎ IsNextToTake (part_of knows.0) cell → place ≡ cell_place (lane_number nodes cell) cell.number + 0
+    → Asks key table seat id knows place (λ n. n) (Looks (step table.slots place 0 0 none) knows)
+look_asks key table seat id knows cell nodes place s nodes_are next is =
+    let part = part_of knows.0 in
+    let at = either_in part cell s.shown next in
+    let lane = lane_at_cell part cell in
+    asks_at key table seat id knows s cell nodes 0 place (λ n. n) (λ p k. Looks (step table.slots p 0 0 none) k) at nodes_are (omega arith) is
+    (looks (size_of key.0 key.1) table.slots id lane cell.number part (subst (λ (n : ℕ). lane < lane_count n) (key_nodes key table seat knows s) at.lane)
+    at.number)
+
 module _ (key : Extent × ℕ) (table seat : TableId) (id : ℕ) (knows : Me (Unit {0}) View) (cell : CellId) (nodes place : ℕ) (s : IsSeated key table seat knows)
     (now : EndOf) (view : record { table = seat; part = part_of knows.0 } ≡ now)
     (nodes_are : nodes ≡ nodes_in now.part) where
@@ -188,23 +178,18 @@ module _ (key : Extent × ℕ) (table seat : TableId) (id : ℕ) (knows : Me (Un
       let m = subst (λ (p : Part). MayFill p cell index) (sym part_is) may in
       let at = sends_in part cell s.shown m.next in
       let lane = lane_at_cell part cell in
-      let place_is = place_now part cell nodes place index nodes_here is in
-      let size_nodes = key_nodes key table seat knows s in (
-        s.same,
-        place_in_table key table seat knows s lane cell.number index place at.lane m.within place_is,
-        allowed_seated key table.slots id place (cell_place lane cell.number + index) knows part (λ n. word)
-            (λ p k n. Fills (step table.slots p word 0 none) k word) s.seated place_is
-            (fills (size_of key.0 key.1) table.slots id lane cell.number index word part
-            (record {
-              lane_ok = subst (λ (n : ℕ). lane < lane_count n) size_nodes at.lane;
-              sender = subst (λ (n : ℕ). sender_of n lane ≡ me_of part) size_nodes (at.sender ∙ m.next.mine);
-              next = m.next.next;
-              vacant = m.vacant;
-              further = m.further;
-              within = m.within;
-              order = m.order;
-            })),
-      )
+      let size_nodes = key_nodes key table seat knows s in
+      asks_at key table seat id knows s cell nodes index place (λ n. word) (λ p k n. Fills (step table.slots p word 0 none) k word) at nodes_here m.within is
+      (fills (size_of key.0 key.1) table.slots id lane cell.number index word part
+      (record {
+        lane_ok = subst (λ (n : ℕ). lane < lane_count n) size_nodes at.lane;
+        sender = subst (λ (n : ℕ). sender_of n lane ≡ me_of part) size_nodes (at.sender ∙ m.next.mine);
+        next = m.next.next;
+        vacant = m.vacant;
+        further = m.further;
+        within = m.within;
+        order = m.order;
+      }))
 
   pub read_asks : (index : ℕ) → MayRead now.part cell index → place ≡ cell_place (lane_number nodes cell) cell.number + index
       → Asks key table seat id knows place (λ n. n) (Reads (step table.slots place 0 0 none) knows)
@@ -213,22 +198,17 @@ module _ (key : Extent × ℕ) (table seat : TableId) (id : ℕ) (knows : Me (Un
       let m = subst (λ (p : Part). MayRead p cell index) (sym part_is) may in
       let at = takes_in part cell s.shown m.next in
       let lane = lane_at_cell part cell in
-      let place_is = place_now part cell nodes place index nodes_here is in
-      let size_nodes = key_nodes key table seat knows s in (
-        s.same,
-        place_in_table key table seat knows s lane cell.number index place at.lane m.within place_is,
-        allowed_seated key table.slots id place (cell_place lane cell.number + index) knows part (λ n. n) (λ p k. Reads (step table.slots p 0 0 none) k)
-            s.seated place_is
-            (reads (size_of key.0 key.1) table.slots id lane cell.number index part
-            (record {
-              lane_ok = subst (λ (n : ℕ). lane < lane_count n) size_nodes at.lane;
-              receiver = subst (λ (n : ℕ). receiver_of n lane ≡ me_of part) size_nodes (at.receiver ∙ m.next.mine);
-              next = m.next.next;
-              further = m.further;
-              within = m.within;
-              order = m.order;
-            })),
-      )
+      let size_nodes = key_nodes key table seat knows s in
+      asks_at key table seat id knows s cell nodes index place (λ n. n) (λ p k. Reads (step table.slots p 0 0 none) k) at nodes_here m.within is
+      (reads (size_of key.0 key.1) table.slots id lane cell.number index part
+      (record {
+        lane_ok = subst (λ (n : ℕ). lane < lane_count n) size_nodes at.lane;
+        receiver = subst (λ (n : ℕ). receiver_of n lane ≡ me_of part) size_nodes (at.receiver ∙ m.next.mine);
+        next = m.next.next;
+        further = m.further;
+        within = m.within;
+        order = m.order;
+      }))
 
   pub publish_asks : (first : ℕ) (event : Event) (next : NodeOf) → IsNextToSend now.part cell → IsSending now.part (lane_at_cell now.part cell) first event next
       → place ≡ cell_place (lane_number nodes cell) cell.number + 0
@@ -237,15 +217,9 @@ module _ (key : Extent × ℕ) (table seat : TableId) (id : ℕ) (knows : Me (Un
       let part = part_of knows.0 in
       let m = subst (λ (p : Part). IsSending p (lane_at_cell p cell) first event next) (sym part_is) may in
       let to_send' = subst (λ (p : Part). IsNextToSend p cell) (sym part_is) to_send in
-      let at = sends_in part cell s.shown to_send' in
-      let lane = lane_at_cell part cell in
-      let place_is = place_now part cell nodes place 0 nodes_here is in (
-        s.same,
-        place_in_table key table seat knows s lane cell.number 0 place at.lane (omega arith) place_is,
-        allowed_seated key table.slots id place (cell_place lane cell.number + 0) knows part (λ n. first)
-            (λ p k n. Publishes event next (step table.slots p first 0 none) k first) s.seated place_is
-            (publishes (size_of key.0 key.1) table.slots id lane cell.number first part event next to_send'.next m),
-      )
+      asks_at key table seat id knows s cell nodes 0 place (λ n. first) (λ p k n. Publishes event next (step table.slots p first 0 none) k first)
+      (sends_in part cell s.shown to_send') nodes_here (omega arith) is
+      (publishes (size_of key.0 key.1) table.slots id (lane_at_cell part cell) cell.number first part event next to_send'.next m)
 
   pub free_asks : (event : Event) (next : NodeOf) → IsNextToTake now.part cell → IsTaking now.part (lane_at_cell now.part cell) event next
       → place ≡ cell_place (lane_number nodes cell) cell.number + 0
@@ -254,15 +228,9 @@ module _ (key : Extent × ℕ) (table seat : TableId) (id : ℕ) (knows : Me (Un
       let part = part_of knows.0 in
       let m = subst (λ (p : Part). IsTaking p (lane_at_cell p cell) event next) (sym part_is) may in
       let to_take' = subst (λ (p : Part). IsNextToTake p cell) (sym part_is) to_take in
-      let at = takes_in part cell s.shown to_take' in
-      let lane = lane_at_cell part cell in
-      let place_is = place_now part cell nodes place 0 nodes_here is in (
-        s.same,
-        place_in_table key table seat knows s lane cell.number 0 place at.lane (omega arith) place_is,
-        allowed_seated key table.slots id place (cell_place lane cell.number + 0) knows part (λ n. 0)
-            (λ p k n. Frees event next (step table.slots p 0 0 none) k 0) s.seated place_is
-            (frees (size_of key.0 key.1) table.slots id lane cell.number part event next to_take'.next m),
-      )
+      asks_at key table seat id knows s cell nodes 0 place (λ n. 0) (λ p k n. Frees event next (step table.slots p 0 0 none) k 0)
+      (takes_in part cell s.shown to_take') nodes_here (omega arith) is
+      (frees (size_of key.0 key.1) table.slots id (lane_at_cell part cell) cell.number part event next to_take'.next m)
 
   -- ---- what they tell
 

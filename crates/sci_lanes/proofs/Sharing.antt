@@ -7,14 +7,14 @@ use Rattle.std.proofs.lemmas.Bool.{cases_eq}
 use Rattle.std.proofs.lemmas.List.{length-set}
 use mathlib.Core.Option.{some, some-injective, some-ne-none}
 use lib.ListN.{get_elem?}
-use Rattle.atomic_table.specs.Table.{Splits, Joins}
+use Rattle.atomic_table.specs.Table.{State, Splits, Joins}
 use Rattle.atomic_table.proofs.Lists.{at_set, set_here, set_else, at_longer, at_last}
 use Rattle.sci_core.specs.Size.{Size}
 use Rattle.sci_lanes.specs.declared.view.Part.{Part}
 use Rattle.sci_lanes.specs.declared.view.View.{View}
 use Rattle.sci_lanes.specs.Shown.{Whole, nodes_of, me_of, single, IsKnown, HasRead, IsCovered, Shows, IsKept}
 use Rattle.sci_lanes.proofs.Keeping.{all_by, all_join, get_left, get_right, changed_at, changed_here, changed_else, read_none, read_nothing}
-use Rattle.sci_lanes.proofs.Allowed.{within}
+use Rattle.sci_lanes.proofs.Keeping.{within, covered_still}
 use Rattle.sci_core.proofs.Basics.Options.{same_some}
 
 -- the last of a list, with its place
@@ -27,6 +27,12 @@ last_at? (z ∷ xs) x (suc k) y e = elim (last_at? xs x k y e) [ inl h ↦ inl h
 -- the same state, with other owners
 abbrev pub owned_by : Whole → (ℕ → ℕ) → Whole
 owned_by x owner = record { core = x.core; schedule = x.schedule; outbound = x.outbound; inbound = x.inbound; owner = owner }
+
+-- it is kept, where other words and views show it
+pub kept_owned : (size : Size) (s t : State (Unit {0}) View) (kept : IsKept size s) (owner : ℕ → ℕ) → Shows (owned_by kept.whole owner) t.words t.views
+    → IsKept size t
+kept_owned size s t kept owner shows =
+    record { whole = owned_by kept.whole owner; reached = kept.reached; sized = kept.sized; leads = kept.leads; enabled = kept.enabled; shown = shows }
 
 -- a part stays known, if its node's owner does
 moved : (x : Whole) (owner : ℕ → ℕ) (seat later : ℕ) (p : Part) → owner (me_of p) ≡ later → IsKnown x seat p → IsKnown (owned_by x owner) later p
@@ -128,15 +134,8 @@ split_shows x words views seat p rest s here none = record { long = s.long; lane
                 there = k.1;
                 of_node = c.of_node;
               })
-          | inr not ↦ record {
-            view = c.view;
-            place = c.place;
-            part = c.part;
-            seated = ap (λ (j : ℕ). get_elem? (set views seat left ++ single p ∷ []) j) (same n apart)
-                ∙ at_longer (set views seat left) (single p ∷ []) (x.owner n) c.view (set_else views seat (x.owner n) left not ∙ c.seated);
-            there = c.there;
-            of_node = c.of_node;
-          }
+          | inr not ↦ covered_still x y views (set views seat left ++ single p ∷ []) n (same n apart) c
+              (at_longer (set views seat left) (single p ∷ []) (x.owner n) c.view (set_else views seat (x.owner n) left not ∙ c.seated))
         ]
 
     read : (id : ℕ) (view : View) → get_elem? (set views seat left ++ single p ∷ []) id ≡ some view → HasRead y id words view.words
@@ -150,14 +149,8 @@ split_shows x words views seat p rest s here none = record { long = s.long; lane
 
 pub splits : (size : Size) (id : ℕ) (p : Part) (rest : List Part) → NoneIs (me_of p) rest
     → Splits (IsKept size) id (record { parts = p ∷ rest; words = [] }) (record { parts = rest; words = [] }) (single p)
-splits size id p rest none s kept here = record {
-  whole = owned_by kept.whole (changed_at kept.whole.owner (me_of p) (length s.views));
-  reached = kept.reached;
-  sized = kept.sized;
-  leads = kept.leads;
-  enabled = kept.enabled;
-  shown = split_shows kept.whole s.words s.views id p rest kept.shown here none;
-}
+splits size id p rest none s kept here = kept_owned size s _ kept (changed_at kept.whole.owner (me_of p) (length s.views))
+    (split_shows kept.whole s.words s.views id p rest kept.shown here none)
 
 -- ---- join
 
@@ -239,15 +232,8 @@ join_shows x words views seat other v w s here apart there = record { long = s.l
                       get_left v w c.place c.part (ap (λ (u : View). slice_get u.parts c.place) view_is ∙ c.there);
                   of_node = c.of_node;
                 })
-            | inr neither ↦ record {
-              view = c.view;
-              place = c.place;
-              part = c.part;
-              seated = ap (λ (j : ℕ). get_elem? (set (set views seat both) other spent) j) (same n not)
-                  ∙ (set_else (set views seat both) other (x.owner n) spent not ∙ (set_else views seat (x.owner n) both neither ∙ c.seated));
-              there = c.there;
-              of_node = c.of_node;
-            }
+            | inr neither ↦ covered_still x y views (set (set views seat both) other spent) n (same n not) c
+                (set_else (set views seat both) other (x.owner n) spent not ∙ (set_else views seat (x.owner n) both neither ∙ c.seated))
           ]
         ]
 
@@ -268,11 +254,5 @@ join_shows x words views seat other v w s here apart there = record { long = s.l
 pub joins : (size : Size) (id other : ℕ) (v w : List Part)
     → Joins (IsKept size) id (record { parts = v; words = [] }) other (record { parts = w; words = [] }) (record { parts = v ++ w; words = [] })
     (record { parts = []; words = [] })
-joins size id other v w s kept here apart there = record {
-  whole = owned_by kept.whole (λ n. if eqb (kept.whole.owner n) other then id else kept.whole.owner n);
-  reached = kept.reached;
-  sized = kept.sized;
-  leads = kept.leads;
-  enabled = kept.enabled;
-  shown = join_shows kept.whole s.words s.views id other v w kept.shown here apart (sym (set_else s.views id other _ apart) ∙ there);
-}
+joins size id other v w s kept here apart there = kept_owned size s _ kept (λ n. if eqb (kept.whole.owner n) other then id else kept.whole.owner n)
+    (join_shows kept.whole s.words s.views id other v w kept.shown here apart (sym (set_else s.views id other _ apart) ∙ there))

@@ -1,7 +1,9 @@
 -- Places of words in the table, and what a store leaves.
 use Rattle.std.proofs.Common.{◌≡◌, ◌≢◌, ℕ, zero, suc, ◌+◌, ◌*◌, ◌%◌, ◌<◌, ◌⊎◌, inl, inr, List, [], ◌∷◌, ◌++◌, length, get_or, set, Some, refl, ap, arith}
+use Rattle.std.proofs.Common.{sym, ◌∙◌}
 use Rattle.std.specs.Prelude.{slice_get}
-use Rattle.std.proofs.lemmas.List.{get_or-set_other, get_or-set_same}
+use Rattle.std.proofs.lemmas.List.{get_or-set_other, get_or-set_same, length_push, get_or_append_left, get_or_push}
+use Rattle.std.proofs.lemmas.Bool.{cases_lt}
 use Rattle.sci_lanes.specs.Cells.{cell_place, lane_count, own_place, word_count}
 use Rattle.sci_core.proofs.Basics.Options.{same_some}
 
@@ -48,3 +50,11 @@ at_end [] x zero y e = inr (refl, same_some x y e)
 at_end [] x (suc k) y e = cc
 at_end (z ∷ xs) x zero y e = inl (omega arith, e)
 at_end (z ∷ xs) x (suc k) y e = elim (at_end xs x k y e) [ inl h ↦ inl (omega (arith, h.0), h.1) | inr h ↦ inr (ap suc h.0, h.1) ]
+
+-- what holds of the words of a list, and of one more
+pub one_more : (f : ℕ → ℕ) (xs : List ℕ) (x : ℕ) → f (length xs) ≡ x → ((j : ℕ) → j < length xs → f j ≡ get_or xs j 0) → (j : ℕ)
+    → j < length (xs ++ x ∷ []) → f j ≡ get_or (xs ++ x ∷ []) j 0
+one_more f xs x here same j lt = elim (cases_lt j (length xs)) [
+  | inl less ↦ same j less ∙ sym (get_or_append_left xs (x ∷ []) 0 j less)
+  | inr le ↦ (let at : j ≡ length xs = omega (arith, length_push xs x) in ap f at ∙ (here ∙ sym (get_or_push xs x 0 j (sym at))))
+]

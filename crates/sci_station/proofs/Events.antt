@@ -9,7 +9,8 @@ use Rattle.sci_packets.proofs.Whole.{one_by_words}
 use Rattle.sci_cache.specs.Cache.{Letter, letter_of}
 use Rattle.sci_core.specs.declared.lane.LaneKind.{LaneKind}
 use Rattle.sci_core.specs.declared.lane.LaneKind.TheVariants.{Answers, Requests}
-use Rattle.sci_core.specs.Core.{Sends, Takes, run, stepping, lane_at, lane_of, lane_place, node_at, sends}
+use Rattle.sci_core.specs.Core.{Takes, run, side, stepping, lane_at, lane_of, lane_place, node_at}
+use Rattle.sci_turn.proofs.Enabled.{some_of}
 use Rattle.sci_core.specs.Node.{NodeOf, is_setback, node_accepting, node_asking, node_refusing, node_replying, node_serving, replied_by}
 use Rattle.sci_core.proofs.Tidy.Enabled.{accept_enabled, request_enabled}
 use Rattle.sci_policy.proofs.Targets.{asked_target, waiting_target}
@@ -23,7 +24,7 @@ use Rattle.sci_station.proofs.Stills.{same_of_still}
 use Rattle.sci_lanes.specs.Telling.{IsShown}
 use Rattle.sci_lanes.specs.Ends.{EndOf, MayFree, lane_at_cell, nodes_in}
 use Rattle.sci_lanes.proofs.Seats.{shown_nodes}
-use Rattle.sci_lanes.proofs.Events.{words_some}
+use Rattle.sci_lanes.proofs.LaneSteps.{words_some}
 use Rattle.sci_station.specs.Ends.{HasRead, IsStill}
 use Rattle.sci_lanes.specs.Telling.{IsMade}
 use Rattle.sci_station.proofs.Cells.{front_found}
@@ -41,11 +42,6 @@ pub ask_target : (part : Part) (line : ℕ) (kind : AskKind) (sent : NodeOf × L
 ask_target part line kind sent s asks =
     subst (λ (n : ℕ). sent.1.target < n) (sym (shown_nodes part s))
     (asked_target s.core (me_of part) line kind sent s.reached s.some_node (ap (λ (m : NodeOf). node_asking m line kind) s.here ∙ asks))
-
-pub sent_by : (kind : LaneKind) (o : Option (NodeOf × Letter)) (next : NodeOf) (letter : Letter) → sends kind o ≡ Sends kind next letter
-    → o ≡ Some (next, letter)
-sent_by kind None next letter e = cc
-sent_by kind (Some sent) next letter e = ap Some (let node : sent.0 ≡ next = cc in let packet : sent.1 ≡ letter = cc in (λ i. (node i, packet i)))
 
 pub replying : (node : NodeOf) (answer : Letter) → node.waiting ≡ Some answer → node_replying node ≡ Some (record node { waiting = None }, answer)
 replying node answer waits = ap (replied_by node) waits
@@ -68,55 +64,45 @@ front_read part cell packet read kind from k f =
     let place : lane ≡ lane_place s.core.size.nodes kind from (me_of part) = (λ i. lane_place (shown_nodes part s i) (k i) (f i) (read.next.mine i)) in
     (front.rest, ap (lane_at s.core) (sym place) ∙ (front.front ∙ ap (λ (p : Packet). letter_of p ∷ front.rest) same))
 
-some_of : {A : Type 0} (o : Option A) → IsSome o → (x : A) × (o ≡ Some x)
-some_of None e = cc
-some_of (Some x) e = (x, refl)
-
 sender_below : (part : Part) (cell : CellId) (packet : Packet) (read : HasRead part cell packet) (from : ℕ) → cell.sender ≡ from
     → from < read.shown.core.size.nodes
 sender_below part cell packet read from f = subst (λ (n : ℕ). from < n) (shown_nodes part read.shown) (subst (λ (j : ℕ). j < nodes_in part) f read.next.other)
+
+-- an event that takes the packet that was read frees its cell
+frees_read : (part : Part) (cell : CellId) (packet : Packet) (from : ℕ) (kind : LaneKind) (e : Event) (taking : NodeOf → Letter → Option NodeOf)
+    → (read : HasRead part cell packet) → cell.kind ≡ kind → cell.sender ≡ from → node_of e ≡ me_of part → side part.node e ≡ Takes kind from (taking part.node)
+    → IsSome (taking (node_at read.shown.core (me_of part)) (letter_of packet)) → MayFree part cell e
+frees_read part cell packet from kind e taking read k f own side_is some =
+    let next = some_of (taking part.node (letter_of packet)) (subst (λ (m : NodeOf). IsSome (taking m (letter_of packet))) read.shown.here some) in
+    record {
+      next = read.next;
+      own = own;
+      packet = packet;
+      taking = taking part.node;
+      after = next.0;
+      side_is = side_is ∙ sym (λ i. Takes (k i) (f i) (taking part.node));
+      gives = next.1;
+      spelled = read.spelled;
+    }
 
 -- an answer that was read is accepted
 pub may_accept : (part : Part) (cell : CellId) (packet : Packet) (from n : ℕ) → HasRead part cell packet → cell.kind ≡ Answers → cell.sender ≡ from
     → n ≡ me_of part → MayFree part cell (event.Accept from n)
 may_accept part cell packet from n read k f is =
     let s = read.shown in
-    let me = me_of part in
     let front = front_read part cell packet read Answers from k f in
-    let some = accept_enabled s.core from me s.reached (sender_below part cell packet read from f) s.some_node (letter_of packet) front.0 front.1 in
-    let next = some_of (node_accepting part.node (letter_of packet)) (subst (λ (m : NodeOf). IsSome (node_accepting m (letter_of packet))) s.here some) in
-    record {
-      next = read.next;
-      own = is;
-      packet = packet;
-      taking = node_accepting part.node;
-      after = next.0;
-      side_is = sym (λ i. Takes (k i) (f i) (node_accepting part.node));
-      gives = next.1;
-      spelled = read.spelled;
-    }
+    frees_read part cell packet from Answers (event.Accept from n) node_accepting read k f is refl
+    (accept_enabled s.core from (me_of part) s.reached (sender_below part cell packet read from f) s.some_node (letter_of packet) front.0 front.1)
 
 -- a request that was read is served, if no answer waits
 pub may_serve : (part : Part) (cell : CellId) (packet : Packet) (from n : ℕ) → HasRead part cell packet → cell.kind ≡ Requests → cell.sender ≡ from
     → n ≡ me_of part → part.node.waiting ≡ None → MayFree part cell (event.Serve from n)
 may_serve part cell packet from n read k f is free =
     let s = read.shown in
-    let me = me_of part in
     let front = front_read part cell packet read Requests from k f in
-    let free_there : (node_at s.core me).waiting ≡ None = ap (λ (m : NodeOf). m.waiting) s.here ∙ free in
-    let some = (request_enabled s.core from me s.reached (sender_below part cell packet read from f) s.some_node).served (letter_of packet) front.0 front.1
-    free_there in
-    let next = some_of (node_serving part.node (letter_of packet)) (subst (λ (m : NodeOf). IsSome (node_serving m (letter_of packet))) s.here some) in
-    record {
-      next = read.next;
-      own = is;
-      packet = packet;
-      taking = node_serving part.node;
-      after = next.0;
-      side_is = sym (λ i. Takes (k i) (f i) (node_serving part.node));
-      gives = next.1;
-      spelled = read.spelled;
-    }
+    frees_read part cell packet from Requests (event.Serve from n) node_serving read k f is refl
+    ((request_enabled s.core from (me_of part) s.reached (sender_below part cell packet read from f) s.some_node).served (letter_of packet) front.0 front.1
+    (ap (λ (m : NodeOf). m.waiting) s.here ∙ free))
 
 -- a request that was read is refused, unless it is a Setback
 pub may_refuse : (part : Part) (cell : CellId) (packet : Packet) (from n : ℕ) → HasRead part cell packet → cell.kind ≡ Requests → cell.sender ≡ from
@@ -124,22 +110,10 @@ pub may_refuse : (part : Part) (cell : CellId) (packet : Packet) (from n : ℕ) 
     → MayFree part cell (event.Refuse from n)
 may_refuse part cell packet from n read k f is free no_setback =
     let s = read.shown in
-    let me = me_of part in
     let front = front_read part cell packet read Requests from k f in
-    let free_there : (node_at s.core me).waiting ≡ None = ap (λ (m : NodeOf). m.waiting) s.here ∙ free in
-    let some = (request_enabled s.core from me s.reached (sender_below part cell packet read from f) s.some_node).refused (letter_of packet) front.0 front.1
-    free_there no_setback in
-    let next = some_of (node_refusing part.node (letter_of packet)) (subst (λ (m : NodeOf). IsSome (node_refusing m (letter_of packet))) s.here some) in
-    record {
-      next = read.next;
-      own = is;
-      packet = packet;
-      taking = node_refusing part.node;
-      after = next.0;
-      side_is = sym (λ i. Takes (k i) (f i) (node_refusing part.node));
-      gives = next.1;
-      spelled = read.spelled;
-    }
+    frees_read part cell packet from Requests (event.Refuse from n) node_refusing read k f is refl
+    ((request_enabled s.core from (me_of part) s.reached (sender_below part cell packet read from f) s.some_node).refused (letter_of packet) front.0 front.1
+    (ap (λ (m : NodeOf). m.waiting) s.here ∙ free) no_setback)
 
 -- an event that was made after steps that are none
 pub made_later : (old mid : EndOf) (e : Event) (schedule : List Event) → IsStill old mid → IsMade mid.part e schedule → IsMade old.part e schedule

@@ -25,6 +25,7 @@ use Rattle.sci_core.proofs.Step.Sides.{steps_by_sides}
 use Rattle.sci_core.proofs.Step.Steps.{lane_below}
 use Rattle.sci_core.proofs.Tidy.TidyRuns.{node_below}
 use Rattle.sci_core.proofs.WellFormed.WellFormedSteps.{StepsWell, stepping_well}
+use Rattle.sci_lanes.proofs.Events.{by_option, takes_what}
 use Rattle.sci_turn.specs.Posts.{OthersLead}
 use Rattle.sci_words.specs.declared.event.AskKind.{AskKind}
 use Rattle.sci_words.specs.declared.operation.Op.{Op}
@@ -408,28 +409,6 @@ others_owe n other old (e ∷ others) new well ln lo lead =
 
 -- ---- the node's own
 
-changes_none : {T : Type 0} (o : Option NodeOf) (kind : LaneKind) (next : NodeOf) (letter : Letter) → changes o ≡ Sends kind next letter → T
-changes_none None kind next letter e = cc
-changes_none (Some x) kind next letter e = cc
-
-pub changes_nothing : {T : Type 0} (o : Option NodeOf) (kind : LaneKind) (from : ℕ) (taking : Letter → Option NodeOf) → changes o ≡ Takes kind from taking → T
-changes_nothing None kind from taking e = cc
-changes_nothing (Some x) kind from taking e = cc
-
-performs_none : {T : Type 0} (o : Option (NodeOf × Entry)) (kind : LaneKind) (next : NodeOf) (letter : Letter) → performs o ≡ Sends kind next letter → T
-performs_none None kind next letter e = cc
-performs_none (Some x) kind next letter e = cc
-
-pub performs_nothing : {T : Type 0} (o : Option (NodeOf × Entry)) (kind : LaneKind) (from : ℕ) (taking : Letter → Option NodeOf)
-    → performs o ≡ Takes kind from taking → T
-performs_nothing None kind from taking e = cc
-performs_nothing (Some x) kind from taking e = cc
-
-pub sends_nothing : {T : Type 0} (k : LaneKind) (o : Option (NodeOf × Letter)) (kind : LaneKind) (from : ℕ) (taking : Letter → Option NodeOf)
-    → sends k o ≡ Takes kind from taking → T
-sends_nothing k None kind from taking e = cc
-sends_nothing k (Some x) kind from taking e = cc
-
 sends_what : (k : LaneKind) (o : Option (NodeOf × Letter)) (kind : LaneKind) (next : NodeOf) (letter : Letter) → sends k o ≡ Sends kind next letter
     → (k ≡ kind) × (o ≡ Some (next, letter))
 sends_what k None kind next letter e = cc
@@ -438,15 +417,12 @@ sends_what k (Some x) kind next letter e = (cc, sent_by_same x next letter (let 
     sent_by_same : (x : NodeOf × Letter) (next : NodeOf) (letter : Letter) → x.0 ≡ next → x.1 ≡ letter → Some x ≡ Some (next, letter)
     sent_by_same x next letter node packet = λ i. Some (node i, packet i)
 
-pub takes_what : (k kind : LaneKind) (f from : ℕ) (t taking : Letter → Option NodeOf) → Takes k f t ≡ Takes kind from taking → (k ≡ kind) × (f ≡ from)
-takes_what k kind f from t taking e = (cc, cc)
-
 -- it sends a packet: a request adds one at its target
 pub sent_owes : (core new : Core) (e : Event) (other : ℕ) (kind : LaneKind) (next : NodeOf) (letter : Letter) → IsWellFormed core → other < core.size.nodes
     → side (node_at core (node_of e)) e ≡ Sends kind next letter → stepping core e ≡ Some new
     → owed new (node_of e) other ≡ owed core (node_of e) other + adds_one kind letter.target other
-sent_owes core new (event.Issue m op) other kind next letter well lo is steps = changes_none _ kind next letter is
-sent_owes core new (event.Perform m line) other kind next letter well lo is steps = performs_none _ kind next letter is
+sent_owes core new (event.Issue m op) other kind next letter well lo is steps = by_option changes _ (λ e. cc) (λ x e. cc) _ is
+sent_owes core new (event.Perform m line) other kind next letter well lo is steps = by_option performs _ (λ e. cc) (λ x e. cc) _ is
 sent_owes core new (event.Ask m line ask) other kind next letter well lo is steps =
     let a = asked core new m line ask well steps in
     let what = sends_what Requests (node_asking (node_at core m) line ask) kind next letter is in
@@ -457,22 +433,20 @@ sent_owes core new (event.Ask m line ask) other kind next letter well lo is step
   where
     second_same : (o : Option (NodeOf × Letter)) (p q : NodeOf × Letter) → o ≡ Some p → o ≡ Some q → p.1 ≡ q.1
     second_same o p q one two = let both : Some p ≡ Some q = sym one ∙ two in cc
-sent_owes core new (event.Serve from m) other kind next letter well lo is steps = cc
-sent_owes core new (event.Refuse from m) other kind next letter well lo is steps = cc
 sent_owes core new (event.Reply m) other kind next letter well lo is steps =
     let what = sends_what Answers (node_replying (node_at core m)) kind next letter is in
     let none = replied_owes core new m m other well (some_node core new (event.Reply m) steps) lo steps in
     subst (λ (k : LaneKind). owed new m other ≡ owed core m other + adds_one k letter.target other) what.0 (omega arith)
-sent_owes core new (event.Accept from m) other kind next letter well lo is steps = cc
+sent_owes core new _ other kind next letter well lo is steps = cc
 
 -- it takes a packet: an answer takes one from its sender
 pub taken_owes : (core new : Core) (e : Event) (from other : ℕ) (kind : LaneKind) (taking : Letter → Option NodeOf) → IsWellFormed core
     → other < core.size.nodes → side (node_at core (node_of e)) e ≡ Takes kind from taking → stepping core e ≡ Some new
     → owed new (node_of e) other + takes_one kind from other ≡ owed core (node_of e) other
-taken_owes core new (event.Issue m op) from other kind taking well lo is steps = changes_nothing _ kind from taking is
-taken_owes core new (event.Perform m line) from other kind taking well lo is steps = performs_nothing _ kind from taking is
-taken_owes core new (event.Ask m line ask) from other kind taking well lo is steps = sends_nothing Requests _ kind from taking is
-taken_owes core new (event.Reply m) from other kind taking well lo is steps = sends_nothing Answers _ kind from taking is
+taken_owes core new (event.Issue m op) from other kind taking well lo is steps = by_option changes _ (λ e. cc) (λ x e. cc) _ is
+taken_owes core new (event.Perform m line) from other kind taking well lo is steps = by_option performs _ (λ e. cc) (λ x e. cc) _ is
+taken_owes core new (event.Ask m line ask) from other kind taking well lo is steps = by_option (sends Requests) _ (λ e. cc) (λ x e. cc) _ is
+taken_owes core new (event.Reply m) from other kind taking well lo is steps = by_option (sends Answers) _ (λ e. cc) (λ x e. cc) _ is
 taken_owes core new (event.Serve f m) from other kind taking well lo is steps =
     let what = takes_what Requests kind f from (node_serving (node_at core m)) taking is in
     let none = served_owes core new m f m other well (some_node core new (event.Serve f m) steps) lo steps in
@@ -495,16 +469,6 @@ pub changed_owes : (core new : Core) (e : Event) (other : ℕ) (next : NodeOf) �
     → stepping core e ≡ Some new → owed new (node_of e) other ≡ owed core (node_of e) other
 changed_owes core new (event.Issue m op) other next well is steps = issued_owes core new m m other op well steps
 changed_owes core new (event.Perform m line) other next well is steps = performed_owes core new m m other line well steps
-changed_owes core new (event.Ask m line ask) other next well is steps = sends_change Requests _ next is
-  where
-    sends_change : {T : Type 0} (k : LaneKind) (o : Option (NodeOf × Letter)) (next : NodeOf) → sends k o ≡ Changes next → T
-    sends_change k None next e = cc
-    sends_change k (Some x) next e = cc
-changed_owes core new (event.Serve from m) other next well is steps = cc
-changed_owes core new (event.Refuse from m) other next well is steps = cc
-changed_owes core new (event.Reply m) other next well is steps = sends_change Answers _ next is
-  where
-    sends_change : {T : Type 0} (k : LaneKind) (o : Option (NodeOf × Letter)) (next : NodeOf) → sends k o ≡ Changes next → T
-    sends_change k None next e = cc
-    sends_change k (Some x) next e = cc
-changed_owes core new (event.Accept from m) other next well is steps = cc
+changed_owes core new (event.Ask m line ask) other next well is steps = by_option (sends Requests) _ (λ e. cc) (λ x e. cc) _ is
+changed_owes core new (event.Reply m) other next well is steps = by_option (sends Answers) _ (λ e. cc) (λ x e. cc) _ is
+changed_owes core new _ other next well is steps = cc

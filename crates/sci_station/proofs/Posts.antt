@@ -5,23 +5,20 @@ use Rattle.std.proofs.lemmas.List.{append-nil, append_assoc}
 use Rattle.sci_words.specs.declared.event.Event.{Event}
 use Rattle.sci_cache.specs.Cache.{Letter}
 use Rattle.sci_core.specs.WellFormed.{IsWellFormed}
-use Rattle.sci_core.specs.Core.{Core, Takes, lane_of, node_at, node_of, run, run_from, side, step, stepping}
-use Rattle.sci_core.specs.Node.{NodeOf, node_accepting, node_refusing, node_serving}
+use Rattle.sci_core.specs.Core.{Core, Takes, lane_of, node_at, run, run_from, side, step, stepping}
+use Rattle.sci_core.specs.Node.{NodeOf}
 use Rattle.sci_core.specs.Reached.{IsReached}
 use Rattle.sci_core.specs.Size.{Size}
 use Rattle.sci_lanes.specs.declared.view.Part.{Part}
 use Rattle.sci_lanes.specs.Shown.{AreEnabled, AreOfOthers, IsSeen, me_of}
 use Rattle.sci_lanes.specs.Telling.{IsMade as WasMade, IsSameNode, IsShown, size_in, state_of}
 use Rattle.sci_lanes.specs.Ends.{EndOf}
-use Rattle.sci_lanes.proofs.Events.{run_further}
+use Rattle.sci_lanes.proofs.Events.{run_further, taken_lane}
 use Rattle.sci_core.proofs.WellFormed.WellFormedSteps.{reached_well, run_well}
-use Rattle.sci_turn.specs.Posts.{IsMade, IsPost, IsStill, OthersLead, PostOf}
+use Rattle.sci_turn.specs.Posts.{IsMade, IsPost, IsStill, OthersLead, PostOf, node_in}
 use Rattle.sci_turn.specs.Posts.{IsFront, IsTaken, MayTakeFront}
-use Rattle.sci_words.specs.declared.event.Event.TheVariants as event
-use Rattle.sci_core.specs.declared.lane.LaneKind.TheVariants.{Answers, Requests}
 use Rattle.sci_lanes.specs.Telling.{IsTaken as WasTaken, lane_taken}
 use Rattle.sci_lanes.proofs.Calls.{one_spelled}
-use Rattle.sci_station.proofs.Owing.{changes_nothing, performs_nothing, sends_nothing, takes_what}
 use Rattle.sci_turn.proofs.Working.{other_stays}
 use Rattle.sci_core.specs.declared.lane.LaneKind.{LaneKind}
 use Rattle.sci_cache.specs.Cache.{letter_of}
@@ -30,7 +27,8 @@ use Rattle.sci_lanes.specs.declared.cell.CellId.{CellId}
 use Rattle.sci_lanes.specs.Ends.{MayFree, lane_at_cell, nodes_in}
 use Rattle.sci_lanes.proofs.Seats.{shown_nodes}
 use Rattle.sci_station.specs.Ends.{HasRead}
-use Rattle.sci_station.specs.Posts.{post_of}
+use Rattle.sci_station.specs.Posts.{StationPostOf, post_of}
+use Rattle.sci_station.specs.Station.{StationOf}
 use Rattle.sci_station.proofs.Events.{front_read}
 
 some_step : (core : Core) (o : Option Core) → IsSome o → o ≡ Some (unwrap_or o core)
@@ -64,6 +62,15 @@ lead_runs n old (e ∷ others) new lead = ap (λ (o : Option Core). run_from (un
 
 pub node_there : (part : Part) (s : IsShown part) → node_at (state_of part) (me_of part) ≡ part.node
 node_there part s = ap (λ (c : Core). node_at c (me_of part)) s.leads ∙ s.here
+
+-- what holds of a post's node before and after holds of the end's
+pub turned_so : (R : NodeOf → NodeOf → Type 0) (inside now : StationOf) (before : StationPostOf) (new : EndOf) → inside ≡ now → before.end ≡ inside.end
+    → IsShown before.end.part → IsShown new.part → R (node_in (post_of before.end)) (node_in (post_of new)) → R now.end.part.node new.part.node
+turned_so R inside now before new view same s t is =
+    subst (λ (x : StationOf). R x.end.part.node new.part.node) view
+    (subst (λ (e : EndOf). R e.part.node new.part.node) same
+    (subst (λ (m : NodeOf). R m new.part.node) (node_there before.end.part s)
+    (subst (λ (m : NodeOf). R (node_in (post_of before.end)) m) (node_there new.part t) is)))
 
 pub is_post : (end : EndOf) → IsShown end.part → IsPost (post_of end)
 is_post end s = record {
@@ -176,20 +183,6 @@ may_free end cell packet kind from e read k f may =
       spelled = read.spelled;
     }
 
--- the lane from which an event takes a packet
-lane_taken_as : (core : Core) (node : NodeOf) (e : Event) (kind : LaneKind) (from : ℕ) (taking : Letter → Option NodeOf) → side node e ≡ Takes kind from taking
-    → lane_taken core e ≡ lane_of core kind from (node_of e)
-lane_taken_as core node (event.Issue m op) kind from taking is = changes_nothing _ kind from taking is
-lane_taken_as core node (event.Perform m line) kind from taking is = performs_nothing _ kind from taking is
-lane_taken_as core node (event.Ask m line ask) kind from taking is = sends_nothing Requests _ kind from taking is
-lane_taken_as core node (event.Reply m) kind from taking is = sends_nothing Answers _ kind from taking is
-lane_taken_as core node (event.Serve f m) kind from taking is = let what = takes_what Requests kind f from (node_serving node) taking is in
-    (λ i. lane_of core (what.0 i) (what.1 i) m)
-lane_taken_as core node (event.Refuse f m) kind from taking is = let what = takes_what Requests kind f from (node_refusing node) taking is in
-    (λ i. lane_of core (what.0 i) (what.1 i) m)
-lane_taken_as core node (event.Accept f m) kind from taking is = let what = takes_what Answers kind f from (node_accepting node) taking is in
-    (λ i. lane_of core (what.0 i) (what.1 i) m)
-
 -- an event that frees a cell takes the packet that was the oldest before
 pub taken_post : (old new : EndOf) (cell : CellId) (packet : Packet) (kind : LaneKind) (from : ℕ) (e : Event) (letter : Letter) → IsShown new.part
     → IsSameNode old.part new.part → HasRead old.part cell packet → cell.kind ≡ kind → cell.sender ≡ from
@@ -204,7 +197,7 @@ taken_post old new cell packet kind from e letter t same read k f may was front 
     let core = run (size_in old.part) (old.part.schedule ++ was.made.others) in
     let lane : lane_of core kind from (me_of old.part) ≡ lane_taken core e =
     ap (lane_of core kind from) (sym take.own)
-    ∙ sym (lane_taken_as core (node_at (state_of old.part) (me_of old.part)) e kind from take.taking take.side_is) in
+    ∙ sym (taken_lane core (node_at (state_of old.part) (me_of old.part)) e kind from take.taking take.side_is) in
     record {
       made = made_post old new e read.shown t same was.made;
       front = (was.rest, lane ∙ (was.front ∙ ap (λ (l : Letter). l ∷ was.rest) (ap letter_of packets ∙ sym letters)));

@@ -95,6 +95,18 @@ read_on old new kept after kind from read there s same known =
       };
     }
 
+-- what was read is kept elsewhere
+read_as : (end : EndOf) (kept after : KeptOf) (kind : LaneKind) (from : ℕ) (read : IsRead end kept kind from)
+    → packet_in after kind from ≡ packet_in kept kind from → IsRead end after kind from
+read_as end kept after kind from read same = record {
+  packet = read.packet;
+  there = same ∙ read.there;
+  cell = read.cell;
+  kind_is = read.kind_is;
+  sender_is = read.sender_is;
+  read = read.read;
+}
+
 -- what is kept comes by other lanes than this one
 abbrev pub AreApart : KeptOf → Part → ℕ → Type 0
 AreApart kept part lane = (kind : LaneKind) (node : ℕ) → is_kept kept kind node ≡ true → node ≢ me_of part → node < nodes_in part
@@ -166,17 +178,7 @@ remembers_answer end unanswered kept answer r = record { shown = r.shown; owing 
   where
     keeps : (kind : LaneKind) (node : ℕ) → is_kept kept kind node ≡ true → (node ≢ me_of end.part) × IsRead end (record kept { answer = answer }) kind node
     keeps Answers node is = cc
-    keeps Requests node is = let old = r.keeps Requests node is in (
-      old.0,
-      record {
-        packet = old.1.packet;
-        there = old.1.there;
-        cell = old.1.cell;
-        kind_is = old.1.kind_is;
-        sender_is = old.1.sender_is;
-        read = old.1.read;
-      },
-    )
+    keeps Requests node is = let old = r.keeps Requests node is in (old.0, read_as end kept (record kept { answer = answer }) Requests node old.1 refl)
 
 set_either : (marks : List Bool) (place : ℕ) (mark : Bool)
     → (get_or (set marks place mark) place false ≡ mark) ⊎ (get_or (set marks place mark) place false ≡ false)
@@ -219,17 +221,8 @@ remembers_request end unanswered kept from packet cell keep r read k f other the
                 },
               )
           | inr apart ↦
-              let old = r.keeps Requests node (sym (get_or-set_other kept.marks from node keep false apart) ∙ is) in (
-                old.0,
-                record {
-                  packet = old.1.packet;
-                  there = get_or-set_other kept.requests from node (Some packet) None apart ∙ old.1.there;
-                  cell = old.1.cell;
-                  kind_is = old.1.kind_is;
-                  sender_is = old.1.sender_is;
-                  read = old.1.read;
-                },
-              )
+              let old = r.keeps Requests node (sym (get_or-set_other kept.marks from node keep false apart) ∙ is) in
+              (old.0, read_as end kept after Requests node old.1 (get_or-set_other kept.requests from node (Some packet) None apart))
         ]
 
 -- ---- an event of the node
@@ -369,17 +362,8 @@ remembers_no_more end unanswered kept from r = record { shown = r.shown; owing =
           | inl here ↦ (let clash = either_is (get_or (set kept.marks from false) from false) true false (set_either kept.marks from false)
               (ap (λ (j : ℕ). get_or (set kept.marks from false) j false) (sym here) ∙ is) in cc)
           | inr apart ↦
-              let old = r.keeps Requests node (sym (get_or-set_other kept.marks from node false false apart) ∙ is) in (
-                old.0,
-                record {
-                  packet = old.1.packet;
-                  there = old.1.there;
-                  cell = old.1.cell;
-                  kind_is = old.1.kind_is;
-                  sender_is = old.1.sender_is;
-                  read = old.1.read;
-                },
-              )
+              let old = r.keeps Requests node (sym (get_or-set_other kept.marks from node false false apart) ∙ is) in
+              (old.0, read_as end kept after Requests node old.1 refl)
         ]
 
 -- fewer than 255 are owed

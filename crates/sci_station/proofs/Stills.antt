@@ -1,5 +1,5 @@
 -- Ends that have made no event.
-use Rattle.std.proofs.Common.{◌≡◌, ◌≢◌, ◌++◌, List, ℕ, ◌%◌, ◌<◌, Bool, true, false, [], refl, sym, ap, subst, ◌∙◌}
+use Rattle.std.proofs.Common.{◌≡◌, ◌≢◌, ◌++◌, List, get_or, set, ℕ, ◌%◌, ◌<◌, Bool, true, false, [], refl, sym, ap, subst, ◌∙◌}
 use Rattle.std.specs.Prelude.{if◌then◌else◌}
 use Rattle.sci_core.proofs.Basics.Lists.{at_place_set}
 use Rattle.sci_lanes.specs.declared.cell.CellId.{CellId}
@@ -10,10 +10,10 @@ use Rattle.std.proofs.lemmas.List.{append_assoc, get_or-set_other}
 use Rattle.sci_words.specs.declared.event.Event.{Event}
 use Rattle.sci_core.specs.Core.{node_of}
 use Rattle.sci_lanes.specs.Shown.{inbound_at, me_of, no_inbound, no_outbound, outbound_at, AreOfOthers, IsSeen}
-use Rattle.sci_lanes.proofs.Keeping.{all_join, seen_all}
+use Rattle.sci_lanes.proofs.Keeping.{all_join}
 use Rattle.sci_lanes.specs.Knowing.{has_sent_more, filled_out, is_receiving, is_sending, looked_in, looked_out, read_in, with_lane_known}
 use Rattle.sci_lanes.specs.Telling.{size_in}
-use Rattle.sci_lanes.specs.Ends.{EndOf, IsNextToSend, IsNextToTake, filled_at, freed_at, informed_at, lane_at_cell, looked_at, published_at, read_at, with_part}
+use Rattle.sci_lanes.specs.Ends.{EndOf, IsNextToSend, IsNextToTake, filled_at, informed_at, lane_at_cell, looked_at, read_at, with_part}
 use Rattle.sci_lanes.specs.Cells.{lane_number}
 use Rattle.sci_core.specs.Node.{NodeOf}
 use Rattle.sci_station.specs.Ends.{IsSameEnd, IsStill, LeavesOthers}
@@ -34,9 +34,6 @@ seen_then p q schedule me one two = record {
   further = two.further ∙ (ap (λ (es : List Event). es ++ two.others) one.further ∙ append_assoc p.schedule one.others two.others);
   apart = all_join (λ e. node_of e ≢ me_of p) one.others two.others one.apart (subst (λ (n : ℕ). AreOfOthers n two.others) me two.apart);
 }
-
-pub still_itself : (end : EndOf) → IsStill end end
-still_itself end = record { table = refl; node = refl; seen = seen_all end.part; sent = λ lane. refl; taken = λ lane. refl }
 
 pub still_then : (old mid new : EndOf) → IsStill old mid → IsStill mid new → IsStill old new
 still_then old mid new one two = record {
@@ -136,27 +133,6 @@ lane_still old new cell still = ap (λ (n : NodeOf). lane_number n.cache.nodes c
 pub others_then : (lane : ℕ) (old mid new : Part) → LeavesOthers lane old mid → LeavesOthers lane mid new → LeavesOthers lane old new
 others_then lane old mid new one two other apart = two other apart ∙ one other apart
 
-pub look_others : (end new : EndOf) (cell : CellId) (word : ℕ) → new ≡ informed_at new.part.schedule (looked_at cell word end)
-    → LeavesOthers (lane_at_cell end.part cell) end.part new.part
-look_others end new cell word is other apart =
-    ap (λ (e : EndOf). inbound_at e.part other) is ∙ get_or-set_other end.part.inbound (lane_at_cell end.part cell) other _ no_inbound apart
-
-pub fill_others : (end new : EndOf) (cell : CellId) (index word : ℕ) → new ≡ informed_at new.part.schedule (filled_at cell index word end)
-    → LeavesOthers (lane_at_cell end.part cell) end.part new.part
-fill_others end new cell index word is other apart =
-    ap (λ (e : EndOf). inbound_at e.part other) is ∙ get_or-set_other end.part.inbound (lane_at_cell end.part cell) other _ no_inbound apart
-
-pub read_others : (end new : EndOf) (cell : CellId) (index word : ℕ) → new ≡ informed_at new.part.schedule (read_at cell index word end)
-    → LeavesOthers (lane_at_cell end.part cell) end.part new.part
-read_others end new cell index word is other apart =
-    ap (λ (e : EndOf). inbound_at e.part other) is ∙ get_or-set_other end.part.inbound (lane_at_cell end.part cell) other _ no_inbound apart
-
-pub publish_others : (end new : EndOf) (cell : CellId) (node : NodeOf) → new ≡ informed_at new.part.schedule (published_at cell node end)
-    → LeavesOthers (lane_at_cell end.part cell) end.part new.part
-publish_others end new cell node is other apart =
-    ap (λ (e : EndOf). inbound_at e.part other) is ∙ get_or-set_other end.part.inbound (lane_at_cell end.part cell) other _ no_inbound apart
-
-pub free_others : (end new : EndOf) (cell : CellId) (node : NodeOf) → new ≡ informed_at new.part.schedule (freed_at cell node end)
-    → LeavesOthers (lane_at_cell end.part cell) end.part new.part
-free_others end new cell node is other apart =
-    ap (λ (e : EndOf). inbound_at e.part other) is ∙ get_or-set_other end.part.inbound (lane_at_cell end.part cell) other _ no_inbound apart
+pub known_others : (end new : EndOf) (lane : ℕ) (i : Inbound) → new.part.inbound ≡ set end.part.inbound lane i → LeavesOthers lane end.part new.part
+known_others end new lane i is other apart =
+    ap (λ (all : List Inbound). get_or all other no_inbound) is ∙ get_or-set_other end.part.inbound lane other i no_inbound apart

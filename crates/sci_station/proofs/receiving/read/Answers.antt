@@ -2,11 +2,11 @@ use Rattle.std.proofs.Common.{ℕ, length, ap, subst, ◌∙◌, arith}
 use Rattle.std.proofs.lemmas.List.{length-set, length-take-le, take-set-le}
 use Rattle.sci_lanes.specs.declared.view.Inbound.{Inbound}
 use Rattle.sci_lanes.specs.Shown.{inbound_at}
-use Rattle.sci_lanes.specs.Ends.{lane_at_cell}
+use Rattle.sci_lanes.specs.Ends.{EndOf, lane_at_cell}
 use Rattle.sci_station.proofs.Budgets.{no_more_less, no_more_then}
 use Rattle.sci_station.proofs.Cells.{read_found}
 use Rattle.sci_station.proofs.Spelled.{found_more}
-use Rattle.sci_station.proofs.Stills.{lane_still, others_then, read_others, read_still, still_takes, still_then}
+use Rattle.sci_station.proofs.Stills.{known_others, lane_still, others_then, read_still, still_takes, still_then}
 use Rattle.sci_station.specs.Ends.{LeavesOthers}
 use Rattle.sci_station.proofs.receiving.read.Goals as goal
 
@@ -47,7 +47,8 @@ loop-index-preserved c =
       begins = take-set-le 1 c.loop-index.words index c.read_word.result (omega arith) ∙ i.begins;
       others = others_then _ c.args.end.now.part c.loop-index.end.part c.read_word.new.self.part i.others
           (subst (λ (l : ℕ). LeavesOthers l c.loop-index.end.part c.read_word.new.self.part) (lane_still c.args.end.now c.loop-index.end c.args.cell i.still)
-          (read_others c.loop-index.end c.read_word.new.self c.args.cell index c.read_word.result c.read_word.ensures.part));
+          (known_others c.loop-index.end c.read_word.new.self (lane_at_cell c.loop-index.end.part c.args.cell) _
+          (ap (λ (x : EndOf). x.part.inbound) c.read_word.ensures.part)));
       budget = no_more_then c.args.budget.now.left c.loop-index.budget.left c.spend.new.self.left i.budget
           (no_more_less 1 c.loop-index.budget.left c.spend.new.self.left c.in_ok-spend.ensures.one);
     }

@@ -1,13 +1,13 @@
-use Rattle.std.proofs.Common.{◌<◌, ℕ, sym, subst, ◌∙◌}
+use Rattle.std.proofs.Common.{◌<◌, ℕ, ap, sym, subst, ◌∙◌}
 use Rattle.sci_core.specs.Node.{NodeOf}
 use Rattle.sci_lanes.specs.declared.cell.CellId.{CellId}
 use Rattle.sci_core.specs.declared.lane.LaneKind.{LaneKind}
 use Rattle.sci_core.specs.Core.{lane_place}
-use Rattle.sci_lanes.specs.Ends.{EndOf, LooksFor, nodes_in}
+use Rattle.sci_lanes.specs.Ends.{EndOf, LooksFor, lane_at_cell, nodes_in}
 use Rattle.sci_lanes.specs.Shown.{me_of}
 use Rattle.sci_station.specs.Ends.{HasSeen, LeavesOthers}
 use Rattle.sci_station.proofs.Cells.{looked_found}
-use Rattle.sci_station.proofs.Stills.{look_others, look_still, next_same, still_takes}
+use Rattle.sci_station.proofs.Stills.{known_others, look_still, next_same, still_takes}
 use Rattle.sci_station.proofs.receiving.see.Goals as goal
 
 pub returns-then-first-eq0-clause-none : goal.returns-then-first-eq0-clause-none
@@ -18,7 +18,7 @@ others_there : (old new : EndOf) (kind : LaneKind) (from word : ℕ) → LooksFo
     → LeavesOthers (lane_place (nodes_in old.part) kind from (me_of old.part)) old.part new.part
 others_there old new kind from word looks =
     subst (λ (l : ℕ). LeavesOthers l old.part new.part) (λ i. lane_place (nodes_in old.part) (looks.kind_is i) (looks.sender_is i) (looks.next.mine i))
-    (look_others old new looks.cell word looks.looked)
+    (known_others old new (lane_at_cell old.part looks.cell) _ (ap (λ (x : EndOf). x.part.inbound) looks.looked))
 
 pub returns-then-first-eq0-clause-others : goal.returns-then-first-eq0-clause-others
 returns-then-first-eq0-clause-others c =

@@ -2,11 +2,11 @@ use Rattle.std.proofs.Common.{◌≡◌, ◌<◌, ◌+◌, ◌-◌, ◌++◌, �
 use Rattle.std.proofs.lemmas.Grind.{common_steps}
 use Rattle.sci_station.specs.Ends.{LeavesOthers}
 use Rattle.sci_station.proofs.Budgets.{no_more_less, no_more_then}
-use Rattle.sci_station.proofs.Stills.{fill_others, fill_still, lane_still, others_then, still_sends, still_then}
+use Rattle.sci_station.proofs.Stills.{fill_still, known_others, lane_still, others_then, still_sends, still_then}
 use Rattle.sci_station.proofs.Cells.{filled_there}
 use Rattle.sci_lanes.specs.declared.view.Outbound.{Outbound}
 use Rattle.sci_lanes.specs.Shown.{outbound_at}
-use Rattle.sci_lanes.specs.Ends.{lane_at_cell}
+use Rattle.sci_lanes.specs.Ends.{EndOf, lane_at_cell}
 use Rattle.sci_station.proofs.sending.fill.Goals as goal
 
 -- one word more is filled
@@ -29,7 +29,7 @@ loop-place-preserved c =
           ∙ filled_more (outbound_at old.part (lane_at_cell old.part c.args.cell)).filled c.args.words.now c.loop-place.place c.loop-place-test.true i.filled;
       others = others_then _ c.args.end.now.part old.part new.part i.others
           (subst (λ (l : ℕ). LeavesOthers l old.part new.part) (lane_still c.args.end.now old c.args.cell i.still)
-          (fill_others old new c.args.cell _ _ c.fill.ensures.part));
+          (known_others old new (lane_at_cell old.part c.args.cell) _ (ap (λ (x : EndOf). x.part.inbound) c.fill.ensures.part)));
       budget = no_more_then c.args.budget.now.left c.loop-place.budget.left c.spend.new.self.left i.budget
           (no_more_less 1 c.loop-place.budget.left c.spend.new.self.left c.in_ok-spend.ensures.one);
     }

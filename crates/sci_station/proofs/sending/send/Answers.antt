@@ -4,21 +4,27 @@ use Rattle.sci_cache.specs.Cache.{letter_of}
 use Rattle.sci_core.specs.declared.lane.LaneKind.{LaneKind}
 use Rattle.sci_core.specs.Core.{Sends, lane_of, lane_place, side}
 use Rattle.sci_core.specs.Node.{NodeOf}
-use Rattle.sci_lanes.specs.declared.cell.CellId.{CellId}
-use Rattle.sci_lanes.specs.declared.view.Part.{Part}
-use Rattle.sci_lanes.specs.Ends.{EndOf, IsNextToSend, informed_at, lane_at_cell, looked_at, nodes_in}
+use Rattle.sci_lanes.specs.Ends.{EndOf, lane_at_cell, nodes_in}
 use Rattle.sci_lanes.specs.Shown.{me_of}
 use Rattle.sci_lanes.specs.Telling.{state_of}
 use Rattle.sci_station.specs.Ends.{IsStill, LeavesOthers}
 use Rattle.sci_station.proofs.Cells.{looked_vacant}
 use Rattle.sci_station.proofs.Events.{made_later}
 use Rattle.sci_station.proofs.Spelled.{whole_words}
-use Rattle.sci_station.proofs.Stills.{lane_still, look_others, look_still, others_then, publish_others, still_sends, still_then}
+use Rattle.sci_station.proofs.Stills.{known_others, lane_still, look_still, others_then, still_sends, still_then}
 use Rattle.sci_station.proofs.sending.send.Goals as goal
+use Rattle.sci_station.proofs.sending.send.Goals.{After-look, After-fill}
+
+-- the lane was looked at, and the next cell filled
+looked : (c : After-look) → IsStill c.args.end.now c.look.new.self
+looked c = look_still c.args.end.now c.look.new.self c.next_to_send-cell.result c.look.result c.look.ensures.seen c.look.ensures.part
+
+filled : (c : After-fill) → IsStill c.args.end.now c.fill.new.end
+filled c = still_then c.args.end.now c.look.new.self c.fill.new.end
+    (look_still c.args.end.now c.look.new.self c.next_to_send-cell.result c.look.result c.look.ensures.seen c.look.ensures.part) c.fill.ensures.still
 
 pub returns-then-look-ne0-clause-full : goal.returns-then-look-ne0-clause-full
-returns-then-look-ne0-clause-full c =
-    λ _. look_still c.args.end.now c.look.new.self c.next_to_send-cell.result c.look.result c.look.ensures.seen c.look.ensures.part
+returns-then-look-ne0-clause-full c = λ _. looked (goal.at.returns-then-look-ne0-clause-full c).After-look
 
 pub fill-requires-clause-vacant : goal.fill-requires-clause-vacant
 fill-requires-clause-vacant c =
@@ -26,21 +32,16 @@ fill-requires-clause-vacant c =
     c.next_to_send-cell.ensures.next c.look.ensures.part c.if-look-ne0.false
 
 pub returns-in_err-fill-clause-cut : goal.returns-in_err-fill-clause-cut
-returns-in_err-fill-clause-cut c =
-    λ _. still_then c.args.end.now c.look.new.self c.fill.new.end
-    (look_still c.args.end.now c.look.new.self c.next_to_send-cell.result c.look.result c.look.ensures.seen c.look.ensures.part) c.fill.ensures.still
+returns-in_err-fill-clause-cut c = λ _. filled (goal.at.returns-in_err-fill-clause-cut c).After-fill
 
 pub returns-in_err-spend-2-clause-cut : goal.returns-in_err-spend-2-clause-cut
-returns-in_err-spend-2-clause-cut c =
-    λ _. still_then c.args.end.now c.look.new.self c.fill.new.end
-    (look_still c.args.end.now c.look.new.self c.next_to_send-cell.result c.look.result c.look.ensures.seen c.look.ensures.part) c.fill.ensures.still
+returns-in_err-spend-2-clause-cut c = λ _. filled (goal.at.returns-in_err-spend-2-clause-cut c).After-fill
 
 pub publish-requires : goal.publish-requires
 publish-requires c =
     let cell = c.next_to_send-cell.result in
     let end = c.fill.new.end in
-    let still = still_then c.args.end.now c.look.new.self end
-    (look_still c.args.end.now c.look.new.self cell c.look.result c.look.ensures.seen c.look.ensures.part) c.fill.ensures.still in
+    let still = filled (goal.at.publish-requires c).After-fill in
     let packet = c.args.packet.now in
     let count = c.to_words-count.result in
     let words = c.to_words-count.new.to in
@@ -75,56 +76,50 @@ returns-then-look-ne0-clause-held c = λ _.
     (c.look.ensures.full cell.ensures.next c.if-look-ne0.true))
 
 -- the lane that is sent into
-lane_there : (part : Part) (cell : CellId) (kind : LaneKind) (to : ℕ) → IsNextToSend part cell → cell.kind ≡ kind → cell.receiver ≡ to
-    → lane_at_cell part cell ≡ lane_place (nodes_in part) kind (me_of part) to
-lane_there part cell kind to next k r = λ i. lane_place (nodes_in part) (k i) (next.mine i) (r i)
+lane_there : (c : After-look) → lane_at_cell c.args.end.now.part c.next_to_send-cell.result
+    ≡ lane_place (nodes_in c.args.end.now.part) c.args.kind (me_of c.args.end.now.part) c.args.packet.now.target
+lane_there c =
+    let cell = c.next_to_send-cell.ensures in
+    λ i. lane_place (nodes_in c.args.end.now.part) (cell.cell.0 i) (cell.next.mine i) ((cell.cell.1 ∙ c.target_of.ensures) i)
+
+looked_others : (c : After-look) → LeavesOthers
+    (lane_place (nodes_in c.args.end.now.part) c.args.kind (me_of c.args.end.now.part) c.args.packet.now.target) c.args.end.now.part c.look.new.self.part
+looked_others c =
+    subst (λ (l : ℕ). LeavesOthers l c.args.end.now.part c.look.new.self.part) (lane_there c)
+    (known_others c.args.end.now c.look.new.self (lane_at_cell c.args.end.now.part c.next_to_send-cell.result) _
+    (ap (λ (x : EndOf). x.part.inbound) c.look.ensures.part))
 
 pub returns-then-look-ne0-clause-others : goal.returns-then-look-ne0-clause-others
-returns-then-look-ne0-clause-others c =
-    let cell = c.next_to_send-cell in
-    subst (λ (l : ℕ). LeavesOthers l c.args.end.now.part c.look.new.self.part)
-    (lane_there c.args.end.now.part cell.result c.args.kind c.args.packet.now.target cell.ensures.next cell.ensures.cell.0
-    (cell.ensures.cell.1 ∙ c.target_of.ensures))
-    (look_others c.args.end.now c.look.new.self cell.result c.look.result c.look.ensures.part)
+returns-then-look-ne0-clause-others c = looked_others (goal.at.returns-then-look-ne0-clause-others c).After-look
 
--- what was looked at and filled
-filled_others : (old mid new : EndOf) (cell : CellId) (kind : LaneKind) (to word : ℕ) → IsNextToSend old.part cell → cell.kind ≡ kind → cell.receiver ≡ to
-    → IsStill old mid → mid ≡ informed_at mid.part.schedule (looked_at cell word old) → LeavesOthers (lane_at_cell mid.part cell) mid.part new.part
-    → LeavesOthers (lane_place (nodes_in old.part) kind (me_of old.part) to) old.part new.part
-filled_others old mid new cell kind to word next k r still is filled =
-    subst (λ (l : ℕ). LeavesOthers l old.part new.part) (lane_there old.part cell kind to next k r)
-    (others_then _ old.part mid.part new.part (look_others old mid cell word is)
-    (subst (λ (l : ℕ). LeavesOthers l mid.part new.part) (lane_still old mid cell still) filled))
+-- a step after the look, on the lane of the cell
+then_others : (c : After-look) (mid new : EndOf) → IsStill c.args.end.now mid
+    → LeavesOthers (lane_place (nodes_in c.args.end.now.part) c.args.kind (me_of c.args.end.now.part) c.args.packet.now.target) c.args.end.now.part mid.part
+    → LeavesOthers (lane_at_cell mid.part c.next_to_send-cell.result) mid.part new.part
+    → LeavesOthers (lane_place (nodes_in c.args.end.now.part) c.args.kind (me_of c.args.end.now.part) c.args.packet.now.target) c.args.end.now.part new.part
+then_others c mid new still before after =
+    others_then _ c.args.end.now.part mid.part new.part before
+    (subst (λ (l : ℕ). LeavesOthers l mid.part new.part) (lane_still c.args.end.now mid c.next_to_send-cell.result still ∙ lane_there c) after)
 
 pub returns-in_err-fill-clause-others : goal.returns-in_err-fill-clause-others
 returns-in_err-fill-clause-others c =
-    let cell = c.next_to_send-cell in
-    filled_others c.args.end.now c.look.new.self c.fill.new.end cell.result c.args.kind c.args.packet.now.target c.look.result cell.ensures.next
-    cell.ensures.cell.0 (cell.ensures.cell.1 ∙ c.target_of.ensures)
-    (look_still c.args.end.now c.look.new.self cell.result c.look.result c.look.ensures.seen c.look.ensures.part) c.look.ensures.part c.fill.ensures.others
+    let d = (goal.at.returns-in_err-fill-clause-others c).After-look in
+    then_others d c.look.new.self c.fill.new.end (looked d) (looked_others d) c.fill.ensures.others
 
 pub returns-in_err-spend-2-clause-others : goal.returns-in_err-spend-2-clause-others
 returns-in_err-spend-2-clause-others c =
-    let cell = c.next_to_send-cell in
-    filled_others c.args.end.now c.look.new.self c.fill.new.end cell.result c.args.kind c.args.packet.now.target c.look.result cell.ensures.next
-    cell.ensures.cell.0 (cell.ensures.cell.1 ∙ c.target_of.ensures)
-    (look_still c.args.end.now c.look.new.self cell.result c.look.result c.look.ensures.seen c.look.ensures.part) c.look.ensures.part c.fill.ensures.others
+    let d = (goal.at.returns-in_err-spend-2-clause-others c).After-look in
+    then_others d c.look.new.self c.fill.new.end (looked d) (looked_others d) c.fill.ensures.others
 
 pub returns-clause-others : goal.returns-clause-others
 returns-clause-others c =
-    let cell = c.next_to_send-cell in
+    let d = (goal.at.returns-clause-others c).After-look in
     let mid = c.fill.new.end in
-    let still = look_still c.args.end.now c.look.new.self cell.result c.look.result c.look.ensures.seen c.look.ensures.part in
-    let lane = lane_still c.args.end.now mid cell.result (still_then c.args.end.now c.look.new.self mid still c.fill.ensures.still)
-    ∙ lane_there c.args.end.now.part cell.result c.args.kind c.args.packet.now.target cell.ensures.next cell.ensures.cell.0
-    (cell.ensures.cell.1 ∙ c.target_of.ensures) in
-    others_then _ c.args.end.now.part mid.part c.publish.new.self.part
-    (filled_others c.args.end.now c.look.new.self mid cell.result c.args.kind c.args.packet.now.target c.look.result cell.ensures.next cell.ensures.cell.0
-    (cell.ensures.cell.1 ∙ c.target_of.ensures) still c.look.ensures.part c.fill.ensures.others)
-    (subst (λ (l : ℕ). LeavesOthers l mid.part c.publish.new.self.part) lane (publish_others mid c.publish.new.self cell.result _ c.publish.ensures.part))
+    then_others d mid c.publish.new.self (filled (goal.at.returns-clause-others c).After-fill)
+    (then_others d c.look.new.self mid (looked d) (looked_others d) c.fill.ensures.others)
+    (known_others mid c.publish.new.self (lane_at_cell mid.part c.next_to_send-cell.result) _ (ap (λ (x : EndOf). x.part.inbound) c.publish.ensures.part))
 
 pub returns-clause-made : goal.returns-clause-made
 returns-clause-made c = λ _.
-    let still = still_then c.args.end.now c.look.new.self c.fill.new.end
-    (look_still c.args.end.now c.look.new.self c.next_to_send-cell.result c.look.result c.look.ensures.seen c.look.ensures.part) c.fill.ensures.still in
-    made_later c.args.end.now c.fill.new.end c.args.event.now c.publish.new.self.part.schedule still c.publish.ensures.made
+    made_later c.args.end.now c.fill.new.end c.args.event.now c.publish.new.self.part.schedule (filled (goal.at.returns-clause-made c).After-fill)
+    c.publish.ensures.made

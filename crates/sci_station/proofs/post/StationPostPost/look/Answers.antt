@@ -1,26 +1,16 @@
-use Rattle.std.proofs.Common.{◌≡◌, ◌<◌, ℕ, false, List, refl, sym, ap, subst, ◌∙◌}
+use Rattle.std.proofs.Common.{◌≡◌, ◌<◌, ℕ, refl, sym, ap, subst, ◌∙◌}
 use Rattle.sci_core.specs.declared.lane.LaneKind.{LaneKind}
-use Rattle.sci_core.specs.Core.{lane_place}
 use Rattle.sci_lanes.specs.Ends.{EndOf, nodes_in}
-use Rattle.sci_lanes.specs.Shown.{me_of}
 use Rattle.sci_lanes.specs.Telling.{IsShown, state_of}
 use Rattle.sci_turn.specs.Posts.{IsStill as IsStillPost}
 use Rattle.sci_core.proofs.Basics.Options.{of_some}
 use Rattle.sci_station.specs.declared.receiving.Seen.{Seen}
 use Rattle.sci_station.proofs.Stills.{still_then as stills}
-use Rattle.sci_station.specs.Ends.{IsStill, LeavesOthers}
-use Rattle.sci_station.specs.Posts.{IsRead, KeptOf, Remembers, StationPostOf, is_kept, post_of}
+use Rattle.sci_station.specs.Posts.{IsRead, Remembers, StationPostOf, post_of}
 use Rattle.sci_station.proofs.Posts.{post_nodes, still_post}
 use Rattle.sci_station.proofs.Remembering.{apart_looked, remembers_still}
 use Rattle.sci_station.proofs.post.StationPostPost.look.Goals as goal
-
--- the lane was looked at
-looked : (old new : EndOf) (unanswered : List ℕ) (kept : KeptOf) (kind : LaneKind) (from : ℕ) → Remembers old unanswered kept → IsShown new.part
-    → IsStill old new → from < nodes_in old.part → LeavesOthers (lane_place (nodes_in old.part) kind from (me_of old.part)) old.part new.part
-    → is_kept kept kind from ≡ false
-    → Remembers new unanswered kept
-looked old new unanswered kept kind from r t still lt others none =
-    remembers_still old new unanswered kept _ r t still others (apart_looked kept old.part kind from r.shown lt none)
+use Rattle.sci_station.proofs.post.StationPostPost.look.Goals.{After-node-node, After-read}
 
 -- the sender is there
 there : (x : StationPostOf) (end : EndOf) (from : ℕ) → IsShown end.part → end ≡ x.end → from < (state_of x.end.part).size.nodes → from < nodes_in end.part
@@ -34,56 +24,51 @@ returns-then-is_kept-clause-seen c =
 pub see-seen-requires : goal.see-seen-requires
 see-seen-requires c = there c.args.self.now c.self.inside.end c.args.from c.self.invariant.shown (ap (λ (p : StationPostOf). p.end) c.self.view_is) c.requires
 
-pub invariant_of-self : goal.invariant_of-self
-invariant_of-self c =
+-- the lane was looked at
+looked : (c : After-node-node) → Remembers c.see-seen.new.end c.self.inside.unanswered c.self.inside.kept
+looked c =
     let s = c.self.inside in
-    looked s.end c.see-seen.new.end s.unanswered s.kept c.args.kind c.args.from c.self.invariant c.node-node.ensures.shown c.see-seen.ensures.still
-    (there c.args.self.now s.end c.args.from c.self.invariant.shown (ap (λ (p : StationPostOf). p.end) c.self.view_is) c.requires) c.see-seen.ensures.others
-    (sym c.is_kept.ensures ∙ c.if-is_kept.false)
+    remembers_still s.end c.see-seen.new.end s.unanswered s.kept _ c.self.invariant c.node-node.ensures.shown c.see-seen.ensures.still
+    c.see-seen.ensures.others
+    (apart_looked s.kept s.end.part c.args.kind c.args.from c.self.invariant.shown
+    (there c.args.self.now s.end c.args.from c.self.invariant.shown (ap (λ (p : StationPostOf). p.end) c.self.view_is) c.requires)
+    (sym c.is_kept.ensures ∙ c.if-is_kept.false))
 
-pub returns-in_err-seen-clause-still : goal.returns-in_err-seen-clause-still
-returns-in_err-seen-clause-still c =
-    let s = c.self.inside in
+still : (c : After-node-node) → IsStillPost (post_of c.args.self.now.end) (post_of c.see-seen.new.end)
+still c =
     let new = c.see-seen.new.end in
     subst (λ (p : StationPostOf). IsStillPost (post_of p.end) (post_of new)) c.self.view_is
-    (still_post s.end new c.self.invariant.shown c.node-node.ensures.shown c.see-seen.ensures.still.node c.see-seen.ensures.still.seen)
+    (still_post c.self.inside.end new c.self.invariant.shown c.node-node.ensures.shown c.see-seen.ensures.still.node c.see-seen.ensures.still.seen)
+
+-- and a packet was read
+still_read : (c : After-read) → IsStillPost (post_of c.args.self.now.end) (post_of c.read.new.self.end)
+still_read c =
+    let s = c.self.inside in
+    let new = c.read.new.self.end in
+    let both = stills s.end c.see-seen.new.end new c.see-seen.ensures.still c.read.ensures.still in
+    subst (λ (p : StationPostOf). IsStillPost (post_of p.end) (post_of new)) c.self.view_is
+    (still_post s.end new c.self.invariant.shown c.read.ensures.shown both.node both.seen)
+
+pub invariant_of-self : goal.invariant_of-self
+invariant_of-self c = looked (goal.at.invariant_of-self c).After-node-node
 
 pub invariant_of-self-in-Some : goal.invariant_of-self-in-Some
-invariant_of-self-in-Some c =
-    let s = c.self.inside in
-    looked s.end c.see-seen.new.end s.unanswered s.kept c.args.kind c.args.from c.self.invariant c.node-node.ensures.shown c.see-seen.ensures.still
-    (there c.args.self.now s.end c.args.from c.self.invariant.shown (ap (λ (p : StationPostOf). p.end) c.self.view_is) c.requires) c.see-seen.ensures.others
-    (sym c.is_kept.ensures ∙ c.if-is_kept.false)
+invariant_of-self-in-Some c = looked (goal.at.invariant_of-self-in-Some c).After-node-node
 
 pub invariant_of-self-in-None : goal.invariant_of-self-in-None
-invariant_of-self-in-None c =
-    let s = c.self.inside in
-    looked s.end c.see-seen.new.end s.unanswered s.kept c.args.kind c.args.from c.self.invariant c.node-node.ensures.shown c.see-seen.ensures.still
-    (there c.args.self.now s.end c.args.from c.self.invariant.shown (ap (λ (p : StationPostOf). p.end) c.self.view_is) c.requires) c.see-seen.ensures.others
-    (sym c.is_kept.ensures ∙ c.if-is_kept.false)
+invariant_of-self-in-None c = looked (goal.at.invariant_of-self-in-None c).After-node-node
+
+pub returns-in_err-seen-clause-still : goal.returns-in_err-seen-clause-still
+returns-in_err-seen-clause-still c = still (goal.at.returns-in_err-seen-clause-still c).After-node-node
 
 pub returns-in-None-clause-still : goal.returns-in-None-clause-still
-returns-in-None-clause-still c =
-    let s = c.self.inside in
-    let new = c.see-seen.new.end in
-    subst (λ (p : StationPostOf). IsStillPost (post_of p.end) (post_of new)) c.self.view_is
-    (still_post s.end new c.self.invariant.shown c.node-node.ensures.shown c.see-seen.ensures.still.node c.see-seen.ensures.still.seen)
+returns-in-None-clause-still c = still (goal.at.returns-in-None-clause-still c).After-node-node
 
 pub returns-in_err-read-in-Some-clause-still : goal.returns-in_err-read-in-Some-clause-still
-returns-in_err-read-in-Some-clause-still c =
-    let s = c.self.inside in
-    let new = c.read.new.self.end in
-    let both = stills s.end c.see-seen.new.end new c.see-seen.ensures.still c.read.ensures.still in
-    subst (λ (p : StationPostOf). IsStillPost (post_of p.end) (post_of new)) c.self.view_is
-    (still_post s.end new c.self.invariant.shown c.read.ensures.shown both.node both.seen)
+returns-in_err-read-in-Some-clause-still c = still_read (goal.at.returns-in_err-read-in-Some-clause-still c).After-read
 
 pub returns-in_ok-read-in-Some-clause-still : goal.returns-in_ok-read-in-Some-clause-still
-returns-in_ok-read-in-Some-clause-still c =
-    let s = c.self.inside in
-    let new = c.read.new.self.end in
-    let both = stills s.end c.see-seen.new.end new c.see-seen.ensures.still c.read.ensures.still in
-    subst (λ (p : StationPostOf). IsStillPost (post_of p.end) (post_of new)) c.self.view_is
-    (still_post s.end new c.self.invariant.shown c.read.ensures.shown both.node both.seen)
+returns-in_ok-read-in-Some-clause-still c = still_read (goal.at.returns-in_ok-read-in-Some-clause-still c).After-read
 
 pub returns-in_ok-read-in-Some-clause-seen : goal.returns-in_ok-read-in-Some-clause-seen
 returns-in_ok-read-in-Some-clause-seen c = λ _.

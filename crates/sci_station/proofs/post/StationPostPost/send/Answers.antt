@@ -19,6 +19,7 @@ use Rattle.sci_station.proofs.Owing.{adds_one}
 use Rattle.sci_station.proofs.Posts.{made_post, node_there, post_nodes, still_post}
 use Rattle.sci_station.proofs.Remembering.{apart_sent, few_owed, owing_sent, remembers_sent, remembers_still}
 use Rattle.sci_station.proofs.post.StationPostPost.send.Goals as goal
+use Rattle.sci_station.proofs.post.StationPostPost.send.Goals.{After-node-node, After-target_of-to}
 
 -- what the turn tells of the packet, as the end sees it
 record May (end : EndOf) (kind : LaneKind) (letter : Letter) (e : Event) : Type 0 where
@@ -36,51 +37,47 @@ may x end kind letter e s is send = subst (λ (d : EndOf). IsShown d.part → Ma
   side_is = ap (λ (n : NodeOf). side n e) (sym (node_there x.end.part t)) ∙ send.side_is;
 }) s
 
--- nothing was sent
-unsent : (old new : EndOf) (unanswered : List ℕ) (kept : KeptOf) (kind : LaneKind) (letter : Letter) → Remembers old unanswered kept → IsShown new.part
-    → IsStill old new → letter.target < nodes_in old.part
-    → LeavesOthers (lane_place (nodes_in old.part) kind (me_of old.part) letter.target) old.part new.part → Remembers new unanswered kept
-unsent old new unanswered kept kind letter r t still lt others =
-    remembers_still old new unanswered kept _ r t still others (apart_sent kept old.part kind letter.target r.shown lt)
-
 pub target_of-to-requires : goal.target_of-to-requires
 target_of-to-requires c = (may c.args.self.now c.self.inside.end c.args.kind (letter_of c.args.packet.now) c.args.event.now c.self.invariant.shown
     (ap (λ (p : StationPostOf). p.end) c.self.view_is) c.requires).target
 
+may_here : (c : After-target_of-to) → May c.self.inside.end c.args.kind (letter_of c.args.packet.now) c.args.event.now
+may_here c = may c.args.self.now c.self.inside.end c.args.kind (letter_of c.args.packet.now) c.args.event.now c.self.invariant.shown
+    (ap (λ (p : StationPostOf). p.end) c.self.view_is) c.requires
+
 pub send-sent-requires-clause-target : goal.send-sent-requires-clause-target
-send-sent-requires-clause-target c =
-    (may c.args.self.now c.self.inside.end c.args.kind (letter_of c.args.packet.now) c.args.event.now c.self.invariant.shown
-    (ap (λ (p : StationPostOf). p.end) c.self.view_is) c.requires).target
+send-sent-requires-clause-target c = (may_here (goal.at.send-sent-requires-clause-target c).After-target_of-to).target
+
+-- nothing was sent
+unsent : (c : After-node-node) → IsStill c.self.inside.end c.send-sent.new.end → c.args.packet.now.target < nodes_in c.self.inside.end.part
+    → Remembers c.send-sent.new.end c.self.inside.unanswered c.self.inside.kept
+unsent c still lt =
+    let s = c.self.inside in
+    remembers_still s.end c.send-sent.new.end s.unanswered s.kept _ c.self.invariant c.node-node.ensures.shown still c.send-sent.ensures.others
+    (apart_sent s.kept s.end.part c.args.kind c.args.packet.now.target c.self.invariant.shown lt)
+
+still_here : (c : After-node-node) → IsStill c.self.inside.end c.send-sent.new.end
+    → IsStillPost (post_of c.args.self.now.end) (post_of c.send-sent.new.end)
+still_here c still =
+    subst (λ (p : StationPostOf). IsStillPost (post_of p.end) (post_of c.send-sent.new.end)) c.self.view_is
+    (still_post c.self.inside.end c.send-sent.new.end c.self.invariant.shown c.node-node.ensures.shown still.node still.seen)
 
 pub invariant_of-self : goal.invariant_of-self
 invariant_of-self c =
-    let s = c.self.inside in
-    unsent s.end c.send-sent.new.end s.unanswered s.kept c.args.kind (letter_of c.args.packet.now) c.self.invariant c.node-node.ensures.shown
-    (c.in_err-sent.ensures.cut refl)
-    (may c.args.self.now s.end c.args.kind (letter_of c.args.packet.now) c.args.event.now c.self.invariant.shown
-    (ap (λ (p : StationPostOf). p.end) c.self.view_is) c.requires).target c.send-sent.ensures.others
+    let d = goal.at.invariant_of-self c in
+    unsent d.After-node-node (c.in_err-sent.ensures.cut refl) (may_here d.After-target_of-to).target
 
 pub returns-in_err-sent-clause-cut : goal.returns-in_err-sent-clause-cut
-returns-in_err-sent-clause-cut c = λ _.
-    let s = c.self.inside in
-    let still = (c.in_err-sent.ensures.cut refl) in
-    subst (λ (p : StationPostOf). IsStillPost (post_of p.end) (post_of c.send-sent.new.end)) c.self.view_is
-    (still_post s.end c.send-sent.new.end c.self.invariant.shown c.node-node.ensures.shown still.node still.seen)
+returns-in_err-sent-clause-cut c = λ _. still_here (goal.at.returns-in_err-sent-clause-cut c).After-node-node (c.in_err-sent.ensures.cut refl)
 
 pub invariant_of-self-then-not-branch : goal.invariant_of-self-then-not-branch
 invariant_of-self-then-not-branch c =
-    let s = c.self.inside in
-    unsent s.end c.send-sent.new.end s.unanswered s.kept c.args.kind (letter_of c.args.packet.now) c.self.invariant c.node-node.ensures.shown
-    (c.in_ok-sent.ensures.full c.if-not-branch.true)
-    (may c.args.self.now s.end c.args.kind (letter_of c.args.packet.now) c.args.event.now c.self.invariant.shown
-    (ap (λ (p : StationPostOf). p.end) c.self.view_is) c.requires).target c.send-sent.ensures.others
+    let d = goal.at.invariant_of-self-then-not-branch c in
+    unsent d.After-node-node (c.in_ok-sent.ensures.full c.if-not-branch.true) (may_here d.After-target_of-to).target
 
 pub returns-then-not-branch-clause-still : goal.returns-then-not-branch-clause-still
 returns-then-not-branch-clause-still c = λ _.
-    let s = c.self.inside in
-    let still = (c.in_ok-sent.ensures.full c.if-not-branch.true) in
-    subst (λ (p : StationPostOf). IsStillPost (post_of p.end) (post_of c.send-sent.new.end)) c.self.view_is
-    (still_post s.end c.send-sent.new.end c.self.invariant.shown c.node-node.ensures.shown still.node still.seen)
+    still_here (goal.at.returns-then-not-branch-clause-still c).After-node-node (c.in_ok-sent.ensures.full c.if-not-branch.true)
 
 -- what is remembered after a packet was sent
 sent : (old new : EndOf) (unanswered counts : List ℕ) (kept : KeptOf) (kind : LaneKind) (letter : Letter) (e : Event) → Remembers old unanswered kept
@@ -95,8 +92,7 @@ invariant_of-self-in-Answers c =
     let s = c.self.inside in
     sent s.end c.send-sent.new.end s.unanswered s.unanswered s.kept c.args.kind (letter_of c.args.packet.now) c.args.event.now c.self.invariant
     c.node-node.ensures.shown c.send-sent.ensures.same.node (c.in_ok-sent.ensures.made c.if-not-branch.false)
-    (may c.args.self.now s.end c.args.kind (letter_of c.args.packet.now) c.args.event.now c.self.invariant.shown
-    (ap (λ (p : StationPostOf). p.end) c.self.view_is) c.requires) c.send-sent.ensures.others
+    (may_here (goal.at.invariant_of-self-in-Answers c).After-target_of-to) c.send-sent.ensures.others
     (λ node. subst (λ (k : LaneKind). slice_index s.unanswered node ≡ slice_index s.unanswered node + adds_one k c.args.packet.now.target node)
     (sym c.in-Answers.is) (omega arith))
 
@@ -116,16 +112,14 @@ asked-requires-clause-few c =
     few_there s.end c.send-sent.new.end s.unanswered s.kept (letter_of c.args.packet.now) c.args.event.now c.target_of-to.result c.self.invariant
     c.node-node.ensures.shown c.send-sent.ensures.same.node (c.in_ok-sent.ensures.made c.if-not-branch.false)
     (subst (λ (k : LaneKind). May s.end k (letter_of c.args.packet.now) c.args.event.now) c.in-Requests.is
-    (may c.args.self.now s.end c.args.kind (letter_of c.args.packet.now) c.args.event.now c.self.invariant.shown
-    (ap (λ (p : StationPostOf). p.end) c.self.view_is) c.requires)) c.target_of-to.ensures
+    (may_here (goal.at.asked-requires-clause-few c).After-target_of-to)) c.target_of-to.ensures
 
 pub invariant_of-self-in-Requests : goal.invariant_of-self-in-Requests
 invariant_of-self-in-Requests c =
     let s = c.self.inside in
     sent s.end c.send-sent.new.end s.unanswered c.asked.new.self s.kept c.args.kind (letter_of c.args.packet.now) c.args.event.now c.self.invariant
     c.node-node.ensures.shown c.send-sent.ensures.same.node (c.in_ok-sent.ensures.made c.if-not-branch.false)
-    (may c.args.self.now s.end c.args.kind (letter_of c.args.packet.now) c.args.event.now c.self.invariant.shown
-    (ap (λ (p : StationPostOf). p.end) c.self.view_is) c.requires) c.send-sent.ensures.others
+    (may_here (goal.at.invariant_of-self-in-Requests c).After-target_of-to) c.send-sent.ensures.others
     (λ node. subst (λ (k : LaneKind). slice_index c.asked.new.self node ≡ slice_index s.unanswered node + adds_one k c.args.packet.now.target node)
     (sym c.in-Requests.is) (one_more c.asked.new.self s.unanswered c.target_of-to.result c.args.packet.now.target node c.target_of-to.ensures
     c.asked.ensures.here (c.asked.ensures.others node)))
@@ -140,18 +134,17 @@ invariant_of-self-in-Requests c =
           | inr apart ↦ (let one = ap one_if (ne_eqb target node apart) in let there = others (λ e. apart (sym (e ∙ is))) in omega arith)
         ]
 
-pub returns-in-Answers-clause-sent : goal.returns-in-Answers-clause-sent
-returns-in-Answers-clause-sent c = λ _.
-    let s = c.self.inside in
+made_here : (c : After-node-node) → WasMade c.self.inside.end.part c.args.event.now c.send-sent.new.end.part.schedule
+    → IsMade (post_of c.args.self.now.end) c.args.event.now (post_of c.send-sent.new.end)
+made_here c made =
     let new = c.send-sent.new.end in
     subst (λ (p : StationPostOf). IsMade (post_of p.end) c.args.event.now (post_of new)) c.self.view_is
-    (made_post s.end new c.args.event.now c.self.invariant.shown c.node-node.ensures.shown c.send-sent.ensures.same.node
-    (c.in_ok-sent.ensures.made c.if-not-branch.false))
+    (made_post c.self.inside.end new c.args.event.now c.self.invariant.shown c.node-node.ensures.shown c.send-sent.ensures.same.node made)
+
+pub returns-in-Answers-clause-sent : goal.returns-in-Answers-clause-sent
+returns-in-Answers-clause-sent c = λ _.
+    made_here (goal.at.returns-in-Answers-clause-sent c).After-node-node (c.in_ok-sent.ensures.made c.if-not-branch.false)
 
 pub returns-in-Requests-clause-sent : goal.returns-in-Requests-clause-sent
 returns-in-Requests-clause-sent c = λ _.
-    let s = c.self.inside in
-    let new = c.send-sent.new.end in
-    subst (λ (p : StationPostOf). IsMade (post_of p.end) c.args.event.now (post_of new)) c.self.view_is
-    (made_post s.end new c.args.event.now c.self.invariant.shown c.node-node.ensures.shown c.send-sent.ensures.same.node
-    (c.in_ok-sent.ensures.made c.if-not-branch.false))
+    made_here (goal.at.returns-in-Requests-clause-sent c).After-node-node (c.in_ok-sent.ensures.made c.if-not-branch.false)

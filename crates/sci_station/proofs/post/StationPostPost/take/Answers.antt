@@ -1,15 +1,14 @@
 use Rattle.std.proofs.Common.{◌≡◌, ◌≢◌, ◌+◌, ℕ, false, List, set, sym, ap, subst, ◌∙◌, arith, inl, inr}
 use Rattle.std.specs.Prelude.{◌==◌, slice_index}
 use Rattle.std.proofs.lemmas.Bool.{cases_eq, eq-eqb, ne_eqb}
-use Rattle.sci_words.specs.declared.event.Event.{Event}
 use Rattle.sci_cache.specs.Cache.{Letter}
 use Rattle.sci_core.specs.Node.{NodeOf}
 use Rattle.sci_core.specs.declared.lane.LaneKind.{LaneKind}
 use Rattle.sci_core.specs.Core.{lane_place, side}
 use Rattle.sci_core.specs.Draining.{one_if}
 use Rattle.sci_lanes.specs.declared.cell.CellId.{CellId}
-use Rattle.sci_lanes.specs.Ends.{EndOf, IsNextToTake, MayFree, freed_at, informed_at, lane_at_cell, nodes_in}
-use Rattle.sci_lanes.specs.Telling.{IsMade as WasMade, IsSameNode, IsShown, IsTaken as WasTaken}
+use Rattle.sci_lanes.specs.Ends.{EndOf, IsNextToTake, MayFree, lane_at_cell, nodes_in}
+use Rattle.sci_lanes.specs.Telling.{IsTaken as WasTaken}
 use Rattle.sci_turn.specs.Posts.{IsFront, IsStill, IsTaken, MayTakeFront}
 use Rattle.sci_turn.proofs.Stills.{still_itself}
 use Rattle.sci_station.specs.Ends.{LeavesOthers}
@@ -17,8 +16,9 @@ use Rattle.sci_station.specs.Posts.{IsRead, KeptOf, Remembers, StationPostOf, is
 use Rattle.sci_station.proofs.Posts.{made_post, may_free, node_there, taken_post}
 use Rattle.sci_station.proofs.Remembering.{none_kept, remembers_no_more, remembers_taken, sender_there}
 use Rattle.sci_station.proofs.Owing.{takes_one}
-use Rattle.sci_station.proofs.Stills.{free_others, next_same}
+use Rattle.sci_station.proofs.Stills.{known_others, next_same}
 use Rattle.sci_station.proofs.post.StationPostPost.take.Goals as goal
+use Rattle.sci_station.proofs.post.StationPostPost.take.Goals.{After-free}
 
 pub returns-in_err-spend-clause-cut : goal.returns-in_err-spend-clause-cut
 returns-in_err-spend-clause-cut c =
@@ -40,29 +40,35 @@ free-requires-clause-may c =
     (may_free end read.cell read.packet c.args.kind c.args.from c.args.event.now read.read read.kind_is read.sender_is
     (subst (λ (p : StationPostOf). MayTakeFront (post_of p.end) c.args.kind c.args.from c.args.event.now) (sym is) c.requires.may))
 
--- what is remembered after a packet was taken
-took : (old new : EndOf) (unanswered counts : List ℕ) (before kept : KeptOf) (kind : LaneKind) (from : ℕ) (cell : CellId) (e : Event)
-    → Remembers old unanswered kept → IsRead old before kind from → IsShown new.part → IsSameNode old.part new.part → WasMade old.part e new.part.schedule
-    → MayTakeFront (post_of old) kind from e → IsNextToTake old.part cell → cell.kind ≡ kind → cell.sender ≡ from
-    → new ≡ informed_at new.part.schedule (freed_at cell new.part.node old) → is_kept kept kind from ≡ false
-    → ((node : ℕ) → slice_index counts node + takes_one kind from node ≡ slice_index unanswered node) → Remembers new counts kept
-took old new unanswered counts before kept kind from cell e r read t same was may next k f is none counted =
-    let take = may.1 in
-    remembers_taken old new unanswered counts kept kind from take.taking e r t same (made_post old new e r.shown t same was) take.own
-    (ap (λ (n : NodeOf). side n e) (sym (node_there old.part r.shown)) ∙ take.side_is) (sender_there old before kind from read) none
-    (subst (λ (l : ℕ). LeavesOthers l old.part new.part) (λ i. lane_place (nodes_in old.part) (k i) (f i) (next.mine i))
-    (free_others old new cell new.part.node is)) counted
+-- what the turn knows of the packet, as the end sees it
+seen : (c : After-free) → IsRead c.self.inside.end c.self.inside.kept c.args.kind c.args.from
+seen c = subst (λ (p : StationPostOf). IsRead p.end p.kept c.args.kind c.args.from) (sym c.self.view_is) c.requires.sees
+
+may : (c : After-free) → MayTakeFront (post_of c.self.inside.end) c.args.kind c.args.from c.args.event.now
+may c = subst (λ (p : StationPostOf). MayTakeFront (post_of p.end) c.args.kind c.args.from c.args.event.now) (sym c.self.view_is) c.requires.may
+
+-- what is remembered after it was taken
+took : (c : After-free) (counts : List ℕ) (kept : KeptOf) → Remembers c.self.inside.end c.self.inside.unanswered kept
+    → is_kept kept c.args.kind c.args.from ≡ false
+    → ((node : ℕ) → slice_index counts node + takes_one c.args.kind c.args.from node ≡ slice_index c.self.inside.unanswered node)
+    → Remembers c.free.new.self counts kept
+took c counts kept r none counted =
+    let old = c.self.inside.end in
+    let new = c.free.new.self in
+    let e = c.args.event.now in
+    let cell = c.next_to_take-cell.ensures in
+    let f = c.free.ensures in
+    let take = (may c).1 in
+    remembers_taken old new c.self.inside.unanswered counts kept c.args.kind c.args.from take.taking e r f.shown f.same
+    (made_post old new e r.shown f.shown f.same f.oldest.made) take.own (ap (λ (n : NodeOf). side n e) (sym (node_there old.part r.shown)) ∙ take.side_is)
+    (sender_there old c.self.inside.kept c.args.kind c.args.from (seen c)) none
+    (subst (λ (l : ℕ). LeavesOthers l old.part new.part) (λ i. lane_place (nodes_in old.part) (cell.cell.0 i) (cell.cell.1 i) (cell.next.mine i))
+    (known_others old new (lane_at_cell old.part c.next_to_take-cell.result) _ (ap (λ (x : EndOf). x.part.inbound) f.part))) counted
 
 pub invariant_of-self-in-Answers : goal.invariant_of-self-in-Answers
 invariant_of-self-in-Answers c =
     let s = c.self.inside in
-    let is = c.self.view_is in
-    let cell = c.next_to_take-cell in
-    took s.end c.free.new.self s.unanswered c.accepted.new.self s.kept s.kept c.args.kind c.args.from cell.result c.args.event.now c.self.invariant
-    (subst (λ (p : StationPostOf). IsRead p.end p.kept c.args.kind c.args.from) (sym is) c.requires.sees)
-    c.free.ensures.shown c.free.ensures.same c.free.ensures.oldest.made
-    (subst (λ (p : StationPostOf). MayTakeFront (post_of p.end) c.args.kind c.args.from c.args.event.now) (sym is) c.requires.may) cell.ensures.next
-    cell.ensures.cell.0 cell.ensures.cell.1 c.free.ensures.part
+    took (goal.at.invariant_of-self-in-Answers c).After-free c.accepted.new.self s.kept c.self.invariant
     (ap (λ (k : LaneKind). is_kept s.kept k c.args.from) c.in-Answers.is)
     (λ node. subst (λ (k : LaneKind). slice_index c.accepted.new.self node + takes_one k c.args.from node ≡ slice_index s.unanswered node) (sym c.in-Answers.is)
     (one_less c.accepted.new.self s.unanswered c.args.from node c.accepted.ensures.here (c.accepted.ensures.others node)))
@@ -80,51 +86,31 @@ invariant_of-self-in-Answers c =
 pub invariant_of-self-in-Requests : goal.invariant_of-self-in-Requests
 invariant_of-self-in-Requests c =
     let s = c.self.inside in
-    let is = c.self.view_is in
-    let cell = c.next_to_take-cell in
-    let new = c.free.new.self in
     let after : KeptOf = record s.kept { marks = set s.kept.marks c.args.from false } in
-    subst (λ (k : KeptOf). Remembers new s.unanswered k) (sym c.request_taken.ensures)
-    (took s.end new s.unanswered s.unanswered s.kept after c.args.kind c.args.from cell.result c.args.event.now
-    (remembers_no_more s.end s.unanswered s.kept c.args.from c.self.invariant)
-    (subst (λ (p : StationPostOf). IsRead p.end p.kept c.args.kind c.args.from) (sym is) c.requires.sees)
-    c.free.ensures.shown c.free.ensures.same c.free.ensures.oldest.made
-    (subst (λ (p : StationPostOf). MayTakeFront (post_of p.end) c.args.kind c.args.from c.args.event.now) (sym is) c.requires.may) cell.ensures.next
-    cell.ensures.cell.0 cell.ensures.cell.1 c.free.ensures.part
+    subst (λ (k : KeptOf). Remembers c.free.new.self s.unanswered k) (sym c.request_taken.ensures)
+    (took (goal.at.invariant_of-self-in-Requests c).After-free s.unanswered after (remembers_no_more s.end s.unanswered s.kept c.args.from c.self.invariant)
     (subst (λ (k : LaneKind). is_kept after k c.args.from ≡ false) (sym c.in-Requests.is) (none_kept s.kept c.args.from))
     (λ node. subst (λ (k : LaneKind). slice_index s.unanswered node + takes_one k c.args.from node ≡ slice_index s.unanswered node) (sym c.in-Requests.is)
     (omega arith)))
 
 -- the packet that was taken
-took_front : (x : StationPostOf) (old new : EndOf) (kept : KeptOf) (kind : LaneKind) (from : ℕ) (cell : CellId) (e : Event) (letter : Letter) → old ≡ x.end
-    → IsRead old kept kind from → IsShown new.part → IsSameNode old.part new.part → MayTakeFront (post_of old) kind from e
-    → IsNextToTake old.part cell → cell.kind ≡ kind → cell.sender ≡ from → WasTaken old.part (lane_at_cell old.part cell) e new.part.schedule
-    → IsFront (post_of x.end) kind from letter → IsTaken (post_of x.end) kind from letter e (post_of new)
-took_front x old new kept kind from cell e letter is read t same may next k f was front =
-    let there = cell_read old kept kind from cell read next k f in
-    subst (λ (end : EndOf). IsTaken (post_of end) kind from letter e (post_of new)) is
-    (taken_post old new read.cell read.packet kind from e letter t same read.read read.kind_is read.sender_is may
-    (subst (λ (k : CellId). WasTaken old.part (lane_at_cell old.part k) e new.part.schedule) (sym there) was)
-    (subst (λ (end : EndOf). IsFront (post_of end) kind from letter) (sym is) front))
+took_front : (c : After-free) (letter : Letter) → IsFront (post_of c.args.self.now.end) c.args.kind c.args.from letter
+    → IsTaken (post_of c.args.self.now.end) c.args.kind c.args.from letter c.args.event.now (post_of c.free.new.self)
+took_front c letter front =
+    let old = c.self.inside.end in
+    let new = c.free.new.self in
+    let e = c.args.event.now in
+    let cell = c.next_to_take-cell in
+    let read = seen c in
+    let there = cell_read old c.self.inside.kept c.args.kind c.args.from cell.result read cell.ensures.next cell.ensures.cell.0 cell.ensures.cell.1 in
+    let is = ap (λ (p : StationPostOf). p.end) c.self.view_is in
+    subst (λ (end : EndOf). IsTaken (post_of end) c.args.kind c.args.from letter e (post_of new)) is
+    (taken_post old new read.cell read.packet c.args.kind c.args.from e letter c.free.ensures.shown c.free.ensures.same read.read read.kind_is read.sender_is
+    (may c) (subst (λ (k : CellId). WasTaken old.part (lane_at_cell old.part k) e new.part.schedule) (sym there) c.free.ensures.oldest)
+    (subst (λ (end : EndOf). IsFront (post_of end) c.args.kind c.args.from letter) (sym is) front))
 
 pub returns-in-Answers-clause-taken : goal.returns-in-Answers-clause-taken
-returns-in-Answers-clause-taken c = λ letter front.
-    let s = c.self.inside in
-    let is = c.self.view_is in
-    let cell = c.next_to_take-cell in
-    took_front c.args.self.now s.end c.free.new.self s.kept c.args.kind c.args.from cell.result c.args.event.now letter (ap (λ (p : StationPostOf). p.end) is)
-    (subst (λ (p : StationPostOf). IsRead p.end p.kept c.args.kind c.args.from) (sym is) c.requires.sees)
-    c.free.ensures.shown c.free.ensures.same
-    (subst (λ (p : StationPostOf). MayTakeFront (post_of p.end) c.args.kind c.args.from c.args.event.now) (sym is) c.requires.may) cell.ensures.next
-    cell.ensures.cell.0 cell.ensures.cell.1 c.free.ensures.oldest front
+returns-in-Answers-clause-taken c = took_front (goal.at.returns-in-Answers-clause-taken c).After-free
 
 pub returns-in-Requests-clause-taken : goal.returns-in-Requests-clause-taken
-returns-in-Requests-clause-taken c = λ letter front.
-    let s = c.self.inside in
-    let is = c.self.view_is in
-    let cell = c.next_to_take-cell in
-    took_front c.args.self.now s.end c.free.new.self s.kept c.args.kind c.args.from cell.result c.args.event.now letter (ap (λ (p : StationPostOf). p.end) is)
-    (subst (λ (p : StationPostOf). IsRead p.end p.kept c.args.kind c.args.from) (sym is) c.requires.sees)
-    c.free.ensures.shown c.free.ensures.same
-    (subst (λ (p : StationPostOf). MayTakeFront (post_of p.end) c.args.kind c.args.from c.args.event.now) (sym is) c.requires.may) cell.ensures.next
-    cell.ensures.cell.0 cell.ensures.cell.1 c.free.ensures.oldest front
+returns-in-Requests-clause-taken c = took_front (goal.at.returns-in-Requests-clause-taken c).After-free
