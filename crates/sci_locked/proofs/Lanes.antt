@@ -12,7 +12,7 @@ use Rattle.sci_core.specs.declared.lane.LaneKind.{LaneKind}
 use Rattle.sci_core.specs.Core.{Core, Sends, Takes, lane_at, lane_of, lane_place, node_at, node_of, sent_by, side, stepping, taken_as, taken_from, with_lane}
 use Rattle.sci_core.specs.Core.{with_node}
 use Rattle.sci_core.specs.Node.{NodeOf}
-use Rattle.sci_turn.specs.Posts.{IsMade, IsStill, IsTaken, MayTake, OthersLead}
+use Rattle.sci_turn.specs.Posts.{IsFront, IsMade, IsStill, IsTaken, MayTakeFront, OthersLead}
 use Rattle.sci_turn.proofs.Stills.{still_itself}
 use Rattle.sci_turn.proofs.Working.{stepped}
 use Rattle.sci_locked.specs.Lent.{KeepsRoom, post_at}
@@ -84,16 +84,9 @@ pub front_of : (lane : List Letter) (letter : Letter) → slice_get lane 0 ≡ S
 front_of [] letter e = cc
 front_of (first ∷ rest) letter e = (rest, let same : first ≡ letter = cc in ap (λ (l : Letter). l ∷ rest) same)
 
-pub one_front : (lane : List Letter) (a b : Letter) (xs ys : List Letter) → lane ≡ a ∷ xs → lane ≡ b ∷ ys → a ≡ b
-one_front lane a b xs ys first second = let same : a ∷ xs ≡ b ∷ ys = sym first ∙ second in cc
-
 pub no_front : (lane : List Letter) → slice_get lane 0 ≡ None → lane ≡ []
 no_front [] e = refl
 no_front (letter ∷ rest) e = cc
-
-pub none_there : (lane : List Letter) → length lane ≡ 0 → lane ≡ []
-none_there [] e = refl
-none_there (letter ∷ rest) e = absurd (omega arith)
 
 -- ---- a node that has the machine for itself
 
@@ -105,16 +98,15 @@ alone_lead n old (e ∷ others) new own lead = absurd (lead.2 own.0)
 pub alone_still : (n m : ℕ) (old new : Core) → IsStill (post_at n old) (post_at m new) → new ≡ old
 alone_still n m old new still = alone_lead n old still.others new still.further still.lead
 
--- it takes a packet
-pub alone_takes : (n : ℕ) (old new : Core) (kind : LaneKind) (from : ℕ) (letter : Letter) (e : Event) → MayTake (post_at n old) kind from letter e
-    → stepping old e ≡ Some new → new.size ≡ old.size → IsTaken (post_at n old) kind from letter e (post_at n new)
-alone_takes n old new kind from letter e may steps size = record {
-  made = record { mid = post_at n old; still = still_itself (post_at n old); made = steps; same = record { me = refl; size = size }; further = (may.own, tt) };
-  front = may.front;
-}
-
--- it sends one
+-- it makes an event
 pub alone_sends : (n : ℕ) (old new : Core) (e : Event) → node_of e ≡ n → stepping old e ≡ Some new → new.size ≡ old.size
     → IsMade (post_at n old) e (post_at n new)
 alone_sends n old new e own steps size =
     record { mid = post_at n old; still = still_itself (post_at n old); made = steps; same = record { me = refl; size = size }; further = (own, tt) }
+
+-- it takes the packet at the front of a lane
+pub alone_takes : (n : ℕ) (old new : Core) (kind : LaneKind) (from : ℕ) (letter : Letter) (e : Event)
+    → MayTakeFront (post_at n old) kind from e → IsFront (post_at n old) kind from letter → stepping old e ≡ Some new
+    → new.size ≡ old.size → IsTaken (post_at n old) kind from letter e (post_at n new)
+unfolding alone_sends
+alone_takes n old new kind from letter e may front steps size = record { made = alone_sends n old new e may.1.own steps size; front = front }

@@ -1,10 +1,10 @@
-use Rattle.std.proofs.Common.{◌≡◌, Some, refl, subst}
+use Rattle.std.proofs.Common.{◌≡◌, Some, refl}
 use Rattle.sci_cache.specs.Cache.{Letter}
 use Rattle.sci_core.specs.Core.{stepping}
-use Rattle.sci_turn.specs.Posts.{IsFront, IsTaken, MayTake}
+use Rattle.sci_turn.specs.Posts.{IsFront, IsTaken}
 use Rattle.sci_turn.proofs.Moments.{if_ok_map}
 use Rattle.sci_locked.specs.Lent.{post_at}
-use Rattle.sci_locked.proofs.Lanes.{alone_takes, one_front}
+use Rattle.sci_locked.proofs.Lanes.{alone_takes}
 use Rattle.sci_runs.proofs.Sparing.{spares_either}
 use Rattle.sci_runs.proofs.post.LentPost.take.Goals as goal
 
@@ -15,14 +15,9 @@ returns-clause-taken c =
     let core = lent.recorder.now.core in
     let next = c.happen.new.self.core in
     let e = c.args.event.now in
-    let may = c.requires.may in
-    let there : (letter : Letter) → IsFront (post_at n core) c.args._kind c.args._from letter → MayTake (post_at n core) c.args._kind c.args._from letter e =
-    λ letter front.
-    subst (λ (l : Letter). MayTake (post_at n core) c.args._kind c.args._from l e) (one_front _ may.0 letter may.1.front.0 front.0 may.1.front.1 front.1) may.1
-    in
     if_ok_map (λ _. stepping core e ≡ Some next) (λ _. (letter : Letter) → IsFront (post_at n core) c.args._kind c.args._from letter
     → IsTaken (post_at n core) c.args._kind c.args._from letter e (post_at n next)) c.happen.result
-    (λ _ done letter front. alone_takes n core next c.args._kind c.args._from letter e (there letter front) done c.happen.ensures.size)
+    (λ _ done letter front. alone_takes n core next c.args._kind c.args._from letter e c.requires.may front done c.happen.ensures.size)
     c.happen.ensures.done
 
 pub returns-clause-stays : goal.returns-clause-stays
