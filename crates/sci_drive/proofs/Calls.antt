@@ -10,7 +10,7 @@ use Rattle.sci_history.specs.declared.entry.Entry.{Entry}
 use Rattle.sci_core.specs.Node.{NodeOf}
 use Rattle.sci_words.specs.declared.operation.Op.{Op}
 use Rattle.sci_drive.specs.declared.driver.Issuing.{Issuing}
-use Rattle.sci_drive.specs.Calls.{AllDone, Answered, AreAllowed, AreCalls, AreCallsOf, Call, Done, EndWithDone, IsHeard, MayIssue, Rest, entry_told, is_done}
+use Rattle.sci_drive.specs.Calls.{Answered, AreAllowed, AreCalls, AreCallsOf, Call, Done, EndWithDone, IsHeard, MayIssue, entry_told, is_done}
 use Rattle.sci_drive.specs.Calls.{times_before, times_done, told}
 use Rattle.sci_drive.specs.Driving.{DriverOf, IsDriven, opening_driver}
 
@@ -154,21 +154,15 @@ one_call a b x y call silent other next done log = record {
 }
   where
     told_none : (c : Call) → entry_told c ≡ None → told (c ∷ []) ≡ []
-    told_none (MayIssue index may) s = refl
     told_none (Answered entry) s = absurd (cc)
-    told_none Done s = refl
-    told_none (AllDone all) s = refl
-    told_none Rest s = refl
+    told_none _ s = refl
 
     not_answered : (c : Call) (entry : Entry) → entry_told c ≡ None → c ≡ Answered entry → ⊥
     not_answered c entry s e = let some : entry_told c ≡ Some entry = ap entry_told e in cc
 
     not_done : (c : Call) → is_done c ≡ false → times_done (c ∷ []) ≡ 0
-    not_done (MayIssue index may) s = refl
-    not_done (Answered entry) s = refl
     not_done Done s = absurd (cc)
-    not_done (AllDone all) s = refl
-    not_done Rest s = refl
+    not_done _ s = refl
 
 -- an operation is submitted, as it was allowed
 pub submit_call : (a b : DriverOf) (x y : NodeOf) → b.next ≡ a.next + 1 → b.was_done ≡ a.was_done → y.log ≡ x.log → AreCalls a b x y (MayIssue a.next true ∷ [])

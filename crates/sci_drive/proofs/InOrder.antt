@@ -1,5 +1,5 @@
 -- What the calls of a worker make of a driver that issues in order, and its node.
-use Rattle.std.proofs.Common.{true, ◌≡◌, ◌≤◌, ◌<◌, ◌+◌, ℕ, arith, List, [], ◌∷◌, ◌++◌, length, take, All, Option, Some, None, refl, sym, ap, subst, ◌∙◌, inl}
+use Rattle.std.proofs.Common.{true, ◌≡◌, ◌≤◌, ◌<◌, ℕ, arith, List, [], ◌∷◌, ◌++◌, length, take, All, Option, Some, None, refl, sym, ap, subst, ◌∙◌, inl}
 use Rattle.std.proofs.Common.{inr}
 use Rattle.std.specs.Prelude.{slice_get, slice_index_or}
 use Rattle.std.specs.List.{Contains, remove}
@@ -13,13 +13,13 @@ use Rattle.sci_words.specs.declared.operation.Op.{Op}
 use Rattle.sci_history.specs.declared.entry.Entry.{Entry}
 use Rattle.sci_history.specs.Sequential.{IsInProgramOrder}
 use Rattle.sci_core.specs.Node.{NodeOf, pending_on}
-use Rattle.sci_core.specs.Work.{IsIssued, IsLogged}
+use Rattle.sci_core.specs.Work.{IsLogged}
 use Rattle.sci_core.specs.declared.pending.Pending.{Pending}
 use Rattle.sci_policy.specs.Worker.{HasSameWork}
 use Rattle.sci_drive.specs.declared.driver.Issuing.TheVariants.{InOrder}
 use Rattle.sci_drive.specs.Driving.{DriverOf, HasSubmittedNothing, IsDriven, IsInOrder, opening_driver}
 use Rattle.sci_drive.specs.Script.{IsFrontOf}
-use Rattle.sci_drive.proofs.Drives.{never_both, same_some}
+use Rattle.sci_drive.proofs.Drives.{never_both}
 
 -- ---- the first moment
 
@@ -33,50 +33,6 @@ opens_in_order script node none = record {
   next_one = λ line p is. absurd (never_both (pending_on node line) p (none.pending line) is);
   front = rw none.log refl;
 }
-
--- ---- an operation is submitted
-
-module _ (driver : DriverOf) (old new : NodeOf) (op : Op) (d : IsDriven driver old) (i : IsIssued old new op) (none : driver.pending ≡ [])
-    (o : IsInOrder driver old) where
-  -- nothing was pending
-  was_free : (line : ℕ) (p : Pending) → pending_on old line ≡ Some p → ⊥
-  was_free line p is =
-      let known : Contains driver.pending line = (d.pending line p is).known in
-      let empty : Contains [] line = subst (λ (l : List ℕ). Contains l line) none known in
-      let lt = empty.1 in absurd (omega arith)
-
-  behind_now : (line : ℕ) (p : Pending) → pending_on new line ≡ Some p → All (λ e. e.serial < p.serial) old.log
-  behind_now line p is = elim (cases_eq line op.line) [
-    | inl here ↦
-        let same : record { serial = old.issued; op = op } ≡ p =
-        same_some (pending_on new line) (record { serial = old.issued; op = op }) p (ap (pending_on new) here ∙ i.pending) is in
-        let serial : driver.next ≡ p.serial = sym d.issued ∙ ap (λ (q : Pending). q.serial) same in
-        subst (λ (n : ℕ). All (λ e. e.serial < n) old.log) serial o.before
-    | inr other ↦ absurd (was_free line p (sym (i.others line other) ∙ is))
-  ]
-
-  next_now : (line : ℕ) (p : Pending) → pending_on new line ≡ Some p → p.serial ≡ length old.log
-  next_now line p is = elim (cases_eq line op.line) [
-    | inl here ↦
-        let same : record { serial = old.issued; op = op } ≡ p =
-        same_some (pending_on new line) (record { serial = old.issued; op = op }) p (ap (pending_on new) here ∙ i.pending) is in
-        let serial : driver.next ≡ p.serial = sym d.issued ∙ ap (λ (q : Pending). q.serial) same in
-        let all : driver.next ≡ length old.log + length driver.pending = d.counted in
-        let free : length driver.pending ≡ 0 = ap (λ (l : List ℕ). length l) none in
-        omega arith
-    | inr other ↦ absurd (was_free line p (sym (i.others line other) ∙ is))
-  ]
-
-  pub submits_in_order : IsInOrder (record driver { next = driver.next + 1; pending = driver.pending ++ op.line ∷ [] }) new
-  submits_in_order = record {
-    issues = o.issues;
-    one = subst (λ (l : List ℕ). length (l ++ op.line ∷ []) ≤ 1) (sym none) (omega arith);
-    ordered = subst IsInProgramOrder (sym i.log) o.ordered;
-    before = subst (All (λ e. e.serial < driver.next + 1)) (sym i.log) (λ k e lt. let low = o.before k e lt in omega arith);
-    behind = λ line p is. subst (All (λ e. e.serial < p.serial)) (sym i.log) (behind_now line p is);
-    next_one = λ line p is. next_now line p is ∙ ap (λ (l : List Entry). length l) (sym i.log);
-    front = subst (IsFrontOf driver.script) (sym i.log) o.front;
-  }
 
 -- ---- an operation is performed
 

@@ -95,10 +95,6 @@ module _ {G : Type 0} (hears : G → List Call → G → Type 0) (hears_nothing 
         rests = let one_rests = one.rests in let same = (on refl).1 in omega arith;
       }
 
-  pub in_time : (g h : G) (a b : DriverOf) (x y : NodeOf) (turns restless : ℕ) → restless ≤ 16 → (gone : HasGone hears g h a b x y turns restless)
-      → RestsInTime turns gone.calls
-  in_time g h a b x y turns restless few gone = let rests = gone.rests in omega arith
-
   -- the last call asked whether all are done, and they are
   pub ended : (g h k : G) (a b : DriverOf) (x y : NodeOf) (turns restless : ℕ) (all : Bool) → restless ≤ 16 → HasGone hears g h a b x y turns restless
       → (hears h [] k × (all ≡ false)) ⊎ hears h (AllDone all ∷ []) k → all ≡ true

@@ -20,13 +20,8 @@ use Rattle.sci_drive.proofs.driver.Driver.perform.Goals as goal
 pub loop-place-preserved-in-Some : goal.loop-place-preserved-in-Some
 loop-place-preserved-in-Some g c =
     let at = c.loop-place in
-    let driver : DriverOf = record {
-      script = at.self-inside.script.now;
-      issuing = at.self-inside.issuing;
-      next = at.self-inside.next;
-      pending = at.self-inside.pending.items;
-      was_done = at.self-inside.was_done;
-    } in
+    let now = at.self-inside in
+    let driver : DriverOf = record { script = now.script.now; issuing = now.issuing; next = now.next; pending = now.pending.items; was_done = now.was_done } in
     let old = g.W.Worker.node at.worker in
     let new = g.W.Worker.node c.perform.new.self in
     let long = c.len.ensures.value in
@@ -105,13 +100,8 @@ loop-place-init g c =
 pub loop-place-preserved : goal.loop-place-preserved
 loop-place-preserved g c =
     let at = c.loop-place in
-    let driver : DriverOf = record {
-      script = at.self-inside.script.now;
-      issuing = at.self-inside.issuing;
-      next = at.self-inside.next;
-      pending = at.self-inside.pending.items;
-      was_done = at.self-inside.was_done;
-    } in
+    let now = at.self-inside in
+    let driver : DriverOf = record { script = now.script.now; issuing = now.issuing; next = now.next; pending = now.pending.items; was_done = now.was_done } in
     let first : DriverOf = left_of c.self.view_is in
     let start = g.W.Worker.node c.args.worker.now in
     let old = g.W.Worker.node at.worker in

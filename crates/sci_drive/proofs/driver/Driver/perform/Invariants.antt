@@ -8,20 +8,10 @@ use Rattle.sci_drive.proofs.driver.Driver.perform.Given as goal
 
 abbrev pub invariant-loop-place : goal.invariant-loop-place
 invariant-loop-place g l =
-    let first : DriverOf = record {
-      script = l.initial.self-inside.script.now;
-      issuing = l.initial.self-inside.issuing;
-      next = l.initial.self-inside.next;
-      pending = l.initial.self-inside.pending.items;
-      was_done = l.initial.self-inside.was_done;
-    } in
-    let driver : DriverOf = record {
-      script = l.self-inside.script.now;
-      issuing = l.self-inside.issuing;
-      next = l.self-inside.next;
-      pending = l.self-inside.pending.items;
-      was_done = l.self-inside.was_done;
-    } in
+    let was = l.initial.self-inside in
+    let now = l.self-inside in
+    let first : DriverOf = record { script = was.script.now; issuing = was.issuing; next = was.next; pending = was.pending.items; was_done = was.was_done } in
+    let driver : DriverOf = record { script = now.script.now; issuing = now.issuing; next = now.next; pending = now.pending.items; was_done = now.was_done } in
     record {
       driven : IsDriven driver (g.W.Worker.node l.worker);
       script : l.self-inside.script ≡ l.initial.self-inside.script;

@@ -13,8 +13,15 @@ use Rattle.sci_drive.specs.Rounds.{AllSubmitted, IsHeldBack, LineIsTaken, NoRoom
 use Rattle.sci_drive.proofs.Drives.{left_of, submits}
 use Rattle.sci_drive.proofs.Rounds.{asks, holds_back, submits_one}
 use Rattle.sci_drive.proofs.driver.Driver.submit.Goals as goal
+use Rattle.sci_drive.proofs.driver.Driver.submit.Goals.{In-Some}
 
--- src/driver.rt:104:5
+-- the next operation of the script
+next_is : (g : _) (c : In-Some g) → next_op (left_of c.self.view_is) ≡ Some c.in-Some.op.now
+next_is g c =
+    let driver : DriverOf = left_of c.self.view_is in
+    let found = c.in-Some.ensures.lookup in
+    slice_get_read driver.script (length driver.script) driver.next c.in-Some.op.now refl (ltb-true driver.next (length driver.script) (sym found.0)) found.1
+
 pub returns-in-Ok-clause-driven : goal.returns-in-Ok-clause-driven
 returns-in-Ok-clause-driven g c =
     let driver : DriverOf = left_of c.self.view_is in
@@ -22,10 +29,7 @@ returns-in-Ok-clause-driven g c =
     let new = g.W.Worker.node c.submit.new.self in
     let d : IsDriven driver old = rw c.self.view_is c.requires.driven in
     let issued : IsIssued old new c.in-Some.op.now = c.in-Ok.ensures.issued in
-    let found = c.in-Some.ensures.lookup in
-    let at : slice_get driver.script driver.next ≡ Some c.in-Some.op.now =
-    slice_get_read driver.script (length driver.script) driver.next c.in-Some.op.now refl (ltb-true driver.next (length driver.script) (sym found.0))
-    found.1 in
+    let at = next_is g (goal.at.returns-in-Ok-clause-driven g c).In-Some in
     let made = submits driver old new c.in-Some.op.now d issued at in
     subst (λ (lines : List ℕ). IsDriven (record driver { next = driver.next + 1; pending = lines }) new) (sym c.push.ensures.items) made
 
@@ -62,9 +66,7 @@ returns-then-contains-clause-submits g c =
     let driver : DriverOf = left_of c.self.view_is in
     let node = g.W.Worker.node c.args.worker.now in
     let op = c.in-Some.op.now in
-    let found = c.in-Some.ensures.lookup in
-    let at : next_op driver ≡ Some op =
-    slice_get_read driver.script (length driver.script) driver.next op refl (ltb-true driver.next (length driver.script) (sym found.0)) found.1 in
+    let at = next_is g (goal.at.returns-then-contains-clause-submits g c).In-Some in
     let taken : Contains c.deref.result.now op.line = is_contained op.line c.deref.result.now (sym c.contains.ensures.value ∙ c.if-contains.true) in
     let there : Contains driver.pending op.line = subst (λ (lines : List ℕ). Contains lines op.line) c.deref.ensures.0 taken in
     holds_back g.G.Gate.hears g.met.G.Gate.hears_nothing c.args.gate.now c.args.self.now node
@@ -90,9 +92,7 @@ returns-in-Ok-clause-submits g c =
     let gate = c.args.gate.now in
     let later = c.may_issue.new.self in
     let op = c.in-Some.op.now in
-    let found = c.in-Some.ensures.lookup in
-    let at : next_op driver ≡ Some op =
-    slice_get_read driver.script (length driver.script) driver.next op refl (ltb-true driver.next (length driver.script) (sym found.0)) found.1 in
+    let at = next_is g (goal.at.returns-in-Ok-clause-submits g c).In-Some in
     let issued : IsIssued old new op = c.in-Ok.ensures.issued in
     let asked : hears gate (MayIssue driver.next true ∷ []) later =
     subst (λ (may : Bool). hears gate (MayIssue driver.next may ∷ []) later) c.if-not-may_issue.false c.may_issue.ensures in
@@ -121,9 +121,7 @@ returns-in_default-submit-clause-submits g c =
     let gate = c.args.gate.now in
     let later = c.may_issue.new.self in
     let op = c.in-Some.op.now in
-    let found = c.in-Some.ensures.lookup in
-    let at : next_op driver ≡ Some op =
-    slice_get_read driver.script (length driver.script) driver.next op refl (ltb-true driver.next (length driver.script) (sym found.0)) found.1 in
+    let at = next_is g (goal.at.returns-in_default-submit-clause-submits g c).In-Some in
     let err = not_ok c.submit.result c.in_default-submit.not-Ok in
     let same : new ≡ old = c.submit.ensures.same err in
     let fault : IsSome (submit_fault old op) = has_fault c.submit.result (submit_fault old op) err c.submit.ensures.fault in
