@@ -1,9 +1,9 @@
 -- The stations of a run, before it and after it.
-use Rattle.std.proofs.Common.{◌≡◌, ◌≤◌, ◌<◌, ℕ, arith, Bool, true, List, [], ◌∷◌, ◌++◌, All, length, filter, map, take, drop, replicate, get_or, Some, None}
+use Rattle.std.proofs.Common.{◌≡◌, ◌≤◌, ◌<◌, ℕ, arith, Bool, true, List, [], ◌∷◌, ◌++◌, All, length, filter, map, take, drop, Some, None}
 use Rattle.std.proofs.Common.{Result, Ok, Err, IfOk, Vec, refl, sym, ap, subst, ◌∙◌, inl, inr}
 use Rattle.std.specs.Prelude.{slice_get, slice_index_or, ◌==◌, option_map}
 use Rattle.std.proofs.lemmas.Bool.{cases_lt}
-use Rattle.std.proofs.lemmas.List.{append-nil, drop_all, get_or-map, get_or-replicate, get_or_past, length-map, length-replicate, take_all}
+use Rattle.std.proofs.lemmas.List.{append-nil, drop_all, get_or-map, length-map, take_all}
 use Rattle.std.proofs.lemmas.List.Elements.{All-map}
 use Rattle.std.proofs.lemmas.List.FromFn.{get_or-map-range_with_len, length-map-range_with_len}
 use Rattle.std.proofs.lemmas.List.Sums.{length-filter}
@@ -31,6 +31,7 @@ use Rattle.sci_drive.specs.Script.{IsWholeLogOf}
 use Rattle.sci_station.specs.Ends.{IsSameEnd}
 use Rattle.sci_station.specs.Station.{StationOf, end_in, node_in, opening_station}
 use Rattle.sci_station.proofs.Belonging.{opened_of, same_of}
+use Rattle.sci_lanes.proofs.Opening.{replicated}
 use Rattle.sci_threads.specs.Shares.{operations_of, own_of, size_for}
 
 -- ---- sizes
@@ -45,12 +46,6 @@ sized_for extent script nodes lines slots =
     size n l s = record { nodes = n; lines = l; slots = s; limit = MAX_OPERATIONS }
 
 -- ---- lists
-
--- what holds of each image holds of each element through the map
-pub all_unmapped : {A B : Type 0} (P : B → Type 0) (f : A → B) (xs : List A) → All P (map f xs) → All (λ x. P (f x)) xs
-all_unmapped P f xs all k d lt =
-    let long = length-map xs f in
-    subst P (get_or-map f xs k d (f d) lt) (all k (f d) (omega arith))
 
 -- what holds of each element holds of the one that stands at a place
 pub all_there : {A : Type 0} (P : A → Type 0) (xs : List A) (k : ℕ) (x : A) → All P xs → slice_get xs k ≡ Some x → P x
@@ -73,22 +68,12 @@ own_is s (v ∷ all) node long each lt = get_or-map (λ own. own.items) (v ∷ a
 
 -- ---- the stations of a new fabric
 
--- what is given for a place past the end stands everywhere
-replicated : {A : Type 0} (count k : ℕ) (a : A) → get_or (replicate count a) k a ≡ a
-replicated count k a = elim (cases_lt k count) [
-  | inl lt ↦ get_or-replicate count k a a lt
-  | inr le ↦ get_or_past (replicate count a) k a (let c = length-replicate count a in omega arith)
-]
-
 pub opened_fresh : (n : ℕ) (size : Size) → HasSubmittedNothing (opening_node n size)
 opened_fresh n size = record { issued = refl; pending = λ line. replicated size.lines line None; log = refl }
 
 module _ (table : TableId) (size : Size) (count : ℕ) where
   abbrev pub opened : List StationOf
   opened = map opening_station (opening_ends table size count)
-
-  end_at : ℕ → EndOf
-  end_at n = record { table = table; part = opening_part size n }
 
   pub opened_long : length opened ≡ count
   opened_long = length-map (opening_ends table size count) opening_station

@@ -8,7 +8,7 @@ use Rattle.sci_lanes.specs.Ends.{EndOf}
 use Rattle.sci_words.specs.declared.limits.TheConstants.{MAX_OPERATIONS}
 use Rattle.sci_core.specs.Size.{Size, size_of}
 use Rattle.sci_lanes.specs.Shown.{me_of}
-use Rattle.sci_lanes.specs.Gathering.{AreAll}
+use Rattle.sci_lanes.specs.Gathering.{AreAll, AreOf}
 use Rattle.sci_drive.specs.Driving.{HasSubmittedNothing}
 use Rattle.sci_drive.specs.Script.{IsFrontOf, IsLogOf, IsWholeLogOf}
 use Rattle.sci_station.specs.Ends.{IsSameEnd}
@@ -19,7 +19,7 @@ use Rattle.sci_threads.specs.declared.share.Share.{Share}
 use Rattle.sci_threads.proofs.Going.{all_run}
 use Rattle.sci_threads.specs.Shares.{AreLedTo, HasRun, HaveGoneOn, IsWell, operations_of, own_of}
 use Rattle.sci_threads.proofs.running.run.Goals as goal
-use Rattle.sci_threads.proofs.running.run.Goals.{In-Ok}
+use Rattle.sci_threads.proofs.running.run.Goals.{In-Ok, In_ok-stations}
 
 pub shares-requires : goal.shares-requires
 shares-requires g c =
@@ -42,37 +42,27 @@ pub run_all-requires-clause-well : goal.run_all-requires-clause-well
 run_all-requires-clause-well g c =
     λ lts met. subst (All (λ (s : Share g.row.G.Denot). IsWell s.driver s.station.end s.finished)) (sym c.deref_mut.ensures.value) c.in_ok-shares.ensures.well
 
-pub finish-requires : goal.finish-requires
-finish-requires g c =
-    let f = c.in_ok-fabric.fabric in
-    let size = size_of c.extent.result MAX_OPERATIONS in
+-- the stations that come back are of the fabric, and all of its
+all_came : (g : _) (c : In_ok-stations g) → AreOf c.in_ok-fabric.fabric (map end_in c.in_ok-stations.stations.items)
+    × AreAll c.extent.result.nodes (map end_in c.in_ok-stations.stations.items)
+all_came g c =
     let before = c.in_ok-shares.shares in
     let after = c.run_all.new.shares in
     let long : length after ≡ length before.items = c.run_all.auto.shares ∙ ap length c.deref_mut.ensures.value in
     let each = subst (λ (xs : List (Share g.row.G.Denot)). (k : ℕ) (d : Share g.row.G.Denot) → k < length xs
     → IsSameEnd (get_or xs k d).station.end (get_or after k d).station.end) c.deref_mut.ensures.value (λ k d lt. (c.run_all.ensures.gone k d lt).same) in
-    let made = c.in_ok-shares.ensures.stations ∙ c.in_ok-fabric.ensures.stations in
-    record {
-      own = (came_back (λ (share : Share g.row.G.Denot). share.station) f size c.extent.result.nodes before.len before.items after
-          c.in_ok-stations.stations.items c.in_ok-fabric.ensures.size made before.ok.0 long each c.in_ok-stations.ensures.stations).0;
-    }
+    came_back (λ (share : Share g.row.G.Denot). share.station) c.in_ok-fabric.fabric (size_of c.extent.result MAX_OPERATIONS) c.extent.result.nodes before.len
+    before.items after c.in_ok-stations.stations.items c.in_ok-fabric.ensures.size (c.in_ok-shares.ensures.stations ∙ c.in_ok-fabric.ensures.stations)
+    before.ok.0 long each c.in_ok-stations.ensures.stations
+
+pub finish-requires : goal.finish-requires
+finish-requires g c = record { own = (all_came g (goal.at.finish-requires g c).In_ok-stations).0 }
 
 pub unreachable-requires : goal.unreachable-requires
 unreachable-requires g c =
-    let f = c.in_ok-fabric.fabric in
-    let size = size_of c.extent.result MAX_OPERATIONS in
-    let before = c.in_ok-shares.shares in
-    let after = c.run_all.new.shares in
-    let long : length after ≡ length before.items = c.run_all.auto.shares ∙ ap length c.deref_mut.ensures.value in
-    let each = subst (λ (xs : List (Share g.row.G.Denot)). (k : ℕ) (d : Share g.row.G.Denot) → k < length xs
-    → IsSameEnd (get_or xs k d).station.end (get_or after k d).station.end) c.deref_mut.ensures.value (λ k d lt. (c.run_all.ensures.gone k d lt).same) in
-    let made = c.in_ok-shares.ensures.stations ∙ c.in_ok-fabric.ensures.stations in
-    let ends : List EndOf = map end_in c.in_ok-stations.stations.items in
-    let all : AreAll c.extent.result.nodes ends =
-    (came_back (λ (share : Share g.row.G.Denot). share.station) f size c.extent.result.nodes before.len before.items after c.in_ok-stations.stations.items
-    c.in_ok-fabric.ensures.size made before.ok.0 long each c.in_ok-stations.ensures.stations).1 in
     c.in-Err-Missing-default-default.ensures.missing c.in-Err-Missing-default-default.field-0-0-is
-    (subst (λ (n : ℕ). AreAll n ends) (sym (ap (λ (z : Size). z.nodes) c.in_ok-fabric.ensures.size)) all)
+    (subst (λ (n : ℕ). AreAll n (map end_in c.in_ok-stations.stations.items)) (sym (ap (λ (z : Size). z.nodes) c.in_ok-fabric.ensures.size))
+    (all_came g (goal.at.unreachable-requires g c).In_ok-stations).1)
 
 -- what each share has done
 has_run : (g : _) (c : In-Ok g)
