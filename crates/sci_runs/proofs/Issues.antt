@@ -1,7 +1,7 @@
 -- The operations that a node has issued, behind an event more.
-use Rattle.std.proofs.Common.{◌≡◌, ◌≢◌, ℕ, zero, suc, ◌<◌, ◌⊎◌, Bool, if◌then◌else◌, arith, List, [], ◌∷◌, ◌++◌, length, Option, Some, None, refl, sym, ap}
+use Rattle.std.proofs.Common.{◌≡◌, ◌≢◌, ℕ, ◌<◌, Bool, if◌then◌else◌, arith, List, [], ◌∷◌, ◌++◌, Option, Some, None, refl, sym, ap}
 use Rattle.std.proofs.Common.{subst, ◌∙◌, inl, inr}
-use Rattle.std.specs.Prelude.{slice_get, slice_index_or}
+use Rattle.std.specs.Prelude.{slice_index_or}
 use Rattle.std.specs.List.{Contains}
 use Rattle.std.proofs.lemmas.Bool.{cases_eq, eq-eqb, ne_eqb}
 use Rattle.std.proofs.lemmas.List.{append-nil, length_push}
@@ -24,20 +24,13 @@ use Rattle.sci_core.proofs.Basics.Options.{of_some}
 use Rattle.sci_core.proofs.Step.Steps.{Stepped, By_issue, By_perform, By_ask, By_serve, By_refuse, By_reply, By_accept, stepping_stepped}
 use Rattle.sci_core.proofs.WellFormed.WellFormedSteps.{reached_well}
 use Rattle.sci_core.proofs.History.Works.{SameWork, accept_work, ask_work, serve_work}
+use Rattle.sci_lanes.proofs.Words.{at_end}
+use Rattle.sci_drive.proofs.Drives.{same_some}
 use Rattle.sci_runs.proofs.Steps.{issue_makes, perform_makes}
 use Rattle.sci_turn.proofs.Working.{other_stays}
 use Rattle.sci_runs.specs.Recorded.{HasIssued, IsKnown, issued_at, issues_at}
 
 -- ---- an Issue
-
-push_cases : {A : Type 0} (xs : List A) (x y : A) (k : ℕ) → slice_get (xs ++ x ∷ []) k ≡ Some y → (slice_get xs k ≡ Some y) ⊎ ((k ≡ length xs) × (x ≡ y))
-push_cases [] x y zero e = inr (refl, cc)
-push_cases [] x y (suc k) e = cc
-push_cases (z ∷ xs) x y zero e = inl e
-push_cases (z ∷ xs) x y (suc k) e = elim (push_cases xs x y k e) [
-  | inl before ↦ inl before
-  | inr last ↦ inr (let at = last.0 in omega (arith, at), last.1)
-]
 
 known_issued : (old new : NodeOf) (op : Op) (serial : ℕ) (o : Op) → IsIssued old new op → IsKnown old serial o → IsKnown new serial o
 known_issued old new op serial o i (inl pends) = elim (cases_eq o.line op.line) [
@@ -50,8 +43,8 @@ known_issued old new op serial o i (inr logged) = inr (logged.0, subst (λ (log 
 pub issued_more : (ops : List Op) (old new : NodeOf) (op : Op) → IsIssued old new op → HasIssued ops old → HasIssued (ops ++ op ∷ []) new
 issued_more ops old new op i has = record {
   counted = let long = length_push ops op in let before = has.counted in let now = i.issued in omega (arith, long, before, now);
-  each = λ serial o at. elim (push_cases ops op o serial at) [
-    | inl before ↦ known_issued old new op serial o i (has.each serial o before)
+  each = λ serial o at. elim (at_end ops op serial o at) [
+    | inl before ↦ known_issued old new op serial o i (has.each serial o before.1)
     | inr last ↦
         let number : old.issued ≡ serial = sym has.counted ∙ sym last.0 in
         let pends : pending_on new op.line ≡ Some (record { serial = serial; op = op }) =
@@ -62,14 +55,10 @@ issued_more ops old new op i has = record {
 
 -- ---- a Perform
 
-same_pending : (o : Option Pending) (a b : Pending) → o ≡ Some a → o ≡ Some b → a ≡ b
-same_pending None a b e f = cc
-same_pending (Some p) a b e f = cc
-
 known_logged : (old new : NodeOf) (line : ℕ) (entry : Entry) (serial : ℕ) (o : Op) → IsLogged old new line entry → IsKnown old serial o → IsKnown new serial o
 known_logged old new line entry serial o i (inl pends) = elim (cases_eq o.line line) [
   | inl same ↦
-      let one = same_pending (pending_on old line) (record { serial = entry.serial; op = entry.op }) (record { serial = serial; op = o }) i.pending
+      let one = same_some (pending_on old line) (record { serial = entry.serial; op = entry.op }) (record { serial = serial; op = o }) i.pending
       (ap (pending_on old) (sym same) ∙ pends) in
       inr (
         entry,
@@ -188,13 +177,5 @@ issues_on core new (event.Perform m line) n events reached some steps has = elim
       (issued_logged (issues_at n events) (node_at core n) (node_at new n) line made.0 made.2 has)
   | inr other ↦ stays_on core new (event.Perform m line) n events steps other refl has
 ]
-issues_on core new (event.Ask m line kind) n events reached some steps has =
-    same_on core new (event.Ask m line kind) n events (step_work core new (event.Ask m line kind) n reached steps refl (λ k op is. cc)) refl has
-issues_on core new (event.Serve from m) n events reached some steps has =
-    same_on core new (event.Serve from m) n events (step_work core new (event.Serve from m) n reached steps refl (λ k op is. cc)) refl has
-issues_on core new (event.Refuse from m) n events reached some steps has =
-    same_on core new (event.Refuse from m) n events (step_work core new (event.Refuse from m) n reached steps refl (λ k op is. cc)) refl has
-issues_on core new (event.Reply m) n events reached some steps has =
-    same_on core new (event.Reply m) n events (step_work core new (event.Reply m) n reached steps refl (λ k op is. cc)) refl has
-issues_on core new (event.Accept from m) n events reached some steps has =
-    same_on core new (event.Accept from m) n events (step_work core new (event.Accept from m) n reached steps refl (λ k op is. cc)) refl has
+issues_on core new e n events reached some steps has =
+    same_on core new e n events (step_work core new e n reached steps refl (λ k op is. cc)) refl has

@@ -2,8 +2,6 @@
 use Rattle.std.proofs.Common.{◌≡◌, ℕ, ◌<◌, ◌^◌, Bool, true, false, if◌then◌else◌, arith, List, [], ◌∷◌, ◌++◌, Option, Some, None, refl, sym, ap, subst, ◌∙◌}
 use Rattle.std.specs.Prelude.{◌&&◌, nat_lt, IsSome, option_map}
 use Rattle.std.proofs.lemmas.Bool.{and_parts, ltb-true}
-use Rattle.std.proofs.lemmas.List.{append-nil}
-use Rattle.std.proofs.Common.{append_assoc}
 use Rattle.sci_words.specs.declared.event.AskKind.{AskKind}
 use Rattle.sci_words.specs.declared.extent.Extent.{Extent}
 use Rattle.sci_words.specs.declared.limits.TheConstants.{MAX_OPERATIONS, WORDS_PER_LINE}
@@ -29,7 +27,7 @@ use Rattle.sci_core.proofs.Step.Nodes.{some_below}
 use Rattle.sci_core.proofs.Step.Sides.{steps_by_sides}
 use Rattle.sci_core.proofs.WellFormed.WellFormedSteps.{reached_well}
 use Rattle.sci_lanes.specs.Shown.{AreEnabled}
-use Rattle.sci_lanes.proofs.Events.{run_further}
+use Rattle.sci_lanes.proofs.Events.{enabled_more, run_further}
 use Rattle.sci_lanes.proofs.Opening.{node_opened}
 use Rattle.sci_runs.proofs.Steps.{perform_makes}
 use Rattle.sci_runs.specs.declared.fault.RunFault.{RunFault}
@@ -108,12 +106,6 @@ enabled_within core new (event.Accept from n) reached steps = let some = some_no
     (some_sender core new (event.Accept from n) Answers from (node_accepting (node_at core n)) some refl steps, some)
 
 -- ---- the schedule goes on
-
-enabled_more : (size : Size) (known xs : List Event) (e : Event) → AreEnabled size known xs → IsEnabled (run size (known ++ xs)) e
-    → AreEnabled size known (xs ++ e ∷ [])
-enabled_more size known [] e all one = (subst (λ (es : List Event). IsEnabled (run size es) e) (append-nil known) one, tt)
-enabled_more size known (x ∷ xs) e all one =
-    (all.0, enabled_more size (known ++ x ∷ []) xs e all.1 (subst (λ (es : List Event). IsEnabled (run size es) e) (sym (append_assoc known (x ∷ []) xs)) one))
 
 pub led_more : (events : List Event) (core new : Core) (e : Event) → IsReached core → stepping core e ≡ Some new → new.size ≡ core.size → HasLed events core
     → HasLed (events ++ e ∷ []) new
