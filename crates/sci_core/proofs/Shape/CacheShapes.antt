@@ -154,18 +154,7 @@ cread_as a q asker (FreshHead f d) joins = Joined (record {
   accepted = joins.accepted d;
   differ = idle_differs asker (FreshHead f d) joins.waiting refl;
 })
-cread_as a q asker Out joins = refuses a q asker Out joins.refused
-cread_as a q asker Asking joins = refuses a q asker Asking joins.refused
-cread_as a q asker (Joining r sent) joins = refuses a q asker (Joining r sent) joins.refused
-cread_as a q asker (FreshJoining r sent e) joins = refuses a q asker (FreshJoining r sent e) joins.refused
-cread_as a q asker (Below f b c) joins = refuses a q asker (Below f b c) joins.refused
-cread_as a q asker (Purging r c) joins = refuses a q asker (Purging r c) joins.refused
-cread_as a q asker (Claiming f c) joins = refuses a q asker (Claiming f c) joins.refused
-cread_as a q asker (Clearing c) joins = refuses a q asker (Clearing c) joins.refused
-cread_as a q asker (Returning c) joins = refuses a q asker (Returning c) joins.refused
-cread_as a q asker (Rolling f b c) joins = refuses a q asker (Rolling f b c) joins.refused
-cread_as a q asker (Telling r w sent) joins = refuses a q asker (Telling r w sent) joins.refused
-cread_as a q asker Fading joins = refuses a q asker Fading joins.refused
+cread_as a q asker old joins = refuses a q asker old joins.refused
 
 -- ---- Purge
 
@@ -218,18 +207,7 @@ purge_as a q d (Rolling f b c) = Purged (record {
   still = λ answer next e. rolling_still f b c answer next e;
   differ = λ e. cc;
 })
-purge_as a q d Out = refuses a q (Purging q d) Out (record { sight = refl; agrees = λ c_ h. h; accepts = λ h. refl })
-purge_as a q d Asking = refuses a q (Purging q d) Asking (record { sight = refl; agrees = λ c_ h. h; accepts = λ h. refl })
-purge_as a q d (Joining r sent) = refuses a q (Purging q d) (Joining r sent) (record { sight = refl; agrees = λ c_ h. h; accepts = λ h. refl })
-purge_as a q d (FreshJoining r sent e) = refuses a q (Purging q d) (FreshJoining r sent e) (record { sight = refl; agrees = λ c_ h. h; accepts = λ h. refl })
-purge_as a q d (Head f c) = refuses a q (Purging q d) (Head f c) (record { sight = refl; agrees = λ c_ h. h; accepts = λ h. refl })
-purge_as a q d (FreshHead f c) = refuses a q (Purging q d) (FreshHead f c) (record { sight = refl; agrees = λ c_ h. h; accepts = λ h. refl })
-purge_as a q d (Purging r c) = refuses a q (Purging q d) (Purging r c) (record { sight = refl; agrees = λ c_ h. h; accepts = λ h. refl })
-purge_as a q d (Claiming f c) = refuses a q (Purging q d) (Claiming f c) (record { sight = refl; agrees = λ c_ h. h; accepts = λ h. refl })
-purge_as a q d (Clearing c) = refuses a q (Purging q d) (Clearing c) (record { sight = refl; agrees = λ c_ h. h; accepts = λ h. refl })
-purge_as a q d (Returning c) = refuses a q (Purging q d) (Returning c) (record { sight = refl; agrees = λ c_ h. h; accepts = λ h. refl })
-purge_as a q d (Telling r w sent) = refuses a q (Purging q d) (Telling r w sent) (record { sight = refl; agrees = λ c_ h. h; accepts = λ h. refl })
-purge_as a q d Fading = refuses a q (Purging q d) Fading (record { sight = refl; agrees = λ c_ h. h; accepts = λ h. refl })
+purge_as a q d old = refuses a q (Purging q d) old (record { sight = refl; agrees = λ c_ h. h; accepts = λ h. refl })
 
 -- ---- Roll
 
@@ -295,17 +273,7 @@ roll_as a q m asker (FreshHead f c) leaves =
     rolls_as a q m asker (FreshHead f c) (FreshHead m c) f leaves refl refl refl (record { role = refl; fresh = refl; agrees = λ c_ h. h })
 roll_as a q m asker (Below f b c) leaves =
     rolls_as a q m asker (Below f b c) (Below m b c) f leaves refl refl refl (record { role = refl; fresh = refl; agrees = λ c_ h. h })
-roll_as a q m asker Out leaves = refuses a q asker Out leaves.refused
-roll_as a q m asker Asking leaves = refuses a q asker Asking leaves.refused
-roll_as a q m asker (Joining r sent) leaves = refuses a q asker (Joining r sent) leaves.refused
-roll_as a q m asker (FreshJoining r sent e) leaves = refuses a q asker (FreshJoining r sent e) leaves.refused
-roll_as a q m asker (Purging r c) leaves = refuses a q asker (Purging r c) leaves.refused
-roll_as a q m asker (Claiming f c) leaves = refuses a q asker (Claiming f c) leaves.refused
-roll_as a q m asker (Clearing c) leaves = refuses a q asker (Clearing c) leaves.refused
-roll_as a q m asker (Returning c) leaves = refuses a q asker (Returning c) leaves.refused
-roll_as a q m asker (Rolling f b c) leaves = refuses a q asker (Rolling f b c) leaves.refused
-roll_as a q m asker (Telling r w sent) leaves = refuses a q asker (Telling r w sent) leaves.refused
-roll_as a q m asker Fading leaves = refuses a q asker Fading leaves.refused
+roll_as a q m asker old leaves = refuses a q asker old leaves.refused
 
 -- ---- Setback
 
@@ -332,18 +300,7 @@ setback_as a q r v w (Rolling f b c) =
     if_head (ServesAs a q (Telling r v true) (Rolling f b c)) b a (Rolling f w c, body.Told) (Rolling f b c, body.Told)
     (λ same. tells a q r v (Rolling f b c) (Rolling f w c) (rolling_told f b w c))
     (tells a q r v (Rolling f b c) (Rolling f b c) (alike_itself (Rolling f b c)))
-setback_as a q r v w Out = tells a q r v Out Out (alike_itself Out)
-setback_as a q r v w Asking = tells a q r v Asking Asking (alike_itself Asking)
-setback_as a q r v w (Joining p sent) = tells a q r v (Joining p sent) (Joining p sent) (alike_itself (Joining p sent))
-setback_as a q r v w (FreshJoining p sent e) = tells a q r v (FreshJoining p sent e) (FreshJoining p sent e) (alike_itself (FreshJoining p sent e))
-setback_as a q r v w (Head f c) = tells a q r v (Head f c) (Head f c) (alike_itself (Head f c))
-setback_as a q r v w (FreshHead f c) = tells a q r v (FreshHead f c) (FreshHead f c) (alike_itself (FreshHead f c))
-setback_as a q r v w (Purging p c) = tells a q r v (Purging p c) (Purging p c) (alike_itself (Purging p c))
-setback_as a q r v w (Claiming f c) = tells a q r v (Claiming f c) (Claiming f c) (alike_itself (Claiming f c))
-setback_as a q r v w (Clearing c) = tells a q r v (Clearing c) (Clearing c) (alike_itself (Clearing c))
-setback_as a q r v w (Returning c) = tells a q r v (Returning c) (Returning c) (alike_itself (Returning c))
-setback_as a q r v w (Telling p u sent) = tells a q r v (Telling p u sent) (Telling p u sent) (alike_itself (Telling p u sent))
-setback_as a q r v w Fading = tells a q r v Fading Fading (alike_itself Fading)
+setback_as a q r v w old = tells a q r v old old (alike_itself old)
 
 -- ---- every request that comes to a cache
 

@@ -1,6 +1,6 @@
 -- Where a member stands in its list: before the authority, as the authority, or behind it; and which contents it has or
 -- gets. Each row of the tables but those of served requests leaves that as it was.
-use Rattle.std.proofs.Common.{◌≡◌, ℕ, ◌+◌, ◌-◌, ◌^◌, nat_lt, Bool, true, false, if◌then◌else◌, Option, Some, None, refl, sym, ap}
+use Rattle.std.proofs.Common.{◌≡◌, ℕ, ◌+◌, ◌-◌, ◌^◌, nat_lt, Bool, true, false, if◌then◌else◌, Option, Some, None, refl, sym, ap, rules}
 use Rattle.std.specs.Prelude.{IfSome}
 use Rattle.sci_words.specs.declared.stamped.Stamped.{Stamped}
 use Rattle.sci_words.specs.declared.event.AskKind.{AskKind}
@@ -10,8 +10,8 @@ use Rattle.sci_words.specs.Operation.{is_maker}
 use Rattle.sci_words.specs.Stamped.{after, reply_of}
 use Rattle.sci_packets.specs.declared.body.Body.{Body}
 use Rattle.sci_packets.specs.declared.body.Body.TheVariants as body
-use Rattle.sci_cache.specs.State.{CacheState, Out, Asking, Joining, FreshJoining, Head, FreshHead, Below, Purging, Claiming, Clearing, Returning, Rolling}
-use Rattle.sci_cache.specs.State.{Telling, Fading, waits, contents_of}
+use Rattle.sci_cache.specs.State.{CacheState, Asking, Joining, FreshJoining, Head, FreshHead, Below, Purging, Claiming, Clearing, Returning, Rolling}
+use Rattle.sci_cache.specs.State.{Telling, waits, contents_of}
 use Rattle.sci_cache.specs.Asking.{Asked, asking}
 use Rattle.sci_cache.specs.Accepting.{accepting}
 use Rattle.sci_cache.specs.Performing.{Performed, performing}
@@ -86,69 +86,33 @@ abbrev IsRefused : CacheState → Type 0
 IsRefused state = Alike state None state (Some body.Busy)
 
 pub busy_alike : (h : ℕ) (state : CacheState) (request : Letter) → IsSentIn h state request → is_setback request.body ≡ false → IsRefused state
-busy_alike h Asking request sent other = record { sight = refl; agrees = λ c h. h; accepts = λ h. refl }
-busy_alike h (Joining p true) request sent other = record { sight = refl; agrees = λ c h. h; accepts = λ h. refl }
-busy_alike h (FreshJoining p true d) request sent other = record { sight = refl; agrees = λ c h. h; accepts = λ h. refl }
-busy_alike h (Purging q d) request sent other = record { sight = refl; agrees = λ c h. h; accepts = λ h. refl }
-busy_alike h (Claiming f d) request sent other = record { sight = refl; agrees = λ c h. h; accepts = λ h. refl }
-busy_alike h (Clearing d) request sent other = record { sight = refl; agrees = λ c h. h; accepts = λ h. refl }
-busy_alike h (Returning d) request sent other = record { sight = refl; agrees = λ c h. h; accepts = λ h. refl }
-busy_alike h (Rolling None b d) request sent other = record { sight = refl; agrees = λ c h. h; accepts = λ h. refl }
-busy_alike h (Rolling (Some r) b d) request sent other = record { sight = refl; agrees = λ c h. h; accepts = λ h. refl }
+busy_alike h (Joining p true) request sent other = search rules
+busy_alike h (FreshJoining p true d) request sent other = search rules
+busy_alike h (Rolling None b d) request sent other = search rules
 busy_alike h (Telling r w true) request sent other = let told : is_setback request.body ≡ true = ap is_setback sent.0 in cc
-busy_alike h Fading request sent other = record { sight = refl; agrees = λ c h. h; accepts = λ h. refl }
-busy_alike h Out request sent other = elim sent [ ]
-busy_alike h (Joining p false) request sent other = elim sent [ ]
-busy_alike h (FreshJoining p false d) request sent other = elim sent [ ]
-busy_alike h (Head f c) request sent other = elim sent [ ]
-busy_alike h (FreshHead f c) request sent other = elim sent [ ]
-busy_alike h (Below f b c) request sent other = elim sent [ ]
-busy_alike h (Telling r w false) request sent other = elim sent [ ]
+busy_alike h _ request sent other = search rules
 
 -- ---- asking
 
 pub asking_alike : (state : CacheState) (k : AskKind) → IfSome (asking state k) (λ (asked : Asked). Alike state None asked.next None)
-asking_alike Out kind.Mread = record { sight = refl; agrees = λ c h. h; accepts = λ h. tt }
-asking_alike Out kind.Fread = record { sight = refl; agrees = λ c h. h; accepts = λ h. tt }
-asking_alike (Joining p false) kind.Cread = record { sight = refl; agrees = λ c h. h; accepts = λ h. tt }
-asking_alike (FreshJoining p false d) kind.Cread = record { sight = refl; agrees = λ c h. h; accepts = λ h. tt }
-asking_alike (Head (Some q) d) kind.Purge = record { sight = refl; agrees = λ c h. h; accepts = λ h. tt }
-asking_alike (Head None d) kind.Wback = record { sight = refl; agrees = λ c h. h; accepts = λ h. tt }
-asking_alike (FreshHead f d) kind.Claim = record { sight = refl; agrees = λ c h. h; accepts = λ h. tt }
-asking_alike (FreshHead None d) kind.Clear = record { sight = refl; agrees = λ c h. h; accepts = λ h. tt }
-asking_alike (Below f b d) kind.Roll = record { sight = refl; agrees = λ c h. h; accepts = λ h. tt }
-asking_alike (Telling r w false) kind.Setback = record { sight = refl; agrees = λ c h. h; accepts = λ h. tt }
-asking_alike _ _ = tt
+asking_alike (Joining p false) kind.Cread = search rules
+asking_alike (FreshJoining p false d) kind.Cread = search rules
+asking_alike (Head None d) kind.Wback = search rules
+asking_alike (FreshHead None d) kind.Clear = search rules
+asking_alike (Telling r w false) kind.Setback = search rules
+asking_alike _ kind.Mread = search rules
+asking_alike _ _ = search rules
 
 -- ---- accepting
 
 pub accepting_alike : (state : CacheState) (answer : Body) → IfSome (accepting state answer) (λ (next : CacheState). Alike state (Some answer) next None)
-accepting_alike Asking (body.Mdata d) = record { sight = refl; agrees = λ c h. (h.1, tt); accepts = λ h. tt }
-accepting_alike Asking (body.Mgone p) = record { sight = refl; agrees = λ c h. h; accepts = λ h. tt }
-accepting_alike Asking (body.Fdata None d) = record { sight = refl; agrees = λ c h. (h.1, tt); accepts = λ h. tt }
-accepting_alike Asking (body.Fdata (Some p) d) = record { sight = refl; agrees = λ c h. (h.1, tt); accepts = λ h. tt }
-accepting_alike Asking body.Busy = record { sight = refl; agrees = λ c h. h; accepts = λ h. tt }
-accepting_alike (Joining p true) (body.Cdata d) = record { sight = refl; agrees = λ c h. (h.1, tt); accepts = λ h. tt }
-accepting_alike (Joining p true) body.Busy = record { sight = refl; agrees = λ c h. h; accepts = λ h. tt }
-accepting_alike (FreshJoining p true d) (body.Cdata e) = record { sight = refl; agrees = λ c h. (h.0, tt); accepts = λ h. tt }
-accepting_alike (FreshJoining p true d) body.Busy = record { sight = refl; agrees = λ c h. h; accepts = λ h. tt }
-accepting_alike (Purging q d) (body.Purged x) = record { sight = refl; agrees = λ c h. h; accepts = λ h. tt }
-accepting_alike (Purging q d) body.Busy = record { sight = refl; agrees = λ c h. h; accepts = λ h. tt }
-accepting_alike (Claiming f d) body.Wbok = record { sight = refl; agrees = λ c h. h; accepts = λ h. tt }
-accepting_alike (Claiming f d) body.Wbno = record { sight = refl; agrees = λ c h. h; accepts = λ h. tt }
-accepting_alike (Claiming f d) body.Busy = record { sight = refl; agrees = λ c h. h; accepts = λ h. tt }
-accepting_alike (Clearing d) body.Wbok = record { sight = refl; agrees = λ c h. (tt, tt); accepts = λ h. tt }
-accepting_alike (Clearing d) body.Wbno = record { sight = refl; agrees = λ c h. h; accepts = λ h. tt }
-accepting_alike (Clearing d) body.Busy = record { sight = refl; agrees = λ c h. h; accepts = λ h. tt }
-accepting_alike (Returning d) body.Wbok = record { sight = refl; agrees = λ c h. (tt, tt); accepts = λ h. tt }
-accepting_alike (Returning d) body.Wbno = record { sight = refl; agrees = λ c h. h; accepts = λ h. tt }
-accepting_alike (Returning d) body.Busy = record { sight = refl; agrees = λ c h. h; accepts = λ h. tt }
-accepting_alike (Rolling None b d) body.Rolled = record { sight = refl; agrees = λ c h. (tt, tt); accepts = λ h. tt }
-accepting_alike (Rolling (Some r) b d) body.Rolled = record { sight = refl; agrees = λ c h. (tt, tt); accepts = λ h. tt }
-accepting_alike (Rolling f b d) body.Busy = record { sight = refl; agrees = λ c h. h; accepts = λ h. tt }
-accepting_alike (Telling r w true) body.Told = record { sight = refl; agrees = λ c h. h; accepts = λ h. tt }
-accepting_alike Fading body.Busy = record { sight = refl; agrees = λ c h. h; accepts = λ h. tt }
-accepting_alike _ _ = tt
+accepting_alike Asking (body.Fdata None d) = search rules
+accepting_alike (Joining p true) body.Busy = search rules
+accepting_alike (FreshJoining p true d) body.Busy = search rules
+accepting_alike (Rolling None b d) body.Rolled = search rules
+accepting_alike (Telling r w true) body.Busy = search rules
+accepting_alike _ body.Busy = search rules
+accepting_alike _ _ = search rules
 
 -- ---- performing
 
@@ -211,66 +175,14 @@ performing_does _ op = tt
 
 -- ---- a member that comes and isn't fresh has no contents, and gets none
 
-joining_empty : (p : ℕ) (sent : Bool) (answer : Option Body) (c : Stamped) → role_of (Joining p sent) answer ≡ Some Coming → Agrees c (Joining p sent) answer
-joining_empty p sent None c comes = (tt, tt)
-joining_empty p sent (Some (body.Cdata d)) c comes = cc
-joining_empty p sent (Some _) c comes = (tt, tt)
-
-asking_empty : (answer : Option Body) (c : Stamped) → role_of Asking answer ≡ Some Coming → is_fresh Asking answer ≡ false → Agrees c Asking answer
-asking_empty None c comes stale = cc
-asking_empty (Some (body.Mgone p)) c comes stale = (tt, tt)
-asking_empty (Some (body.Fdata p d)) c comes stale = cc
-asking_empty (Some (body.Mdata d)) c comes stale = cc
-asking_empty (Some _) c comes stale = cc
-
-claiming_leads : (f : Option ℕ) (d : Stamped) (answer : Option Body) → role_of (Claiming f d) answer ≡ Some Coming → ⊥
-claiming_leads f d None e = cc
-claiming_leads f d (Some body.Wbok) e = cc
-claiming_leads f d (Some body.Wbno) e = cc
-claiming_leads f d (Some body.Busy) e = cc
-claiming_leads f d (Some _) e = cc
-
-clearing_leads : (d : Stamped) (answer : Option Body) → role_of (Clearing d) answer ≡ Some Coming → ⊥
-clearing_leads d None e = cc
-clearing_leads d (Some body.Wbno) e = cc
-clearing_leads d (Some body.Busy) e = cc
-clearing_leads d (Some _) e = cc
-
-returning_leads : (d : Stamped) (answer : Option Body) → role_of (Returning d) answer ≡ Some Coming → ⊥
-returning_leads d None e = cc
-returning_leads d (Some body.Wbno) e = cc
-returning_leads d (Some body.Busy) e = cc
-returning_leads d (Some _) e = cc
-
-purging_leads : (q : ℕ) (d : Stamped) (answer : Option Body) → role_of (Purging q d) answer ≡ Some Coming → ⊥
-purging_leads q d None e = cc
-purging_leads q d (Some body.Busy) e = cc
-purging_leads q d (Some (body.Purged x)) e = cc
-purging_leads q d (Some _) e = cc
-
-rolling_follows : (f : Option ℕ) (b : ℕ) (d : Stamped) (answer : Option Body) → role_of (Rolling f b d) answer ≡ Some Coming → ⊥
-rolling_follows f b d None e = cc
-rolling_follows f b d (Some body.Busy) e = cc
-rolling_follows f b d (Some _) e = cc
-
-idle_comes : (state : CacheState) (answer : Option Body) → (role_of state None ≡ Some Coming → ⊥) → ((b : Body) → role_of state (Some b) ≡ None)
-    → role_of state answer ≡ Some Coming → ⊥
-idle_comes state None here there e = here e
-idle_comes state (Some b) here there e = let none = there b in cc
-
 pub coming_empty : (state : CacheState) (answer : Option Body) (c : Stamped) → role_of state answer ≡ Some Coming → is_fresh state answer ≡ false
     → Agrees c state answer
-coming_empty (Joining p sent) answer c comes stale = joining_empty p sent answer c comes
-coming_empty Asking answer c comes stale = asking_empty answer c comes stale
-coming_empty (FreshJoining p sent d) answer c comes stale = cc
-coming_empty Out answer c comes stale = cc
-coming_empty (Head f d) answer c comes stale = absurd (idle_comes (Head f d) answer (λ e. cc) (λ b. refl) comes)
-coming_empty (FreshHead f d) answer c comes stale = absurd (idle_comes (FreshHead f d) answer (λ e. cc) (λ b. refl) comes)
-coming_empty (Below f b d) answer c comes stale = absurd (idle_comes (Below f b d) answer (λ e. cc) (λ x. refl) comes)
-coming_empty (Purging q d) answer c comes stale = absurd (purging_leads q d answer comes)
-coming_empty (Claiming f d) answer c comes stale = absurd (claiming_leads f d answer comes)
-coming_empty (Clearing d) answer c comes stale = absurd (clearing_leads d answer comes)
-coming_empty (Returning d) answer c comes stale = absurd (returning_leads d answer comes)
-coming_empty (Rolling f b d) answer c comes stale = absurd (rolling_follows f b d answer comes)
-coming_empty (Telling r w sent) answer c comes stale = cc
-coming_empty Fading answer c comes stale = cc
+coming_empty Asking (Some (body.Fdata None d)) c comes stale = search rules
+coming_empty (Joining p sent) (Some body.Busy) c comes stale = search rules
+coming_empty (Purging q d) (Some body.Busy) c comes stale = search rules
+coming_empty (Claiming f d) (Some body.Busy) c comes stale = search rules
+coming_empty (Clearing d) (Some body.Busy) c comes stale = search rules
+coming_empty (Returning d) (Some body.Busy) c comes stale = search rules
+coming_empty (Rolling f b d) (Some body.Busy) c comes stale = search rules
+coming_empty _ None c comes stale = search rules
+coming_empty _ _ c comes stale = search rules

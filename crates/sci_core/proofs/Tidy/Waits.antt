@@ -1,5 +1,5 @@
 -- Each row of the tables, as far as it tells who waits and for which request.
-use Rattle.std.proofs.Common.{◌≡◌, ℕ, ◌+◌, ◌%◌, ◌<◌, Bool, true, false, if◌then◌else◌, List, [], ◌∷◌, Some, None, refl, ◌∙◌, inl, inr, arith}
+use Rattle.std.proofs.Common.{◌≡◌, ℕ, ◌+◌, ◌%◌, ◌<◌, Bool, true, false, if◌then◌else◌, List, [], ◌∷◌, Some, None, refl, ◌∙◌, arith, rules}
 use Rattle.std.specs.Prelude.{◌==◌, IfSome}
 use Rattle.sci_words.specs.declared.limits.TheConstants.{CONTROLS}
 use Rattle.sci_words.specs.declared.event.AskKind.{AskKind}
@@ -9,8 +9,8 @@ use Rattle.sci_words.specs.Operation.{is_maker}
 use Rattle.sci_words.specs.Stamped.{reply_of}
 use Rattle.sci_packets.specs.declared.body.Body.{Body}
 use Rattle.sci_packets.specs.declared.body.Body.TheVariants as body
-use Rattle.sci_cache.specs.State.{CacheState, Out, Asking, Joining, FreshJoining, Head, FreshHead, Below, Purging, Claiming, Clearing, Returning, Rolling}
-use Rattle.sci_cache.specs.State.{Telling, Fading, waits}
+use Rattle.sci_cache.specs.State.{CacheState, Asking, Joining, FreshJoining, Head, FreshHead, Below, Rolling}
+use Rattle.sci_cache.specs.State.{Telling, waits}
 use Rattle.sci_cache.specs.Asking.{Asked, asking}
 use Rattle.sci_cache.specs.Serving.{serving, is_next}
 use Rattle.sci_cache.specs.Accepting.{accepting}
@@ -31,17 +31,13 @@ pub record BeginsToWait (state : CacheState) (asked : Asked) : Type 0 where
   pub sent : (home : ℕ) (letter : Letter) → asks_letter home letter asked → IsSentIn home asked.next letter
 
 pub asking_waits : (state : CacheState) (k : AskKind) → IfSome (asking state k) (BeginsToWait state)
-asking_waits Out kind.Mread = record { idle = refl; waiting = refl; sent = λ home letter h. (inl h.2, h.0 refl) }
-asking_waits Out kind.Fread = record { idle = refl; waiting = refl; sent = λ home letter h. (inr h.2, h.0 refl) }
-asking_waits (Joining p false) kind.Cread = record { idle = refl; waiting = refl; sent = λ home letter h. (h.2, h.1 p refl) }
-asking_waits (FreshJoining p false c) kind.Cread = record { idle = refl; waiting = refl; sent = λ home letter h. (h.2, h.1 p refl) }
-asking_waits (Head (Some q) c) kind.Purge = record { idle = refl; waiting = refl; sent = λ home letter h. (h.2, h.1 q refl) }
-asking_waits (Head None c) kind.Wback = record { idle = refl; waiting = refl; sent = λ home letter h. (h.2, h.0 refl) }
-asking_waits (FreshHead f c) kind.Claim = record { idle = refl; waiting = refl; sent = λ home letter h. (h.2, h.0 refl) }
-asking_waits (FreshHead None c) kind.Clear = record { idle = refl; waiting = refl; sent = λ home letter h. (h.2, h.0 refl) }
-asking_waits (Below f b c) kind.Roll = record { idle = refl; waiting = refl; sent = λ home letter h. h.2 }
-asking_waits (Telling r w false) kind.Setback = record { idle = refl; waiting = refl; sent = λ home letter h. (h.2, h.1 r refl) }
-asking_waits _ _ = tt
+asking_waits (Joining p false) kind.Cread = search rules
+asking_waits (FreshJoining p false c) kind.Cread = search rules
+asking_waits (Head None c) kind.Wback = search rules
+asking_waits (FreshHead None c) kind.Clear = search rules
+asking_waits (Telling r w false) kind.Setback = search rules
+asking_waits _ kind.Mread = search rules
+asking_waits _ _ = search rules
 
 -- ---- what leaves the wait as it was
 
@@ -118,32 +114,13 @@ pub record EndsToWait (old new : CacheState) : Type 0 where
   pub idle : waits new ≡ false
 
 pub accepting_waits : (state : CacheState) (answer : Body) → IfSome (accepting state answer) (EndsToWait state)
-accepting_waits Asking (body.Mdata c) = record { waiting = refl; idle = refl }
-accepting_waits Asking (body.Mgone p) = record { waiting = refl; idle = refl }
-accepting_waits Asking (body.Fdata None c) = record { waiting = refl; idle = refl }
-accepting_waits Asking (body.Fdata (Some p) c) = record { waiting = refl; idle = refl }
-accepting_waits Asking body.Busy = record { waiting = refl; idle = refl }
-accepting_waits (Joining p true) (body.Cdata c) = record { waiting = refl; idle = refl }
-accepting_waits (Joining p true) body.Busy = record { waiting = refl; idle = refl }
-accepting_waits (FreshJoining p true c) (body.Cdata sent) = record { waiting = refl; idle = refl }
-accepting_waits (FreshJoining p true c) body.Busy = record { waiting = refl; idle = refl }
-accepting_waits (Purging q c) (body.Purged x) = record { waiting = refl; idle = refl }
-accepting_waits (Purging q c) body.Busy = record { waiting = refl; idle = refl }
-accepting_waits (Claiming f c) body.Wbok = record { waiting = refl; idle = refl }
-accepting_waits (Claiming f c) body.Wbno = record { waiting = refl; idle = refl }
-accepting_waits (Claiming f c) body.Busy = record { waiting = refl; idle = refl }
-accepting_waits (Clearing c) body.Wbok = record { waiting = refl; idle = refl }
-accepting_waits (Clearing c) body.Wbno = record { waiting = refl; idle = refl }
-accepting_waits (Clearing c) body.Busy = record { waiting = refl; idle = refl }
-accepting_waits (Returning c) body.Wbok = record { waiting = refl; idle = refl }
-accepting_waits (Returning c) body.Wbno = record { waiting = refl; idle = refl }
-accepting_waits (Returning c) body.Busy = record { waiting = refl; idle = refl }
-accepting_waits (Rolling None b c) body.Rolled = record { waiting = refl; idle = refl }
-accepting_waits (Rolling (Some r) b c) body.Rolled = record { waiting = refl; idle = refl }
-accepting_waits (Rolling f b c) body.Busy = record { waiting = refl; idle = refl }
-accepting_waits (Telling r w true) body.Told = record { waiting = refl; idle = refl }
-accepting_waits Fading body.Busy = record { waiting = refl; idle = refl }
-accepting_waits _ _ = tt
+accepting_waits Asking (body.Fdata None c) = search rules
+accepting_waits (Joining p true) body.Busy = search rules
+accepting_waits (FreshJoining p true c) body.Busy = search rules
+accepting_waits (Rolling None b c) body.Rolled = search rules
+accepting_waits (Telling r w true) body.Busy = search rules
+accepting_waits _ body.Busy = search rules
+accepting_waits _ _ = search rules
 
 -- ---- the packets of a line
 

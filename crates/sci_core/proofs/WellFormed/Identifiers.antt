@@ -1,5 +1,5 @@
 -- Each row of the tables makes identifiers of nodes from identifiers of nodes.
-use Rattle.std.proofs.Common.{◌≡◌, ℕ, ◌<◌, ◌-◌, ◌^◌, nat_lt, Bool, true, false, if◌then◌else◌, Some, None, refl}
+use Rattle.std.proofs.Common.{◌≡◌, ℕ, ◌<◌, ◌-◌, ◌^◌, nat_lt, Bool, true, false, if◌then◌else◌, Some, None, refl, rules}
 use Rattle.std.specs.Prelude.{IfSome}
 use Rattle.sci_words.specs.declared.stamped.Stamped.{Stamped}
 use Rattle.sci_words.specs.declared.event.AskKind.{AskKind}
@@ -13,8 +13,8 @@ use Rattle.sci_packets.specs.Table.{is_request}
 use Rattle.sci_home.specs.declared.state.HomeState.{HomeState}
 use Rattle.sci_home.specs.declared.state.HomeState.TheVariants as home
 use Rattle.sci_home.specs.Serving.{IsForHome, home_serving as serving_at_home, serving_claim, serving_clear, serving_wback}
-use Rattle.sci_cache.specs.State.{CacheState, Out, Asking, Joining, FreshJoining, Head, FreshHead, Below, Purging, Claiming, Clearing, Returning, Rolling}
-use Rattle.sci_cache.specs.State.{Telling, Fading}
+use Rattle.sci_cache.specs.State.{CacheState, Asking, Joining, FreshJoining, Head, FreshHead, Below, Rolling}
+use Rattle.sci_cache.specs.State.{Telling}
 use Rattle.sci_cache.specs.Asking.{Asked, asking}
 use Rattle.sci_cache.specs.Serving.{serving, is_next}
 use Rattle.sci_cache.specs.Accepting.{accepting}
@@ -30,17 +30,13 @@ pub record AsksWell (nodes : ℕ) (asked : Asked) : Type 0 where
   pub home : IsForHome asked.request → asked.to ≡ None
 
 pub asking_names : (nodes : ℕ) (state : CacheState) (k : AskKind) → NamesNodes nodes state → IfSome (asking state k) (AsksWell nodes)
-asking_names nodes Out kind.Mread h = record { next = tt; to = tt; names = tt; asks = refl; home = λ _. refl }
-asking_names nodes Out kind.Fread h = record { next = tt; to = tt; names = tt; asks = refl; home = λ _. refl }
-asking_names nodes (Joining p false) kind.Cread h = record { next = h; to = h; names = tt; asks = refl; home = λ e. cc }
-asking_names nodes (FreshJoining p false c) kind.Cread h = record { next = h; to = h; names = tt; asks = refl; home = λ e. cc }
-asking_names nodes (Head (Some q) c) kind.Purge h = record { next = h; to = h; names = tt; asks = refl; home = λ e. cc }
-asking_names nodes (Head None c) kind.Wback h = record { next = tt; to = tt; names = tt; asks = refl; home = λ _. refl }
-asking_names nodes (FreshHead f c) kind.Claim h = record { next = h; to = tt; names = tt; asks = refl; home = λ _. refl }
-asking_names nodes (FreshHead None c) kind.Clear h = record { next = tt; to = tt; names = tt; asks = refl; home = λ _. refl }
-asking_names nodes (Below f b c) kind.Roll h = record { next = h; to = h.1; names = h.0; asks = refl; home = λ e. cc }
-asking_names nodes (Telling r w false) kind.Setback h = record { next = h; to = h.0; names = h.1; asks = refl; home = λ e. cc }
-asking_names nodes _ _ h = tt
+asking_names nodes (Joining p false) kind.Cread h = search rules
+asking_names nodes (FreshJoining p false c) kind.Cread h = search rules
+asking_names nodes (Head None c) kind.Wback h = search rules
+asking_names nodes (FreshHead None c) kind.Clear h = search rules
+asking_names nodes (Telling r w false) kind.Setback h = search rules
+asking_names nodes _ kind.Mread h = search rules
+asking_names nodes _ _ h = search rules
 
 pub record ServesWell (nodes : ℕ) (served : CacheState × Body) : Type 0 where
   pub next : NamesNodes nodes served.0
@@ -120,32 +116,13 @@ home_names nodes state n _ lt h = tt
 
 pub accepting_names : (nodes : ℕ) (state : CacheState) (answer : Body) → NamesNodes nodes state → BodyNamesNodes nodes answer
     → IfSome (accepting state answer) (NamesNodes nodes)
-accepting_names nodes Asking (body.Mdata c) h k = tt
-accepting_names nodes Asking (body.Mgone p) h k = k
-accepting_names nodes Asking (body.Fdata None c) h k = tt
-accepting_names nodes Asking (body.Fdata (Some p) c) h k = k
-accepting_names nodes Asking body.Busy h k = tt
-accepting_names nodes (Joining p true) (body.Cdata c) h k = h
-accepting_names nodes (Joining p true) body.Busy h k = h
-accepting_names nodes (FreshJoining p true c) (body.Cdata sent) h k = h
-accepting_names nodes (FreshJoining p true c) body.Busy h k = h
-accepting_names nodes (Purging q c) (body.Purged x) h k = k
-accepting_names nodes (Purging q c) body.Busy h k = h
-accepting_names nodes (Claiming f c) body.Wbok h k = h
-accepting_names nodes (Claiming f c) body.Wbno h k = h
-accepting_names nodes (Claiming f c) body.Busy h k = h
-accepting_names nodes (Clearing c) body.Wbok h k = tt
-accepting_names nodes (Clearing c) body.Wbno h k = tt
-accepting_names nodes (Clearing c) body.Busy h k = tt
-accepting_names nodes (Returning c) body.Wbok h k = tt
-accepting_names nodes (Returning c) body.Wbno h k = tt
-accepting_names nodes (Returning c) body.Busy h k = tt
-accepting_names nodes (Rolling None b c) body.Rolled h k = tt
-accepting_names nodes (Rolling (Some r) b c) body.Rolled h k = h
-accepting_names nodes (Rolling f b c) body.Busy h k = h
-accepting_names nodes (Telling r w true) body.Told h k = tt
-accepting_names nodes Fading body.Busy h k = tt
-accepting_names nodes _ _ h k = tt
+accepting_names nodes Asking (body.Fdata None d) h k = search rules
+accepting_names nodes (Joining p true) body.Busy h k = search rules
+accepting_names nodes (FreshJoining p true d) body.Busy h k = search rules
+accepting_names nodes (Rolling None b d) body.Rolled h k = search rules
+accepting_names nodes (Telling r w true) body.Busy h k = search rules
+accepting_names nodes _ body.Busy h k = search rules
+accepting_names nodes _ _ h k = search rules
 
 -- a load leaves the state
 loading_names : (nodes : ℕ) (makes : Bool) (done : Performed) → NamesNodes nodes done.next

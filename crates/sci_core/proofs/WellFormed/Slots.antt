@@ -1,6 +1,6 @@
 -- A line gets an entry only if a version slot is free, so a node has no more entries than slots.
 use Rattle.std.proofs.Common.{◌≡◌, ℕ, ◌+◌, ◌-◌, ◌^◌, ◌<◌, ◌≤◌, nat_lt, not, cond, Bool, true, false, if◌then◌else◌, length, set, Some, None, refl, sym, subst}
-use Rattle.std.proofs.Common.{arith, inl, inr}
+use Rattle.std.proofs.Common.{arith, inl, inr, rules}
 use Rattle.std.specs.Prelude.{IfSome}
 use Rattle.std.proofs.lemmas.Bool.{cases_lt, ltb-true}
 use Rattle.std.proofs.lemmas.List.{set_past}
@@ -10,8 +10,8 @@ use Rattle.sci_words.specs.Operation.{is_maker}
 use Rattle.sci_words.specs.Stamped.{reply_of}
 use Rattle.sci_packets.specs.declared.body.Body.{Body}
 use Rattle.sci_packets.specs.declared.body.Body.TheVariants as body
-use Rattle.sci_cache.specs.State.{CacheState, Asking, Joining, FreshJoining, Head, FreshHead, Below, Purging, Claiming, Clearing, Returning, Rolling, Telling}
-use Rattle.sci_cache.specs.State.{Fading, is_out}
+use Rattle.sci_cache.specs.State.{CacheState, Asking, Joining, FreshJoining, Head, FreshHead, Below, Rolling, Telling}
+use Rattle.sci_cache.specs.State.{is_out}
 use Rattle.sci_cache.specs.Serving.{serving, is_next}
 use Rattle.sci_cache.specs.Accepting.{accepting}
 use Rattle.sci_cache.specs.Performing.{Performed, performing}
@@ -104,29 +104,10 @@ serving_stays state n _ = tt
 
 -- no answer gives an entry, since a line without one awaits none
 pub accepting_stays : (state : CacheState) (answer : Body) → IfSome (accepting state answer) (λ (next : CacheState). StaysOut state next)
-accepting_stays Asking (body.Mdata c) = never _
-accepting_stays Asking (body.Mgone p) = never _
-accepting_stays Asking (body.Fdata None c) = never _
-accepting_stays Asking (body.Fdata (Some p) c) = never _
-accepting_stays Asking body.Busy = never _
-accepting_stays (Joining p true) (body.Cdata c) = never _
-accepting_stays (Joining p true) body.Busy = never _
-accepting_stays (FreshJoining p true c) (body.Cdata sent) = never _
-accepting_stays (FreshJoining p true c) body.Busy = never _
-accepting_stays (Purging q c) (body.Purged x) = never _
-accepting_stays (Purging q c) body.Busy = never _
-accepting_stays (Claiming f c) body.Wbok = never _
-accepting_stays (Claiming f c) body.Wbno = never _
-accepting_stays (Claiming f c) body.Busy = never _
-accepting_stays (Clearing c) body.Wbok = never _
-accepting_stays (Clearing c) body.Wbno = never _
-accepting_stays (Clearing c) body.Busy = never _
-accepting_stays (Returning c) body.Wbok = never _
-accepting_stays (Returning c) body.Wbno = never _
-accepting_stays (Returning c) body.Busy = never _
-accepting_stays (Rolling None b c) body.Rolled = never _
-accepting_stays (Rolling (Some r) b c) body.Rolled = never _
-accepting_stays (Rolling f b c) body.Busy = never _
-accepting_stays (Telling r w true) body.Told = never _
-accepting_stays Fading body.Busy = never _
-accepting_stays _ _ = tt
+accepting_stays Asking (body.Fdata None d) = search rules
+accepting_stays (Joining p true) body.Busy = search rules
+accepting_stays (FreshJoining p true d) body.Busy = search rules
+accepting_stays (Rolling None b d) body.Rolled = search rules
+accepting_stays (Telling r w true) body.Busy = search rules
+accepting_stays _ body.Busy = search rules
+accepting_stays _ _ = search rules
