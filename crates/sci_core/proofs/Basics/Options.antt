@@ -1,12 +1,17 @@
 -- Optional values.
 use Rattle.std.proofs.Common.{◌≡◌, ℕ, zero, suc, ◌<◌, nat_lt, Bool, if◌then◌else◌, replicate, get_or, Option, Some, None, refl, sym, subst, inl, inr}
-use Rattle.std.specs.Prelude.{IfSome}
+use Rattle.std.specs.Prelude.{IfSome, IsSome}
 use Rattle.std.specs.Option.{option_or}
 use Rattle.std.proofs.lemmas.Bool.{cases_Bool, ltb-true}
 
 -- what holds of an optional value if it is there, holds of it
 pub of_some : {X : Type 0} (P : X → Type 0) (o : Option X) (x : X) → o ≡ Some x → IfSome o P → P x
 of_some {X = X} P o x e h = subst (λ (o_ : Option X). IfSome o_ P) e h
+
+-- a value that is there
+pub found : {A : Type 0} (o : Option A) → IsSome o → (x : A) × (o ≡ Some x)
+found None h = cc
+found (Some x) h = (x, refl)
 
 -- two values that are there, and are one
 pub same_some : {A : Type 0} (x y : A) → Some x ≡ Some y → x ≡ y

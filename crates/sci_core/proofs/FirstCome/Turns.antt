@@ -308,7 +308,7 @@ joined_turned old new a q home c ns joined is =
 
 -- the node that leads is a member
 leading_linked : (view : View) (n : ℕ) → link_in view n ≡ None → role_in view n ≡ Some Leading → ⊥
-leading_linked view n none leads = let member = (stands_as (view.state n) (view.answer n) (Some Leading) leads).member in let link = member.1 in cc
+leading_linked view n none leads = let member = (stands_as (view.state n) (view.answer n) (Some Leading) leads).member in cc
 
 -- one that follows leaves
 left_turned : (old new : View) (x y : ℕ) (home : HomeState) (c : Stamped) (ns : List ℕ) → LeftAt old new x y → IsShaped old home c ns

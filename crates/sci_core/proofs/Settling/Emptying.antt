@@ -213,18 +213,7 @@ telling_same (Rolling f b c) n w = (
   if_head (λ (x : CacheState × Body). entry_rank x.0 ≡ 1) b n (Rolling f w c, body.Told) (Rolling f b c, body.Told) (λ e. refl) refl,
   if_head (λ (x : CacheState × Body). x.1 ≡ body.Told) b n (Rolling f w c, body.Told) (Rolling f b c, body.Told) (λ e. refl) refl,
 )
-telling_same Out n w = (refl, refl)
-telling_same Asking n w = (refl, refl)
-telling_same (Joining p sent) n w = (refl, refl)
-telling_same (FreshJoining p sent c) n w = (refl, refl)
-telling_same (Head f c) n w = (refl, refl)
-telling_same (FreshHead f c) n w = (refl, refl)
-telling_same (Purging q c) n w = (refl, refl)
-telling_same (Claiming f c) n w = (refl, refl)
-telling_same (Clearing c) n w = (refl, refl)
-telling_same (Returning c) n w = (refl, refl)
-telling_same (Telling r v sent) n w = (refl, refl)
-telling_same Fading n w = (refl, refl)
+telling_same _ n w = (refl, refl)
 
 told_lowers : (core new : Core) (n line r w : ℕ) → n < core.size.nodes → line < core.size.lines → r < core.size.nodes → state_at core line n ≡ Telling r w false
     → Known core new n line (record { to = Some r; request = body.Setback w; next = Telling r w true }) → rank new < rank core

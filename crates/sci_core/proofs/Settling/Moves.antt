@@ -17,6 +17,7 @@ use Rattle.sci_core.specs.Node.{NodeOf, no_node}
 use Rattle.sci_core.specs.Reached.{IsReached}
 use Rattle.sci_core.specs.Settling.{Leads}
 use Rattle.sci_core.specs.WellFormed.{IsWellFormed}
+use Rattle.sci_core.proofs.Basics.Options.{found}
 use Rattle.sci_core.proofs.Tidy.Burdens.{light}
 use Rattle.sci_core.proofs.Settling.Drains.{accept_on, place_of, reply_on, serve_on, weighs}
 use Rattle.sci_core.proofs.Settling.Leading.{leads_more}
@@ -59,10 +60,6 @@ nothing_found core reached waiting answers requests =
 some_letter : (lane : List Letter) → 0 < length lane → (letter : Letter) × (rest : List Letter) × (lane ≡ letter ∷ rest)
 some_letter [] some = absurd (omega arith)
 some_letter (letter ∷ rest) some = (letter, rest, refl)
-
-pub found : {X : Type 0} (o : Option X) → IsSome o → (x : X) × (o ≡ Some x)
-found None some = cc
-found (Some x) some = (x, refl)
 
 pub reply_found : (core : Core) (n : ℕ) → n < core.size.nodes → IsSome (node_at core n).waiting → IsEnabled core (event.Reply n)
 reply_found core n lt some = let answer = found (node_at core n).waiting some in reply_on core n answer.0 lt answer.1

@@ -37,9 +37,9 @@ use Rattle.sci_core.proofs.Settling.Emptying.{asks_if, home_round, known}
 use Rattle.sci_core.proofs.Settling.EmptyRuns.{pending_same}
 use Rattle.sci_core.proofs.Settling.Leading.{leads_join, leads_more, leads_on, leads_weaker}
 use Rattle.sci_core.proofs.Basics.Lists.{at_place_set}
-use Rattle.sci_core.proofs.Settling.Moves.{drained_weighs, found}
+use Rattle.sci_core.proofs.Settling.Moves.{drained_weighs}
 use Rattle.sci_core.proofs.Step.NodeSides.{At_home, In_cache, PerformedAs, ServedAs, perform_as, reply_as, serve_as}
-use Rattle.sci_core.proofs.Basics.Options.{of_some}
+use Rattle.sci_core.proofs.Basics.Options.{found, of_some}
 use Rattle.sci_core.proofs.History.Pendings.{sole_performs}
 use Rattle.sci_core.proofs.Settling.Ranks.{few_rounds, none_left, rank_one, rank_shift, sum_less, sum_one, sum_over}
 use Rattle.sci_core.proofs.Settling.Resting.{home_alone, line_known, quiet}

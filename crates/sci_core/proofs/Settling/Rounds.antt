@@ -27,9 +27,8 @@ use Rattle.sci_core.specs.WellFormed.{IsWellFormed}
 use Rattle.sci_core.proofs.Step.Applied.{waits_replying}
 use Rattle.sci_core.proofs.Tidy.Enabled.{accept_enabled, serve_enabled}
 use Rattle.sci_core.proofs.Basics.Lists.{at_place_set}
-use Rattle.sci_core.proofs.Settling.Moves.{found}
 use Rattle.sci_core.proofs.Step.NodeSides.{AsksAlike, At_home as Home_served, In_cache as Cache_served, ServedAs, ask_alike, serve_as}
-use Rattle.sci_core.proofs.Basics.Options.{of_some}
+use Rattle.sci_core.proofs.Basics.Options.{found, of_some}
 use Rattle.sci_core.proofs.WellFormed.Parts.{SendsWell, part_asking}
 use Rattle.sci_core.proofs.Step.Places.{place_answers, place_requests}
 use Rattle.sci_core.proofs.Shape.ShapeSteps.{homes_same}

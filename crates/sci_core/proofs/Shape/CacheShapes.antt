@@ -324,13 +324,7 @@ cache_serves h a q old (Returning c) letter (e, to) here = subst (CacheServes a 
 cache_serves h a q old (Rolling f b c) letter e here = subst (CacheServes a q (Rolling f b c) old) (sym e) (roll_as a q f (Rolling f b c) old (rolling f b c))
 cache_serves h a q old (Telling r w true) letter (e, to) here = subst (CacheServes a q (Telling r w true) old) (sym e) (setback_as a q r w w old)
 cache_serves h a q old Fading letter (f, e) here = subst (CacheServes a q Fading old) (sym e) (roll_as a q f Fading old (fading f))
-cache_serves h a q old Out letter sent here = elim sent [ ]
-cache_serves h a q old (Joining p false) letter sent here = elim sent [ ]
-cache_serves h a q old (FreshJoining p false c) letter sent here = elim sent [ ]
-cache_serves h a q old (Head f c) letter sent here = elim sent [ ]
-cache_serves h a q old (FreshHead f c) letter sent here = elim sent [ ]
-cache_serves h a q old (Below f b c) letter sent here = elim sent [ ]
-cache_serves h a q old (Telling r w false) letter sent here = elim sent [ ]
+cache_serves h a q old _ letter sent here = elim sent [ ]
 
 -- ---- one line, before and after
 

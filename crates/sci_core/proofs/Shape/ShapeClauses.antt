@@ -1,6 +1,6 @@
 -- What a line's shape says, clause by clause, from its list that is led.
 use Rattle.std.proofs.Common.{◌≡◌, ◌⊎◌, ℕ, zero, suc, ◌%◌, ◌<◌, Bool, true, false, List, [], ◌∷◌, ◌++◌, length, get_or, Option, Some, None, refl, sym, ap}
-use Rattle.std.proofs.Common.{subst, ◌∙◌, arith, inl, inr}
+use Rattle.std.proofs.Common.{subst, ◌∙◌, arith, inl, inr, rules}
 use Rattle.std.specs.Prelude.{IfSome, IsSome, is_some, unwrap_or}
 use Rattle.std.specs.Option.{option_or}
 use Rattle.std.specs.List.{AllByRecursion}
@@ -35,7 +35,7 @@ use Rattle.sci_core.proofs.Shape.Led.{role_in, fresh_in, AreFollowing, IsLed, fo
 use Rattle.sci_core.proofs.Shape.Shapes.{IsLedFrom, IsShaped, Shaped}
 use Rattle.sci_core.proofs.Shape.PerformShapes.{no_members, member_agrees, has_last}
 use Rattle.sci_core.proofs.Shape.ShapeSteps.{view_of, ShapedAt, request_tells}
-use Rattle.sci_core.proofs.Basics.Options.{same_some}
+use Rattle.sci_core.proofs.Basics.Options.{found, same_some}
 
 -- ---- standings and states
 
@@ -45,31 +45,14 @@ record Holds (state : CacheState) (answer : Option Body) (d : Stamped) : Type 0 
   pub same : (c : Stamped) → Agrees c state answer → d ≡ c
 
 held : (state : CacheState) (answer : Option Body) → IfSome (contents_held state answer) (Holds state answer)
-held (Head f d) None = record { leads = refl; same = λ c h. h.0 }
-held (FreshHead f d) None = record { leads = refl; same = λ c h. h.0 }
-held (Purging q d) None = record { leads = refl; same = λ c h. h.0 }
-held (Purging q d) (Some body.Busy) = record { leads = refl; same = λ c h. h.0 }
-held (Purging q d) (Some (body.Purged x)) = record { leads = refl; same = λ c h. h.0 }
-held (Claiming f d) None = record { leads = refl; same = λ c h. h.0 }
-held (Claiming f d) (Some body.Wbok) = record { leads = refl; same = λ c h. h.0 }
-held (Claiming f d) (Some body.Wbno) = record { leads = refl; same = λ c h. h.0 }
-held (Claiming f d) (Some body.Busy) = record { leads = refl; same = λ c h. h.0 }
-held (Clearing d) None = record { leads = refl; same = λ c h. h.0 }
-held (Clearing d) (Some body.Wbno) = record { leads = refl; same = λ c h. h.0 }
-held (Clearing d) (Some body.Busy) = record { leads = refl; same = λ c h. h.0 }
-held (Returning d) None = record { leads = refl; same = λ c h. h.0 }
-held (Returning d) (Some body.Wbno) = record { leads = refl; same = λ c h. h.0 }
-held (Returning d) (Some body.Busy) = record { leads = refl; same = λ c h. h.0 }
-held Asking (Some (body.Mdata d)) = record { leads = refl; same = λ c h. h.1 }
-held Asking (Some (body.Fdata None d)) = record { leads = refl; same = λ c h. h.1 }
-held (Joining p sent) (Some (body.Cdata d)) = record { leads = refl; same = λ c h. h.1 }
-held (FreshJoining p sent e) (Some (body.Cdata d)) = record { leads = refl; same = λ c h. h.1 }
-held _ _ = tt
+held Asking (Some (body.Fdata None d)) = search rules
+held _ (Some body.Busy) = search rules
+held _ _ = search rules
 
 -- the node that leads is the authority, and a member
 pub record Leader (state : CacheState) (answer : Option Body) : Type 0 where
   pub holds : IsSome (contents_held state answer)
-  pub member : (f : Option ℕ) × (link_of state answer ≡ Some f)
+  pub member : IsSome (link_of state answer)
 
 -- a member that follows has contents
 pub record Follower (state : CacheState) (answer : Option Body) : Type 0 where
@@ -84,46 +67,20 @@ Standing (Some Leading) state answer = Leader state answer
 Standing (Some Following) state answer = Follower state answer
 
 standing : (state : CacheState) (answer : Option Body) → Standing (role_of state answer) state answer
-standing Asking (Some (body.Mdata d)) = record { holds = refl; member = (None, refl) }
-standing Asking (Some (body.Mgone p)) = refl
-standing Asking (Some (body.Fdata None d)) = record { holds = refl; member = (None, refl) }
-standing Asking (Some (body.Fdata (Some p) d)) = refl
-standing (Joining p sent) (Some (body.Cdata d)) = record { holds = refl; member = (Some p, refl) }
-standing (Joining p sent) _ = refl
-standing (FreshJoining p sent c) (Some (body.Cdata d)) = record { holds = refl; member = (Some p, refl) }
-standing (FreshJoining p sent c) _ = refl
-standing (Head f d) None = record { holds = refl; member = (f, refl) }
-standing (FreshHead f d) None = record { holds = refl; member = (f, refl) }
-standing (Below f b d) None = record { follows_one = refl; has = λ c h. ap Some h.0 }
-standing (Purging q d) None = record { holds = refl; member = (Some q, refl) }
-standing (Purging q d) (Some body.Busy) = record { holds = refl; member = (Some q, refl) }
-standing (Purging q d) (Some (body.Purged x)) = record { holds = refl; member = (x, refl) }
-standing (Claiming f d) None = record { holds = refl; member = (f, refl) }
-standing (Claiming f d) (Some body.Wbok) = record { holds = refl; member = (f, refl) }
-standing (Claiming f d) (Some body.Wbno) = record { holds = refl; member = (f, refl) }
-standing (Claiming f d) (Some body.Busy) = record { holds = refl; member = (f, refl) }
-standing (Clearing d) None = record { holds = refl; member = (None, refl) }
-standing (Clearing d) (Some body.Wbno) = record { holds = refl; member = (None, refl) }
-standing (Clearing d) (Some body.Busy) = record { holds = refl; member = (None, refl) }
-standing (Returning d) None = record { holds = refl; member = (None, refl) }
-standing (Returning d) (Some body.Wbno) = record { holds = refl; member = (None, refl) }
-standing (Returning d) (Some body.Busy) = record { holds = refl; member = (None, refl) }
-standing (Rolling f b d) None = record { follows_one = refl; has = λ c h. ap Some h.0 }
-standing (Rolling f b d) (Some body.Busy) = record { follows_one = refl; has = λ c h. ap Some h.0 }
-standing _ _ = tt
+standing Asking (Some (body.Fdata None d)) = search rules
+standing _ (Some body.Busy) = search rules
+standing _ _ = search rules
 
 pub stands_as : (state : CacheState) (answer : Option Body) (role : Option Role) → role_of state answer ≡ role → Standing role state answer
 stands_as state answer role e = subst (λ (r : Option Role). Standing r state answer) e (standing state answer)
 
 -- who takes contents from a home asks for them
 fdata_asks : (state : CacheState) (p : Option ℕ) (d : Stamped) → IsSome (accepting state (body.Fdata p d)) → state ≡ Asking
-fdata_asks Asking p d h = refl
-fdata_asks (Joining q true) p d h = cc
-fdata_asks (FreshJoining q true c) p d h = cc
-fdata_asks (Rolling None b c) p d h = cc
-fdata_asks (Rolling (Some r) b c) p d h = cc
-fdata_asks (Telling r w true) p d h = cc
-fdata_asks _ p d h = cc
+fdata_asks (Joining q true) p d h = search rules
+fdata_asks (FreshJoining q true c) p d h = search rules
+fdata_asks (Rolling None b c) p d h = search rules
+fdata_asks (Telling r w true) p d h = search rules
+fdata_asks _ p d h = search rules
 
 -- who writes back contents has them
 sent_back : (h : ℕ) (state : CacheState) (letter : Letter) (d : Stamped) → IsSentIn h state letter → letter.body ≡ body.Wback d → state ≡ Returning d
@@ -138,13 +95,7 @@ sent_back h (Returning c) letter d (e, to) is = let both : body.Wback c ≡ body
 sent_back h (Rolling f b c) letter d e is = cc
 sent_back h (Telling r w true) letter d (e, to) is = cc
 sent_back h Fading letter d (f, e) is = cc
-sent_back h Out letter d sent is = elim sent [ ]
-sent_back h (Joining p false) letter d sent is = elim sent [ ]
-sent_back h (FreshJoining p false c) letter d sent is = elim sent [ ]
-sent_back h (Head f c) letter d sent is = elim sent [ ]
-sent_back h (FreshHead f c) letter d sent is = elim sent [ ]
-sent_back h (Below f b c) letter d sent is = elim sent [ ]
-sent_back h (Telling r w false) letter d sent is = elim sent [ ]
+sent_back h _ letter d sent is = elim sent [ ]
 
 -- ---- the one that leads
 
@@ -228,7 +179,8 @@ pub leads_authority : (core : Core) (line n : ℕ) → role_in (view_of core lin
 leads_authority core line n leads = (stands_as (state_at core line n) (told core n line) (Some Leading) leads).holds
 
 pub leads_member : (core : Core) (line n : ℕ) → role_in (view_of core line) n ≡ Some Leading → (f : Option ℕ) × (link_in (view_of core line) n ≡ Some f)
-leads_member core line n leads = (stands_as (state_at core line n) (told core n line) (Some Leading) leads).member
+leads_member core line n leads =
+    found (link_in (view_of core line) n) (stands_as (state_at core line n) (told core n line) (Some Leading) leads).member
 
 same_if : (o : Option Stamped) (c : Stamped) → ((d : Stamped) → o ≡ Some d → d ≡ c) → IfSome o (λ d. d ≡ c)
 same_if None c h = tt
@@ -276,9 +228,9 @@ last_led core line home c ns a well none is leads =
     λ j lt. subst (λ (s : Sharer). IfSome (authority_contents s) (λ e. e ≡ c)) (sym (at j (omega arith))) (authority_same core line home c ns j is) in
     let some : IsSome (authority_contents (get_or (sharers core line) a d)) =
     subst (λ (s : Sharer). IsSome (authority_contents s)) (sym (at a below)) (leads_authority core line a leads) in
-    let found = first_held (sharers core line) c d a same (omega arith) some in
+    let first = first_held (sharers core line) c d a same (omega arith) some in
     ap (λ (o : Option Stamped). unwrap_or (option_or o (first_authority (sharers core line))) zero_stamped) none
-    ∙ ap (λ (o : Option Stamped). unwrap_or o zero_stamped) found
+    ∙ ap (λ (o : Option Stamped). unwrap_or o zero_stamped) first
 
 last_so : (core : Core) (line : ℕ) (home : HomeState) (c : Stamped) → IsWellFormed core → home_at core line ≡ home → Shaped (view_of core line) home c
     → last_at core line ≡ c

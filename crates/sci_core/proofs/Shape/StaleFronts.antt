@@ -1,5 +1,5 @@
 -- If the home's contents are gone, the head of the list isn't fresh: only a Fread makes a member fresh, and its home says so.
-use Rattle.std.proofs.Common.{◌≡◌, ◌≢◌, ℕ, ◌<◌, ◌%◌, Bool, true, false, List, [], ◌∷◌, Option, Some, None, refl, sym, ap, subst, ◌∙◌, inl, inr}
+use Rattle.std.proofs.Common.{◌≡◌, ◌≢◌, ℕ, ◌<◌, ◌%◌, Bool, true, false, if◌then◌else◌, List, [], ◌∷◌, Option, Some, None, refl, sym, ap, subst, ◌∙◌, inl, inr, rules}
 use Rattle.std.specs.Prelude.{IfSome, unwrap_or}
 use Rattle.std.proofs.lemmas.Bool.{cases_Bool, cases_eq}
 use Rattle.std.proofs.lemmas.List.{get_or-set_other, get_or-set_same}
@@ -32,6 +32,7 @@ use Rattle.sci_core.specs.WellFormed.{IsPart, IsWellFormed}
 use Rattle.sci_core.proofs.Shape.Heads.{if_head, next_either}
 use Rattle.sci_core.proofs.Shape.Led.{fresh_in, same_fresh}
 use Rattle.sci_core.proofs.Step.NodeSides.{At_home, In_cache, PerformedAs, ServedAs}
+use Rattle.sci_core.proofs.Basics.Lists.{if_either}
 use Rattle.sci_core.proofs.Basics.Options.{of_some}
 use Rattle.sci_core.proofs.Tidy.Packets.{packets_changed}
 use Rattle.sci_core.proofs.Shape.Shapes.{Asks}
@@ -153,50 +154,21 @@ abbrev tells_fresh : Body → Bool
 tells_fresh (body.Fdata p c) = true
 tells_fresh _ = false
 
-asking_told : (b : Body) → tells_fresh b ≡ false → is_fresh Asking (Some b) ≡ true → is_fresh Asking None ≡ true
-asking_told (body.Fdata p c) told fresh = cc
-asking_told _ told fresh = cc
-
 fresh_untold : (state : CacheState) (b : Body) → tells_fresh b ≡ false → is_fresh state (Some b) ≡ true → is_fresh state None ≡ true
-fresh_untold Asking b told fresh = asking_told b told fresh
-fresh_untold (FreshJoining p sent c) b told fresh = refl
-fresh_untold (FreshHead f c) b told fresh = refl
-fresh_untold (Claiming f c) b told fresh = refl
-fresh_untold (Clearing c) b told fresh = refl
-fresh_untold _ b told fresh = cc
+fresh_untold Asking (body.Fdata p c) told fresh = search rules
+fresh_untold _ _ told fresh = search rules
 
 record Freshens (state : CacheState) (served : CacheState × Body) : Type 0 where
   pub keeps : (answer : Option Body) → is_fresh served.0 answer ≡ true → is_fresh state answer ≡ true
   pub told : tells_fresh served.1 ≡ false
 
-same_freshens : (state : CacheState) (b : Body) → tells_fresh b ≡ false → Freshens state (state, b)
-same_freshens state b told = record { keeps = λ answer e. e; told = told }
+either_freshens : (state : CacheState) (b : Bool) (x y : CacheState × Body) → Freshens state x → Freshens state y → Freshens state (if b then x else y)
+either_freshens state b x y h k = if_either (Freshens state) b x y h k
 
 serving_freshens : (state : CacheState) (n : ℕ) (request : Body) → IfSome (serving state n request) (Freshens state)
-serving_freshens (Head f c) n body.Cread = record { keeps = λ answer e. cc; told = refl }
-serving_freshens (FreshHead f c) n body.Cread = record { keeps = λ answer e. cc; told = refl }
-serving_freshens state n body.Cread = same_freshens _ body.Busy refl
-serving_freshens (Below f b c) n body.Purge = record { keeps = λ answer e. cc; told = refl }
-serving_freshens (Rolling f b c) n body.Purge = record { keeps = λ answer e. cc; told = refl }
-serving_freshens state n body.Purge = same_freshens _ body.Busy refl
-serving_freshens (Head f c) n (body.Roll m) =
-    next_either (Freshens (Head f c)) f n (Head m c, body.Rolled) (Head f c, body.Busy) (λ is. record { keeps = λ answer e. cc; told = refl })
-    (same_freshens (Head f c) body.Busy refl)
-serving_freshens (FreshHead f c) n (body.Roll m) =
-    next_either (Freshens (FreshHead f c)) f n (FreshHead m c, body.Rolled) (FreshHead f c, body.Busy) (λ is. record { keeps = λ answer e. refl; told = refl })
-    (same_freshens (FreshHead f c) body.Busy refl)
-serving_freshens (Below f b c) n (body.Roll m) =
-    next_either (Freshens (Below f b c)) f n (Below m b c, body.Rolled) (Below f b c, body.Busy) (λ is. record { keeps = λ answer e. cc; told = refl })
-    (same_freshens (Below f b c) body.Busy refl)
-serving_freshens state n (body.Roll m) = same_freshens _ body.Busy refl
-serving_freshens (Below f b c) n (body.Setback w) =
-    if_head (Freshens (Below f b c)) b n (Below f w c, body.Told) (Below f b c, body.Told) (λ is. record { keeps = λ answer e. cc; told = refl })
-    (same_freshens (Below f b c) body.Told refl)
-serving_freshens (Rolling f b c) n (body.Setback w) =
-    if_head (Freshens (Rolling f b c)) b n (Rolling f w c, body.Told) (Rolling f b c, body.Told) (λ is. record { keeps = λ answer e. cc; told = refl })
-    (same_freshens (Rolling f b c) body.Told refl)
-serving_freshens state n (body.Setback w) = same_freshens _ body.Told refl
-serving_freshens state n _ = tt
+serving_freshens (Head f c) n body.Cread = search rules
+serving_freshens _ n body.Cread = search rules
+serving_freshens _ n _ = search (rules, either_freshens)
 
 shifted_state : (old new : View) (a q : ℕ) (next : CacheState) (b : Body) → Shift old new a q next b → Freshens (old.state q) (next, b)
     → (n : ℕ) (answer : Option Body) → is_fresh (new.state n) answer ≡ true → is_fresh (old.state n) answer ≡ true

@@ -1,7 +1,8 @@
 -- Where a member stands in its list: before the authority, as the authority, or behind it; and which contents it has or
 -- gets. Each row of the tables but those of served requests leaves that as it was.
-use Rattle.std.proofs.Common.{◌≡◌, ℕ, ◌+◌, ◌-◌, ◌^◌, nat_lt, Bool, true, false, if◌then◌else◌, Option, Some, None, refl, sym, ap, rules}
+use Rattle.std.proofs.Common.{◌≡◌, ℕ, ◌+◌, ◌-◌, ◌^◌, nat_lt, Bool, true, false, if◌then◌else◌, Option, Some, None, refl, sym, ap, subst, rules}
 use Rattle.std.specs.Prelude.{IfSome}
+use Rattle.std.proofs.lemmas.Option.{IfSome_then}
 use Rattle.sci_words.specs.declared.stamped.Stamped.{Stamped}
 use Rattle.sci_words.specs.declared.event.AskKind.{AskKind}
 use Rattle.sci_words.specs.declared.event.AskKind.TheVariants as kind
@@ -173,16 +174,21 @@ performing_does (FreshHead f c) op = reads (FreshHead f c) op c f (is_maker op) 
 performing_does (Below f b c) op = reads (Below f b c) op c f (is_maker op) refl refl refl refl
 performing_does _ op = tt
 
+leaves_so : (P : CacheState → Type 0) (state : CacheState) (op : Op) (c : Stamped) (next : CacheState) → P state
+    → ((d e : Stamped) → state ≡ Head None d → P (Head None e)) → Leaves state op c next → P next
+leaves_so P state op c next h makes (Reads _ same) = subst P (sym same) h
+leaves_so P state op c next h makes (Makes was same) = subst P (sym same) (makes c (after c op) was)
+
+-- what holds of a state, and of made contents, holds after an operation
+pub performing_keeps : (P : CacheState → Type 0) (state : CacheState) (op : Op) → P state → ((d e : Stamped) → state ≡ Head None d → P (Head None e))
+    → IfSome (performing state op) (λ (done : Performed). P done.next)
+performing_keeps P state op h makes =
+    IfSome_then (performing state op) (performing_does state op) (λ done does. leaves_so P state op does.contents done.next h makes does.leaves)
+
 -- ---- a member that comes and isn't fresh has no contents, and gets none
 
 pub coming_empty : (state : CacheState) (answer : Option Body) (c : Stamped) → role_of state answer ≡ Some Coming → is_fresh state answer ≡ false
     → Agrees c state answer
 coming_empty Asking (Some (body.Fdata None d)) c comes stale = search rules
-coming_empty (Joining p sent) (Some body.Busy) c comes stale = search rules
-coming_empty (Purging q d) (Some body.Busy) c comes stale = search rules
-coming_empty (Claiming f d) (Some body.Busy) c comes stale = search rules
-coming_empty (Clearing d) (Some body.Busy) c comes stale = search rules
-coming_empty (Returning d) (Some body.Busy) c comes stale = search rules
-coming_empty (Rolling f b d) (Some body.Busy) c comes stale = search rules
-coming_empty _ None c comes stale = search rules
+coming_empty _ (Some body.Busy) c comes stale = search rules
 coming_empty _ _ c comes stale = search rules

@@ -1,5 +1,5 @@
 -- Each row of the tables, as far as it tells who waits and for which request.
-use Rattle.std.proofs.Common.{◌≡◌, ℕ, ◌+◌, ◌%◌, ◌<◌, Bool, true, false, if◌then◌else◌, List, [], ◌∷◌, Some, None, refl, ◌∙◌, arith, rules}
+use Rattle.std.proofs.Common.{◌≡◌, ℕ, ◌+◌, ◌%◌, ◌<◌, Bool, true, false, if◌then◌else◌, List, [], ◌∷◌, Some, None, refl, ◌∙◌, sym, ap, subst, arith, rules}
 use Rattle.std.specs.Prelude.{◌==◌, IfSome}
 use Rattle.sci_words.specs.declared.limits.TheConstants.{CONTROLS}
 use Rattle.sci_words.specs.declared.event.AskKind.{AskKind}
@@ -19,6 +19,7 @@ use Rattle.sci_cache.specs.Line.{LineState}
 use Rattle.sci_cache.specs.Cache.{Letter}
 use Rattle.sci_core.specs.Tidy.{IsSentIn, IsAwaited, HasItsPackets}
 use Rattle.sci_core.proofs.Basics.Lists.{if_either}
+use Rattle.sci_core.proofs.Shape.Standings.{performing_keeps}
 
 -- ---- asking
 
@@ -57,55 +58,17 @@ pub record KeepsWait (old new : CacheState) : Type 0 where
 same_wait : (state : CacheState) → KeepsWait state state
 same_wait state = record { wait = refl; sent = λ home letter h. h }
 
-abbrev Waits : CacheState → CacheState × Body → Type 0
-Waits state served = KeepsWait state served.0
+either_waits : (state : CacheState) (b : Bool) (x y : CacheState × Body) → KeepsWait state x.0 → KeepsWait state y.0 → KeepsWait state (if b then x else y).0
+either_waits state b x y h k = if_either (λ (served : CacheState × Body). KeepsWait state served.0) b x y h k
 
 pub serving_waits : (state : CacheState) (n : ℕ) (request : Body) → IfSome (serving state n request) (λ (served : CacheState × Body). KeepsWait state served.0)
-serving_waits (Head f c) n body.Cread = record { wait = refl; sent = λ home letter h. elim h [ ] }
-serving_waits (FreshHead f c) n body.Cread = record { wait = refl; sent = λ home letter h. elim h [ ] }
-serving_waits state n body.Cread = same_wait _
-serving_waits (Below f b c) n body.Purge = record { wait = refl; sent = λ home letter h. elim h [ ] }
-serving_waits (Rolling f b c) n body.Purge = record { wait = refl; sent = λ home letter h. (f, h) }
-serving_waits state n body.Purge = same_wait _
-serving_waits (Head f c) n (body.Roll m) =
-    if_either (Waits (Head f c)) (is_next f n) (Head m c, body.Rolled) (Head f c, body.Busy) (record { wait = refl; sent = λ home letter h. elim h [ ] })
-    (same_wait (Head f c))
-serving_waits (FreshHead f c) n (body.Roll m) =
-    if_either (Waits (FreshHead f c)) (is_next f n) (FreshHead m c, body.Rolled) (FreshHead f c, body.Busy)
-    (record { wait = refl; sent = λ home letter h. elim h [ ] }) (same_wait (FreshHead f c))
-serving_waits (Below f b c) n (body.Roll m) =
-    if_either (Waits (Below f b c)) (is_next f n) (Below m b c, body.Rolled) (Below f b c, body.Busy)
-    (record { wait = refl; sent = λ home letter h. elim h [ ] }) (same_wait (Below f b c))
-serving_waits state n (body.Roll m) = same_wait _
-serving_waits (Below f b c) n (body.Setback w) =
-    if_either (Waits (Below f b c)) (b == n) (Below f w c, body.Told) (Below f b c, body.Told) (record { wait = refl; sent = λ home letter h. elim h [ ] })
-    (same_wait (Below f b c))
-serving_waits (Rolling f b c) n (body.Setback w) =
-    if_either (Waits (Rolling f b c)) (b == n) (Rolling f w c, body.Told) (Rolling f b c, body.Told) (record { wait = refl; sent = λ home letter h. h })
-    (same_wait (Rolling f b c))
-serving_waits state n (body.Setback w) = same_wait _
-serving_waits state n _ = tt
-
-loads : (state : CacheState) (makes : Bool) (done : Performed) → KeepsWait state done.next
-    → IfSome (if makes then None else Some done) (λ (d : Performed). KeepsWait state d.next)
-loads state true done h = tt
-loads state false done h = h
-
-makes_or_loads : (state : CacheState) (makes room : Bool) (made read : Performed) → KeepsWait state made.next → KeepsWait state read.next
-    → IfSome (if makes then (if room then Some made else None) else Some read) (λ (d : Performed). KeepsWait state d.next)
-makes_or_loads state true true made read h k = h
-makes_or_loads state true false made read h k = tt
-makes_or_loads state false room made read h k = k
+serving_waits (Head f c) n body.Cread = search rules
+serving_waits _ n body.Cread = search rules
+serving_waits _ n _ = search (rules, either_waits)
 
 pub performing_waits : (state : CacheState) (op : Op) → IfSome (performing state op) (λ (done : Performed). KeepsWait state done.next)
-performing_waits (Head None c) op = grind (arith, makes_or_loads, same_wait)
-performing_waits (Head (Some q) c) op =
-    loads (Head (Some q) c) (is_maker op) (record { reply = reply_of c.line op; version = c.version; next = Head (Some q) c }) (same_wait (Head (Some q) c))
-performing_waits (FreshHead f c) op =
-    loads (FreshHead f c) (is_maker op) (record { reply = reply_of c.line op; version = c.version; next = FreshHead f c }) (same_wait (FreshHead f c))
-performing_waits (Below f b c) op =
-    loads (Below f b c) (is_maker op) (record { reply = reply_of c.line op; version = c.version; next = Below f b c }) (same_wait (Below f b c))
-performing_waits _ op = tt
+performing_waits state op = performing_keeps (KeepsWait state) state op (same_wait state)
+    (λ c d e. record { wait = sym (ap waits e); sent = λ home letter h. absurd (subst (λ (s : CacheState). IsSentIn home s letter) e h) })
 
 -- ---- accepting
 
