@@ -1,5 +1,5 @@
 -- Each node's log has its own entries.
-use Rattle.std.proofs.Common.{◌≡◌, List, ap, sym, subst, ◌∙◌, arith}
+use Rattle.std.proofs.Common.{◌≡◌, List, ap, sym, subst, ◌∙◌, refl, arith}
 use Rattle.std.specs.List.{All}
 use Rattle.sci_history.specs.declared.entry.Entry.{Entry}
 use Rattle.sci_history.specs.Audit.{AreWithin}
@@ -8,6 +8,7 @@ use Rattle.sci_history.specs.Sequential.{IsSequentiallyConsistent}
 use Rattle.sci_core.specs.Node.{NodeOf}
 use Rattle.sci_core.specs.Core.{Core}
 use Rattle.sci_core.specs.Outcome.{logs_of}
+use Rattle.sci_core.specs.Reached.{IsReached}
 use Rattle.sci_core.specs.Sharing.{last_of}
 use Rattle.sci_core.proofs.WellFormed.WellFormedSteps.{reached_well}
 use Rattle.sci_core.proofs.ReachedLaws.{reached_consistent, reached_lawful, reached_within}
@@ -20,36 +21,19 @@ put-requires-clause-own c =
     subst (All (λ (entry : Entry). entry.node ≡ c.loop-n.n)) (sym log)
     (own_log c.self.inside.state c.loop-n.n (reached_well c.self.inside.state c.self.invariant) (omega arith))
 
-pub returns-clause-logs : goal.returns-clause-logs
-returns-clause-logs c =
-    let well = reached_well c.self.inside.state c.self.invariant in
-    let long = well.sizes.parts_long in
-    subst (λ (core : Core). c.loop-n.logs ≡ logs_of core) c.self.view_is
-    (all_logs c.self.inside.state c.loop-n.logs c.loop-n.n (omega arith) c.loop-n.invariant.0 c.loop-n.invariant.1)
-
-pub returns-clause-lawful : goal.returns-clause-lawful
-returns-clause-lawful c =
+pub returns : goal.returns
+returns c =
     let core = c.self.inside.state in
     let well = reached_well core c.self.invariant in
     let long = well.sizes.parts_long in
-    let all = all_logs core c.loop-n.logs c.loop-n.n (omega arith) c.loop-n.invariant.0 c.loop-n.invariant.1 in
-    let lawful = subst (λ (logs : List (List Entry)). Lawful logs (last_of core)) (sym all) (reached_lawful core c.self.invariant) in
-    subst (λ (k : Core). Lawful c.loop-n.logs (last_of k)) c.self.view_is lawful
-
-pub returns-clause-within : goal.returns-clause-within
-returns-clause-within c =
-    let core = c.self.inside.state in
-    let well = reached_well core c.self.invariant in
-    let long = well.sizes.parts_long in
-    let all = all_logs core c.loop-n.logs c.loop-n.n (omega arith) c.loop-n.invariant.0 c.loop-n.invariant.1 in
-    let within = subst (AreWithin core.size.lines) (sym all) (reached_within core c.self.invariant) in
-    subst (λ (k : Core). AreWithin k.size.lines c.loop-n.logs) c.self.view_is within
-
-pub returns-clause-consistent : goal.returns-clause-consistent
-returns-clause-consistent c =
-    let core = c.self.inside.state in
-    let well = reached_well core c.self.invariant in
-    let long = well.sizes.parts_long in
-    let all = all_logs core c.loop-n.logs c.loop-n.n (omega arith) c.loop-n.invariant.0 c.loop-n.invariant.1 in
-    let consistent = subst (λ (logs : List (List Entry)). IsSequentiallyConsistent logs (last_of core)) (sym all) (reached_consistent core c.self.invariant) in
-    subst (λ (k : Core). IsSequentiallyConsistent c.loop-n.logs (last_of k)) c.self.view_is consistent
+    let logs = c.loop-n.logs in
+    let all = all_logs core logs c.loop-n.n (omega arith) c.loop-n.invariant.0 c.loop-n.invariant.1 in
+    let so = λ (P : Core → List (List Entry) → Type 0) (h : P core (logs_of core)).
+    subst (λ (k : Core). P k logs) c.self.view_is (subst (P core) (sym all) h) in
+    record {
+      logs = so (λ k ls. ls ≡ logs_of k) refl;
+      lawful = so (λ k ls. Lawful ls (last_of k)) (reached_lawful core c.self.invariant);
+      within = so (λ k ls. AreWithin k.size.lines ls) (reached_within core c.self.invariant);
+      consistent = so (λ k ls. IsSequentiallyConsistent ls (last_of k)) (reached_consistent core c.self.invariant);
+      reached = subst IsReached c.self.view_is c.self.invariant;
+    }

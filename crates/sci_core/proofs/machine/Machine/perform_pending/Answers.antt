@@ -1,7 +1,8 @@
 -- The line can be read, the operation can be performed, and one round is left.
 use Rattle.std.proofs.Common.{refl, arith}
 use Rattle.sci_core.proofs.Settling.EmptyRuns.{refused_after}
-use Rattle.sci_core.proofs.Settling.PendingRuns.{after_perform, can_perform, can_read, done_so, has_read, performs_one_read, stands_after, worked_one}
+use Rattle.sci_core.proofs.Settling.PendingRuns.{Done, after_perform, can_perform, can_read, done_so, has_read, performs_one_read, stands_after, worked_one}
+use Rattle.sci_core.proofs.machine.Machine.perform_pending.Goals.{In_ok-count}
 use Rattle.sci_core.proofs.machine.Machine.perform_pending.Goals as goal
 
 pub round-requires-clause-asks : goal.round-requires-clause-asks
@@ -31,15 +32,17 @@ returns-in_err-count-clause-refused c =
     (after_perform c.args.self.now c.round.new.self c.make.new.self c.args.node c.args.line c.in_ok-round.ensures.made c.in_ok-make.ensures.ok)
     (c.in_err-count.ensures.refused refl)
 
+done : (c : In_ok-count) → Done c.args.self.now c.empty_lines.new.self c.in_ok-count.count
+done c =
+    let read = has_read c.args.self.now c.round.new.self c.args.node c.args.line c.extent-extent.ensures.reached c.requires.drained c.requires.empty
+    c.requires.line c.in_ok-round.ensures.round in
+    done_so c.args.self.now c.round.new.self c.make.new.self c.empty_lines.new.self c.args.node c.args.line c.in_ok-count.count c.requires.empty
+    c.requires.node c.requires.line read (performs_one_read c.args.self.now c.round.new.self c.make.new.self c.args.node c.args.line
+    c.round.ensures.coherent.reached c.in_ok-round.ensures.drained c.requires.node c.requires.line read c.in_ok-make.ensures.ok) c.in_ok-count.ensures.few
+    c.in_ok-count.ensures.pending
+
 pub overflow_add-result : goal.overflow_add-result
-overflow_add-result c =
-    let few = (done_so c.args.self.now c.round.new.self c.make.new.self c.empty_lines.new.self c.args.node c.args.line c.in_ok-count.count c.requires.empty
-    c.requires.node c.requires.line
-    (has_read c.args.self.now c.round.new.self c.args.node c.args.line c.extent-extent.ensures.reached c.requires.drained c.requires.empty c.requires.line
-    c.in_ok-round.ensures.round) (performs_one_read c.args.self.now c.round.new.self c.make.new.self c.args.node c.args.line
-    c.round.ensures.coherent.reached c.in_ok-round.ensures.drained c.requires.node c.requires.line
-    (has_read c.args.self.now c.round.new.self c.args.node c.args.line c.extent-extent.ensures.reached c.requires.drained c.requires.empty c.requires.line
-    c.in_ok-round.ensures.round) c.in_ok-make.ensures.ok) c.in_ok-count.ensures.few c.in_ok-count.ensures.pending).few in omega arith
+overflow_add-result c = let few = (done (goal.at.overflow_add-result c).In_ok-count).few in omega arith
 
 pub returns-clause-made : goal.returns-clause-made
 returns-clause-made c =
@@ -47,21 +50,7 @@ returns-clause-made c =
     c.in_ok-make.ensures.ok c.in_ok-count.ensures.made
 
 pub returns-clause-few : goal.returns-clause-few
-returns-clause-few c =
-    (done_so c.args.self.now c.round.new.self c.make.new.self c.empty_lines.new.self c.args.node c.args.line c.in_ok-count.count c.requires.empty
-    c.requires.node c.requires.line
-    (has_read c.args.self.now c.round.new.self c.args.node c.args.line c.extent-extent.ensures.reached c.requires.drained c.requires.empty c.requires.line
-    c.in_ok-round.ensures.round) (performs_one_read c.args.self.now c.round.new.self c.make.new.self c.args.node c.args.line
-    c.round.ensures.coherent.reached c.in_ok-round.ensures.drained c.requires.node c.requires.line
-    (has_read c.args.self.now c.round.new.self c.args.node c.args.line c.extent-extent.ensures.reached c.requires.drained c.requires.empty c.requires.line
-    c.in_ok-round.ensures.round) c.in_ok-make.ensures.ok) c.in_ok-count.ensures.few c.in_ok-count.ensures.pending).few
+returns-clause-few c = (done (goal.at.returns-clause-few c).In_ok-count).few
 
 pub returns-clause-one : goal.returns-clause-one
-returns-clause-one c =
-    (done_so c.args.self.now c.round.new.self c.make.new.self c.empty_lines.new.self c.args.node c.args.line c.in_ok-count.count c.requires.empty
-    c.requires.node c.requires.line
-    (has_read c.args.self.now c.round.new.self c.args.node c.args.line c.extent-extent.ensures.reached c.requires.drained c.requires.empty c.requires.line
-    c.in_ok-round.ensures.round) (performs_one_read c.args.self.now c.round.new.self c.make.new.self c.args.node c.args.line
-    c.round.ensures.coherent.reached c.in_ok-round.ensures.drained c.requires.node c.requires.line
-    (has_read c.args.self.now c.round.new.self c.args.node c.args.line c.extent-extent.ensures.reached c.requires.drained c.requires.empty c.requires.line
-    c.in_ok-round.ensures.round) c.in_ok-make.ensures.ok) c.in_ok-count.ensures.few c.in_ok-count.ensures.pending).pending
+returns-clause-one c = (done (goal.at.returns-clause-one c).In_ok-count).pending
