@@ -9,8 +9,7 @@ use Rattle.sci_packets.specs.declared.body.Body.TheVariants as body
 use Rattle.sci_home.specs.declared.state.HomeState.{HomeState}
 use Rattle.sci_home.specs.declared.state.HomeState.TheVariants as at
 use Rattle.sci_home.specs.Serving.{head_of, serving_mread, serving_fread, serving_claim, serving_clear, serving_wback, home_serving as at_home}
-use Rattle.sci_cache.specs.State.{CacheState, Out, Asking, Joining, FreshJoining, Head, FreshHead, Below, Purging, Claiming, Clearing, Returning, Rolling}
-use Rattle.sci_cache.specs.State.{Telling, Fading}
+use Rattle.sci_cache.specs.State.{CacheState, Asking, Claiming, Clearing, Returning}
 use Rattle.sci_cache.specs.Member.{link_of}
 use Rattle.sci_cache.specs.Cache.{Letter}
 use Rattle.sci_history.specs.Seen.{IsAmong}
@@ -22,7 +21,7 @@ use Rattle.sci_core.proofs.Shape.Chains.{chain_gone, chain_same, chain_taken_out
 use Rattle.sci_core.proofs.Shape.Heads.{if_head}
 use Rattle.sci_core.proofs.Shape.Led.{AlikeIn, IsLed, Joins, following_in, role_in, roles_differ, same_link, same_role}
 use Rattle.sci_core.proofs.Shape.ShapeClauses.{stands_as}
-use Rattle.sci_core.proofs.Shape.Shapes.{Asks, IsShaped, after, before, claimed_list, fronts_list, stays_alike}
+use Rattle.sci_core.proofs.Shape.Shapes.{Asks, IsShaped, after, before, claimed_list, fronts_list, home_sent, stays_alike}
 use Rattle.sci_core.proofs.Shape.Standings.{Alike, Coming, Following, Leading, Role, role_of}
 use Rattle.sci_core.proofs.Shape.Views.{Shift, View, link_in}
 
@@ -134,8 +133,7 @@ HomeTurns old new a asker home arrival served =
 
 mread_turns : (old new : View) (home : HomeState) (a : ℕ) → HomeTurns old new a Asking home (a ∷ []) (serving_mread home a)
 mread_turns old new (at.Home d) a asks ns list = enters_alone old new (at.Gone a) d a Asking (body.Mdata d) ns asks refl refl refl refl (λ e. cc) list
-mread_turns old new (at.Fresh p d) a asks ns list = enters_front old new (at.Fresh p d) (at.Gone a) a Asking (body.Mgone p) ns asks refl refl refl refl list
-mread_turns old new (at.Gone p) a asks ns list = enters_front old new (at.Gone p) (at.Gone a) a Asking (body.Mgone p) ns asks refl refl refl refl list
+mread_turns old new home a asks ns list = enters_front old new home (at.Gone a) a Asking _ ns asks refl refl refl refl list
 
 fread_turns : (old new : View) (home : HomeState) (a : ℕ) → HomeTurns old new a Asking home (a ∷ []) (serving_fread home a)
 fread_turns old new (at.Home d) a asks ns list = enters_alone old new (at.Fresh a d) d a Asking (body.Fdata None d) ns asks refl refl refl refl (λ e. cc) list
@@ -166,14 +164,11 @@ claimed_turns old new a p c f d head asks ns list =
     }
 
 claim_turns : (old new : View) (home : HomeState) (a : ℕ) (f : Option ℕ) (d : Stamped) → HomeTurns old new a (Claiming f d) home [] (serving_claim home a)
-claim_turns old new (at.Home e) a f d =
-    answers_alike old new (at.Home e) a (Claiming f d) body.Wbno (record { sight = refl; agrees = λ c_ h. h; accepts = λ h. refl })
 claim_turns old new (at.Fresh p e) a f d =
     if_head (HomeTurns old new a (Claiming f d) (at.Fresh p e) []) p a (at.Gone a, body.Wbok) (at.Fresh p e, body.Wbno)
     (λ head. claimed_turns old new a p e f d head)
     (answers_alike old new (at.Fresh p e) a (Claiming f d) body.Wbno (record { sight = refl; agrees = λ c_ h. h; accepts = λ h. refl }))
-claim_turns old new (at.Gone p) a f d =
-    answers_alike old new (at.Gone p) a (Claiming f d) body.Wbno (record { sight = refl; agrees = λ c_ h. h; accepts = λ h. refl })
+claim_turns old new home a f d = answers_alike old new home a (Claiming f d) body.Wbno (record { sight = refl; agrees = λ c_ h. h; accepts = λ h. refl })
 
 -- nobody comes before a front that leads
 front_leads : (view : View) (first : Option ℕ) (a : ℕ) (ns : List ℕ) → first ≡ Some a → role_in view a ≡ Some Leading → LinkedFrom (link_in view) first ns
@@ -197,52 +192,28 @@ leaves_turns old new home back p a asker head same ends gone leads not asks ns l
 }
 
 clear_turns : (old new : View) (home : HomeState) (a : ℕ) (d : Stamped) → HomeTurns old new a (Clearing d) home [] (serving_clear home a)
-clear_turns old new (at.Home e) a d =
-    answers_alike old new (at.Home e) a (Clearing d) body.Wbno (record { sight = refl; agrees = λ c_ h. h; accepts = λ h. refl })
 clear_turns old new (at.Fresh p e) a d =
     if_head (HomeTurns old new a (Clearing d) (at.Fresh p e) []) p a (at.Home e, body.Wbok) (at.Fresh p e, body.Wbno)
     (λ head. leaves_turns old new (at.Fresh p e) e p a (Clearing d) refl head refl refl refl (λ e_. cc))
     (answers_alike old new (at.Fresh p e) a (Clearing d) body.Wbno (record { sight = refl; agrees = λ c_ h. h; accepts = λ h. refl }))
-clear_turns old new (at.Gone p) a d =
-    answers_alike old new (at.Gone p) a (Clearing d) body.Wbno (record { sight = refl; agrees = λ c_ h. h; accepts = λ h. refl })
+clear_turns old new home a d = answers_alike old new home a (Clearing d) body.Wbno (record { sight = refl; agrees = λ c_ h. h; accepts = λ h. refl })
 
 wback_turns : (old new : View) (home : HomeState) (a : ℕ) (d : Stamped) → HomeTurns old new a (Returning d) home [] (serving_wback home a d)
-wback_turns old new (at.Home e) a d =
-    answers_alike old new (at.Home e) a (Returning d) body.Wbno (record { sight = refl; agrees = λ c_ h. h; accepts = λ h. refl })
-wback_turns old new (at.Fresh p e) a d =
-    answers_alike old new (at.Fresh p e) a (Returning d) body.Wbno (record { sight = refl; agrees = λ c_ h. h; accepts = λ h. refl })
 wback_turns old new (at.Gone p) a d =
     if_head (HomeTurns old new a (Returning d) (at.Gone p) []) p a (at.Home d, body.Wbok) (at.Gone p, body.Wbno)
     (λ head. leaves_turns old new (at.Gone p) d p a (Returning d) refl head refl refl refl (λ e_. cc))
     (answers_alike old new (at.Gone p) a (Returning d) body.Wbno (record { sight = refl; agrees = λ c_ h. h; accepts = λ h. refl }))
+wback_turns old new home a d = answers_alike old new home a (Returning d) body.Wbno (record { sight = refl; agrees = λ c_ h. h; accepts = λ h. refl })
 
 -- who arrives by a request
 abbrev pub arrival_by : ℕ → Body → List ℕ
 arrival_by a request = if enters request then a ∷ [] else []
 
-abbrev TurnsIf : View → View → ℕ → CacheState → HomeState → Body → Type 0
-TurnsIf old new a asker home request = IfSome (at_home home a request) (HomeTurns old new a asker home (arrival_by a request))
-
 pub home_turned : (h a : ℕ) (home : HomeState) (old new : View) (asker : CacheState) (letter : Letter) → IsSentIn h asker letter
-    → TurnsIf old new a asker home letter.body
-home_turned h a home old new Asking letter (inl e, to) = subst (TurnsIf old new a Asking home) (sym e) (mread_turns old new home a)
-home_turned h a home old new Asking letter (inr e, to) = subst (TurnsIf old new a Asking home) (sym e) (fread_turns old new home a)
-home_turned h a home old new (Joining p true) letter (e, to) = subst (TurnsIf old new a (Joining p true) home) (sym e) tt
-home_turned h a home old new (FreshJoining p true d) letter (e, to) = subst (TurnsIf old new a (FreshJoining p true d) home) (sym e) tt
-home_turned h a home old new (Purging q d) letter (e, to) = subst (TurnsIf old new a (Purging q d) home) (sym e) tt
-home_turned h a home old new (Claiming f d) letter (e, to) = subst (TurnsIf old new a (Claiming f d) home) (sym e) (claim_turns old new home a f d)
-home_turned h a home old new (Clearing d) letter (e, to) = subst (TurnsIf old new a (Clearing d) home) (sym e) (clear_turns old new home a d)
-home_turned h a home old new (Returning d) letter (e, to) = subst (TurnsIf old new a (Returning d) home) (sym e) (wback_turns old new home a d)
-home_turned h a home old new (Rolling f b d) letter e = subst (TurnsIf old new a (Rolling f b d) home) (sym e) tt
-home_turned h a home old new (Telling r w true) letter (e, to) = subst (TurnsIf old new a (Telling r w true) home) (sym e) tt
-home_turned h a home old new Fading letter (f, e) = subst (TurnsIf old new a Fading home) (sym e) tt
-home_turned h a home old new Out letter sent = elim sent [ ]
-home_turned h a home old new (Joining p false) letter sent = elim sent [ ]
-home_turned h a home old new (FreshJoining p false d) letter sent = elim sent [ ]
-home_turned h a home old new (Head f d) letter sent = elim sent [ ]
-home_turned h a home old new (FreshHead f d) letter sent = elim sent [ ]
-home_turned h a home old new (Below f b d) letter sent = elim sent [ ]
-home_turned h a home old new (Telling r w false) letter sent = elim sent [ ]
+    → IfSome (at_home home a letter.body) (HomeTurns old new a asker home (arrival_by a letter.body))
+home_turned h a home old new =
+    home_sent (λ asker request. HomeTurns old new a asker home (arrival_by a request)) h a home (mread_turns old new home a) (fread_turns old new home a)
+    (claim_turns old new home a) (clear_turns old new home a) (wback_turns old new home a)
 
 -- ---- a cache serves
 

@@ -1,5 +1,5 @@
 -- Each round that is next lowers the number of those that are left.
-use Rattle.std.proofs.Common.{◌≡◌, ◌≢◌, ◌⊎◌, ℕ, ◌<◌, not, ◌&&◌, ◌==◌, Bool, true, false, if◌then◌else◌, Option, Some, None, refl, sym, ap, subst, ◌∙◌, arith}
+use Rattle.std.proofs.Common.{◌≡◌, ◌≢◌, ◌⊎◌, ℕ, ◌+◌, ◌<◌, not, ◌&&◌, ◌==◌, Bool, true, false, if◌then◌else◌, Option, Some, None, refl, sym, ap, subst, ◌∙◌, arith, rules}
 use Rattle.std.proofs.Common.{inl, inr}
 use Rattle.std.specs.Prelude.{IsSome}
 use Rattle.std.proofs.lemmas.Bool.{cases_eq, cases_lt, eq-eqb, eqb-true, lt-ltb}
@@ -11,8 +11,8 @@ use Rattle.sci_packets.specs.declared.body.Body.TheVariants as body
 use Rattle.sci_home.specs.declared.state.HomeState.{HomeState}
 use Rattle.sci_home.specs.declared.state.HomeState.TheVariants as at
 use Rattle.sci_home.specs.Serving.{head_of, home_serving}
-use Rattle.sci_cache.specs.State.{CacheState, Out, Asking, Joining, FreshJoining, Head, FreshHead, Below, Purging, Claiming, Clearing, Returning, Rolling}
-use Rattle.sci_cache.specs.State.{Telling, Fading, is_out, waits}
+use Rattle.sci_cache.specs.State.{CacheState, Out, Joining, FreshJoining, Head, FreshHead, Below, Purging, Claiming, Clearing, Returning, Rolling}
+use Rattle.sci_cache.specs.State.{Telling, is_out, waits}
 use Rattle.sci_cache.specs.Accepting.{accepting}
 use Rattle.sci_cache.specs.Asking.{Asked, asking}
 use Rattle.sci_cache.specs.Serving.{serving, serving_setback}
@@ -31,7 +31,6 @@ use Rattle.sci_core.specs.Fresh.{is_fresh}
 use Rattle.sci_core.specs.WellFormed.{NamesNodes}
 use Rattle.sci_core.proofs.Shape.Standings.{role_of}
 use Rattle.sci_core.proofs.WellFormed.WellFormedSteps.{reached_well}
-use Rattle.sci_core.proofs.Shape.Heads.{if_head}
 use Rattle.sci_core.proofs.Settling.Ranks.{Pair, rank_shift, rank_two}
 use Rattle.sci_core.proofs.Settling.Resting.{Quiet, head_first, home_fresh, home_gone, line_known, next_below, next_fresh, out_beyond, quiet}
 use Rattle.sci_core.proofs.Settling.Shifts.{Shifts}
@@ -205,15 +204,9 @@ cache_round core new n line q a served final k h =
 
 -- who tells is out then, and nobody else gets or loses an entry
 telling_same : (s : CacheState) (n w : ℕ) → (entry_rank (serving_setback s n w).0 ≡ entry_rank s) × ((serving_setback s n w).1 ≡ body.Told)
-telling_same (Below f b c) n w = (
-  if_head (λ (x : CacheState × Body). entry_rank x.0 ≡ 1) b n (Below f w c, body.Told) (Below f b c, body.Told) (λ e. refl) refl,
-  if_head (λ (x : CacheState × Body). x.1 ≡ body.Told) b n (Below f w c, body.Told) (Below f b c, body.Told) (λ e. refl) refl,
-)
-telling_same (Rolling f b c) n w = (
-  if_head (λ (x : CacheState × Body). entry_rank x.0 ≡ 1) b n (Rolling f w c, body.Told) (Rolling f b c, body.Told) (λ e. refl) refl,
-  if_head (λ (x : CacheState × Body). x.1 ≡ body.Told) b n (Rolling f w c, body.Told) (Rolling f b c, body.Told) (λ e. refl) refl,
-)
-telling_same _ n w = (refl, refl)
+telling_same (Below f b c) n w = search rules
+telling_same (Rolling f b c) n w = search rules
+telling_same _ n w = search rules
 
 told_lowers : (core new : Core) (n line r w : ℕ) → n < core.size.nodes → line < core.size.lines → r < core.size.nodes → state_at core line n ≡ Telling r w false
     → Known core new n line (record { to = Some r; request = body.Setback w; next = Telling r w true }) → rank new < rank core
@@ -295,82 +288,45 @@ clear_lowers core new n line c d lt inside was home k =
 differ : (core : Core) (line n q : ℕ) (s t : CacheState) → state_at core line n ≡ s → state_at core line q ≡ t → (s ≡ t → ⊥) → n ≢ q
 differ core line n q s t is are not e = not (sym is ∙ (ap (state_at core line) e ∙ are))
 
+-- another cache serves, and the ranks of the two are less then
+cached_lowers : (core new : Core) (n line q : ℕ) (a : Asked) (was old served final : CacheState) (answer : Body) → n < core.size.nodes → q < core.size.nodes
+    → line < core.size.lines → state_at core line n ≡ was → state_at core line q ≡ old → (was ≡ old → ⊥) → a.to ≡ Some q
+    → serving old n a.request ≡ Some (served, answer) → ((h : HomeState) → home_serving h n a.request ≡ None) → accepting a.next answer ≡ Some final
+    → entry_rank final + entry_rank served < entry_rank was + entry_rank old → Known core new n line a → rank new < rank core
+cached_lowers core new n line q a was old served final answer lt below inside here there not to serves alone accepts less k =
+    let apart = differ core line n q was old here there not in
+    let serves_ = ap (λ (s : CacheState). serving s n a.request) there ∙ serves in
+    let pair = cache_round core new n line q a served final k
+    (record { to = to; apart = apart; answer = answer; serves = serves_; alone = alone; accepts = accepts }) in
+    let two = rank_two core new n q line final served lt below inside apart pair in
+    let one = ap entry_rank here in
+    let other = ap entry_rank there in
+    omega arith
+
 purge_lowers : (core new : Core) (n line q : ℕ) (c : Stamped) (f : Option ℕ) (b : ℕ) (d : Stamped) → n < core.size.nodes → q < core.size.nodes
     → line < core.size.lines → state_at core line n ≡ Head (Some q) c → state_at core line q ≡ Below f b d
     → Known core new n line (record { to = Some q; request = body.Purge; next = Purging q c }) → rank new < rank core
 purge_lowers core new n line q c f b d lt below inside was next k =
-    let a : Asked = record { to = Some q; request = body.Purge; next = Purging q c } in
-    let apart = differ core line n q (Head (Some q) c) (Below f b d) was next (λ e. cc) in
-    let pair = cache_round core new n line q a Out (Head f c) k
-    (record {
-      to = refl;
-      apart = apart;
-      answer = body.Purged f;
-      serves = ap (λ (s : CacheState). serving s n body.Purge) next;
-      alone = λ h. refl;
-      accepts = refl;
-    }) in
-    let two = rank_two core new n q line (Head f c) Out lt below inside apart pair in
-    let one = ap entry_rank was in
-    let other = ap entry_rank next in
-    omega arith
+    cached_lowers core new n line q (record { to = Some q; request = body.Purge; next = Purging q c }) (Head (Some q) c) (Below f b d) Out (Head f c)
+    (body.Purged f) lt below inside was next (λ e. cc) refl refl (λ h. refl) refl (omega arith) k
 
 -- who joins before a head
 join_lowers : (core new : Core) (n line q : ℕ) (f : Option ℕ) (d : Stamped) → n < core.size.nodes → q < core.size.nodes → line < core.size.lines
     → state_at core line n ≡ Joining q false → (state_at core line q ≡ Head f d) ⊎ (state_at core line q ≡ FreshHead f d)
     → Known core new n line (record { to = Some q; request = body.Cread; next = Joining q true }) → rank new < rank core
 join_lowers core new n line q f d lt below inside was (inl head) k =
-    let a : Asked = record { to = Some q; request = body.Cread; next = Joining q true } in
-    let apart = differ core line n q (Joining q false) (Head f d) was head (λ e. cc) in
-    let pair = cache_round core new n line q a (Below f n d) (Head (Some q) d) k
-    (record {
-      to = refl;
-      apart = apart;
-      answer = body.Cdata d;
-      serves = ap (λ (s : CacheState). serving s n body.Cread) head;
-      alone = λ h. refl;
-      accepts = refl;
-    }) in
-    let two = rank_two core new n q line (Head (Some q) d) (Below f n d) lt below inside apart pair in
-    let one = ap entry_rank was in
-    let other = ap entry_rank head in
-    omega arith
+    cached_lowers core new n line q (record { to = Some q; request = body.Cread; next = Joining q true }) (Joining q false) (Head f d) (Below f n d)
+    (Head (Some q) d) (body.Cdata d) lt below inside was head (λ e. cc) refl refl (λ h. refl) refl (omega arith) k
 join_lowers core new n line q f d lt below inside was (inr head) k =
-    let a : Asked = record { to = Some q; request = body.Cread; next = Joining q true } in
-    let apart = differ core line n q (Joining q false) (FreshHead f d) was head (λ e. cc) in
-    let pair = cache_round core new n line q a (Below f n d) (Head (Some q) d) k
-    (record {
-      to = refl;
-      apart = apart;
-      answer = body.Cdata d;
-      serves = ap (λ (s : CacheState). serving s n body.Cread) head;
-      alone = λ h. refl;
-      accepts = refl;
-    }) in
-    let two = rank_two core new n q line (Head (Some q) d) (Below f n d) lt below inside apart pair in
-    let one = ap entry_rank was in
-    let other = ap entry_rank head in
-    omega arith
+    cached_lowers core new n line q (record { to = Some q; request = body.Cread; next = Joining q true }) (Joining q false) (FreshHead f d) (Below f n d)
+    (Head (Some q) d) (body.Cdata d) lt below inside was head (λ e. cc) refl refl (λ h. refl) refl (omega arith) k
 
 fresh_join_lowers : (core new : Core) (n line q : ℕ) (c : Stamped) (f : Option ℕ) (d : Stamped) → n < core.size.nodes → q < core.size.nodes
     → line < core.size.lines → state_at core line n ≡ FreshJoining q false c → state_at core line q ≡ FreshHead f d
     → Known core new n line (record { to = Some q; request = body.Cread; next = FreshJoining q true c }) → rank new < rank core
 fresh_join_lowers core new n line q c f d lt below inside was head k =
-    let a : Asked = record { to = Some q; request = body.Cread; next = FreshJoining q true c } in
-    let apart = differ core line n q (FreshJoining q false c) (FreshHead f d) was head (λ e. cc) in
-    let pair = cache_round core new n line q a (Below f n d) (FreshHead (Some q) c) k
-    (record {
-      to = refl;
-      apart = apart;
-      answer = body.Cdata d;
-      serves = ap (λ (s : CacheState). serving s n body.Cread) head;
-      alone = λ h. refl;
-      accepts = refl;
-    }) in
-    let two = rank_two core new n q line (FreshHead (Some q) c) (Below f n d) lt below inside apart pair in
-    let one = ap entry_rank was in
-    let other = ap entry_rank head in
-    omega arith
+    cached_lowers core new n line q (record { to = Some q; request = body.Cread; next = FreshJoining q true c }) (FreshJoining q false c) (FreshHead f d)
+    (Below f n d) (FreshHead (Some q) c) (body.Cdata d) lt below inside was head (λ e. cc) refl refl (λ h. refl) refl (omega arith) k
 
 -- ---- what is next
 

@@ -1,5 +1,5 @@
 -- One line's list and what stands where in it, as a cache serves a request.
-use Rattle.std.proofs.Common.{◌≡◌, ◌≢◌, ℕ, Bool, true, false, if◌then◌else◌, List, Option, Some, None, refl, sym, ap, subst, ◌∙◌, inl, inr}
+use Rattle.std.proofs.Common.{◌≡◌, ◌≢◌, ℕ, Bool, true, false, if◌then◌else◌, List, Option, Some, None, refl, sym, ap, subst, ◌∙◌, inl, inr, rules}
 use Rattle.std.specs.Prelude.{IfSome, IsSome}
 use Rattle.std.proofs.lemmas.Bool.{cases_eq}
 use Rattle.sci_words.specs.declared.stamped.Stamped.{Stamped}
@@ -123,90 +123,64 @@ fresh_joining p e = record {
 idle_differs : (asker old : CacheState) → waits asker ≡ true → waits old ≡ false → asker ≡ old → ⊥
 idle_differs asker old w i e = let both : waits old ≡ true = ap waits (sym e) ∙ w in cc
 
+joined_before : (a q : ℕ) (asker old : CacheState) (f : Option ℕ) (d : Stamped) → Joiner asker q → waits old ≡ false → role_of old None ≡ Some Leading
+    → Some f ≡ link_of old None → ((c : Stamped) → Agrees c old None → Agrees c (Below f a d) None) → ServesAs a q asker old (Below f a d, body.Cdata d)
+joined_before a q asker old f d joins idle leading link keeps = Joined (record {
+  idle = idle;
+  before = joins.link None;
+  still = joins.link (Some (body.Cdata d));
+  coming = joins.coming;
+  leads = joins.leads d;
+  leading = leading;
+  follows = refl;
+  link = link;
+  fresh = joins.fresh d;
+  keeps = keeps;
+  takes = λ c h k. joins.takes c d (keeps c h).0 k;
+  accepted = joins.accepted d;
+  differ = idle_differs asker old joins.waiting idle;
+})
+
 cread_as : (a q : ℕ) (asker old : CacheState) → Joiner asker q → ServesAs a q asker old (serving_cread old a)
-cread_as a q asker (Head f d) joins = Joined (record {
-  idle = refl;
-  before = joins.link None;
-  still = joins.link (Some (body.Cdata d));
-  coming = joins.coming;
-  leads = joins.leads d;
-  leading = refl;
-  follows = refl;
-  link = refl;
-  fresh = joins.fresh d;
-  keeps = λ c h. h;
-  takes = λ c h k. joins.takes c d h.0 k;
-  accepted = joins.accepted d;
-  differ = idle_differs asker (Head f d) joins.waiting refl;
-})
-cread_as a q asker (FreshHead f d) joins = Joined (record {
-  idle = refl;
-  before = joins.link None;
-  still = joins.link (Some (body.Cdata d));
-  coming = joins.coming;
-  leads = joins.leads d;
-  leading = refl;
-  follows = refl;
-  link = refl;
-  fresh = joins.fresh d;
-  keeps = λ c h. h;
-  takes = λ c h k. joins.takes c d h.0 k;
-  accepted = joins.accepted d;
-  differ = idle_differs asker (FreshHead f d) joins.waiting refl;
-})
+cread_as a q asker (Head f d) joins = joined_before a q asker (Head f d) f d joins refl refl refl (λ c h. h)
+cread_as a q asker (FreshHead f d) joins = joined_before a q asker (FreshHead f d) f d joins refl refl refl (λ c h. h)
 cread_as a q asker old joins = refuses a q asker old joins.refused
 
 -- ---- Purge
 
-below_as : (f : Option ℕ) (b : ℕ) (c : Stamped) (answer : Option Body) (next : Option ℕ) → link_of (Below f b c) answer ≡ Some next
-    → (next ≡ f) × (role_of (Below f b c) answer ≡ Some Following)
-below_as f b c None next e = (cc, refl)
-below_as f b c (Some body) next e = cc
+-- an entry that follows, if it is a member, and is purged
+record Purgeable (old next : CacheState) (f : Option ℕ) (answer : Option Body) : Type 0 where
+  pub link : (m : Option ℕ) → link_of old answer ≡ Some m → m ≡ f
+  pub follows : (m : Option ℕ) → link_of old answer ≡ Some m → role_of old answer ≡ Some Following
+  pub gone : link_of next answer ≡ None
+  pub still : (m : Option ℕ) → link_of old answer ≡ Some m → IsAccepted next answer
 
-rolling_as : (f : Option ℕ) (b : ℕ) (c : Stamped) (answer : Option Body) (next : Option ℕ) → link_of (Rolling f b c) answer ≡ Some next
-    → (next ≡ f) × (role_of (Rolling f b c) answer ≡ Some Following)
-rolling_as f b c None next e = (cc, refl)
-rolling_as f b c (Some body.Busy) next e = (cc, refl)
-rolling_as f b c (Some _) next e = cc
+below_purged : (f : Option ℕ) (b : ℕ) (c : Stamped) (answer : Option Body) → Purgeable (Below f b c) Out f answer
+below_purged f b c None = search rules
+below_purged f b c _ = search rules
 
-below_still : (f : Option ℕ) (b : ℕ) (c : Stamped) (answer : Option Body) (next : Option ℕ) → link_of (Below f b c) answer ≡ Some next → IsAccepted Out answer
-below_still f b c None next e = tt
-below_still f b c (Some body) next e = cc
+rolling_purged : (f : Option ℕ) (b : ℕ) (c : Stamped) (answer : Option Body) → Purgeable (Rolling f b c) Fading f answer
+rolling_purged f b c (Some body.Busy) = search rules
+rolling_purged f b c _ = search rules
 
-rolling_still : (f : Option ℕ) (b : ℕ) (c : Stamped) (answer : Option Body) (next : Option ℕ) → link_of (Rolling f b c) answer ≡ Some next
-    → IsAccepted Fading answer
-rolling_still f b c None next e = tt
-rolling_still f b c (Some body.Busy) next e = refl
-rolling_still f b c (Some _) next e = cc
-
-purging_stood : (q : ℕ) (d : Stamped) (x : Option ℕ) → Stood (Purging q d) None (Purging q d) (Some (body.Purged x))
-purging_stood q d x = record { role = refl; fresh = refl; agrees = λ c h. h }
+purges : (a q : ℕ) (d : Stamped) (old next : CacheState) (f : Option ℕ) → ((answer : Option Body) → Purgeable old next f answer) → (Purging q d ≡ old → ⊥)
+    → ServesAs a q (Purging q d) old (next, body.Purged f)
+purges a q d old next f is differ = Purged (record {
+  next = f;
+  before = refl;
+  behind = refl;
+  link = λ answer. (is answer).link;
+  follows = λ answer. (is answer).follows;
+  gone = λ answer. (is answer).gone;
+  stood = record { role = refl; fresh = refl; agrees = λ c h. h };
+  accepted = refl;
+  still = λ answer. (is answer).still;
+  differ = differ;
+})
 
 purge_as : (a q : ℕ) (d : Stamped) (old : CacheState) → ServesAs a q (Purging q d) old (serving_purge old)
-purge_as a q d (Below f b c) = Purged (record {
-  next = f;
-  before = refl;
-  behind = refl;
-  link = λ answer next e. (below_as f b c answer next e).0;
-  follows = λ answer next e. (below_as f b c answer next e).1;
-  gone = λ answer. refl;
-  stood = purging_stood q d f;
-  accepted = refl;
-  still = λ answer next e. below_still f b c answer next e;
-  differ = λ e. cc;
-})
-purge_as a q d (Rolling f b c) = Purged (record {
-  next = f;
-  before = refl;
-  behind = refl;
-  link = λ answer next e. (rolling_as f b c answer next e).0;
-  follows = λ answer next e. (rolling_as f b c answer next e).1;
-  gone = λ answer. refl;
-  stood = purging_stood q d f;
-  accepted = refl;
-  still = λ answer next e. rolling_still f b c answer next e;
-  differ = λ e. cc;
-})
+purge_as a q d (Below f b c) = purges a q d (Below f b c) Out f (below_purged f b c) (λ e. cc)
+purge_as a q d (Rolling f b c) = purges a q d (Rolling f b c) Fading f (rolling_purged f b c) (λ e. cc)
 purge_as a q d old = refuses a q (Purging q d) old (record { sight = refl; agrees = λ c_ h. h; accepts = λ h. refl })
 
 -- ---- Roll
@@ -281,16 +255,13 @@ tells : (a q r v : ℕ) (old next : CacheState) → ((answer : Option Body) → 
 tells a q r v old next alike = Keeps alike (record { sight = refl; agrees = λ c h. h; accepts = λ h. refl })
 
 below_told : (f : Option ℕ) (b w : ℕ) (d : Stamped) (answer : Option Body) → Alike (Below f b d) answer (Below f w d) answer
-below_told f b w d None = record { sight = refl; agrees = λ c h. h; accepts = λ h. h }
-below_told f b w d (Some body) = record { sight = refl; agrees = λ c h. h; accepts = λ h. h }
+below_told f b w d None = search rules
+below_told f b w d _ = search rules
 
 rolling_told : (f : Option ℕ) (b w : ℕ) (d : Stamped) (answer : Option Body) → Alike (Rolling f b d) answer (Rolling f w d) answer
-rolling_told f b w d None = record { sight = refl; agrees = λ c h. h; accepts = λ h. h }
-rolling_told None b w d (Some body.Busy) = record { sight = refl; agrees = λ c h. h; accepts = λ h. refl }
-rolling_told (Some r) b w d (Some body.Busy) = record { sight = refl; agrees = λ c h. h; accepts = λ h. refl }
-rolling_told None b w d (Some _) = record { sight = refl; agrees = λ c h. h; accepts = λ h. h }
-rolling_told (Some r) b w d (Some body.Rolled) = record { sight = refl; agrees = λ c h. h; accepts = λ h. refl }
-rolling_told (Some r) b w d (Some _) = record { sight = refl; agrees = λ c h. h; accepts = λ h. h }
+rolling_told None b w d (Some body.Busy) = search rules
+rolling_told f b w d (Some body.Busy) = search rules
+rolling_told f b w d _ = search rules
 
 setback_as : (a q r v w : ℕ) (old : CacheState) → ServesAs a q (Telling r v true) old (serving_setback old a w)
 setback_as a q r v w (Below f b c) =

@@ -15,8 +15,8 @@ use Rattle.sci_packets.specs.Table.{is_request}
 use Rattle.sci_home.specs.declared.state.HomeState.{HomeState}
 use Rattle.sci_home.specs.declared.state.HomeState.TheVariants as at
 use Rattle.sci_home.specs.Serving.{current_of}
-use Rattle.sci_cache.specs.State.{CacheState, Out, Asking, Joining, FreshJoining, Head, FreshHead, Below, Purging, Claiming, Clearing, Returning, Rolling}
-use Rattle.sci_cache.specs.State.{Telling, Fading, contents_of}
+use Rattle.sci_cache.specs.State.{CacheState, Asking, Joining, FreshJoining, Returning, Rolling}
+use Rattle.sci_cache.specs.State.{Telling, contents_of}
 use Rattle.sci_cache.specs.Accepting.{accepting}
 use Rattle.sci_cache.specs.Member.{link_of}
 use Rattle.sci_cache.specs.Cache.{Letter, line_of}
@@ -86,16 +86,11 @@ fdata_asks _ p d h = search rules
 sent_back : (h : ℕ) (state : CacheState) (letter : Letter) (d : Stamped) → IsSentIn h state letter → letter.body ≡ body.Wback d → state ≡ Returning d
 sent_back h Asking letter d (inl e, to) is = cc
 sent_back h Asking letter d (inr e, to) is = cc
-sent_back h (Joining p true) letter d (e, to) is = cc
-sent_back h (FreshJoining p true c) letter d (e, to) is = cc
-sent_back h (Purging q c) letter d (e, to) is = cc
-sent_back h (Claiming f c) letter d (e, to) is = cc
-sent_back h (Clearing c) letter d (e, to) is = cc
-sent_back h (Returning c) letter d (e, to) is = let both : body.Wback c ≡ body.Wback d = sym e ∙ is in let same : c ≡ d = cc in ap Returning same
-sent_back h (Rolling f b c) letter d e is = cc
-sent_back h (Telling r w true) letter d (e, to) is = cc
-sent_back h Fading letter d (f, e) is = cc
-sent_back h _ letter d sent is = elim sent [ ]
+sent_back h (Joining p true) letter d sent is = search rules
+sent_back h (FreshJoining p true c) letter d sent is = search rules
+sent_back h (Returning c) letter d sent is = let both : body.Wback c ≡ body.Wback d = sym sent.0 ∙ is in let same : c ≡ d = cc in ap Returning same
+sent_back h (Telling r w true) letter d sent is = search rules
+sent_back h _ letter d sent is = search rules
 
 -- ---- the one that leads
 

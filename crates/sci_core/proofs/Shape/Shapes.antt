@@ -8,7 +8,7 @@ use Rattle.sci_packets.specs.declared.body.Body.TheVariants as body
 use Rattle.sci_home.specs.declared.state.HomeState.{HomeState}
 use Rattle.sci_home.specs.declared.state.HomeState.TheVariants as at
 use Rattle.sci_home.specs.Serving.{head_of, serving_mread, serving_fread, serving_claim, serving_clear, serving_wback, home_serving as at_home}
-use Rattle.sci_cache.specs.State.{CacheState, Out, Asking, Joining, FreshJoining, Head, FreshHead, Below, Purging, Claiming, Clearing, Returning, Rolling}
+use Rattle.sci_cache.specs.State.{CacheState, Asking, Joining, FreshJoining, Purging, Claiming, Clearing, Returning, Rolling}
 use Rattle.sci_cache.specs.State.{Telling, Fading}
 use Rattle.sci_cache.specs.Accepting.{accepting}
 use Rattle.sci_cache.specs.Member.{link_of}
@@ -155,47 +155,41 @@ leads_alone old new a asker body c must ns asks empty role fresh agrees =
       inl (after role_of old new a asker body asks ∙ role, follow),
     )
 
+-- it is told the old head, p
+told_front : (old new : View) (home : HomeState) (p a : ℕ) (c : Stamped) (ns : List ℕ) → head_of home ≡ Some p → Asks old new a Asking (body.Mgone p)
+    → IsShaped old home c ns → IsLed old c false ns → Shaped new (at.Gone a) c
+told_front old new home p a c ns head asks is led = (
+  a ∷ ns,
+  record {
+    list = fronts_list old new home (at.Gone a) a Asking (body.Mgone p) ns asks refl (ap Some (sym head)) refl is.list;
+    led = comes_first old new (head_of home) a Asking (body.Mgone p) c false ns asks refl is.list refl (λ e. cc) (tt, tt) led;
+    accepts = accepts_after old new a Asking (body.Mgone p) asks refl is.accepts;
+  },
+)
+
 mread_shaped : (old new : View) (home : HomeState) (c : Stamped) (a : ℕ) → Asks old new a Asking (serving_mread home a).1 → Shaped old home c
     → Shaped new (serving_mread home a).0 c
 mread_shaped old new (at.Home d) c a asks (ns, is) =
-    let body = (serving_mread (at.Home d) a).1 in
     let empty = none_empty (link_in old) None ns refl is.list in (
       a ∷ ns,
       record {
-        list = fronts_list old new (at.Home d) (at.Gone a) a Asking body ns asks refl refl refl is.list;
-        led = leads_alone old new a Asking body c false ns asks empty refl (λ e. cc) (tt, is.led);
-        accepts = accepts_after old new a Asking body asks refl is.accepts;
+        list = fronts_list old new (at.Home d) (at.Gone a) a Asking (body.Mdata d) ns asks refl refl refl is.list;
+        led = leads_alone old new a Asking (body.Mdata d) c false ns asks empty refl (λ e. cc) (tt, is.led);
+        accepts = accepts_after old new a Asking (body.Mdata d) asks refl is.accepts;
       },
     )
-mread_shaped old new (at.Fresh p d) c a asks (ns, is) =
-    let body = (serving_mread (at.Fresh p d) a).1 in (
-      a ∷ ns,
-      record {
-        list = fronts_list old new (at.Fresh p d) (at.Gone a) a Asking body ns asks refl refl refl is.list;
-        led = comes_first old new (Some p) a Asking body c false ns asks refl is.list refl (λ e. cc) (tt, tt) (led_weaker old c true ns is.led.1);
-        accepts = accepts_after old new a Asking body asks refl is.accepts;
-      },
-    )
-mread_shaped old new (at.Gone p) c a asks (ns, is) =
-    let body = (serving_mread (at.Gone p) a).1 in (
-      a ∷ ns,
-      record {
-        list = fronts_list old new (at.Gone p) (at.Gone a) a Asking body ns asks refl refl refl is.list;
-        led = comes_first old new (Some p) a Asking body c false ns asks refl is.list refl (λ e. cc) (tt, tt) is.led;
-        accepts = accepts_after old new a Asking body asks refl is.accepts;
-      },
-    )
+mread_shaped old new (at.Fresh p d) c a asks (ns, is) = told_front old new (at.Fresh p d) p a c ns refl asks is (led_weaker old c true ns is.led.1)
+mread_shaped old new (at.Gone p) c a asks (ns, is) = told_front old new (at.Gone p) p a c ns refl asks is is.led
 
 fread_shaped : (old new : View) (home : HomeState) (c : Stamped) (a : ℕ) → Asks old new a Asking (serving_fread home a).1 → Shaped old home c
     → Shaped new (serving_fread home a).0 c
 fread_shaped old new (at.Home d) c a asks (ns, is) =
-    let body = (serving_fread (at.Home d) a).1 in
     let empty = none_empty (link_in old) None ns refl is.list in (
       a ∷ ns,
       record {
-        list = fronts_list old new (at.Home d) (at.Fresh a d) a Asking body ns asks refl refl refl is.list;
-        led = (is.led, leads_alone old new a Asking body c true ns asks empty refl (λ e. refl) (tt, is.led));
-        accepts = accepts_after old new a Asking body asks refl is.accepts;
+        list = fronts_list old new (at.Home d) (at.Fresh a d) a Asking (body.Fdata None d) ns asks refl refl refl is.list;
+        led = (is.led, leads_alone old new a Asking (body.Fdata None d) c true ns asks empty refl (λ e. refl) (tt, is.led));
+        accepts = accepts_after old new a Asking (body.Fdata None d) asks refl is.accepts;
       },
     )
 fread_shaped old new (at.Fresh p d) c a asks (ns, is) =
@@ -207,15 +201,7 @@ fread_shaped old new (at.Fresh p d) c a asks (ns, is) =
         accepts = accepts_after old new a Asking body asks refl is.accepts;
       },
     )
-fread_shaped old new (at.Gone p) c a asks (ns, is) =
-    let body = (serving_fread (at.Gone p) a).1 in (
-      a ∷ ns,
-      record {
-        list = fronts_list old new (at.Gone p) (at.Gone a) a Asking body ns asks refl refl refl is.list;
-        led = comes_first old new (Some p) a Asking body c false ns asks refl is.list refl (λ e. cc) (tt, tt) is.led;
-        accepts = accepts_after old new a Asking body asks refl is.accepts;
-      },
-    )
+fread_shaped old new (at.Gone p) c a asks (ns, is) = told_front old new (at.Gone p) p a c ns refl asks is is.led
 
 -- ---- claims, clears and write-backs
 
@@ -256,8 +242,6 @@ claimed_shaped old new a p f c d (n ∷ ns) asks same list led =
 
 claim_shaped : (old new : View) (home : HomeState) (c : Stamped) (a : ℕ) (f : Option ℕ) (d : Stamped) → Asks old new a (Claiming f d) (serving_claim home a).1
     → Shaped old home c → Shaped new (serving_claim home a).0 c
-claim_shaped old new (at.Home e) c a f d asks shaped =
-    stays old new (at.Home e) c a (Claiming f d) body.Wbno asks (record { sight = refl; agrees = λ c_ h. h; accepts = λ h. refl }) shaped
 claim_shaped old new (at.Fresh p e) c a f d asks shaped =
     if_head (HomeShapes old new a (Claiming f d) (at.Fresh p e) c) p a (at.Gone a, body.Wbok) (at.Fresh p e, body.Wbno)
     (λ head is fresh. (
@@ -270,8 +254,7 @@ claim_shaped old new (at.Fresh p e) c a f d asks shaped =
     ))
     (λ is fresh. stays old new (at.Fresh p e) c a (Claiming f d) body.Wbno is (record { sight = refl; agrees = λ c_ h. h; accepts = λ h. refl }) fresh) asks
     shaped
-claim_shaped old new (at.Gone p) c a f d asks shaped =
-    stays old new (at.Gone p) c a (Claiming f d) body.Wbno asks (record { sight = refl; agrees = λ c_ h. h; accepts = λ h. refl }) shaped
+claim_shaped old new home c a f d asks shaped = stays old new home c a (Claiming f d) body.Wbno asks (record { sight = refl; agrees = λ c_ h. h; accepts = λ h. refl }) shaped
 
 -- the only one leaves, and the home has the line alone
 leaves_shaped : (old new : View) (home : HomeState) (c : Stamped) (p a : ℕ) (asker : CacheState) (back : Stamped) → head_of home ≡ Some p → p ≡ a
@@ -290,15 +273,12 @@ leaves_shaped old new home c p a asker back head same asks ends gone accepted co
 
 clear_shaped : (old new : View) (home : HomeState) (c : Stamped) (a : ℕ) (d : Stamped) → Asks old new a (Clearing d) (serving_clear home a).1
     → Shaped old home c → Shaped new (serving_clear home a).0 c
-clear_shaped old new (at.Home e) c a d asks shaped =
-    stays old new (at.Home e) c a (Clearing d) body.Wbno asks (record { sight = refl; agrees = λ c_ h. h; accepts = λ h. refl }) shaped
 clear_shaped old new (at.Fresh p e) c a d asks shaped =
     if_head (HomeShapes old new a (Clearing d) (at.Fresh p e) c) p a (at.Home e, body.Wbok) (at.Fresh p e, body.Wbno)
     (λ head is fresh. leaves_shaped old new (at.Fresh p e) c p a (Clearing d) e refl head is refl refl refl (λ ns h. h.led.0) fresh)
     (λ is fresh. stays old new (at.Fresh p e) c a (Clearing d) body.Wbno is (record { sight = refl; agrees = λ c_ h. h; accepts = λ h. refl }) fresh) asks
     shaped
-clear_shaped old new (at.Gone p) c a d asks shaped =
-    stays old new (at.Gone p) c a (Clearing d) body.Wbno asks (record { sight = refl; agrees = λ c_ h. h; accepts = λ h. refl }) shaped
+clear_shaped old new home c a d asks shaped = stays old new home c a (Clearing d) body.Wbno asks (record { sight = refl; agrees = λ c_ h. h; accepts = λ h. refl }) shaped
 
 -- what the front of a list writes back are the last contents
 returned : (old new : View) (c : Stamped) (p a : ℕ) (d : Stamped) → Asks old new a (Returning d) body.Wbok → (ns : List ℕ) → IsShaped old (at.Gone p) c ns
@@ -310,37 +290,37 @@ returned old new c p a d asks ns is =
 
 wback_shaped : (old new : View) (home : HomeState) (c : Stamped) (a : ℕ) (d : Stamped) → Asks old new a (Returning d) (serving_wback home a d).1
     → Shaped old home c → Shaped new (serving_wback home a d).0 c
-wback_shaped old new (at.Home e) c a d asks shaped =
-    stays old new (at.Home e) c a (Returning d) body.Wbno asks (record { sight = refl; agrees = λ c_ h. h; accepts = λ h. refl }) shaped
-wback_shaped old new (at.Fresh p e) c a d asks shaped =
-    stays old new (at.Fresh p e) c a (Returning d) body.Wbno asks (record { sight = refl; agrees = λ c_ h. h; accepts = λ h. refl }) shaped
 wback_shaped old new (at.Gone p) c a d asks shaped =
     if_head (HomeShapes old new a (Returning d) (at.Gone p) c) p a (at.Home d, body.Wbok) (at.Gone p, body.Wbno)
     (λ head is gone. leaves_shaped old new (at.Gone p) c p a (Returning d) d refl head is refl refl refl (returned old new c p a d is) gone)
     (λ is gone. stays old new (at.Gone p) c a (Returning d) body.Wbno is (record { sight = refl; agrees = λ c_ h. h; accepts = λ h. refl }) gone) asks shaped
+wback_shaped old new home c a d asks shaped = stays old new home c a (Returning d) body.Wbno asks (record { sight = refl; agrees = λ c_ h. h; accepts = λ h. refl }) shaped
 
 -- ---- every request that comes to a home
 
-abbrev HomeShapesIf : View → View → ℕ → CacheState → HomeState → Stamped → Body → Type 0
-HomeShapesIf old new a asker home c request = IfSome (at_home home a request) (HomeShapes old new a asker home c)
+-- what a home serves, by who asks for it
+abbrev pub ServedSo : (CacheState → Body → HomeState × Body → Type 0) → ℕ → HomeState → CacheState → Body → Type 0
+ServedSo P a home asker request = IfSome (at_home home a request) (P asker request)
+
+pub home_sent : (P : CacheState → Body → HomeState × Body → Type 0) (h a : ℕ) (home : HomeState) → P Asking body.Mread (serving_mread home a)
+    → P Asking body.Fread (serving_fread home a) → ((f : Option ℕ) (d : Stamped) → P (Claiming f d) body.Claim (serving_claim home a))
+    → ((d : Stamped) → P (Clearing d) body.Clear (serving_clear home a)) → ((d : Stamped) → P (Returning d) (body.Wback d) (serving_wback home a d))
+    → (asker : CacheState) (letter : Letter) → IsSentIn h asker letter → ServedSo P a home asker letter.body
+home_sent P h a home mread fread claim clear wback Asking letter (inl e, to) = subst (ServedSo P a home Asking) (sym e) mread
+home_sent P h a home mread fread claim clear wback Asking letter (inr e, to) = subst (ServedSo P a home Asking) (sym e) fread
+home_sent P h a home mread fread claim clear wback (Joining p true) letter (e, to) = subst (ServedSo P a home _) (sym e) tt
+home_sent P h a home mread fread claim clear wback (FreshJoining p true d) letter (e, to) = subst (ServedSo P a home _) (sym e) tt
+home_sent P h a home mread fread claim clear wback (Purging q d) letter (e, to) = subst (ServedSo P a home _) (sym e) tt
+home_sent P h a home mread fread claim clear wback (Claiming f d) letter (e, to) = subst (ServedSo P a home _) (sym e) (claim f d)
+home_sent P h a home mread fread claim clear wback (Clearing d) letter (e, to) = subst (ServedSo P a home _) (sym e) (clear d)
+home_sent P h a home mread fread claim clear wback (Returning d) letter (e, to) = subst (ServedSo P a home _) (sym e) (wback d)
+home_sent P h a home mread fread claim clear wback (Rolling f b d) letter e = subst (ServedSo P a home _) (sym e) tt
+home_sent P h a home mread fread claim clear wback (Telling r w true) letter (e, to) = subst (ServedSo P a home _) (sym e) tt
+home_sent P h a home mread fread claim clear wback Fading letter (f, e) = subst (ServedSo P a home _) (sym e) tt
+home_sent P h a home mread fread claim clear wback _ letter sent = elim sent [ ]
 
 pub home_shaped : (h a : ℕ) (home : HomeState) (c : Stamped) (old new : View) (asker : CacheState) (letter : Letter) → IsSentIn h asker letter
-    → HomeShapesIf old new a asker home c letter.body
-home_shaped h a home c old new Asking letter (inl e, to) = subst (HomeShapesIf old new a Asking home c) (sym e) (mread_shaped old new home c a)
-home_shaped h a home c old new Asking letter (inr e, to) = subst (HomeShapesIf old new a Asking home c) (sym e) (fread_shaped old new home c a)
-home_shaped h a home c old new (Joining p true) letter (e, to) = subst (HomeShapesIf old new a (Joining p true) home c) (sym e) tt
-home_shaped h a home c old new (FreshJoining p true d) letter (e, to) = subst (HomeShapesIf old new a (FreshJoining p true d) home c) (sym e) tt
-home_shaped h a home c old new (Purging q d) letter (e, to) = subst (HomeShapesIf old new a (Purging q d) home c) (sym e) tt
-home_shaped h a home c old new (Claiming f d) letter (e, to) = subst (HomeShapesIf old new a (Claiming f d) home c) (sym e) (claim_shaped old new home c a f d)
-home_shaped h a home c old new (Clearing d) letter (e, to) = subst (HomeShapesIf old new a (Clearing d) home c) (sym e) (clear_shaped old new home c a d)
-home_shaped h a home c old new (Returning d) letter (e, to) = subst (HomeShapesIf old new a (Returning d) home c) (sym e) (wback_shaped old new home c a d)
-home_shaped h a home c old new (Rolling f b d) letter e = subst (HomeShapesIf old new a (Rolling f b d) home c) (sym e) tt
-home_shaped h a home c old new (Telling r w true) letter (e, to) = subst (HomeShapesIf old new a (Telling r w true) home c) (sym e) tt
-home_shaped h a home c old new Fading letter (f, e) = subst (HomeShapesIf old new a Fading home c) (sym e) tt
-home_shaped h a home c old new Out letter sent = elim sent [ ]
-home_shaped h a home c old new (Joining p false) letter sent = elim sent [ ]
-home_shaped h a home c old new (FreshJoining p false d) letter sent = elim sent [ ]
-home_shaped h a home c old new (Head f d) letter sent = elim sent [ ]
-home_shaped h a home c old new (FreshHead f d) letter sent = elim sent [ ]
-home_shaped h a home c old new (Below f b d) letter sent = elim sent [ ]
-home_shaped h a home c old new (Telling r w false) letter sent = elim sent [ ]
+    → IfSome (at_home home a letter.body) (HomeShapes old new a asker home c)
+home_shaped h a home c old new =
+    home_sent (λ asker request. HomeShapes old new a asker home c) h a home (mread_shaped old new home c a) (fread_shaped old new home c a)
+    (claim_shaped old new home c a) (clear_shaped old new home c a) (wback_shaped old new home c a)

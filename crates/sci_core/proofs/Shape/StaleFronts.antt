@@ -1,5 +1,5 @@
 -- If the home's contents are gone, the head of the list isn't fresh: only a Fread makes a member fresh, and its home says so.
-use Rattle.std.proofs.Common.{◌≡◌, ◌≢◌, ℕ, ◌<◌, ◌%◌, Bool, true, false, if◌then◌else◌, List, [], ◌∷◌, Option, Some, None, refl, sym, ap, subst, ◌∙◌, inl, inr, rules}
+use Rattle.std.proofs.Common.{◌≡◌, ◌≢◌, ℕ, ◌<◌, ◌%◌, Bool, true, false, List, [], ◌∷◌, Option, Some, None, refl, sym, ap, subst, ◌∙◌, inl, inr, rules}
 use Rattle.std.specs.Prelude.{IfSome, unwrap_or}
 use Rattle.std.proofs.lemmas.Bool.{cases_Bool, cases_eq}
 use Rattle.std.proofs.lemmas.List.{get_or-set_other, get_or-set_same}
@@ -12,8 +12,7 @@ use Rattle.sci_packets.specs.declared.body.Body.TheVariants as body
 use Rattle.sci_home.specs.declared.state.HomeState.{HomeState}
 use Rattle.sci_home.specs.declared.state.HomeState.TheVariants as at
 use Rattle.sci_home.specs.Serving.{serving_clear, serving_claim, serving_fread, serving_mread, serving_wback, home_serving as at_home}
-use Rattle.sci_cache.specs.State.{CacheState, Out, Asking, Joining, FreshJoining, Head, FreshHead, Below, Purging, Claiming, Clearing, Returning, Rolling}
-use Rattle.sci_cache.specs.State.{Telling, Fading}
+use Rattle.sci_cache.specs.State.{CacheState, Asking, Head, Claiming, Clearing, Returning}
 use Rattle.sci_cache.specs.Performing.{performing}
 use Rattle.sci_cache.specs.Serving.{serving}
 use Rattle.sci_cache.specs.Line.{LineState, line_in, untouched}
@@ -29,13 +28,12 @@ use Rattle.sci_core.specs.Shape.{IsGoneStale}
 use Rattle.sci_core.specs.Size.{Size}
 use Rattle.sci_core.specs.Tidy.{IsSentIn, IsTidy}
 use Rattle.sci_core.specs.WellFormed.{IsPart, IsWellFormed}
-use Rattle.sci_core.proofs.Shape.Heads.{if_head, next_either}
+use Rattle.sci_core.proofs.Shape.Heads.{if_head}
 use Rattle.sci_core.proofs.Shape.Led.{fresh_in, same_fresh}
 use Rattle.sci_core.proofs.Step.NodeSides.{At_home, In_cache, PerformedAs, ServedAs}
-use Rattle.sci_core.proofs.Basics.Lists.{if_either}
 use Rattle.sci_core.proofs.Basics.Options.{of_some}
 use Rattle.sci_core.proofs.Tidy.Packets.{packets_changed}
-use Rattle.sci_core.proofs.Shape.Shapes.{Asks}
+use Rattle.sci_core.proofs.Shape.Shapes.{Asks, home_sent}
 use Rattle.sci_core.proofs.Shape.ShapeRuns.{LineStep, Performed, Served, Stood, answered, line_steps, operates_so, opening_at_home}
 use Rattle.sci_core.proofs.Shape.ShapeServes.{Answered, home_keeps, other_line, served_shift, with_served}
 use Rattle.sci_core.proofs.Shape.ShapeSteps.{SameLine, homes_same, view_of}
@@ -123,29 +121,11 @@ wback_stale old new a d (at.Gone p) asks stale =
     if_head (Leaves_stale old new a (Returning d) (at.Gone p)) p a (at.Home d, body.Wbok) (at.Gone p, body.Wbno) (λ head is was. tt)
     (λ is was. still_stale old new p (asker_no_fresher old new a (Returning d) body.Wbno is (λ e. cc)) was) asks stale
 
-abbrev LeavesIf : View → View → ℕ → CacheState → HomeState → Body → Type 0
-LeavesIf old new a asker home request = IfSome (at_home home a request) (Leaves_stale old new a asker home)
-
 home_stale : (h a : ℕ) (home : HomeState) (old new : View) (asker : CacheState) (letter : Letter) → IsSentIn h asker letter
-    → LeavesIf old new a asker home letter.body
-home_stale h a home old new Asking letter (inl e, to) = subst (LeavesIf old new a Asking home) (sym e) (mread_stale old new a home)
-home_stale h a home old new Asking letter (inr e, to) = subst (LeavesIf old new a Asking home) (sym e) (fread_stale old new a home)
-home_stale h a home old new (Joining p true) letter (e, to) = subst (LeavesIf old new a (Joining p true) home) (sym e) tt
-home_stale h a home old new (FreshJoining p true d) letter (e, to) = subst (LeavesIf old new a (FreshJoining p true d) home) (sym e) tt
-home_stale h a home old new (Purging q d) letter (e, to) = subst (LeavesIf old new a (Purging q d) home) (sym e) tt
-home_stale h a home old new (Claiming f d) letter (e, to) = subst (LeavesIf old new a (Claiming f d) home) (sym e) (claim_stale old new a f d home)
-home_stale h a home old new (Clearing d) letter (e, to) = subst (LeavesIf old new a (Clearing d) home) (sym e) (clear_stale old new a d home)
-home_stale h a home old new (Returning d) letter (e, to) = subst (LeavesIf old new a (Returning d) home) (sym e) (wback_stale old new a d home)
-home_stale h a home old new (Rolling f b d) letter e = subst (LeavesIf old new a (Rolling f b d) home) (sym e) tt
-home_stale h a home old new (Telling r w true) letter (e, to) = subst (LeavesIf old new a (Telling r w true) home) (sym e) tt
-home_stale h a home old new Fading letter (f, e) = subst (LeavesIf old new a Fading home) (sym e) tt
-home_stale h a home old new Out letter sent = elim sent [ ]
-home_stale h a home old new (Joining p false) letter sent = elim sent [ ]
-home_stale h a home old new (FreshJoining p false d) letter sent = elim sent [ ]
-home_stale h a home old new (Head f d) letter sent = elim sent [ ]
-home_stale h a home old new (FreshHead f d) letter sent = elim sent [ ]
-home_stale h a home old new (Below f b d) letter sent = elim sent [ ]
-home_stale h a home old new (Telling r w false) letter sent = elim sent [ ]
+    → IfSome (at_home home a letter.body) (Leaves_stale old new a asker home)
+home_stale h a home old new =
+    home_sent (λ asker request. Leaves_stale old new a asker home) h a home (mread_stale old new a home) (fread_stale old new a home)
+    (λ f d. claim_stale old new a f d home) (λ d. clear_stale old new a d home) (λ d. wback_stale old new a d home)
 
 -- ---- a cache serves
 
@@ -162,13 +142,10 @@ record Freshens (state : CacheState) (served : CacheState × Body) : Type 0 wher
   pub keeps : (answer : Option Body) → is_fresh served.0 answer ≡ true → is_fresh state answer ≡ true
   pub told : tells_fresh served.1 ≡ false
 
-either_freshens : (state : CacheState) (b : Bool) (x y : CacheState × Body) → Freshens state x → Freshens state y → Freshens state (if b then x else y)
-either_freshens state b x y h k = if_either (Freshens state) b x y h k
-
 serving_freshens : (state : CacheState) (n : ℕ) (request : Body) → IfSome (serving state n request) (Freshens state)
 serving_freshens (Head f c) n body.Cread = search rules
 serving_freshens _ n body.Cread = search rules
-serving_freshens _ n _ = search (rules, either_freshens)
+serving_freshens _ n _ = search rules
 
 shifted_state : (old new : View) (a q : ℕ) (next : CacheState) (b : Body) → Shift old new a q next b → Freshens (old.state q) (next, b)
     → (n : ℕ) (answer : Option Body) → is_fresh (new.state n) answer ≡ true → is_fresh (old.state n) answer ≡ true

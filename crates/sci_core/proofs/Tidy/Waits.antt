@@ -1,24 +1,21 @@
 -- Each row of the tables, as far as it tells who waits and for which request.
-use Rattle.std.proofs.Common.{◌≡◌, ℕ, ◌+◌, ◌%◌, ◌<◌, Bool, true, false, if◌then◌else◌, List, [], ◌∷◌, Some, None, refl, ◌∙◌, sym, ap, subst, arith, rules}
-use Rattle.std.specs.Prelude.{◌==◌, IfSome}
+use Rattle.std.proofs.Common.{◌≡◌, ℕ, ◌+◌, ◌%◌, ◌<◌, true, false, List, [], ◌∷◌, Some, None, refl, ◌∙◌, sym, ap, subst, arith, rules}
+use Rattle.std.specs.Prelude.{IfSome}
 use Rattle.sci_words.specs.declared.limits.TheConstants.{CONTROLS}
 use Rattle.sci_words.specs.declared.event.AskKind.{AskKind}
 use Rattle.sci_words.specs.declared.event.AskKind.TheVariants as kind
 use Rattle.sci_words.specs.declared.operation.Op.{Op}
-use Rattle.sci_words.specs.Operation.{is_maker}
-use Rattle.sci_words.specs.Stamped.{reply_of}
 use Rattle.sci_packets.specs.declared.body.Body.{Body}
 use Rattle.sci_packets.specs.declared.body.Body.TheVariants as body
-use Rattle.sci_cache.specs.State.{CacheState, Asking, Joining, FreshJoining, Head, FreshHead, Below, Rolling}
+use Rattle.sci_cache.specs.State.{CacheState, Asking, Joining, FreshJoining, Head, FreshHead, Rolling}
 use Rattle.sci_cache.specs.State.{Telling, waits}
 use Rattle.sci_cache.specs.Asking.{Asked, asking}
-use Rattle.sci_cache.specs.Serving.{serving, is_next}
+use Rattle.sci_cache.specs.Serving.{serving}
 use Rattle.sci_cache.specs.Accepting.{accepting}
 use Rattle.sci_cache.specs.Performing.{Performed, performing}
 use Rattle.sci_cache.specs.Line.{LineState}
 use Rattle.sci_cache.specs.Cache.{Letter}
 use Rattle.sci_core.specs.Tidy.{IsSentIn, IsAwaited, HasItsPackets}
-use Rattle.sci_core.proofs.Basics.Lists.{if_either}
 use Rattle.sci_core.proofs.Shape.Standings.{performing_keeps}
 
 -- ---- asking
@@ -58,13 +55,10 @@ pub record KeepsWait (old new : CacheState) : Type 0 where
 same_wait : (state : CacheState) → KeepsWait state state
 same_wait state = record { wait = refl; sent = λ home letter h. h }
 
-either_waits : (state : CacheState) (b : Bool) (x y : CacheState × Body) → KeepsWait state x.0 → KeepsWait state y.0 → KeepsWait state (if b then x else y).0
-either_waits state b x y h k = if_either (λ (served : CacheState × Body). KeepsWait state served.0) b x y h k
-
 pub serving_waits : (state : CacheState) (n : ℕ) (request : Body) → IfSome (serving state n request) (λ (served : CacheState × Body). KeepsWait state served.0)
 serving_waits (Head f c) n body.Cread = search rules
 serving_waits _ n body.Cread = search rules
-serving_waits _ n _ = search (rules, either_waits)
+serving_waits _ n _ = search rules
 
 pub performing_waits : (state : CacheState) (op : Op) → IfSome (performing state op) (λ (done : Performed). KeepsWait state done.next)
 performing_waits state op = performing_keeps (KeepsWait state) state op (same_wait state)

@@ -1,26 +1,22 @@
 -- Each row of the tables makes identifiers of nodes from identifiers of nodes.
-use Rattle.std.proofs.Common.{◌≡◌, ℕ, ◌<◌, ◌-◌, ◌^◌, nat_lt, Bool, true, false, if◌then◌else◌, Some, None, refl, rules}
+use Rattle.std.proofs.Common.{◌≡◌, ℕ, ◌<◌, true, false, None, rules}
 use Rattle.std.specs.Prelude.{IfSome}
-use Rattle.sci_words.specs.declared.stamped.Stamped.{Stamped}
 use Rattle.sci_words.specs.declared.event.AskKind.{AskKind}
 use Rattle.sci_words.specs.declared.event.AskKind.TheVariants as kind
 use Rattle.sci_words.specs.declared.operation.Op.{Op}
-use Rattle.sci_words.specs.Operation.{is_maker}
-use Rattle.sci_words.specs.Stamped.{after, reply_of}
 use Rattle.sci_packets.specs.declared.body.Body.{Body}
 use Rattle.sci_packets.specs.declared.body.Body.TheVariants as body
 use Rattle.sci_packets.specs.Table.{is_request}
 use Rattle.sci_home.specs.declared.state.HomeState.{HomeState}
 use Rattle.sci_home.specs.declared.state.HomeState.TheVariants as home
-use Rattle.sci_home.specs.Serving.{IsForHome, home_serving as serving_at_home, serving_claim, serving_clear, serving_wback}
-use Rattle.sci_cache.specs.State.{CacheState, Asking, Joining, FreshJoining, Head, FreshHead, Below, Rolling}
+use Rattle.sci_home.specs.Serving.{IsForHome, home_serving as serving_at_home}
+use Rattle.sci_cache.specs.State.{CacheState, Asking, Joining, FreshJoining, Head, FreshHead, Rolling}
 use Rattle.sci_cache.specs.State.{Telling}
 use Rattle.sci_cache.specs.Asking.{Asked, asking}
-use Rattle.sci_cache.specs.Serving.{serving, is_next}
+use Rattle.sci_cache.specs.Serving.{serving}
 use Rattle.sci_cache.specs.Accepting.{accepting}
 use Rattle.sci_cache.specs.Performing.{Performed, performing}
 use Rattle.sci_core.specs.WellFormed.{IsBelow, NamesNodes, HomeNamesNodes, BodyNamesNodes}
-use Rattle.sci_core.proofs.Basics.Lists.{if_either}
 use Rattle.sci_core.proofs.Shape.Standings.{performing_keeps}
 
 pub record AsksWell (nodes : ℕ) (asked : Asked) : Type 0 where
@@ -44,28 +40,22 @@ pub record ServesWell (nodes : ℕ) (served : CacheState × Body) : Type 0 where
   pub names : BodyNamesNodes nodes served.1
   pub answers : is_request served.1 ≡ false
 
-either_serves : (nodes : ℕ) (b : Bool) (x y : CacheState × Body) → ServesWell nodes x → ServesWell nodes y → ServesWell nodes (if b then x else y)
-either_serves nodes b x y h k = if_either (ServesWell nodes) b x y h k
-
 pub serving_names : (nodes : ℕ) (state : CacheState) (n : ℕ) (request : Body) → n < nodes → NamesNodes nodes state → BodyNamesNodes nodes request
     → IfSome (serving state n request) (ServesWell nodes)
 serving_names nodes (Head f c) n body.Cread lt h k = search rules
 serving_names nodes _ n body.Cread lt h k = search rules
-serving_names nodes _ n _ lt h k = search (rules, either_serves)
+serving_names nodes _ n _ lt h k = search rules
 
 pub record HomeServesWell (nodes : ℕ) (served : HomeState × Body) : Type 0 where
   pub next : HomeNamesNodes nodes served.0
   pub names : BodyNamesNodes nodes served.1
   pub answers : is_request served.1 ≡ false
 
-either_home : (nodes : ℕ) (b : Bool) (x y : HomeState × Body) → HomeServesWell nodes x → HomeServesWell nodes y → HomeServesWell nodes (if b then x else y)
-either_home nodes b x y h k = if_either (HomeServesWell nodes) b x y h k
-
 pub home_names : (nodes : ℕ) (state : HomeState) (n : ℕ) (request : Body) → n < nodes → HomeNamesNodes nodes state
     → IfSome (serving_at_home state n request) (HomeServesWell nodes)
 home_names nodes (home.Home c) n body.Mread lt h = search rules
 home_names nodes _ n body.Mread lt h = search rules
-home_names nodes _ n _ lt h = search (rules, either_home)
+home_names nodes _ n _ lt h = search rules
 
 pub accepting_names : (nodes : ℕ) (state : CacheState) (answer : Body) → NamesNodes nodes state → BodyNamesNodes nodes answer
     → IfSome (accepting state answer) (NamesNodes nodes)

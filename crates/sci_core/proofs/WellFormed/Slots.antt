@@ -1,23 +1,20 @@
 -- A line gets an entry only if a version slot is free, so a node has no more entries than slots.
-use Rattle.std.proofs.Common.{◌≡◌, ℕ, ◌+◌, ◌-◌, ◌^◌, ◌<◌, ◌≤◌, nat_lt, not, cond, Bool, true, false, if◌then◌else◌, length, set, Some, None, refl, sym, subst, ap, ◌∙◌}
+use Rattle.std.proofs.Common.{◌≡◌, ℕ, ◌+◌, ◌<◌, ◌≤◌, not, cond, Bool, true, false, length, set, None, refl, sym, subst, ap, ◌∙◌}
 use Rattle.std.proofs.Common.{arith, inl, inr, rules}
 use Rattle.std.specs.Prelude.{IfSome}
 use Rattle.std.proofs.lemmas.Bool.{cases_lt, ltb-true}
 use Rattle.std.proofs.lemmas.List.{set_past}
 use Rattle.std.proofs.lemmas.List.Sums.{sum_by-set}
 use Rattle.sci_words.specs.declared.operation.Op.{Op}
-use Rattle.sci_words.specs.Operation.{is_maker}
-use Rattle.sci_words.specs.Stamped.{reply_of}
 use Rattle.sci_packets.specs.declared.body.Body.{Body}
 use Rattle.sci_packets.specs.declared.body.Body.TheVariants as body
-use Rattle.sci_cache.specs.State.{CacheState, Asking, Joining, FreshJoining, Head, FreshHead, Below, Rolling, Telling}
+use Rattle.sci_cache.specs.State.{CacheState, Asking, Joining, FreshJoining, Head, Rolling, Telling}
 use Rattle.sci_cache.specs.State.{is_out}
-use Rattle.sci_cache.specs.Serving.{serving, is_next}
+use Rattle.sci_cache.specs.Serving.{serving}
 use Rattle.sci_cache.specs.Accepting.{accepting}
 use Rattle.sci_cache.specs.Performing.{Performed, performing}
 use Rattle.sci_cache.specs.Line.{LineState, untouched}
 use Rattle.sci_cache.specs.Cache.{CacheOf, line_of, has_slot, slots_taken}
-use Rattle.sci_core.proofs.Basics.Lists.{if_either}
 use Rattle.sci_core.proofs.Shape.Standings.{performing_keeps}
 
 -- a line that gets an entry has a slot for it
