@@ -28,11 +28,11 @@ flat_same f xs i d v below same =
     let a = around f xs i d below in
     a.then_ v ∙ (ap (λ ys. a.before ++ (ys ++ a.after)) same ∙ sym a.now)
 
-nothing_before : {Y : Type 0} (xs ys : List Y) → xs ++ ys ≡ [] → xs ≡ []
+pub nothing_before : {Y : Type 0} (xs ys : List Y) → xs ++ ys ≡ [] → xs ≡ []
 nothing_before [] ys e = refl
 nothing_before (x ∷ xs) ys e = cc
 
-nothing_after : {Y : Type 0} (xs ys : List Y) → xs ++ ys ≡ [] → ys ≡ []
+pub nothing_after : {Y : Type 0} (xs ys : List Y) → xs ++ ys ≡ [] → ys ≡ []
 nothing_after [] ys e = e
 nothing_after (x ∷ xs) ys e = cc
 

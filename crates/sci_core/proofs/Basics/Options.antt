@@ -2,7 +2,8 @@
 use Rattle.std.proofs.Common.{◌≡◌, ℕ, zero, suc, ◌<◌, nat_lt, Bool, if◌then◌else◌, replicate, get_or, Option, Some, None, refl, sym, subst, inl, inr}
 use Rattle.std.specs.Prelude.{IfSome, IsSome}
 use Rattle.std.specs.Option.{option_or}
-use Rattle.std.proofs.lemmas.Bool.{cases_Bool, ltb-true}
+use Rattle.std.proofs.lemmas.Bool.{ltb-true}
+use Rattle.sci_core.proofs.Basics.Lists.{if_cases}
 
 -- what holds of an optional value if it is there, holds of it
 pub of_some : {X : Type 0} (P : X → Type 0) (o : Option X) (x : X) → o ≡ Some x → IfSome o P → P x
@@ -19,11 +20,8 @@ same_some x y e = cc
 
 -- a value that is there below a bound alone
 pub if_below : {X : Type 0} (a b : ℕ) (P : X → Type 0) (o : Option X) → (a < b → IfSome o P) → IfSome (if nat_lt a b then o else None) P
-if_below a b P o h =
-    elim (cases_Bool (nat_lt a b)) [
-      | inl within ↦ subst (λ (t : Bool). IfSome (if t then o else None) P) (sym within) (h (ltb-true a b within))
-      | inr beyond ↦ subst (λ (t : Bool). IfSome (if t then o else None) P) (sym beyond) tt
-    ]
+if_below {X = X} a b P o h =
+    if_cases (λ (made : Option X). IfSome made P) (nat_lt a b) o None (λ within. h (ltb-true a b within)) (λ beyond. tt)
 
 -- what holds of each value of a list that has none
 pub none_in : {X : Type 0} (P : X → Type 0) (count place : ℕ) → IfSome (get_or (replicate count None) place None) P

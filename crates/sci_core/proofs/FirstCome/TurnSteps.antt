@@ -56,7 +56,7 @@ use Rattle.sci_core.proofs.FirstCome.Turns.{HomeTurns, One, Nobody as Unsucceede
 use Rattle.sci_core.proofs.FirstCome.Turns.{coming_more, home_turned, led_of, turned_alike, turned_same}
 use Rattle.sci_core.proofs.Shape.Views.{View, link_in}
 use Rattle.sci_core.proofs.Tidy.WaitingNodes.{Answers as AnswersTo, serve_answers}
-use Rattle.sci_core.proofs.WellFormed.WellFormedSteps.{any_well, reachable_stepping, step_well}
+use Rattle.sci_core.proofs.WellFormed.WellFormedSteps.{any_well, reachable_stepping, step_well, reachable_next}
 
 -- ---- one list, one queue
 
@@ -509,10 +509,6 @@ pub any_waiting : (core : Core) (line : ℕ) → IsReachable core → line < cor
 any_waiting core line reached inside =
     let shaped = any_shaped core reached line inside in
     (reverse (coming_in (view_of core line) shaped.1.0), waiting_of core line (home_at core line) shaped.0 shaped.1.0 refl shaped.1.1)
-
-reachable_next : (core : Core) (e : Event) (next : Option Core) → IsReachable core → stepping core e ≡ next → IsReachable (unwrap_or next core)
-reachable_next core e None reached is = reached
-reachable_next core e (Some new) reached is = reachable_stepping core new e reached is
 
 -- from any state on
 run_turns : (core : Core) (events : List Event) (line : ℕ) (waiting then_ : List ℕ) → IsReachable core → line < core.size.lines → AreWaiting core line waiting

@@ -32,7 +32,7 @@ use Rattle.sci_core.proofs.Step.Steps.{lane_below}
 use Rattle.sci_core.proofs.Tidy.TidyRuns.{node_below}
 use Rattle.sci_core.proofs.Tidy.WaitingNodes.{Accepts, Answers as AnswersTo, AsksOnce, Replies, Stays, ask_once, accept_accepts, issue_stays, perform_stays}
 use Rattle.sci_core.proofs.Tidy.WaitingNodes.{refuse_answers, reply_replies, serve_answers}
-use Rattle.sci_core.proofs.WellFormed.WellFormedSteps.{any_well, reachable_stepping}
+use Rattle.sci_core.proofs.WellFormed.WellFormedSteps.{any_well, reachable_stepping, reachable_next}
 
 -- ---- weights after a change
 
@@ -241,12 +241,8 @@ step_weighs core e (Some new) reached asks is =
     let one = if_made (moves_on e) in
     omega arith
 
-next_reachable : (core : Core) (e : Event) (next : Option Core) → IsReachable core → stepping core e ≡ next → IsReachable (unwrap_or next core)
-next_reachable core e None reached is = reached
-next_reachable core e (Some new) reached is = reachable_stepping core new e reached is
-
 step_reachable : (core : Core) (e : Event) → IsReachable core → IsReachable (step core e)
-step_reachable core e reached = next_reachable core e (stepping core e) reached refl
+step_reachable core e reached = reachable_next core e (stepping core e) reached refl
 
 -- what is made of a list of events lowers the weight, each by one
 pub run_weighs : (core : Core) (events : List Event) → IsReachable core → AskNothing events

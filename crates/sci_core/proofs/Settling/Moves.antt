@@ -4,7 +4,7 @@ use Rattle.std.proofs.Common.{inl, inr}
 use Rattle.std.specs.Prelude.{IsSome}
 use Rattle.std.proofs.Math.Nat.{mul-le-mul_left}
 use Rattle.std.proofs.lemmas.Bool.{cases_lt}
-use Rattle.std.proofs.lemmas.List.{get_or_past}
+use Rattle.std.proofs.lemmas.List.{get_or_past, nil_from_length}
 use Rattle.std.specs.List.{sum_by}
 use Rattle.std.proofs.lemmas.List.Sums.{sum_by-cons}
 use Rattle.sci_words.specs.declared.event.Event.{Event}
@@ -32,17 +32,13 @@ none_waits core well none n =
       | inr past ↦ ap (λ (part : NodeOf). part.waiting) (get_or_past core.parts n no_node (let long = well.sizes.parts_long in omega arith))
     ]
 
-no_letter : (lane : List Letter) → length lane ≡ 0 → lane ≡ []
-no_letter [] none = refl
-no_letter (letter ∷ rest) none = cc
-
 none_carried : (core : Core) → IsWellFormed core → ((from to : ℕ) → from < core.size.nodes → to < core.size.nodes → length (lane_of core Requests from to) ≡ 0)
     → ((from to : ℕ) → from < core.size.nodes → to < core.size.nodes → length (lane_of core Answers from to) ≡ 0) → (place : ℕ) → lane_at core place ≡ []
 none_carried core well requests answers place =
     elim (cases_lt place (2 * core.size.nodes * core.size.nodes)) [
       | inl below ↦ elim (place_of core.size.nodes place well.sizes.some_node below) [
-        | inl at ↦ ap (lane_at core) (sym at.here) ∙ no_letter (lane_of core Requests at.from at.to) (requests at.from at.to at.sender at.receiver)
-        | inr at ↦ ap (lane_at core) (sym at.here) ∙ no_letter (lane_of core Answers at.from at.to) (answers at.from at.to at.sender at.receiver)
+        | inl at ↦ ap (lane_at core) (sym at.here) ∙ nil_from_length (lane_of core Requests at.from at.to) (requests at.from at.to at.sender at.receiver)
+        | inr at ↦ ap (lane_at core) (sym at.here) ∙ nil_from_length (lane_of core Answers at.from at.to) (answers at.from at.to at.sender at.receiver)
       ]
       | inr past ↦ get_or_past core.lanes place [] (subst (λ (k : ℕ). k ≤ place) (sym well.sizes.lanes_long) past)
     ]

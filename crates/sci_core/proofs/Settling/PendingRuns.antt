@@ -21,6 +21,7 @@ use Rattle.sci_cache.specs.Asking.{Asked, asking}
 use Rattle.sci_cache.specs.Performing.{performing}
 use Rattle.sci_cache.specs.Line.{LineState, untouched}
 use Rattle.sci_cache.specs.Cache.{Letter, has_slot, line_of, slots_taken}
+use Rattle.sci_core.proofs.Settling.Rest.{counted_none}
 use Rattle.sci_core.specs.declared.lane.LaneKind.TheVariants.{Requests, Answers}
 use Rattle.sci_core.specs.declared.pending.Pending.{Pending}
 use Rattle.sci_core.specs.Core.{Core, IsEnabled, node_at, run_from, sent_by, step, stepping, with_node}
@@ -118,19 +119,12 @@ moves_settle_on old new on = leads_on settles old new on.count (moves_settle old
 
 -- ---- the line is read
 
-count_none : {X : Type 0} (p : X → Bool) (xs : List X) (d : X) → ((i : ℕ) → p (get_or xs i d) ≡ false) → count_by p xs ≡ 0
-count_none p [] d none = refl
-count_none p (x ∷ xs) d none =
-    let this : p x ≡ false = none 0 in
-    let rest = count_none p xs d (λ i. none (suc i)) in
-    rw this rest
-
 -- a node with no entry has a slot
 slot_free : (core : Core) (n : ℕ) → IsReached core → AreOut core → n < core.size.nodes → has_slot (node_at core n).cache ≡ true
 slot_free core n reached out lt =
     let part = (reached_well core reached).each_part n lt in
     let none : slots_taken (node_at core n).cache.lines ≡ 0 =
-    count_none (λ (line : LineState). not (is_out line.state)) (node_at core n).cache.lines untouched
+    counted_none (λ (line : LineState). not (is_out line.state)) (node_at core n).cache.lines untouched
     (λ i. ap (λ (s : CacheState). not (is_out s)) (out i n)) in
     let room = part.room in
     let some = reached.size.extent.has_slot in

@@ -8,6 +8,7 @@ use Rattle.std.proofs.lemmas.Map.Steps.{length-le_from_distinct_below}
 use lib.Dec.{eqb}
 use Rattle.sci_history.specs.Seen.{IsAmong}
 use Rattle.sci_home.specs.Serving.{head_of}
+use Rattle.sci_core.proofs.Shape.Chains.{linked_has}
 use Rattle.sci_core.specs.Core.{Core}
 use Rattle.sci_core.specs.Sharing.{home_at}
 use Rattle.sci_core.specs.Shape.{HasShape}
@@ -64,13 +65,6 @@ walks_more link first so_far n next walked is = more link first so_far n next wa
 
 -- ---- how long a list is
 
--- a node that stands in a list has a link
-listed : (link : ℕ → Option (Option ℕ)) (first : Option ℕ) (nodes : List ℕ) (n : ℕ) → LinkedFrom link first nodes → IsAmong n nodes
-    → (next : Option ℕ) × (link n ≡ Some next)
-listed link first [] n linked h = elim h [ ]
-listed link first (m ∷ ms) n linked (inl e) = (linked.1.0, ap link e ∙ linked.1.1)
-listed link first (m ∷ ms) n linked (inr h) = listed link linked.1.0 ms n linked.1.2 h
-
 apart : (n : ℕ) (ns : List ℕ) → (IsAmong n ns → ⊥) → AllByRecursion (λ m. eqb n m ≡ false) ns
 apart n [] other = tt
 apart n (m ∷ ms) other = (ne_eqb n m (λ e. other (inl e)), apart n ms (λ h. other (inr h)))
@@ -93,7 +87,7 @@ pub lists_are_short : (link : ℕ → Option (Option ℕ)) (first : Option ℕ) 
     → ((n : ℕ) (next : Option ℕ) → link n ≡ Some next → n < size) → IsListOf link first nodes → length nodes ≤ size
 lists_are_short link first nodes size below list =
     length-le_from_distinct_below nodes size (distinct nodes list.once) (λ n h.
-    let has = listed link first nodes n list.linked (found n nodes h) in below n has.0 has.1)
+    let has = linked_has link first nodes n list.linked (found n nodes h) in below n has.0 has.1)
 
 -- the nodes so far and the next one are no more than the machine's
 begun : (link : ℕ → Option (Option ℕ)) (first : Option ℕ) (so_far rest : List ℕ) (n size : ℕ) → ((m : ℕ) (next : Option ℕ) → link m ≡ Some next → m < size)

@@ -1,7 +1,7 @@
 -- What each event does at its node: to the standing of the node's lines, to its homes, and to the answer that waits.
 use Rattle.std.proofs.Common.{◌≡◌, ℕ, ◌<◌, nat_lt, not, ◌&&◌, Bool, true, false, if◌then◌else◌, Option, Some, None, refl, sym, subst, inl, inr}
 use Rattle.std.specs.Prelude.{IfSome, is_some, ◌==◌, slice_set, option_map}
-use Rattle.std.proofs.lemmas.Bool.{cases_Bool}
+use Rattle.std.proofs.lemmas.Option.{IfSome_then}
 use Rattle.std.proofs.lemmas.List.{get_or-set_same}
 use Rattle.sci_words.specs.declared.event.AskKind.{AskKind}
 use Rattle.sci_words.specs.declared.operation.Op.{Op}
@@ -17,12 +17,13 @@ use Rattle.sci_cache.specs.Accepting.{accepting}
 use Rattle.sci_cache.specs.Performing.{Performed, performing}
 use Rattle.sci_cache.specs.Line.{LineState, untouched, last_control, line_in, line_asked, ask_or_fault}
 use Rattle.sci_cache.specs.Cache.{CacheOf, Letter, line_of, with_line, has_slot, cache_asking, cache_asked}
+use Rattle.sci_core.proofs.Basics.Options.{of_some}
 use Rattle.sci_core.specs.declared.pending.Pending.{Pending}
 use Rattle.sci_core.specs.Node.{NodeOf, lines_of, home_place, home_of, pending_on, entry_of, node_logged, may_issue, node_issued, node_issuing, performed_by}
 use Rattle.sci_core.specs.Node.{performing_pending, node_performing, asked_by, node_asking, with_answer, served_at_home, served_in_cache, serving_at_home}
 use Rattle.sci_core.specs.Node.{serving_in_cache, serving_request, answered_by, node_serving, is_setback, node_refusing, replied_by, node_replying, accepted_by}
 use Rattle.sci_core.specs.Node.{node_accepting}
-use Rattle.sci_core.proofs.Basics.Lists.{if_either, at_place_set}
+use Rattle.sci_core.proofs.Basics.Lists.{if_either, at_place_set, if_cases}
 use Rattle.sci_core.proofs.Shape.Standings.{Alike, alike_itself, asking_alike, accepting_alike}
 
 pub record SameHomes (old new : NodeOf) : Type 0 where
@@ -30,7 +31,7 @@ pub record SameHomes (old new : NodeOf) : Type 0 where
   pub nodes : new.cache.nodes ≡ old.cache.nodes
 
 -- one line of a node gets another state
-abbrev with_state : NodeOf → ℕ → CacheState → NodeOf
+abbrev pub with_state : NodeOf → ℕ → CacheState → NodeOf
 with_state part line state = record part { cache = with_line part.cache line (line_in (line_of part.cache line) state) }
 
 -- ---- Issue
@@ -120,17 +121,12 @@ cache_served : (part : NodeOf) (request : Letter) (served : Option (CacheState �
 cache_served part request None is = tt
 cache_served part request (Some served) is = In_cache served is refl
 
-request_served : (part : NodeOf) (request : Letter) → IfSome (answered_by request (serving_request part request)) (ServedAs part request)
+pub request_served : (part : NodeOf) (request : Letter) → IfSome (answered_by request (serving_request part request)) (ServedAs part request)
 request_served part request =
-    let at_home = home_served part request (serving_of_home (home_of part request.line) request.source request.body) in
-    let in_cache = cache_served part request (serving (line_of part.cache request.line).state request.source request.body) refl in
-    elim (cases_Bool (is_for_home request.body)) [
-      | inl yes_ ↦ subst (λ (b : Bool).
-          IfSome (answered_by request (if b then serving_at_home part request else serving_in_cache part request)) (ServedAs part request)) (sym yes_)
-          (at_home yes_ refl)
-      | inr no_ ↦ subst (λ (b : Bool).
-          IfSome (answered_by request (if b then serving_at_home part request else serving_in_cache part request)) (ServedAs part request)) (sym no_) in_cache
-    ]
+    if_cases (λ (o : Option (NodeOf × Body)). IfSome (answered_by request o) (ServedAs part request)) (is_for_home request.body) (serving_at_home part request)
+    (serving_in_cache part request)
+    (λ yes_. home_served part request (serving_of_home (home_of part request.line) request.source request.body) yes_ refl)
+    (λ no_. cache_served part request (serving (line_of part.cache request.line).state request.source request.body) refl)
 
 pub serve_as : (part : NodeOf) (request : Letter) → IfSome (node_serving part request) (ServedAs part request)
 serve_as part request =
@@ -142,16 +138,12 @@ pub record RefusedAs (part : NodeOf) (request : Letter) (next : NodeOf) : Type 0
   pub other : is_setback request.body ≡ false
   pub then_ : with_answer part request Busy ≡ next
 
-refused_as : (part : NodeOf) (request : Letter) (setback : Bool) → is_setback request.body ≡ setback
-    → IfSome (if setback then None else Some (with_answer part request Busy)) (RefusedAs part request)
-refused_as part request true is = tt
-refused_as part request false is = record { other = is; then_ = refl }
-
 pub refuse_as : (part : NodeOf) (request : Letter) → IfSome (node_refusing part request) (RefusedAs part request)
 refuse_as part request =
     if_either (λ (o : Option NodeOf). IfSome o (RefusedAs part request)) (is_some part.waiting) None
     (if is_setback request.body then None else Some (with_answer part request Busy)) tt
-    (refused_as part request (is_setback request.body) refl)
+    (if_cases (λ (o : Option NodeOf). IfSome o (RefusedAs part request)) (is_setback request.body) None (Some (with_answer part request Busy)) (λ is. tt)
+    (λ is. record { other = is; then_ = refl }))
 
 -- ---- Reply
 
@@ -165,25 +157,37 @@ reply_as part = replied_as part part.waiting
 
 -- ---- Accept
 
+-- the line has the state that its table gives for the answer
+pub record AcceptedAs (part : NodeOf) (answer : Letter) (next : NodeOf) : Type 0 where
+  pub state : CacheState
+  pub accepts : accepting (line_of part.cache answer.line).state answer.body ≡ Some state
+  pub then_ : with_state part answer.line state ≡ next
+
+accepted_as : (part : NodeOf) (answer : Letter) (awaits : Bool) (state : Option CacheState)
+    → accepting (line_of part.cache answer.line).state answer.body ≡ state
+    → IfSome (accepted_by part (elim (if awaits then state else None) as (λ _. Option CacheOf) [
+      | None ↦ None
+      | Some s ↦ Some (with_line part.cache answer.line (line_in (line_of part.cache answer.line) s))
+    ])) (AcceptedAs part answer)
+accepted_as part answer false state is = tt
+accepted_as part answer true None is = tt
+accepted_as part answer true (Some s) is = record { state = s; accepts = is; then_ = refl }
+
+pub accept_as : (part : NodeOf) (answer : Letter) → IfSome (node_accepting part answer) (AcceptedAs part answer)
+accept_as part answer =
+    accepted_as part answer (answer.control == last_control (line_of part.cache answer.line)) (accepting (line_of part.cache answer.line).state answer.body) refl
+
 pub record AcceptsAlike (answer : Letter) (part next : NodeOf) : Type 0 where
   pub alike : answer.line < lines_of part → Alike (line_of part.cache answer.line).state (Some answer.body) (line_of next.cache answer.line).state None
   pub same : SameHomes part next
 
-accepted_alike : (part : NodeOf) (answer : Letter) (awaits : Bool) (state : Option CacheState)
-    → IfSome state (λ (s : CacheState). Alike (line_of part.cache answer.line).state (Some answer.body) s None)
-    → IfSome (accepted_by part (elim (if awaits then state else None) as (λ _. Option CacheOf) [
-      | None ↦ None
-      | Some s ↦ Some (with_line part.cache answer.line (line_in (line_of part.cache answer.line) s))
-    ])) (AcceptsAlike answer part)
-accepted_alike part answer false state keeps = tt
-accepted_alike part answer true None keeps = tt
-accepted_alike part answer true (Some s) keeps = record {
-  alike = λ below. subst (λ (l : LineState). Alike (line_of part.cache answer.line).state (Some answer.body) l.state None)
-      (sym (get_or-set_same part.cache.lines answer.line (line_in (line_of part.cache answer.line) s) untouched below)) keeps;
-  same = record { homes = refl; nodes = refl };
-}
-
 pub accept_alike : (part : NodeOf) (answer : Letter) → IfSome (node_accepting part answer) (AcceptsAlike answer part)
-accept_alike part answer =
-    accepted_alike part answer (answer.control == last_control (line_of part.cache answer.line)) (accepting (line_of part.cache answer.line).state answer.body)
-    (accepting_alike (line_of part.cache answer.line).state answer.body)
+accept_alike part answer = IfSome_then (node_accepting part answer) (accept_as part answer) (λ next does.
+    let old = (line_of part.cache answer.line).state in
+    let keeps = of_some (λ (s : CacheState). Alike old (Some answer.body) s None) (accepting old answer.body) does.state does.accepts
+    (accepting_alike old answer.body) in
+    subst (AcceptsAlike answer part) does.then_ (record {
+      alike = λ below. subst (λ (l : LineState). Alike old (Some answer.body) l.state None)
+          (sym (get_or-set_same part.cache.lines answer.line (line_in (line_of part.cache answer.line) does.state) untouched below)) keeps;
+      same = record { homes = refl; nodes = refl };
+    }))

@@ -31,16 +31,12 @@ use Rattle.sci_core.specs.Reached.{IsReached}
 use Rattle.sci_core.specs.Taking.{lane_kind, taking_event}
 use Rattle.sci_core.proofs.Tidy.Enabled.{accept_enabled, request_enabled}
 use Rattle.sci_core.proofs.Step.Sides.{steps_by_sides}
-use Rattle.sci_core.proofs.Step.Stepping.{if_true}
+use Rattle.sci_core.proofs.Step.Stepping.{if_true, if_false}
 use Rattle.sci_core.proofs.Step.Takings.{taking_from_nobody}
 
 mapped : {A B : Type 0} (f : A → B) (o : Option A) → is_some (option_map f o) ≡ is_some o
 mapped f None = refl
 mapped f (Some x) = refl
-
-if_not : {X : Type 0} (b : Bool) (x y : X) → b ≡ false → (if b then x else y) ≡ y
-if_not true x y e = cc
-if_not false x y e = refl
 
 -- ---- the events that take no packet are enabled if their side is
 
@@ -128,7 +124,7 @@ take_told core taking from n reached lt =
           ap is_none (if_true (nat_lt from core.size.nodes) front (Some NoSuchSender) here)
           ∙ taken_free core taking from n (lane_of core (lane_kind taking) from n) reached (ltb-true from core.size.nodes here) lt refl
       | inr beyond ↦
-          ap is_none (if_not (nat_lt from core.size.nodes) front (Some NoSuchSender) beyond)
+          ap is_none (if_false (nat_lt from core.size.nodes) front (Some NoSuchSender) beyond)
           ∙ sym (ap is_some (taking_from_nobody core taking from n lt (ltb-false from core.size.nodes beyond)))
     ]
 

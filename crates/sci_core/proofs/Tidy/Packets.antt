@@ -8,7 +8,7 @@ use Rattle.sci_cache.specs.Cache.{Letter}
 use Rattle.sci_core.specs.Node.{NodeOf, no_node}
 use Rattle.sci_core.specs.Core.{Core, node_at, with_node, lane_at, with_lane}
 use Rattle.sci_core.specs.Sharing.{is_about, packets_of}
-use Rattle.sci_core.proofs.Basics.FlatMaps.{around, flat_same, flat_from_none, flat_from_one}
+use Rattle.sci_core.proofs.Basics.FlatMaps.{around, flat_same, flat_from_none, flat_from_one, nothing_before, nothing_after}
 
 abbrev waits_in : (Letter → Bool) → NodeOf → List Letter
 waits_in q part = filter q (option_to_list part.waiting)
@@ -39,26 +39,18 @@ dropped q letter letters e = ap (λ (b : Bool). cond b (letter ∷ filter q lett
 
 -- ---- one thing alone
 
-none_first : {Y : Type 0} (xs ys : List Y) → xs ++ ys ≡ [] → xs ≡ []
-none_first [] ys e = refl
-none_first (x ∷ xs) ys e = cc
-
-none_second : {Y : Type 0} (xs ys : List Y) → xs ++ ys ≡ [] → ys ≡ []
-none_second [] ys e = e
-none_second (x ∷ xs) ys e = cc
-
 middle_alone : {Y : Type 0} (xs ys : List Y) (x z : Y) → xs ++ (z ∷ ys) ≡ x ∷ [] → xs ≡ []
 middle_alone [] ys x z e = refl
 middle_alone (y ∷ xs) ys x z e =
     let rest : xs ++ (z ∷ ys) ≡ [] = cc in
-    let not = none_second xs (z ∷ ys) rest in
+    let not = nothing_after xs (z ∷ ys) rest in
     cc
 
 first_alone : {Y : Type 0} (xs ys zs : List Y) (x z : Y) → xs ≡ z ∷ zs → xs ++ ys ≡ x ∷ [] → ys ≡ []
 first_alone [] ys zs x z e f = cc
 first_alone (y ∷ xs) ys zs x z e f =
     let rest : xs ++ ys ≡ [] = cc in
-    none_second xs ys rest
+    nothing_after xs ys rest
 
 -- the only packet is in this lane
 pub record LaneAlone (q : Letter → Bool) (parts : List NodeOf) (lanes : List (List Letter)) (place : ℕ) (v : List Letter) (x z : Letter)
@@ -77,7 +69,7 @@ lane_alone q parts lanes place v x z zs below one this =
     let all : (flat_map (waits_in q) parts ++ a.before) ++ (z ∷ zs ++ a.after) ≡ x ∷ [] =
     append_assoc (flat_map (waits_in q) parts) a.before _ ∙ (ap (λ ys. flat_map (waits_in q) parts ++ ys) (sym here) ∙ one) in
     let before = middle_alone (flat_map (waits_in q) parts ++ a.before) (zs ++ a.after) x z all in
-    let none = none_first (flat_map (waits_in q) parts) a.before before in
+    let none = nothing_before (flat_map (waits_in q) parts) a.before before in
     let only : flat_map (filter q) lanes ≡ x ∷ [] = ap (λ ys. ys ++ flat_map (filter q) lanes) (sym none) ∙ one in
     let then_ = flat_from_one (filter q) lanes place [] v x z zs below only this in
     record { waits = none; lanes_then = then_.0; rest = then_.1; same = then_.2 }
@@ -138,11 +130,11 @@ pub packets_asked : (core : Core) (n : ℕ) (next : NodeOf) (place : ℕ) (lette
 packets_asked core n next place letter m k below within same about none =
     let q = is_about m k in
     let both = sym (packets_are core m k) ∙ none in
-    let waits = none_first (flat_map (waits_in q) core.parts) _ both in
-    let lanes = none_second (flat_map (waits_in q) core.parts) _ both in
+    let waits = nothing_before (flat_map (waits_in q) core.parts) _ both in
+    let lanes = nothing_after (flat_map (waits_in q) core.parts) _ both in
     let a = around (filter q) core.lanes place [] within in
-    let middle = none_second a.before _ (sym a.now ∙ lanes) in
-    let here : filter q (lane_at core place) ≡ [] = none_first (filter q (lane_at core place)) a.after middle in
+    let middle = nothing_after a.before _ (sym a.now ∙ lanes) in
+    let here : filter q (lane_at core place) ≡ [] = nothing_before (filter q (lane_at core place)) a.after middle in
     let lane = lane_at core place ++ letter ∷ [] in
     let last : filter q lane ≡ letter ∷ [] =
     filter-append q (lane_at core place) (letter ∷ []) ∙ (ap (λ ys. ys ++ filter q (letter ∷ [])) here ∙ kept q letter [] about) in
@@ -161,8 +153,8 @@ packets_replied core n next place letter x m k below within waited gone about on
     let this : waits_in q (node_at core n) ≡ letter ∷ [] = ap (λ (w : Option Letter). filter q (option_to_list w)) waited ∙ kept q letter [] about in
     let alone = node_alone q core.parts core.lanes n next x letter below (sym (packets_are core m k) ∙ one) this in
     let a = around (filter q) core.lanes place [] within in
-    let middle = none_second a.before _ (sym a.now ∙ alone.carried) in
-    let here : filter q (lane_at core place) ≡ [] = none_first (filter q (lane_at core place)) a.after middle in
+    let middle = nothing_after a.before _ (sym a.now ∙ alone.carried) in
+    let here : filter q (lane_at core place) ≡ [] = nothing_before (filter q (lane_at core place)) a.after middle in
     let lane = lane_at core place ++ letter ∷ [] in
     let last : filter q lane ≡ letter ∷ [] =
     filter-append q (lane_at core place) (letter ∷ []) ∙ (ap (λ ys. ys ++ filter q (letter ∷ [])) here ∙ kept q letter [] about) in
@@ -233,9 +225,9 @@ pub lane_has : (core : Core) (place : ℕ) (letter : Letter) (rest : List Letter
     → is_about m k letter ≡ true → packets_of core m k ≡ [] → ⊥
 lane_has core place letter rest m k within front about none =
     let q = is_about m k in
-    let lanes = none_second (flat_map (waits_in q) core.parts) _ (sym (packets_are core m k) ∙ none) in
+    let lanes = nothing_after (flat_map (waits_in q) core.parts) _ (sym (packets_are core m k) ∙ none) in
     let a = around (filter q) core.lanes place [] within in
-    let here = none_first (filter q (lane_at core place)) a.after (none_second a.before _ (sym a.now ∙ lanes)) in
+    let here = nothing_before (filter q (lane_at core place)) a.after (nothing_after a.before _ (sym a.now ∙ lanes)) in
     let this : filter q (lane_at core place) ≡ letter ∷ filter q rest = ap (filter q) front ∙ kept q letter rest about in
     cc
 
@@ -243,8 +235,8 @@ pub node_has : (core : Core) (n : ℕ) (letter : Letter) (m k : ℕ) → n < len
     → packets_of core m k ≡ [] → ⊥
 node_has core n letter m k below waited about none =
     let q = is_about m k in
-    let parts = none_first (flat_map (waits_in q) core.parts) _ (sym (packets_are core m k) ∙ none) in
+    let parts = nothing_before (flat_map (waits_in q) core.parts) _ (sym (packets_are core m k) ∙ none) in
     let a = around (waits_in q) core.parts n no_node below in
-    let here = none_first (waits_in q (node_at core n)) a.after (none_second a.before _ (sym a.now ∙ parts)) in
+    let here = nothing_before (waits_in q (node_at core n)) a.after (nothing_after a.before _ (sym a.now ∙ parts)) in
     let this : waits_in q (node_at core n) ≡ letter ∷ [] = ap (λ (w : Option Letter). filter q (option_to_list w)) waited ∙ kept q letter [] about in
     cc

@@ -1,6 +1,7 @@
 -- What each side of an event does with the waits of a node.
 use Rattle.std.proofs.Common.{◌≡◌, ℕ, ◌%◌, ◌<◌, ◌≢◌, ◌&&◌, not, Bool, true, false, if◌then◌else◌, Option, Some, None, refl, sym, ap, subst, ◌∙◌}
 use Rattle.std.specs.Prelude.{◌==◌, IfSome, is_some, option_map}
+use Rattle.std.proofs.lemmas.Option.{IfSome_then}
 use Rattle.std.proofs.lemmas.List.{get_or-set_same, get_or-set_other}
 use Rattle.sci_words.specs.declared.limits.TheConstants.{CONTROLS}
 use Rattle.sci_words.specs.declared.event.AskKind.{AskKind}
@@ -23,9 +24,10 @@ use Rattle.sci_core.specs.Node.{asked_by, node_asking, answering, served_at_home
 use Rattle.sci_core.specs.Node.{answered_by, node_serving, is_setback, with_answer, node_refusing, replied_by, node_replying, accepted_by, node_accepting}
 use Rattle.sci_core.specs.Tidy.{IsAwaited}
 use Rattle.sci_core.proofs.Basics.Lists.{if_either, at_place_set}
-use Rattle.sci_core.proofs.Basics.Options.{if_below}
+use Rattle.sci_core.proofs.Basics.Options.{if_below, of_some}
 use Rattle.sci_core.proofs.Tidy.Waits.{BeginsToWait, asking_waits, Keeps, keeps_itself, KeepsWait, serving_waits, performing_waits, EndsToWait, accepting_waits}
 use Rattle.sci_core.proofs.Tidy.Waits.{asked_number}
+use Rattle.sci_core.proofs.Step.NodeSides.{ServedAs, At_home, In_cache, perform_as, request_served, accept_as}
 
 -- every line of the node is awaited as it was
 abbrev pub KeepsLines : ℕ → CacheOf → CacheOf → Type 0
@@ -52,23 +54,13 @@ issue_stays nodes part op =
     if_either (λ (o : Option NodeOf). IfSome o (Stays nodes part)) (may_issue part op) (Some (node_issued part op)) None
     (record { lines = keeps_all nodes part.cache; waiting = refl }) tt
 
-performed_stays : (nodes : ℕ) (part : NodeOf) (line : ℕ) (pending : Pending) (done : Option Performed)
-    → IfSome done (λ (d : Performed). KeepsWait (line_of part.cache pending.op.line).state d.next)
-    → IfSome (performed_by part line pending
-    (option_map (λ d. (with_line part.cache pending.op.line (line_in (line_of part.cache pending.op.line) d.next), d.reply, d.version)) done))
-    (λ (x : NodeOf × Entry). Stays nodes part x.0)
-performed_stays nodes part line pending None wait = tt
-performed_stays nodes part line pending (Some d) wait = record { lines = keeps_line nodes part.cache pending.op.line d.next wait; waiting = refl }
-
-pending_stays : (nodes : ℕ) (part : NodeOf) (line : ℕ) (pending : Option Pending)
-    → IfSome (performing_pending part line pending) (λ (x : NodeOf × Entry). Stays nodes part x.0)
-pending_stays nodes part line None = tt
-pending_stays nodes part line (Some pending) =
-    performed_stays nodes part line pending (performing (line_of part.cache pending.op.line).state pending.op)
-    (performing_waits (line_of part.cache pending.op.line).state pending.op)
-
 pub perform_stays : (nodes : ℕ) (part : NodeOf) (line : ℕ) → IfSome (node_performing part line) (λ (x : NodeOf × Entry). Stays nodes part x.0)
-perform_stays nodes part line = pending_stays nodes part line (pending_on part line)
+perform_stays nodes part line = IfSome_then (node_performing part line) (perform_as part line) (λ done does.
+    let at = does.pending.op.line in
+    let state = (line_of part.cache at).state in
+    let wait = of_some (λ (d : Performed). KeepsWait state d.next) (performing state does.pending.op) does.did does.performs
+    (performing_waits state does.pending.op) in
+    subst (Stays nodes part) does.next (record { lines = keeps_line nodes part.cache at does.did.next wait; waiting = refl }))
 
 -- ---- Ask
 
@@ -138,31 +130,16 @@ pub record Answers (nodes : ℕ) (request : Letter) (old new : NodeOf) : Type 0 
   pub body : Body
   pub waiting : new.waiting ≡ Some (answering request body)
 
-pub record ServesLines (nodes : ℕ) (old : NodeOf) (served : NodeOf × Body) : Type 0 where
-  pub lines : KeepsLines nodes old.cache served.0.cache
-
-home_serves : (nodes : ℕ) (part : NodeOf) (line : ℕ) (served : Option (HomeState × Body)) → IfSome (served_at_home part line served) (ServesLines nodes part)
-home_serves nodes part line None = tt
-home_serves nodes part line (Some served) = record { lines = keeps_all nodes part.cache }
-
-cache_serves : (nodes : ℕ) (part : NodeOf) (line : ℕ) (served : Option (CacheState × Body))
-    → IfSome served (λ (s : CacheState × Body). KeepsWait (line_of part.cache line).state s.0)
-    → IfSome (served_in_cache part (option_map (λ s. (with_line part.cache line (line_in (line_of part.cache line) s.0), s.1)) served)) (ServesLines nodes part)
-cache_serves nodes part line None wait = tt
-cache_serves nodes part line (Some served) wait = record { lines = keeps_line nodes part.cache line served.0 wait }
-
-request_serves : (nodes : ℕ) (part : NodeOf) (request : Letter) → IfSome (serving_request part request) (ServesLines nodes part)
-request_serves nodes part request =
-    if_either (λ (o : Option (NodeOf × Body)). IfSome o (ServesLines nodes part)) (is_for_home request.body) (serving_at_home part request)
-    (serving_in_cache part request)
-    (home_serves nodes part request.line (serving_at_home_of (home_of part request.line) request.source request.body))
-    (cache_serves nodes part request.line (serving (line_of part.cache request.line).state request.source request.body)
-    (serving_waits (line_of part.cache request.line).state request.source request.body))
-
-answered : (nodes : ℕ) (part : NodeOf) (request : Letter) (served : Option (NodeOf × Body)) → part.waiting ≡ None → IfSome served (ServesLines nodes part)
-    → IfSome (answered_by request served) (Answers nodes request part)
-answered nodes part request None free lines = tt
-answered nodes part request (Some served) free lines = record { lines = lines.lines; free = free; body = served.1; waiting = refl }
+served_answers : (nodes : ℕ) (part : NodeOf) (request : Letter) (next : NodeOf) → part.waiting ≡ None → ServedAs part request next
+    → Answers nodes request part next
+served_answers nodes part request next free (At_home served asks is e) =
+    subst (Answers nodes request part) e (record { lines = keeps_all nodes part.cache; free = free; body = served.1; waiting = refl })
+served_answers nodes part request next free (In_cache served is e) =
+    let state = (line_of part.cache request.line).state in
+    let wait = of_some (λ (s : CacheState × Body). KeepsWait state s.0) (serving state request.source request.body) served is
+    (serving_waits state request.source request.body) in
+    subst (Answers nodes request part) e
+    (record { lines = keeps_line nodes part.cache request.line served.0 wait; free = free; body = served.1; waiting = refl })
 
 free_first : (nodes : ℕ) (part : NodeOf) (request : Letter) (waiting : Option Letter) (next : Option NodeOf) → part.waiting ≡ waiting
     → (part.waiting ≡ None → IfSome next (Answers nodes request part)) → IfSome (if is_some waiting then None else next) (Answers nodes request part)
@@ -172,7 +149,8 @@ free_first nodes part request None next is h = h is
 pub serve_answers : (nodes : ℕ) (part : NodeOf) (request : Letter) → IfSome (node_serving part request) (Answers nodes request part)
 serve_answers nodes part request =
     free_first nodes part request part.waiting (answered_by request (serving_request part request)) refl
-    (λ free. answered nodes part request (serving_request part request) free (request_serves nodes part request))
+    (λ free. IfSome_then (answered_by request (serving_request part request)) (request_served part request)
+    (λ next does. served_answers nodes part request next free does))
 
 pub refuse_answers : (nodes : ℕ) (part : NodeOf) (request : Letter) → IfSome (node_refusing part request) (Answers nodes request part)
 refuse_answers nodes part request =
@@ -202,22 +180,13 @@ pub record Accepts (line : ℕ) (old new : NodeOf) : Type 0 where
   pub others : (k : ℕ) → k ≢ line → line_of new.cache k ≡ line_of old.cache k
   pub waiting : new.waiting ≡ old.waiting
 
-accepted : (part : NodeOf) (line : ℕ) (awaits : Bool) (state : Option CacheState) → IfSome state (EndsToWait (line_of part.cache line).state)
-    → IfSome (accepted_by part (elim (if awaits then state else None) as (λ _. Option CacheOf) [
-      | None ↦ None
-      | Some s ↦ Some (with_line part.cache line (line_in (line_of part.cache line) s))
-    ])) (Accepts line part)
-accepted part line false state ends = tt
-accepted part line true None ends = tt
-accepted part line true (Some s) ends = record {
-  waited = ends.waiting;
-  idle = λ below. ap (λ (l : LineState). waits l.state) (get_or-set_same part.cache.lines line (line_in (line_of part.cache line) s) untouched below)
-      ∙ ends.idle;
-  others = λ k other. get_or-set_other part.cache.lines line k (line_in (line_of part.cache line) s) untouched other;
-  waiting = refl;
-}
-
 pub accept_accepts : (part : NodeOf) (answer : Letter) → IfSome (node_accepting part answer) (Accepts answer.line part)
-accept_accepts part answer =
-    accepted part answer.line (answer.control == last_control (line_of part.cache answer.line)) (accepting (line_of part.cache answer.line).state answer.body)
-    (accepting_waits (line_of part.cache answer.line).state answer.body)
+accept_accepts part answer = IfSome_then (node_accepting part answer) (accept_as part answer) (λ next does.
+    let old = line_of part.cache answer.line in
+    let ends = of_some (EndsToWait old.state) (accepting old.state answer.body) does.state does.accepts (accepting_waits old.state answer.body) in
+    subst (Accepts answer.line part) does.then_ (record {
+      waited = ends.waiting;
+      idle = λ below. ap (λ (l : LineState). waits l.state) (get_or-set_same part.cache.lines answer.line (line_in old does.state) untouched below) ∙ ends.idle;
+      others = λ k other. get_or-set_other part.cache.lines answer.line k (line_in old does.state) untouched other;
+      waiting = refl;
+    }))

@@ -1,7 +1,8 @@
 -- Each side of an event leaves a node's part well formed, and makes packets that are.
-use Rattle.std.proofs.Common.{◌≡◌, ℕ, ◌+◌, ◌<◌, ◌%◌, ◌&&◌, not, Bool, true, false, if◌then◌else◌, set, Option, Some, None, refl, ◌∙◌, mod-lt, arith}
+use Rattle.std.proofs.Common.{◌≡◌, ℕ, ◌+◌, ◌<◌, ◌%◌, ◌&&◌, not, Bool, true, false, if◌then◌else◌, set, Option, Some, None, refl, subst, ◌∙◌, mod-lt, arith}
 use Rattle.std.specs.Prelude.{◌==◌, IfSome, option_map}
 use Rattle.std.proofs.lemmas.List.{length-set}
+use Rattle.std.proofs.lemmas.Option.{IfSome_then}
 use Rattle.sci_words.specs.declared.event.AskKind.{AskKind}
 use Rattle.sci_words.specs.declared.operation.Op.{Op}
 use Rattle.sci_words.specs.declared.limits.TheConstants.{CONTROLS}
@@ -23,10 +24,11 @@ use Rattle.sci_core.specs.Node.{performing_pending, node_performing, asked_by, n
 use Rattle.sci_core.specs.Node.{serving_in_cache, serving_request, answered_by, node_serving, node_refusing, replied_by, node_replying, accepted_by}
 use Rattle.sci_core.specs.Node.{node_accepting, lines_of}
 use Rattle.sci_core.specs.WellFormed.{IsBelow, NamesNodes, HomeNamesNodes, BodyNamesNodes, IsRequestLetter, IsAnswerLetter, IsPart}
-use Rattle.sci_core.proofs.Basics.Lists.{at_set, if_either}
-use Rattle.sci_core.proofs.Basics.Options.{if_below}
+use Rattle.sci_core.proofs.Basics.Lists.{at_set, if_either, if_cases}
+use Rattle.sci_core.proofs.Basics.Options.{if_below, of_some}
 use Rattle.std.proofs.lemmas.List.Elements.{All-push}
 use Rattle.sci_core.proofs.Step.Caches.{same_line}
+use Rattle.sci_core.proofs.Step.NodeSides.{ServedAs, At_home, In_cache, with_state, perform_as, serve_as, accept_as}
 use Rattle.sci_core.proofs.WellFormed.Slots.{GetsSlot, StaysOut, slots_with_line, gets_none, performing_stays, serving_stays, accepting_stays}
 use Rattle.sci_core.proofs.Step.Nodes.{node_with_cache, node_with_homes, node_with_waiting, node_with_issue, node_with_entry}
 use Rattle.sci_core.proofs.WellFormed.Identifiers.{AsksWell, asking_names, ServesWell, serving_names, HomeServesWell, home_names, accepting_names}
@@ -100,13 +102,10 @@ issued_part size n part op may is = record {
   fits = node_with_issue part op may is.fits;
 }
 
-issuing_if : (size : Size) (n : ℕ) (part : NodeOf) (op : Op) (may : Bool) → may_issue part op ≡ may → IsPart size n part
-    → IfSome (if may then Some (node_issued part op) else None) (IsPart size n)
-issuing_if size n part op true e is = issued_part size n part op e is
-issuing_if size n part op false e is = tt
-
 pub part_issuing : (size : Size) (n : ℕ) (part : NodeOf) (op : Op) → IsPart size n part → IfSome (node_issuing part op) (IsPart size n)
-part_issuing size n part op is = issuing_if size n part op (may_issue part op) refl is
+part_issuing size n part op is =
+    if_cases (λ (o : Option NodeOf). IfSome o (IsPart size n)) (may_issue part op) (Some (node_issued part op)) None
+    (λ may. issued_part size n part op may is) (λ no. tt)
 
 -- ---- Perform
 
@@ -131,28 +130,17 @@ logged_part size n part line pending place state entry at names small gets mine 
       own = All-push (λ (e : Entry). e.node ≡ n) part.log entry is.own mine;
     }
 
-performed_part : (size : Size) (n : ℕ) (part : NodeOf) (line : ℕ) (pending : Pending) (done : Option Performed) → pending_on part line ≡ Some pending
-    → IsPart size n part → IfSome done (λ (d : Performed). NamesNodes size.nodes d.next)
-    → IfSome done (λ (d : Performed). StaysOut (line_of part.cache pending.op.line).state d.next)
-    → IfSome (performed_by part line pending
-    (option_map (λ d. (with_line part.cache pending.op.line (line_in (line_of part.cache pending.op.line) d.next), d.reply, d.version)) done))
-    (λ (x : NodeOf × Entry). IsPart size n x.0)
-performed_part size n part line pending None at is names stays = tt
-performed_part size n part line pending (Some d) at is names stays =
-    logged_part size n part line pending pending.op.line (line_in (line_of part.cache pending.op.line) d.next) (entry_of part pending d.reply d.version) at
-    names (is.asks pending.op.line) (gets_none part.cache pending.op.line d.next stays) is.me is
-
-pending_part : (size : Size) (n : ℕ) (part : NodeOf) (line : ℕ) (pending : Option Pending) → pending_on part line ≡ pending → IsPart size n part
-    → IfSome (performing_pending part line pending) (λ (x : NodeOf × Entry). IsPart size n x.0)
-pending_part size n part line None at is = tt
-pending_part size n part line (Some pending) at is =
-    performed_part size n part line pending (performing (line_of part.cache pending.op.line).state pending.op) at is
-    (performing_names size.nodes (line_of part.cache pending.op.line).state pending.op (is.states pending.op.line))
-    (performing_stays (line_of part.cache pending.op.line).state pending.op)
-
 pub part_performing : (size : Size) (n : ℕ) (part : NodeOf) (line : ℕ) → IsPart size n part
     → IfSome (node_performing part line) (λ (x : NodeOf × Entry). IsPart size n x.0)
-part_performing size n part line is = pending_part size n part line (pending_on part line) refl is
+part_performing size n part line is = IfSome_then (node_performing part line) (perform_as part line) (λ done does.
+    let op = does.pending.op in
+    let old = line_of part.cache op.line in
+    let names = of_some (λ (d : Performed). NamesNodes size.nodes d.next) (performing old.state op) does.did does.performs
+    (performing_names size.nodes old.state op (is.states op.line)) in
+    let stays = of_some (λ (d : Performed). StaysOut old.state d.next) (performing old.state op) does.did does.performs (performing_stays old.state op) in
+    subst (IsPart size n) does.next
+    (logged_part size n part line does.pending op.line (line_in old does.did.next) (entry_of part does.pending does.did.reply does.did.version) does.here
+    names (is.asks op.line) (gets_none part.cache op.line does.did.next stays) is.me is))
 
 -- ---- Ask
 
@@ -214,53 +202,31 @@ part_asking size n part line kind some lt is =
 
 -- ---- Serve
 
-pub record ServedWell (size : Size) (n : ℕ) (request : Letter) (served : NodeOf × Body) : Type 0 where
-  pub next : IsPart size n served.0
-  pub answer : IsAnswerLetter size.nodes size.lines (answering request served.1) × ((answering request served.1).source ≡ n)
-
-home_served_part : (size : Size) (n : ℕ) (part : NodeOf) (request : Letter) (served : Option (HomeState × Body)) → IsRequestLetter size.nodes size.lines request
-    → request.target ≡ n → IfSome served (HomeServesWell size.nodes) → IsPart size n part
-    → IfSome (served_at_home part request.line served) (ServedWell size n request)
-home_served_part size n part request None asks to well is = tt
-home_served_part size n part request (Some served) asks to well is = record {
-  next = part_with_home size n part (home_place part request.line) served.0 well.next is;
-  answer = answer_letter size.nodes size.lines n request served.1 asks to well.names well.answers;
-}
-
-cache_served_part : (size : Size) (n : ℕ) (part : NodeOf) (request : Letter) (served : Option (CacheState × Body))
-    → IsRequestLetter size.nodes size.lines request → request.target ≡ n → IfSome served (ServesWell size.nodes)
-    → IfSome served (λ (s : CacheState × Body). StaysOut (line_of part.cache request.line).state s.0) → IsPart size n part
-    → IfSome (served_in_cache part (option_map (λ s. (with_line part.cache request.line (line_in (line_of part.cache request.line) s.0), s.1)) served))
-    (ServedWell size n request)
-cache_served_part size n part request None asks to well stays is = tt
-cache_served_part size n part request (Some served) asks to well stays is = record {
-  next = part_with_line size n part request.line (line_in (line_of part.cache request.line) served.0) well.next (is.asks request.line)
-      (gets_none part.cache request.line served.0 stays) is;
-  answer = answer_letter size.nodes size.lines n request served.1 asks to well.names well.answers;
-}
-
-request_part : (size : Size) (n : ℕ) (part : NodeOf) (request : Letter) → IsRequestLetter size.nodes size.lines request → request.target ≡ n
-    → IsPart size n part
-    → IfSome (serving_request part request) (ServedWell size n request)
-request_part size n part request asks to is =
-    if_either (λ (o : Option (NodeOf × Body)). IfSome o (ServedWell size n request)) (is_for_home request.body) (serving_at_home part request)
-    (serving_in_cache part request)
-    (home_served_part size n part request (serving_at_home_of (home_of part request.line) request.source request.body) asks to
-    (home_names size.nodes (home_of part request.line) request.source request.body asks.letter_ok.source (is.homes (home_place part request.line))) is)
-    (cache_served_part size n part request (serving (line_of part.cache request.line).state request.source request.body) asks to
-    (serving_names size.nodes (line_of part.cache request.line).state request.source request.body asks.letter_ok.source (is.states request.line)
-    asks.letter_ok.names)
-    (serving_stays (line_of part.cache request.line).state request.source request.body) is)
-
-answered_part : (size : Size) (n : ℕ) (request : Letter) (served : Option (NodeOf × Body)) → IfSome served (ServedWell size n request)
-    → IfSome (answered_by request served) (IsPart size n)
-answered_part size n request None well = tt
-answered_part size n request (Some served) well = part_with_waiting size n served.0 (Some (answering request served.1)) well.answer well.next
+served_part : (size : Size) (n : ℕ) (part : NodeOf) (request : Letter) (next : NodeOf) → IsRequestLetter size.nodes size.lines request → request.target ≡ n
+    → IsPart size n part → ServedAs part request next → IsPart size n next
+served_part size n part request next asks to is (At_home served homely serves e) =
+    let place = home_place part request.line in
+    let well = of_some (HomeServesWell size.nodes) (serving_at_home_of (home_of part request.line) request.source request.body) served serves
+    (home_names size.nodes (home_of part request.line) request.source request.body asks.letter_ok.source (is.homes place)) in
+    subst (IsPart size n) e
+    (part_with_waiting size n (record part { homes = set part.homes place served.0 }) (Some (answering request served.1))
+    (answer_letter size.nodes size.lines n request served.1 asks to well.names well.answers) (part_with_home size n part place served.0 well.next is))
+served_part size n part request next asks to is (In_cache served serves e) =
+    let old = line_of part.cache request.line in
+    let serving_ = serving old.state request.source request.body in
+    let well = of_some (ServesWell size.nodes) serving_ served serves
+    (serving_names size.nodes old.state request.source request.body asks.letter_ok.source (is.states request.line) asks.letter_ok.names) in
+    let stays = of_some (λ (s : CacheState × Body). StaysOut old.state s.0) serving_ served serves (serving_stays old.state request.source request.body) in
+    subst (IsPart size n) e
+    (part_with_waiting size n (with_state part request.line served.0) (Some (answering request served.1))
+    (answer_letter size.nodes size.lines n request served.1 asks to well.names well.answers)
+    (part_with_line size n part request.line (line_in old served.0) well.next (is.asks request.line) (gets_none part.cache request.line served.0 stays) is))
 
 pub part_serving : (size : Size) (n : ℕ) (part : NodeOf) (request : Letter) → IsRequestLetter size.nodes size.lines request → request.target ≡ n
     → IsPart size n part
     → IfSome (node_serving part request) (IsPart size n)
-part_serving size n part request asks to is = grind (arith, if_either, answered_part, request_part)
+part_serving size n part request asks to is =
+    IfSome_then (node_serving part request) (serve_as part request) (λ next does. served_part size n part request next asks to is does)
 
 -- ---- Refuse
 
@@ -287,21 +253,13 @@ part_replying size n part is = replied_part size n part part.waiting is.answer i
 
 -- ---- Accept
 
-accepted_part : (size : Size) (n : ℕ) (part : NodeOf) (line : ℕ) (awaited : Bool) (state : Option CacheState) → IfSome state (NamesNodes size.nodes)
-    → IfSome state (λ (s : CacheState). StaysOut (line_of part.cache line).state s) → IsPart size n part
-    → IfSome (accepted_by part (elim (if awaited then state else None) as (λ _. Option CacheOf) [
-      | None ↦ None
-      | Some s ↦ Some (with_line part.cache line (line_in (line_of part.cache line) s))
-    ])) (IsPart size n)
-accepted_part size n part line false state names stays is = tt
-accepted_part size n part line true None names stays is = tt
-accepted_part size n part line true (Some s) names stays is =
-    part_with_line size n part line (line_in (line_of part.cache line) s) names (is.asks line) (gets_none part.cache line s stays) is
-
 pub part_accepting : (size : Size) (n : ℕ) (part : NodeOf) (answer : Letter) → IsAnswerLetter size.nodes size.lines answer → IsPart size n part
     → IfSome (node_accepting part answer) (IsPart size n)
-part_accepting size n part answer answers is =
-    accepted_part size n part answer.line (answer.control == last_control (line_of part.cache answer.line))
-    (accepting (line_of part.cache answer.line).state answer.body)
-    (accepting_names size.nodes (line_of part.cache answer.line).state answer.body (is.states answer.line) answers.letter_ok.names)
-    (accepting_stays (line_of part.cache answer.line).state answer.body) is
+part_accepting size n part answer answers is = IfSome_then (node_accepting part answer) (accept_as part answer) (λ next does.
+    let old = line_of part.cache answer.line in
+    let accepting_ = accepting old.state answer.body in
+    let names = of_some (NamesNodes size.nodes) accepting_ does.state does.accepts
+    (accepting_names size.nodes old.state answer.body (is.states answer.line) answers.letter_ok.names) in
+    let stays = of_some (StaysOut old.state) accepting_ does.state does.accepts (accepting_stays old.state answer.body) in
+    subst (IsPart size n) does.then_
+    (part_with_line size n part answer.line (line_in old does.state) names (is.asks answer.line) (gets_none part.cache answer.line does.state stays) is))

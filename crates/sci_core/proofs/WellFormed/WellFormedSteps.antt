@@ -274,6 +274,10 @@ reachable_stepping core next e reached steps =
       leads = subst (λ (size : Size). run size all ≡ next) (sym kept.same) leads;
     }
 
+pub reachable_next : (core : Core) (e : Event) (next : Option Core) → IsReachable core → stepping core e ≡ next → IsReachable (unwrap_or next core)
+reachable_next core e None reached is = reached
+reachable_next core e (Some new) reached is = reachable_stepping core new e reached is
+
 pub reached_stepping : (core next : Core) (e : Event) → IsReached core → stepping core e ≡ Some next → IsReached next
 reached_stepping core next e reached steps =
     let kept = subst (λ (o : Option Core). IfSome o (StepsWell core)) steps (stepping_well core e (reached_well core reached)) in
