@@ -1,6 +1,6 @@
 -- Optional values.
 use Rattle.std.proofs.Common.{◌≡◌, ℕ, zero, suc, ◌<◌, nat_lt, Bool, if◌then◌else◌, replicate, get_or, Option, Some, None, refl, sym, subst, inl, inr}
-use Rattle.std.specs.Prelude.{IfSome, IsSome}
+use Rattle.std.specs.Prelude.{IfSome, IsSome, option_map}
 use Rattle.std.specs.Option.{option_or}
 use Rattle.std.proofs.lemmas.Bool.{ltb-true}
 use Rattle.sci_core.proofs.Basics.Lists.{if_cases}
@@ -13,6 +13,11 @@ of_some {X = X} P o x e h = subst (λ (o_ : Option X). IfSome o_ P) e h
 pub found : {A : Type 0} (o : Option A) → IsSome o → (x : A) × (o ≡ Some x)
 found None h = cc
 found (Some x) h = (x, refl)
+
+-- what is made of a value that is there
+pub map_some : {A B : Type 0} (f : A → B) (o : Option A) → IsSome o → IsSome (option_map f o)
+map_some f None some = cc
+map_some f (Some x) some = refl
 
 -- two values that are there, and are one
 pub same_some : {A : Type 0} (x y : A) → Some x ≡ Some y → x ≡ y

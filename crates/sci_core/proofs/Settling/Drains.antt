@@ -24,7 +24,7 @@ use Rattle.sci_core.specs.Sides.{TakesFront, taken_to}
 use Rattle.sci_core.specs.WellFormed.{IsAnswerLetter, IsWellFormed}
 use Rattle.sci_core.proofs.Step.Applied.{front_comes, waits_replying}
 use Rattle.sci_core.proofs.Tidy.Enabled.{any_accept_enabled, serve_enabled}
-use Rattle.sci_core.proofs.Basics.Options.{of_some}
+use Rattle.sci_core.proofs.Basics.Options.{of_some, map_some}
 use Rattle.sci_core.proofs.WellFormed.Parts.{SendsWell, part_asking}
 use Rattle.sci_core.proofs.Step.Sides.{steps_by_sides}
 use Rattle.sci_core.proofs.Step.Stepping.{stepping_from_nobody, stepping_nobody}
@@ -59,10 +59,6 @@ answer_weighs : (letter : Letter) → is_request letter.body ≡ false → lette
 answer_weighs letter answers = ap (λ (b : Bool). if b then 3 else 1) answers
 
 -- ---- one event
-
-there : {A B : Type 0} (f : A → B) (o : Option A) → IsSome o → IsSome (option_map f o)
-there f None e = cc
-there f (Some x) e = refl
 
 pub made_by : {A : Type 0} (f : A → Core) (o : Option A) (new : Core) → option_map f o ≡ Some new → (x : A) × (o ≡ Some x) × (new ≡ f x)
 made_by f None new e = cc
@@ -356,7 +352,7 @@ reply_on core n answer lt waits =
 taken_on : (core : Core) (n from : ℕ) (kind : LaneKind) (taking : NodeOf → Letter → Option NodeOf) (e : Event) (letter : Letter) (rest : List Letter)
     → TakesFront core n kind taking from e → lane_of core kind from n ≡ letter ∷ rest → IsSome (taking (node_at core n) letter) → IsEnabled core e
 taken_on core n from kind taking e letter rest takes is some =
-    subst IsSome (sym (takes.front letter rest is)) (there (taken_to core n kind from rest) (taking (node_at core n) letter) some)
+    subst IsSome (sym (takes.front letter rest is)) (map_some (taken_to core n kind from rest) (taking (node_at core n) letter) some)
 
 -- a request is served if no answer waits, and an answer is accepted
 pub serve_on : (core : Core) (from n : ℕ) (letter : Letter) (rest : List Letter) → IsReachable core → from < core.size.nodes → n < core.size.nodes

@@ -1,5 +1,5 @@
 -- A node of a reached state can go on.
-use Rattle.std.proofs.Common.{◌≡◌, ℕ, true, false, refl, arith}
+use Rattle.std.proofs.Common.{◌≡◌, ℕ, true, false, arith, rules}
 use Rattle.sci_cache.specs.State.{CacheState, Out, Joining, FreshJoining, Head, FreshHead, Below, Telling, is_out, waits}
 use Rattle.sci_cache.specs.Cache.{line_of}
 use Rattle.sci_core.specs.GoingOn.{CanGoOn, goes_on}
@@ -8,14 +8,10 @@ use Rattle.sci_core.specs.Reached.{IsReachableNode}
 use Rattle.sci_core.proofs.WellFormed.WellFormedSteps.{any_part}
 
 entry_goes_on : (state : CacheState) → is_out state ≡ false → waits state ≡ false → goes_on state ≡ true
-entry_goes_on Out entry idle = cc
-entry_goes_on (Joining p false) entry idle = refl
-entry_goes_on (FreshJoining p false c) entry idle = refl
-entry_goes_on (Telling r w false) entry idle = refl
-entry_goes_on (Head f c) entry idle = refl
-entry_goes_on (FreshHead f c) entry idle = refl
-entry_goes_on (Below f b c) entry idle = refl
-entry_goes_on _ entry idle = cc
+entry_goes_on (Joining p false) entry idle = search rules
+entry_goes_on (FreshJoining p false c) entry idle = search rules
+entry_goes_on (Telling r w false) entry idle = search rules
+entry_goes_on _ entry idle = search rules
 
 pub any_can_go_on : (n : ℕ) (node : NodeOf) → IsReachableNode n node → CanGoOn node
 any_can_go_on n node is =

@@ -1,7 +1,7 @@
 -- A line of a state where nothing is under way: who leads its list, and what its home has.
-use Rattle.std.proofs.Common.{◌≡◌, ℕ, ◌%◌, ◌<◌, ◌≤◌, ◌⊎◌, Bool, true, false, List, [], ◌∷◌, ◌++◌, filter, get_or, suc, Option, Some, None, refl, sym, ap, subst}
+use Rattle.std.proofs.Common.{◌≡◌, ℕ, ◌%◌, ◌<◌, ◌≤◌, ◌⊎◌, Bool, true, false, List, [], ◌∷◌, ◌++◌, filter, get_or, suc, Option, Some, None, refl, sym, ap, subst, rules}
 use Rattle.std.proofs.Common.{◌∙◌, arith, inl, inr}
-use Rattle.std.specs.Prelude.{option_to_list}
+use Rattle.std.specs.Prelude.{option_to_list, IsSome}
 use Rattle.std.specs.List.{flat_map}
 use Rattle.std.proofs.lemmas.Bool.{cases_lt, eq-eqb}
 use Rattle.std.proofs.lemmas.List.{get_or_past}
@@ -14,6 +14,7 @@ use Rattle.sci_cache.specs.State.{CacheState, Out, Joining, FreshJoining, Head, 
 use Rattle.sci_cache.specs.Member.{link_of}
 use Rattle.sci_cache.specs.Cache.{Letter, line_of}
 use Rattle.sci_history.specs.Seen.{IsAmong}
+use Rattle.sci_core.proofs.Basics.Options.{found}
 use Rattle.sci_core.specs.Core.{Core, node_at}
 use Rattle.sci_core.specs.Draining.{IsDrained}
 use Rattle.sci_core.specs.Fresh.{is_fresh}
@@ -160,15 +161,9 @@ head_leads (Head f c) is = refl
 head_leads (FreshHead f c) is = refl
 head_leads _ is = cc
 
-linked_if : (s : CacheState) → waits s ≡ false → is_telling s ≡ false → (s ≡ Out) ⊎ ((f : Option ℕ) × (link_of s None ≡ Some f))
-linked_if Out quiet not = inl refl
-linked_if (Joining p sent) quiet not = inr (Some p, refl)
-linked_if (FreshJoining p sent c) quiet not = inr (Some p, refl)
-linked_if (Head f c) quiet not = inr (f, refl)
-linked_if (FreshHead f c) quiet not = inr (f, refl)
-linked_if (Below f b c) quiet not = inr (f, refl)
-linked_if (Telling r w sent) quiet not = cc
-linked_if _ quiet not = cc
+linked_if : (s : CacheState) → waits s ≡ false → is_telling s ≡ false → (s ≡ Out) ⊎ IsSome (link_of s None)
+linked_if Out quiet not = search rules
+linked_if _ quiet not = search rules
 
 -- if nobody tells and nobody leads, no node has an entry
 pub all_out : (core : Core) (line : ℕ) → IsReached core → IsDrained core → line < core.size.lines
@@ -180,15 +175,16 @@ all_out core line reached drained inside tellers heads n =
     elim (cases_lt n core.size.nodes) [
       | inl below ↦ elim (linked_if (state_at core line n) (q.waits n) (tellers n below)) [
         | inl out ↦ out
-        | inr linked ↦
+        | inr some ↦
+            let linked = found (link_of (state_at core line n) None) some in
             let link : link_in view n ≡ Some linked.0 = seen link_of core line n (state_at core line n) q refl ∙ linked.1 in
             let led = led_of view (home_at core line) q.contents q.nodes n q.is (q.is.list.all n linked.0 link) in
             let leader = led_leader view q.contents led.0 q.nodes led.1 in
             let member = leads_member core line leader.0 leader.1 in
-            let some = member_below core line leader.0 member.0 (reached_well core reached) member.1 in
+            let below_ = member_below core line leader.0 member.0 (reached_well core reached) member.1 in
             let head = leading_is (state_at core line leader.0) (sym (seen role_of core line leader.0 (state_at core line leader.0) q refl) ∙ leader.1)
             (q.waits leader.0) in
-            let none = heads leader.0 some in
+            let none = heads leader.0 below_ in
             let clash : true ≡ false = sym head ∙ none in
             cc
       ]

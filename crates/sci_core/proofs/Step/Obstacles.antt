@@ -145,12 +145,7 @@ take_free core e taking from n o is reached lt told =
 issue_bits : {X : Type 0} (line word words unpending left : Bool) (x : X) → words ≡ true
     → is_none (unless line NoSuchLine (unless word NoSuchWord (unless unpending AlreadyPending (unless left NoIssueLeft None)))) ≡ is_some
     (if (((line && word) && words) && (unpending && left)) then Some x else None)
-issue_bits line word false unpending left x e = cc
-issue_bits false word true unpending left x e = refl
-issue_bits true false true unpending left x e = refl
-issue_bits true true true false left x e = refl
-issue_bits true true true true false x e = refl
-issue_bits true true true true true x e = refl
+issue_bits line word words unpending left x e = grind arith
 
 pub issue_told : (node : NodeOf) (op : Op) → has_words op.act ≡ true → is_none (issue_obstacle node op) ≡ is_some (node_issuing node op)
 issue_told node op words = issue_bits (nat_lt op.line (lines_of node)) (nat_lt op.word WORDS_PER_LINE) (has_words op.act) (is_none (pending_on node op.line))

@@ -122,14 +122,7 @@ any_second false c e = e
 stays : (asks about from mine : Bool) (letter : Letter) (more : Bool) (kept : List Letter) → ((asks && (about && from)) || more) ≡ true
     → (more ≡ true → list_any asking kept ≡ true)
     → asks ≡ is_request letter.body → (asks ≡ true → mine ≡ from) → list_any asking (cond (about && mine) (letter ∷ kept) kept) ≡ true
-stays true true true true letter more kept any rest is same = any_first (is_request letter.body) (list_any asking kept) (sym is)
-stays true true true false letter more kept any rest is same = let no : false ≡ true = same refl in absurd (cc)
-stays true true false true letter more kept any rest is same = any_second (is_request letter.body) (list_any asking kept) (rest any)
-stays true true false false letter more kept any rest is same = rest any
-stays true false from mine letter more kept any rest is same = rest any
-stays false true from true letter more kept any rest is same = any_second (is_request letter.body) (list_any asking kept) (rest any)
-stays false true from false letter more kept any rest is same = rest any
-stays false false from mine letter more kept any rest is same = rest any
+stays asks about from mine letter more kept any rest is same = grind (arith, any_first, any_second)
 
 -- the requests of a node about a line are among its packets
 asks_stay : (n line : ℕ) (letters : List Letter) → list_any (asks_about n line) letters ≡ true → list_any asking (filter (is_about n line) letters) ≡ true

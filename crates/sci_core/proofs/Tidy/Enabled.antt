@@ -1,5 +1,5 @@
 -- What comes by a lane of a reached state is taken, and is waited for.
-use Rattle.std.proofs.Common.{◌≡◌, ℕ, ◌<◌, ◌%◌, Bool, true, false, if◌then◌else◌, List, [], ◌∷◌, Option, Some, None, refl, sym, ap, subst, ◌∙◌, inl, inr}
+use Rattle.std.proofs.Common.{◌≡◌, ℕ, ◌<◌, ◌%◌, Bool, true, false, if◌then◌else◌, List, [], ◌∷◌, Option, Some, None, refl, sym, ap, subst, ◌∙◌, inl, inr, rules}
 use Rattle.std.specs.Prelude.{option_map, ◌==◌, IsSome, is_some, slice_get}
 use Rattle.std.proofs.lemmas.Bool.{cases_Bool, eq-eqb}
 use Rattle.sci_packets.specs.declared.body.Body.{Body}
@@ -12,6 +12,8 @@ use Rattle.sci_cache.specs.Serving.{serving}
 use Rattle.sci_cache.specs.Accepting.{accepting}
 use Rattle.sci_cache.specs.Line.{last_control, line_in}
 use Rattle.sci_cache.specs.Cache.{Letter, line_of, with_line}
+use Rattle.sci_core.proofs.Basics.Lists.{if_cases}
+use Rattle.sci_core.proofs.Basics.Options.{map_some}
 use Rattle.sci_core.specs.declared.lane.LaneKind.{LaneKind}
 use Rattle.sci_core.specs.declared.lane.LaneKind.TheVariants.{Requests, Answers}
 use Rattle.sci_core.specs.Node.{NodeOf, home_of, served_at_home, served_in_cache, serving_at_home, serving_in_cache, serving_request, answered_by, node_serving}
@@ -35,51 +37,24 @@ use Rattle.sci_core.proofs.WellFormed.WellFormedSteps.{any_well, reachable}
 -- ---- requests
 
 home_serves : (state : HomeState) (n : ℕ) (request : Body) → is_for_home request ≡ true → IsSome (home_serving state n request)
-home_serves state n body.Mread e = refl
-home_serves state n body.Fread e = refl
-home_serves state n body.Claim e = refl
-home_serves state n body.Clear e = refl
-home_serves state n (body.Wback c) e = refl
-home_serves state n _ e = cc
+home_serves state n body.Mread e = search rules
+home_serves state n _ e = search rules
 
 cache_serves : (state : CacheState) (n : ℕ) (request : Body) → is_for_home request ≡ false → IsRequest request → IsSome (serving state n request)
-cache_serves state n body.Cread e asks = refl
-cache_serves state n body.Purge e asks = refl
-cache_serves state n (body.Roll m) e asks = refl
-cache_serves state n (body.Setback w) e asks = refl
-cache_serves state n _ e asks = cc
-
-home_served : (node : NodeOf) (line : ℕ) (served : Option (HomeState × Body)) → IsSome served → IsSome (served_at_home node line served)
-home_served node line None some = cc
-home_served node line (Some served) some = refl
-
-cache_served : (node : NodeOf) (line : ℕ) (served : Option (CacheState × Body)) → IsSome served
-    → IsSome (served_in_cache node (option_map (λ s. (with_line node.cache line (line_in (line_of node.cache line) s.0), s.1)) served))
-cache_served node line None some = cc
-cache_served node line (Some served) some = refl
+cache_serves state n body.Cread e asks = search rules
+cache_serves state n _ e asks = search rules
 
 request_served : (node : NodeOf) (request : Letter) → IsRequest request.body → IsSome (serving_request node request)
 request_served node request asks =
-    elim (cases_Bool (is_for_home request.body)) [
-      | inl home ↦
-          subst (λ (b : Bool). IsSome (if b then serving_at_home node request else serving_in_cache node request)) (sym home)
-          (home_served node request.line (home_serving (home_of node request.line) request.source request.body)
-          (home_serves (home_of node request.line) request.source request.body home))
-      | inr cache ↦
-          subst (λ (b : Bool). IsSome (if b then serving_at_home node request else serving_in_cache node request)) (sym cache)
-          (cache_served node request.line (serving (line_of node.cache request.line).state request.source request.body)
-          (cache_serves (line_of node.cache request.line).state request.source request.body cache asks))
-    ]
-
-answered : (request : Letter) (served : Option (NodeOf × Body)) → IsSome served → IsSome (answered_by request served)
-answered request None some = cc
-answered request (Some served) some = refl
+    if_cases (λ (o : Option (NodeOf × Body)). IsSome o) (is_for_home request.body) (serving_at_home node request) (serving_in_cache node request)
+    (λ home. map_some _ _ (home_serves (home_of node request.line) request.source request.body home))
+    (λ cache. map_some _ _ (map_some _ _ (cache_serves (line_of node.cache request.line).state request.source request.body cache asks)))
 
 -- a request is served unless an answer waits
 pub serve_enabled : (node : NodeOf) (request : Letter) → IsRequest request.body → node.waiting ≡ None → IsSome (node_serving node request)
 serve_enabled node request asks free =
     subst (λ (w : Option Letter). IsSome (if is_some w then None else answered_by request (serving_request node request))) (sym free)
-    (answered request (serving_request node request) (request_served node request asks))
+    (map_some _ _ (request_served node request asks))
 
 -- and refused, unless it is a Setback
 pub refuse_enabled : (node : NodeOf) (request : Letter) → is_setback request.body ≡ false → node.waiting ≡ None → IsSome (node_refusing node request)
