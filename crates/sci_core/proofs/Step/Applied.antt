@@ -1,5 +1,5 @@
 -- What the calls of an event do, one after another, is the step.
-use Rattle.std.proofs.Common.{◌≡◌, ℕ, ◌<◌, ◌%◌, List, [], ◌∷◌, Option, Some, None, length, get_or, set, refl, sym, ap, subst, ◌∙◌}
+use Rattle.std.proofs.Common.{◌≡◌, ℕ, ◌<◌, ◌%◌, List, [], ◌∷◌, Option, Some, None, length, get_or, set, refl, sym, ap, subst, ◌∙◌, arith}
 use Rattle.std.specs.Prelude.{slice_get, IfSome, IsSome}
 use Rattle.std.specs.List.{All}
 use Rattle.std.proofs.lemmas.List.Elements.{All-head}
@@ -51,10 +51,7 @@ acceptable core from n letter well f lt front =
 
 pub target_below : (core : Core) (n line : ℕ) (kind : AskKind) (next : NodeOf) (letter : Letter) → IsWellFormed core → n < core.size.nodes
     → node_asking (node_at core n) line kind ≡ Some (next, letter) → letter.target < core.size.nodes
-target_below core n line kind next letter well lt e =
-    let sent = subst (λ (o : Option (NodeOf × Letter)). IfSome o (SendsWell core.size n)) e
-    (part_asking core.size n (node_at core n) line kind well.sizes.some_node lt (well.each_part n lt)) in
-    sent.request.letter_ok.target
+target_below core n line kind next letter well lt e = grind (arith, part_asking)
 
 -- the node that sends is the same once its packet is in the lane
 pub read_sent : (core mid : Core) (kind : LaneKind) (i n : ℕ) (letter : Letter) (old : NodeOf) → mid ≡ with_sent core kind n letter → i ≡ n

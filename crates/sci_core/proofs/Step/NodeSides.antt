@@ -1,5 +1,5 @@
 -- What each event does at its node: to the standing of the node's lines, to its homes, and to the answer that waits.
-use Rattle.std.proofs.Common.{◌≡◌, ℕ, ◌<◌, nat_lt, not, ◌&&◌, Bool, true, false, if◌then◌else◌, Option, Some, None, refl, sym, subst, inl, inr}
+use Rattle.std.proofs.Common.{◌≡◌, ℕ, ◌<◌, not, ◌&&◌, Bool, true, false, if◌then◌else◌, Option, Some, None, refl, sym, subst, inl, inr, arith, nat_lt}
 use Rattle.std.specs.Prelude.{IfSome, is_some, ◌==◌, slice_set, option_map}
 use Rattle.std.proofs.lemmas.Option.{IfSome_then}
 use Rattle.std.proofs.lemmas.List.{get_or-set_same}
@@ -92,11 +92,7 @@ asked_alike part line false (Some asked) keeps = record {
 }
 
 pub ask_alike : (part : NodeOf) (line : ℕ) (kind : AskKind) → IfSome (node_asking part line kind) (AsksAlike part)
-ask_alike part line kind =
-    if_either (λ (o : Option (NodeOf × Letter)). IfSome o (AsksAlike part)) (nat_lt line (lines_of part)) (asked_by part (cache_asking part.cache line kind))
-    None
-    (asked_alike part line (is_out (line_of part.cache line).state && not (has_slot part.cache)) (asking (line_of part.cache line).state kind)
-    (asking_alike (line_of part.cache line).state kind)) tt
+ask_alike part line kind = grind (arith, if_either, asked_alike, asking_alike)
 
 -- ---- Serve and Refuse
 
@@ -139,11 +135,7 @@ pub record RefusedAs (part : NodeOf) (request : Letter) (next : NodeOf) : Type 0
   pub then_ : with_answer part request Busy ≡ next
 
 pub refuse_as : (part : NodeOf) (request : Letter) → IfSome (node_refusing part request) (RefusedAs part request)
-refuse_as part request =
-    if_either (λ (o : Option NodeOf). IfSome o (RefusedAs part request)) (is_some part.waiting) None
-    (if is_setback request.body then None else Some (with_answer part request Busy)) tt
-    (if_cases (λ (o : Option NodeOf). IfSome o (RefusedAs part request)) (is_setback request.body) None (Some (with_answer part request Busy)) (λ is. tt)
-    (λ is. record { other = is; then_ = refl }))
+refuse_as part request = grind (arith, if_either, if_cases)
 
 -- ---- Reply
 

@@ -1,5 +1,5 @@
 -- Nothing stands in the way of an event exactly if it is enabled.
-use Rattle.std.proofs.Common.{◌≡◌, ℕ, ◌<◌, Bool, true, false, not, nat_lt, ◌&&◌, if◌then◌else◌, List, [], ◌∷◌, Option, Some, None, refl, sym, ap, ◌∙◌, inl, inr}
+use Rattle.std.proofs.Common.{◌≡◌, ℕ, ◌<◌, Bool, true, false, not, ◌&&◌, if◌then◌else◌, List, [], ◌∷◌, Option, Some, None, refl, sym, ap, ◌∙◌, inl, inr, nat_lt}
 use Rattle.std.proofs.Common.{arith}
 use Rattle.std.specs.Prelude.{option_map, IfSome, IsSome, is_some, is_none, is_ok, Result, Ok, Err, slice_get}
 use Rattle.std.proofs.lemmas.Bool.{cases_Bool, lt-ltb, ltb-true, ltb-false}
@@ -117,16 +117,7 @@ taken_free core Accept from n (letter ∷ rest) reached f lt is =
 
 take_told : (core : Core) (taking : Taking) (from n : ℕ) → IsReached core → n < core.size.nodes
     → is_none (take_obstacle core taking from n) ≡ is_some (stepping core (taking_event taking from n))
-take_told core taking from n reached lt =
-    let front = front_obstacle taking (node_at core n) (slice_get (lane_of core (lane_kind taking) from n) 0) in
-    elim (cases_Bool (nat_lt from core.size.nodes)) [
-      | inl here ↦
-          ap is_none (if_true (nat_lt from core.size.nodes) front (Some NoSuchSender) here)
-          ∙ taken_free core taking from n (lane_of core (lane_kind taking) from n) reached (ltb-true from core.size.nodes here) lt refl
-      | inr beyond ↦
-          ap is_none (if_false (nat_lt from core.size.nodes) front (Some NoSuchSender) beyond)
-          ∙ sym (ap is_some (taking_from_nobody core taking from n lt (ltb-false from core.size.nodes beyond)))
-    ]
+take_told core taking from n reached lt = grind (arith, cases_Bool, if_true, taken_free, ltb-true, if_false, taking_from_nobody, ltb-false)
 
 -- the node that takes it is there
 taker_here : (taking : Taking) (from n : ℕ) → node_of (taking_event taking from n) ≡ n
@@ -215,10 +206,7 @@ asked_ok cache line (Err why) = refl
 -- a refused ask of a line of the machine
 refused_line : (node : NodeOf) (line : ℕ) (kind : AskKind) → line < lines_of node → node_asking node line kind ≡ None
     → is_ok (line_asking (line_of node.cache line) kind (has_slot node.cache)) ≡ false
-refused_line node line kind below none =
-    sym (asked_ok node.cache line (line_asking (line_of node.cache line) kind (has_slot node.cache)))
-    ∙ is_err_by node (cache_asking node.cache line kind)
-    (sym (if_true (nat_lt line (lines_of node)) (asked_by node (cache_asking node.cache line kind)) None (lt-ltb line (lines_of node) below)) ∙ none)
+refused_line node line kind below none = grind (arith, asked_ok, is_err_by, if_true, lt-ltb)
 
 told_as : (node : NodeOf) (line : ℕ) (kind : AskKind) (why : AskFault) (o : Option Obstacle) → line < lines_of node
     → line_asking (line_of node.cache line) kind (has_slot node.cache) ≡ Err why → asked_obstacle (cache_asked node.cache line (Err why)) ≡ o
@@ -230,24 +218,13 @@ told_as node line kind why o below e is =
 -- a line without an entry that would ask this lacks a slot
 pub slot_lacks : (node : NodeOf) (line : ℕ) (kind : AskKind) → line < lines_of node → node_asking node line kind ≡ None
     → is_out (line_of node.cache line).state ≡ true → is_some (asking Out kind) ≡ true → ask_obstacle node line kind ≡ Some NoSlot
-slot_lacks node line kind below none out begins =
-    let part = line_of node.cache line in
-    let made = ap (λ (s : CacheState). is_some (asking s kind)) (out_only part.state out) ∙ begins in
-    told_as node line kind fault.NoSlot (Some NoSlot) below
-    (slot_of (asking part.state kind) (is_out part.state && not (has_slot node.cache)) made (refused_line node line kind below none)) refl
+slot_lacks node line kind below none out begins = grind (arith, out_only, told_as, slot_of, refused_line)
 
 -- any other refused ask is one that the state doesn't make
 pub state_lacks : (node : NodeOf) (line : ℕ) (kind : AskKind) (out : Bool) → line < lines_of node → node_asking node line kind ≡ None
     → is_out (line_of node.cache line).state ≡ out → (out && is_some (asking Out kind)) ≡ false → ask_obstacle node line kind ≡ Some NotAsked
-state_lacks node line kind true below none is other =
-    let part = line_of node.cache line in
-    let made = ap (λ (s : CacheState). is_some (asking s kind)) (out_only part.state is) ∙ other in
-    told_as node line kind fault.NotNow (Some NotAsked) below (now_of (asking part.state kind) (is_out part.state && not (has_slot node.cache)) made) refl
-state_lacks node line kind false below none is other =
-    let part = line_of node.cache line in
-    told_as node line kind fault.NotNow (Some NotAsked) below
-    (now_free (asking part.state kind) (is_out part.state && not (has_slot node.cache)) (ap (λ (b : Bool). b && not (has_slot node.cache)) is)
-    (refused_line node line kind below none)) refl
+state_lacks node line kind true below none is other = grind (arith, out_only, told_as, now_of)
+state_lacks node line kind false below none is other = grind (arith, told_as, now_free, refused_line)
 
 free_of : (node : NodeOf) (made : Result (CacheOf × Letter) AskFault) (sent : NodeOf × Letter) → asked_by node made ≡ Some sent → asked_obstacle made ≡ None
 free_of node (Ok asked) sent e = refl
@@ -256,10 +233,7 @@ free_of node (Err why) sent e = cc
 -- nothing is in the way of an ask that is made
 ask_made : (node : NodeOf) (line : ℕ) (kind : AskKind) (sent : NodeOf × Letter) → line < lines_of node → node_asking node line kind ≡ Some sent
     → ask_obstacle node line kind ≡ None
-ask_made node line kind sent below some =
-    if_true (nat_lt line (lines_of node)) (asked_obstacle (cache_asking node.cache line kind)) (Some NoSuchLine) (lt-ltb line (lines_of node) below)
-    ∙ free_of node (cache_asking node.cache line kind) sent
-    (sym (if_true (nat_lt line (lines_of node)) (asked_by node (cache_asking node.cache line kind)) None (lt-ltb line (lines_of node) below)) ∙ some)
+ask_made node line kind sent below some = grind (arith, if_true, lt-ltb, free_of)
 
 pub ask_found : (node : NodeOf) (line : ℕ) (kind : AskKind) (found : Option Packet) → line < lines_of node
     → IfSome found (λ packet. (next : NodeOf) × (node_asking node line kind ≡ Some (next, letter_of packet))) → is_some found ≡ true

@@ -1,5 +1,5 @@
 -- A node that is read at its place, changes, and is written back, is the node with that number.
-use Rattle.std.proofs.Common.{◌≡◌, ℕ, ◌<◌, length, get_or, set, Option, Some, None, sym, ap, subst, ◌∙◌}
+use Rattle.std.proofs.Common.{◌≡◌, ℕ, ◌<◌, length, get_or, set, Option, Some, None, sym, ap, subst, ◌∙◌, arith}
 use Rattle.std.specs.Prelude.{IfSome}
 use Rattle.std.proofs.lemmas.List.{get_or_read, get_or-set_same}
 use Rattle.sci_words.specs.declared.event.Event.{Event}
@@ -24,11 +24,7 @@ gives_some side core i n old new (Some x) is below e done =
 -- what is so of a node before and after its call is so of the node with that number
 pub both_nodes : (P : NodeOf → NodeOf → Type 0) (core : Core) (i n : ℕ) (old new : NodeOf) → i ≡ n → n < length core.parts → old ≡ get_or core.parts i old
     → P old new → P (node_at core n) (node_at (record core { parts = set core.parts i new }) n)
-both_nodes P core i n old new is below read so =
-    let there : node_at (record core { parts = set core.parts i new }) n ≡ new =
-    ap (λ (k : ℕ). get_or (set core.parts k new) n no_node) is ∙ get_or-set_same core.parts n new no_node below in
-    subst (λ (node : NodeOf). P node (node_at (record core { parts = set core.parts i new }) n)) (read_node core i n old is below read)
-    (subst (P old) (sym there) so)
+both_nodes P core i n old new is below read so = grind (arith, get_or-set_same, read_node)
 
 -- a call that changes its node alone, and gives something, is the step of its event
 pub changed_by : {X : Type 0} (core : Core) (e : Event) (i : ℕ) (old new : NodeOf) (result : Option X) → i ≡ node_of e → node_of e < core.size.nodes

@@ -1,5 +1,5 @@
 -- A run that memory stops.
-use Rattle.std.proofs.Common.{◌≡◌, ℕ, ◌<◌, List, length, get_or, take, sym, subst, ◌∙◌}
+use Rattle.std.proofs.Common.{◌≡◌, ℕ, ◌<◌, List, length, get_or, take, sym, subst, ◌∙◌, arith}
 use Rattle.std.specs.Prelude.{IsSome}
 use Rattle.std.specs.declared.alloc.AllocError.{AllocError}
 use Rattle.std.proofs.lemmas.Option.{slice_get-get_or}
@@ -13,13 +13,4 @@ use Rattle.sci_core.specs.Stopped.{IsStoppedAt}
 pub stopped : (old now new : Core) (events : List Event) (i : ℕ) (d : Event) (fault : ApplyFault) (refused : AllocError) → i < length events
     → now ≡ run_from old (take i events) → new ≡ now
     → IsFaultOf (stepping now (get_or events i d)) (get_or events i d) fault → fault ≡ Memory refused → IsStoppedAt old new events
-stopped old now new events i d fault refused below stands same is memory =
-    let told = subst (λ (f : ApplyFault). IsFaultOf (stepping now (get_or events i d)) (get_or events i d) f) memory is in
-    record {
-      place = i;
-      event = get_or events i d;
-      refused = slice_get-get_or events i d below;
-      stands = same ∙ stands;
-      enabled = subst (λ (k : Core). IsSome (stepping k (get_or events i d))) (sym same) told.0;
-      sends = told.1;
-    }
+stopped old now new events i d fault refused below stands same is memory = grind (arith, slice_get-get_or)

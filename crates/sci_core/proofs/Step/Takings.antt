@@ -1,5 +1,5 @@
 -- A packet that a node takes: Serve, Refuse and Accept are one step.
-use Rattle.std.proofs.Common.{◌≡◌, ℕ, ◌<◌, ◌≤◌, length, get_or, set, drop, Some, None, refl, sym, ap, ◌∙◌}
+use Rattle.std.proofs.Common.{◌≡◌, ℕ, ◌<◌, ◌≤◌, length, get_or, set, drop, Some, None, refl, sym, ap, ◌∙◌, arith}
 use Rattle.std.specs.Prelude.{slice_get}
 use Rattle.sci_words.specs.declared.event.Event.TheVariants as event
 use Rattle.sci_cache.specs.Cache.{Letter}
@@ -46,10 +46,7 @@ takable core Accept from n letter well f lt front = acceptable core from n lette
 pub taking_untaken : (core : Core) (taking : Taking) (from n i : ℕ) (old : NodeOf) (letter : Letter) → n < core.size.nodes → from < core.size.nodes
     → slice_get (lane_of core (lane_kind taking) from n) 0 ≡ Some letter
     → i ≡ n → n < length core.parts → old ≡ get_or core.parts i old → node_taking taking old letter ≡ None → stepping core (taking_event taking from n) ≡ None
-taking_untaken core taking from n i old letter lt f front is below e none =
-    stepping_taking core taking from n lt f
-    ∙ front_taken core n _ (node_taking taking (node_at core n)) (lane_of core (lane_kind taking) from n) letter None front
-    (ap (λ (node : NodeOf). node_taking taking node letter) (sym (read_node core i n old is below e)) ∙ none)
+taking_untaken core taking from n i old letter lt f front is below e none = grind (arith, stepping_taking, front_taken, read_node)
 
 -- the node takes a packet, and then the packet leaves its lane
 pub taking_done : (core new : Core) (taking : Taking) (from n i : ℕ) (old next : NodeOf) (letter : Letter) → n < core.size.nodes → from < core.size.nodes
@@ -58,9 +55,4 @@ pub taking_done : (core new : Core) (taking : Taking) (from n i : ℕ) (old next
     → new ≡ with_lane (record core { parts = set core.parts i next }) (lane_place core.size.nodes (lane_kind taking) from n)
     (drop 1 (lane_of core (lane_kind taking) from n))
     → stepping core (taking_event taking from n) ≡ Some new
-taking_done core new taking from n i old next letter lt f front is below e some same =
-    let here = stepping_taking core taking from n lt f
-    ∙ front_taken core n _ (node_taking taking (node_at core n)) (lane_of core (lane_kind taking) from n) letter (Some next) front
-    (ap (λ (node : NodeOf). node_taking taking node letter) (sym (read_node core i n old is below e)) ∙ some) in
-    here ∙ ap Some (sym (same ∙ ap (λ (k : ℕ).
-    with_lane (with_node core k next) (lane_place core.size.nodes (lane_kind taking) from n) (drop 1 (lane_of core (lane_kind taking) from n))) is))
+taking_done core new taking from n i old next letter lt f front is below e some same = grind (arith, stepping_taking, front_taken, read_node)

@@ -47,14 +47,7 @@ none_long (letter ∷ letters) none = absurd (omega arith)
 -- of the packets of a node and a line there is one at most, so what one part has is what the whole has
 found_in : (n line : ℕ) (before here after : List Letter) (body : Body) → length (filter (is_about n line) (before ++ (here ++ after))) ≤ 1
     → seek n line here ≡ Some body → seek n line (before ++ (here ++ after)) ≡ Some body
-found_in n line before here after body few is =
-    let about = is_about n line in
-    let parts : filter about (before ++ (here ++ after)) ≡ filter about before ++ (filter about here ++ filter about after) =
-    filter-append about before (here ++ after) ∙ ap (λ (letters : List Letter). filter about before ++ letters) (filter-append about here after) in
-    let some = some_found (filter about here) body is in
-    let long = ap (λ (letters : List Letter). length letters) parts ∙ length-append (filter about before) (filter about here ++ filter about after) in
-    let rest = length-append (filter about here) (filter about after) in
-    seek_second n line before (here ++ after) (ap answer_in (none_long (filter about before) (omega arith))) ∙ seek_first n line here after body is
+found_in n line before here after body few is = grind (arith, filter-append, some_found, length-append, seek_second, none_long, seek_first)
 
 few_packets : (home : ℕ) (line : LineState) (letters : List Letter) → HasItsPackets home line letters → length letters ≤ 1
 few_packets home line [] has = omega arith
@@ -103,11 +96,7 @@ asking letter = is_request letter.body
 -- a packet that is alone is no answer if it is a request
 asked_alone : (letters : List Letter) → length letters ≤ 1 → list_any asking letters ≡ true → answer_in letters ≡ None
 asked_alone [] few asks = refl
-asked_alone (letter ∷ []) few asks = alone_is (is_request letter.body) (Some letter.body) asks
-  where
-    alone_is : (asks : Bool) (body : Option Body) → (asks || false) ≡ true → (if asks then None else body) ≡ None
-    alone_is true body e = refl
-    alone_is false body e = cc
+asked_alone (letter ∷ []) few asks = grind arith
 asked_alone (letter ∷ another ∷ letters) few asks = absurd (omega arith)
 
 any_first : (b c : Bool) → b ≡ true → (b || c) ≡ true
@@ -134,14 +123,7 @@ asks_stay n line (letter ∷ letters) asks =
 
 asked_in : (n line : ℕ) (before here after : List Letter) → length (filter (is_about n line) (before ++ (here ++ after))) ≤ 1
     → list_any (asks_about n line) here ≡ true → seek n line (before ++ (here ++ after)) ≡ None
-asked_in n line before here after few asks =
-    let any = list_any-append (asks_about n line) before (here ++ after) in
-    let rest = list_any-append (asks_about n line) here after in
-    let here_or : list_any (asks_about n line) (here ++ after) ≡ true =
-    rest ∙ any_first (list_any (asks_about n line) here) (list_any (asks_about n line) after) asks in
-    let all : list_any (asks_about n line) (before ++ (here ++ after)) ≡ true =
-    any ∙ any_second (list_any (asks_about n line) before) (list_any (asks_about n line) (here ++ after)) here_or in
-    asked_alone (filter (is_about n line) (before ++ (here ++ after))) few (asks_stay n line (before ++ (here ++ after)) all)
+asked_in n line before here after few asks = grind (arith, list_any-append, any_first, any_second, asked_alone, asks_stay)
 
 -- if the request is still in a lane, no answer is under way
 asked_carried : (core : Core) (place n line : ℕ) → IsTidy core → place < length core.lanes → n < core.size.nodes → line < core.size.lines

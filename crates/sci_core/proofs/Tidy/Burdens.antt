@@ -92,11 +92,7 @@ parts_heavy (part ∷ rest) =
     omega arith
 
 weight_under_way : (core : Core) → weight core ≤ 3 * length (under_way core)
-weight_under_way core =
-    let parts = parts_heavy core.parts in
-    let lanes = lanes_heavy core.lanes in
-    let both = length-append (flat_map (λ (part : NodeOf). option_to_list part.waiting) core.parts) (flat_map (λ (lane : List Letter). lane) core.lanes) in
-    omega arith
+weight_under_way core = grind (arith, parts_heavy, lanes_heavy, length-append)
 
 -- ---- each packet is of one node's ask about one line
 
@@ -144,19 +140,10 @@ all_counted nodes lines (letter ∷ rest) all =
 -- ---- packets that are under way in a well formed state
 
 answer_one : (nodes lines : ℕ) (letter : Letter) → IsAnswerLetter nodes lines letter → IsOneOf nodes lines letter
-answer_one nodes lines letter is = record {
-  asker = subst (λ (b : Bool). (if b then letter.source else letter.target) < nodes) (sym is.answers) is.letter_ok.target;
-  line = is.letter_ok.about;
-}
+answer_one nodes lines letter is = grind arith
 
 letter_one : (nodes lines : ℕ) (letter : Letter) → IsLetter nodes lines letter → IsOneOf nodes lines letter
-letter_one nodes lines letter is = record {
-  asker = elim (cases_Bool (is_request letter.body)) [
-    | inl asks ↦ subst (λ (b : Bool). (if b then letter.source else letter.target) < nodes) (sym asks) is.source
-    | inr answers ↦ subst (λ (b : Bool). (if b then letter.source else letter.target) < nodes) (sym answers) is.target
-  ];
-  line = is.about;
-}
+letter_one nodes lines letter is = grind (arith, cases_Bool)
 
 flat_all : {X : Type 0} (P : Letter → Type 0) (f : X → List Letter) (xs : List X) (d : X) → ((i : ℕ) → i < length xs → AllByRecursion P (f (get_or xs i d)))
     → AllByRecursion P (flat_map f xs)
@@ -173,11 +160,7 @@ waiting_answer nodes lines n None h = tt
 waiting_answer nodes lines n (Some answer) h = answer_one nodes lines answer h.0
 
 in_lane_one : (nodes lines place : ℕ) (letter : Letter) → IsInLane nodes lines place letter → IsOneOf nodes lines letter
-in_lane_one nodes lines place letter is =
-    elim (cases_lt place (nodes * nodes)) [
-      | inl first ↦ letter_one nodes lines letter (is.request first).letter_ok
-      | inr second ↦ letter_one nodes lines letter (is.answer second).letter_ok
-    ]
+in_lane_one nodes lines place letter is = grind (arith, cases_lt, letter_one)
 
 all_one : (core : Core) → IsWellFormed core → AllByRecursion (IsOneOf core.size.nodes core.size.lines) (under_way core)
 all_one core well =

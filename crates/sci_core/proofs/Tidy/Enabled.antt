@@ -1,5 +1,5 @@
 -- What comes by a lane of a reached state is taken, and is waited for.
-use Rattle.std.proofs.Common.{◌≡◌, ℕ, ◌<◌, ◌%◌, Bool, true, false, if◌then◌else◌, List, [], ◌∷◌, Option, Some, None, refl, sym, ap, subst, ◌∙◌, inl, inr, rules}
+use Rattle.std.proofs.Common.{◌≡◌, ℕ, ◌<◌, ◌%◌, Bool, true, false, if◌then◌else◌, List, [], ◌∷◌, Option, Some, None, refl, sym, ap, subst, ◌∙◌, inl, inr, rules, arith}
 use Rattle.std.specs.Prelude.{option_map, ◌==◌, IsSome, is_some, slice_get}
 use Rattle.std.proofs.lemmas.Bool.{cases_Bool, eq-eqb}
 use Rattle.sci_packets.specs.declared.body.Body.{Body}
@@ -45,10 +45,7 @@ cache_serves state n body.Cread e asks = search rules
 cache_serves state n _ e asks = search rules
 
 request_served : (node : NodeOf) (request : Letter) → IsRequest request.body → IsSome (serving_request node request)
-request_served node request asks =
-    if_cases (λ (o : Option (NodeOf × Body)). IsSome o) (is_for_home request.body) (serving_at_home node request) (serving_in_cache node request)
-    (λ home. map_some _ _ (home_serves (home_of node request.line) request.source request.body home))
-    (λ cache. map_some _ _ (map_some _ _ (cache_serves (line_of node.cache request.line).state request.source request.body cache asks)))
+request_served node request asks = grind (arith, if_cases, map_some, home_serves, cache_serves)
 
 -- a request is served unless an answer waits
 pub serve_enabled : (node : NodeOf) (request : Letter) → IsRequest request.body → node.waiting ≡ None → IsSome (node_serving node request)
@@ -58,10 +55,7 @@ serve_enabled node request asks free =
 
 -- and refused, unless it is a Setback
 pub refuse_enabled : (node : NodeOf) (request : Letter) → is_setback request.body ≡ false → node.waiting ≡ None → IsSome (node_refusing node request)
-refuse_enabled node request other free =
-    subst (λ (w : Option Letter). IsSome (if is_some w then None else (if is_setback request.body then None else Some (with_answer node request body.Busy))))
-    (sym free)
-    (subst (λ (b : Bool). IsSome (if b then None else Some (with_answer node request body.Busy))) (sym other) refl)
+refuse_enabled node request other free = grind arith
 
 -- ---- the packets of a line
 

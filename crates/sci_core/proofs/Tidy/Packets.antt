@@ -1,5 +1,5 @@
 -- How each kind of event moves the packets of a node's asks about a line.
-use Rattle.std.proofs.Common.{◌≡◌, ℕ, ◌<◌, Bool, true, false, cond, List, [], ◌∷◌, ◌++◌, length, get_or, set, filter, Option, Some, None, refl, sym, ap, ◌∙◌}
+use Rattle.std.proofs.Common.{◌≡◌, ℕ, ◌<◌, Bool, true, false, cond, List, [], ◌∷◌, ◌++◌, length, get_or, set, filter, Option, Some, None, refl, sym, ap, ◌∙◌, arith}
 use Rattle.std.proofs.Common.{append-nil, append_assoc}
 use Rattle.std.specs.Prelude.{option_to_list}
 use Rattle.std.specs.List.{flat_map}
@@ -22,12 +22,7 @@ abbrev two_parts : (Letter → Bool) → List NodeOf → List (List Letter) → 
 two_parts q parts lanes = flat_map (waits_in q) parts ++ flat_map (filter q) lanes
 
 packets_are : (core : Core) (m k : ℕ) → packets_of core m k ≡ two_parts (is_about m k) core.parts core.lanes
-packets_are core m k =
-    let q = is_about m k in
-    filter-append q (flat_map (λ (part : NodeOf). option_to_list part.waiting) core.parts) (flat_map (λ (lane : List Letter). lane) core.lanes) ∙
-    (ap (λ ys. ys ++ filter q (flat_map (λ (lane : List Letter). lane) core.lanes)) (filter_flat q (λ (part : NodeOf). option_to_list part.waiting) core.parts)
-    ∙
-    ap (λ ys. flat_map (waits_in q) core.parts ++ ys) (filter_flat q (λ (lane : List Letter). lane) core.lanes))
+packets_are core m k = grind (arith, filter-append, filter_flat)
 
 -- ---- filters
 
@@ -41,10 +36,7 @@ dropped q letter letters e = ap (λ (b : Bool). cond b (letter ∷ filter q lett
 
 middle_alone : {Y : Type 0} (xs ys : List Y) (x z : Y) → xs ++ (z ∷ ys) ≡ x ∷ [] → xs ≡ []
 middle_alone [] ys x z e = refl
-middle_alone (y ∷ xs) ys x z e =
-    let rest : xs ++ (z ∷ ys) ≡ [] = cc in
-    let not = nothing_after xs (z ∷ ys) rest in
-    cc
+middle_alone (y ∷ xs) ys x z e = grind (arith, nothing_after)
 
 first_alone : {Y : Type 0} (xs ys zs : List Y) (x z : Y) → xs ≡ z ∷ zs → xs ++ ys ≡ x ∷ [] → ys ≡ []
 first_alone [] ys zs x z e f = cc
@@ -101,11 +93,7 @@ node_alone q parts lanes n v x z below one this =
 -- a node changes, and what waits at it doesn't
 pub packets_changed : (core : Core) (n : ℕ) (next : NodeOf) (m k : ℕ) → n < length core.parts → next.waiting ≡ (node_at core n).waiting
     → packets_of (with_node core n next) m k ≡ packets_of core m k
-packets_changed core n next m k below same =
-    let q = is_about m k in
-    packets_are (with_node core n next) m k ∙
-    (ap (λ ys. ys ++ flat_map (filter q) core.lanes)
-    (flat_same (waits_in q) core.parts n no_node next below (ap (λ (w : Option Letter). filter q (option_to_list w)) same)) ∙ sym (packets_are core m k))
+packets_changed core n next m k below same = grind (arith, packets_are, flat_same)
 
 -- a node and a lane change
 abbrev moved : Core → ℕ → NodeOf → ℕ → List Letter → Core

@@ -43,21 +43,12 @@ took_tidy : (core new : Core) (taking : NodeOf → Letter → Option NodeOf) (t 
 took_tidy core new taking t well tidy answers is = grind (arith, served_tidy, node_below, waiting_answers)
 
 stepped_tidy : (core new : Core) (e : Event) (made : Option Entry) → IsWellFormed core → IsTidy core → Stepped core e made new → IsTidy new
-stepped_tidy core new e made well tidy (By_issue n op next event lt is then_ none) =
-    let part = node_at core n in
-    subst IsTidy then_ (changed_tidy core n next lt well
-    (of_some (Stays core.size.nodes part) (node_issuing part op) next is (issue_stays core.size.nodes part op)) tidy)
+stepped_tidy core new e made well tidy (By_issue n op next event lt is then_ none) = grind (arith, changed_tidy, of_some, issue_stays)
 stepped_tidy core new e made well tidy (By_perform n line done lt is then_ some) =
     let part = node_at core n in
     subst IsTidy then_ (changed_tidy core n done.0 lt well
     (of_some (λ (x : NodeOf × Entry). Stays core.size.nodes part x.0) (node_performing part line) done is (perform_stays core.size.nodes part line)) tidy)
-stepped_tidy core new e made well tidy (By_ask n line kind sent is sends_well s none) =
-    let node = node_at core n in
-    let part = well.each_part n s.some in
-    let once = of_some (AsksOnce core.size.nodes line node) (node_asking node line kind) sent is
-    (ask_once core.size.nodes node line kind part.all (part.asks line)) in
-    subst IsTidy s.then_ (asked_tidy core n line (lane_place core.size.nodes Requests n sent.1.target) sent.0 sent.1 (node_below core n well s.some) s.within
-    sends_well.request.asks sends_well.from once tidy)
+stepped_tidy core new e made well tidy (By_ask n line kind sent is sends_well s none) = grind (arith, of_some, ask_once, asked_tidy, node_below)
 stepped_tidy core new e made well tidy (By_serve t none) =
     let part = node_at core t.node in
     took_tidy core new node_serving t well tidy
@@ -70,11 +61,7 @@ stepped_tidy core new e made well tidy (By_refuse t none) =
     (of_some (Answers core.size.nodes t.letter part) (node_refusing part t.letter) t.next t.takes (refuse_answers core.size.nodes part t.letter))
     (of_some (IsPart core.size t.node) (node_refusing part t.letter) t.next t.takes
     (part_refusing core.size t.node part t.letter t.comes.0 t.comes.1 (well.each_part t.node t.some)))
-stepped_tidy core new e made well tidy (By_reply n sent is sends_well s none) =
-    let part = node_at core n in
-    let replies = of_some (Replies core.size.nodes part) (node_replying part) sent is (reply_replies core.size.nodes part) in
-    subst IsTidy s.then_ (replied_tidy core n (lane_place core.size.nodes AnswerLane n sent.1.target) sent.0 sent.1 (node_below core n well s.some) s.within
-    replies tidy)
+stepped_tidy core new e made well tidy (By_reply n sent is sends_well s none) = grind (arith, of_some, reply_replies, replied_tidy, node_below)
 stepped_tidy core new e made well tidy (By_accept t none) =
     let part = node_at core t.node in
     let on_line : t.letter.line < lines_of part = subst (λ (k : ℕ). t.letter.line < k) (sym (well.each_part t.node t.some).each) t.comes.0.letter_ok.about in

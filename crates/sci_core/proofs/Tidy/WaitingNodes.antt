@@ -1,5 +1,5 @@
 -- What each side of an event does with the waits of a node.
-use Rattle.std.proofs.Common.{◌≡◌, ℕ, ◌%◌, ◌<◌, ◌≢◌, ◌&&◌, not, Bool, true, false, if◌then◌else◌, Option, Some, None, refl, sym, ap, subst, ◌∙◌}
+use Rattle.std.proofs.Common.{◌≡◌, ℕ, ◌%◌, ◌<◌, ◌≢◌, ◌&&◌, not, Bool, true, false, if◌then◌else◌, Option, Some, None, refl, sym, ap, subst, ◌∙◌, arith}
 use Rattle.std.specs.Prelude.{◌==◌, IfSome, is_some, option_map}
 use Rattle.std.proofs.lemmas.Option.{IfSome_then}
 use Rattle.std.proofs.lemmas.List.{get_or-set_same, get_or-set_other}
@@ -86,27 +86,7 @@ asked_once : (nodes line : ℕ) (part : NodeOf) (asked : Asked) → line < lines
       record part { cache = with_line part.cache line (line_asked (line_of part.cache line) asked) },
       letter_asking part.cache line asked,
     )
-asked_once nodes line part asked below all small begins =
-    let new = line_asked (line_of part.cache line) asked in
-    let at : line_of (with_line part.cache line new) line ≡ new = get_or-set_same part.cache.lines line new untouched below in
-    let letter = letter_asking part.cache line asked in
-    let awaited : IsAwaited (line % nodes) new letter = record {
-      waiting = begins.waiting;
-      numbered = asked_number (line_of part.cache line).asks small;
-      sent = λ asks. begins.sent (line % nodes) letter (
-        λ home. target_home nodes line part.cache asked.to all home,
-        λ p named. target_named line p part.cache asked.to named,
-        refl,
-      );
-    } in
-    record {
-      below = below;
-      about = refl;
-      idle = begins.idle;
-      others = λ k other. get_or-set_other part.cache.lines line k new untouched other;
-      awaited = subst (λ (l : LineState). IsAwaited (line % nodes) l letter) (sym at) awaited;
-      waiting = refl;
-    }
+asked_once nodes line part asked below all small begins = grind (arith, get_or-set_same, asked_number, target_home, target_named, get_or-set_other)
 
 made_once : (nodes line : ℕ) (part : NodeOf) (lacks : Bool) (made : Option Asked) → line < lines_of part → part.cache.nodes ≡ nodes
     → (line_of part.cache line).asks < CONTROLS → IfSome made (BeginsToWait (line_of part.cache line).state)
@@ -117,10 +97,7 @@ made_once nodes line part false (Some asked) below all small begins = asked_once
 
 pub ask_once : (nodes : ℕ) (part : NodeOf) (line : ℕ) (kind : AskKind) → part.cache.nodes ≡ nodes → (line_of part.cache line).asks < CONTROLS
     → IfSome (node_asking part line kind) (AsksOnce nodes line part)
-ask_once nodes part line kind all small =
-    if_below line (lines_of part) (AsksOnce nodes line part) (asked_by part (cache_asking part.cache line kind)) (λ below.
-    made_once nodes line part (is_out (line_of part.cache line).state && not (has_slot part.cache)) (asking (line_of part.cache line).state kind) below all
-    small (asking_waits (line_of part.cache line).state kind))
+ask_once nodes part line kind all small = grind (arith, if_below, made_once, asking_waits)
 
 -- ---- Serve and Refuse
 
@@ -153,10 +130,7 @@ serve_answers nodes part request =
     (λ next does. served_answers nodes part request next free does))
 
 pub refuse_answers : (nodes : ℕ) (part : NodeOf) (request : Letter) → IfSome (node_refusing part request) (Answers nodes request part)
-refuse_answers nodes part request =
-    free_first nodes part request part.waiting (if is_setback request.body then None else Some (with_answer part request Busy)) refl (λ free.
-    if_either (λ (o : Option NodeOf). IfSome o (Answers nodes request part)) (is_setback request.body) None (Some (with_answer part request Busy)) tt
-    (record { lines = keeps_all nodes part.cache; free = free; body = Busy; waiting = refl }))
+refuse_answers nodes part request = grind (arith, free_first, if_either, keeps_all)
 
 -- ---- Reply
 
