@@ -166,20 +166,7 @@ beyond_log core node well past = let long = well.sizes.parts_long in ap (λ (par
 -- each line of the last contents, one that the machine doesn't have too, has the schedule's entries as its history
 schedule_line : (size : Size) (schedule : List Event) (line : ℕ) → IsSize size
     → IsHistory (filter (is_on_line line) (done size schedule)) zero_stamped (stamped_at (last_of (run size schedule)) line)
-schedule_line size schedule line sizes =
-    let core = run size schedule in
-    let entries = done size schedule in
-    let same : core.size ≡ size = (run_well (opening size) schedule (opened size sizes)).same in
-    let lines : core.size.lines ≡ size.lines = ap (λ (s : Size). s.lines) same in
-    elim (cases_lt line size.lines) [
-      | inl lt ↦ subst (IsHistory (filter (is_on_line line) entries) zero_stamped) (sym (last_within core line (omega arith)))
-          (schedule_history size schedule line sizes lt)
-      | inr past ↦
-          let known = all_weaker (IsKnown size.lines) (λ entry. entry.op.line < size.lines) (λ entry h. h.0.0) entries
-          (schedule_logged size schedule sizes).known in
-          let none : filter (is_on_line line) entries ≡ [] = beyond_none size.lines line entries past known in
-          subst (λ (es : List Entry). IsHistory es zero_stamped (stamped_at (last_of core) line)) (sym none) (last_beyond core line (omega arith))
-    ]
+schedule_line size schedule line sizes = grind (arith, run_well, opened, cases_lt, last_within, schedule_history, all_weaker, schedule_logged, beyond_none, last_beyond)
 
 line_history : (core : Core) (reached : IsReachable core) (line : ℕ)
     → IsHistory (filter (is_on_line line) (done core.size reached.schedule)) zero_stamped (stamped_at (last_of core) line)

@@ -56,11 +56,4 @@ next_node core before node rest well is =
 pub logged_more : (core : Core) (logs : List (List Entry)) (n : ℕ) (log : List Entry) → n < length logs → log ≡ (node_at core n).log
     → ((k : ℕ) → log_of logs k ≡ if nat_lt k n then (node_at core k).log else [])
     → (k : ℕ) → log_of (set logs n log) k ≡ if nat_lt k (n + 1) then (node_at core k).log else []
-logged_more core logs n log few is each k = elim (cases_eq k n) [
-  | inl same ↦ rw (lt-ltb k (n + 1) (omega arith))
-      (ap (λ (j : ℕ). get_or (set logs n log) j []) same ∙ (get_or-set_same logs n log [] few ∙ (is ∙ ap (λ (j : ℕ). (node_at core j).log) (sym same))))
-  | inr apart ↦ get_or-set_other logs n k log [] apart ∙ (each k ∙ elim (cases_lt k n) [
-        | inl lt ↦ rw (lt-ltb k n lt, lt-ltb k (n + 1) (omega arith)) refl
-        | inr le ↦ rw (le-ltb k n le, le-ltb k (n + 1) (omega arith)) refl
-      ])
-]
+logged_more core logs n log few is each k = grind (arith, cases_eq, lt-ltb, get_or-set_same, get_or-set_other, cases_lt, le-ltb)

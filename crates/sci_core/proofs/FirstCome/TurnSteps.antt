@@ -152,11 +152,7 @@ filter_only p from (suc count) a low below here others =
 
 -- a test that is true of leaders alone
 test_of : (core : Core) (line n : ℕ) → (role_in (view_of core line) n ≡ Some Leading → ⊥) → is_authority core line n ≡ false
-test_of core line n not =
-    elim (cases_Bool (is_authority core line n)) [
-      | inl yes_ ↦ absurd (not (authority_leads core line n yes_))
-      | inr no_ ↦ no_
-    ]
+test_of core line n not = grind (arith, cases_Bool, authority_leads)
 
 never : (b : Bool) → (b && false) ≡ false
 never true = refl
@@ -315,14 +311,7 @@ cache_turned_at core n place request rest served part is serves tidy line c ns s
 served_turned : (core new : Core) (t : Taken core new Requests node_serving) → IsWellFormed core → IsTidy core → IsPart core.size t.node t.next
     → ServedAs (node_at core t.node) t.letter t.next → (line : ℕ) (c : Stamped) (ns : List ℕ) → IsShaped (view_of core line) (home_at core line) c ns
     → TurnedAt core (with_lane (with_node core t.node t.next) t.place t.rest) line ns (entrant_by line (Some t.letter))
-served_turned core new t well tidy is (At_home served asks serves e) line c ns shaped =
-    let part = node_at core t.node in
-    let answers = of_some (AnswersTo core.size.nodes t.letter part) (node_serving part t.letter) t.next t.takes (serve_answers core.size.nodes part t.letter) in
-    let next = subst (IsPart core.size t.node) (sym e) is in
-    let home = t.comes.0.home asks ∙ t.comes.1 in
-    subst (λ (x : NodeOf). TurnedAt core (with_lane (with_node core t.node x) t.place t.rest) line ns (entrant_by line (Some t.letter))) e
-    (home_turned_at core t.node t.place t.letter t.rest served (well.each_part t.node t.some) home
-    (answered core new node_serving t _ served.1 well answers.free refl next) serves tidy line c ns shaped)
+served_turned core new t well tidy is (At_home served asks serves e) line c ns shaped = grind (arith, of_some, serve_answers, home_turned_at, answered)
 served_turned core new t well tidy is (In_cache served serves e) line c ns shaped =
     let part = node_at core t.node in
     let answers = of_some (AnswersTo core.size.nodes t.letter part) (node_serving part t.letter) t.next t.takes (serve_answers core.size.nodes part t.letter) in
@@ -441,13 +430,7 @@ reverse_successor old new who (One a one was now so) = ap (λ (xs : List ℕ). r
 -- the queue, its first first
 turned_round : (old new : View) (first : Option ℕ) (ns arrival : List ℕ) (t : Turned old new first ns arrival) → reverse arrival ≡ arrival
     → reverse (coming_in old ns) ++ arrival ≡ t.successor ++ reverse (coming_in new t.nodes)
-turned_round old new first ns arrival t single =
-    let round = ap (λ (xs : List ℕ). reverse xs) t.turn in
-    let left = reverse-append arrival (coming_in old ns) in
-    let right = reverse-append (coming_in new t.nodes) t.successor in
-    let who = reverse_successor old new t.successor t.succeeds in
-    ap (λ (xs : List ℕ). reverse (coming_in old ns) ++ xs) (sym single)
-    ∙ (sym left ∙ (round ∙ (right ∙ ap (λ (xs : List ℕ). xs ++ reverse (coming_in new t.nodes)) who)))
+turned_round old new first ns arrival t single = grind (arith, reverse-append, coming_in, reverse_successor)
 
 stepped_turn : (core new : Core) (e : Event) (line : ℕ) (waiting then_ : List ℕ) → IsReachable core → stepping core e ≡ Some new → IsReachable new
     → line < core.size.lines → new.size ≡ core.size → AreWaiting core line waiting → AreWaiting new line then_

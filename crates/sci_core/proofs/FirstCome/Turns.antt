@@ -1,5 +1,5 @@
 -- One line's list, as a queue: what each row of the tables does to the members before the one that leads.
-use Rattle.std.proofs.Common.{◌≡◌, ◌≢◌, ℕ, Bool, true, false, if◌then◌else◌, List, [], ◌∷◌, ◌++◌, Option, Some, None, refl, sym, ap, subst, ◌∙◌, inl, inr}
+use Rattle.std.proofs.Common.{◌≡◌, ◌≢◌, ℕ, Bool, true, false, if◌then◌else◌, List, [], ◌∷◌, ◌++◌, Option, Some, None, refl, sym, ap, subst, ◌∙◌, inl, inr, arith}
 use Rattle.std.specs.Prelude.{IfSome}
 use Rattle.std.proofs.lemmas.Bool.{cases_eq}
 use Rattle.std.proofs.lemmas.List.{append-nil}
@@ -67,13 +67,7 @@ pub record Turned (old new : View) (first : Option ℕ) (ns arrival : List ℕ) 
 -- the same links and the same standings
 pub turned_same : (old new : View) (first : Option ℕ) (ns : List ℕ) → ((n : ℕ) → link_in new n ≡ link_in old n) → ((n : ℕ) → role_in new n ≡ role_in old n)
     → IsListOf (link_in old) first ns → Turned old new first ns []
-turned_same old new first ns links roles list = record {
-  nodes = ns;
-  list = chain_same (link_in old) (link_in new) first first ns refl links list;
-  successor = [];
-  succeeds = Nobody refl (λ n leads. sym (roles n) ∙ leads);
-  turn = sym (coming_same old new ns (λ n h. roles n)) ∙ sym (append-nil (coming_in new ns));
-}
+turned_same old new first ns links roles list = grind (arith, chain_same, link_in, coming_same, append-nil)
 
 pub turned_alike : (old new : View) (first : Option ℕ) (ns : List ℕ) → ((n : ℕ) → AlikeIn old new n) → IsListOf (link_in old) first ns
     → Turned old new first ns []
@@ -241,11 +235,7 @@ coming_less old new a q c must first (n ∷ ns) hands linked once (inl e) (front
     absurd (roles_differ Leading Coming (role_in old n) leads.0 (ap (role_in old) (sym e) ∙ hands.coming) (λ s. cc))
 coming_less old new a q c must first (n ∷ ns) hands linked once (inr h) (front, inl leads) =
     absurd (roles_differ Following Coming (role_in old a) (following_in old c ns a leads.1 h) hands.coming (λ s. cc))
-coming_less old new a q c must first (n ∷ ns) hands linked once (inl e) (front, inr comes) =
-    let next = next_of (link_in old) n a linked.1.0 q e linked.1.1 hands.link in
-    let empty = coming_behind old q linked.1.0 ns next hands.leading linked.1.2 in
-    let ends : coming_in new (n ∷ ns) ≡ [] = coming_ends new n ns (ap (role_in new) (sym e) ∙ hands.leads) in
-    coming_more old n ns comes.0 ∙ (ap (λ (xs : List ℕ). n ∷ xs) empty ∙ (ap (λ (m : ℕ). m ∷ []) (sym e) ∙ ap (λ (xs : List ℕ). xs ++ a ∷ []) (sym ends)))
+coming_less old new a q c must first (n ∷ ns) hands linked once (inl e) (front, inr comes) = grind (arith, next_of, link_in, coming_behind, coming_ends, role_in, coming_more)
 coming_less old new a q c must first (n ∷ ns) hands linked once (inr h) (front, inr comes) =
     let not_asker : n ≢ a = λ s. once.0 (subst (λ (k : ℕ). IsAmong k ns) (sym s) h) in
     let not_server : n ≢ q = λ s. roles_differ Coming Leading (role_in old n) comes.0 (ap (role_in old) s ∙ hands.leading) (λ t. cc) in

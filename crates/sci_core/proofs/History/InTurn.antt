@@ -126,24 +126,10 @@ stepped_turn core new e made n well one has (By_perform m line done lt is then_ 
     let both = λ (e : m ≡ n). subst (λ (k : ℕ). HasOnePending (node_at core k) × LogsInTurn (node_at core k)) (sym e) (one, has) in
     subst (λ (x : Core). LogsInTurn (node_at x n)) then_
     (turned core m done.0 n (λ e. perform_turn part line done does (well.each_part m lt).fits (both e).0 (both e).1) has)
-stepped_turn core new e made n well one has (By_ask m line kind sent is sends_well s none) =
-    let part = node_at core m in
-    let same = of_some (λ (x : NodeOf × Letter). SameWork part x.0) (node_asking part line kind) sent is (ask_work part line kind) in
-    subst (λ (x : Core). LogsInTurn (node_at x n)) s.then_ (same_turned core m sent.0 n same has)
-stepped_turn core new e made n well one has (By_serve t none) =
-    let part = node_at core t.node in
-    let same = serve_work part t.letter t.next (of_some (ServedAs part t.letter) (node_serving part t.letter) t.next t.takes (serve_as part t.letter)) in
-    subst (λ (x : Core). LogsInTurn (node_at x n)) t.then_ (same_turned core t.node t.next n same has)
-stepped_turn core new e made n well one has (By_refuse t none) =
-    let part = node_at core t.node in
-    let does = of_some (RefusedAs part t.letter) (node_refusing part t.letter) t.next t.takes (refuse_as part t.letter) in
-    let same = subst (SameWork part) does.then_ (record { pending = refl; issued = refl; log = refl }) in
-    subst (λ (x : Core). LogsInTurn (node_at x n)) t.then_ (same_turned core t.node t.next n same has)
-stepped_turn core new e made n well one has (By_reply m sent is sends_well s none) =
-    let part = node_at core m in
-    let answered = of_some (λ (x : NodeOf × Letter). (record part { waiting = None }) ≡ x.0) (node_replying part) sent is (reply_as part) in
-    let same = subst (SameWork part) answered (record { pending = refl; issued = refl; log = refl }) in
-    subst (λ (x : Core). LogsInTurn (node_at x n)) s.then_ (same_turned core m sent.0 n same has)
+stepped_turn core new e made n well one has (By_ask m line kind sent is sends_well s none) = grind (arith, of_some, ask_work, same_turned)
+stepped_turn core new e made n well one has (By_serve t none) = grind (arith, serve_work, of_some, serve_as, same_turned)
+stepped_turn core new e made n well one has (By_refuse t none) = grind (arith, of_some, refuse_as, same_turned)
+stepped_turn core new e made n well one has (By_reply m sent is sends_well s none) = grind (arith, of_some, reply_as, same_turned)
 stepped_turn core new e made n well one has (By_accept t none) =
     let part = node_at core t.node in
     let same = of_some (SameWork part) (node_accepting part t.letter) t.next t.takes (accept_work part t.letter) in
@@ -173,11 +159,7 @@ empty_in_order : IsInProgramOrder []
 empty_in_order i j d lt inside = absurd (none_below j inside)
 
 opening_turn : (me : ℕ) (size : Size) → LogsInTurn (opening_node me size)
-opening_turn me size = record {
-  below = tt;
-  rising = empty_in_order;
-  pending = λ line. none_in (λ p. AllByRecursion (λ (entry : Entry). entry.serial < p.serial) []) size.lines line;
-}
+opening_turn me size = grind (arith, empty_in_order, none_in)
 
 -- from the opening on
 pub schedule_turn : (size : Size) (schedule : List Event) (n : ℕ) → IsSize size → IssuesInTurn size schedule n

@@ -47,10 +47,7 @@ weighs_node core n next below =
 weighs_both : (core : Core) (n place : ℕ) (next : NodeOf) (lane : List Letter) → n < length core.parts → place < length core.lanes
     → weight (with_lane (with_node core n next) place lane) + (answer_weight (node_at core n).waiting + lane_weight (lane_at core place)) ≡ weight
     core + (answer_weight next.waiting + lane_weight lane)
-weighs_both core n place next lane below within =
-    let changed = sum_by-set (λ (part : NodeOf). answer_weight part.waiting) core.parts n next no_node below in
-    let carried = sum_by-set lane_weight core.lanes place lane [] within in
-    omega arith
+weighs_both core n place next lane below within = grind (arith, sum_by-set)
 
 request_weighs : (letter : Letter) → IsRequest letter.body → letter_weight letter ≡ 3
 request_weighs letter asks = ap (λ (b : Bool). if b then 3 else 1) asks
@@ -82,19 +79,11 @@ took_along core new kind n from taking e (letter ∷ rest) takes is steps =
 
 -- the node of an event that is enabled is there, and so is the sender of what it takes
 pub some_node : (core new : Core) (e : Event) → stepping core e ≡ Some new → node_of e < core.size.nodes
-some_node core new e steps =
-    elim (cases_lt (node_of e) core.size.nodes) [
-      | inl below ↦ below
-      | inr past ↦ (let none = stepping_nobody core e past in let clash : None ≡ Some new = sym none ∙ steps in cc)
-    ]
+some_node core new e steps = grind (arith, cases_lt, stepping_nobody)
 
 pub some_sender : (core new : Core) (e : Event) (kind : LaneKind) (from : ℕ) (taking : Letter → Option NodeOf) → node_of e < core.size.nodes
     → side (node_at core (node_of e)) e ≡ Takes kind from taking → stepping core e ≡ Some new → from < core.size.nodes
-some_sender core new e kind from taking lt is steps =
-    elim (cases_lt from core.size.nodes) [
-      | inl below ↦ below
-      | inr past ↦ (let none = stepping_from_nobody core e kind from taking lt past is in let clash : None ≡ Some new = sym none ∙ steps in cc)
-    ]
+some_sender core new e kind from taking lt is steps = grind (arith, cases_lt, stepping_from_nobody)
 
 -- a request is taken, and its answer waits
 weighs_served : (core new : Core) (n from : ℕ) (taking : NodeOf → Letter → Option NodeOf) → IsWellFormed core → n < core.size.nodes → from < core.size.nodes
@@ -131,21 +120,7 @@ weighs_accepted core new n from well lt f took =
 
 weighs_replied : (core new : Core) (n : ℕ) (sent : NodeOf × Letter) → IsWellFormed core → n < core.size.nodes → node_replying (node_at core n) ≡ Some sent
     → new ≡ sent_by core n Answers sent.0 sent.1 → weight core ≡ weight new + 1
-weighs_replied core new n sent well lt replies then_ =
-    let does = of_some (Replies core.size.nodes (node_at core n)) (node_replying (node_at core n)) sent replies
-    (reply_replies core.size.nodes (node_at core n)) in
-    let answers = (of_some (λ (l : Letter). IsAnswerLetter core.size.nodes core.size.lines l × (l.source ≡ n)) (node_at core n).waiting sent.1 does.waited
-    (well.each_part n lt).answer).0 in
-    let place = lane_place core.size.nodes Answers n sent.1.target in
-    let lane = lane_at core place in
-    let both = weighs_both core n place sent.0 (lane ++ sent.1 ∷ []) (node_below core n well lt)
-    (lane_below core Answers n sent.1.target well lt answers.letter_ok.target) in
-    let old : answer_weight (node_at core n).waiting ≡ 2 = ap answer_weight does.waited in
-    let now : answer_weight sent.0.waiting ≡ 0 = ap answer_weight does.gone in
-    let more = sum_by_push letter_weight lane sent.1 in
-    let light = answer_weighs sent.1 answers.answers in
-    let is : weight new ≡ weight (sent_by core n Answers sent.0 sent.1) = ap weight then_ in
-    omega arith
+weighs_replied core new n sent well lt replies then_ = grind (arith, of_some, reply_replies, weighs_both, node_below, lane_below, sum_by_push, answer_weighs)
 
 -- an Ask adds a request
 pub weighs_asked : (core new : Core) (n line : ℕ) (kind : AskKind) → IsWellFormed core → stepping core (event.Ask n line kind) ≡ Some new
@@ -172,11 +147,7 @@ weighs_asked core new n line kind well steps =
 
 weighs_stayed : (core new : Core) (n : ℕ) (next : NodeOf) → IsWellFormed core → n < core.size.nodes → next.waiting ≡ (node_at core n).waiting
     → new ≡ with_node core n next → weight core ≡ weight new + 0
-weighs_stayed core new n next well lt waiting then_ =
-    let changed = weighs_node core n next (node_below core n well lt) in
-    let same : answer_weight next.waiting ≡ answer_weight (node_at core n).waiting = ap answer_weight waiting in
-    let is : weight new ≡ weight (with_node core n next) = ap weight then_ in
-    omega arith
+weighs_stayed core new n next well lt waiting then_ = grind (arith, weighs_node, node_below)
 
 -- every event but an Ask: the weight falls by one if it moves a packet on, and stays if it doesn't
 pub weighs : (core new : Core) (e : Event) → IsWellFormed core → stepping core e ≡ Some new → is_asking e ≡ false
@@ -207,11 +178,7 @@ weighs core new (event.Refuse from n) well steps asks =
     weighs_served core new n from node_refusing well lt f
     (took_along core new Requests n from node_refusing (event.Refuse from n) (lane_of core Requests from n) ((steps_by_sides core n lt).refuse from f) refl
     steps) (λ letter. refuse_answers core.size.nodes (node_at core n) letter)
-weighs core new (event.Reply n) well steps asks =
-    let lt = some_node core new (event.Reply n) steps in
-    let made = made_by (λ (s : NodeOf × Letter). sent_by core n Answers s.0 s.1) (node_replying (node_at core n)) new
-    (sym (steps_by_sides core n lt).reply ∙ steps) in
-    weighs_replied core new n made.0 well lt made.1 made.2
+weighs core new (event.Reply n) well steps asks = grind (arith, some_node, made_by, steps_by_sides, weighs_replied)
 weighs core new (event.Accept from n) well steps asks =
     let lt = some_node core new (event.Accept from n) steps in
     let f = some_sender core new (event.Accept from n) Answers from (node_accepting (node_at core n)) lt refl steps in
@@ -232,10 +199,7 @@ not_made false = refl
 step_weighs : (core : Core) (e : Event) (next : Option Core) → IsReachable core → is_asking e ≡ false → stepping core e ≡ next
     → weight core ≡ weight (unwrap_or next core) + one_if (moves_on e && is_some next)
 step_weighs core e None reached asks is = let none = not_made (moves_on e) in omega arith
-step_weighs core e (Some new) reached asks is =
-    let falls = weighs core new e (any_well core reached) is asks in
-    let one = if_made (moves_on e) in
-    omega arith
+step_weighs core e (Some new) reached asks is = grind (arith, weighs, any_well, if_made)
 
 step_reachable : (core : Core) (e : Event) → IsReachable core → IsReachable (step core e)
 step_reachable core e reached = reachable_next core e (stepping core e) reached refl
@@ -295,10 +259,7 @@ some_lane [] some = absurd (omega arith)
 some_lane (letter ∷ rest) some = (letter, rest, refl)
 
 pub drained : (core : Core) → weight core ≡ 0 → IsDrained core
-drained core none = record {
-  waiting = λ n. none_waits (node_at core n).waiting (none_of_sum (λ (part : NodeOf). answer_weight part.waiting) core.parts n no_node (omega arith) refl);
-  lanes = λ place. light_lane (lane_at core place) (none_of_sum lane_weight core.lanes place [] (omega arith) refl);
-}
+drained core none = grind (arith, none_waits, none_of_sum, light_lane)
 
 -- a place of a lane is that of its kind, its sender and its receiver
 pub record IsPlace (nodes place : ℕ) (kind : LaneKind) : Type 0 where

@@ -31,10 +31,7 @@ pub record Emptied (old new : Core) (count : ℕ) : Type 0 where
 -- what is pending stays
 pub pending_same : (core new : Core) → ((m : ℕ) → (node_at new m).pending ≡ (node_at core m).pending) → new.size ≡ core.size
     → pending_count new ≡ pending_count core
-pending_same core new same size =
-    let one = sum_same (λ n. count_by is_some (node_at core n).pending) (λ n. count_by is_some (node_at new n).pending) 0 core.size.nodes
-    (λ n lo hi. ap (λ (ps : List (Option Pending)). count_by is_some ps) (same n)) in
-    subst (λ (s : Size). sum_over (λ n. count_by is_some (node_at new n).pending) 0 s.nodes ≡ pending_count core) (sym size) one
+pending_same core new same size = grind (arith, sum_same, sum_over)
 
 pub emptied_more : (old mid new : Core) (n line : ℕ) (ask : AskKind) (count : ℕ) → Emptied old mid count → IsReached mid → n < mid.size.nodes
     → line < mid.size.lines → IsNext mid line n ask → IsRound mid new n line ask → Leads settles mid new 4 → IsDrained new → Emptied old new (count + 4)
@@ -50,25 +47,11 @@ emptied_more old mid new n line ask count so reached lt inside next round leads 
 
 -- the rounds are few
 pub few_events : (core : Core) → IsReached core → rank core ≤ 2048
-few_events core reached =
-    let few = (few_rounds core reached).lines in
-    let nodes = reached.size.extent.few_nodes in
-    let lines = reached.size.extent.few_lines in
-    let less = mul-le-mul_left core.size.nodes lines in
-    omega arith
+few_events core reached = grind (arith, few_rounds, mul-le-mul_left)
 
 -- a line beyond the machine's has no entry
 pub all_out_beyond : (core : Core) → IsReached core → ((line n : ℕ) → line < core.size.lines → state_at core line n ≡ Out) → AreOut core
-all_out_beyond core reached out line n =
-    elim (cases_lt line core.size.lines) [
-      | inl inside ↦ out line n inside
-      | inr past ↦ elim (cases_lt n core.size.nodes) [
-        | inl below ↦
-            let each = ((reached_well core reached).each_part n below).each in
-            ap (λ (l : LineState). l.state) (get_or_past (node_at core n).cache.lines line untouched (omega arith))
-        | inr beyond ↦ out_beyond core line n reached beyond
-      ]
-    ]
+all_out_beyond core reached out line n = grind (arith, cases_lt, reached_well, get_or_past, out_beyond)
 
 -- memory was refused later
 pub refused_after : (old mid new : Core) (count : ℕ) → Leads settles old mid count → LeadsOn settles mid new → LeadsOn settles old new

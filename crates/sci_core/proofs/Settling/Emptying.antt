@@ -62,11 +62,7 @@ joiner_is _ a is quiet = cc
 
 pub asks_if : (part : NodeOf) (line : ℕ) (ask : AskKind) (made : Asked) → line < lines_of part → asking (line_of part.cache line).state ask ≡ Some made
     → (is_out (line_of part.cache line).state && not (has_slot part.cache)) ≡ false → IsSome (node_asking part line ask)
-asks_if part line ask made below is free =
-    subst (λ (b : Bool). IsSome (if b then asked_by part (cache_asking part.cache line ask) else None)) (sym (lt-ltb line (lines_of part) below))
-    (subst (λ (o : Option Asked). IsSome
-    (asked_by part (cache_asked part.cache line (ask_or_fault o (is_out (line_of part.cache line).state && not (has_slot part.cache)))))) (sym is)
-    (subst (λ (b : Bool). IsSome (asked_by part (cache_asked part.cache line (ask_or_fault (Some made) b)))) (sym free) refl))
+asks_if part line ask made below is free = grind (arith, lt-ltb)
 
 -- ---- a round whose request is known
 
@@ -360,11 +356,7 @@ tells_lower core n line reached q lt inside telling =
 
 -- a head is no node beyond the machine's
 head_below : (core : Core) (line a : ℕ) → IsReached core → is_head (state_at core line a) ≡ true → a < core.size.nodes
-head_below core line a reached head =
-    elim (cases_lt a core.size.nodes) [
-      | inl below ↦ below
-      | inr past ↦ (let clash : false ≡ true = sym (ap is_head (out_beyond core line a reached past)) ∙ head in cc)
-    ]
+head_below core line a reached head = grind (arith, cases_lt, out_beyond)
 
 joins_lower : (core : Core) (n line a : ℕ) → IsReached core → Quiet core line → n < core.size.nodes → line < core.size.lines
     → is_head (state_at core line a) ≡ true → joins_before (state_at core line n) a ≡ true → Lowers core n line kind.Cread

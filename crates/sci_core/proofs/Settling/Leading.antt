@@ -17,12 +17,7 @@ leads_none may core = record { events = []; made = tt; counted = refl; then_ = r
 
 -- one list after another
 pub leads_join : (may : Event → Bool) (old mid new : Core) (a b : ℕ) → Leads may old mid a → Leads may mid new b → Leads may old new (a + b)
-leads_join may old mid new a b first next = record {
-  events = first.events ++ next.events;
-  made = made_append may old first.events next.events first.made (subst (λ (x : Core). AreMade may x next.events) (sym first.then_) next.made);
-  counted = length-append first.events next.events ∙ (let one = first.counted in let other = next.counted in omega arith);
-  then_ = fold-append step old first.events next.events ∙ (ap (λ (x : Core). run_from x next.events) first.then_ ∙ next.then_);
-}
+leads_join may old mid new a b first next = grind (arith, made_append, length-append, fold-append)
 
 -- one event
 pub leads_one : (may : Event → Bool) (old new : Core) (e : Event) → may e ≡ true → stepping old e ≡ Some new → Leads may old new 1

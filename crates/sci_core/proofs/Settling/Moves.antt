@@ -26,11 +26,7 @@ use Rattle.sci_core.proofs.WellFormed.WellFormedSteps.{reachable, reached_well}
 -- ---- nothing is found
 
 none_waits : (core : Core) → IsWellFormed core → ((n : ℕ) → n < core.size.nodes → (node_at core n).waiting ≡ None) → (n : ℕ) → (node_at core n).waiting ≡ None
-none_waits core well none n =
-    elim (cases_lt n core.size.nodes) [
-      | inl below ↦ none n below
-      | inr past ↦ ap (λ (part : NodeOf). part.waiting) (get_or_past core.parts n no_node (let long = well.sizes.parts_long in omega arith))
-    ]
+none_waits core well none n = grind (arith, cases_lt, get_or_past)
 
 none_carried : (core : Core) → IsWellFormed core → ((from to : ℕ) → from < core.size.nodes → to < core.size.nodes → length (lane_of core Requests from to) ≡ 0)
     → ((from to : ℕ) → from < core.size.nodes → to < core.size.nodes → length (lane_of core Answers from to) ≡ 0) → (place : ℕ) → lane_at core place ≡ []
@@ -85,10 +81,7 @@ on_moves (event.Accept from n) is = refl
 on_moves _ is = cc
 
 pub move_weighs : (core new : Core) (e : Event) → IsReached core → brings_on e ≡ true → stepping core e ≡ Some new → weight core ≡ weight new + 1
-move_weighs core new e reached is steps =
-    let falls = weighs core new e (reached_well core reached) steps (on_asks e is) in
-    let one = ap one_if (on_moves e is) in
-    omega arith
+move_weighs core new e reached is steps = grind (arith, weighs, reached_well, on_asks, on_moves)
 
 -- what is drained weighs nothing
 sum_none : {X : Type 0} (f : X → ℕ) (xs : List X) (d : X) → ((i : ℕ) → f (get_or xs i d) ≡ 0) → sum_by f xs ≡ 0
@@ -107,12 +100,7 @@ drained_weighs core drained =
 
 -- the weight of what is under way is a small number
 pub few_moves : (core : Core) → IsReached core → weight core ≤ 3072
-few_moves core reached =
-    let light_ = (light core (reachable core reached)).lines in
-    let nodes = reached.size.extent.few_nodes in
-    let lines = reached.size.extent.few_lines in
-    let less = mul-le-mul_left core.size.nodes lines in
-    omega arith
+few_moves core reached = grind (arith, light, reachable, mul-le-mul_left)
 
 -- moves so far, and what they leave
 pub record Drained (old new : Core) (count : ℕ) : Type 0 where
@@ -121,7 +109,4 @@ pub record Drained (old new : Core) (count : ℕ) : Type 0 where
 
 pub drained_more : (old mid new : Core) (e : Event) (count : ℕ) → Drained old mid count → IsReached mid → brings_on e ≡ true → stepping mid e ≡ Some new
     → Drained old new (count + 1)
-drained_more old mid new e count so reached is steps =
-    let falls = move_weighs mid new e reached is steps in
-    let before = so.weighs in
-    record { leads = leads_more brings_on old mid new e count so.leads is steps; weighs = omega arith }
+drained_more old mid new e count so reached is steps = grind (arith, move_weighs, leads_more, weighs)

@@ -69,13 +69,7 @@ move_pending core new (event.Serve from n) is steps m =
     let as_ = of_some (ServedAs (node_at core n) took.letter) (node_serving (node_at core n) took.letter) took.next took.takes
     (serve_as (node_at core n) took.letter) in
     ap (λ (x : Core). (node_at x m).pending) took.then_ ∙ one_pending core n took.next (served_pending (node_at core n) took.letter took.next as_) m
-move_pending core new (event.Reply n) is steps m =
-    let lt = some_node core new (event.Reply n) steps in
-    let made = made_by (λ (s : NodeOf × Letter). sent_by core n Answers s.0 s.1) (node_replying (node_at core n)) new
-    (sym (steps_by_sides core n lt).reply ∙ steps) in
-    let as_ = of_some (λ (x : NodeOf × Letter). (record (node_at core n) { waiting = None }) ≡ x.0) (node_replying (node_at core n)) made.0 made.1
-    (reply_as (node_at core n)) in
-    ap (λ (x : Core). (node_at x m).pending) made.2 ∙ one_pending core n made.0.0 (ap (λ (p : NodeOf). p.pending) (sym as_)) m
+move_pending core new (event.Reply n) is steps m = grind (arith, some_node, made_by, steps_by_sides, of_some, reply_as, one_pending)
 move_pending core new (event.Accept from n) is steps m =
     let lt = some_node core new (event.Accept from n) steps in
     let f = some_sender core new (event.Accept from n) Answers from (node_accepting (node_at core n)) lt refl steps in
@@ -135,11 +129,7 @@ reads = record { to = None; request = body.Mread; next = Asking }
 
 pub can_read : (core : Core) (n line : ℕ) → IsReached core → AreOut core → n < core.size.nodes → line < core.size.lines
     → IsSome (node_asking (node_at core n) line kind.Mread)
-can_read core n line reached out lt inside =
-    let slot = slot_free core n reached out lt in
-    asks_if (node_at core n) line kind.Mread reads (line_known core n line (node_at core n) reached lt inside refl)
-    (ap (λ (s : CacheState). asking s kind.Mread) (out line n))
-    (ap (λ (s : CacheState). is_out s && not (has_slot (node_at core n).cache)) (out line n) ∙ ap (λ (b : Bool). not b) slot)
+can_read core n line reached out lt inside = grind (arith, slot_free, asks_if, line_known)
 
 -- the node has the line alone
 pub record Read (core new : Core) (n line : ℕ) : Type 0 where
@@ -308,10 +298,7 @@ worked_first old mid new a b reached next drains weighs_ empties few pending non
 
 pub worked_more : (old mid new : Core) (count k : ℕ) → Worked old mid count → Leads settles mid new k → k ≤ 9 → pending_count mid ≡ pending_count new + 1
     → IsDrained new → AreOut new → Worked old new (count + k)
-worked_more old mid new count k so leads few pending none out =
-    let lines = so.lines in
-    let slots = so.slots in
-    record { leads = leads_join settles old mid new count k so.leads leads; drained = none; out = out; lines = omega arith; slots = omega arith }
+worked_more old mid new count k so leads few pending none out = grind (arith, leads_join, drained)
 
 -- small numbers
 pub few_pending : (core : Core) → IsReached core → pending_count core ≤ 1024
@@ -329,27 +316,12 @@ few_pending core reached =
     omega arith
 
 pub few_worked : (old new : Core) (count : ℕ) → IsReached old → Worked old new count → count ≤ 20480
-few_worked old new count reached so =
-    let lines = so.lines in
-    let pending = few_pending old reached in
-    let few = reached.size.extent.few_lines in
-    let nodes = reached.size.extent.few_nodes in
-    let product = mul-le-mul_left old.size.nodes few in
-    omega arith
+few_worked old new count reached so = grind (arith, few_pending, mul-le-mul_left)
 
 -- a line of a node where nothing is pending
 none_pending : (core : Core) (n line : ℕ) → IsReached core → ((m k : ℕ) → m < core.size.nodes → k < core.size.lines → pending_on (node_at core m) k ≡ None)
     → pending_on (node_at core n) line ≡ None
-none_pending core n line reached none =
-    let well = reached_well core reached in
-    elim (cases_lt n core.size.nodes) [
-      | inl below ↦ elim (cases_lt line core.size.lines) [
-        | inl inside ↦ none n line below inside
-        | inr past ↦ (let all = (well.each_part n below).each in let long = (well.each_part n below).fits.pending in
-            get_or_past (node_at core n).pending line None (omega arith))
-      ]
-      | inr beyond ↦ (let long = well.sizes.parts_long in ap (λ (p : NodeOf). pending_on p line) (get_or_past core.parts n no_node (omega arith)))
-    ]
+none_pending core n line reached none = grind (arith, reached_well, cases_lt, get_or_past)
 
 -- at rest
 pub settled_so : (core : Core) → IsReached core → IsDrained core → AreOut core
@@ -361,7 +333,4 @@ settled_so core reached none out pending = record {
 }
 
 pub within_so : (old new : Core) (count : ℕ) → Worked old new count → IsWithin old count
-within_so old new count so =
-    let lines = so.lines in
-    let slots = so.slots in
-    record { lines = omega arith; slots = omega arith }
+within_so old new count so = grind arith

@@ -41,13 +41,7 @@ out_of true e = refl
 out_of false e = cc
 
 pub at_rest : (node : NodeOf) → IsNode node → node.issued ≡ length node.log → slots_taken node.cache.lines ≡ 0 → IsAtRest node
-at_rest node is done free =
-    let logged = is.logged in
-    let none : count_by is_some node.pending ≡ 0 = omega arith in
-    record {
-      none_pending = λ line. none_of (pending_on node line) (none_counted is_some node.pending None refl none line);
-      none_held = λ line. out_of _ (none_counted (λ (l : LineState). not (is_out l.state)) node.cache.lines untouched refl free line);
-    }
+at_rest node is done free = grind (arith, none_of, none_counted, out_of)
 
 pub rest_is_done : (node : NodeOf) → IsNode node → IsAtRest node → node.issued ≡ length node.log
 rest_is_done node is rest =

@@ -116,10 +116,7 @@ after_leader : (view : View) (c : Stamped) (must : Bool) (first : Option ℕ) (n
 after_leader view c must first [] n q led linked h leads link = elim led [ ]
 after_leader view c must first (x ∷ []) n q (front, inl ahead) linked (inl e) leads link =
     let next = next_of (link_in view) x n linked.1.0 q e linked.1.1 link in let none = linked.1.2 in cc
-after_leader view c must first (x ∷ (y ∷ ys)) n q (front, inl ahead) linked (inl e) leads link =
-    let next = next_of (link_in view) x n linked.1.0 q e linked.1.1 link in
-    let here : y ≡ q = (let is = linked.1.2.0 in cc) in
-    ap (role_in view) (sym here) ∙ ahead.1.0
+after_leader view c must first (x ∷ (y ∷ ys)) n q (front, inl ahead) linked (inl e) leads link = grind (arith, next_of, link_in, role_in)
 after_leader view c must first (x ∷ xs) n q (front, inl ahead) linked (inr h) leads link =
     absurd (roles_differ Following Leading (role_in view n) (following_in view c xs n ahead.1 h) leads (λ s. cc))
 after_leader view c must first (x ∷ xs) n q (front, inr comes) linked (inl e) leads link =
@@ -136,10 +133,7 @@ fresh_behind view c must first (x ∷ xs) n q (front, inl ahead) linked (inl e) 
 fresh_behind view c must first (x ∷ xs) n q (front, inl ahead) linked (inr h) coming fresh link =
     absurd (roles_differ Following Coming (role_in view n) (following_in view c xs n ahead.1 h) coming (λ s. cc))
 fresh_behind view c must first (x ∷ []) n q (front, inr comes) linked (inl e) coming fresh link = elim comes.1 [ ]
-fresh_behind view c must first (x ∷ (y ∷ ys)) n q (front, inr comes) linked (inl e) coming fresh link =
-    let next = next_of (link_in view) x n linked.1.0 q e linked.1.1 link in
-    let here : y ≡ q = (let is = linked.1.2.0 in cc) in
-    ap (fresh_in view) (sym here) ∙ comes.1.0.0 (ap (fresh_in view) (sym e) ∙ fresh)
+fresh_behind view c must first (x ∷ (y ∷ ys)) n q (front, inr comes) linked (inl e) coming fresh link = grind (arith, next_of, link_in, fresh_in)
 fresh_behind view c must first (x ∷ xs) n q (front, inr comes) linked (inr h) coming fresh link =
     fresh_behind view c _ linked.1.0 xs n q comes.1 linked.1.2 h coming fresh link
 
@@ -267,13 +261,7 @@ fresh_so : (core : Core) (line n : ℕ) (home : HomeState) → Quiet core line �
     → is_fresh (state_at core line n) None ≡ true → (d : Stamped) × (home ≡ at.Fresh n d)
 fresh_so core line n (at.Home d) q is head fresh = cc
 fresh_so core line n (at.Fresh p d) q is head fresh = (let same : p ≡ n = cc in (d, ap (λ (k : ℕ). at.Fresh k d) same))
-fresh_so core line n (at.Gone p) q is head fresh =
-    let same : p ≡ n = cc in
-    let stale = subst (IsGoneStale core line) is q.stale in
-    let not : is_fresh (state_at core line n) None ≡ false =
-    sym (seen is_fresh core line n (state_at core line n) q refl) ∙ (ap (fresh_in (view_of core line)) (sym same) ∙ stale) in
-    let clash : true ≡ false = sym fresh ∙ not in
-    cc
+fresh_so core line n (at.Gone p) q is head fresh = grind (arith, seen, fresh_in, view_of)
 
 pub home_fresh : (core : Core) (line n : ℕ) → Quiet core line → head_of (home_at core line) ≡ Some n → is_fresh (state_at core line n) None ≡ true
     → (d : Stamped) × (home_at core line ≡ at.Fresh n d)
@@ -283,16 +271,8 @@ home_fresh core line n q head fresh = fresh_so core line n (home_at core line) q
 alone_so : (core : Core) (line : ℕ) (home : HomeState) → Quiet core line → home_at core line ≡ home → ((n : ℕ) → state_at core line n ≡ Out)
     → (d : Stamped) × (home ≡ at.Home d)
 alone_so core line (at.Home d) q is out = (d, refl)
-alone_so core line (at.Fresh p d) q is out =
-    let shaped = subst (λ (h : HomeState). IsShaped (view_of core line) h q.contents q.nodes) is q.is in
-    let leader = led_leader (view_of core line) q.contents true q.nodes shaped.led.1 in
-    let role = sym (seen role_of core line leader.0 Out q (out leader.0)) ∙ leader.1 in
-    cc
-alone_so core line (at.Gone p) q is out =
-    let shaped = subst (λ (h : HomeState). IsShaped (view_of core line) h q.contents q.nodes) is q.is in
-    let leader = led_leader (view_of core line) q.contents false q.nodes shaped.led in
-    let role = sym (seen role_of core line leader.0 Out q (out leader.0)) ∙ leader.1 in
-    cc
+alone_so core line (at.Fresh p d) q is out = grind (arith, view_of, led_leader, seen, role_of)
+alone_so core line (at.Gone p) q is out = grind (arith, view_of, led_leader, seen, role_of)
 
 pub home_alone : (core : Core) (line : ℕ) → Quiet core line → ((n : ℕ) → state_at core line n ≡ Out) → (d : Stamped) × (home_at core line ≡ at.Home d)
 home_alone core line q out = alone_so core line (home_at core line) q refl out

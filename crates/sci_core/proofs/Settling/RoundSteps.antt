@@ -109,10 +109,7 @@ stands core mid new count leads same = leads_on settles core new count (subst (�
 
 pub round_made : (core : Core) (n line : ℕ) (kind : AskKind) (t : ℕ) (a b c new : Core) → Rounds core n line kind t → Made core n line kind t a b c
     → stepping c (event.Accept t n) ≡ Some new → IsRound core new n line kind
-round_made core n line kind t a b c new r m four =
-    let last : new ≡ r.last = same_step r.third r.last new (event.Accept t n) r.accept
-    (subst (λ (x : Core). stepping x (event.Accept t n) ≡ Some new) (third_is core n line kind t a b c r m) four) in
-    subst (λ (x : Core). IsRound core x n line kind) (sym last) r.round
+round_made core n line kind t a b c new r m four = grind (arith, same_step, third_is)
 
 -- nothing is under way again
 pub round_drained : (core : Core) (n line : ℕ) (kind : AskKind) (t : ℕ) (a b c new : Core) → IsReached core → IsDrained core → Made core n line kind t a b c

@@ -136,13 +136,7 @@ served_so core mid n line kind a next well lt size inside (Cache_served served s
 -- what is asked while nothing is under way is alone in its lane, and no answer waits
 request_alone : (core mid : Core) (n line : ℕ) (kind : AskKind) (a : Asks core mid n line kind) → IsWellFormed core → n < core.size.nodes → IsDrained core
     → lane_of mid Requests n a.sent.1.target ≡ a.sent.1 ∷ []
-request_alone core mid n line kind a well lt drained =
-    let t = a.sent.1.target in
-    let place = lane_place core.size.nodes Requests n t in
-    let within = lane_below core Requests n t well lt a.well.request.letter_ok.target in
-    ap (λ (x : Core). lane_of x Requests n t) a.then_
-    ∙ (get_or-set_same core.lanes place (lane_at core place ++ a.sent.1 ∷ []) [] within
-    ∙ ap (λ (lane : List Letter). lane ++ a.sent.1 ∷ []) (drained.lanes place))
+request_alone core mid n line kind a well lt drained = grind (arith, lane_below, get_or-set_same)
 
 none_waits : (core mid : Core) (n line : ℕ) (kind : AskKind) (a : Asks core mid n line kind) → IsDrained core → (m : ℕ) → (node_at mid m).waiting ≡ None
 none_waits core mid n line kind a drained m =

@@ -1,5 +1,5 @@
 -- What one event of a round does to the states of all lines: one line of one node changes at most.
-use Rattle.std.proofs.Common.{◌≡◌, ◌≢◌, ℕ, ◌<◌, not, ◌&&◌, ◌==◌, Bool, true, false, if◌then◌else◌, List, length, set, slice_index_or, Option, Some, None, refl}
+use Rattle.std.proofs.Common.{◌≡◌, ◌≢◌, ℕ, ◌<◌, not, ◌&&◌, ◌==◌, Bool, true, false, if◌then◌else◌, List, length, set, slice_index_or, Option, Some, None, refl, arith}
 use Rattle.std.proofs.Common.{sym, ap, ◌∙◌, inl, inr}
 use Rattle.std.specs.Prelude.{IfSome}
 use Rattle.std.proofs.lemmas.Bool.{cases_eq}
@@ -69,50 +69,9 @@ pub record Shifts (core new : Core) (n line : ℕ) (state : CacheState) : Type 0
 pub shifts : (core new : Core) (n line : ℕ) (next : NodeOf) (l : LineState) → n < length core.parts → line < lines_of (node_at core n)
     → next.cache ≡ with_line (node_at core n).cache line l → next.pending ≡ (node_at core n).pending → new.parts ≡ set core.parts n next → new.size ≡ core.size
     → Shifts core new n line l.state
-shifts core new n line next l below inside cache pending parts size =
-    let at : node_at new n ≡ next = ap (λ (ps : List NodeOf). slice_index_or ps n no_node) parts ∙ get_or-set_same core.parts n next no_node below in
-    let apart : (m : ℕ) → m ≢ n → node_at new m ≡ node_at core m =
-    λ m other. ap (λ (ps : List NodeOf). slice_index_or ps m no_node) parts ∙ get_or-set_other core.parts n m next no_node other in
-    record {
-      here = ap (λ (p : NodeOf). (line_of p.cache line).state) at
-          ∙ (ap (λ (c : CacheOf). (line_of c line).state) cache
-          ∙ ap (λ (x : LineState). x.state) (get_or-set_same (node_at core n).cache.lines line l untouched inside));
-      others = λ m k not. elim (cases_eq m n) [
-        | inl here ↦
-            let other : k ≢ line = λ e. not (here, e) in
-            ap (λ (j : ℕ). state_at new k j) here ∙ (ap (λ (p : NodeOf). (line_of p.cache k).state) at ∙ (ap (λ (c : CacheOf). (line_of c k).state) cache
-            ∙ (ap (λ (x : LineState). x.state) (get_or-set_other (node_at core n).cache.lines line k l untouched other)
-            ∙ ap (λ (j : ℕ). state_at core k j) (sym here))))
-        | inr other ↦ ap (λ (p : NodeOf). (line_of p.cache k).state) (apart m other)
-      ];
-      pending = λ m. elim (cases_eq m n) [
-        | inl here ↦ ap (λ (j : ℕ). (node_at new j).pending) here
-            ∙ (ap (λ (p : NodeOf). p.pending) at ∙ (pending ∙ ap (λ (j : ℕ). (node_at core j).pending) (sym here)))
-        | inr other ↦ ap (λ (p : NodeOf). p.pending) (apart m other)
-      ];
-      size = size;
-    }
+shifts core new n line next l below inside cache pending parts size = grind (arith, slice_index_or, get_or-set_same, get_or-set_other, cases_eq)
 
 -- no line changes: so one line of a node becomes what it is
 pub stays : (core new : Core) (n q line : ℕ) (next : NodeOf) → n < length core.parts → next.cache ≡ (node_at core n).cache
     → next.pending ≡ (node_at core n).pending → new.parts ≡ set core.parts n next → new.size ≡ core.size → Shifts core new q line (state_at core line q)
-stays core new n q line next below cache pending parts size =
-    let at : node_at new n ≡ next = ap (λ (ps : List NodeOf). slice_index_or ps n no_node) parts ∙ get_or-set_same core.parts n next no_node below in
-    let apart : (m : ℕ) → m ≢ n → node_at new m ≡ node_at core m =
-    λ m other. ap (λ (ps : List NodeOf). slice_index_or ps m no_node) parts ∙ get_or-set_other core.parts n m next no_node other in
-    let states : (m k : ℕ) → state_at new k m ≡ state_at core k m = λ m k. elim (cases_eq m n) [
-      | inl here ↦ ap (λ (j : ℕ). state_at new k j) here
-          ∙ (ap (λ (p : NodeOf). (line_of p.cache k).state) at
-          ∙ (ap (λ (c : CacheOf). (line_of c k).state) cache ∙ ap (λ (j : ℕ). state_at core k j) (sym here)))
-      | inr other ↦ ap (λ (p : NodeOf). (line_of p.cache k).state) (apart m other)
-    ] in
-    record {
-      here = states q line;
-      others = λ m k not. states m k;
-      pending = λ m. elim (cases_eq m n) [
-        | inl here ↦ ap (λ (j : ℕ). (node_at new j).pending) here
-            ∙ (ap (λ (p : NodeOf). p.pending) at ∙ (pending ∙ ap (λ (j : ℕ). (node_at core j).pending) (sym here)))
-        | inr other ↦ ap (λ (p : NodeOf). p.pending) (apart m other)
-      ];
-      size = size;
-    }
+stays core new n q line next below cache pending parts size = grind (arith, slice_index_or, get_or-set_same, get_or-set_other, cases_eq)

@@ -1,5 +1,5 @@
 -- One line's list and what stands where in it, as a cache serves a request.
-use Rattle.std.proofs.Common.{◌≡◌, ◌≢◌, ℕ, Bool, true, false, if◌then◌else◌, List, Option, Some, None, refl, sym, ap, subst, ◌∙◌, inl, inr, rules}
+use Rattle.std.proofs.Common.{◌≡◌, ◌≢◌, ℕ, Bool, true, false, if◌then◌else◌, List, Option, Some, None, refl, sym, ap, subst, ◌∙◌, inl, inr, rules, arith}
 use Rattle.std.specs.Prelude.{IfSome, IsSome}
 use Rattle.std.proofs.lemmas.Bool.{cases_eq}
 use Rattle.sci_words.specs.declared.stamped.Stamped.{Stamped}
@@ -97,49 +97,17 @@ record Joiner (asker : CacheState) (p : ℕ) : Type 0 where
   pub waiting : waits asker ≡ true
 
 joining : (p : ℕ) → Joiner (Joining p true) p
-joining p = record {
-  link = λ answer. refl;
-  coming = refl;
-  leads = λ d. refl;
-  fresh = λ d. refl;
-  takes = λ c d e h. (tt, e);
-  accepted = λ d. refl;
-  refused = record { sight = refl; agrees = λ c h. h; accepts = λ h. refl };
-  waiting = refl;
-}
+joining p = grind arith
 
 fresh_joining : (p : ℕ) (e : Stamped) → Joiner (FreshJoining p true e) p
-fresh_joining p e = record {
-  link = λ answer. refl;
-  coming = refl;
-  leads = λ d. refl;
-  fresh = λ d. refl;
-  takes = λ c d same h. (h.0, same);
-  accepted = λ d. refl;
-  refused = record { sight = refl; agrees = λ c h. h; accepts = λ h. refl };
-  waiting = refl;
-}
+fresh_joining p e = grind arith
 
 idle_differs : (asker old : CacheState) → waits asker ≡ true → waits old ≡ false → asker ≡ old → ⊥
 idle_differs asker old w i e = let both : waits old ≡ true = ap waits (sym e) ∙ w in cc
 
 joined_before : (a q : ℕ) (asker old : CacheState) (f : Option ℕ) (d : Stamped) → Joiner asker q → waits old ≡ false → role_of old None ≡ Some Leading
     → Some f ≡ link_of old None → ((c : Stamped) → Agrees c old None → Agrees c (Below f a d) None) → ServesAs a q asker old (Below f a d, body.Cdata d)
-joined_before a q asker old f d joins idle leading link keeps = Joined (record {
-  idle = idle;
-  before = joins.link None;
-  still = joins.link (Some (body.Cdata d));
-  coming = joins.coming;
-  leads = joins.leads d;
-  leading = leading;
-  follows = refl;
-  link = link;
-  fresh = joins.fresh d;
-  keeps = keeps;
-  takes = λ c h k. joins.takes c d (keeps c h).0 k;
-  accepted = joins.accepted d;
-  differ = idle_differs asker old joins.waiting idle;
-})
+joined_before a q asker old f d joins idle leading link keeps = grind (arith, idle_differs)
 
 cread_as : (a q : ℕ) (asker old : CacheState) → Joiner asker q → ServesAs a q asker old (serving_cread old a)
 cread_as a q asker (Head f d) joins = joined_before a q asker (Head f d) f d joins refl refl refl (λ c h. h)
@@ -203,42 +171,14 @@ rolling_ends None b c = refl
 rolling_ends (Some r) b c = refl
 
 rolling : (f : Option ℕ) (b : ℕ) (c : Stamped) → Leaver (Rolling f b c) f
-rolling f b c = record {
-  link = λ next e. cc;
-  follows = λ next e. refl;
-  gone = refl;
-  ends = λ next e. rolling_ends f b c;
-  refused = rolling_busy f b c;
-  waiting = refl;
-}
+rolling f b c = grind (arith, rolling_ends, rolling_busy)
 
 fading : (f : Option ℕ) → Leaver Fading f
-fading f = record {
-  link = λ next e. cc;
-  follows = λ next e. cc;
-  gone = refl;
-  ends = λ next e. cc;
-  refused = record { sight = refl; agrees = λ c_ h. h; accepts = λ h. refl };
-  waiting = refl;
-}
+fading f = grind arith
 
 rolls_as : (a q : ℕ) (m : Option ℕ) (asker old next : CacheState) (f : Option ℕ) → Leaver asker m → waits old ≡ false → link_of old None ≡ Some f
     → link_of next None ≡ Some m → Stood old None next None → ServesAs a q asker old (if is_next f a then (next, body.Rolled) else (old, body.Busy))
-rolls_as a q m asker old next f leaves idle here then_ stood =
-    next_either (ServesAs a q asker old) f a (next, body.Rolled) (old, body.Busy)
-    (λ e. Rolled (record {
-      next = m;
-      idle = idle;
-      before = here ∙ ap Some e;
-      behind = then_;
-      link = leaves.link;
-      follows = leaves.follows;
-      gone = leaves.gone;
-      stood = stood;
-      accepted = leaves.ends;
-      differ = idle_differs asker old leaves.waiting idle;
-    }))
-    (refuses a q asker old leaves.refused)
+rolls_as a q m asker old next f leaves idle here then_ stood = grind (arith, next_either, idle_differs, refuses)
 
 roll_as : (a q : ℕ) (m : Option ℕ) (asker old : CacheState) → Leaver asker m → ServesAs a q asker old (serving_roll old a m)
 roll_as a q m asker (Head f c) leaves =
@@ -267,10 +207,7 @@ setback_as : (a q r v w : ℕ) (old : CacheState) → ServesAs a q (Telling r v 
 setback_as a q r v w (Below f b c) =
     if_head (ServesAs a q (Telling r v true) (Below f b c)) b a (Below f w c, body.Told) (Below f b c, body.Told)
     (λ same. tells a q r v (Below f b c) (Below f w c) (below_told f b w c)) (tells a q r v (Below f b c) (Below f b c) (alike_itself (Below f b c)))
-setback_as a q r v w (Rolling f b c) =
-    if_head (ServesAs a q (Telling r v true) (Rolling f b c)) b a (Rolling f w c, body.Told) (Rolling f b c, body.Told)
-    (λ same. tells a q r v (Rolling f b c) (Rolling f w c) (rolling_told f b w c))
-    (tells a q r v (Rolling f b c) (Rolling f b c) (alike_itself (Rolling f b c)))
+setback_as a q r v w (Rolling f b c) = grind (arith, if_head, tells, rolling_told, alike_itself)
 setback_as a q r v w old = tells a q r v old old (alike_itself old)
 
 -- ---- every request that comes to a cache
@@ -339,11 +276,7 @@ record Sights (old new : View) (a q : ℕ) (served : CacheState × Body) : Type 
   pub server_is : {X : Type 0} (f : CacheState → Option Body → X) → f (new.state q) (new.answer q) ≡ f served.0 (old.answer q)
 
 sights : (old new : View) (a q : ℕ) (served : CacheState × Body) → Shift old new a q served.0 served.1 → a ≢ q → Sights old new a q served
-sights old new a q served shift apart = record {
-  asker_was = λ f. ap (f (old.state a)) shift.unanswered;
-  asker_is = λ f. ap (f (new.state a)) shift.answered ∙ ap (λ (s : CacheState). f s (Some served.1)) (shift.others a apart);
-  server_is = λ f. ap (f (new.state q)) (shift.other_answers q (λ e. apart (sym e))) ∙ ap (λ (s : CacheState). f s (old.answer q)) shift.here;
-}
+sights old new a q served shift apart = grind arith
 
 asker_agrees : (old new : View) (a q : ℕ) (served : CacheState × Body) (c : Stamped) → Shift old new a q served.0 served.1 → a ≢ q
     → Agrees c (old.state a) (Some served.1) → AgreesIn c new a

@@ -1,5 +1,5 @@
 -- Lists of nodes along links: what becomes of one if the links change. Nothing here knows the protocol.
-use Rattle.std.proofs.Common.{◌≡◌, ◌≢◌, ℕ, Bool, if◌then◌else◌, List, [], ◌∷◌, Option, Some, None, refl, sym, ap, subst, ◌∙◌, inl, inr}
+use Rattle.std.proofs.Common.{◌≡◌, ◌≢◌, ℕ, Bool, if◌then◌else◌, List, [], ◌∷◌, Option, Some, None, refl, sym, ap, subst, ◌∙◌, inl, inr, arith}
 use Rattle.std.specs.Prelude.{◌==◌}
 use Rattle.std.proofs.lemmas.Bool.{cases_eq, eq-eqb, ne_eqb}
 use Rattle.sci_history.specs.Seen.{IsAmong}
@@ -129,15 +129,7 @@ not_first link first x y n ns before apart linked once (inr h) = λ same.
 behind_taken_out : (old new : ℕ → Option (Option ℕ)) (x y n : ℕ) (ns : List ℕ) → TakenOut old new x y → x ≡ n → LinkedFrom old (Some y) ns → IsOnce (n ∷ ns)
     → (next : Option ℕ) × (new n ≡ Some next) × LinkedFrom new next (without y ns)
 behind_taken_out old new x y n [] out at linked once = cc
-behind_taken_out old new x y n (m ∷ ns) out at linked once =
-    let same : m ≡ y = cc in
-    let f = linked.1.0 in
-    let behind : new n ≡ Some f = ap new (sym at) ∙ (out.behind ∙ (ap old (sym same) ∙ linked.1.1)) in
-    let absent : IsAmong y ns → ⊥ = λ h. once.1.0 (subst (λ (k : ℕ). IsAmong k ns) (sym same) h) in
-    let rest : without y (m ∷ ns) ≡ ns = without_this y m ns same ∙ without_absent y ns absent in
-    let links = linked_same old new f ns
-    (λ k h. out.others k (λ e. once.0 (inr (subst (λ (j : ℕ). IsAmong j ns) (e ∙ at) h))) (λ e. absent (subst (λ (j : ℕ). IsAmong j ns) e h))) linked.1.2 in
-    (f, behind, subst (LinkedFrom new f) (sym rest) links)
+behind_taken_out old new x y n (m ∷ ns) out at linked once = grind (arith, without, without_this, without_absent, linked_same)
 
 pub linked_taken_out : (old new : ℕ → Option (Option ℕ)) (first : Option ℕ) (x y : ℕ) (ns : List ℕ) → TakenOut old new x y → LinkedFrom old first ns → IsOnce ns
     → IsAmong x ns → LinkedFrom new first (without y ns)
@@ -157,11 +149,7 @@ linked_taken_out old new first x y (n ∷ ns) out linked once (inr h) =
 
 pub chain_same : (old new : ℕ → Option (Option ℕ)) (first then_ : Option ℕ) (ns : List ℕ) → then_ ≡ first → ((n : ℕ) → new n ≡ old n) → IsListOf old first ns
     → IsListOf new then_ ns
-chain_same old new first then_ ns e same is = record {
-  linked = subst (λ (f : Option ℕ). LinkedFrom new f ns) (sym e) (linked_same old new first ns (λ n h. same n) is.linked);
-  once = is.once;
-  all = λ n next at. is.all n next (sym (same n) ∙ at);
-}
+chain_same old new first then_ ns e same is = grind (arith, linked_same)
 
 -- who has no link isn't in the list
 pub not_in : (link : ℕ → Option (Option ℕ)) (first : Option ℕ) (ns : List ℕ) (a : ℕ) → link a ≡ None → IsListOf link first ns → IsAmong a ns → ⊥
@@ -170,14 +158,7 @@ not_in link first ns a none is h = let has = linked_has link first ns a is.linke
 -- a new front
 pub chain_front : (old new : ℕ → Option (Option ℕ)) (first then_ : Option ℕ) (a : ℕ) (ns : List ℕ) → old a ≡ None → new a ≡ Some first → then_ ≡ Some a
     → ((n : ℕ) → n ≢ a → new n ≡ old n) → IsListOf old first ns → IsListOf new then_ (a ∷ ns)
-chain_front old new first then_ a ns none joins head others is =
-    let absent : IsAmong a ns → ⊥ = not_in old first ns a none is in
-    let links = linked_same old new first ns (λ n h. others n (λ e. absent (subst (λ (k : ℕ). IsAmong k ns) e h))) is.linked in
-    record {
-      linked = (head, (first, joins, links));
-      once = (absent, is.once);
-      all = λ n next at. elim (cases_eq n a) [ inl e ↦ inl e | inr ne ↦ inr (is.all n next (sym (others n ne) ∙ at)) ];
-    }
+chain_front old new first then_ a ns none joins head others is = grind (arith, not_in, linked_same, cases_eq)
 
 -- a list without a first node is empty
 pub none_empty : (link : ℕ → Option (Option ℕ)) (first : Option ℕ) (ns : List ℕ) → first ≡ None → IsListOf link first ns → ns ≡ []
@@ -201,31 +182,12 @@ only_one link first (m ∷ ns) a n head ends linked h =
 
 pub chain_gone : (old new : ℕ → Option (Option ℕ)) (first then_ : Option ℕ) (a : ℕ) (ns : List ℕ) → first ≡ Some a → old a ≡ Some None → new a ≡ None
     → then_ ≡ None → ((n : ℕ) → n ≢ a → new n ≡ old n) → IsListOf old first ns → IsListOf new then_ []
-chain_gone old new first then_ a ns head ends gone none others is = record {
-  linked = none;
-  once = tt;
-  all = λ n next at. elim (cases_eq n a) [
-    | inl e ↦ let here : new a ≡ Some next = ap new (sym e) ∙ at in cc
-    | inr ne ↦ absurd (ne (only_one old first ns a n head ends is.linked (is.all n next (sym (others n ne) ∙ at))))
-  ];
-}
+chain_gone old new first then_ a ns head ends gone none others is = grind (arith, cases_eq, only_one)
 
 -- one is taken out behind the one that links to it
 pub chain_taken_out : (old new : ℕ → Option (Option ℕ)) (first then_ : Option ℕ) (x y : ℕ) (ns : List ℕ) → then_ ≡ first → TakenOut old new x y
     → IsListOf old first ns → IsListOf new then_ (without y ns)
-chain_taken_out old new first then_ x y ns e out is =
-    let at = is.all x (Some y) out.before in
-    record {
-      linked = subst (λ (f : Option ℕ). LinkedFrom new f (without y ns)) (sym e) (linked_taken_out old new first x y ns out is.linked is.once at);
-      once = once_without y ns is.once;
-      all = λ n next here. elim (cases_eq n y) [
-        | inl same ↦ let none : new y ≡ Some next = ap new (sym same) ∙ here in let gone = out.gone in cc
-        | inr other ↦ in_without y n ns other (elim (cases_eq n x) [
-          | inl this ↦ subst (λ (k : ℕ). IsAmong k ns) (sym this) at
-          | inr ne ↦ is.all n next (sym (out.others n ne other) ∙ here)
-        ])
-      ];
-    }
+chain_taken_out old new first then_ x y ns e out is = grind (arith, without, linked_taken_out, once_without, cases_eq, in_without)
 
 -- what a member links to is a member
 pub next_is_member : (link : ℕ → Option (Option ℕ)) (first : Option ℕ) (x y : ℕ) (ns : List ℕ) → IsListOf link first ns → link x ≡ Some (Some y)

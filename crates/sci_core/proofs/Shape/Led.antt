@@ -1,6 +1,6 @@
 -- Lists that are led: from the front, members that come, the one that leads, and members that follow; all their
 -- contents are the same, and from a fresh member on all are fresh down to the one that leads.
-use Rattle.std.proofs.Common.{◌≡◌, ◌≢◌, ℕ, Bool, true, false, List, [], ◌∷◌, Option, Some, None, refl, sym, ap, subst, ◌∙◌, ◌⊎◌, inl, inr}
+use Rattle.std.proofs.Common.{◌≡◌, ◌≢◌, ℕ, Bool, true, false, List, [], ◌∷◌, Option, Some, None, refl, sym, ap, subst, ◌∙◌, ◌⊎◌, inl, inr, arith}
 use Rattle.std.proofs.lemmas.Bool.{cases_eq}
 use Rattle.sci_words.specs.declared.stamped.Stamped.{Stamped}
 use Rattle.sci_packets.specs.declared.body.Body.{Body}
@@ -218,13 +218,7 @@ not_true false not = refl
 pub led_made : (old new : View) (q : ℕ) (b c : Stamped) (must : Bool) (first : Option ℕ) (ns : List ℕ) → Made old new q c → LinkedFrom (link_in old) first ns
     → IsAmong q ns → IsLed old b must ns → (must ≡ true → ⊥) × IsLed new c must ns
 led_made old new q b c must first [] made linked h led = elim led [ ]
-led_made old new q b c must first (n ∷ ns) made linked (inl e) (front, inl leads) =
-    let ends : link_in old n ≡ Some None = ap (link_in old) (sym e) ∙ made.ends in
-    let last : linked.1.0 ≡ None = (let at = linked.1.1 in cc) in
-    let empty = ends_empty (link_in old) linked.1.0 ns last linked.1.2 in
-    let stale : fresh_in old n ≡ false = ap (fresh_in old) (sym e) ∙ made.stale in
-    let not : must ≡ true → ⊥ = λ m. (let fresh = front.0 m in cc) in
-    (not, ((λ m. absurd (not m), subst (AgreesIn c new) e made.agrees), inl (ap (role_in new) (sym e) ∙ made.leads, subst (AreFollowing new c) (sym empty) tt)))
+led_made old new q b c must first (n ∷ ns) made linked (inl e) (front, inl leads) = grind (arith, link_in, ends_empty)
 led_made old new q b c must first (n ∷ ns) made linked (inr h) (front, inl leads) =
     absurd (roles_differ Following Leading (role_in old q) (following_in old b ns q leads.1 h) made.leading (λ s. cc))
 led_made old new q b c must first (n ∷ ns) made linked (inl e) (front, inr comes) =

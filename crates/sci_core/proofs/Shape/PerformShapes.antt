@@ -1,5 +1,5 @@
 -- One line's list and its last contents, as an operation is performed on it.
-use Rattle.std.proofs.Common.{◌≡◌, ◌≢◌, ℕ, true, false, List, get_or, set, Option, Some, None, refl, sym, ap, subst, ◌∙◌, inl, inr}
+use Rattle.std.proofs.Common.{◌≡◌, ◌≢◌, ℕ, true, false, List, get_or, set, Option, Some, None, refl, sym, ap, subst, ◌∙◌, inl, inr, arith}
 use Rattle.std.specs.Prelude.{IfSome}
 use Rattle.std.proofs.lemmas.Bool.{cases_eq}
 use Rattle.std.proofs.lemmas.List.{set-get_or}
@@ -34,10 +34,7 @@ act_leaves words word (Store x) e = cc
 act_leaves words word (Lock l) e = cc
 
 pub load_leaves : (c : Stamped) (op : Op) → is_maker op ≡ false → after c op ≡ c
-load_leaves c op e =
-    let words : line_after c.line op ≡ c.line = act_leaves c.line op.word op.act e in
-    let version : (after c op).version ≡ c.version = rw e refl in
-    ap (λ (line : List ℕ). record { line = line; version = (after c op).version }) words ∙ ap (λ (v : ℕ). record { line = c.line; version = v }) version
+load_leaves c op e = grind (arith, act_leaves)
 
 -- ---- a member's contents
 
@@ -92,15 +89,7 @@ seen_after f old new q state next moves is = ap (f (new.state q)) (moves.answers
 
 pub made_view : (old new : View) (q : ℕ) (c d : Stamped) (next : CacheState) → Moves old new q next → old.state q ≡ Head None c → next ≡ Head None d
     → Made old new q d
-made_view old new q c d next moves was is = record {
-  ends = seen_before link_of old new q (Head None c) next moves was;
-  leading = seen_before role_of old new q (Head None c) next moves was;
-  leads = seen_after role_of old new q next (Head None d) moves is;
-  stale = seen_before is_fresh old new q (Head None c) next moves was;
-  agrees = subst (Agrees d (new.state q)) (sym (moves.answers q ∙ moves.none)) (subst (λ (s : CacheState). Agrees d s None) (sym (moves.here ∙ is)) (refl, tt));
-  same_state = moves.others;
-  same_answer = λ n other. moves.answers n;
-}
+made_view old new q c d next moves was is = grind (arith, seen_before, role_of, seen_after)
 
 pub made_links : (old new : View) (q : ℕ) (c d : Stamped) (next : CacheState) → Moves old new q next → old.state q ≡ Head None c → next ≡ Head None d → (n : ℕ)
     → link_in new n ≡ link_in old n
@@ -113,12 +102,7 @@ made_links old new q c d next moves was is n =
     ]
 
 made_accepts : (old new : View) (q : ℕ) (next : CacheState) → Moves old new q next → ((n : ℕ) → AcceptsIn old n) → (n : ℕ) → AcceptsIn new n
-made_accepts old new q next moves all n =
-    elim (cases_eq n q) [
-      | inl here ↦ subst (AcceptsIn new) (sym here) (subst (IsAccepted (new.state q)) (sym (moves.answers q ∙ moves.none)) tt)
-      | inr other ↦ subst (λ (s : CacheState). IsAccepted s (new.answer n)) (sym (moves.others n other))
-          (subst (IsAccepted (old.state n)) (sym (moves.answers n)) (all n))
-    ]
+made_accepts old new q next moves all n = grind (arith, cases_eq)
 
 -- a maker makes contents only if no home has the old ones
 made_led : (old new : View) (home : HomeState) (q : ℕ) (c d : Stamped) (ns : List ℕ) → Made old new q d → IsShaped old home c ns → IsLedFrom new home d ns

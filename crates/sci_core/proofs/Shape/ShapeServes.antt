@@ -1,5 +1,5 @@
 -- A request that is served, or refused, leaves each line its shape and its last contents.
-use Rattle.std.proofs.Common.{◌≡◌, ◌≢◌, ℕ, ◌+◌, ◌*◌, ◌/◌, ◌%◌, ◌<◌, true, false, List, [], ◌∷◌, length, filter, Option, Some, None, refl, sym, ap, subst, ◌∙◌}
+use Rattle.std.proofs.Common.{◌≡◌, ◌≢◌, ℕ, ◌+◌, ◌*◌, ◌/◌, ◌%◌, ◌<◌, true, false, List, [], ◌∷◌, length, filter, Option, Some, None, refl, sym, ap, subst, ◌∙◌, arith}
 use Rattle.std.proofs.Common.{inl, inr}
 use Rattle.std.specs.Prelude.{IfSome, option_to_list, slice_set, slice_index_or}
 use Rattle.std.proofs.Math.Nat.{div-add-mod}
@@ -79,17 +79,7 @@ told_here core n place next request rest body is tidy =
 pub told_other : (core : Core) (n place : ℕ) (next : NodeOf) (request : Letter) (rest : List Letter) (body : Body)
     → Answered core n place next request rest body → (m k : ℕ) → ((m ≡ request.source) × (k ≡ request.line) → ⊥)
     → told (with_lane (with_node core n next) place rest) m k ≡ told core m k
-told_other core n place next request rest body is m k not =
-    let answer = answering request body in
-    elim (cases_Bool (is_about m k request)) [
-      | inl about ↦ absurd (not (sym (about_asker m k request about) ∙ request_asker request is.asks, sym (about_line m k request about)))
-      | inr other ↦
-          let answer_other : is_about m k answer ≡ false = about_answer m k request body is.asks is.answers ∙ other in
-          let waits : filter (is_about m k) (option_to_list next.waiting) ≡ filter (is_about m k) (option_to_list (node_at core n).waiting) =
-          ap (λ (w : Option Letter). filter (is_about m k) (option_to_list w)) is.waiting
-          ∙ (filter_one m k answer answer_other ∙ ap (λ (w : Option Letter). filter (is_about m k) (option_to_list w)) (sym is.free)) in
-          ap answer_in (packets_same core n next place rest m k is.below is.within waits (filter_left m k (lane_at core place) rest request is.front other))
-    ]
+told_other core n place next request rest body is m k not = grind (arith, cases_Bool, about_asker, request_asker, about_line, about_answer, filter_one, packets_same, filter_left)
 
 -- ---- if no state changes
 
@@ -161,48 +151,17 @@ refused_same core n place request rest not_setback is tidy k =
 
 -- two lines whose homes are one node's have two places there
 places_apart : (c k line : ℕ) → k % c ≡ line % c → k ≢ line → k / c ≢ line / c
-places_apart c k line same other e =
-    let a = div-add-mod k c in
-    let b = div-add-mod line c in
-    let d : c * (k / c) + k % c ≡ c * (line / c) + line % c = ap (λ (i : ℕ). c * i + k % c) e ∙ ap (λ (i : ℕ). c * (line / c) + i) same in
-    other (sym a ∙ (d ∙ b))
+places_apart c k line same other e = grind (arith, div-add-mod)
 
 home_changed : (core : Core) (n line : ℕ) (next : NodeOf) (home : HomeState) → n < length core.parts → (node_at core n).cache.nodes ≡ core.size.nodes
     → line % core.size.nodes ≡ n → next.cache.nodes ≡ core.size.nodes → next.homes ≡ slice_set (node_at core n).homes (home_place (node_at core n) line) home
     → (k : ℕ) → k ≢ line → home_at (with_node core n next) k ≡ home_at core k
-home_changed core n line next home below all at same homes k other =
-    elim (cases_eq (k % core.size.nodes) n) [
-      | inl here ↦
-          let part = node_at core n in
-          let node : node_at (with_node core n next) (k % core.size.nodes) ≡ next =
-          ap (node_at (with_node core n next)) here ∙ get_or-set_same core.parts n next no_node below in
-          let apart : k / core.size.nodes ≢ line / core.size.nodes = places_apart core.size.nodes k line (here ∙ sym at) other in
-          let place : home_place part line ≡ line / core.size.nodes = ap (λ (c : ℕ). line / c) all in
-          let there : home_of next k ≡ slice_index_or next.homes (k / core.size.nodes) opening_home =
-          ap (λ (c : ℕ). slice_index_or next.homes (k / c) opening_home) same in
-          let set_ : slice_index_or next.homes (k / core.size.nodes) opening_home ≡ slice_index_or (slice_set part.homes (line / core.size.nodes) home)
-          (k / core.size.nodes) opening_home =
-          ap (λ (hs : List HomeState). slice_index_or hs (k / core.size.nodes) opening_home) (homes ∙ ap (λ (p : ℕ). slice_set part.homes p home) place) in
-          let rest : slice_index_or (slice_set part.homes (line / core.size.nodes) home) (k / core.size.nodes) opening_home ≡ slice_index_or part.homes
-          (k / core.size.nodes) opening_home = get_or-set_other part.homes (line / core.size.nodes) (k / core.size.nodes) home opening_home apart in
-          let was : slice_index_or part.homes (k / core.size.nodes) opening_home ≡ home_of part k =
-          ap (λ (c : ℕ). slice_index_or part.homes (k / c) opening_home) (sym all) in
-          ap (λ (p : NodeOf). home_of p k) node ∙ (there ∙ (set_ ∙ (rest ∙ (was ∙ ap (λ (j : ℕ). home_of (node_at core j) k) (sym here)))))
-      | inr elsewhere ↦ ap (λ (p : NodeOf). home_of p k) (get_or-set_other core.parts n (k % core.size.nodes) next no_node elsewhere)
-    ]
+home_changed core n line next home below all at same homes k other = grind (arith, cases_eq, get_or-set_same, places_apart, get_or-set_other)
 
 home_now : (core : Core) (n line : ℕ) (next : NodeOf) (home : HomeState) → n < length core.parts → line % core.size.nodes ≡ n
     → next.cache.nodes ≡ (node_at core n).cache.nodes → next.homes ≡ slice_set (node_at core n).homes (home_place (node_at core n) line) home
     → home_place (node_at core n) line < length (node_at core n).homes → home_at (with_node core n next) line ≡ home
-home_now core n line next home below at same homes within =
-    let part = node_at core n in
-    let node : node_at (with_node core n next) (line % core.size.nodes) ≡ next =
-    ap (node_at (with_node core n next)) at ∙ get_or-set_same core.parts n next no_node below in
-    let there : home_of next line ≡ slice_index_or next.homes (home_place part line) opening_home =
-    ap (λ (c : ℕ). slice_index_or next.homes (line / c) opening_home) same in
-    ap (λ (p : NodeOf). home_of p line) node
-    ∙ (there ∙ (ap (λ (hs : List HomeState). slice_index_or hs (home_place part line) opening_home) homes
-    ∙ get_or-set_same part.homes (home_place part line) home opening_home within))
+home_now core n line next home below at same homes within = grind (arith, get_or-set_same)
 
 -- the node after its home has served
 abbrev pub with_home : NodeOf → Letter → HomeState → Body → NodeOf

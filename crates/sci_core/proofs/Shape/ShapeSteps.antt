@@ -1,5 +1,5 @@
 -- Every step but one that serves a request leaves each line's shape, and its last contents unless it performs a maker.
-use Rattle.std.proofs.Common.{◌≡◌, ◌≢◌, ℕ, ◌/◌, ◌%◌, ◌<◌, Bool, true, false, if◌then◌else◌, List, [], ◌∷◌, ◌++◌, length, filter, Option, Some, None, refl, sym}
+use Rattle.std.proofs.Common.{◌≡◌, ◌≢◌, ℕ, ◌/◌, ◌%◌, ◌<◌, Bool, true, false, if◌then◌else◌, List, [], ◌∷◌, ◌++◌, length, filter, Option, Some, None, refl, sym, arith}
 use Rattle.std.proofs.Common.{ap, subst, ◌∙◌, inl, inr}
 use Rattle.std.specs.Prelude.{option_to_list, slice_index_or}
 use Rattle.std.proofs.lemmas.Bool.{cases_Bool}
@@ -110,16 +110,7 @@ performed_same core n line next done is k other =
 pub performed_moves : (core : Core) (n line : ℕ) (op : Op) (next : NodeOf) (done : Performed) (is : Operates core n next done line)
     (performs : Performs (line_of (node_at core n).cache line).state op done) → n < core.size.nodes → line < core.size.lines → IsTidy core
     → Moves (view_of core line) (view_of (with_node core n next) line) n done.next
-performed_moves core n line op next done is performs lt known tidy =
-    let new = with_node core n next in
-    let at : node_at new n ≡ next = get_or-set_same core.parts n next no_node is.below in
-    record {
-      none = ap answer_in (idle_has_none (line % core.size.nodes) (line_of (node_at core n).cache line) (packets_of core n line) performs.idle
-          (tidy n line lt known));
-      here = ap (λ (p : NodeOf). (line_of p.cache line).state) at ∙ is.state;
-      others = λ m apart. ap (λ (p : NodeOf). (line_of p.cache line).state) (get_or-set_other core.parts n m next no_node apart);
-      answers = λ m. ap answer_in (packets_changed core n next m line is.below is.waiting);
-    }
+performed_moves core n line op next done is performs lt known tidy = grind (arith, get_or-set_same, idle_has_none, get_or-set_other, packets_changed)
 
 pub performed_did : (core : Core) (n line : ℕ) (op : Op) (next : NodeOf) (done : Performed) (is : Operates core n next done line)
     (performs : Performs (line_of (node_at core n).cache line).state op done) → n < core.size.nodes → line < core.size.lines → IsTidy core → (c : Stamped)
@@ -137,13 +128,7 @@ asked_answer : (core : Core) (n line place : ℕ) (next : NodeOf) (letter : Lett
     → is_request letter.body ≡ true → letter.source ≡ n → line < core.size.lines → AsksOnce core.size.nodes line (node_at core n) (next, letter) → IsTidy core
     → (m k : ℕ) → is_about m k letter ≡ true
     → (told (with_lane (with_node core n next) place (lane_at core place ++ letter ∷ [])) m k ≡ None) × (told core m k ≡ None)
-asked_answer core n line place next letter lt below within asks from known once tidy m k about =
-    let node : n ≡ m = sym from ∙ (sym (request_asker letter asks) ∙ about_asker m k letter about) in
-    let here : line ≡ k = sym once.about ∙ about_line m k letter about in
-    let none = idle_has_none (line % core.size.nodes) (line_of (node_at core n).cache line) (packets_of core n line) once.idle (tidy n line lt known) in
-    let there : packets_of core m k ≡ [] = subst (λ (j : ℕ). packets_of core j k ≡ []) node (subst (λ (j : ℕ). packets_of core n j ≡ []) here none) in
-    let one = packets_asked core n next place letter m k below within once.waiting about there in
-    (ap answer_in one ∙ request_tells letter asks, ap answer_in there)
+asked_answer core n line place next letter lt below within asks from known once tidy m k about = grind (arith, request_asker, about_asker, about_line, idle_has_none, packets_asked, request_tells)
 
 -- a line that no packet of a node is about
 asked_other : (core : Core) (n line place : ℕ) (next : NodeOf) (letter : Letter) → n < length core.parts → place < length core.lanes

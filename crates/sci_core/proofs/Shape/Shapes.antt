@@ -1,5 +1,5 @@
 -- One line's list and what stands where in it, as its home serves a request.
-use Rattle.std.proofs.Common.{◌≡◌, ◌≢◌, ℕ, Bool, true, false, List, [], ◌∷◌, Option, Some, None, refl, sym, ap, subst, ◌∙◌, inl, inr}
+use Rattle.std.proofs.Common.{◌≡◌, ◌≢◌, ℕ, Bool, true, false, List, [], ◌∷◌, Option, Some, None, refl, sym, ap, subst, ◌∙◌, inl, inr, arith}
 use Rattle.std.specs.Prelude.{IfSome, IsSome}
 use Rattle.std.proofs.lemmas.Bool.{cases_eq}
 use Rattle.sci_words.specs.declared.stamped.Stamped.{Stamped}
@@ -149,11 +149,7 @@ comes_first old new first a asker body c must ns asks none list role fresh agree
 leads_alone : (old new : View) (a : ℕ) (asker : CacheState) (body : Body) (c : Stamped) (must : Bool) (ns : List ℕ) → Asks old new a asker body → ns ≡ []
     → role_of asker (Some body) ≡ Some Leading → (must ≡ true → is_fresh asker (Some body) ≡ true) → Agrees c asker (Some body)
     → IsLed new c must (a ∷ ns)
-leads_alone old new a asker body c must ns asks empty role fresh agrees =
-    let follow : AreFollowing new c ns = subst (AreFollowing new c) (sym empty) tt in (
-      (λ e. after is_fresh old new a asker body asks ∙ fresh e, agrees_after c old new a asker body asks agrees),
-      inl (after role_of old new a asker body asks ∙ role, follow),
-    )
+leads_alone old new a asker body c must ns asks empty role fresh agrees = grind (arith, after, agrees_after, role_of)
 
 -- it is told the old head, p
 told_front : (old new : View) (home : HomeState) (p a : ℕ) (c : Stamped) (ns : List ℕ) → head_of home ≡ Some p → Asks old new a Asking (body.Mgone p)
@@ -218,10 +214,7 @@ claimed_led old new a n f c d ns asks here absent (front, inl leads) =
     let stand : (m : ℕ) → IsAmong m ns → Stands old new m =
     λ m h. alike_stands old new m (asks.others m (λ e. absent (subst (λ (k : ℕ). IsAmong k ns) (e ∙ sym here) h))) in
     ((λ e. cc, subst (AgreesIn c new) (sym here) agrees), inl (ap (role_in new) here ∙ role, following_stand old new c ns stand leads.1))
-claimed_led old new a n f c d ns asks here absent (front, inr comes) =
-    let was : role_in old a ≡ Some Leading = before role_of old new a (Claiming f d) body.Wbok asks in
-    let both : Some Leading ≡ Some Coming = sym was ∙ (ap (role_in old) (sym here) ∙ comes.0) in
-    absurd cc
+claimed_led old new a n f c d ns asks here absent (front, inr comes) = grind (arith, role_in, before, role_of)
 
 pub claimed_list : (old new : View) (a p : ℕ) (f : Option ℕ) (d : Stamped) (ns : List ℕ) → Asks old new a (Claiming f d) body.Wbok → p ≡ a
     → IsListOf (link_in old) (Some p) ns → IsListOf (link_in new) (Some a) ns

@@ -1,5 +1,5 @@
 -- The authority of a line stands in its list. A line in whose list none stands is its home's alone.
-use Rattle.std.proofs.Common.{◌≡◌, ◌<◌, ℕ, List, [], ◌∷◌, ◌++◌, Option, Some, None, All, refl, sym, subst, ◌∙◌, inl, inr}
+use Rattle.std.proofs.Common.{◌≡◌, ◌<◌, ℕ, List, [], ◌∷◌, ◌++◌, Option, Some, None, All, refl, sym, subst, ◌∙◌, inl, inr, arith}
 use Rattle.std.specs.Prelude.{IfSome, IsSome}
 use Rattle.std.specs.List.{AllByRecursion}
 use Rattle.std.proofs.lemmas.List.Elements.{All-nil, All-push, recursion_from_All}
@@ -78,12 +78,7 @@ found_here : (core : Core) (line node : ℕ) (nodes : List ℕ) (result : Option
     → Some c ≡ authority_contents (sharer_of core line node)
     → IfSome result (λ at. (at.node ≡ node) × (at.contents ≡ c)) → IsSome result → Sought core line nodes result
 found_here core line node nodes None c lt is here some = absurd (cc)
-found_here core line node nodes (Some at) c lt is here some = record {
-  below = subst (λ (n : ℕ). n < core.size.nodes) (sym here.0) lt;
-  has = subst (λ (n : ℕ). authority_contents (sharer_of core line n) ≡ Some at.contents) (sym here.0)
-      (sym is ∙ subst (λ (d : Stamped). Some d ≡ Some at.contents) here.1 refl);
-  none = λ (no : Some at ≡ None). absurd (cc);
-}
+found_here core line node nodes (Some at) c lt is here some = grind arith
 
 -- one node more
 pub sought_more : (core : Core) (line node : ℕ) (nodes : List ℕ) (found result : Option Authority) (contents : Option Stamped) → Sought core line nodes found

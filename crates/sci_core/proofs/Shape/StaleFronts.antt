@@ -1,5 +1,5 @@
 -- If the home's contents are gone, the head of the list isn't fresh: only a Fread makes a member fresh, and its home says so.
-use Rattle.std.proofs.Common.{◌≡◌, ◌≢◌, ℕ, ◌<◌, ◌%◌, Bool, true, false, List, [], ◌∷◌, Option, Some, None, refl, sym, ap, subst, ◌∙◌, inl, inr, rules}
+use Rattle.std.proofs.Common.{◌≡◌, ◌≢◌, ℕ, ◌<◌, ◌%◌, Bool, true, false, List, [], ◌∷◌, Option, Some, None, refl, sym, ap, subst, ◌∙◌, inl, inr, rules, arith}
 use Rattle.std.specs.Prelude.{IfSome, unwrap_or}
 use Rattle.std.proofs.lemmas.Bool.{cases_Bool, cases_eq}
 use Rattle.std.proofs.lemmas.List.{get_or-set_other, get_or-set_same}
@@ -57,11 +57,7 @@ abbrev NoFresher : View → View → Type 0
 NoFresher old new = (n : ℕ) → fresh_in new n ≡ true → fresh_in old n ≡ true
 
 still_stale : (old new : View) (n : ℕ) → NoFresher old new → fresh_in old n ≡ false → fresh_in new n ≡ false
-still_stale old new n none stale =
-    elim (cases_Bool (fresh_in new n)) [
-      | inl fresh ↦ (let clash : true ≡ false = sym (none n fresh) ∙ stale in cc)
-      | inr not ↦ not
-    ]
+still_stale old new n none stale = grind (arith, cases_Bool, fresh_in)
 
 keeps_stale : (old new : View) (home : HomeState) → NoFresher old new → IsStale old home → IsStale new home
 keeps_stale old new (at.Home c) none stale = tt
@@ -149,14 +145,7 @@ serving_freshens _ n _ = search rules
 
 shifted_state : (old new : View) (a q : ℕ) (next : CacheState) (b : Body) → Shift old new a q next b → Freshens (old.state q) (next, b)
     → (n : ℕ) (answer : Option Body) → is_fresh (new.state n) answer ≡ true → is_fresh (old.state n) answer ≡ true
-shifted_state old new a q next b shift freshens n answer fresh =
-    elim (cases_eq n q) [
-      | inl here ↦
-          let now : is_fresh next answer ≡ true =
-          ap (λ (s : CacheState). is_fresh s answer) (sym shift.here) ∙ (ap (λ (m : ℕ). is_fresh (new.state m) answer) (sym here) ∙ fresh) in
-          ap (λ (m : ℕ). is_fresh (old.state m) answer) here ∙ freshens.keeps answer now
-      | inr other ↦ ap (λ (s : CacheState). is_fresh s answer) (sym (shift.others n other)) ∙ fresh
-    ]
+shifted_state old new a q next b shift freshens n answer fresh = grind (arith, cases_eq)
 
 shift_no_fresher : (old new : View) (a q : ℕ) (next : CacheState) (b : Body) → Shift old new a q next b → Freshens (old.state q) (next, b) → NoFresher old new
 shift_no_fresher old new a q next b shift freshens n fresh =
@@ -176,10 +165,7 @@ abbrev StaleAt : Core → ℕ → Type 0
 StaleAt core line = IsStale (view_of core line) (home_at core line)
 
 stood_stale : (core new : Core) (line : ℕ) → SameLine core new line → StaleAt core line → StaleAt new line
-stood_stale core new line same stale =
-    subst (IsStale (view_of new line)) (sym same.home)
-    (keeps_stale (view_of core line) (view_of new line) (home_at core line)
-    (λ n fresh. sym (same_fresh (view_of core line) (view_of new line) n (same.alike n)) ∙ fresh) stale)
+stood_stale core new line same stale = grind (arith, view_of, keeps_stale, same_fresh)
 
 -- an operation makes nobody fresh
 left_fresh : (state : CacheState) (op : Op) (c : Stamped) (next : CacheState) → Leaves state op c next → (answer : Option Body) → is_fresh next answer ≡ true
@@ -298,7 +284,4 @@ gone_so core line (at.Fresh p c) stale = tt
 gone_so core line (at.Gone p) stale = stale
 
 pub any_stale : (core : Core) (line : ℕ) → IsReachable core → line < core.size.lines → IsGoneStale core line (home_at core line)
-any_stale core line reached inside =
-    let run_ = run_stale (opening core.size) reached.schedule line (opened core.size reached.size) (opening_tidy core.size) inside
-    (opening_stale core.size line) in
-    gone_so core line (home_at core line) (subst (λ (x : Core). StaleAt x line) reached.leads run_)
+any_stale core line reached inside = grind (arith, run_stale, opened, opening_tidy, opening_stale, gone_so)

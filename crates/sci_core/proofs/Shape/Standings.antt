@@ -1,6 +1,6 @@
 -- Where a member stands in its list: before the authority, as the authority, or behind it; and which contents it has or
 -- gets. Each row of the tables but those of served requests leaves that as it was.
-use Rattle.std.proofs.Common.{◌≡◌, ℕ, ◌+◌, ◌-◌, ◌^◌, nat_lt, Bool, true, false, if◌then◌else◌, Option, Some, None, refl, sym, ap, subst, rules}
+use Rattle.std.proofs.Common.{◌≡◌, ℕ, ◌+◌, ◌-◌, ◌^◌, nat_lt, Bool, true, false, if◌then◌else◌, Option, Some, None, refl, sym, ap, subst, rules, arith}
 use Rattle.std.specs.Prelude.{IfSome}
 use Rattle.std.proofs.lemmas.Option.{IfSome_then}
 use Rattle.sci_words.specs.declared.stamped.Stamped.{Stamped}
@@ -140,30 +140,12 @@ reads : (state : CacheState) (op : Op) (c : Stamped) (f : Option ℕ) (makes : B
     → link_of state None ≡ Some f → is_maker op ≡ makes
     → IfSome (if makes then None else Some (record { reply = reply_of c.line op; version = c.version; next = state })) (Performs state op)
 reads state op c f true has idle member is = tt
-reads state op c f false has idle member is = record {
-  contents = c;
-  has = has;
-  idle = idle;
-  behind = f;
-  member = member;
-  reply = refl;
-  version = version_read c op is;
-  leaves = Reads is refl;
-}
+reads state op c f false has idle member is = grind (arith, version_read)
 
 makes_or_reads : (op : Op) (c : Stamped) (makes room : Bool) → is_maker op ≡ makes
     → IfSome (if makes then (if room then Some (record { reply = reply_of c.line op; version = (after c op).version; next = Head None (after c op) }) else None)
     else Some (record { reply = reply_of c.line op; version = c.version; next = Head None c })) (Performs (Head None c) op)
-makes_or_reads op c true true is = record {
-  contents = c;
-  has = refl;
-  idle = refl;
-  behind = None;
-  member = refl;
-  reply = refl;
-  version = refl;
-  leaves = Makes refl refl;
-}
+makes_or_reads op c true true is = grind arith
 makes_or_reads op c true false is = tt
 makes_or_reads op c false room is = reads (Head None c) op c None false refl refl refl is
 

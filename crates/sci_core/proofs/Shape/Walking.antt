@@ -37,10 +37,7 @@ walk_ends link first so_far walked = ended link first so_far walked.rest walked.
 -- the next node has a link
 linked_on : (link : ℕ → Option (Option ℕ)) (n : ℕ) (rest : List ℕ) → LinkedFrom link (Some n) rest → link n ≡ None → ⊥
 linked_on link n [] linked none = let no : Some n ≡ None = linked in cc
-linked_on link n (m ∷ ms) linked none =
-    let same : Some n ≡ Some m = linked.0 in
-    let has : link m ≡ Some linked.1.0 = linked.1.1 in
-    cc
+linked_on link n (m ∷ ms) linked none = grind arith
 
 pub walk_goes_on : (link : ℕ → Option (Option ℕ)) (first : Option ℕ) (so_far : List ℕ) (n : ℕ) → IsWalked link first so_far (Some n) → link n ≡ None → ⊥
 walk_goes_on link first so_far n walked none = linked_on link n walked.rest walked.linked none
@@ -49,15 +46,7 @@ walk_goes_on link first so_far n walked none = linked_on link n walked.rest walk
 more : (link : ℕ → Option (Option ℕ)) (first : Option ℕ) (so_far : List ℕ) (n : ℕ) (next : Option ℕ) (rest : List ℕ) → LinkedFrom link (Some n) rest
     → IsListOf link first (so_far ++ rest) → link n ≡ Some next → IsWalked link first (so_far ++ n ∷ []) next
 more link first so_far n next [] linked whole is = let no : Some n ≡ None = linked in absurd (cc)
-more link first so_far n next (m ∷ ms) linked whole is =
-    let same : Some n ≡ Some m = linked.0 in
-    let here : m ≡ n = cc in
-    let has : link m ≡ Some linked.1.0 = linked.1.1 in
-    let on : linked.1.0 ≡ next = cc in record {
-      rest = ms;
-      whole = subst (IsListOf link first) (ap (λ (x : ℕ). so_far ++ x ∷ ms) here ∙ sym (append_assoc so_far (n ∷ []) ms)) whole;
-      linked = subst (λ (x : Option ℕ). LinkedFrom link x ms) on linked.1.2;
-    }
+more link first so_far n next (m ∷ ms) linked whole is = grind (arith, append_assoc)
 
 pub walks_more : (link : ℕ → Option (Option ℕ)) (first : Option ℕ) (so_far : List ℕ) (n : ℕ) (next : Option ℕ) → IsWalked link first so_far (Some n)
     → link n ≡ Some next → IsWalked link first (so_far ++ n ∷ []) next

@@ -193,12 +193,7 @@ made_part size n part line false (Some asked) lack some lt below asks is =
 
 pub part_asking : (size : Size) (n : ℕ) (part : NodeOf) (line : ℕ) (kind : AskKind) → 0 < size.nodes → n < size.nodes → IsPart size n part
     → IfSome (node_asking part line kind) (SendsWell size n)
-part_asking size n part line kind some lt is =
-    if_below line (lines_of part) (SendsWell size n) (asked_by part (cache_asking part.cache line kind)) (λ below.
-    let all = is.each in
-    made_part size n part line (is_out (line_of part.cache line).state && not (has_slot part.cache)) (asking (line_of part.cache line).state kind) refl some lt
-    (omega arith)
-    (asking_names size.nodes (line_of part.cache line).state kind (is.states line)) is)
+part_asking size n part line kind some lt is = grind (arith, if_below, made_part, asking_names)
 
 -- ---- Serve
 

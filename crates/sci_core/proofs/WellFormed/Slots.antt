@@ -30,15 +30,7 @@ counted false false free new old slots e gets room few = omega arith
 
 pub slots_with_line : (cache : CacheOf) (line : ℕ) (part : LineState) → GetsSlot cache line part.state → slots_taken cache.lines ≤ cache.slots
     → slots_taken (set cache.lines line part) ≤ cache.slots
-slots_with_line cache line part gets few =
-    elim (cases_lt line (length cache.lines)) [
-      | inl below ↦
-          counted (is_out (line_of cache line).state) (is_out part.state) (has_slot cache) (slots_taken (set cache.lines line part)) (slots_taken cache.lines)
-          cache.slots
-          (sum_by-set (λ (l : LineState). cond {A = ℕ} (not (is_out l.state)) 1 0) cache.lines line part untouched below) gets
-          (ltb-true (slots_taken cache.lines) cache.slots) few
-      | inr past ↦ subst (λ ls. slots_taken ls ≤ cache.slots) (sym (set_past cache.lines line part past)) few
-    ]
+slots_with_line cache line part gets few = grind (arith, cases_lt, counted, sum_by-set, ltb-true, set_past)
 
 -- ---- what is done gives no line an entry that had none
 

@@ -193,33 +193,7 @@ run_well core (e ∷ events) well =
 -- ---- the opening
 
 opening_part : (me : ℕ) (size : Size) → 0 < size.nodes → IsPart size me (opening_node me size)
-opening_part me size some = record {
-  fits = opening_is_node me size some;
-  own = All-nil (λ (e : Entry). e.node ≡ me);
-  few = let none : slots_taken (replicate size.lines untouched) ≡ size.lines * 0 =
-      sum_by-replicate (λ (l : LineState). cond {A = ℕ} (not (is_out l.state)) 1 0) size.lines untouched in omega (arith, none);
-  me = refl;
-  all = refl;
-  room = refl;
-  each = length-replicate size.lines untouched;
-  most = refl;
-  states = λ line. elim (cases_lt line size.lines) [
-    | inl below ↦ subst (λ (l : LineState). NamesNodes size.nodes l.state) (sym (get_or-replicate size.lines line untouched untouched below)) tt
-    | inr past ↦ subst (λ (l : LineState). NamesNodes size.nodes l.state)
-        (sym (get_or_past (replicate size.lines untouched) line untouched (rw length-replicate past))) tt
-  ];
-  asks = λ line. elim (cases_lt line size.lines) [
-    | inl below ↦ subst (λ (l : LineState). l.asks < CONTROLS) (sym (get_or-replicate size.lines line untouched untouched below)) (omega arith)
-    | inr past ↦ subst (λ (l : LineState). l.asks < CONTROLS) (sym (get_or_past (replicate size.lines untouched) line untouched (rw length-replicate past)))
-        (omega arith)
-  ];
-  homes = λ place. elim (cases_lt place (size.lines / size.nodes + 1)) [
-    | inl below ↦ subst (HomeNamesNodes size.nodes) (sym (get_or-replicate (size.lines / size.nodes + 1) place opening_home opening_home below)) tt
-    | inr past ↦ subst (HomeNamesNodes size.nodes)
-        (sym (get_or_past (replicate (size.lines / size.nodes + 1) opening_home) place opening_home (rw length-replicate past))) tt
-  ];
-  answer = tt;
-}
+opening_part me size some = grind (arith, opening_is_node, replicate, sum_by-replicate, length-replicate, cases_lt, get_or-replicate, get_or_past)
 
 pub opening_well : (size : Size) → 0 < size.nodes → IsWellFormed (opening size)
 opening_well size some = record {
@@ -241,12 +215,7 @@ opening_well size some = record {
 -- ---- where a schedule leads
 
 pub is_size : (size : Size) → IsMachineSize size → IsSize size
-is_size size sizes = record {
-  has_node = sizes.extent.has_node;
-  has_line = sizes.extent.has_line;
-  has_slot = sizes.extent.has_slot;
-  has_operation = sizes.some_operation;
-}
+is_size size sizes = grind arith
 
 abbrev pub reachable : (core : Core) → IsReached core → IsReachable core
 reachable core reached = record { size = is_size core.size reached.size; schedule = reached.schedule; leads = reached.leads }
