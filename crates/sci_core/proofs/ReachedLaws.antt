@@ -149,16 +149,8 @@ reached_history core reached line inside =
     subst (λ (x : Core). IsHistory (filter (is_on_line line) (done core.size reached.schedule)) zero_stamped (last_at x line)) reached.leads
     (schedule_history core.size reached.schedule line (is_size core.size reached.size) inside)
 
--- no entry is on a line that the machine doesn't have
-beyond_none : (lines line : ℕ) (entries : List Entry) → lines ≤ line → AllByRecursion (λ entry. entry.op.line < lines) entries
-    → filter (is_on_line line) entries ≡ []
-beyond_none lines line entries past all = grind (arith, filter_none, all_weaker, ne_eqb)
-
 pub last_within : (core : Core) (line : ℕ) → line < core.size.lines → stamped_at (last_of core) line ≡ last_at core line
 last_within core line inside = get_or-map-range_with_len (last_at core) 0 core.size.lines line line zero_stamped inside (omega arith)
-
-last_beyond : (core : Core) (line : ℕ) → core.size.lines ≤ line → stamped_at (last_of core) line ≡ zero_stamped
-last_beyond core line past = let all = length-map-range_with_len (last_at core) 0 core.size.lines in get_or_past (last_of core) line zero_stamped (omega arith)
 
 pub beyond_log : (core : Core) (node : ℕ) → IsWellFormed core → core.size.nodes ≤ node → (node_at core node).log ≡ []
 beyond_log core node well past = let long = well.sizes.parts_long in ap (λ (part : NodeOf). part.log) (get_or_past core.parts node no_node (omega arith))
@@ -166,7 +158,7 @@ beyond_log core node well past = let long = well.sizes.parts_long in ap (λ (par
 -- each line of the last contents, one that the machine doesn't have too, has the schedule's entries as its history
 schedule_line : (size : Size) (schedule : List Event) (line : ℕ) → IsSize size
     → IsHistory (filter (is_on_line line) (done size schedule)) zero_stamped (stamped_at (last_of (run size schedule)) line)
-schedule_line size schedule line sizes = grind (arith, run_well, opened, cases_lt, last_within, schedule_history, all_weaker, schedule_logged, beyond_none, last_beyond)
+schedule_line size schedule line sizes = grind (arith, run_well, opened, cases_lt, last_within, schedule_history, all_weaker, schedule_logged, filter_none, ne_eqb, length-map-range_with_len, get_or_past)
 
 line_history : (core : Core) (reached : IsReachable core) (line : ℕ)
     → IsHistory (filter (is_on_line line) (done core.size reached.schedule)) zero_stamped (stamped_at (last_of core) line)

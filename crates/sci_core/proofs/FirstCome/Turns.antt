@@ -224,10 +224,6 @@ coming_without old new c must y (n ∷ ns) follows same (front, inr comes) =
     ap (coming_in new) (without_other y n ns other)
     ∙ (coming_more new n (without y ns) (same n other ∙ comes.0) ∙ (ap (λ (xs : List ℕ). n ∷ xs) rest ∙ sym (coming_more old n ns comes.0)))
 
-coming_behind : (old : View) (q : ℕ) (next : Option ℕ) (ns : List ℕ) → next ≡ Some q → role_in old q ≡ Some Leading → LinkedFrom (link_in old) next ns
-    → coming_in old ns ≡ []
-coming_behind old q next ns e leads linked = front_leads old next q ns e leads linked
-
 coming_less : (old new : View) (a q : ℕ) (c : Stamped) (must : Bool) (first : Option ℕ) (ns : List ℕ) → Joins old new a q → LinkedFrom (link_in old) first ns
     → IsOnce ns → IsAmong a ns → IsLed old c must ns → coming_in old ns ≡ coming_in new ns ++ a ∷ []
 coming_less old new a q c must first [] hands linked once h led = elim led [ ]
@@ -235,7 +231,7 @@ coming_less old new a q c must first (n ∷ ns) hands linked once (inl e) (front
     absurd (roles_differ Leading Coming (role_in old n) leads.0 (ap (role_in old) (sym e) ∙ hands.coming) (λ s. cc))
 coming_less old new a q c must first (n ∷ ns) hands linked once (inr h) (front, inl leads) =
     absurd (roles_differ Following Coming (role_in old a) (following_in old c ns a leads.1 h) hands.coming (λ s. cc))
-coming_less old new a q c must first (n ∷ ns) hands linked once (inl e) (front, inr comes) = grind (arith, next_of, link_in, coming_behind, coming_ends, role_in, coming_more)
+coming_less old new a q c must first (n ∷ ns) hands linked once (inl e) (front, inr comes) = grind (arith, next_of, link_in, front_leads, coming_ends, role_in, coming_more)
 coming_less old new a q c must first (n ∷ ns) hands linked once (inr h) (front, inr comes) =
     let not_asker : n ≢ a = λ s. once.0 (subst (λ (k : ℕ). IsAmong k ns) (sym s) h) in
     let not_server : n ≢ q = λ s. roles_differ Coming Leading (role_in old n) comes.0 (ap (role_in old) s ∙ hands.leading) (λ t. cc) in

@@ -144,8 +144,5 @@ perform_logs part line done does = sym (ap (λ (node : NodeOf). node.log) does.n
 pub perform_owns : (part : NodeOf) (line : ℕ) (done : NodeOf × Entry) → PerformedAs part line done → done.1.node ≡ part.cache.me
 perform_owns part line done does = sym (ap (λ (entry : Entry). entry.node) does.entry)
 
-none_below : (j : ℕ) → j < 0 → ⊥
-none_below j lt = omega arith
-
 pub opening_serials : (me : ℕ) (size : Size) → HasSerials (opening_node me size)
-opening_serials me size = grind (arith, none_below, none_in)
+opening_serials me size = grind (arith, none_in)

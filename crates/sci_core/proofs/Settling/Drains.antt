@@ -36,13 +36,6 @@ use Rattle.sci_core.proofs.WellFormed.WellFormedSteps.{any_well, reachable_stepp
 
 -- ---- weights after a change
 
--- a node changes
-weighs_node : (core : Core) (n : ℕ) (next : NodeOf) → n < length core.parts
-    → weight (with_node core n next) + answer_weight (node_at core n).waiting ≡ weight core + answer_weight next.waiting
-weighs_node core n next below =
-    let changed = sum_by-set (λ (part : NodeOf). answer_weight part.waiting) core.parts n next no_node below in
-    omega arith
-
 -- a node and a lane change
 weighs_both : (core : Core) (n place : ℕ) (next : NodeOf) (lane : List Letter) → n < length core.parts → place < length core.lanes
     → weight (with_lane (with_node core n next) place lane) + (answer_weight (node_at core n).waiting + lane_weight (lane_at core place)) ≡ weight
@@ -147,7 +140,7 @@ weighs_asked core new n line kind well steps =
 
 weighs_stayed : (core new : Core) (n : ℕ) (next : NodeOf) → IsWellFormed core → n < core.size.nodes → next.waiting ≡ (node_at core n).waiting
     → new ≡ with_node core n next → weight core ≡ weight new + 0
-weighs_stayed core new n next well lt waiting then_ = grind (arith, weighs_node, node_below)
+weighs_stayed core new n next well lt waiting then_ = grind (arith, sum_by-set, node_below)
 
 -- every event but an Ask: the weight falls by one if it moves a packet on, and stays if it doesn't
 pub weighs : (core new : Core) (e : Event) → IsWellFormed core → stepping core e ≡ Some new → is_asking e ≡ false

@@ -102,12 +102,9 @@ joining p = grind arith
 fresh_joining : (p : ℕ) (e : Stamped) → Joiner (FreshJoining p true e) p
 fresh_joining p e = grind arith
 
-idle_differs : (asker old : CacheState) → waits asker ≡ true → waits old ≡ false → asker ≡ old → ⊥
-idle_differs asker old w i e = let both : waits old ≡ true = ap waits (sym e) ∙ w in cc
-
 joined_before : (a q : ℕ) (asker old : CacheState) (f : Option ℕ) (d : Stamped) → Joiner asker q → waits old ≡ false → role_of old None ≡ Some Leading
     → Some f ≡ link_of old None → ((c : Stamped) → Agrees c old None → Agrees c (Below f a d) None) → ServesAs a q asker old (Below f a d, body.Cdata d)
-joined_before a q asker old f d joins idle leading link keeps = grind (arith, idle_differs)
+joined_before a q asker old f d joins idle leading link keeps = grind arith
 
 cread_as : (a q : ℕ) (asker old : CacheState) → Joiner asker q → ServesAs a q asker old (serving_cread old a)
 cread_as a q asker (Head f d) joins = joined_before a q asker (Head f d) f d joins refl refl refl (λ c h. h)
@@ -178,7 +175,7 @@ fading f = grind arith
 
 rolls_as : (a q : ℕ) (m : Option ℕ) (asker old next : CacheState) (f : Option ℕ) → Leaver asker m → waits old ≡ false → link_of old None ≡ Some f
     → link_of next None ≡ Some m → Stood old None next None → ServesAs a q asker old (if is_next f a then (next, body.Rolled) else (old, body.Busy))
-rolls_as a q m asker old next f leaves idle here then_ stood = grind (arith, next_either, idle_differs, refuses)
+rolls_as a q m asker old next f leaves idle here then_ stood = grind (arith, next_either, refuses)
 
 roll_as : (a q : ℕ) (m : Option ℕ) (asker old : CacheState) → Leaver asker m → ServesAs a q asker old (serving_roll old a m)
 roll_as a q m asker (Head f c) leaves =

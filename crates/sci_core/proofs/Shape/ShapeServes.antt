@@ -149,14 +149,10 @@ refused_same core n place request rest not_setback is tidy k =
 
 -- ---- the home of one line
 
--- two lines whose homes are one node's have two places there
-places_apart : (c k line : ℕ) → k % c ≡ line % c → k ≢ line → k / c ≢ line / c
-places_apart c k line same other e = grind (arith, div-add-mod)
-
 home_changed : (core : Core) (n line : ℕ) (next : NodeOf) (home : HomeState) → n < length core.parts → (node_at core n).cache.nodes ≡ core.size.nodes
     → line % core.size.nodes ≡ n → next.cache.nodes ≡ core.size.nodes → next.homes ≡ slice_set (node_at core n).homes (home_place (node_at core n) line) home
     → (k : ℕ) → k ≢ line → home_at (with_node core n next) k ≡ home_at core k
-home_changed core n line next home below all at same homes k other = grind (arith, cases_eq, get_or-set_same, places_apart, get_or-set_other)
+home_changed core n line next home below all at same homes k other = grind (arith, cases_eq, get_or-set_same, div-add-mod, get_or-set_other)
 
 home_now : (core : Core) (n line : ℕ) (next : NodeOf) (home : HomeState) → n < length core.parts → line % core.size.nodes ≡ n
     → next.cache.nodes ≡ (node_at core n).cache.nodes → next.homes ≡ slice_set (node_at core n).homes (home_place (node_at core n) line) home

@@ -275,13 +275,10 @@ run_stale core (e ∷ events) line well tidy inside stale =
     run_stale (step core e) events line then_.well (step_tidy core e well tidy) (subst (λ (size : Size). line < size.lines) (sym then_.same) inside)
     (after_stale core e (performed core e) (stepping core e) well tidy (stepping_stepped core e well) line inside stale)
 
-opening_stale : (size : Size) (line : ℕ) → StaleAt (opening size) line
-opening_stale size line = subst (IsStale (view_of (opening size) line)) (sym (opening_at_home size (line % size.nodes) line)) tt
-
 gone_so : (core : Core) (line : ℕ) (home : HomeState) → IsStale (view_of core line) home → IsGoneStale core line home
 gone_so core line (at.Home c) stale = tt
 gone_so core line (at.Fresh p c) stale = tt
 gone_so core line (at.Gone p) stale = stale
 
 pub any_stale : (core : Core) (line : ℕ) → IsReachable core → line < core.size.lines → IsGoneStale core line (home_at core line)
-any_stale core line reached inside = grind (arith, run_stale, opened, opening_tidy, opening_stale, gone_so)
+any_stale core line reached inside = grind (arith, run_stale, opened, opening_tidy, view_of, opening_at_home, gone_so)

@@ -133,14 +133,11 @@ pub record Performs (state : CacheState) (op : Op) (done : Performed) : Type 0 w
   pub version : done.version ≡ (after contents op).version
   pub leaves : Leaves state op contents done.next
 
-version_read : (c : Stamped) (op : Op) → is_maker op ≡ false → c.version ≡ (after c op).version
-version_read c op e = ap (λ (b : Bool). if b then c.version + 1 else c.version) (sym e)
-
 reads : (state : CacheState) (op : Op) (c : Stamped) (f : Option ℕ) (makes : Bool) → contents_of state ≡ Some c → waits state ≡ false
     → link_of state None ≡ Some f → is_maker op ≡ makes
     → IfSome (if makes then None else Some (record { reply = reply_of c.line op; version = c.version; next = state })) (Performs state op)
 reads state op c f true has idle member is = tt
-reads state op c f false has idle member is = grind (arith, version_read)
+reads state op c f false has idle member is = grind arith
 
 makes_or_reads : (op : Op) (c : Stamped) (makes room : Bool) → is_maker op ≡ makes
     → IfSome (if makes then (if room then Some (record { reply = reply_of c.line op; version = (after c op).version; next = Head None (after c op) }) else None)

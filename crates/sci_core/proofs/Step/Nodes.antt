@@ -42,16 +42,12 @@ node_with_homes node homes same is =
 pub some_below : (pending : List (Option Pending)) (line : ℕ) (p : Pending) → get_or pending line None ≡ Some p → line < length pending
 some_below pending line p e = grind (arith, cases_lt, get_or_past)
 
-count_without : (pending : List (Option Pending)) (line : ℕ) (p : Pending) → get_or pending line None ≡ Some p
-    → count_by is_some (set pending line None) + 1 ≡ count_by is_some pending
-count_without pending line p at = grind (arith, some_below, sum_by-set)
-
 -- an operation is performed: it is no longer pending, and its entry ends the log
 pub node_with_entry : (node : NodeOf) (line : ℕ) (p : Pending) (cache : CacheOf) (entry : Entry) → SameSizes node.cache cache → pending_on node line ≡ Some p
     → IsNode node
     → IsNode (record node { cache = cache; pending = set node.pending line None; log = node.log ++ entry ∷ [] })
 node_with_entry node line p cache entry same at is =
-    grind (arith, some_below, count_without, length_push, length-set, cases_eq, get_or-set_same, get_or-set_other)
+    grind (arith, some_below, sum_by-set, length_push, length-set, cases_eq, get_or-set_same, get_or-set_other)
 
 -- the home of a line stands among the homes
 pub home_below : (node : NodeOf) (line : ℕ) → line < lines_of node → IsNode node → line / node.cache.nodes < length node.homes
@@ -61,13 +57,9 @@ weaker_serial : (issued line : ℕ) (pending : Option Pending) → IfSome pendin
 weaker_serial issued line None h = tt
 weaker_serial issued line (Some p) h = let serial = h.serial in record { here = h.here; word = h.word; words = h.words; serial = omega arith }
 
-count_with : (pending : List (Option Pending)) (line : ℕ) (p : Pending) → line < length pending → is_none (get_or pending line None) ≡ true
-    → count_by is_some (set pending line (Some p)) ≡ count_by is_some pending + 1
-count_with pending line p below none = grind (arith, sum_by-set, not-true)
-
 -- an operation is issued: it is pending, with the next serial
 pub node_with_issue : (node : NodeOf) (op : Op) → may_issue node op ≡ true → IsNode node → IsNode (node_issued node op)
-node_with_issue node op may is = grind (arith, and_parts, ltb-true, count_with, length-set, cases_eq, get_or-set_same, get_or-set_other, weaker_serial)
+node_with_issue node op may is = grind (arith, and_parts, ltb-true, sum_by-set, not-true, length-set, cases_eq, get_or-set_same, get_or-set_other, weaker_serial)
 
 pub opening_is_node : (me : ℕ) (size : Size) → 0 < size.nodes → IsNode (opening_node me size)
 opening_is_node me size some = grind (arith, length-replicate, cases_lt, get_or-replicate, get_or_past, sum_by-replicate)

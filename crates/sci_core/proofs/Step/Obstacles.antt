@@ -203,28 +203,16 @@ asked_ok : (cache : CacheOf) (line : ℕ) (made : Result Asked AskFault) → is_
 asked_ok cache line (Ok asked) = refl
 asked_ok cache line (Err why) = refl
 
--- a refused ask of a line of the machine
-refused_line : (node : NodeOf) (line : ℕ) (kind : AskKind) → line < lines_of node → node_asking node line kind ≡ None
-    → is_ok (line_asking (line_of node.cache line) kind (has_slot node.cache)) ≡ false
-refused_line node line kind below none = grind (arith, asked_ok, is_err_by, if_true, lt-ltb)
-
-told_as : (node : NodeOf) (line : ℕ) (kind : AskKind) (why : AskFault) (o : Option Obstacle) → line < lines_of node
-    → line_asking (line_of node.cache line) kind (has_slot node.cache) ≡ Err why → asked_obstacle (cache_asked node.cache line (Err why)) ≡ o
-    → ask_obstacle node line kind ≡ o
-told_as node line kind why o below e is =
-    if_true (nat_lt line (lines_of node)) (asked_obstacle (cache_asking node.cache line kind)) (Some NoSuchLine) (lt-ltb line (lines_of node) below)
-    ∙ ap (λ (made : Result Asked AskFault). asked_obstacle (cache_asked node.cache line made)) e ∙ is
-
 -- a line without an entry that would ask this lacks a slot
 pub slot_lacks : (node : NodeOf) (line : ℕ) (kind : AskKind) → line < lines_of node → node_asking node line kind ≡ None
     → is_out (line_of node.cache line).state ≡ true → is_some (asking Out kind) ≡ true → ask_obstacle node line kind ≡ Some NoSlot
-slot_lacks node line kind below none out begins = grind (arith, out_only, told_as, slot_of, refused_line)
+slot_lacks node line kind below none out begins = grind (arith, out_only, slot_of, asked_ok, is_err_by, if_true, lt-ltb)
 
 -- any other refused ask is one that the state doesn't make
 pub state_lacks : (node : NodeOf) (line : ℕ) (kind : AskKind) (out : Bool) → line < lines_of node → node_asking node line kind ≡ None
     → is_out (line_of node.cache line).state ≡ out → (out && is_some (asking Out kind)) ≡ false → ask_obstacle node line kind ≡ Some NotAsked
-state_lacks node line kind true below none is other = grind (arith, out_only, told_as, now_of)
-state_lacks node line kind false below none is other = grind (arith, told_as, now_free, refused_line)
+state_lacks node line kind true below none is other = grind (arith, out_only, if_true, lt-ltb, now_of)
+state_lacks node line kind false below none is other = grind (arith, now_free, asked_ok, is_err_by, if_true, lt-ltb)
 
 free_of : (node : NodeOf) (made : Result (CacheOf × Letter) AskFault) (sent : NodeOf × Letter) → asked_by node made ≡ Some sent → asked_obstacle made ≡ None
 free_of node (Ok asked) sent e = refl

@@ -142,9 +142,6 @@ all_counted nodes lines (letter ∷ rest) all =
 answer_one : (nodes lines : ℕ) (letter : Letter) → IsAnswerLetter nodes lines letter → IsOneOf nodes lines letter
 answer_one nodes lines letter is = grind arith
 
-letter_one : (nodes lines : ℕ) (letter : Letter) → IsLetter nodes lines letter → IsOneOf nodes lines letter
-letter_one nodes lines letter is = grind (arith, cases_Bool)
-
 flat_all : {X : Type 0} (P : Letter → Type 0) (f : X → List Letter) (xs : List X) (d : X) → ((i : ℕ) → i < length xs → AllByRecursion P (f (get_or xs i d)))
     → AllByRecursion P (flat_map f xs)
 flat_all P f [] d each = tt
@@ -160,7 +157,7 @@ waiting_answer nodes lines n None h = tt
 waiting_answer nodes lines n (Some answer) h = answer_one nodes lines answer h.0
 
 in_lane_one : (nodes lines place : ℕ) (letter : Letter) → IsInLane nodes lines place letter → IsOneOf nodes lines letter
-in_lane_one nodes lines place letter is = grind (arith, cases_lt, letter_one)
+in_lane_one nodes lines place letter is = grind (arith, cases_lt, cases_Bool)
 
 all_one : (core : Core) → IsWellFormed core → AllByRecursion (IsOneOf core.size.nodes core.size.lines) (under_way core)
 all_one core well =

@@ -69,24 +69,14 @@ no_mark : (about : Bool) (mark : Mark) (ps qs : List Letter) → about ≡ false
 no_mark about mark ps qs e same =
     subst (λ (b : Bool). Advances (phase_of ps) (if b then mark ∷ [] else []) (phase_of qs)) (sym e) (still (phase_of ps) (phase_of qs) (ap phase_of same))
 
-asked_mark : (about : Bool) (letter : Letter) (ps qs : List Letter) → about ≡ true → is_request letter.body ≡ true → ps ≡ [] → qs ≡ letter ∷ []
-    → Advances (phase_of ps) (if about then Asked letter.control ∷ [] else []) (phase_of qs)
-asked_mark about letter ps qs e asks before after = grind arith
-
-one_request : (letter : Letter) → is_request letter.body ≡ true → phase_of (letter ∷ []) ≡ Sent letter.control
-one_request letter asks = ap (λ (b : Bool). if b then Sent letter.control else Served letter.control) asks
-
-one_answer : (letter : Letter) → is_request letter.body ≡ false → phase_of (letter ∷ []) ≡ Served letter.control
-one_answer letter answers = ap (λ (b : Bool). if b then Sent letter.control else Served letter.control) answers
-
 taken_mark : (about : Bool) (request answer : Letter) (ps qs : List Letter) → about ≡ true → is_request request.body ≡ true → is_request answer.body ≡ false
     → answer.control ≡ request.control → ps ≡ request ∷ [] → qs ≡ answer ∷ []
     → Advances (phase_of ps) (if about then Taken request.control ∷ [] else []) (phase_of qs)
-taken_mark about request answer ps qs e asks answers same before after = grind (arith, one_request, one_answer)
+taken_mark about request answer ps qs e asks answers same before after = grind arith
 
 accepted_mark : (about : Bool) (answer : Letter) (ps qs : List Letter) → about ≡ true → is_request answer.body ≡ false → ps ≡ answer ∷ [] → qs ≡ []
     → Advances (phase_of ps) (if about then Accepted answer.control ∷ [] else []) (phase_of qs)
-accepted_mark about answer ps qs e answers before after = grind (arith, one_answer)
+accepted_mark about answer ps qs e answers before after = grind arith
 
 -- ---- the steps
 
@@ -103,7 +93,7 @@ asked_advance : (core : Core) (n line place : ℕ) (next : NodeOf) (letter : Let
     → is_request letter.body ≡ true → letter.source ≡ n → AsksOnce core.size.nodes line (node_at core n) (next, letter) → IsTidy core
     → Advanced core (Some (Asked letter.control, letter)) (with_lane (with_node core n next) place (lane_at core place ++ letter ∷ []))
 asked_advance core n line place next letter below within asks from once tidy m k mb kb =
-    grind (arith, cases_Bool, request_asker, about_asker, about_line, idle_has_none, asked_mark, packets_asked, no_mark, packets_same, filter_joined)
+    grind (arith, cases_Bool, request_asker, about_asker, about_line, idle_has_none, packets_asked, no_mark, packets_same, filter_joined)
 
 replied_advance : (core : Core) (n place : ℕ) (next : NodeOf) (letter : Letter) → n < length core.parts → place < length core.lanes
     → Replies core.size.nodes (node_at core n) (next, letter) → IsTidy core
