@@ -2,7 +2,7 @@
 use Rattle.std.proofs.Common.{◌≡◌, ℕ, ◌<◌, ◌≤◌, List, [], ◌++◌, filter, length, map, Option, refl, sym, ap, subst, ◌∙◌, arith, inl, inr}
 use Rattle.std.specs.Prelude.{Result, Ok, Err, IfOk, Some, unwrap_or}
 use Rattle.std.proofs.lemmas.List.Elements.{All-from_recursion}
-use Rattle.std.specs.List.{All, AllByRecursion, AllPairs}
+use Rattle.std.specs.List.{All, AllPairs}
 use Rattle.std.proofs.lemmas.Bool.{cases_lt, ne_eqb}
 use Rattle.std.proofs.lemmas.List.{get_or_past}
 use Rattle.std.proofs.lemmas.List.FromFn.{get_or-map-range_with_len, length-map-range_with_len}
@@ -158,7 +158,21 @@ beyond_log core node well past = let long = well.sizes.parts_long in ap (λ (par
 -- each line of the last contents, one that the machine doesn't have too, has the schedule's entries as its history
 schedule_line : (size : Size) (schedule : List Event) (line : ℕ) → IsSize size
     → IsHistory (filter (is_on_line line) (done size schedule)) zero_stamped (stamped_at (last_of (run size schedule)) line)
-schedule_line size schedule line sizes = grind (arith, run_well, opened, cases_lt, last_within, schedule_history, all_weaker, schedule_logged, filter_none, ne_eqb, length-map-range_with_len, get_or_past)
+schedule_line size schedule line sizes =
+    grind (
+      arith,
+      run_well,
+      opened,
+      cases_lt,
+      last_within,
+      schedule_history,
+      all_weaker,
+      schedule_logged,
+      filter_none,
+      ne_eqb,
+      length-map-range_with_len,
+      get_or_past,
+    )
 
 line_history : (core : Core) (reached : IsReachable core) (line : ℕ)
     → IsHistory (filter (is_on_line line) (done core.size reached.schedule)) zero_stamped (stamped_at (last_of core) line)

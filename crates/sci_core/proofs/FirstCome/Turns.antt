@@ -1,5 +1,6 @@
 -- One line's list, as a queue: what each row of the tables does to the members before the one that leads.
-use Rattle.std.proofs.Common.{◌≡◌, ◌≢◌, ℕ, Bool, true, false, if◌then◌else◌, List, [], ◌∷◌, ◌++◌, Option, Some, None, refl, sym, ap, subst, ◌∙◌, inl, inr, arith}
+use Rattle.std.proofs.Common.{◌≡◌, ◌≢◌, ℕ, Bool, true, false, if◌then◌else◌, List, [], ◌∷◌, ◌++◌, Option, Some, None, refl, sym, ap, subst, ◌∙◌, inl, inr}
+use Rattle.std.proofs.Common.{arith}
 use Rattle.std.specs.Prelude.{IfSome}
 use Rattle.std.proofs.lemmas.Bool.{cases_eq}
 use Rattle.std.proofs.lemmas.List.{append-nil}
@@ -231,7 +232,8 @@ coming_less old new a q c must first (n ∷ ns) hands linked once (inl e) (front
     absurd (roles_differ Leading Coming (role_in old n) leads.0 (ap (role_in old) (sym e) ∙ hands.coming) (λ s. cc))
 coming_less old new a q c must first (n ∷ ns) hands linked once (inr h) (front, inl leads) =
     absurd (roles_differ Following Coming (role_in old a) (following_in old c ns a leads.1 h) hands.coming (λ s. cc))
-coming_less old new a q c must first (n ∷ ns) hands linked once (inl e) (front, inr comes) = grind (arith, next_of, link_in, front_leads, coming_ends, role_in, coming_more)
+coming_less old new a q c must first (n ∷ ns) hands linked once (inl e) (front, inr comes) =
+    grind (arith, next_of, link_in, front_leads, coming_ends, role_in, coming_more)
 coming_less old new a q c must first (n ∷ ns) hands linked once (inr h) (front, inr comes) =
     let not_asker : n ≢ a = λ s. once.0 (subst (λ (k : ℕ). IsAmong k ns) (sym s) h) in
     let not_server : n ≢ q = λ s. roles_differ Coming Leading (role_in old n) comes.0 (ap (role_in old) s ∙ hands.leading) (λ t. cc) in

@@ -1,5 +1,5 @@
 -- The entries of a schedule on a line are the line's history, and the nodes' logs are theirs.
-use Rattle.std.proofs.Common.{◌≡◌, ℕ, ◌+◌, ◌≤◌, ◌<◌, List, [], ◌∷◌, ◌++◌, length, filter, append_assoc, Option, Some, None, refl, sym, ap, subst, ◌∙◌, arith}
+use Rattle.std.proofs.Common.{◌≡◌, ℕ, ◌<◌, List, [], ◌∷◌, ◌++◌, length, filter, append_assoc, Option, Some, None, refl, sym, ap, subst, ◌∙◌, arith}
 use Rattle.std.specs.Prelude.{IsTrue, IfSome, unwrap_or, option_to_list}
 use Rattle.std.proofs.lemmas.Option.{IfSome_then}
 use Rattle.std.specs.List.{AllByRecursion}
@@ -172,13 +172,3 @@ run_logged core (e ∷ events) well serials =
       known = one_within made (IsKnown core.size.lines) more (IfSome_then made one.within (λ entry h. h.1))
           (subst (λ (size : Size). AllByRecursion (IsKnown size.lines) more) next.same rest.known);
     }
-
--- ---- how many
-
-few_made : (made : Option Entry) (rest : List Entry) (k : ℕ) → length rest ≤ k → length (option_to_list made ++ rest) ≤ k + 1
-few_made None rest k le = omega arith
-few_made (Some entry) rest k le = omega arith
-
-pub few_done : (core : Core) (events : List Event) → length (done_from core events) ≤ length events
-few_done core [] = omega arith
-few_done core (e ∷ events) = grind (arith, few_made, few_done (step core e) events)

@@ -13,10 +13,10 @@ use Rattle.sci_history.specs.declared.entry.Entry.{Entry}
 use Rattle.sci_history.specs.Sequential.{IsInProgramOrder, AreInProgramOrder}
 use Rattle.sci_words.specs.declared.limits.TheConstants.{MAX_NODES}
 use Rattle.sci_history.proofs.Order.{all_weaker, all-append}
-use Rattle.sci_cache.specs.Cache.{CacheOf, Letter}
+use Rattle.sci_cache.specs.Cache.{CacheOf}
 use Rattle.sci_core.specs.declared.pending.Pending.{Pending}
 use Rattle.sci_core.specs.Node.{NodeOf, opening_node, no_node, pending_on, entry_of, node_logged, may_issue, node_issued, node_issuing, node_performing}
-use Rattle.sci_core.specs.Node.{node_asking, node_serving, node_refusing, node_replying, node_accepting, IsPendingOn, IsNode}
+use Rattle.sci_core.specs.Node.{node_accepting, IsPendingOn, IsNode}
 use Rattle.sci_core.specs.Core.{Core, node_at, with_node, stepping, step, opening, run_from, run}
 use Rattle.sci_core.specs.Done.{performed}
 use Rattle.sci_core.specs.InTurn.{HasOnePending, IssuesInTurn}
@@ -24,7 +24,7 @@ use Rattle.sci_core.specs.Outcome.{logs_of}
 use Rattle.sci_core.specs.Size.{Size, IsSize}
 use Rattle.sci_core.specs.WellFormed.{IsWellFormed}
 use Rattle.sci_core.proofs.Basics.Lists.{if_either, at_place_set}
-use Rattle.sci_core.proofs.Step.NodeSides.{PerformedAs, ServedAs, RefusedAs, perform_as, serve_as, refuse_as, reply_as}
+use Rattle.sci_core.proofs.Step.NodeSides.{PerformedAs, perform_as, serve_as, refuse_as, reply_as}
 use Rattle.sci_core.proofs.Step.Nodes.{some_below}
 use Rattle.sci_core.proofs.Basics.Options.{of_some, none_in}
 use Rattle.sci_core.proofs.Step.Steps.{Stepped, By_issue, By_perform, By_ask, By_serve, By_refuse, By_reply, By_accept, stepping_stepped}

@@ -21,7 +21,7 @@ use Rattle.sci_core.specs.Draining.{moves_on, one_if, weight}
 use Rattle.sci_core.specs.Node.{NodeOf, no_node, node_accepting, node_asking, node_issuing, node_performing, node_refusing, node_replying, node_serving}
 use Rattle.sci_core.specs.Reached.{IsReachable}
 use Rattle.sci_core.specs.Sides.{TakesFront, taken_to}
-use Rattle.sci_core.specs.WellFormed.{IsAnswerLetter, IsWellFormed}
+use Rattle.sci_core.specs.WellFormed.{IsWellFormed}
 use Rattle.sci_core.proofs.Step.Applied.{front_comes, waits_replying}
 use Rattle.sci_core.proofs.Tidy.Enabled.{any_accept_enabled, serve_enabled}
 use Rattle.sci_core.proofs.Basics.Options.{of_some, map_some}
@@ -30,9 +30,9 @@ use Rattle.sci_core.proofs.Step.Sides.{steps_by_sides}
 use Rattle.sci_core.proofs.Step.Stepping.{stepping_from_nobody, stepping_nobody}
 use Rattle.sci_core.proofs.Step.Steps.{lane_below}
 use Rattle.sci_core.proofs.Tidy.TidyRuns.{node_below}
-use Rattle.sci_core.proofs.Tidy.WaitingNodes.{Accepts, Answers as AnswersTo, AsksOnce, Replies, Stays, ask_once, accept_accepts, issue_stays, perform_stays}
+use Rattle.sci_core.proofs.Tidy.WaitingNodes.{Accepts, Answers as AnswersTo, AsksOnce, Stays, ask_once, accept_accepts, issue_stays, perform_stays}
 use Rattle.sci_core.proofs.Tidy.WaitingNodes.{refuse_answers, reply_replies, serve_answers}
-use Rattle.sci_core.proofs.WellFormed.WellFormedSteps.{any_well, reachable_stepping, reachable_next}
+use Rattle.sci_core.proofs.WellFormed.WellFormedSteps.{any_well, reachable_next}
 
 -- ---- weights after a change
 

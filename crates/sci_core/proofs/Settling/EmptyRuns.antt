@@ -1,20 +1,16 @@
 -- Rounds that bring the lines to their homes, one after another.
-use Rattle.std.proofs.Common.{◌≡◌, ℕ, ◌+◌, ◌*◌, ◌<◌, ◌≤◌, List, Option, sym, ap, subst, ◌∙◌, arith, inl, inr}
-use Rattle.std.specs.Prelude.{count_by, is_some}
+use Rattle.std.proofs.Common.{◌≡◌, ℕ, ◌+◌, ◌*◌, ◌<◌, ◌≤◌, ◌∙◌, arith}
 use Rattle.std.proofs.Math.Nat.{mul-le-mul_left}
 use Rattle.std.proofs.lemmas.Bool.{cases_lt}
 use Rattle.std.proofs.lemmas.List.{get_or_past}
 use Rattle.sci_words.specs.declared.event.AskKind.{AskKind}
 use Rattle.sci_cache.specs.State.{Out}
-use Rattle.sci_cache.specs.Line.{LineState, untouched}
-use Rattle.sci_core.specs.declared.pending.Pending.{Pending}
 use Rattle.sci_core.specs.Core.{Core, node_at}
 use Rattle.sci_core.specs.Draining.{IsDrained}
 use Rattle.sci_core.specs.Reached.{IsReached}
 use Rattle.sci_core.specs.Rounds.{AreOut, IsNext, IsRound, rank}
 use Rattle.sci_core.specs.Settling.{Leads, LeadsOn, pending_count, settles}
 use Rattle.sci_core.specs.Shape.{state_at}
-use Rattle.sci_core.specs.Size.{Size}
 use Rattle.sci_core.proofs.Settling.Emptying.{next_lowers}
 use Rattle.sci_core.proofs.Settling.Leading.{leads_join, leads_on}
 use Rattle.sci_core.proofs.Settling.Ranks.{few_rounds, sum_over, sum_same}

@@ -1,5 +1,6 @@
 -- Each round that is next lowers the number of those that are left.
-use Rattle.std.proofs.Common.{◌≡◌, ◌≢◌, ◌⊎◌, ℕ, ◌+◌, ◌<◌, not, ◌&&◌, ◌==◌, Bool, true, false, if◌then◌else◌, Option, Some, None, refl, sym, ap, subst, ◌∙◌, arith, rules}
+use Rattle.std.proofs.Common.{◌≡◌, ◌≢◌, ◌⊎◌, ℕ, ◌+◌, ◌<◌, not, ◌&&◌, ◌==◌, Bool, true, false, if◌then◌else◌, Option, Some, None, refl, sym, ap, subst, ◌∙◌}
+use Rattle.std.proofs.Common.{arith, rules}
 use Rattle.std.proofs.Common.{inl, inr}
 use Rattle.std.specs.Prelude.{IsSome}
 use Rattle.std.proofs.lemmas.Bool.{cases_eq, cases_lt, eq-eqb, eqb-true, lt-ltb}
@@ -16,11 +17,10 @@ use Rattle.sci_cache.specs.State.{Telling, is_out, waits}
 use Rattle.sci_cache.specs.Accepting.{accepting}
 use Rattle.sci_cache.specs.Asking.{Asked, asking}
 use Rattle.sci_cache.specs.Serving.{serving, serving_setback}
-use Rattle.sci_cache.specs.Line.{ask_or_fault}
-use Rattle.sci_cache.specs.Cache.{cache_asked, cache_asking, has_slot, line_of}
+use Rattle.sci_cache.specs.Cache.{has_slot, line_of}
 use Rattle.sci_core.specs.Core.{Core, node_at}
 use Rattle.sci_core.specs.Draining.{IsDrained}
-use Rattle.sci_core.specs.Node.{NodeOf, asked_by, lines_of, node_asking}
+use Rattle.sci_core.specs.Node.{NodeOf, lines_of, node_asking}
 use Rattle.sci_core.specs.Reached.{IsReached}
 use Rattle.sci_core.specs.Rounds.{At_home, In_cache, IsNext, IsRound, IsServed, Joins, Parts, Tells, entry_rank, is_head, is_telling, joins_before, parting}
 use Rattle.sci_core.specs.Rounds.{rank, server_of}

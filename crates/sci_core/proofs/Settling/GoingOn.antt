@@ -1,6 +1,6 @@
 -- A node of a reached state can go on.
 use Rattle.std.proofs.Common.{◌≡◌, ℕ, true, false, arith, rules}
-use Rattle.sci_cache.specs.State.{CacheState, Out, Joining, FreshJoining, Head, FreshHead, Below, Telling, is_out, waits}
+use Rattle.sci_cache.specs.State.{CacheState, Joining, FreshJoining, Telling, is_out, waits}
 use Rattle.sci_cache.specs.Cache.{line_of}
 use Rattle.sci_core.specs.GoingOn.{CanGoOn, goes_on}
 use Rattle.sci_core.specs.Node.{NodeOf}

@@ -12,7 +12,7 @@ use Rattle.sci_words.specs.declared.event.Event.TheVariants as event
 use Rattle.sci_cache.specs.Cache.{Letter}
 use Rattle.sci_core.specs.declared.lane.LaneKind.TheVariants.{Requests, Answers}
 use Rattle.sci_core.specs.Core.{Core, IsEnabled, lane_at, lane_of, node_at, stepping}
-use Rattle.sci_core.specs.Draining.{IsDrained, answer_weight, brings_on, is_asking, lane_weight, moves_on, one_if, weight}
+use Rattle.sci_core.specs.Draining.{IsDrained, answer_weight, brings_on, is_asking, lane_weight, moves_on, weight}
 use Rattle.sci_core.specs.Node.{NodeOf, no_node}
 use Rattle.sci_core.specs.Reached.{IsReached}
 use Rattle.sci_core.specs.Settling.{Leads}

@@ -1,5 +1,5 @@
 -- Pending operations: each is performed by one read, the operation itself and one write-back.
-use Rattle.std.proofs.Common.{◌≡◌, ◌≢◌, ℕ, suc, ◌+◌, ◌*◌, ◌<◌, ◌≤◌, not, ◌&&◌, Bool, true, false, List, [], ◌∷◌, length, get_or, Option, Some, None, refl, sym}
+use Rattle.std.proofs.Common.{◌≡◌, ◌≢◌, ℕ, ◌+◌, ◌*◌, ◌<◌, ◌≤◌, not, true, List, [], ◌∷◌, length, Option, Some, None, refl, sym}
 use Rattle.std.proofs.Common.{ap, subst, ◌∙◌, arith, inl, inr}
 use Rattle.std.specs.Prelude.{IsSome, slice_index_or, count_by, is_some, option_map, unwrap_or}
 use Rattle.std.proofs.Math.Nat.{mul-le-mul_left}
@@ -24,9 +24,9 @@ use Rattle.sci_cache.specs.Cache.{Letter, has_slot, line_of, slots_taken}
 use Rattle.sci_core.proofs.Settling.Rest.{counted_none}
 use Rattle.sci_core.specs.declared.lane.LaneKind.TheVariants.{Requests, Answers}
 use Rattle.sci_core.specs.declared.pending.Pending.{Pending}
-use Rattle.sci_core.specs.Core.{Core, IsEnabled, node_at, run_from, sent_by, step, stepping, with_node}
+use Rattle.sci_core.specs.Core.{Core, IsEnabled, node_at, run_from, step, stepping, with_node}
 use Rattle.sci_core.specs.Draining.{IsDrained, brings_on, weight}
-use Rattle.sci_core.specs.Node.{IsPendingOn, NodeOf, entry_of, no_node, node_accepting, node_asking, node_performing, node_replying, node_serving, pending_on}
+use Rattle.sci_core.specs.Node.{IsPendingOn, NodeOf, entry_of, no_node, node_accepting, node_asking, node_performing, node_serving, pending_on}
 use Rattle.sci_core.specs.Reached.{IsReached}
 use Rattle.sci_core.specs.Rounds.{AreOut, IsRound, entry_rank, rank}
 use Rattle.sci_core.specs.Settling.{AreMade, IsSettled, IsWithin, Leads, LeadsOn, pending_count, settles}

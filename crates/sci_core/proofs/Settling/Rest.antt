@@ -7,7 +7,7 @@ use Rattle.sci_cache.specs.State.{is_out}
 use Rattle.sci_cache.specs.Line.{LineState, untouched}
 use Rattle.sci_cache.specs.Cache.{slots_taken}
 use Rattle.sci_core.specs.declared.pending.Pending.{Pending}
-use Rattle.sci_core.specs.Node.{NodeOf, IsNode, IsAtRest, pending_on}
+use Rattle.sci_core.specs.Node.{NodeOf, IsNode, IsAtRest}
 
 first : (b : Bool) (n : ℕ) → cond {A = ℕ} b 1 0 + n ≡ 0 → b ≡ false
 first true n e = absurd (let one : 1 + n ≡ 0 = e in omega arith)

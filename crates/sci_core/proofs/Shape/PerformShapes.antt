@@ -8,7 +8,7 @@ use Rattle.sci_words.specs.declared.operation.Act.{Act}
 use Rattle.sci_words.specs.declared.operation.Act.TheVariants.{Load, Store, Lock}
 use Rattle.sci_words.specs.declared.operation.Op.{Op}
 use Rattle.sci_words.specs.Operation.{effect_of_act, is_maker, makes_version}
-use Rattle.sci_words.specs.Stamped.{line_after, after, reply_of}
+use Rattle.sci_words.specs.Stamped.{after, reply_of}
 use Rattle.sci_packets.specs.declared.body.Body.{Body}
 use Rattle.sci_home.specs.declared.state.HomeState.{HomeState}
 use Rattle.sci_home.specs.declared.state.HomeState.TheVariants as at
@@ -16,9 +16,7 @@ use Rattle.sci_home.specs.Serving.{head_of}
 use Rattle.sci_cache.specs.State.{CacheState, Head, contents_of}
 use Rattle.sci_cache.specs.Performing.{Performed}
 use Rattle.sci_cache.specs.Member.{link_of}
-use Rattle.sci_core.specs.Fresh.{is_fresh}
 use Rattle.sci_history.specs.Seen.{IsAmong}
-use Rattle.sci_core.specs.Tidy.{IsAccepted}
 use Rattle.sci_core.proofs.Shape.Chains.{chain_same, none_empty}
 use Rattle.sci_core.proofs.Shape.Views.{View, link_in}
 use Rattle.sci_core.proofs.Shape.Standings.{role_of, Agrees, Leaves, Reads, Makes, Performs}

@@ -1,7 +1,7 @@
 -- A request that is served, or refused, leaves each line its shape and its last contents.
-use Rattle.std.proofs.Common.{◌≡◌, ◌≢◌, ℕ, ◌+◌, ◌*◌, ◌/◌, ◌%◌, ◌<◌, true, false, List, [], ◌∷◌, length, filter, Option, Some, None, refl, sym, ap, subst, ◌∙◌, arith}
+use Rattle.std.proofs.Common.{◌≡◌, ◌≢◌, ℕ, ◌%◌, ◌<◌, true, false, List, [], ◌∷◌, length, Option, Some, None, refl, sym, ap, subst, ◌∙◌, arith}
 use Rattle.std.proofs.Common.{inl, inr}
-use Rattle.std.specs.Prelude.{IfSome, option_to_list, slice_set, slice_index_or}
+use Rattle.std.specs.Prelude.{IfSome, slice_set}
 use Rattle.std.proofs.Math.Nat.{div-add-mod}
 use Rattle.std.proofs.lemmas.Bool.{cases_Bool, cases_eq}
 use Rattle.std.proofs.lemmas.List.{get_or-set_same, get_or-set_other}
@@ -10,14 +10,14 @@ use Rattle.sci_packets.specs.declared.body.Body.{Body}
 use Rattle.sci_packets.specs.declared.body.Body.TheVariants.{Busy}
 use Rattle.sci_packets.specs.Table.{is_request}
 use Rattle.sci_home.specs.declared.state.HomeState.{HomeState}
-use Rattle.sci_home.specs.Serving.{opening_home, home_serving as serving_of_home}
+use Rattle.sci_home.specs.Serving.{home_serving as serving_of_home}
 use Rattle.sci_cache.specs.State.{CacheState, waits}
 use Rattle.sci_cache.specs.Serving.{serving}
 use Rattle.sci_cache.specs.Line.{LineState, untouched, line_in}
 use Rattle.sci_cache.specs.Cache.{Letter, line_of, with_line}
 use Rattle.sci_core.specs.Node.{NodeOf, is_setback, lines_of, home_of, home_place, answering, with_answer, no_node}
 use Rattle.sci_core.specs.Core.{Core, node_at, with_node, lane_at, with_lane}
-use Rattle.sci_core.specs.Sharing.{is_about, packets_of, answer_in, home_at, answer_to as told}
+use Rattle.sci_core.specs.Sharing.{packets_of, answer_in, home_at, answer_to as told}
 use Rattle.sci_core.specs.Tidy.{IsSentIn, IsTidy}
 use Rattle.sci_core.specs.WellFormed.{IsPart}
 use Rattle.sci_core.proofs.Basics.Lists.{at_place_set}
@@ -79,7 +79,8 @@ told_here core n place next request rest body is tidy =
 pub told_other : (core : Core) (n place : ℕ) (next : NodeOf) (request : Letter) (rest : List Letter) (body : Body)
     → Answered core n place next request rest body → (m k : ℕ) → ((m ≡ request.source) × (k ≡ request.line) → ⊥)
     → told (with_lane (with_node core n next) place rest) m k ≡ told core m k
-told_other core n place next request rest body is m k not = grind (arith, cases_Bool, about_asker, request_asker, about_line, about_answer, filter_one, packets_same, filter_left)
+told_other core n place next request rest body is m k not =
+    grind (arith, cases_Bool, about_asker, request_asker, about_line, about_answer, filter_one, packets_same, filter_left)
 
 -- ---- if no state changes
 

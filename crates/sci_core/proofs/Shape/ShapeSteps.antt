@@ -1,5 +1,6 @@
 -- Every step but one that serves a request leaves each line's shape, and its last contents unless it performs a maker.
-use Rattle.std.proofs.Common.{◌≡◌, ◌≢◌, ℕ, ◌/◌, ◌%◌, ◌<◌, Bool, true, false, if◌then◌else◌, List, [], ◌∷◌, ◌++◌, length, filter, Option, Some, None, refl, sym, arith}
+use Rattle.std.proofs.Common.{◌≡◌, ◌≢◌, ℕ, ◌/◌, ◌%◌, ◌<◌, Bool, true, false, if◌then◌else◌, List, [], ◌∷◌, ◌++◌, length, filter, Option, Some, None, refl, sym}
+use Rattle.std.proofs.Common.{arith}
 use Rattle.std.proofs.Common.{ap, subst, ◌∙◌, inl, inr}
 use Rattle.std.specs.Prelude.{option_to_list, slice_index_or}
 use Rattle.std.proofs.lemmas.Bool.{cases_Bool}
@@ -128,7 +129,8 @@ asked_answer : (core : Core) (n line place : ℕ) (next : NodeOf) (letter : Lett
     → is_request letter.body ≡ true → letter.source ≡ n → line < core.size.lines → AsksOnce core.size.nodes line (node_at core n) (next, letter) → IsTidy core
     → (m k : ℕ) → is_about m k letter ≡ true
     → (told (with_lane (with_node core n next) place (lane_at core place ++ letter ∷ [])) m k ≡ None) × (told core m k ≡ None)
-asked_answer core n line place next letter lt below within asks from known once tidy m k about = grind (arith, request_asker, about_asker, about_line, idle_has_none, packets_asked, request_tells)
+asked_answer core n line place next letter lt below within asks from known once tidy m k about =
+    grind (arith, request_asker, about_asker, about_line, idle_has_none, packets_asked, request_tells)
 
 -- a line that no packet of a node is about
 asked_other : (core : Core) (n line place : ℕ) (next : NodeOf) (letter : Letter) → n < length core.parts → place < length core.lanes

@@ -21,7 +21,7 @@ use Rattle.sci_core.proofs.Shape.Chains.{chain_same, chain_front, chain_gone, no
 use Rattle.sci_core.proofs.Shape.Heads.{if_head}
 use Rattle.sci_core.proofs.Shape.Views.{View, link_in}
 use Rattle.sci_core.proofs.Shape.Standings.{Coming, Leading, role_of, Agrees, sight_of, Alike}
-use Rattle.sci_core.proofs.Shape.Led.{role_in, AgreesIn, AreFollowing, IsLed, AlikeIn, same_link, Stands, alike_stands, following_stand, led_weaker, led_stands}
+use Rattle.sci_core.proofs.Shape.Led.{role_in, AgreesIn, IsLed, AlikeIn, same_link, Stands, alike_stands, following_stand, led_weaker, led_stands}
 use Rattle.sci_core.proofs.Shape.Led.{led_agrees}
 
 -- ---- shapes
@@ -247,7 +247,8 @@ claim_shaped old new (at.Fresh p e) c a f d asks shaped =
     ))
     (λ is fresh. stays old new (at.Fresh p e) c a (Claiming f d) body.Wbno is (record { sight = refl; agrees = λ c_ h. h; accepts = λ h. refl }) fresh) asks
     shaped
-claim_shaped old new home c a f d asks shaped = stays old new home c a (Claiming f d) body.Wbno asks (record { sight = refl; agrees = λ c_ h. h; accepts = λ h. refl }) shaped
+claim_shaped old new home c a f d asks shaped =
+    stays old new home c a (Claiming f d) body.Wbno asks (record { sight = refl; agrees = λ c_ h. h; accepts = λ h. refl }) shaped
 
 -- the only one leaves, and the home has the line alone
 leaves_shaped : (old new : View) (home : HomeState) (c : Stamped) (p a : ℕ) (asker : CacheState) (back : Stamped) → head_of home ≡ Some p → p ≡ a
@@ -271,7 +272,8 @@ clear_shaped old new (at.Fresh p e) c a d asks shaped =
     (λ head is fresh. leaves_shaped old new (at.Fresh p e) c p a (Clearing d) e refl head is refl refl refl (λ ns h. h.led.0) fresh)
     (λ is fresh. stays old new (at.Fresh p e) c a (Clearing d) body.Wbno is (record { sight = refl; agrees = λ c_ h. h; accepts = λ h. refl }) fresh) asks
     shaped
-clear_shaped old new home c a d asks shaped = stays old new home c a (Clearing d) body.Wbno asks (record { sight = refl; agrees = λ c_ h. h; accepts = λ h. refl }) shaped
+clear_shaped old new home c a d asks shaped =
+    stays old new home c a (Clearing d) body.Wbno asks (record { sight = refl; agrees = λ c_ h. h; accepts = λ h. refl }) shaped
 
 -- what the front of a list writes back are the last contents
 returned : (old new : View) (c : Stamped) (p a : ℕ) (d : Stamped) → Asks old new a (Returning d) body.Wbok → (ns : List ℕ) → IsShaped old (at.Gone p) c ns
@@ -287,7 +289,8 @@ wback_shaped old new (at.Gone p) c a d asks shaped =
     if_head (HomeShapes old new a (Returning d) (at.Gone p) c) p a (at.Home d, body.Wbok) (at.Gone p, body.Wbno)
     (λ head is gone. leaves_shaped old new (at.Gone p) c p a (Returning d) d refl head is refl refl refl (returned old new c p a d is) gone)
     (λ is gone. stays old new (at.Gone p) c a (Returning d) body.Wbno is (record { sight = refl; agrees = λ c_ h. h; accepts = λ h. refl }) gone) asks shaped
-wback_shaped old new home c a d asks shaped = stays old new home c a (Returning d) body.Wbno asks (record { sight = refl; agrees = λ c_ h. h; accepts = λ h. refl }) shaped
+wback_shaped old new home c a d asks shaped =
+    stays old new home c a (Returning d) body.Wbno asks (record { sight = refl; agrees = λ c_ h. h; accepts = λ h. refl }) shaped
 
 -- ---- every request that comes to a home
 

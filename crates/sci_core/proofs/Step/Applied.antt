@@ -11,7 +11,7 @@ use Rattle.sci_core.specs.declared.lane.LaneKind.TheVariants.{Requests, Answers}
 use Rattle.sci_core.specs.Node.{NodeOf, IsForNode, IsServable, node_asking, replied_by, node_replying}
 use Rattle.sci_core.specs.Core.{Core, node_at, lane_place, lane_of, with_sent, sends, side, node_of, stepping}
 use Rattle.sci_core.specs.WellFormed.{IsInLane, IsWellFormed}
-use Rattle.sci_core.proofs.WellFormed.Parts.{SendsWell, part_asking}
+use Rattle.sci_core.proofs.WellFormed.Parts.{part_asking}
 use Rattle.sci_core.proofs.WellFormed.WellFormedSteps.{Comes, comes_from_lane}
 use Rattle.sci_core.proofs.Step.States.{read_node}
 use Rattle.sci_core.proofs.Step.Stepping.{stepping_sent}

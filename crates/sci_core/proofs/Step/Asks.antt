@@ -1,6 +1,6 @@
 -- What a node asks is what its cache asks, and what it serves at a home is what that home serves.
 use Rattle.std.proofs.Common.{◌≡◌, ℕ, ◌<◌, Bool, true, false, if◌then◌else◌, Some, None, Ok, Err, Result, Option, set, refl, ap, ◌∙◌, sym}
-use Rattle.std.specs.Prelude.{nat_lt, IfOk, IsOk, IfSome, IsSome}
+use Rattle.std.specs.Prelude.{nat_lt, IsOk, IfSome, IsSome}
 use Rattle.std.proofs.lemmas.Bool.{lt-ltb}
 use borrow.Author.Tests.{ltb-true}
 use Rattle.sci_cache.specs.declared.fault.AskFault.{AskFault}
@@ -37,16 +37,6 @@ pub may_ask : (node : NodeOf) (line : ℕ) (kind : AskKind) → IsSome (node_ask
 may_ask node line kind h =
     let by = may_ask_by node (nat_lt line (lines_of node)) (cache_asking node.cache line kind) h in
     (ltb-true line (lines_of node) by.0, by.1)
-
-asked_as : (node : NodeOf) (below : Bool) (made : Result (CacheOf × Letter) AskFault) (cache : CacheOf) → IfOk made (λ asked. cache ≡ asked.0)
-    → IfSome (if below then asked_by node made else None) (λ asked. record node { cache = cache } ≡ asked.0)
-asked_as node true (Ok asked) cache h = ap (λ (next : CacheOf). record node { cache = next }) h
-asked_as node true (Err fault) cache h = tt
-asked_as node false made cache h = tt
-
-pub asked_with : (node : NodeOf) (line : ℕ) (kind : AskKind) (cache : CacheOf) → IfOk (cache_asking node.cache line kind) (λ asked. cache ≡ asked.0)
-    → IfSome (node_asking node line kind) (λ asked. record node { cache = cache } ≡ asked.0)
-asked_with node line kind = asked_as node (nat_lt line (lines_of node)) (cache_asking node.cache line kind)
 
 pub home_served : (node : NodeOf) (request : Letter) (home next : HomeState) (answer : Body) → home ≡ home_of node request.line
     → home_serving home request.source request.body ≡ Some (next, answer)

@@ -1,5 +1,5 @@
 -- What each event does at its node: to the standing of the node's lines, to its homes, and to the answer that waits.
-use Rattle.std.proofs.Common.{◌≡◌, ℕ, ◌<◌, not, ◌&&◌, Bool, true, false, if◌then◌else◌, Option, Some, None, refl, sym, subst, inl, inr, arith, nat_lt}
+use Rattle.std.proofs.Common.{◌≡◌, ℕ, ◌<◌, Bool, true, false, if◌then◌else◌, Option, Some, None, refl, sym, subst, arith}
 use Rattle.std.specs.Prelude.{IfSome, is_some, ◌==◌, slice_set, option_map}
 use Rattle.std.proofs.lemmas.Option.{IfSome_then}
 use Rattle.std.proofs.lemmas.List.{get_or-set_same}
@@ -10,13 +10,13 @@ use Rattle.sci_packets.specs.declared.body.Body.TheVariants.{Busy}
 use Rattle.sci_history.specs.declared.entry.Entry.{Entry}
 use Rattle.sci_home.specs.declared.state.HomeState.{HomeState}
 use Rattle.sci_home.specs.Serving.{is_for_home, home_serving as serving_of_home}
-use Rattle.sci_cache.specs.State.{CacheState, is_out}
-use Rattle.sci_cache.specs.Asking.{Asked, asking}
+use Rattle.sci_cache.specs.State.{CacheState}
+use Rattle.sci_cache.specs.Asking.{Asked}
 use Rattle.sci_cache.specs.Serving.{serving}
 use Rattle.sci_cache.specs.Accepting.{accepting}
 use Rattle.sci_cache.specs.Performing.{Performed, performing}
 use Rattle.sci_cache.specs.Line.{LineState, untouched, last_control, line_in, line_asked, ask_or_fault}
-use Rattle.sci_cache.specs.Cache.{CacheOf, Letter, line_of, with_line, has_slot, cache_asking, cache_asked}
+use Rattle.sci_cache.specs.Cache.{CacheOf, Letter, line_of, with_line, cache_asked}
 use Rattle.sci_core.proofs.Basics.Options.{of_some}
 use Rattle.sci_core.specs.declared.pending.Pending.{Pending}
 use Rattle.sci_core.specs.Node.{NodeOf, lines_of, home_place, home_of, pending_on, entry_of, node_logged, may_issue, node_issued, node_issuing, performed_by}
@@ -167,7 +167,8 @@ accepted_as part answer true (Some s) is = record { state = s; accepts = is; the
 
 pub accept_as : (part : NodeOf) (answer : Letter) → IfSome (node_accepting part answer) (AcceptedAs part answer)
 accept_as part answer =
-    accepted_as part answer (answer.control == last_control (line_of part.cache answer.line)) (accepting (line_of part.cache answer.line).state answer.body) refl
+    accepted_as part answer (answer.control == last_control (line_of part.cache answer.line)) (accepting (line_of part.cache answer.line).state answer.body)
+    refl
 
 pub record AcceptsAlike (answer : Letter) (part next : NodeOf) : Type 0 where
   pub alike : answer.line < lines_of part → Alike (line_of part.cache answer.line).state (Some answer.body) (line_of next.cache answer.line).state None

@@ -1,6 +1,6 @@
 -- That the parts of a node stay together.
 use Rattle.std.proofs.Common.{◌≡◌, ℕ, ◌+◌, ◌/◌, ◌<◌, Some, None, Option, List, [], ◌∷◌, ◌++◌, length, get_or, set, ◌∙◌, arith}
-use Rattle.std.specs.Prelude.{IfSome, is_some, is_none, count_by, true}
+use Rattle.std.specs.Prelude.{IfSome, true}
 use Rattle.std.proofs.lemmas.List.Folds.{sum_by-replicate}
 use Rattle.std.proofs.lemmas.List.{length-replicate, get_or-replicate}
 use Rattle.std.proofs.lemmas.List.{length-set, get_or-set_same, get_or-set_other}
@@ -59,7 +59,8 @@ weaker_serial issued line (Some p) h = let serial = h.serial in record { here = 
 
 -- an operation is issued: it is pending, with the next serial
 pub node_with_issue : (node : NodeOf) (op : Op) → may_issue node op ≡ true → IsNode node → IsNode (node_issued node op)
-node_with_issue node op may is = grind (arith, and_parts, ltb-true, sum_by-set, not-true, length-set, cases_eq, get_or-set_same, get_or-set_other, weaker_serial)
+node_with_issue node op may is =
+    grind (arith, and_parts, ltb-true, sum_by-set, not-true, length-set, cases_eq, get_or-set_same, get_or-set_other, weaker_serial)
 
 pub opening_is_node : (me : ℕ) (size : Size) → 0 < size.nodes → IsNode (opening_node me size)
 opening_is_node me size some = grind (arith, length-replicate, cases_lt, get_or-replicate, get_or_past, sum_by-replicate)

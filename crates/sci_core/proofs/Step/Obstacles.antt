@@ -1,31 +1,22 @@
 -- Nothing stands in the way of an event exactly if it is enabled.
-use Rattle.std.proofs.Common.{◌≡◌, ℕ, ◌<◌, Bool, true, false, not, ◌&&◌, if◌then◌else◌, List, [], ◌∷◌, Option, Some, None, refl, sym, ap, ◌∙◌, inl, inr, nat_lt}
+use Rattle.std.proofs.Common.{◌≡◌, ℕ, ◌<◌, Bool, true, false, if◌then◌else◌, List, [], ◌∷◌, Option, Some, None, refl, sym, ap, ◌∙◌}
 use Rattle.std.proofs.Common.{arith}
-use Rattle.std.specs.Prelude.{option_map, IfSome, IsSome, is_some, is_none, is_ok, Result, Ok, Err, slice_get}
+use Rattle.std.specs.Prelude.{option_map, IfSome, IsSome, is_some, is_none, Result, Ok, Err, slice_get}
 use Rattle.std.proofs.lemmas.Bool.{cases_Bool, lt-ltb, ltb-true, ltb-false}
-use Rattle.sci_words.specs.declared.limits.TheConstants.{WORDS_PER_LINE}
 use Rattle.sci_words.specs.declared.event.AskKind.{AskKind}
 use Rattle.sci_words.specs.declared.event.Event.{Event}
 use Rattle.sci_words.specs.declared.event.Event.TheVariants as event
 use Rattle.sci_words.specs.declared.operation.Op.{Op}
-use Rattle.sci_words.specs.Operation.{has_words}
 use Rattle.sci_packets.specs.declared.packet.Packet.{Packet}
 use Rattle.sci_cache.specs.declared.fault.AskFault.{AskFault}
-use Rattle.sci_cache.specs.declared.fault.AskFault.TheVariants as fault
-use Rattle.sci_cache.specs.Asking.{Asked, asking}
-use Rattle.sci_cache.specs.Cache.{CacheOf, Letter, letter_of, line_of, has_slot, cache_asked, cache_asking}
-use Rattle.sci_cache.specs.Line.{ask_or_fault, line_asking}
-use Rattle.sci_cache.specs.State.{CacheState, Out, is_out}
+use Rattle.sci_cache.specs.Cache.{CacheOf, Letter, letter_of}
 use Rattle.sci_core.specs.declared.obstacle.Obstacle.{Obstacle}
-use Rattle.sci_core.specs.declared.obstacle.Obstacle.TheVariants.{NoSuchSender, NoSuchLine, NoSuchWord, AlreadyPending, NoIssueLeft, NothingPending, NotAllowed}
-use Rattle.sci_core.specs.declared.obstacle.Obstacle.TheVariants.{NotAsked, NoSlot, NoAnswerWaits}
-use Rattle.sci_core.specs.declared.pending.Pending.{Pending}
 use Rattle.sci_core.specs.declared.taking.Taking.{Taking}
 use Rattle.sci_core.specs.declared.taking.Taking.TheVariants.{Serve, Refuse, Accept}
 use Rattle.sci_core.specs.Node.{NodeOf, node_issuing, node_performing, node_asking, node_serving, node_refusing, node_replying, node_accepting, is_setback}
-use Rattle.sci_core.specs.Node.{answered_by, serving_request, lines_of, pending_on, node_issued, performing_pending, asked_by, replied_by}
+use Rattle.sci_core.specs.Node.{answered_by, serving_request, lines_of, asked_by}
 use Rattle.sci_core.specs.Core.{Core, node_at, node_of, lane_of, stepping}
-use Rattle.sci_core.specs.Obstacles.{unless, issue_obstacle, perform_obstacle, asked_obstacle, ask_obstacle, reply_obstacle, packet_obstacle, front_obstacle}
+use Rattle.sci_core.specs.Obstacles.{asked_obstacle, ask_obstacle, packet_obstacle, front_obstacle}
 use Rattle.sci_core.specs.Obstacles.{take_obstacle}
 use Rattle.sci_core.specs.Reached.{IsReached}
 use Rattle.sci_core.specs.Taking.{lane_kind, taking_event}
@@ -131,88 +122,7 @@ take_free core e taking from n o is reached lt told =
     ap is_none told ∙ take_told core taking from n reached (omega (arith, ap node_of is, taker_here taking from n))
     ∙ ap (λ (k : Event). is_some (stepping core k)) (sym is)
 
--- ---- the sides of a node
-
-issue_bits : {X : Type 0} (line word words unpending left : Bool) (x : X) → words ≡ true
-    → is_none (unless line NoSuchLine (unless word NoSuchWord (unless unpending AlreadyPending (unless left NoIssueLeft None)))) ≡ is_some
-    (if (((line && word) && words) && (unpending && left)) then Some x else None)
-issue_bits line word words unpending left x e = grind arith
-
-pub issue_told : (node : NodeOf) (op : Op) → has_words op.act ≡ true → is_none (issue_obstacle node op) ≡ is_some (node_issuing node op)
-issue_told node op words = issue_bits (nat_lt op.line (lines_of node)) (nat_lt op.word WORDS_PER_LINE) (has_words op.act) (is_none (pending_on node op.line))
-    (nat_lt node.issued node.limit) (node_issued node op) words
-
-allowed : (b : Bool) → is_none (unless b NotAllowed None) ≡ b
-allowed true = refl
-allowed false = refl
-
-perform_of : (node : NodeOf) (line : ℕ) (pending : Option Pending)
-    → is_none (unless (is_some pending) NothingPending (unless (is_some (performing_pending node line pending)) NotAllowed None)) ≡ is_some
-    (performing_pending node line pending)
-perform_of node line None = refl
-perform_of node line (Some pending) = allowed (is_some (performing_pending node line (Some pending)))
-
-pub perform_told : (node : NodeOf) (line : ℕ) → is_none (perform_obstacle node line) ≡ is_some (node_performing node line)
-perform_told node line = perform_of node line (pending_on node line)
-
-asked_is : (node : NodeOf) (made : Result (CacheOf × Letter) AskFault) → is_none (asked_obstacle made) ≡ is_some (asked_by node made)
-asked_is node (Ok asked) = refl
-asked_is node (Err fault.NotNow) = refl
-asked_is node (Err fault.NoSlot) = refl
-
-ask_of : (node : NodeOf) (made : Result (CacheOf × Letter) AskFault) (below : Bool)
-    → is_none (unless below NoSuchLine (asked_obstacle made)) ≡ is_some (if below then asked_by node made else None)
-ask_of node made true = asked_is node made
-ask_of node made false = refl
-
-pub ask_told : (node : NodeOf) (line : ℕ) (kind : AskKind) → is_none (ask_obstacle node line kind) ≡ is_some (node_asking node line kind)
-ask_told node line kind = ask_of node (cache_asking node.cache line kind) (nat_lt line (lines_of node))
-
-reply_of : (node : NodeOf) (waiting : Option Letter) → is_none (unless (is_some waiting) NoAnswerWaits None) ≡ is_some (replied_by node waiting)
-reply_of node None = refl
-reply_of node (Some answer) = refl
-
-pub reply_told : (node : NodeOf) → is_none (reply_obstacle node) ≡ is_some (node_replying node)
-reply_told node = reply_of node node.waiting
-
 -- ---- why an Ask is refused
-
-out_only : (state : CacheState) → is_out state ≡ true → state ≡ Out
-out_only Out e = refl
-out_only _ e = cc
-
-slot_of : (made : Option Asked) (lacks : Bool) → is_some made ≡ true → is_ok (ask_or_fault made lacks) ≡ false → ask_or_fault made lacks ≡ Err fault.NoSlot
-slot_of None lacks some err = cc
-slot_of (Some asked) true some err = refl
-slot_of (Some asked) false some err = cc
-
-now_of : (made : Option Asked) (lacks : Bool) → is_some made ≡ false → ask_or_fault made lacks ≡ Err fault.NotNow
-now_of None lacks none = refl
-now_of (Some asked) lacks none = cc
-
-now_free : (made : Option Asked) (lacks : Bool) → lacks ≡ false → is_ok (ask_or_fault made lacks) ≡ false → ask_or_fault made lacks ≡ Err fault.NotNow
-now_free None lacks e err = refl
-now_free (Some asked) true e err = cc
-now_free (Some asked) false e err = cc
-
-is_err_by : (node : NodeOf) (made : Result (CacheOf × Letter) AskFault) → asked_by node made ≡ None → is_ok made ≡ false
-is_err_by node (Ok asked) e = cc
-is_err_by node (Err why) e = refl
-
-asked_ok : (cache : CacheOf) (line : ℕ) (made : Result Asked AskFault) → is_ok (cache_asked cache line made) ≡ is_ok made
-asked_ok cache line (Ok asked) = refl
-asked_ok cache line (Err why) = refl
-
--- a line without an entry that would ask this lacks a slot
-pub slot_lacks : (node : NodeOf) (line : ℕ) (kind : AskKind) → line < lines_of node → node_asking node line kind ≡ None
-    → is_out (line_of node.cache line).state ≡ true → is_some (asking Out kind) ≡ true → ask_obstacle node line kind ≡ Some NoSlot
-slot_lacks node line kind below none out begins = grind (arith, out_only, slot_of, asked_ok, is_err_by, if_true, lt-ltb)
-
--- any other refused ask is one that the state doesn't make
-pub state_lacks : (node : NodeOf) (line : ℕ) (kind : AskKind) (out : Bool) → line < lines_of node → node_asking node line kind ≡ None
-    → is_out (line_of node.cache line).state ≡ out → (out && is_some (asking Out kind)) ≡ false → ask_obstacle node line kind ≡ Some NotAsked
-state_lacks node line kind true below none is other = grind (arith, out_only, if_true, lt-ltb, now_of)
-state_lacks node line kind false below none is other = grind (arith, now_free, asked_ok, is_err_by, if_true, lt-ltb)
 
 free_of : (node : NodeOf) (made : Result (CacheOf × Letter) AskFault) (sent : NodeOf × Letter) → asked_by node made ≡ Some sent → asked_obstacle made ≡ None
 free_of node (Ok asked) sent e = refl

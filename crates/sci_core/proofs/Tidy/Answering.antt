@@ -15,7 +15,6 @@ use Rattle.sci_packets.specs.declared.body.Body.{Body}
 use Rattle.sci_packets.specs.Table.{is_request}
 use Rattle.sci_cache.specs.Cache.{Letter, line_of}
 use Rattle.sci_cache.specs.Line.{LineState}
-use Rattle.sci_cache.specs.State.{waits}
 use Rattle.sci_core.specs.declared.lane.LaneKind.TheVariants.{Requests, Answers}
 use Rattle.sci_core.specs.Node.{NodeOf, no_node}
 use Rattle.sci_core.specs.Core.{Core, node_at, lane_at, lane_of, lane_place}
@@ -138,17 +137,6 @@ asked_carried core place n line tidy below lt inside asks =
     ap (λ (letters : List Letter). first ++ letters) (split_at carried core.lanes place [] below) ∙ sym (append_assoc first before (here ++ after)) in
     ap (seek n line) parts ∙ asked_in n line (first ++ before) here after
     (subst (λ (letters : List Letter). length (filter (is_about n line) letters) ≤ 1) parts few) asks
-
--- nor is one if none is awaited
-unawaited : (home : ℕ) (line : LineState) (letters : List Letter) → HasItsPackets home line letters → waits line.state ≡ false → answer_in letters ≡ None
-unawaited home line [] has idle = refl
-unawaited home line (letter ∷ []) has idle = let waiting : waits line.state ≡ true = has.waiting in cc
-unawaited home line (letter ∷ another ∷ letters) has idle = absurd has
-
-pub none_awaited : (core : Core) (n line : ℕ) → IsTidy core → n < core.size.nodes → line < core.size.lines
-    → waits (line_of (node_at core n).cache line).state ≡ false → answer_to core n line ≡ None
-none_awaited core n line tidy lt inside idle =
-    unawaited (line % core.size.nodes) (line_of (node_at core n).cache line) (packets_of core n line) (tidy n line lt inside) idle
 
 -- ---- nothing is found
 

@@ -18,7 +18,7 @@ use Rattle.sci_core.specs.Node.{NodeOf, no_node}
 use Rattle.sci_core.specs.Reached.{IsReachable}
 use Rattle.sci_core.specs.Sharing.{asker_of, is_about, packets_of, under_way}
 use Rattle.sci_core.specs.Tidy.{HasItsPackets}
-use Rattle.sci_core.specs.WellFormed.{IsAnswerLetter, IsInLane, IsLetter, IsWellFormed}
+use Rattle.sci_core.specs.WellFormed.{IsAnswerLetter, IsInLane, IsWellFormed}
 use Rattle.sci_core.proofs.Tidy.TidyRuns.{any_tidy}
 use Rattle.sci_core.proofs.Tidy.TidySteps.{about_from}
 use Rattle.sci_core.proofs.WellFormed.WellFormedSteps.{any_well}

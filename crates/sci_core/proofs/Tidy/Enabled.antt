@@ -1,7 +1,7 @@
 -- What comes by a lane of a reached state is taken, and is waited for.
-use Rattle.std.proofs.Common.{◌≡◌, ℕ, ◌<◌, ◌%◌, Bool, true, false, if◌then◌else◌, List, [], ◌∷◌, Option, Some, None, refl, sym, ap, subst, ◌∙◌, inl, inr, rules, arith}
+use Rattle.std.proofs.Common.{◌≡◌, ℕ, ◌<◌, ◌%◌, Bool, true, false, if◌then◌else◌, List, [], ◌∷◌, Option, Some, None, refl, sym, ap, subst, ◌∙◌, rules, arith}
 use Rattle.std.specs.Prelude.{option_map, ◌==◌, IsSome, is_some, slice_get}
-use Rattle.std.proofs.lemmas.Bool.{cases_Bool, eq-eqb}
+use Rattle.std.proofs.lemmas.Bool.{eq-eqb}
 use Rattle.sci_packets.specs.declared.body.Body.{Body}
 use Rattle.sci_packets.specs.declared.body.Body.TheVariants as body
 use Rattle.sci_packets.specs.Table.{IsRequest}
@@ -16,8 +16,8 @@ use Rattle.sci_core.proofs.Basics.Lists.{if_cases}
 use Rattle.sci_core.proofs.Basics.Options.{map_some}
 use Rattle.sci_core.specs.declared.lane.LaneKind.{LaneKind}
 use Rattle.sci_core.specs.declared.lane.LaneKind.TheVariants.{Requests, Answers}
-use Rattle.sci_core.specs.Node.{NodeOf, home_of, served_at_home, served_in_cache, serving_at_home, serving_in_cache, serving_request, answered_by, node_serving}
-use Rattle.sci_core.specs.Node.{node_refusing, with_answer, is_setback, accepted_by}
+use Rattle.sci_core.specs.Node.{NodeOf, serving_request, answered_by, node_serving}
+use Rattle.sci_core.specs.Node.{node_refusing, is_setback, accepted_by}
 use Rattle.sci_core.specs.Core.{Core, node_at, lane_place, lane_of}
 use Rattle.sci_core.specs.Enabled.{IsAcceptedAt, AreServedAt}
 use Rattle.sci_core.specs.Reached.{IsReachable, IsReached}

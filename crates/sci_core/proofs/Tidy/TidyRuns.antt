@@ -9,10 +9,10 @@ use Rattle.sci_history.specs.declared.entry.Entry.{Entry}
 use Rattle.sci_cache.specs.State.{waits}
 use Rattle.sci_cache.specs.Cache.{Letter}
 use Rattle.sci_packets.specs.Table.{is_request}
-use Rattle.sci_core.specs.declared.lane.LaneKind.TheVariants.{Requests, Answers as AnswerLane}
-use Rattle.sci_core.specs.Node.{NodeOf, opening_node, node_issuing, node_performing, node_asking, node_serving, node_refusing, node_replying, node_accepting}
+use Rattle.sci_core.specs.declared.lane.LaneKind.TheVariants.{Requests}
+use Rattle.sci_core.specs.Node.{NodeOf, opening_node, node_performing, node_serving, node_refusing, node_accepting}
 use Rattle.sci_core.specs.Node.{lines_of}
-use Rattle.sci_core.specs.Core.{Core, node_at, lane_place, stepping, step, opening, run_from, run}
+use Rattle.sci_core.specs.Core.{Core, node_at, stepping, step, opening, run_from, run}
 use Rattle.sci_core.specs.Done.{performed}
 use Rattle.sci_core.specs.Reached.{IsReachable, IsReached}
 use Rattle.sci_core.specs.Sharing.{packets_of}
@@ -21,7 +21,7 @@ use Rattle.sci_core.specs.WellFormed.{IsPart, IsWellFormed}
 use Rattle.sci_core.proofs.Basics.Options.{of_some}
 use Rattle.sci_core.proofs.WellFormed.Parts.{part_serving, part_refusing}
 use Rattle.sci_core.proofs.WellFormed.WellFormedSteps.{step_well, run_well, is_size, reachable, opened}
-use Rattle.sci_core.proofs.Tidy.WaitingNodes.{Stays, AsksOnce, Answers, Replies, Accepts, issue_stays, perform_stays, ask_once, serve_answers, refuse_answers}
+use Rattle.sci_core.proofs.Tidy.WaitingNodes.{Stays, Answers, Accepts, issue_stays, perform_stays, ask_once, serve_answers, refuse_answers}
 use Rattle.sci_core.proofs.Tidy.WaitingNodes.{reply_replies, accept_accepts}
 use Rattle.sci_core.proofs.Step.Steps.{Taken, Stepped, By_issue, By_perform, By_ask, By_serve, By_refuse, By_reply, By_accept, stepping_stepped}
 use Rattle.sci_core.proofs.Tidy.TidySteps.{changed_tidy, asked_tidy, replied_tidy, served_tidy, accepted_tidy}

@@ -1,27 +1,23 @@
 -- What each side of an event does with the waits of a node.
-use Rattle.std.proofs.Common.{◌≡◌, ℕ, ◌%◌, ◌<◌, ◌≢◌, ◌&&◌, not, Bool, true, false, if◌then◌else◌, Option, Some, None, refl, sym, ap, subst, ◌∙◌, arith}
-use Rattle.std.specs.Prelude.{◌==◌, IfSome, is_some, option_map}
+use Rattle.std.proofs.Common.{◌≡◌, ℕ, ◌%◌, ◌<◌, ◌≢◌, Bool, true, false, if◌then◌else◌, Option, Some, None, refl, ap, subst, ◌∙◌, arith}
+use Rattle.std.specs.Prelude.{IfSome, is_some}
 use Rattle.std.proofs.lemmas.Option.{IfSome_then}
 use Rattle.std.proofs.lemmas.List.{get_or-set_same, get_or-set_other}
 use Rattle.sci_words.specs.declared.limits.TheConstants.{CONTROLS}
 use Rattle.sci_words.specs.declared.event.AskKind.{AskKind}
 use Rattle.sci_words.specs.declared.operation.Op.{Op}
 use Rattle.sci_packets.specs.declared.body.Body.{Body}
-use Rattle.sci_packets.specs.declared.body.Body.TheVariants.{Busy}
 use Rattle.sci_history.specs.declared.entry.Entry.{Entry}
-use Rattle.sci_home.specs.declared.state.HomeState.{HomeState}
-use Rattle.sci_home.specs.Serving.{is_for_home, home_serving as serving_at_home_of}
-use Rattle.sci_cache.specs.State.{CacheState, waits, is_out}
-use Rattle.sci_cache.specs.Asking.{Asked, asking}
+use Rattle.sci_cache.specs.State.{CacheState, waits}
+use Rattle.sci_cache.specs.Asking.{Asked}
 use Rattle.sci_cache.specs.Serving.{serving}
 use Rattle.sci_cache.specs.Accepting.{accepting}
 use Rattle.sci_cache.specs.Performing.{Performed, performing}
-use Rattle.sci_cache.specs.Line.{LineState, untouched, last_control, line_in, line_asked, ask_or_fault}
-use Rattle.sci_cache.specs.Cache.{CacheOf, Letter, line_of, with_line, has_slot, target_of, letter_asking, cache_asking, cache_asked}
-use Rattle.sci_core.specs.declared.pending.Pending.{Pending}
-use Rattle.sci_core.specs.Node.{NodeOf, lines_of, home_of, pending_on, may_issue, node_issued, node_issuing, performed_by, performing_pending, node_performing}
-use Rattle.sci_core.specs.Node.{asked_by, node_asking, answering, served_at_home, served_in_cache, serving_at_home, serving_in_cache, serving_request}
-use Rattle.sci_core.specs.Node.{answered_by, node_serving, is_setback, with_answer, node_refusing, replied_by, node_replying, accepted_by, node_accepting}
+use Rattle.sci_cache.specs.Line.{LineState, untouched, line_in, line_asked, ask_or_fault}
+use Rattle.sci_cache.specs.Cache.{CacheOf, Letter, line_of, with_line, target_of, letter_asking, cache_asked}
+use Rattle.sci_core.specs.Node.{NodeOf, lines_of, may_issue, node_issued, node_issuing, node_performing}
+use Rattle.sci_core.specs.Node.{asked_by, node_asking, answering, serving_request}
+use Rattle.sci_core.specs.Node.{answered_by, node_serving, node_refusing, replied_by, node_replying, node_accepting}
 use Rattle.sci_core.specs.Tidy.{IsAwaited}
 use Rattle.sci_core.proofs.Basics.Lists.{if_either, at_place_set}
 use Rattle.sci_core.proofs.Basics.Options.{if_below, of_some}

@@ -1,6 +1,6 @@
 -- Each side of an event leaves a node's part well formed, and makes packets that are.
-use Rattle.std.proofs.Common.{◌≡◌, ℕ, ◌+◌, ◌<◌, ◌%◌, ◌&&◌, not, Bool, true, false, if◌then◌else◌, set, Option, Some, None, refl, subst, ◌∙◌, mod-lt, arith}
-use Rattle.std.specs.Prelude.{◌==◌, IfSome, option_map}
+use Rattle.std.proofs.Common.{◌≡◌, ℕ, ◌+◌, ◌<◌, ◌%◌, ◌&&◌, not, Bool, true, false, set, Option, Some, None, refl, subst, ◌∙◌, mod-lt, arith}
+use Rattle.std.specs.Prelude.{IfSome}
 use Rattle.std.proofs.lemmas.List.{length-set}
 use Rattle.std.proofs.lemmas.Option.{IfSome_then}
 use Rattle.sci_words.specs.declared.event.AskKind.{AskKind}
@@ -10,19 +10,19 @@ use Rattle.sci_packets.specs.declared.body.Body.{Body}
 use Rattle.sci_packets.specs.Table.{is_request}
 use Rattle.sci_history.specs.declared.entry.Entry.{Entry}
 use Rattle.sci_home.specs.declared.state.HomeState.{HomeState}
-use Rattle.sci_home.specs.Serving.{opening_home, is_for_home, home_serving as serving_at_home_of}
+use Rattle.sci_home.specs.Serving.{opening_home, home_serving as serving_at_home_of}
 use Rattle.sci_cache.specs.State.{CacheState, is_out}
-use Rattle.sci_cache.specs.Asking.{Asked, asking}
+use Rattle.sci_cache.specs.Asking.{Asked}
 use Rattle.sci_cache.specs.Serving.{serving}
 use Rattle.sci_cache.specs.Accepting.{accepting}
 use Rattle.sci_cache.specs.Performing.{Performed, performing}
-use Rattle.sci_cache.specs.Line.{LineState, untouched, line_in, line_asked, last_control, ask_or_fault}
-use Rattle.sci_cache.specs.Cache.{CacheOf, Letter, line_of, with_line, target_of, letter_asking, cache_asked, has_slot, cache_asking}
+use Rattle.sci_cache.specs.Line.{LineState, untouched, line_in, line_asked, ask_or_fault}
+use Rattle.sci_cache.specs.Cache.{CacheOf, Letter, line_of, with_line, target_of, letter_asking, cache_asked, has_slot}
 use Rattle.sci_core.specs.declared.pending.Pending.{Pending}
-use Rattle.sci_core.specs.Node.{NodeOf, home_of, home_place, pending_on, may_issue, node_issued, node_issuing, node_logged, entry_of, performed_by}
-use Rattle.sci_core.specs.Node.{performing_pending, node_performing, asked_by, node_asking, answering, served_at_home, served_in_cache, serving_at_home}
-use Rattle.sci_core.specs.Node.{serving_in_cache, serving_request, answered_by, node_serving, node_refusing, replied_by, node_replying, accepted_by}
-use Rattle.sci_core.specs.Node.{node_accepting, lines_of}
+use Rattle.sci_core.specs.Node.{NodeOf, home_of, home_place, pending_on, may_issue, node_issued, node_issuing, node_logged, entry_of}
+use Rattle.sci_core.specs.Node.{node_performing, asked_by, node_asking, answering}
+use Rattle.sci_core.specs.Node.{node_serving, node_refusing, replied_by, node_replying}
+use Rattle.sci_core.specs.Node.{node_accepting}
 use Rattle.sci_core.specs.WellFormed.{IsBelow, NamesNodes, HomeNamesNodes, BodyNamesNodes, IsRequestLetter, IsAnswerLetter, IsPart}
 use Rattle.sci_core.proofs.Basics.Lists.{at_set, if_either, if_cases}
 use Rattle.sci_core.proofs.Basics.Options.{if_below, of_some}

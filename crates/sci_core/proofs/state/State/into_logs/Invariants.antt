@@ -10,4 +10,4 @@ invariant-loop-node l =
     (length l.logs ≡ 16)
     × (l.yielded ++ l.node-iterator.rest.items ≡ all.nodes.items)
     × ((k : ℕ) → log_of l.logs k
-        ≡ if nat_lt k (length l.yielded) then (node_at (core_of all.extent all.limit all.nodes.items all.lanes.items) k).log else [])
+    ≡ if nat_lt k (length l.yielded) then (node_at (core_of all.extent all.limit all.nodes.items all.lanes.items) k).log else [])
