@@ -138,16 +138,12 @@ reached_logged core reached = any_logged core (reachable core reached)
 
 -- each log of a reached state has its own node's entries of the schedule
 pub reached_log : (core : Core) (reached : IsReached core) (node : ℕ) → (node_at core node).log ≡ filter (is_of_node node) (done core.size reached.schedule)
-reached_log core reached node =
-    subst (λ (x : Core). (node_at x node).log ≡ filter (is_of_node node) (done core.size reached.schedule)) reached.leads
-    (schedule_log core.size reached.schedule node (is_size core.size reached.size))
+reached_log core reached node = grind (arith, schedule_log, is_size)
 
 -- and its entries on a line are the line's history
 pub reached_history : (core : Core) (reached : IsReached core) (line : ℕ) → line < core.size.lines
     → IsHistory (filter (is_on_line line) (done core.size reached.schedule)) zero_stamped (last_at core line)
-reached_history core reached line inside =
-    subst (λ (x : Core). IsHistory (filter (is_on_line line) (done core.size reached.schedule)) zero_stamped (last_at x line)) reached.leads
-    (schedule_history core.size reached.schedule line (is_size core.size reached.size) inside)
+reached_history core reached line inside = grind (arith, schedule_history, is_size)
 
 pub last_within : (core : Core) (line : ℕ) → line < core.size.lines → stamped_at (last_of core) line ≡ last_at core line
 last_within core line inside = get_or-map-range_with_len (last_at core) 0 core.size.lines line line zero_stamped inside (omega arith)
@@ -176,9 +172,7 @@ schedule_line size schedule line sizes =
 
 line_history : (core : Core) (reached : IsReachable core) (line : ℕ)
     → IsHistory (filter (is_on_line line) (done core.size reached.schedule)) zero_stamped (stamped_at (last_of core) line)
-line_history core reached line =
-    subst (λ (x : Core). IsHistory (filter (is_on_line line) (done core.size reached.schedule)) zero_stamped (stamped_at (last_of x) line)) reached.leads
-    (schedule_line core.size reached.schedule line reached.size)
+line_history core reached line = grind (arith, schedule_line)
 
 line_logged : (core : Core) (reached : IsReachable core) (line node : ℕ) → node < MAX_NODES
     → filter (is_on_line line) (log_of (logs_of core) node) ≡ filter (is_of_node node) (filter (is_on_line line) (done core.size reached.schedule))

@@ -187,9 +187,7 @@ TurnedAt core new line ns arrival = Turned (view_of core line) (view_of new line
 
 stood_turned : (core new : Core) (line : ℕ) (c : Stamped) (ns : List ℕ) → SameLine core new line → IsShaped (view_of core line) (home_at core line) c ns
     → TurnedAt core new line ns []
-stood_turned core new line c ns same is =
-    subst (λ (h : HomeState). Turned (view_of core line) (view_of new line) (head_of h) ns []) (sym same.home)
-    (turned_alike (view_of core line) (view_of new line) (head_of (home_at core line)) ns same.alike is.list)
+stood_turned core new line c ns same is = grind (arith, view_of, turned_alike)
 
 -- an operation
 left_turned : (old new : View) (first : Option ℕ) (ns : List ℕ) (q : ℕ) (op : Op) (c : Stamped) (next : CacheState) → Moves old new q next
@@ -278,9 +276,7 @@ home_turned_at core n place request rest served part at is serves tidy line c ns
 -- a cache serves
 served_apart : (core : Core) (n : ℕ) (request : Letter) (served : CacheState × Body) (j : ℕ) → j ≢ request.line
     → (line_of (with_served (node_at core n) request served.0 served.1).cache j).state ≡ (line_of (node_at core n).cache j).state
-served_apart core n request served j apart =
-    ap (λ (l : LineState). l.state)
-    (get_or-set_other (node_at core n).cache.lines request.line j (line_in (line_of (node_at core n).cache request.line) served.0) untouched apart)
+served_apart core n request served j apart = grind (arith, get_or-set_other)
 
 cache_turned_at : (core : Core) (n place : ℕ) (request : Letter) (rest : List Letter) (served : CacheState × Body) → IsPart core.size n (node_at core n)
     → Answered core n place (with_served (node_at core n) request served.0 served.1) request rest served.1

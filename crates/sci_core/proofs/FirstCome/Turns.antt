@@ -169,9 +169,7 @@ claim_turns old new home a f d = answers_alike old new home a (Claiming f d) bod
 front_leads : (view : View) (first : Option ℕ) (a : ℕ) (ns : List ℕ) → first ≡ Some a → role_in view a ≡ Some Leading → LinkedFrom (link_in view) first ns
     → coming_in view ns ≡ []
 front_leads view first a [] head leads linked = refl
-front_leads view first a (n ∷ ns) head leads linked =
-    let here : n ≡ a = (let e = linked.0 in cc) in
-    coming_ends view n ns (ap (role_in view) here ∙ leads)
+front_leads view first a (n ∷ ns) head leads linked = grind (arith, coming_ends, role_in)
 
 -- the only one leaves
 leaves_turns : (old new : View) (home : HomeState) (back : Stamped) (p a : ℕ) (asker : CacheState) → head_of home ≡ Some p → p ≡ a
@@ -206,9 +204,7 @@ arrival_by a request = if enters request then a ∷ [] else []
 
 pub home_turned : (h a : ℕ) (home : HomeState) (old new : View) (asker : CacheState) (letter : Letter) → IsSentIn h asker letter
     → IfSome (at_home home a letter.body) (HomeTurns old new a asker home (arrival_by a letter.body))
-home_turned h a home old new =
-    home_sent (λ asker request. HomeTurns old new a asker home (arrival_by a request)) h a home (mread_turns old new home a) (fread_turns old new home a)
-    (claim_turns old new home a) (clear_turns old new home a) (wback_turns old new home a)
+home_turned h a home old new = grind (arith, home_sent, mread_turns, fread_turns, claim_turns, clear_turns, wback_turns)
 
 -- ---- a cache serves
 
@@ -216,9 +212,7 @@ home_turned h a home old new =
 coming_without : (old new : View) (c : Stamped) (must : Bool) (y : ℕ) (ns : List ℕ) → role_in old y ≡ Some Following
     → ((n : ℕ) → n ≢ y → role_in new n ≡ role_in old n) → IsLed old c must ns → coming_in new (without y ns) ≡ coming_in old ns
 coming_without old new c must y [] follows same led = elim led [ ]
-coming_without old new c must y (n ∷ ns) follows same (front, inl leads) =
-    let other : n ≢ y = λ e. roles_differ Leading Following (role_in old n) leads.0 (ap (role_in old) e ∙ follows) (λ s. cc) in
-    ap (coming_in new) (without_other y n ns other) ∙ (coming_ends new n (without y ns) (same n other ∙ leads.0) ∙ sym (coming_ends old n ns leads.0))
+coming_without old new c must y (n ∷ ns) follows same (front, inl leads) = grind (arith, roles_differ, role_in, without_other, coming_ends, without)
 coming_without old new c must y (n ∷ ns) follows same (front, inr comes) =
     let other : n ≢ y = λ e. roles_differ Coming Following (role_in old n) comes.0 (ap (role_in old) e ∙ follows) (λ s. cc) in
     let rest = coming_without old new c _ y ns follows same comes.1 in

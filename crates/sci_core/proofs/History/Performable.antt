@@ -1,5 +1,5 @@
 -- An operation can be performed only on a line that has contents.
-use Rattle.std.proofs.Common.{◌≡◌, ℕ, true, Option, Some, None, refl, sym, ap, ◌∙◌}
+use Rattle.std.proofs.Common.{◌≡◌, ℕ, true, Option, Some, None, refl, sym, ap, ◌∙◌, arith}
 use Rattle.std.specs.Prelude.{IfSome, IsSome, option_map}
 use Rattle.sci_words.specs.declared.operation.Op.{Op}
 use Rattle.sci_cache.specs.State.{CacheState, Head, FreshHead, Below}
@@ -22,9 +22,7 @@ has_contents _ op e = cc
 pending_performs : (node : NodeOf) (line : ℕ) (pending : Option Pending) → IfSome pending (IsPendingOn node.issued line)
     → IsSome (performing_pending node line pending) → could_give_way (line_of node.cache line).state ≡ true
 pending_performs node line None is e = cc
-pending_performs node line (Some p) is e =
-    ap (λ (l : ℕ). could_give_way (line_of node.cache l).state) (sym is.here)
-    ∙ has_contents (line_of node.cache p.op.line).state p.op (mapped_twice _ _ (performing (line_of node.cache p.op.line).state p.op) e)
+pending_performs node line (Some p) is e = grind (arith, has_contents, mapped_twice)
 
 pub performs_with_contents : (node : NodeOf) → IsNode node → (line : ℕ) → IsSome (node_performing node line)
     → could_give_way (line_of node.cache line).state ≡ true

@@ -299,9 +299,7 @@ none_waiting : (core : Core) → sum_by (λ (part : NodeOf). answer_weight part.
 none_waiting core none n = none_waits (node_at core n).waiting (none_of_sum (λ (part : NodeOf). answer_weight part.waiting) core.parts n no_node none refl)
 
 pub reply_on : (core : Core) (n : ℕ) (answer : Letter) → n < core.size.nodes → (node_at core n).waiting ≡ Some answer → IsEnabled core (event.Reply n)
-reply_on core n answer lt waits =
-    subst IsSome (sym ((steps_by_sides core n lt).reply
-    ∙ ap (option_map (λ (s : NodeOf × Letter). sent_by core n Answers s.0 s.1)) (waits_replying (node_at core n) answer waits))) refl
+reply_on core n answer lt waits = grind (arith, steps_by_sides, waits_replying)
 
 taken_on : (core : Core) (n from : ℕ) (kind : LaneKind) (taking : NodeOf → Letter → Option NodeOf) (e : Event) (letter : Letter) (rest : List Letter)
     → TakesFront core n kind taking from e → lane_of core kind from n ≡ letter ∷ rest → IsSome (taking (node_at core n) letter) → IsEnabled core e

@@ -43,9 +43,7 @@ pub nothing_found : (core : Core) → IsReached core → ((n : ℕ) → n < core
     → ((from to : ℕ) → from < core.size.nodes → to < core.size.nodes → length (lane_of core Answers from to) ≡ 0)
     → ((from to : ℕ) → from < core.size.nodes → to < core.size.nodes → length (lane_of core Requests from to) ≡ 0)
     → IsDrained core
-nothing_found core reached waiting answers requests =
-    let well = reached_well core reached in
-    record { waiting = none_waits core well waiting; lanes = none_carried core well requests answers }
+nothing_found core reached waiting answers requests = grind (arith, reached_well, none_waits, none_carried)
 
 -- ---- something is found
 

@@ -115,9 +115,7 @@ one_node core new n line inside size same =
     (state_at new line n)) (sym size) one
 
 same_node : (core new : Core) (n : ℕ) → new.size ≡ core.size → ((k : ℕ) → state_at new k n ≡ state_at core k n) → node_rank new n ≡ node_rank core n
-same_node core new n size same =
-    let one = sum_same (λ k. entry_rank (state_at core k n)) (λ k. entry_rank (state_at new k n)) 0 core.size.lines (λ k lo hi. ap entry_rank (same k)) in
-    subst (λ (s : Size). sum_over (λ k. entry_rank (state_at new k n)) 0 s.lines ≡ node_rank core n) (sym size) one
+same_node core new n size same = grind (arith, sum_same)
 
 pub rank_one : (core new : Core) (n line : ℕ) (state : CacheState) → n < core.size.nodes → line < core.size.lines → state_at new line n ≡ state
     → ((m k : ℕ) → ((m ≡ n) × (k ≡ line) → ⊥) → state_at new k m ≡ state_at core k m) → new.size ≡ core.size

@@ -59,9 +59,7 @@ unanswered core n line drained = ap answer_in (no_packets core n line drained)
 
 -- nodes beyond the machine's have no entry
 pub out_beyond : (core : Core) (line n : ℕ) → IsReached core → core.size.nodes ≤ n → state_at core line n ≡ Out
-out_beyond core line n reached past =
-    let long = (reached_well core reached).sizes.parts_long in
-    ap (λ (p : NodeOf). (line_of p.cache line).state) (get_or_past core.parts n no_node (omega arith))
+out_beyond core line n reached past = grind (arith, reached_well, get_or_past)
 
 pub idle : (core : Core) (line n : ℕ) → IsReached core → IsDrained core → line < core.size.lines → waits (state_at core line n) ≡ false
 idle core line n reached drained inside =

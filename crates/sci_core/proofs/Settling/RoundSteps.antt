@@ -63,14 +63,10 @@ first_is core n line kind t a r one = same_step core r.first a (event.Ask n line
 
 second_is : (core : Core) (n line : ℕ) (kind : AskKind) (t : ℕ) (a b : Core) (r : Rounds core n line kind t) → stepping core (event.Ask n line kind) ≡ Some a
     → stepping a (event.Serve n t) ≡ Some b → b ≡ r.second
-second_is core n line kind t a b r one two =
-    same_step r.first r.second b (event.Serve n t) r.serve
-    (subst (λ (x : Core). stepping x (event.Serve n t) ≡ Some b) (first_is core n line kind t a r one) two)
+second_is core n line kind t a b r one two = grind (arith, same_step, first_is)
 
 third_is : (core : Core) (n line : ℕ) (kind : AskKind) (t : ℕ) (a b c : Core) (r : Rounds core n line kind t) → Made core n line kind t a b c → c ≡ r.third
-third_is core n line kind t a b c r m =
-    same_step r.second r.third c (event.Reply t) r.reply
-    (subst (λ (x : Core). stepping x (event.Reply t) ≡ Some c) (second_is core n line kind t a b r m.ask m.serve) m.reply)
+third_is core n line kind t a b c r m = grind (arith, same_step, second_is)
 
 pub serve_enabled_next : (core : Core) (n line : ℕ) (kind : AskKind) (t : ℕ) (a : Core) → Rounds core n line kind t
     → stepping core (event.Ask n line kind) ≡ Some a → IsEnabled a (event.Serve n t)

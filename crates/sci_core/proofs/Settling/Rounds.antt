@@ -77,9 +77,7 @@ pub record Serves (core mid new : Core) (n line : ℕ) (request : Letter) (asked
   pub shift : Shifts mid new request.target line served
 
 home_same : (core mid : Core) (n line : ℕ) (kind : AskKind) → Asks core mid n line kind → home_at mid line ≡ home_at core line
-home_same core mid n line kind a =
-    let alike = of_some (AsksAlike (node_at core n)) (node_asking (node_at core n) line kind) a.sent a.is (ask_alike (node_at core n) line kind) in
-    ap (λ (x : Core). home_at x line) a.then_ ∙ homes_same core n a.sent.0 alike.same line
+home_same core mid n line kind a = grind (arith, of_some, ask_alike, homes_same)
 
 served_so : (core mid : Core) (n line : ℕ) (kind : AskKind) (a : Asks core mid n line kind) (next : NodeOf) → IsWellFormed mid
     → a.sent.1.target < mid.size.nodes → mid.size ≡ core.size → line < lines_of (node_at mid a.sent.1.target)
@@ -352,9 +350,7 @@ first_shift core first n line kind a well lt =
 -- the target is that of the request
 target_is : (core first : Core) (n line : ℕ) (kind : AskKind) (target : ℕ) (next : NodeOf) (letter : Letter) (a : Asks core first n line kind)
     → node_asking (node_at core n) line kind ≡ Some (next, letter) → letter.target ≡ target → a.sent.1.target ≡ target
-target_is core first n line kind target next letter a is at =
-    let both : Some a.sent ≡ Some (next, letter) = sym a.is ∙ is in
-    ap (λ (o : Option (NodeOf × Letter)). (unwrap_or o a.sent).1.target) both ∙ at
+target_is core first n line kind target next letter a is at = grind arith
 
 pub rounds : (core : Core) (n line : ℕ) (kind : AskKind) (target : ℕ) (next : NodeOf) (letter : Letter) → IsReached core → IsDrained core → n < core.size.nodes
     → line < core.size.lines → node_asking (node_at core n) line kind ≡ Some (next, letter) → letter.target ≡ target → Rounds core n line kind target

@@ -32,9 +32,7 @@ made_as part line kind true (Some asked) below is = tt
 made_as part line kind false (Some asked) below is = record { asked = asked; asks = is; below = below; next = refl; letter = refl }
 
 pub asked_as : (part : NodeOf) (line : ℕ) (kind : AskKind) → IfSome (node_asking part line kind) (AskedAs part line kind)
-asked_as part line kind =
-    if_below line (lines_of part) (AskedAs part line kind) (asked_by part (cache_asking part.cache line kind)) (λ below.
-    made_as part line kind (is_out (line_of part.cache line).state && not (has_slot part.cache)) (asking (line_of part.cache line).state kind) below refl)
+asked_as part line kind = grind (arith, if_below, made_as)
 
 -- what a node took
 pub record AcceptedAs (part : NodeOf) (answer : Letter) (next : NodeOf) : Type 0 where

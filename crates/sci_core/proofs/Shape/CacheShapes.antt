@@ -201,9 +201,7 @@ rolling_told f b w d (Some body.Busy) = search rules
 rolling_told f b w d _ = search rules
 
 setback_as : (a q r v w : ℕ) (old : CacheState) → ServesAs a q (Telling r v true) old (serving_setback old a w)
-setback_as a q r v w (Below f b c) =
-    if_head (ServesAs a q (Telling r v true) (Below f b c)) b a (Below f w c, body.Told) (Below f b c, body.Told)
-    (λ same. tells a q r v (Below f b c) (Below f w c) (below_told f b w c)) (tells a q r v (Below f b c) (Below f b c) (alike_itself (Below f b c)))
+setback_as a q r v w (Below f b c) = grind (arith, if_head, tells, below_told, alike_itself)
 setback_as a q r v w (Rolling f b c) = grind (arith, if_head, tells, rolling_told, alike_itself)
 setback_as a q r v w old = tells a q r v old old (alike_itself old)
 
@@ -217,12 +215,8 @@ cache_serves h a q old Asking letter (inl e, to) here = subst (CacheServes a q A
 cache_serves h a q old Asking letter (inr e, to) here = subst (CacheServes a q Asking old) (sym e) tt
 cache_serves h a q old (Joining p true) letter (e, to) here =
     subst (CacheServes a q (Joining p true) old) (sym e) (cread_as a q (Joining p true) old (subst (Joiner (Joining p true)) (sym to ∙ here) (joining p)))
-cache_serves h a q old (FreshJoining p true c) letter (e, to) here =
-    subst (CacheServes a q (FreshJoining p true c) old) (sym e)
-    (cread_as a q (FreshJoining p true c) old (subst (Joiner (FreshJoining p true c)) (sym to ∙ here) (fresh_joining p c)))
-cache_serves h a q old (Purging r c) letter (e, to) here =
-    subst (CacheServes a q (Purging r c) old) (sym e)
-    (subst (λ (n : ℕ). ServesAs a q (Purging n c) old (serving_purge old)) (sym here ∙ to) (purge_as a q c old))
+cache_serves h a q old (FreshJoining p true c) letter (e, to) here = grind (arith, cread_as, fresh_joining)
+cache_serves h a q old (Purging r c) letter (e, to) here = grind (arith, purge_as)
 cache_serves h a q old (Claiming f c) letter (e, to) here = subst (CacheServes a q (Claiming f c) old) (sym e) tt
 cache_serves h a q old (Clearing c) letter (e, to) here = subst (CacheServes a q (Clearing c) old) (sym e) tt
 cache_serves h a q old (Returning c) letter (e, to) here = subst (CacheServes a q (Returning c) old) (sym e) tt
@@ -235,9 +229,7 @@ cache_serves h a q old _ letter sent here = elim sent [ ]
 
 -- neither asker nor server
 pub other_alike : (old new : View) (a q : ℕ) (next : CacheState) (body : Body) → Shift old new a q next body → (n : ℕ) → n ≢ a → n ≢ q → AlikeIn old new n
-other_alike old new a q next body shift n not_asker not_server =
-    alike_moved old new n (old.answer n) (old.state n) (old.answer n) refl (shift.others n not_server) (shift.other_answers n not_asker)
-    (alike_itself (old.state n) (old.answer n))
+other_alike old new a q next body shift n not_asker not_server = grind (arith, alike_moved, alike_itself)
 
 asker_alike : (old new : View) (a q : ℕ) (served : CacheState × Body) → Shift old new a q served.0 served.1
     → ((answer : Option Body) → Alike (old.state q) answer served.0 answer) → Alike (old.state a) None (old.state a) (Some served.1) → AlikeIn old new a

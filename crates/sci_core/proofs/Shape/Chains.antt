@@ -96,17 +96,13 @@ first_in link first [] n e linked = cc
 first_in link first (m ∷ ns) n e linked = let same : n ≡ m = cc in inl same
 
 pub next_of : (link : ℕ → Option (Option ℕ)) (n x : ℕ) (next : Option ℕ) (y : ℕ) → x ≡ n → link n ≡ Some next → link x ≡ Some (Some y) → next ≡ Some y
-next_of link n x next y same at e =
-    let here : link n ≡ Some (Some y) = ap link (sym same) ∙ e in
-    cc
+next_of link n x next y same at e = grind arith
 
 -- what a node of a list links to is in the list
 pub next_in : (link : ℕ → Option (Option ℕ)) (first : Option ℕ) (ns : List ℕ) (x y : ℕ) → LinkedFrom link first ns → IsAmong x ns → link x ≡ Some (Some y)
     → IsAmong y ns
 next_in link first [] x y linked h e = elim h [ ]
-next_in link first (n ∷ ns) x y linked (inl same) e =
-    let next : linked.1.0 ≡ Some y = next_of link n x (linked.1.0) y same linked.1.1 e in
-    inr (first_in link linked.1.0 ns y next linked.1.2)
+next_in link first (n ∷ ns) x y linked (inl same) e = grind (arith, next_of, first_in)
 next_in link first (n ∷ ns) x y linked (inr h) e = inr (next_in link linked.1.0 ns x y linked.1.2 h e)
 
 -- ---- one node is taken out, behind the node that links to it

@@ -52,9 +52,7 @@ AlikeIn old new n = Alike (old.state n) (old.answer n) (new.state n) (new.answer
 
 pub alike_moved : (old new : View) (n : ℕ) (was : Option Body) (state : CacheState) (now : Option Body) → old.answer n ≡ was → new.state n ≡ state
     → new.answer n ≡ now → Alike (old.state n) was state now → AlikeIn old new n
-alike_moved old new n was state now e f g alike =
-    subst (λ (w : Option Body). Alike (old.state n) w (new.state n) (new.answer n)) (sym e)
-    (subst (λ (s : CacheState). Alike (old.state n) was s (new.answer n)) (sym f) (subst (Alike (old.state n) was state) (sym g) alike))
+alike_moved old new n was state now e f g alike = grind arith
 
 -- its state and what is under way to it are the same
 pub alike_same : (old new : View) (n : ℕ) → new.state n ≡ old.state n → new.answer n ≡ old.answer n → AlikeIn old new n
@@ -96,9 +94,7 @@ front_stands old new c must n this h = (λ e. this.fresh ∙ h.0 e, this.agrees 
 pub led_stands : (old new : View) (c : Stamped) (must : Bool) (ns : List ℕ) → ((n : ℕ) → IsAmong n ns → Stands old new n) → IsLed old c must ns
     → IsLed new c must ns
 led_stands old new c must [] stands led = led
-led_stands old new c must (n ∷ ns) stands (front, inl leads) =
-    let this = stands n (inl refl) in
-    (front_stands old new c must n this front, inl (this.role ∙ leads.0, following_stand old new c ns (λ m h. stands m (inr h)) leads.1))
+led_stands old new c must (n ∷ ns) stands (front, inl leads) = grind (arith, front_stands, following_stand)
 led_stands old new c must (n ∷ ns) stands (front, inr comes) =
     let this = stands n (inl refl) in
     let rest = led_stands old new c (fresh_in old n) ns (λ m h. stands m (inr h)) comes.1 in
@@ -120,9 +116,7 @@ another view y n r follows is not e = let both : Some r ≡ Some Following = sym
 pub led_without : (view : View) (c : Stamped) (must : Bool) (y : ℕ) (ns : List ℕ) → role_in view y ≡ Some Following → IsLed view c must ns
     → IsLed view c must (without y ns)
 led_without view c must y [] follows led = elim led [ ]
-led_without view c must y (n ∷ ns) follows (front, inl leads) =
-    let other : n ≢ y = another view y n Leading follows leads.0 (λ e. cc) in
-    subst (IsLed view c must) (sym (without_other y n ns other)) (front, inl (leads.0, following_without view c y ns leads.1))
+led_without view c must y (n ∷ ns) follows (front, inl leads) = grind (arith, another, without_other, following_without)
 led_without view c must y (n ∷ ns) follows (front, inr comes) =
     let other : n ≢ y = another view y n Coming follows comes.0 (λ e. cc) in
     subst (IsLed view c must) (sym (without_other y n ns other)) (front, inr (comes.0, led_without view c (fresh_in view n) y ns follows comes.1))
@@ -159,9 +153,7 @@ led_behind old new a q c b next (m ∷ ns) joins e linked once absent (front, in
     (λ n h. joins.others n (λ s. absent (inr (subst (λ (k : ℕ). IsAmong k ns) s h))) (λ s. once.0 (subst (λ (k : ℕ). IsAmong k ns) (s ∙ sym here) h)))
     leads.1 in
     (agrees, (ap (role_in new) here ∙ joins.follows, subst (AgreesIn c new) (sym here) (joins.keeps c agrees), rest))
-led_behind old new a q c b next (m ∷ ns) joins e linked once absent (front, inr comes) =
-    let here : m ≡ q = (let at = linked.0 in cc) in
-    absurd (roles_differ Coming Leading (role_in old m) comes.0 (ap (role_in old) here ∙ joins.leading) (λ s. cc))
+led_behind old new a q c b next (m ∷ ns) joins e linked once absent (front, inr comes) = grind (arith, roles_differ)
 
 pub led_joins : (old new : View) (a q : ℕ) (c : Stamped) (must : Bool) (first : Option ℕ) (ns : List ℕ) → Joins old new a q → LinkedFrom (link_in old) first ns
     → IsOnce ns → IsAmong a ns → IsLed old c must ns → IsLed new c must ns
@@ -202,9 +194,7 @@ ends_empty link next (n ∷ ns) e linked = let at = linked.0 in cc
 
 -- who comes before is not fresh, so has no contents
 empty_agrees : (old new : View) (q n : ℕ) (c : Stamped) → Made old new q c → n ≢ q → role_in old n ≡ Some Coming → fresh_in old n ≡ false → AgreesIn c new n
-empty_agrees old new q n c made apart comes stale =
-    let here = coming_empty (old.state n) (old.answer n) c comes stale in
-    subst (λ (s : CacheState). Agrees c s (new.answer n)) (sym (made.same_state n apart)) (subst (Agrees c (old.state n)) (sym (made.same_answer n apart)) here)
+empty_agrees old new q n c made apart comes stale = grind (arith, coming_empty)
 
 reading_same : {X : Type 0} (f : CacheState → Option Body → X) (old new : View) (q n : ℕ) (c : Stamped) → Made old new q c → n ≢ q
     → f (new.state n) (new.answer n) ≡ f (old.state n) (old.answer n)

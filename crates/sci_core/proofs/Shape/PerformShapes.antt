@@ -39,9 +39,7 @@ load_leaves c op e = grind (arith, act_leaves)
 -- a line whose home has it alone has no members
 pub no_members : (view : View) (d : Stamped) (ns : List ℕ) (n : ℕ) (behind : Option ℕ) → link_in view n ≡ Some behind → (c : Stamped)
     → IsShaped view (at.Home d) c ns → ⊥
-no_members view d ns n behind member c is =
-    let empty = none_empty (link_in view) None ns refl is.list in
-    subst (IsAmong n) empty (is.list.all n behind member)
+no_members view d ns n behind member c is = grind (arith, none_empty, link_in)
 
 -- every member has the last contents, and has them coming
 pub member_agrees : (view : View) (home : HomeState) (c : Stamped) (ns : List ℕ) (n : ℕ) (behind : Option ℕ) → link_in view n ≡ Some behind

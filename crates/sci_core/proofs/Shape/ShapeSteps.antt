@@ -59,9 +59,7 @@ answer_tells letter answers = ap (λ (b : Bool). if b then None else Some letter
 -- ---- homes that stay
 
 home_here : (old new : NodeOf) (k : ℕ) → SameHomes old new → home_of new k ≡ home_of old k
-home_here old new k same =
-    ap (λ (hs : List HomeState). slice_index_or hs (k / new.cache.nodes) opening_home) same.homes
-    ∙ ap (λ (c : ℕ). slice_index_or old.homes (k / c) opening_home) same.nodes
+home_here old new k same = grind arith
 
 pub homes_same : (core : Core) (n : ℕ) (next : NodeOf) → SameHomes (node_at core n) next → (k : ℕ) → home_at (with_node core n next) k ≡ home_at core k
 homes_same core n next same k =

@@ -98,16 +98,12 @@ fread_stale old new a (at.Gone p) asks stale = fresh_after old new a Asking (bod
 
 claim_stale : (old new : View) (a : ℕ) (f : Option ℕ) (d : Stamped) (home : HomeState) → Leaves_stale old new a (Claiming f d) home (serving_claim home a)
 claim_stale old new a f d (at.Home c) asks stale = tt
-claim_stale old new a f d (at.Fresh p c) asks stale =
-    if_head (Leaves_stale old new a (Claiming f d) (at.Fresh p c)) p a (at.Gone a, body.Wbok) (at.Fresh p c, body.Wbno)
-    (λ head is was. fresh_after old new a (Claiming f d) body.Wbok is) (λ is was. tt) asks stale
+claim_stale old new a f d (at.Fresh p c) asks stale = grind (arith, if_head, fresh_after)
 claim_stale old new a f d (at.Gone p) asks stale = still_stale old new p (asker_no_fresher old new a (Claiming f d) body.Wbno asks (λ e. refl)) stale
 
 clear_stale : (old new : View) (a : ℕ) (d : Stamped) (home : HomeState) → Leaves_stale old new a (Clearing d) home (serving_clear home a)
 clear_stale old new a d (at.Home c) asks stale = tt
-clear_stale old new a d (at.Fresh p c) asks stale =
-    if_head (Leaves_stale old new a (Clearing d) (at.Fresh p c)) p a (at.Home c, body.Wbok) (at.Fresh p c, body.Wbno) (λ head is was. tt) (λ is was. tt) asks
-    stale
+clear_stale old new a d (at.Fresh p c) asks stale = grind (arith, if_head)
 clear_stale old new a d (at.Gone p) asks stale = still_stale old new p (asker_no_fresher old new a (Clearing d) body.Wbno asks (λ e. refl)) stale
 
 wback_stale : (old new : View) (a : ℕ) (d : Stamped) (home : HomeState) → Leaves_stale old new a (Returning d) home (serving_wback home a d)

@@ -1,5 +1,5 @@
 -- What a node asks is what its cache asks, and what it serves at a home is what that home serves.
-use Rattle.std.proofs.Common.{◌≡◌, ℕ, ◌<◌, Bool, true, false, if◌then◌else◌, Some, None, Ok, Err, Result, Option, set, refl, ap, ◌∙◌, sym}
+use Rattle.std.proofs.Common.{◌≡◌, ℕ, ◌<◌, Bool, true, false, if◌then◌else◌, Some, None, Ok, Err, Result, Option, set, refl, ap, ◌∙◌, sym, arith}
 use Rattle.std.specs.Prelude.{nat_lt, IsOk, IfSome, IsSome}
 use Rattle.std.proofs.lemmas.Bool.{lt-ltb}
 use borrow.Author.Tests.{ltb-true}
@@ -34,9 +34,7 @@ may_ask_by node false made h = cc
 
 pub may_ask : (node : NodeOf) (line : ℕ) (kind : AskKind) → IsSome (node_asking node line kind)
     → (line < lines_of node) × IsOk (cache_asking node.cache line kind)
-may_ask node line kind h =
-    let by = may_ask_by node (nat_lt line (lines_of node)) (cache_asking node.cache line kind) h in
-    (ltb-true line (lines_of node) by.0, by.1)
+may_ask node line kind h = grind (arith, may_ask_by)
 
 pub home_served : (node : NodeOf) (request : Letter) (home next : HomeState) (answer : Body) → home ≡ home_of node request.line
     → home_serving home request.source request.body ≡ Some (next, answer)

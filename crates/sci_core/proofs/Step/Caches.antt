@@ -1,5 +1,5 @@
 -- What a cache's calls leave as it was: its number, its sizes, and how many lines it has.
-use Rattle.std.proofs.Common.{◌≡◌, ℕ, Some, None, Ok, Err, Option, Result, length, refl, sym, subst}
+use Rattle.std.proofs.Common.{◌≡◌, ℕ, Some, None, Ok, Err, Option, Result, length, refl, sym, subst, arith}
 use Rattle.std.specs.Prelude.{IfOk, IsOk, IsErr, option_map}
 use Rattle.std.proofs.lemmas.List.{length-set}
 use Rattle.sci_words.specs.declared.event.AskKind.{AskKind}
@@ -26,9 +26,7 @@ accepted_same : (cache : CacheOf) (line : ℕ) (state : Option CacheState) (new 
     → option_map (λ s. with_line cache line (line_in (line_of cache line) s)) state ≡ Some new
     → SameSizes cache new
 accepted_same cache line None new e = cc
-accepted_same cache line (Some s) new e =
-    let same : with_line cache line (line_in (line_of cache line) s) ≡ new = cc in
-    subst (SameSizes cache) same (same_line cache line _)
+accepted_same cache line (Some s) new e = grind (arith, same_line)
 
 pub same_accepting : (cache : CacheOf) (line control : ℕ) (body : Body) (new : CacheOf) → cache_accepting cache line control body ≡ Some new
     → SameSizes cache new
@@ -42,9 +40,7 @@ performed_same : (cache : CacheOf) (line : ℕ) (done : Option Performed) (new :
     )
     → SameSizes cache new
 performed_same cache line None new reply version e = cc
-performed_same cache line (Some d) new reply version e =
-    let same : ◌≡◌ {A = CacheOf × Reply × ℕ} (with_line cache line (line_in (line_of cache line) d.next), d.reply, d.version) (new, reply, version) = cc in
-    subst (λ (p : CacheOf × Reply × ℕ). SameSizes cache p.0) same (same_line cache line _)
+performed_same cache line (Some d) new reply version e = grind (arith, same_line)
 
 pub same_performing : (cache : CacheOf) (op : Op) (new : CacheOf) (reply : Reply) (version : ℕ) → cache_performing cache op ≡ Some (new, reply, version)
     → SameSizes cache new
@@ -54,9 +50,7 @@ asked_same : (cache : CacheOf) (line : ℕ) (made : Result Asked AskFault) (new 
     → cache_asked cache line made ≡ Ok (new, letter)
     → SameSizes cache new
 asked_same cache line (Err fault) new letter e = cc
-asked_same cache line (Ok a) new letter e =
-    let same : ◌≡◌ {A = CacheOf × Letter} (with_line cache line (line_asked (line_of cache line) a), letter_asking cache line a) (new, letter) = cc in
-    subst (λ (p : CacheOf × Letter). SameSizes cache p.0) same (same_line cache line _)
+asked_same cache line (Ok a) new letter e = grind (arith, same_line)
 
 pub same_asking : (cache : CacheOf) (line : ℕ) (kind : AskKind) (new : CacheOf) (letter : Letter) → cache_asking cache line kind ≡ Ok (new, letter)
     → SameSizes cache new

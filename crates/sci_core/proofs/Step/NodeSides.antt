@@ -42,9 +42,7 @@ pub record Unmoved (old new : NodeOf) : Type 0 where
   pub same : SameHomes old new
 
 pub issue_unmoved : (part : NodeOf) (op : Op) → IfSome (node_issuing part op) (Unmoved part)
-issue_unmoved part op =
-    if_either (λ (o : Option NodeOf). IfSome o (Unmoved part)) (may_issue part op) (Some (node_issued part op)) None
-    (record { alike = λ k. alike_itself (line_of part.cache k).state; same = record { homes = refl; nodes = refl } }) tt
+issue_unmoved part op = grind (arith, if_either, alike_itself)
 
 -- ---- Perform
 
@@ -125,9 +123,7 @@ request_served part request =
     (λ no_. cache_served part request (serving (line_of part.cache request.line).state request.source request.body) refl)
 
 pub serve_as : (part : NodeOf) (request : Letter) → IfSome (node_serving part request) (ServedAs part request)
-serve_as part request =
-    if_either (λ (o : Option NodeOf). IfSome o (ServedAs part request)) (is_some part.waiting) None (answered_by request (serving_request part request)) tt
-    (request_served part request)
+serve_as part request = grind (arith, if_either, request_served)
 
 -- a request that isn't Setback is answered busy
 pub record RefusedAs (part : NodeOf) (request : Letter) (next : NodeOf) : Type 0 where
@@ -166,9 +162,7 @@ accepted_as part answer true None is = tt
 accepted_as part answer true (Some s) is = record { state = s; accepts = is; then_ = refl }
 
 pub accept_as : (part : NodeOf) (answer : Letter) → IfSome (node_accepting part answer) (AcceptedAs part answer)
-accept_as part answer =
-    accepted_as part answer (answer.control == last_control (line_of part.cache answer.line)) (accepting (line_of part.cache answer.line).state answer.body)
-    refl
+accept_as part answer = grind (arith, accepted_as)
 
 pub record AcceptsAlike (answer : Letter) (part next : NodeOf) : Type 0 where
   pub alike : answer.line < lines_of part → Alike (line_of part.cache answer.line).state (Some answer.body) (line_of next.cache answer.line).state None

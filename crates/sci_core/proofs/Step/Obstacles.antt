@@ -57,15 +57,11 @@ issue_free core e n op node free is lt here told =
 
 pub perform_free : (core : Core) (e : Event) (n line : ℕ) (node : NodeOf) (free : Bool) → e ≡ event.Perform n line → node_of e < core.size.nodes
     → node ≡ node_at core n → free ≡ is_some (node_performing node line) → free ≡ is_some (stepping core e)
-perform_free core e n line node free is lt here told =
-    by_side core e (event.Perform n line) n node (λ k. is_some (node_performing k line)) free is here (perform_here core n line (omega (arith, ap node_of is)))
-    told
+perform_free core e n line node free is lt here told = grind (arith, by_side, perform_here)
 
 pub ask_free : (core : Core) (e : Event) (n line : ℕ) (kind : AskKind) (node : NodeOf) (free : Bool) → e ≡ event.Ask n line kind → node_of e < core.size.nodes
     → node ≡ node_at core n → free ≡ is_some (node_asking node line kind) → free ≡ is_some (stepping core e)
-ask_free core e n line kind node free is lt here told =
-    by_side core e (event.Ask n line kind) n node (λ k. is_some (node_asking k line kind)) free is here
-    (ask_here core n line kind (omega (arith, ap node_of is))) told
+ask_free core e n line kind node free is lt here told = grind (arith, by_side, ask_here)
 
 pub reply_free : (core : Core) (e : Event) (n : ℕ) (node : NodeOf) (free : Bool) → e ≡ event.Reply n → node_of e < core.size.nodes → node ≡ node_at core n
     → free ≡ is_some (node_replying node) → free ≡ is_some (stepping core e)
@@ -77,9 +73,7 @@ reply_free core e n node free is lt here told =
 serve_free : (node : NodeOf) (letter : Letter) (waiting : Option Letter) → node.waiting ≡ waiting → (node.waiting ≡ None → IsSome (node_serving node letter))
     → is_none (packet_obstacle Serve node letter) ≡ is_some (node_serving node letter)
 serve_free node letter None is some = ap (λ (w : Option Letter). is_none (packet_obstacle Serve (record node { waiting = w }) letter)) is ∙ sym (some is)
-serve_free node letter (Some answer) is some =
-    ap (λ (w : Option Letter). is_none (packet_obstacle Serve (record node { waiting = w }) letter)) is
-    ∙ sym (ap (λ (w : Option Letter). is_some (if is_some w then None else answered_by letter (serving_request node letter))) is)
+serve_free node letter (Some answer) is some = grind arith
 
 refuse_free : (node : NodeOf) (letter : Letter) (waiting : Option Letter) (back : Bool) → node.waiting ≡ waiting → is_setback letter.body ≡ back
     → is_none (packet_obstacle Refuse node letter) ≡ is_some (node_refusing node letter)
@@ -118,9 +112,7 @@ taker_here Accept from n = refl
 
 pub take_free : (core : Core) (e : Event) (taking : Taking) (from n : ℕ) (o : Option Obstacle) → e ≡ taking_event taking from n → IsReached core
     → node_of e < core.size.nodes → o ≡ take_obstacle core taking from n → is_none o ≡ is_some (stepping core e)
-take_free core e taking from n o is reached lt told =
-    ap is_none told ∙ take_told core taking from n reached (omega (arith, ap node_of is, taker_here taking from n))
-    ∙ ap (λ (k : Event). is_some (stepping core k)) (sym is)
+take_free core e taking from n o is reached lt told = grind (arith, take_told, taker_here)
 
 -- ---- why an Ask is refused
 

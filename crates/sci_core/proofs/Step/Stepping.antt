@@ -1,5 +1,5 @@
 -- A step, from its node's side.
-use Rattle.std.proofs.Common.{◌≡◌, ℕ, ◌<◌, ◌≤◌, nat_lt, Bool, true, false, if◌then◌else◌, List, [], ◌∷◌, Option, Some, None, refl, sym, ap, ◌∙◌, drop}
+use Rattle.std.proofs.Common.{◌≡◌, ℕ, ◌<◌, ◌≤◌, nat_lt, Bool, true, false, if◌then◌else◌, List, [], ◌∷◌, Option, Some, None, refl, sym, ap, ◌∙◌, drop, arith}
 use Rattle.std.specs.Prelude.{slice_get}
 use Rattle.std.proofs.lemmas.Bool.{lt-ltb, le-ltb}
 use Rattle.sci_words.specs.declared.event.Event.{Event}
@@ -63,6 +63,4 @@ pub front_taken : (core : Core) (n place : ℕ) (taking : Letter → Option Node
     → slice_get lane 0 ≡ Some letter → taking letter ≡ next
     → taken_from core n place taking lane ≡ taken_as core n place (drop 1 lane) next
 front_taken core n place taking [] letter next e takes = cc
-front_taken core n place taking (first ∷ rest) letter next e takes =
-    let same : first ≡ letter = cc in
-    ap (taken_as core n place rest) (ap taking same ∙ takes)
+front_taken core n place taking (first ∷ rest) letter next e takes = grind arith

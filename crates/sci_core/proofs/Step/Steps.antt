@@ -1,5 +1,5 @@
 -- What each step of a well formed state did, in one of seven ways: the side of the event's node, with its packet, and the entry that it makes.
-use Rattle.std.proofs.Common.{◌≡◌, ℕ, ◌<◌, List, [], ◌∷◌, length, Option, Some, None, refl, sym, subst}
+use Rattle.std.proofs.Common.{◌≡◌, ℕ, ◌<◌, List, [], ◌∷◌, length, Option, Some, None, refl, sym, subst, arith}
 use Rattle.std.specs.Prelude.{IfSome, option_map}
 use Rattle.std.proofs.lemmas.Option.{IfSome_then}
 use Rattle.sci_core.proofs.Basics.Options.{if_below}
@@ -135,9 +135,7 @@ side_stepped : (core : Core) (e : Event) → node_of e < core.size.nodes → IsW
     → IfSome (step_by core (node_of e) (side (node_at core (node_of e)) e)) (Stepped core e (performed core e))
 side_stepped core (event.Issue n op) lt well = issued core n op (node_issuing (node_at core n) op) lt refl
 side_stepped core (event.Perform n line) lt well = perform_steps core n line (node_performing (node_at core n) line) lt refl
-side_stepped core (event.Ask n line kind) lt well =
-    asked core n line kind (node_asking (node_at core n) line kind) lt well
-    (part_asking core.size n (node_at core n) line kind well.sizes.some_node lt (well.each_part n lt)) refl
+side_stepped core (event.Ask n line kind) lt well = grind (arith, asked, part_asking)
 side_stepped core (event.Serve from n) lt well =
     IfSome_then (step_by core n (Takes Requests from (node_serving (node_at core n)))) (taken core n from Requests node_serving lt well)
     (λ new t. By_serve t refl)
@@ -152,6 +150,4 @@ side_stepped core (event.Accept from n) lt well =
 
 pub stepping_stepped : (core : Core) (e : Event) → IsWellFormed core → IfSome (stepping core e) (Stepped core e (performed core e))
 unfolding stepping
-stepping_stepped core e well =
-    if_below (node_of e) core.size.nodes (Stepped core e (performed core e)) (step_by core (node_of e) (side (node_at core (node_of e)) e))
-    (λ lt. side_stepped core e lt well)
+stepping_stepped core e well = grind (arith, if_below, side_stepped)

@@ -216,9 +216,7 @@ abbrev waiting_of : Core → ℕ → ℕ
 waiting_of core n = sum_to (λ line. one_if (waits (line_of (node_at core n).cache line).state)) core.size.lines
 
 node_packets : (core : Core) (n : ℕ) → IsReachable core → n < core.size.nodes → of_node core n ≤ waiting_of core n
-node_packets core n reached lt =
-    sum_to_under (λ line. length (packets_of core n line)) (λ line. one_if (waits (line_of (node_at core n).cache line).state)) core.size.lines
-    (λ line inside. one_packet (line % core.size.nodes) (line_of (node_at core n).cache line) (packets_of core n line) (any_tidy core reached n line lt inside))
+node_packets core n reached lt = grind (arith, sum_to_under, one_packet, any_tidy)
 
 node_lines : (core : Core) (n : ℕ) → waiting_of core n ≤ core.size.lines * 1
 node_lines core n = sum_to_less (λ line. one_if (waits (line_of (node_at core n).cache line).state)) 1 core.size.lines

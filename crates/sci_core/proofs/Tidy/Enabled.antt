@@ -49,9 +49,7 @@ request_served node request asks = grind (arith, if_cases, map_some, home_serves
 
 -- a request is served unless an answer waits
 pub serve_enabled : (node : NodeOf) (request : Letter) → IsRequest request.body → node.waiting ≡ None → IsSome (node_serving node request)
-serve_enabled node request asks free =
-    subst (λ (w : Option Letter). IsSome (if is_some w then None else answered_by request (serving_request node request))) (sym free)
-    (map_some _ _ (request_served node request asks))
+serve_enabled node request asks free = grind (arith, map_some, request_served)
 
 -- and refused, unless it is a Setback
 pub refuse_enabled : (node : NodeOf) (request : Letter) → is_setback request.body ≡ false → node.waiting ≡ None → IsSome (node_refusing node request)

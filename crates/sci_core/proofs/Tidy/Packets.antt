@@ -41,9 +41,7 @@ middle_alone (y ∷ xs) ys x z e = grind (arith, nothing_after)
 
 first_alone : {Y : Type 0} (xs ys zs : List Y) (x z : Y) → xs ≡ z ∷ zs → xs ++ ys ≡ x ∷ [] → ys ≡ []
 first_alone [] ys zs x z e f = cc
-first_alone (y ∷ xs) ys zs x z e f =
-    let rest : xs ++ ys ≡ [] = cc in
-    nothing_after xs ys rest
+first_alone (y ∷ xs) ys zs x z e f = grind (arith, nothing_after)
 
 -- the only packet is in this lane
 pub record LaneAlone (q : Letter → Bool) (parts : List NodeOf) (lanes : List (List Letter)) (place : ℕ) (v : List Letter) (x z : Letter)

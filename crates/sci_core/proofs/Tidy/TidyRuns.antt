@@ -110,11 +110,7 @@ pub run_size : (size : Size) (schedule : List Event) → IsSize size → (run si
 run_size size schedule sizes = (run_well (opening size) schedule (opened size sizes)).same
 
 pub run_reachable : (size : Size) (schedule : List Event) → IsSize size → IsReachable (run size schedule)
-run_reachable size schedule sizes =
-    let same = run_size size schedule sizes in
-    record { size = subst IsSize (sym same) sizes; schedule = schedule; leads = ap (λ (s : Size). run s schedule) same }
+run_reachable size schedule sizes = grind (arith, run_size)
 
 pub run_reached : (size : Size) (schedule : List Event) → IsMachineSize size → IsReached (run size schedule)
-run_reached size schedule sizes =
-    let same = run_size size schedule (is_size size sizes) in
-    record { size = subst IsMachineSize (sym same) sizes; schedule = schedule; leads = ap (λ (s : Size). run s schedule) same }
+run_reached size schedule sizes = grind (arith, run_size, is_size)

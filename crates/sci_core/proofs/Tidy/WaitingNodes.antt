@@ -46,9 +46,7 @@ pub record Stays (nodes : ℕ) (old new : NodeOf) : Type 0 where
   pub waiting : new.waiting ≡ old.waiting
 
 pub issue_stays : (nodes : ℕ) (part : NodeOf) (op : Op) → IfSome (node_issuing part op) (Stays nodes part)
-issue_stays nodes part op =
-    if_either (λ (o : Option NodeOf). IfSome o (Stays nodes part)) (may_issue part op) (Some (node_issued part op)) None
-    (record { lines = keeps_all nodes part.cache; waiting = refl }) tt
+issue_stays nodes part op = grind (arith, if_either, keeps_all)
 
 pub perform_stays : (nodes : ℕ) (part : NodeOf) (line : ℕ) → IfSome (node_performing part line) (λ (x : NodeOf × Entry). Stays nodes part x.0)
 perform_stays nodes part line = IfSome_then (node_performing part line) (perform_as part line) (λ done does.

@@ -103,9 +103,7 @@ issued_part size n part op may is = record {
 }
 
 pub part_issuing : (size : Size) (n : ℕ) (part : NodeOf) (op : Op) → IsPart size n part → IfSome (node_issuing part op) (IsPart size n)
-part_issuing size n part op is =
-    if_cases (λ (o : Option NodeOf). IfSome o (IsPart size n)) (may_issue part op) (Some (node_issued part op)) None
-    (λ may. issued_part size n part op may is) (λ no. tt)
+part_issuing size n part op is = grind (arith, if_cases, issued_part)
 
 -- ---- Perform
 
