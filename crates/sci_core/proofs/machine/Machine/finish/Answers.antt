@@ -13,20 +13,16 @@ use Rattle.sci_core.proofs.machine.Machine.finish.Goals as goal
 pub into_logs-requires : goal.into_logs-requires
 into_logs-requires c = reached_well c.self.inside.state c.self.invariant
 
-pub returns-clause-logs : goal.returns-clause-logs
-returns-clause-logs c = c.into_logs.ensures ∙ ap logs_of c.self.view_is
-
-pub returns-clause-within : goal.returns-clause-within
-returns-clause-within c =
-    let within = reached_within c.self.inside.state c.self.invariant in
-    subst (λ (core : Core). AreWithin core.size.lines c.into_logs.result) c.self.view_is
-    (subst (AreWithin c.self.inside.state.size.lines) (sym c.into_logs.ensures) within)
-
-pub returns-clause-lawful : goal.returns-clause-lawful
-returns-clause-lawful c =
-    subst (λ (logs : List (List Entry)). Lawful logs c.last-last.result) (sym (c.into_logs.ensures ∙ ap logs_of c.self.view_is)) c.last-last.ensures.lawful
-
-pub returns-clause-consistent : goal.returns-clause-consistent
-returns-clause-consistent c =
-    subst (λ (logs : List (List Entry)). IsSequentiallyConsistent logs c.last-last.result) (sym (c.into_logs.ensures ∙ ap logs_of c.self.view_is))
-    c.last-last.ensures.consistent
+pub returns : goal.returns
+returns c =
+    let last = c.last-last in
+    let same = c.into_logs.ensures ∙ ap logs_of c.self.view_is in
+    record {
+      logs = same;
+      last = last.ensures.last;
+      within = subst (λ (core : Core). AreWithin core.size.lines c.into_logs.result) c.self.view_is
+          (subst (AreWithin c.self.inside.state.size.lines) (sym c.into_logs.ensures) (reached_within c.self.inside.state c.self.invariant));
+      lines = last.ensures.lines;
+      lawful = subst (λ (logs : List (List Entry)). Lawful logs last.result) (sym same) last.ensures.lawful;
+      consistent = subst (λ (logs : List (List Entry)). IsSequentiallyConsistent logs last.result) (sym same) last.ensures.consistent;
+    }

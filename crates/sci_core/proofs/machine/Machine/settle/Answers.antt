@@ -48,18 +48,12 @@ pub operations-smaller : goal.operations-smaller
 operations-smaller c =
     let one = c.in_ok-count.ensures.one in let less : pending_count c.perform_pending.new.self < pending_count c.operations.self = omega arith in less
 
-pub returns-clause-settled : goal.returns-clause-settled
-returns-clause-settled c =
-    settled_so c.operations.self c.next_pending.ensures.reached c.operations.invariant.drained c.operations.invariant.out (c.in_default.ensures.none refl)
-
-pub returns-clause-made : goal.returns-clause-made
-returns-clause-made c =
-    c.operations.invariant.leads
-
-pub returns-clause-within : goal.returns-clause-within
-returns-clause-within c =
-    within_so c.args.self.now c.operations.self c.operations.count c.operations.invariant
-
-pub returns-clause-coherent : goal.returns-clause-coherent
-returns-clause-coherent c =
-    reached_coherent c.operations.self c.next_pending.ensures.reached
+pub returns : goal.returns
+returns c = record {
+  settled = settled_so c.operations.self c.next_pending.ensures.reached c.operations.invariant.drained c.operations.invariant.out
+      (c.in_default.ensures.none refl);
+  made = c.operations.invariant.leads;
+  within = within_so c.args.self.now c.operations.self c.operations.count c.operations.invariant;
+  refused = λ e. cc;
+  coherent = reached_coherent c.operations.self c.next_pending.ensures.reached;
+}

@@ -6,12 +6,13 @@ use Rattle.sci_core.proofs.Tidy.TidyRuns.{reached_tidy}
 use Rattle.sci_core.proofs.ReachedLaws.{reached_shapes}
 use Rattle.sci_core.proofs.machine.Machine.sharing.Goals as goal
 
-pub sharing-requires-clause-well : goal.sharing-requires-clause-well
-sharing-requires-clause-well c = reached_well c.self.inside.state c.self.invariant
-
-pub sharing-requires-clause-tidy : goal.sharing-requires-clause-tidy
-sharing-requires-clause-tidy c = reached_tidy c.self.inside.state c.self.invariant
-
-pub sharing-requires-clause-shape : goal.sharing-requires-clause-shape
-sharing-requires-clause-shape c =
-    reached_shapes c.self.inside.state c.self.invariant c.args.line (subst (λ (core : Core). c.args.line < core.size.lines) (sym c.self.view_is) c.requires)
+pub sharing-requires : goal.sharing-requires
+sharing-requires c =
+    let core = c.self.inside.state in
+    let line = subst (λ (k : Core). c.args.line < k.size.lines) (sym c.self.view_is) c.requires in
+    record {
+      well = reached_well core c.self.invariant;
+      tidy = reached_tidy core c.self.invariant;
+      shape = reached_shapes core c.self.invariant c.args.line line;
+      line = line;
+    }

@@ -57,34 +57,27 @@ loop-place-preserved c =
           c.behind-next.ensures.before);
     }
 
-pub returns-in_default-clause-list : goal.returns-in_default-clause-list
-returns-in_default-clause-list c =
-    let core = c.args.self.now in
-    let first = head_of (home_at core c.args.line) in
-    walk_ends (link_at core c.args.line) first c.loop-place.nodes.items
-    (subst (IsWalked (link_at core c.args.line) first c.loop-place.nodes.items) c.in_default.is c.loop-place.invariant.walked)
+pub returns-in_default : goal.returns-in_default
+returns-in_default c =
+    let link = link_at c.args.self.now c.args.line in
+    let first = head_of (home_at c.args.self.now c.args.line) in
+    let sought = c.loop-place.invariant.sought in
+    record {
+      list = walk_ends link first c.loop-place.nodes.items (subst (IsWalked link first c.loop-place.nodes.items) c.in_default.is c.loop-place.invariant.walked);
+      here = sought.below;
+      found = sought.has;
+      none = sought.none;
+    }
 
-pub returns-clause-list : goal.returns-clause-list
-returns-clause-list c =
+pub returns : goal.returns
+returns c =
     let core = c.args.self.now in
-    let first = head_of (home_at core c.args.line) in
     let long : length c.loop-place.nodes.items ≡ core.size.nodes = omega (arith, c.loop-place.invariant.counted, c.nodes-place-end.ensures.nodes) in
-    walk_done core c.args.line first c.loop-place.nodes.items c.loop-place.next c.requires.well long c.loop-place.invariant.walked
-
-pub returns-in_default-clause-none : goal.returns-in_default-clause-none
-returns-in_default-clause-none c = c.loop-place.invariant.sought.none
-
-pub returns-in_default-clause-here : goal.returns-in_default-clause-here
-returns-in_default-clause-here c = c.loop-place.invariant.sought.below
-
-pub returns-in_default-clause-found : goal.returns-in_default-clause-found
-returns-in_default-clause-found c = c.loop-place.invariant.sought.has
-
-pub returns-clause-none : goal.returns-clause-none
-returns-clause-none c = c.loop-place.invariant.sought.none
-
-pub returns-clause-here : goal.returns-clause-here
-returns-clause-here c = c.loop-place.invariant.sought.below
-
-pub returns-clause-found : goal.returns-clause-found
-returns-clause-found c = c.loop-place.invariant.sought.has
+    let sought = c.loop-place.invariant.sought in
+    record {
+      list = walk_done core c.args.line (head_of (home_at core c.args.line)) c.loop-place.nodes.items c.loop-place.next c.requires.well long
+          c.loop-place.invariant.walked;
+      here = sought.below;
+      found = sought.has;
+      none = sought.none;
+    }
