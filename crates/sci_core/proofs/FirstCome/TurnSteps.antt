@@ -18,7 +18,6 @@ use Rattle.sci_home.specs.Serving.{head_of, home_serving as at_home}
 use Rattle.sci_cache.specs.State.{CacheState}
 use Rattle.sci_cache.specs.Performing.{performing}
 use Rattle.sci_cache.specs.Serving.{serving}
-use Rattle.sci_cache.specs.Line.{LineState, line_in, untouched}
 use Rattle.sci_cache.specs.Cache.{Letter, line_of}
 use Rattle.sci_core.specs.declared.lane.LaneKind.{LaneKind}
 use Rattle.sci_core.specs.declared.lane.LaneKind.TheVariants.{Requests, Answers}

@@ -1,5 +1,5 @@
 -- An operation can be performed only on a line that has contents.
-use Rattle.std.proofs.Common.{◌≡◌, ℕ, true, Option, Some, None, refl, sym, ap, ◌∙◌, arith}
+use Rattle.std.proofs.Common.{◌≡◌, ℕ, true, Option, Some, None, refl, arith}
 use Rattle.std.specs.Prelude.{IfSome, IsSome, option_map}
 use Rattle.sci_words.specs.declared.operation.Op.{Op}
 use Rattle.sci_cache.specs.State.{CacheState, Head, FreshHead, Below}

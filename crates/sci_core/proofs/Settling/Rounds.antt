@@ -1,7 +1,7 @@
 -- From a state where nothing is under way, a request that is asked can be served, answered and accepted.
 use Rattle.std.proofs.Common.{◌≡◌, ◌≢◌, ℕ, ◌%◌, ◌<◌, List, [], ◌∷◌, ◌++◌, length, set, slice_index_or, Option, Some, None, refl, sym, ap, subst, ◌∙◌, arith}
 use Rattle.std.proofs.Common.{inl, inr}
-use Rattle.std.specs.Prelude.{IsSome, is_some, option_map, unwrap_or}
+use Rattle.std.specs.Prelude.{IsSome, is_some, option_map}
 use Rattle.std.proofs.lemmas.List.{get_or-set_same, get_or-set_other}
 use Rattle.sci_words.specs.declared.event.AskKind.{AskKind}
 use Rattle.sci_words.specs.declared.event.Event.TheVariants as event
@@ -27,7 +27,7 @@ use Rattle.sci_core.specs.WellFormed.{IsWellFormed}
 use Rattle.sci_core.proofs.Step.Applied.{waits_replying}
 use Rattle.sci_core.proofs.Tidy.Enabled.{accept_enabled, serve_enabled}
 use Rattle.sci_core.proofs.Basics.Lists.{at_place_set}
-use Rattle.sci_core.proofs.Step.NodeSides.{AsksAlike, At_home as Home_served, In_cache as Cache_served, ServedAs, ask_alike, serve_as}
+use Rattle.sci_core.proofs.Step.NodeSides.{At_home as Home_served, In_cache as Cache_served, ServedAs, ask_alike, serve_as}
 use Rattle.sci_core.proofs.Basics.Options.{found, of_some}
 use Rattle.sci_core.proofs.WellFormed.Parts.{SendsWell, part_asking}
 use Rattle.sci_core.proofs.Step.Places.{place_answers, place_requests}

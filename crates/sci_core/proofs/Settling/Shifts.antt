@@ -1,14 +1,14 @@
 -- What one event of a round does to the states of all lines: one line of one node changes at most.
-use Rattle.std.proofs.Common.{◌≡◌, ℕ, ◌<◌, not, ◌&&◌, ◌==◌, Bool, true, false, if◌then◌else◌, length, set, slice_index_or, Option, Some, None, refl, arith}
+use Rattle.std.proofs.Common.{◌≡◌, ℕ, ◌<◌, ◌==◌, Bool, true, false, if◌then◌else◌, length, set, slice_index_or, Option, Some, None, refl, arith}
 use Rattle.std.specs.Prelude.{IfSome}
 use Rattle.std.proofs.lemmas.Bool.{cases_eq}
 use Rattle.std.proofs.lemmas.List.{get_or-set_same, get_or-set_other}
 use Rattle.sci_words.specs.declared.event.AskKind.{AskKind}
-use Rattle.sci_cache.specs.State.{CacheState, is_out}
+use Rattle.sci_cache.specs.State.{CacheState}
 use Rattle.sci_cache.specs.Asking.{Asked, asking}
 use Rattle.sci_cache.specs.Accepting.{accepting}
 use Rattle.sci_cache.specs.Line.{LineState, ask_or_fault, last_control, line_asked, line_in}
-use Rattle.sci_cache.specs.Cache.{CacheOf, Letter, cache_asked, cache_asking, has_slot, letter_asking, line_of, with_line}
+use Rattle.sci_cache.specs.Cache.{CacheOf, Letter, cache_asked, letter_asking, line_of, with_line}
 use Rattle.sci_core.specs.Core.{Core, node_at}
 use Rattle.sci_core.specs.Node.{NodeOf, accepted_by, asked_by, lines_of, node_accepting, node_asking}
 use Rattle.sci_core.specs.Shape.{state_at}

@@ -99,9 +99,6 @@ record Joiner (asker : CacheState) (p : ℕ) : Type 0 where
 joining : (p : ℕ) → Joiner (Joining p true) p
 joining p = grind arith
 
-fresh_joining : (p : ℕ) (e : Stamped) → Joiner (FreshJoining p true e) p
-fresh_joining p e = grind arith
-
 joined_before : (a q : ℕ) (asker old : CacheState) (f : Option ℕ) (d : Stamped) → Joiner asker q → waits old ≡ false → role_of old None ≡ Some Leading
     → Some f ≡ link_of old None → ((c : Stamped) → Agrees c old None → Agrees c (Below f a d) None) → ServesAs a q asker old (Below f a d, body.Cdata d)
 joined_before a q asker old f d joins idle leading link keeps = grind arith
@@ -215,7 +212,7 @@ cache_serves h a q old Asking letter (inl e, to) here = subst (CacheServes a q A
 cache_serves h a q old Asking letter (inr e, to) here = subst (CacheServes a q Asking old) (sym e) tt
 cache_serves h a q old (Joining p true) letter (e, to) here =
     subst (CacheServes a q (Joining p true) old) (sym e) (cread_as a q (Joining p true) old (subst (Joiner (Joining p true)) (sym to ∙ here) (joining p)))
-cache_serves h a q old (FreshJoining p true c) letter (e, to) here = grind (arith, cread_as, fresh_joining)
+cache_serves h a q old (FreshJoining p true c) letter (e, to) here = grind (arith, cread_as)
 cache_serves h a q old (Purging r c) letter (e, to) here = grind (arith, purge_as)
 cache_serves h a q old (Claiming f c) letter (e, to) here = subst (CacheServes a q (Claiming f c) old) (sym e) tt
 cache_serves h a q old (Clearing c) letter (e, to) here = subst (CacheServes a q (Clearing c) old) (sym e) tt

@@ -16,7 +16,6 @@ use Rattle.sci_home.specs.Serving.{head_of}
 use Rattle.sci_cache.specs.State.{CacheState, Head, contents_of}
 use Rattle.sci_cache.specs.Performing.{Performed}
 use Rattle.sci_cache.specs.Member.{link_of}
-use Rattle.sci_history.specs.Seen.{IsAmong}
 use Rattle.sci_core.proofs.Shape.Chains.{chain_same, none_empty}
 use Rattle.sci_core.proofs.Shape.Views.{View, link_in}
 use Rattle.sci_core.proofs.Shape.Standings.{role_of, Agrees, Leaves, Reads, Makes, Performs}

@@ -1,8 +1,7 @@
 -- What a node asks is what its cache asks, and what it serves at a home is what that home serves.
 use Rattle.std.proofs.Common.{◌≡◌, ℕ, ◌<◌, Bool, true, false, if◌then◌else◌, Some, None, Ok, Err, Result, Option, set, refl, ap, ◌∙◌, sym, arith}
-use Rattle.std.specs.Prelude.{nat_lt, IsOk, IfSome, IsSome}
+use Rattle.std.specs.Prelude.{IsOk, IfSome, IsSome}
 use Rattle.std.proofs.lemmas.Bool.{lt-ltb}
-use borrow.Author.Tests.{ltb-true}
 use Rattle.sci_cache.specs.declared.fault.AskFault.{AskFault}
 use Rattle.sci_words.specs.declared.event.AskKind.{AskKind}
 use Rattle.sci_packets.specs.declared.body.Body.{Body}

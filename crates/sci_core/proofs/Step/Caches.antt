@@ -10,8 +10,8 @@ use Rattle.sci_cache.specs.declared.fault.AskFault.{AskFault}
 use Rattle.sci_cache.specs.State.{CacheState}
 use Rattle.sci_cache.specs.Asking.{Asked}
 use Rattle.sci_cache.specs.Performing.{Performed, performing}
-use Rattle.sci_cache.specs.Line.{LineState, line_in, line_asked, line_asking, line_accepting}
-use Rattle.sci_cache.specs.Cache.{CacheOf, Letter, line_of, with_line, has_slot, letter_asking, cache_asking, cache_accepting, cache_performing, cache_asked}
+use Rattle.sci_cache.specs.Line.{LineState, line_in, line_asking, line_accepting}
+use Rattle.sci_cache.specs.Cache.{CacheOf, Letter, line_of, with_line, has_slot, cache_asking, cache_accepting, cache_performing, cache_asked}
 
 pub record SameSizes (old new : CacheOf) : Type 0 where
   pub me : new.me ≡ old.me

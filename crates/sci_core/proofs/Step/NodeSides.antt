@@ -1,6 +1,6 @@
 -- What each event does at its node: to the standing of the node's lines, to its homes, and to the answer that waits.
 use Rattle.std.proofs.Common.{◌≡◌, ℕ, ◌<◌, Bool, true, false, if◌then◌else◌, Option, Some, None, refl, sym, subst, arith}
-use Rattle.std.specs.Prelude.{IfSome, is_some, ◌==◌, slice_set, option_map}
+use Rattle.std.specs.Prelude.{IfSome, slice_set, option_map}
 use Rattle.std.proofs.lemmas.Option.{IfSome_then}
 use Rattle.std.proofs.lemmas.List.{get_or-set_same}
 use Rattle.sci_words.specs.declared.event.AskKind.{AskKind}
@@ -15,11 +15,11 @@ use Rattle.sci_cache.specs.Asking.{Asked}
 use Rattle.sci_cache.specs.Serving.{serving}
 use Rattle.sci_cache.specs.Accepting.{accepting}
 use Rattle.sci_cache.specs.Performing.{Performed, performing}
-use Rattle.sci_cache.specs.Line.{LineState, untouched, last_control, line_in, line_asked, ask_or_fault}
+use Rattle.sci_cache.specs.Line.{LineState, untouched, line_in, line_asked, ask_or_fault}
 use Rattle.sci_cache.specs.Cache.{CacheOf, Letter, line_of, with_line, cache_asked}
 use Rattle.sci_core.proofs.Basics.Options.{of_some}
 use Rattle.sci_core.specs.declared.pending.Pending.{Pending}
-use Rattle.sci_core.specs.Node.{NodeOf, lines_of, home_place, home_of, pending_on, entry_of, node_logged, may_issue, node_issued, node_issuing, performed_by}
+use Rattle.sci_core.specs.Node.{NodeOf, lines_of, home_place, home_of, pending_on, entry_of, node_logged, node_issuing, performed_by}
 use Rattle.sci_core.specs.Node.{performing_pending, node_performing, asked_by, node_asking, with_answer, served_at_home, served_in_cache, serving_at_home}
 use Rattle.sci_core.specs.Node.{serving_in_cache, serving_request, answered_by, node_serving, is_setback, node_refusing, replied_by, node_replying, accepted_by}
 use Rattle.sci_core.specs.Node.{node_accepting}

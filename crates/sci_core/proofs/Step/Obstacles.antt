@@ -1,5 +1,5 @@
 -- Nothing stands in the way of an event exactly if it is enabled.
-use Rattle.std.proofs.Common.{◌≡◌, ℕ, ◌<◌, Bool, true, false, if◌then◌else◌, List, [], ◌∷◌, Option, Some, None, refl, sym, ap, ◌∙◌}
+use Rattle.std.proofs.Common.{◌≡◌, ℕ, ◌<◌, Bool, true, false, List, [], ◌∷◌, Option, Some, None, refl, sym, ap, ◌∙◌}
 use Rattle.std.proofs.Common.{arith}
 use Rattle.std.specs.Prelude.{option_map, IfSome, IsSome, is_some, is_none, Result, Ok, Err, slice_get}
 use Rattle.std.proofs.lemmas.Bool.{cases_Bool, lt-ltb, ltb-true, ltb-false}
@@ -14,7 +14,7 @@ use Rattle.sci_core.specs.declared.obstacle.Obstacle.{Obstacle}
 use Rattle.sci_core.specs.declared.taking.Taking.{Taking}
 use Rattle.sci_core.specs.declared.taking.Taking.TheVariants.{Serve, Refuse, Accept}
 use Rattle.sci_core.specs.Node.{NodeOf, node_issuing, node_performing, node_asking, node_serving, node_refusing, node_replying, node_accepting, is_setback}
-use Rattle.sci_core.specs.Node.{answered_by, serving_request, lines_of, asked_by}
+use Rattle.sci_core.specs.Node.{lines_of, asked_by}
 use Rattle.sci_core.specs.Core.{Core, node_at, node_of, lane_of, stepping}
 use Rattle.sci_core.specs.Obstacles.{asked_obstacle, ask_obstacle, packet_obstacle, front_obstacle}
 use Rattle.sci_core.specs.Obstacles.{take_obstacle}

@@ -1,6 +1,6 @@
 -- What comes by a lane of a reached state is taken, and is waited for.
 use Rattle.std.proofs.Common.{◌≡◌, ℕ, ◌<◌, ◌%◌, Bool, true, false, if◌then◌else◌, List, [], ◌∷◌, Option, Some, None, refl, sym, ap, subst, ◌∙◌, rules, arith}
-use Rattle.std.specs.Prelude.{option_map, ◌==◌, IsSome, is_some, slice_get}
+use Rattle.std.specs.Prelude.{option_map, ◌==◌, IsSome, slice_get}
 use Rattle.std.proofs.lemmas.Bool.{eq-eqb}
 use Rattle.sci_packets.specs.declared.body.Body.{Body}
 use Rattle.sci_packets.specs.declared.body.Body.TheVariants as body
@@ -16,7 +16,7 @@ use Rattle.sci_core.proofs.Basics.Lists.{if_cases}
 use Rattle.sci_core.proofs.Basics.Options.{map_some}
 use Rattle.sci_core.specs.declared.lane.LaneKind.{LaneKind}
 use Rattle.sci_core.specs.declared.lane.LaneKind.TheVariants.{Requests, Answers}
-use Rattle.sci_core.specs.Node.{NodeOf, serving_request, answered_by, node_serving}
+use Rattle.sci_core.specs.Node.{NodeOf, node_serving}
 use Rattle.sci_core.specs.Node.{node_refusing, is_setback, accepted_by}
 use Rattle.sci_core.specs.Core.{Core, node_at, lane_place, lane_of}
 use Rattle.sci_core.specs.Enabled.{IsAcceptedAt, AreServedAt}
@@ -44,12 +44,9 @@ cache_serves : (state : CacheState) (n : ℕ) (request : Body) → is_for_home r
 cache_serves state n body.Cread e asks = search rules
 cache_serves state n _ e asks = search rules
 
-request_served : (node : NodeOf) (request : Letter) → IsRequest request.body → IsSome (serving_request node request)
-request_served node request asks = grind (arith, if_cases, map_some, home_serves, cache_serves)
-
 -- a request is served unless an answer waits
 pub serve_enabled : (node : NodeOf) (request : Letter) → IsRequest request.body → node.waiting ≡ None → IsSome (node_serving node request)
-serve_enabled node request asks free = grind (arith, map_some, request_served)
+serve_enabled node request asks free = grind (arith, map_some, if_cases, home_serves, cache_serves)
 
 -- and refused, unless it is a Setback
 pub refuse_enabled : (node : NodeOf) (request : Letter) → is_setback request.body ≡ false → node.waiting ≡ None → IsSome (node_refusing node request)

@@ -15,7 +15,7 @@ use Rattle.sci_cache.specs.Accepting.{accepting}
 use Rattle.sci_cache.specs.Performing.{Performed, performing}
 use Rattle.sci_cache.specs.Line.{LineState, untouched, line_in, line_asked, ask_or_fault}
 use Rattle.sci_cache.specs.Cache.{CacheOf, Letter, line_of, with_line, target_of, letter_asking, cache_asked}
-use Rattle.sci_core.specs.Node.{NodeOf, lines_of, may_issue, node_issued, node_issuing, node_performing}
+use Rattle.sci_core.specs.Node.{NodeOf, lines_of, node_issuing, node_performing}
 use Rattle.sci_core.specs.Node.{asked_by, node_asking, answering, serving_request}
 use Rattle.sci_core.specs.Node.{answered_by, node_serving, node_refusing, replied_by, node_replying, node_accepting}
 use Rattle.sci_core.specs.Tidy.{IsAwaited}

@@ -19,7 +19,7 @@ use Rattle.sci_cache.specs.Performing.{Performed, performing}
 use Rattle.sci_cache.specs.Line.{LineState, untouched, line_in, line_asked, ask_or_fault}
 use Rattle.sci_cache.specs.Cache.{CacheOf, Letter, line_of, with_line, target_of, letter_asking, cache_asked, has_slot}
 use Rattle.sci_core.specs.declared.pending.Pending.{Pending}
-use Rattle.sci_core.specs.Node.{NodeOf, home_of, home_place, pending_on, may_issue, node_issued, node_issuing, node_logged, entry_of}
+use Rattle.sci_core.specs.Node.{NodeOf, home_of, home_place, pending_on, node_issuing, node_logged, entry_of}
 use Rattle.sci_core.specs.Node.{node_performing, asked_by, node_asking, answering}
 use Rattle.sci_core.specs.Node.{node_serving, node_refusing, replied_by, node_replying}
 use Rattle.sci_core.specs.Node.{node_accepting}
@@ -86,24 +86,8 @@ answer_letter nodes lines n request answer asks to names not_asks = grind arith
 
 -- ---- Issue
 
-issued_part : (size : Size) (n : ℕ) (part : NodeOf) (op : Op) → may_issue part op ≡ true → IsPart size n part → IsPart size n (node_issued part op)
-issued_part size n part op may is = record {
-  me = is.me;
-  all = is.all;
-  room = is.room;
-  each = is.each;
-  most = is.most;
-  states = is.states;
-  homes = is.homes;
-  answer = is.answer;
-  own = is.own;
-  asks = is.asks;
-  few = is.few;
-  fits = node_with_issue part op may is.fits;
-}
-
 pub part_issuing : (size : Size) (n : ℕ) (part : NodeOf) (op : Op) → IsPart size n part → IfSome (node_issuing part op) (IsPart size n)
-part_issuing size n part op is = grind (arith, if_cases, issued_part)
+part_issuing size n part op is = grind (arith, if_cases, node_with_issue)
 
 -- ---- Perform
 
