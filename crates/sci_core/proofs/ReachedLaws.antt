@@ -3,7 +3,7 @@ use Rattle.std.proofs.Common.{◌≡◌, ℕ, ◌<◌, ◌≤◌, List, [], ◌+
 use Rattle.std.specs.Prelude.{Result, Ok, Err, IfOk, Some, unwrap_or}
 use Rattle.std.proofs.lemmas.List.Elements.{All-from_recursion}
 use Rattle.std.specs.List.{All, AllPairs}
-use Rattle.std.proofs.lemmas.Bool.{cases_lt, ne_eqb}
+use Rattle.std.proofs.lemmas.Bool.{cases_lt}
 use Rattle.std.proofs.lemmas.List.{get_or_past}
 use Rattle.std.proofs.lemmas.List.FromFn.{get_or-map-range_with_len, length-map-range_with_len}
 use Rattle.sci_words.specs.declared.limits.TheConstants.{MAX_NODES}
@@ -155,20 +155,7 @@ beyond_log core node well past = let long = well.sizes.parts_long in ap (λ (par
 schedule_line : (size : Size) (schedule : List Event) (line : ℕ) → IsSize size
     → IsHistory (filter (is_on_line line) (done size schedule)) zero_stamped (stamped_at (last_of (run size schedule)) line)
 schedule_line size schedule line sizes =
-    grind (
-      arith,
-      run_well,
-      opened,
-      cases_lt,
-      last_within,
-      schedule_history,
-      all_weaker,
-      schedule_logged,
-      filter_none,
-      ne_eqb,
-      length-map-range_with_len,
-      get_or_past,
-    )
+    grind (arith, run_well, opened, cases_lt, last_within, schedule_history, all_weaker, schedule_logged, filter_none, length-map-range_with_len, get_or_past)
 
 line_history : (core : Core) (reached : IsReachable core) (line : ℕ)
     → IsHistory (filter (is_on_line line) (done core.size reached.schedule)) zero_stamped (stamped_at (last_of core) line)

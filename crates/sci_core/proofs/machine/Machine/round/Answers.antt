@@ -39,12 +39,8 @@ make-requires-3 c =
 pub make-requires-4 : goal.make-requires-4
 make-requires-4 c =
     accept_enabled_next c.args.self.now c.args.node c.args.line c.args.kind c.get-target.result c.make.new.self c.make-2.new.self c.make-3.new.self
-    (told (goal.at.make-requires-4 c).After-get-target) (record {
-      ask = c.in_ok-make.ensures.ok;
-      serve = c.in_ok-make-2.ensures.ok;
-      reply =
-          c.in_ok-make-3.ensures.ok;
-    })
+    (told (goal.at.make-requires-4 c).After-get-target)
+    (record { ask = c.in_ok-make.ensures.ok; serve = c.in_ok-make-2.ensures.ok; reply = c.in_ok-make-3.ensures.ok })
 
 pub returns-in_err-make-clause-refused : goal.returns-in_err-make-clause-refused
 returns-in_err-make-clause-refused c =
@@ -70,12 +66,8 @@ returns-in_err-make-4-clause-refused c =
 pub returns-clause-round : goal.returns-clause-round
 returns-clause-round c =
     round_made c.args.self.now c.args.node c.args.line c.args.kind c.get-target.result c.make.new.self c.make-2.new.self c.make-3.new.self c.make-4.new.self
-    (told (goal.at.returns-clause-round c).After-get-target) (record {
-      ask = c.in_ok-make.ensures.ok;
-      serve = c.in_ok-make-2.ensures.ok;
-      reply =
-          c.in_ok-make-3.ensures.ok;
-    })
+    (told (goal.at.returns-clause-round c).After-get-target)
+    (record { ask = c.in_ok-make.ensures.ok; serve = c.in_ok-make-2.ensures.ok; reply = c.in_ok-make-3.ensures.ok })
     c.in_ok-make-4.ensures.ok
 
 pub returns-clause-made : goal.returns-clause-made
