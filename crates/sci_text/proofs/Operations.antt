@@ -105,13 +105,8 @@ word_of commands.WrapAdd = codes "wrap-add"
 
 pub command_again : (act : Act) (rest : List ℕ) → command_read (act_word act ++ rest) ≡ Some (command_of act, rest)
 unfolding after command_read
-command_again Load rest = refl
-command_again (Store word) rest = refl
 command_again (Lock (MaskSwap arg datum)) rest = refl
-command_again (Lock (CompareSwap arg datum)) rest = refl
-command_again (Lock (FetchAdd datum)) rest = refl
-command_again (Lock (BoundedAdd arg datum)) rest = refl
-command_again (Lock (WrapAdd arg datum)) rest = refl
+command_again _ rest = refl
 
 either : {A P : Type 0} (o second : Option A) (y : A) → (o ≡ Some y → P) → (second ≡ Some y → P) → otherwise o second ≡ Some y → P
 either None second y f g e = g e
@@ -263,13 +258,8 @@ unfolding made
 made_is line word o act h = made_of (byte (fitting line)) (byte (fitting word)) o line word act (byte_is line) (byte_is word) h
 
 command_word : (act : Act) → word_of (command_of act) ≡ act_word act
-command_word Load = refl
-command_word (Store word) = refl
 command_word (Lock (MaskSwap arg datum)) = refl
-command_word (Lock (CompareSwap arg datum)) = refl
-command_word (Lock (FetchAdd datum)) = refl
-command_word (Lock (BoundedAdd arg datum)) = refl
-command_word (Lock (WrapAdd arg datum)) = refl
+command_word _ = refl
 
 pub operation_again : (op : Op) (rest : List ℕ) → Ends rest
     → (o : Option Op) × (operation_read (operation op ++ rest) ≡ Some (o, rest)) × SomeIff o (OpFits op) op

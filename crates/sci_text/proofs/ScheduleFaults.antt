@@ -108,12 +108,7 @@ text_grows s event rest =
 pub line_nonempty : (event : Event) → 0 < length (event_line event)
 unfolding event_line
 line_nonempty (Issue node op) = omega arith
-line_nonempty (Perform node line) = omega arith
-line_nonempty (Ask node line kind) = omega arith
-line_nonempty (Serve from node) = omega arith
-line_nonempty (Refuse from node) = omega arith
-line_nonempty (Reply node) = omega arith
-line_nonempty (Accept from node) = omega arith
+line_nonempty _ = omega arith
 
 pub line_shrinks : (old new : ScheduleValue) (bytes rest : List ℕ) → AddsEvent old new bytes rest → length rest < length bytes
 line_shrinks old new bytes rest adds = omega (arith, ap length adds.parts, length-append (event_line adds.event) rest, line_nonempty adds.event)

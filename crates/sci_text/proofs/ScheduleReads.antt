@@ -38,14 +38,7 @@ spelled_found word_of c k bytes rest e = spelled_found_by word_of c k bytes rest
 kind_again : (kind : AskKind) (rest : List ℕ) → kind_read (kind_word kind ++ rest) ≡ Some (kind, rest)
 unfolding after kind_read
 kind_again Mread rest = refl
-kind_again Fread rest = refl
-kind_again Cread rest = refl
-kind_again Claim rest = refl
-kind_again Clear rest = refl
-kind_again Purge rest = refl
-kind_again Roll rest = refl
-kind_again Wback rest = refl
-kind_again Setback rest = refl
+kind_again _ rest = refl
 
 kind_found : (bytes : List ℕ) (kind : AskKind) (rest : List ℕ) → kind_read bytes ≡ Some (kind, rest) → bytes ≡ kind_word kind ++ rest
 unfolding kind_read
@@ -80,22 +73,12 @@ verb_word verbs.Accept = codes "accept"
 
 event_verb : (event : Event) → verb_word (verb_of event) ≡ event_word event
 event_verb (Issue node op) = refl
-event_verb (Perform node line) = refl
-event_verb (Ask node line kind) = refl
-event_verb (Serve from node) = refl
-event_verb (Refuse from node) = refl
-event_verb (Reply node) = refl
-event_verb (Accept from node) = refl
+event_verb _ = refl
 
 verb_again : (event : Event) (rest : List ℕ) → verb_read (event_word event ++ rest) ≡ Some (verb_of event, rest)
 unfolding after verb_read
 verb_again (Issue node op) rest = refl
-verb_again (Perform node line) rest = refl
-verb_again (Ask node line kind) rest = refl
-verb_again (Serve from node) rest = refl
-verb_again (Refuse from node) rest = refl
-verb_again (Reply node) rest = refl
-verb_again (Accept from node) rest = refl
+verb_again _ rest = refl
 
 verb_found : (bytes : List ℕ) (verb : Verb) (rest : List ℕ) → verb_read bytes ≡ Some (verb, rest) → bytes ≡ verb_word verb ++ rest
 unfolding verb_read

@@ -45,14 +45,7 @@ same_event x y rest rest' fit e =
 
 kind_short : (kind : AskKind) → length (kind_word kind) ≤ 7
 kind_short Mread = omega arith
-kind_short Fread = omega arith
-kind_short Cread = omega arith
-kind_short Claim = omega arith
-kind_short Clear = omega arith
-kind_short Purge = omega arith
-kind_short Roll = omega arith
-kind_short Wback = omega arith
-kind_short Setback = omega arith
+kind_short _ = omega arith
 
 line_of_numbers : (word : List ℕ) (a b : ℕ) → length word ≤ 7 → (a < 256) × (b < 256) → IsShort (word ++ (field a ++ (field b ++ 10 ∷ [])))
 line_of_numbers word a b short fit =

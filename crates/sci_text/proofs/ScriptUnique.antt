@@ -123,13 +123,8 @@ two_short : (a d : ℕ) → (a < 2 ^ 64) × (d < 2 ^ 64) → length (field a ++ 
 two_short a d fits = omega (arith, length-append (field a) (field d), field_short a fits.0, field_short d fits.1)
 
 word_short : (act : Act) → length (act_word act) ≤ 12
-word_short Load = omega arith
-word_short (Store word) = omega arith
 word_short (Lock (MaskSwap arg datum)) = omega arith
-word_short (Lock (CompareSwap arg datum)) = omega arith
-word_short (Lock (FetchAdd datum)) = omega arith
-word_short (Lock (BoundedAdd arg datum)) = omega arith
-word_short (Lock (WrapAdd arg datum)) = omega arith
+word_short _ = omega arith
 
 operands_short : (act : Act) → ActFits act → length (act_operands act) ≤ 42
 operands_short Load fits = omega arith
