@@ -24,11 +24,7 @@ use Rattle.sci_cache.specs.LineSet.{is_in}
 -- a line that was never asked for is of no kind
 pub no_kind : (of : LineKind) → is_of of Out ≡ false
 no_kind kind.HasSharers = refl
-no_kind kind.HasFreshSharers = refl
-no_kind kind.Joins = refl
-no_kind kind.MustSend = refl
-no_kind kind.GivesWay = refl
-no_kind kind.CouldGiveWay = refl
+no_kind _ = refl
 
 abbrev weight : LineState → ℕ
 weight line = cond {A = ℕ} (not (is_out line.state)) 1 0
@@ -72,11 +68,7 @@ alike_itself x = record { kinds = λ of. refl; out = refl }
 
 only_heads : (c d : Stamped) (of : LineKind) → is_of of (Head None d) ≡ is_of of (Head None c)
 only_heads c d kind.HasSharers = refl
-only_heads c d kind.HasFreshSharers = refl
-only_heads c d kind.Joins = refl
-only_heads c d kind.MustSend = refl
-only_heads c d kind.GivesWay = refl
-only_heads c d kind.CouldGiveWay = refl
+only_heads c d _ = refl
 
 loading_alike : (maker : Bool) (done : Performed) → IfSome (if maker then None else Some done) (λ (d : Performed). AreAlike done.next d.next)
 loading_alike true done = tt

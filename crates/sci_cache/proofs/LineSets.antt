@@ -39,12 +39,10 @@ clear_other set line other small lt ne = elim (cases_lt other 64) [
 -- ---- the lines that two sets have
 
 both_bits : (m n : ℕ) → m < 2 → n < 2 → (min m n == 1) ≡ ((m == 1) && (n == 1))
-both_bits zero zero m-is n-is = refl
-both_bits zero (suc zero) m-is n-is = refl
-both_bits (suc zero) zero m-is n-is = refl
-both_bits (suc zero) (suc zero) m-is n-is = refl
 both_bits (suc (suc m)) n m-is n-is = absurd (omega arith)
 both_bits m (suc (suc n)) m-is n-is = absurd (omega arith)
+both_bits (suc zero) (suc zero) m-is n-is = refl
+both_bits _ _ _ _ = refl
 
 pub in_both : (a b line : ℕ) → is_in (bit_and a b) line ≡ (is_in a line && is_in b line)
 in_both a b line = is_one _ _ (bit_at_and a b line) ∙ both_bits (bit_at a line) (bit_at b line) (bit_at-lt a line) (bit_at-lt b line)

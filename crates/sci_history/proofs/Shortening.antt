@@ -30,8 +30,7 @@ comes_same : (r : Reason) (x y x' y' : Step) → IsSame x x' → IsSame y y' →
 comes_same Logged x y x' y' a b c =
     (sym (ap (λ e. e.node) b.entry) ∙ (c.0 ∙ ap (λ e. e.node) a.entry), let p = a.place in let q = b.place in let lt = c.1 in omega arith)
 comes_same ReadsFrom x y x' y' a b c = rw (sym a.entry) (rw (sym b.entry) c)
-comes_same FromRead x y x' y' a b c = rw (sym a.entry) (rw (sym b.entry) c)
-comes_same Coherence x y x' y' a b c = rw (sym a.entry) (rw (sym b.entry) c)
+comes_same _ x y x' y' a b c = rw (sym a.entry) (rw (sym b.entry) c)
 
 not_below : (n : ℕ) → n < n → ⊥
 not_below n lt = omega arith

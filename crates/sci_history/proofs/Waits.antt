@@ -85,10 +85,9 @@ chain_joined (s ∷ t ∷ steps) x rest end a b = (a.0, chain_joined (t ∷ step
 
 pub chain_dropped : (steps : List Step) (end : Step) (n : ℕ) → IsChain steps end → IsChain (drop n steps) end
 chain_dropped steps end zero chain = chain
-chain_dropped [] end (suc n) chain = tt
-chain_dropped (s ∷ []) end (suc zero) chain = tt
-chain_dropped (s ∷ []) end (suc (suc n)) chain = tt
 chain_dropped (s ∷ t ∷ steps) end (suc n) chain = chain_dropped (t ∷ steps) end n chain.1
+chain_dropped (s ∷ []) end (suc (suc n)) chain = tt
+chain_dropped _ end _ chain = tt
 
 -- the entry that is left first is one
 same_entry : (logs : List (List Entry)) (next : List ℕ) (node : ℕ) (end : Step) (other : Entry) → IsFirstLeft logs next node end

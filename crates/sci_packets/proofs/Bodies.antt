@@ -41,25 +41,8 @@ body_from p =
 
 body_from-parts_of : (body : Body) → body_from (parts_of body) ≡ body
 unfolding body_from parts_of
-body_from-parts_of Mread = refl
-body_from-parts_of Cread = refl
-body_from-parts_of Purge = refl
 body_from-parts_of (Roll forward) = refl
-body_from-parts_of (Wback contents) = refl
-body_from-parts_of (Setback backward) = refl
-body_from-parts_of Fread = refl
-body_from-parts_of Claim = refl
-body_from-parts_of Clear = refl
-body_from-parts_of (Mdata contents) = refl
-body_from-parts_of (Mgone old_head) = refl
-body_from-parts_of (Cdata contents) = refl
-body_from-parts_of (Purged forward) = refl
-body_from-parts_of Rolled = refl
-body_from-parts_of Wbok = refl
-body_from-parts_of Wbno = refl
-body_from-parts_of Told = refl
-body_from-parts_of Busy = refl
-body_from-parts_of (Fdata old_head contents) = refl
+body_from-parts_of _ = refl
 
 joined : (made : ℕ → Option ℕ → Option Stamped → Parts) (c c' : ℕ) (i i' : Option ℕ) (s s' : Option Stamped) → c ≡ c' → i ≡ i' → s ≡ s'
     → made c i s ≡ made c' i' s'
@@ -85,25 +68,8 @@ known p a b c d e = record { command = a; identifier = b; contents = c; above = 
 
 pub is_known : (body : Body) → IsKnown (parts_of body)
 unfolding parts_of is_misnamed
-is_known Mread = known _ refl refl refl (omega arith) (omega arith)
-is_known Cread = known _ refl refl refl (omega arith) (omega arith)
-is_known Purge = known _ refl refl refl (omega arith) (omega arith)
 is_known (Roll forward) = known _ refl refl refl (omega arith) (omega arith)
-is_known (Wback contents) = known _ refl refl refl (omega arith) (omega arith)
-is_known (Setback backward) = known _ refl refl refl (omega arith) (omega arith)
-is_known Fread = known _ refl refl refl (omega arith) (omega arith)
-is_known Claim = known _ refl refl refl (omega arith) (omega arith)
-is_known Clear = known _ refl refl refl (omega arith) (omega arith)
-is_known (Mdata contents) = known _ refl refl refl (omega arith) (omega arith)
-is_known (Mgone old_head) = known _ refl refl refl (omega arith) (omega arith)
-is_known (Cdata contents) = known _ refl refl refl (omega arith) (omega arith)
-is_known (Purged forward) = known _ refl refl refl (omega arith) (omega arith)
-is_known Rolled = known _ refl refl refl (omega arith) (omega arith)
-is_known Wbok = known _ refl refl refl (omega arith) (omega arith)
-is_known Wbno = known _ refl refl refl (omega arith) (omega arith)
-is_known Told = known _ refl refl refl (omega arith) (omega arith)
-is_known Busy = known _ refl refl refl (omega arith) (omega arith)
-is_known (Fdata old_head contents) = known _ refl refl refl (omega arith) (omega arith)
+is_known _ = known _ refl refl refl (omega arith) (omega arith)
 
 -- identifiers by their numbers
 pub number_of-lt : (a : Option ℕ) → IfSome a (λ id. id < 0xFFFF) → number_of a < 2 ^ 16

@@ -299,13 +299,9 @@ stored_found bytes o rest (Some r) a e =
 
 reply_found : (act : Act) (bytes : List ℕ) (o : Option Reply) (rest : List ℕ) → reply_read (command_of act) bytes ≡ Some (o, rest) → ReplyFound act bytes o rest
 unfolding reply_read
-reply_found Load bytes o rest e = let s = got_found bytes o rest e in (Got s.0, s.1, s.2, tt)
 reply_found (Store word) bytes o rest e = let s = stored_found bytes o rest (after (codes "-") bytes) refl e in (Stored, s.0, s.1, tt)
 reply_found (Lock (MaskSwap arg datum)) bytes o rest e = let s = got_found bytes o rest e in (Got s.0, s.1, s.2, tt)
-reply_found (Lock (CompareSwap arg datum)) bytes o rest e = let s = got_found bytes o rest e in (Got s.0, s.1, s.2, tt)
-reply_found (Lock (FetchAdd datum)) bytes o rest e = let s = got_found bytes o rest e in (Got s.0, s.1, s.2, tt)
-reply_found (Lock (BoundedAdd arg datum)) bytes o rest e = let s = got_found bytes o rest e in (Got s.0, s.1, s.2, tt)
-reply_found (Lock (WrapAdd arg datum)) bytes o rest e = let s = got_found bytes o rest e in (Got s.0, s.1, s.2, tt)
+reply_found _ bytes o rest e = let s = got_found bytes o rest e in (Got s.0, s.1, s.2, tt)
 
 -- ---- entries
 

@@ -42,12 +42,9 @@ event_long s bytes o rest e long = λ event says.
 within_fits : (nodes lines : ℕ) (event : Event) → nodes ≤ 16 → lines ≤ 64 → IsEventWithin nodes lines event → EventFits event
 within_fits nodes lines (Issue node op) few less within =
     (omega (arith, within.known_node), (omega (arith, within.known_line), omega (arith, within.known_word), within.words))
-within_fits nodes lines (Perform node line) few less within = (omega (arith, within.0), omega (arith, within.1))
-within_fits nodes lines (Ask node line kind) few less within = (omega (arith, within.0), omega (arith, within.1))
-within_fits nodes lines (Serve from node) few less within = (omega (arith, within.0), omega (arith, within.1))
-within_fits nodes lines (Refuse from node) few less within = (omega (arith, within.0), omega (arith, within.1))
 within_fits nodes lines (Reply node) few less within = omega (arith, within)
-within_fits nodes lines (Accept from node) few less within = (omega (arith, within.0), omega (arith, within.1))
+within_fits nodes lines (Perform node line) few less within = (omega (arith, within.0), omega (arith, within.1))
+within_fits nodes lines _ few less within = (omega (arith, within.0), omega (arith, within.1))
 
 pub fits : (s : ScheduleValue) → IsSchedule s → (event : Event) → IsEventWithin s.nodes s.lines event → EventFits event
 fits s good event within = within_fits s.nodes s.lines event (omega (arith, good.size.few_nodes)) (omega (arith, good.size.few_lines)) within
