@@ -20,16 +20,9 @@ eight_from k xs =
     ∷ get_or xs (k + 7) 0 ∷ []
 
 eight_first : (xs more : List ℕ) → length xs ≡ 8 → eight_from 0 (xs ++ more) ≡ xs
-eight_first [] more e = absurd (omega arith)
-eight_first (a ∷ []) more e = absurd (omega arith)
-eight_first (a ∷ b ∷ []) more e = absurd (omega arith)
-eight_first (a ∷ b ∷ c ∷ []) more e = absurd (omega arith)
-eight_first (a ∷ b ∷ c ∷ d ∷ []) more e = absurd (omega arith)
-eight_first (a ∷ b ∷ c ∷ d ∷ f ∷ []) more e = absurd (omega arith)
-eight_first (a ∷ b ∷ c ∷ d ∷ f ∷ g ∷ []) more e = absurd (omega arith)
-eight_first (a ∷ b ∷ c ∷ d ∷ f ∷ g ∷ h ∷ []) more e = absurd (omega arith)
 eight_first (a ∷ b ∷ c ∷ d ∷ f ∷ g ∷ h ∷ i ∷ []) more e = refl
-eight_first (a ∷ b ∷ c ∷ d ∷ f ∷ g ∷ h ∷ i ∷ j ∷ rest) more e = absurd (omega arith)
+eight_first (a ∷ []) more e = absurd (omega arith)
+eight_first _ more e = absurd (omega arith)
 
 pub eight : (xs : List ℕ) → length xs ≡ 8 → eight_from 0 xs ≡ xs
 eight xs e = ap (λ (ys : List ℕ). eight_from 0 ys) (sym (append-nil xs)) ∙ eight_first xs [] e

@@ -10,11 +10,9 @@ use Rattle.sci_command.specs.Refusal.{Refuses, IsRefusalBy}
 told_memory : (is_first : List ℕ → ℕ → TextFaultKind → Type 0) (kind : TextFaultKind) (known : Option (List ℕ)) (failed : Bool) (line : ℕ)
     → IsTold is_first kind known failed line → 0 < line → IsTold is_first Memory known failed 0
 told_memory is_first Read known failed line h lt = let zero_line = h.1 in absurd (omega arith)
-told_memory is_first Memory known failed line h lt = (h.0, refl)
-told_memory is_first Syntax known failed line h lt = (h.0, refl)
-told_memory is_first Range known failed line h lt = (h.0, refl)
-told_memory is_first TooMany known failed line h lt = (h.0, refl)
 told_memory is_first Write known failed line h lt = absurd h
+told_memory is_first Memory known failed line h lt = (h.0, refl)
+told_memory is_first _ known failed line h lt = (h.0, refl)
 
 -- what was written as a refusal is that of the fault that is told, or of memory
 pub refused_told : (is_first : List ℕ → ℕ → TextFaultKind → Type 0) (known : Option (List ℕ)) (failed : Bool) (fault : TextFault) (text : List ℕ)

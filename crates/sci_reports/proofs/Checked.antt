@@ -37,12 +37,11 @@ use Rattle.sci_reports.specs.TextReadings.{AreReadings, IsChecked, IsReading, kn
 
 first_of : (is_first : List ℕ → ℕ → TextFaultKind → Type 0) (kind : TextFaultKind) (input : List ℕ) (line : ℕ) → IsRefusalOf is_first kind input line
     → (kind ≡ Memory → ⊥) → is_first input line kind
-first_of is_first Syntax input line h none = h
-first_of is_first Range input line h none = h
-first_of is_first TooMany input line h none = h
 first_of is_first Read input line h none = absurd h
 first_of is_first Write input line h none = absurd h
 first_of is_first Memory input line h none = absurd (none refl)
+first_of is_first Syntax input line h none = h
+first_of is_first _ input line h none = h
 
 -- a fault that isn't of memory is the first of its kind of text
 pub faulty_reading : {V : Type 0} (is_text : V → Type 0) (size : V → TextSize) (is_first : List ℕ → ℕ → TextFaultKind → Type 0) (input : List ℕ)
@@ -57,8 +56,7 @@ faulty_reading is_text size is_first input fault (Err e) refusal h = tt
 size_some : (kind : TextKind) (size : TextSize) (rest : List ℕ) → size_text kind size ++ rest ≡ [] → ⊥
 unfolding size_text kind_name
 size_some Script size rest e = absurd (cc)
-size_some Schedule size rest e = absurd (cc)
-size_some Log size rest e = absurd (cc)
+size_some _ size rest e = absurd (cc)
 
 said_some : (kind : TextKind) (size : TextSize) (reading : Reading) (rest : List ℕ) → reading ≡ Size size → said_of kind reading ++ rest ≡ [] → ⊥
 said_some kind size reading rest is e = size_some kind size rest (subst (λ (r : Reading). said_of kind r ++ rest ≡ []) is e)
