@@ -2,7 +2,7 @@
 use Rattle.std.proofs.Common.{ℕ, ◌<◌, List, Bool, Option, refl, inl, inr, arith}
 use Rattle.sci_text.specs.declared.fault.TextFault.{TextFault}
 use Rattle.sci_text.specs.declared.fault.TextFaultKind.{TextFaultKind}
-use Rattle.sci_text.specs.declared.fault.TextFaultKind.TheVariants.{Syntax, Range, TooMany, Read, Write, Memory}
+use Rattle.sci_text.specs.declared.fault.TextFaultKind.TheVariants.{Read, Write, Memory}
 use Rattle.sci_text.specs.FirstFault.{IsTold}
 use Rattle.sci_command.specs.Refusal.{Refuses, IsRefusalBy}
 

@@ -12,7 +12,7 @@ use Rattle.sci_text.specs.declared.fault.TextFaultKind.{TextFaultKind}
 use Rattle.sci_text.specs.declared.fault.TextFaultKind.TheVariants.{Syntax, Range, TooMany, Read, Write, Memory}
 use Rattle.sci_text.specs.FirstFault.{AreRead, HasNoFault, IsFirstFault, IsRefusal, IsRefusalOf, IsTold}
 use Rattle.sci_text.specs.LogFault.{BeginsFront, GoesOn, IsLogFault, LogLineFault, SizeFault, line_count}
-use Rattle.sci_words.specs.declared.limits.TheConstants.{MAX_OPERATIONS, FORMAT_1_ENTRIES}
+use Rattle.sci_words.specs.declared.limits.TheConstants.{MAX_OPERATIONS}
 use Rattle.sci_words.specs.declared.stamped.Stamped.{Stamped}
 use Rattle.sci_text.specs.declared.log_form.Form.{Form}
 use Rattle.sci_text.specs.LogValue.{AreLogs, Front, IsForm, IsLogs, entry_count}
@@ -29,7 +29,7 @@ use Rattle.sci_reports.specs.declared.checking.TextSize.{TextSize}
 use Rattle.sci_reports.specs.declared.text_lines.TextKind.{TextKind}
 use Rattle.sci_reports.specs.declared.text_lines.TextKind.TheVariants.{Script, Schedule, Log}
 use Rattle.sci_reports.specs.declared.checking.Readings.{Readings}
-use Rattle.sci_reports.specs.CheckAnswer.{IsCheckAnswer, IsKnown, IsLastFault, IsLogText, IsNoLater, IsRefusedAt, IsSaid, IsScheduleText, IsScriptText, depth}
+use Rattle.sci_reports.specs.CheckAnswer.{IsCheckAnswer, IsKnown, IsLastFault, IsLogText, IsNoLater, IsRefusedAt, IsSaid, IsScheduleText, IsScriptText}
 use Rattle.sci_reports.specs.CheckAnswer.{kind_name, log_size, schedule_size, script_size, size_text}
 use Rattle.sci_reports.specs.TextReadings.{AreReadings, IsChecked, IsReading, known_text, said_of}
 

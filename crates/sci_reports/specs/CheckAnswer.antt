@@ -3,7 +3,7 @@ use Rattle.std.specs.Prelude.{◌≡◌, ℕ, ◌<◌, ◌≤◌, ◌⊎◌, ◌
 use Rattle.sci_words.specs.declared.stamped.Stamped.{Stamped}
 use Rattle.sci_history.specs.declared.entry.Entry.{Entry}
 use Rattle.sci_text.specs.declared.fault.TextFaultKind.{TextFaultKind}
-use Rattle.sci_text.specs.declared.fault.TextFaultKind.TheVariants.{Syntax, Range, TooMany, Read, Write, Memory}
+use Rattle.sci_text.specs.declared.fault.TextFaultKind.TheVariants.{Syntax, Range}
 use Rattle.sci_text.specs.FirstFault.{IsTold}
 use Rattle.sci_text.specs.LogFault.{IsLogFault}
 use Rattle.sci_text.specs.LogValue.{IsLogs, entry_count}

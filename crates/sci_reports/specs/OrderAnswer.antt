@@ -19,7 +19,7 @@ use Rattle.sci_text.specs.Log.{entry_line, issue_text, outcome_text}
 use Rattle.sci_text.specs.LogFault.{IsLogFault}
 use Rattle.sci_text.specs.LogValue.{IsLogs}
 use Rattle.sci_command.specs.declared.outcome.Outcome.{Outcome}
-use Rattle.sci_command.specs.declared.outcome.Outcome.TheVariants.{Done, Unlawful, Refused}
+use Rattle.sci_command.specs.declared.outcome.Outcome.TheVariants.{Done, Refused}
 use Rattle.sci_command.specs.Answer.{IsAnswerBy}
 use Rattle.sci_command.specs.VerdictLine.{verdict_text}
 use Rattle.sci_reports.specs.declared.ordering.NodeOrder.{NodeOrder}

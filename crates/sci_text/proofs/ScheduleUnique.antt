@@ -9,7 +9,7 @@ use Rattle.std.proofs.lemmas.List.Elements.{recursion_from_All}
 use Rattle.std.proofs.lemmas.Option.{some_pair_parts, same_Some}
 use Rattle.sci_words.specs.declared.limits.TheConstants.{MAX_EVENTS, MAX_INPUT_BYTES, MAX_TEXT_LINE_BYTES}
 use Rattle.sci_words.specs.declared.event.AskKind.{AskKind}
-use Rattle.sci_words.specs.declared.event.AskKind.TheVariants.{Mread, Fread, Cread, Claim, Clear, Purge, Roll, Wback, Setback}
+use Rattle.sci_words.specs.declared.event.AskKind.TheVariants.{Mread}
 use Rattle.sci_words.specs.declared.event.Event.{Event}
 use Rattle.sci_words.specs.declared.event.Event.TheVariants as events
 use Rattle.sci_text.specs.declared.fault.TextFault.{TextFault}

@@ -1,4 +1,4 @@
-use Rattle.std.proofs.Common.{◌≡◌, ℕ, true, false, arith, ap, get_or, take}
+use Rattle.std.proofs.Common.{◌≡◌, true, false, arith, ap, get_or, take}
 use Rattle.std.proofs.lemmas.Bool.Decides.{nat_tests}
 use Rattle.std.proofs.lemmas.Grind.{common_steps}
 use Rattle.sci_history.specs.declared.entry.Entry.{Entry}

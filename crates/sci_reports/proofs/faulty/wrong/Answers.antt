@@ -1,4 +1,4 @@
-use Rattle.std.proofs.Common.{◌≡◌, ◌<◌, ◌+◌, ℕ, List, Some, true, false, arith, rules, ap, get_or, take, ◌∙◌}
+use Rattle.std.proofs.Common.{◌≡◌, ◌<◌, ℕ, List, Some, true, false, arith, rules, ap, get_or, take, ◌∙◌}
 use Rattle.std.specs.Prelude.{slice_index}
 use Rattle.std.proofs.lemmas.Grind.{common_steps}
 use Rattle.sci_words.specs.declared.limits.TheConstants.{WORDS_PER_LINE}

@@ -1,7 +1,6 @@
-use Rattle.std.proofs.Common.{◌≡◌, ◌+◌, ◌<◌, true, false, arith, get_or, length, refl}
+use Rattle.std.proofs.Common.{◌<◌, arith, length, refl}
 use Rattle.std.proofs.lemmas.Bool.{eq-eqb, ne_eqb}
 use Rattle.sci_history.proofs.AuditFinds.{no_entry}
-use Rattle.sci_history.specs.Placed.{is_on_line}
 use Rattle.sci_reports.specs.EntryLines.{numberings}
 use Rattle.sci_reports.proofs.EntriesOn.{entry_more, entry_past}
 use Rattle.sci_reports.proofs.numbered.add_log.Goals as goal
