@@ -7,6 +7,7 @@
   stands for lines that are left out;
 - each crate has a README of at most 60 lines;
 - no line of a definition or a proof is longer than 160 columns;
+- each edit and each plant can be applied: what it replaces stands once in its file;
 - the version is the same everywhere (version.py).
 
 The last line is 'N passed, M failed', of pages."""
@@ -91,6 +92,22 @@ def wide_lines(path):
             yield f"line {number} has {len(line)} columns"
 
 
+def wrong_edit(path):
+    """Why an edit of crates/NAME/must-fail or of plants/NAME can't be applied."""
+    crate, text, old = path.split("/")[1], "", None
+    for line in read(path).splitlines():
+        word, _, rest = line.partition(": ")
+        if word == "file":
+            name = f"crates/{crate}/{rest.strip()}"
+            text = read(name) if os.path.exists(f"{TOP}/{name}") else ""
+        elif word == "old":
+            old = rest
+        elif word == "new":
+            if text.count(old) != 1:
+                yield f"stands {text.count(old)} times: {old.strip()}"
+            text = text.replace(old, rest)
+
+
 def main():
     files = list(files_of_repository())
     sources = "\n" + "\n".join(it.strip() for path in files if path.endswith(".rt") for it in read(path).splitlines()) + "\n"
@@ -98,6 +115,7 @@ def main():
     words = set(re.findall(r"\w+", " ".join([*code, *files])))
     wrong = {"version": list(wrong_versions())}
     wrong["width"] = [f"{path}: {it}" for path in files if path.endswith(".antt") for it in wide_lines(path)]
+    wrong["edits"] = [f"{path}: {it}" for path in files if path.endswith(".edit") for it in wrong_edit(path)]
     for path in (it for it in files if it.endswith(".md")):
         wrong[path] = [*wrong_links(path), *wrong_code(path, sources)]
         if path.startswith("crates/") or path in ABOUT_CODE:
