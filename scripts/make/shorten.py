@@ -51,7 +51,7 @@ def clauses_of(lines, least):
         bound = set(WORD.findall(parts[1])) | set(re.findall(r"let ([a-z_][\w\-']*)", body))
         words = list(dict.fromkeys(WORD.findall(body)))
         if found[1] not in words:
-            cited = [it for it in words if it in known and it not in KNOWN | bound]
+            cited = tuple(it for it in words if it in known and it not in KNOWN | bound)
             yield Clause(found[1], start, end, parts[1], cited)
 
 
