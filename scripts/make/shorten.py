@@ -56,12 +56,11 @@ def clauses_of(lines, least):
 
 
 def shortened(lines, clauses):
-    """The lines with those clauses short, and the lemma that each new line is of."""
-    by_start, out, place, names = {it.start: it for it in clauses}, [], 0, {}
+    """The text of the lines with those clauses short."""
+    by_start, out, place = {it.start: it for it in clauses}, [], 0
     while place < len(lines):
         clause = by_start.get(place)
         if clause:
-            names[len(out) + 1] = clause
             out.append(f"{clause.head} = grind ({', '.join(['arith', *clause.cited])})" if clause.cited else f"{clause.head} = grind arith")
             place = clause.end
         else:
@@ -71,15 +70,15 @@ def shortened(lines, clauses):
     if clauses and not re.search(r"^use .*\barith\b", text, re.M):
         text = re.sub(r"(use Rattle\.std\.proofs\.Common\.\{[^}]*)\}", r"\1, arith}", text, count=1)
         text = text if re.search(r"^use .*\barith\b", text, re.M) else f"use Rattle.std.proofs.Common.{{arith}}\n{text}"
-    return text, names
+    return text
 
 
 def refused(told, folder, left):
     """Those clauses that a check refused, by what it told."""
     wrong = set()
-    for path, line, message in re.findall(r"^\./(proofs/\S+?):(\d+):\d+: error: (.*)$", told, re.M):
+    for path, message in re.findall(r"^\./(proofs/\S+?):\d+:\d+: error: (.*)$", told, re.M):
         names = re.findall(r"`([^`]+)`", message)[:1]
-        of_file = [it for it in left.get(f"{folder}/{path}", ())]
+        of_file = left.get(f"{folder}/{path}", ())
         wrong |= {(f"{folder}/{path}", it) for it in of_file if it.name in names and "not checked" not in message}
     return wrong
 
@@ -93,7 +92,7 @@ def main():
     while any(left.values()):
         for path, clauses in left.items():
             with open(path, "w") as file:
-                file.write(shortened(texts[path], clauses)[0])
+                file.write(shortened(texts[path], clauses))
         print(f"{sum(map(len, left.values()))} left", flush=True)
         ran = subprocess.run(["rt", "check"], cwd=folder, stdout=subprocess.PIPE, stderr=subprocess.STDOUT, text=True)
         if "logic=proved" in ran.stdout:
@@ -105,7 +104,7 @@ def main():
         left = {path: [it for it in clauses if (path, it) not in wrong] for path, clauses in left.items()}
     for path, clauses in left.items():
         with open(path, "w") as file:
-            file.write(shortened(texts[path], clauses)[0])
+            file.write(shortened(texts[path], clauses))
     print(f"{sum(it.end - it.start - 1 for clauses in left.values() for it in clauses)} lines fewer")
 
 
