@@ -15,6 +15,7 @@ use Rattle.sci_words.specs.declared.event.Event.{Event}
 use Rattle.sci_cache.specs.Cache.{Letter, letter_of}
 use Rattle.sci_core.specs.Core.{Core, lane_at, run}
 use Rattle.sci_core.specs.Reached.{IsReached}
+use Rattle.sci_core.proofs.Step.Stepping.{if_false}
 use Rattle.sci_lanes.specs.declared.view.Outbound.{Outbound}
 use Rattle.sci_lanes.specs.declared.view.Inbound.{Inbound}
 use Rattle.sci_lanes.specs.declared.view.Part.{Part}
@@ -148,10 +149,6 @@ maybe_in : (b sure : Bool) (words : List ℕ) (lane word : ℕ) (packets : List 
 maybe_in true sure words lane word packets o i is there f =
     subst (λ (w : ℕ). Fits words lane packets o (looked_in sure w i)) (sym (is refl)) (in_looked words lane packets o i sure (there refl) f)
 maybe_in false sure words lane word packets o i is there f = f
-
-if_false : {X : Type 0} (b : Bool) (x y : X) → b ≡ false → (if b then x else y) ≡ y
-if_false true x y e = cc
-if_false false x y e = refl
 
 -- no packet is in a lane whose next cell to take from is empty
 emptied : (words : List ℕ) (place : ℕ) (lane : List Letter) (o : Outbound) (i : Inbound) → ShowsLane words place lane o i → word_at words place i.taken 0 ≡ 0

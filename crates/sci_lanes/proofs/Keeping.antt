@@ -15,21 +15,14 @@ use Rattle.sci_lanes.specs.declared.view.View.{View}
 use Rattle.sci_lanes.specs.Cells.{lane_count, sender_of, receiver_of, word_count}
 use Rattle.sci_lanes.specs.Shown.{Whole, nodes_of, me_of, single, ShowsLane, IsKnown, IsSeen, HasRead, IsCovered, Shows}
 use Rattle.sci_core.proofs.Basics.Options.{same_some}
+use Rattle.sci_history.proofs.Order.{all_weaker, all-append}
 
 -- ---- lists
-
-pub all_by : {X : Type 0} (P Q : X → Type 0) → ((x : X) → P x → Q x) → (xs : List X) → AllByRecursion P xs → AllByRecursion Q xs
-all_by P Q f [] all = tt
-all_by P Q f (x ∷ xs) all = (f x all.0, all_by P Q f xs all.1)
 
 pub all_at : {X : Type 0} (P : X → Type 0) (xs : List X) (k : ℕ) (x : X) → slice_get xs k ≡ Some x → AllByRecursion P xs → P x
 all_at P [] k x e all = cc
 all_at P (y ∷ xs) zero x e all = subst P (same_some y x e) all.0
 all_at P (y ∷ xs) (suc k) x e all = all_at P xs k x e all.1
-
-pub all_join : {X : Type 0} (P : X → Type 0) (xs ys : List X) → AllByRecursion P xs → AllByRecursion P ys → AllByRecursion P (xs ++ ys)
-all_join P [] ys h k = k
-all_join P (x ∷ xs) ys h k = (h.0, all_join P xs ys h.1 k)
 
 pub get_left : {X : Type 0} (xs ys : List X) (k : ℕ) (x : X) → slice_get xs k ≡ Some x → slice_get (xs ++ ys) k ≡ Some x
 get_left [] ys k x e = cc
@@ -90,8 +83,8 @@ pub seen_further : (p : Part) (n : ℕ) (old new : List Event) → me_of p ≢ n
 seen_further p n old new not f s = record {
   others = s.others ++ f.events;
   further = f.more ∙ (ap (λ (es : List Event). es ++ f.events) s.further ∙ append_assoc p.schedule s.others f.events);
-  apart = all_join (λ e. node_of e ≢ me_of p) s.others f.events s.apart
-      (all_by (λ e. node_of e ≡ n) (λ e. node_of e ≢ me_of p) (λ e own is. not (sym is ∙ own)) f.events f.own);
+  apart = all-append (λ e. node_of e ≢ me_of p) s.others f.events s.apart
+      (all_weaker (λ e. node_of e ≡ n) (λ e. node_of e ≢ me_of p) (λ e own is. not (sym is ∙ own)) f.events f.own);
 }
 
 -- a node whose seat and its view stay is covered
@@ -163,7 +156,7 @@ step_shows x y words views seat place value part next s here t lanes = record {
     known other view e = elim (at_set views seat other (single next) view e) [
       | inl h ↦ subst (λ (k : ℕ). AllByRecursion (IsKnown y k) view.parts) (sym h.0)
           (subst (λ (v : View). AllByRecursion (IsKnown y seat) v.parts) h.1 (t.known, tt))
-      | inr h ↦ all_by (IsKnown x other) (IsKnown y other) (λ p k. other_known x y seat other part next p h.0 mine t k) view.parts (s.known other view h.1)
+      | inr h ↦ all_weaker (IsKnown x other) (IsKnown y other) (λ p k. other_known x y seat other part next p h.0 mine t k) view.parts (s.known other view h.1)
     ]
 
     covered : (n : ℕ) → n < nodes_of y → IsCovered y (set views seat (single next)) n

@@ -13,9 +13,10 @@ use Rattle.sci_core.specs.Size.{Size}
 use Rattle.sci_lanes.specs.declared.view.Part.{Part}
 use Rattle.sci_lanes.specs.declared.view.View.{View}
 use Rattle.sci_lanes.specs.Shown.{Whole, nodes_of, me_of, single, IsKnown, HasRead, IsCovered, Shows, IsKept}
-use Rattle.sci_lanes.proofs.Keeping.{all_by, all_join, get_left, get_right, changed_at, changed_here, changed_else, read_none, read_nothing}
+use Rattle.sci_lanes.proofs.Keeping.{get_left, get_right, changed_at, changed_here, changed_else, read_none, read_nothing}
 use Rattle.sci_lanes.proofs.Keeping.{within, covered_still}
 use Rattle.sci_core.proofs.Basics.Options.{same_some}
+use Rattle.sci_history.proofs.Order.{all_weaker, all-append}
 
 -- the last of a list, with its place
 last_at? : {A : Type 0} (xs : List A) (x : A) (k : ℕ) (y : A) → get_elem? (xs ++ x ∷ []) k ≡ some y → (get_elem? xs k ≡ some y) ⊎ ((k ≡ length xs) × (x ≡ y))
@@ -83,7 +84,7 @@ split_shows x words views seat p rest s here none = record { long = s.long; lane
     sized = length-set views seat left
 
     others : (id : ℕ) (view : View) → id ≢ seat → get_elem? views id ≡ some view → AllByRecursion (IsKnown y id) view.parts
-    others id view apart e = all_by (IsKnown x id) (IsKnown y id)
+    others id view apart e = all_weaker (IsKnown x id) (IsKnown y id)
         (λ q k. moved x owner id id q (same (me_of q) (λ is. apart (sym k.mine ∙ (ap x.owner is ∙ mine.mine))) ∙ k.mine) k) view.parts (s.known id view e)
 
     known : (id : ℕ) (view : View) → get_elem? (set views seat left ++ single p ∷ []) id ≡ some view → AllByRecursion (IsKnown y id) view.parts
@@ -180,10 +181,10 @@ join_shows x words views seat other v w s here apart there = record { long = s.l
     same n not = rw (ne_eqb (x.owner n) other not) refl
 
     both_known : AllByRecursion (IsKnown y seat) (v ++ w)
-    both_known = all_join (IsKnown y seat) v w
-        (all_by (IsKnown x seat) (IsKnown y seat) (λ q k. moved x y.owner seat seat q (same (me_of q) (λ is. apart (sym is ∙ k.mine)) ∙ k.mine) k) v
+    both_known = all-append (IsKnown y seat) v w
+        (all_weaker (IsKnown x seat) (IsKnown y seat) (λ q k. moved x y.owner seat seat q (same (me_of q) (λ is. apart (sym is ∙ k.mine)) ∙ k.mine) k) v
         (s.known seat (record { parts = v; words = [] }) here))
-        (all_by (IsKnown x other) (IsKnown y seat) (λ q k. moved x y.owner other seat q (taken (me_of q) k.mine) k) w
+        (all_weaker (IsKnown x other) (IsKnown y seat) (λ q k. moved x y.owner other seat q (taken (me_of q) k.mine) k) w
         (s.known other (record { parts = w; words = [] }) there))
 
     known : (id : ℕ) (view : View) → get_elem? (set (set views seat both) other spent) id ≡ some view → AllByRecursion (IsKnown y id) view.parts
@@ -192,7 +193,7 @@ join_shows x words views seat other v w s here apart there = record { long = s.l
       | inr h ↦ elim (at_set views seat id both view h.1) [
         | inl k ↦ subst (λ (j : ℕ). AllByRecursion (IsKnown y j) view.parts) (sym k.0)
             (subst (λ (u : View). AllByRecursion (IsKnown y seat) u.parts) k.1 both_known)
-        | inr k ↦ all_by (IsKnown x id) (IsKnown y id) (λ q t. moved x y.owner id id q (same (me_of q) (λ is. h.0 (sym t.mine ∙ is)) ∙ t.mine) t) view.parts
+        | inr k ↦ all_weaker (IsKnown x id) (IsKnown y id) (λ q t. moved x y.owner id id q (same (me_of q) (λ is. h.0 (sym t.mine ∙ is)) ∙ t.mine) t) view.parts
             (s.known id view k.1)
       ]
     ]

@@ -84,10 +84,6 @@ pub front_of : (lane : List Letter) (letter : Letter) → slice_get lane 0 ≡ S
 front_of [] letter e = cc
 front_of (first ∷ rest) letter e = (rest, let same : first ≡ letter = cc in ap (λ (l : Letter). l ∷ rest) same)
 
-pub no_front : (lane : List Letter) → slice_get lane 0 ≡ None → lane ≡ []
-no_front [] e = refl
-no_front (letter ∷ rest) e = cc
-
 -- ---- a node that has the machine for itself
 
 alone_lead : (n : ℕ) (old : Core) (others : List Event) (new : Core) → AllByRecursion (λ e. node_of e ≡ n) others → OthersLead n old others new → new ≡ old

@@ -5,6 +5,7 @@ use Rattle.std.specs.Prelude.{count_by, unwrap_or, not, ◌&&◌, ◌||◌}
 use Rattle.std.specs.List.{list_any, position_or_len, sum_by}
 use Rattle.std.proofs.lemmas.List.Folds.{list_any-append}
 use Rattle.std.proofs.lemmas.List.Sums.{get_or-le-sum_by, sum_by-cons, sum_by_push}
+use Rattle.std.proofs.Math.Bool.{or-false}
 use Rattle.sci_outcomes.specs.declared.histogram.Tally.{Tally}
 use Rattle.sci_outcomes.specs.declared.outcome.Sighting.{Sighting}
 use Rattle.sci_outcomes.specs.Rows.{tally_by, with_run}
@@ -38,10 +39,6 @@ any_none p (y ∷ ys) none =
 
 -- ---- one more
 
-or_false : (b : Bool) → (b || false) ≡ b
-or_false true = refl
-or_false false = refl
-
 tally_at : (Sighting → Bool) → List Sighting → ℕ → Option Tally
 tally_at test seen n = if n == 0 then None else Some record {
   runs = n;
@@ -52,12 +49,12 @@ tally_at test seen n = if n == 0 then None else Some record {
 any_more : (p : Sighting → Bool) (seen : List Sighting) (x : Sighting) → p x ≡ true
     → list_any (λ s. p s && s.in_order) (seen ++ x ∷ []) ≡ (list_any (λ s. p s && s.in_order) seen || x.in_order)
 any_more p seen x is = list_any-append (λ s. p s && s.in_order) seen (x ∷ [])
-    ∙ ap (λ b. list_any (λ s. p s && s.in_order) seen || b) (ap (λ b. (b && x.in_order) || false) is ∙ or_false x.in_order)
+    ∙ ap (λ b. list_any (λ s. p s && s.in_order) seen || b) (ap (λ b. (b && x.in_order) || false) is ∙ or-false x.in_order)
 
 any_same : (p : Sighting → Bool) (seen : List Sighting) (x : Sighting) → p x ≡ false
     → list_any (λ s. p s && s.in_order) (seen ++ x ∷ []) ≡ list_any (λ s. p s && s.in_order) seen
 any_same p seen x is = list_any-append (λ s. p s && s.in_order) seen (x ∷ [])
-    ∙ (ap (λ b. list_any (λ s. p s && s.in_order) seen || ((b && x.in_order) || false)) is ∙ or_false _)
+    ∙ (ap (λ b. list_any (λ s. p s && s.in_order) seen || ((b && x.in_order) || false)) is ∙ or-false _)
 
 suc_apart : (n : ℕ) → (suc n == 0) ≡ false
 suc_apart n = grind arith

@@ -1,20 +1,17 @@
 -- What an Issue and a Perform of a node do to a reached state.
-use Rattle.std.proofs.Common.{◌≡◌, ℕ, ◌<◌, Option, Some, None, sym, ap, ◌∙◌, arith}
+use Rattle.std.proofs.Common.{◌≡◌, ℕ, ◌<◌, Option, Some, None, sym, ap, ◌∙◌}
 use Rattle.std.specs.Prelude.{option_map}
-use Rattle.std.proofs.lemmas.List.{get_or-set_same}
 use Rattle.sci_words.specs.declared.event.Event.TheVariants.{Issue, Perform}
 use Rattle.sci_words.specs.declared.operation.Op.{Op}
 use Rattle.sci_history.specs.declared.entry.Entry.{Entry}
 use Rattle.sci_core.specs.Core.{Core, node_at, stepping, with_node}
-use Rattle.sci_core.specs.Node.{IsNode, NodeOf, no_node, node_issuing, node_performing}
+use Rattle.sci_core.specs.Node.{IsNode, NodeOf, node_issuing, node_performing}
 use Rattle.sci_core.specs.Reached.{IsReached}
 use Rattle.sci_core.specs.Work.{IsIssued, IsLogged}
 use Rattle.sci_core.proofs.History.Pendings.{issue_puts, perform_puts}
 use Rattle.sci_core.proofs.Step.Sides.{steps_by_sides}
 use Rattle.sci_core.proofs.WellFormed.WellFormedSteps.{reached_well}
-
-changed_node : (core : Core) (n : ℕ) (next : NodeOf) → IsReached core → n < core.size.nodes → node_at (with_node core n next) n ≡ next
-changed_node core n next reached some = get_or-set_same core.parts n next no_node (let long = (reached_well core reached).sizes.parts_long in omega arith)
+use Rattle.sci_turn.proofs.Working.{own_node}
 
 pub node_fits : (core : Core) (n : ℕ) → IsReached core → n < core.size.nodes → IsNode (node_at core n)
 node_fits core n reached some = ((reached_well core reached).each_part n some).fits
@@ -26,7 +23,7 @@ issued_by : (core new : Core) (n : ℕ) (o : Option NodeOf) → IsReached core �
 issued_by core new n None reached some e = cc
 issued_by core new n (Some next) reached some e =
     let same : with_node core n next ≡ new = cc in
-    ap Some (sym (changed_node core n next reached some) ∙ ap (λ (c : Core). node_at c n) same)
+    ap Some (sym (own_node core n next reached some) ∙ ap (λ (c : Core). node_at c n) same)
 
 pub issue_makes : (core new : Core) (n : ℕ) (op : Op) → IsReached core → n < core.size.nodes → stepping core (Issue n op) ≡ Some new
     → IsIssued (node_at core n) (node_at new n) op
@@ -41,7 +38,7 @@ performed_by : (core new : Core) (n : ℕ) (o : Option (NodeOf × Entry)) → Is
 performed_by core new n None reached some e = cc
 performed_by core new n (Some done) reached some e =
     let same : with_node core n done.0 ≡ new = cc in
-    let node : done.0 ≡ node_at new n = sym (changed_node core n done.0 reached some) ∙ ap (λ (c : Core). node_at c n) same in
+    let node : done.0 ≡ node_at new n = sym (own_node core n done.0 reached some) ∙ ap (λ (c : Core). node_at c n) same in
     (done.1, ap (λ (m : NodeOf). Some (m, done.1)) node)
 
 pub perform_makes : (core new : Core) (n line : ℕ) → IsReached core → n < core.size.nodes → stepping core (Perform n line) ≡ Some new

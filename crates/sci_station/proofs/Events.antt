@@ -10,7 +10,6 @@ use Rattle.sci_cache.specs.Cache.{Letter, letter_of}
 use Rattle.sci_core.specs.declared.lane.LaneKind.{LaneKind}
 use Rattle.sci_core.specs.declared.lane.LaneKind.TheVariants.{Answers, Requests}
 use Rattle.sci_core.specs.Core.{Takes, run, side, stepping, lane_at, lane_of, lane_place, node_at}
-use Rattle.sci_turn.proofs.Enabled.{some_of}
 use Rattle.sci_core.specs.Node.{NodeOf, is_setback, node_accepting, node_asking, node_refusing, node_replying, node_serving, replied_by}
 use Rattle.sci_core.proofs.Tidy.Enabled.{accept_enabled, request_enabled}
 use Rattle.sci_policy.proofs.Targets.{asked_target, waiting_target}
@@ -18,8 +17,9 @@ use Rattle.sci_lanes.specs.declared.cell.CellId.{CellId}
 use Rattle.sci_lanes.specs.declared.view.Part.{Part}
 use Rattle.std.proofs.lemmas.List.{append_assoc}
 use Rattle.sci_core.specs.Core.{node_of}
+use Rattle.sci_core.proofs.Basics.Options.{found}
+use Rattle.sci_core.proofs.Step.Applied.{waits_replying}
 use Rattle.sci_lanes.specs.Shown.{inbound_at, me_of, AreOfOthers}
-use Rattle.sci_lanes.proofs.Keeping.{all_join}
 use Rattle.sci_station.proofs.Stills.{same_of_still}
 use Rattle.sci_lanes.specs.Telling.{IsShown}
 use Rattle.sci_lanes.specs.Ends.{EndOf, MayFree, lane_at_cell, nodes_in}
@@ -28,6 +28,7 @@ use Rattle.sci_lanes.proofs.LaneSteps.{words_some}
 use Rattle.sci_station.specs.Ends.{HasRead, IsStill}
 use Rattle.sci_lanes.specs.Telling.{IsMade}
 use Rattle.sci_station.proofs.Cells.{front_found}
+use Rattle.sci_history.proofs.Order.{all-append}
 
 -- ---- sending
 
@@ -42,9 +43,6 @@ pub ask_target : (part : Part) (line : ℕ) (kind : AskKind) (sent : NodeOf × L
 ask_target part line kind sent s asks =
     subst (λ (n : ℕ). sent.1.target < n) (sym (shown_nodes part s))
     (asked_target s.core (me_of part) line kind sent s.reached s.some_node (ap (λ (m : NodeOf). node_asking m line kind) s.here ∙ asks))
-
-pub replying : (node : NodeOf) (answer : Letter) → node.waiting ≡ Some answer → node_replying node ≡ Some (record node { waiting = None }, answer)
-replying node answer waits = ap (replied_by node) waits
 
 -- ---- receiving
 
@@ -73,7 +71,7 @@ frees_read : (part : Part) (cell : CellId) (packet : Packet) (from : ℕ) (kind 
     → (read : HasRead part cell packet) → cell.kind ≡ kind → cell.sender ≡ from → node_of e ≡ me_of part → side part.node e ≡ Takes kind from (taking part.node)
     → IsSome (taking (node_at read.shown.core (me_of part)) (letter_of packet)) → MayFree part cell e
 frees_read part cell packet from kind e taking read k f own side_is some =
-    let next = some_of (taking part.node (letter_of packet)) (subst (λ (m : NodeOf). IsSome (taking m (letter_of packet))) read.shown.here some) in
+    let next = found (taking part.node (letter_of packet)) (subst (λ (m : NodeOf). IsSome (taking m (letter_of packet))) read.shown.here some) in
     record {
       next = read.next;
       own = own;
@@ -125,6 +123,6 @@ made_later old mid e schedule still m =
     record {
       others = others ++ m.others;
       further = m.further ∙ ap (λ (es : List Event). es ++ e ∷ []) known;
-      apart = all_join (λ v. node_of v ≢ me_of old.part) others m.others still.seen.apart (subst (λ (n : ℕ). AreOfOthers n m.others) same.me m.apart);
+      apart = all-append (λ v. node_of v ≢ me_of old.part) others m.others still.seen.apart (subst (λ (n : ℕ). AreOfOthers n m.others) same.me m.apart);
       stepped = (λ i. stepping (run (sym same.sized i) (sym known i)) e) ∙ (m.stepped ∙ (λ i. Some (run (same.sized i) schedule)));
     }

@@ -27,6 +27,7 @@ use Rattle.sci_core.proofs.Tidy.TidyRuns.{node_below}
 use Rattle.sci_core.proofs.WellFormed.WellFormedSteps.{StepsWell, stepping_well}
 use Rattle.sci_lanes.proofs.Events.{by_option, takes_what}
 use Rattle.sci_turn.specs.Posts.{OthersLead}
+use Rattle.sci_turn.proofs.Working.{other_node}
 use Rattle.sci_words.specs.declared.event.AskKind.{AskKind}
 use Rattle.sci_words.specs.declared.operation.Op.{Op}
 use Rattle.sci_core.proofs.Tidy.WaitingNodes.{Accepts, Answers as AnswersTo, AsksOnce, Replies, Stays, accept_accepts, ask_once, issue_stays, perform_stays}
@@ -37,9 +38,6 @@ use Rattle.sci_station.specs.Posts.{answers_to, owed}
 
 node_here : (core : Core) (n : ℕ) (next : NodeOf) → n < length core.parts → node_at (with_node core n next) n ≡ next
 node_here core n next below = get_or-set_same core.parts n next no_node below
-
-node_else : (core : Core) (m n : ℕ) (next : NodeOf) → m ≢ n → node_at (with_node core m next) n ≡ node_at core n
-node_else core m n next apart = get_or-set_other core.parts m n next no_node (λ e. apart (sym e))
 
 lane_here : (core : Core) (place : ℕ) (lane : List Letter) → place < length core.lanes → lane_at (with_lane core place lane) place ≡ lane
 lane_here core place lane below = get_or-set_at core.lanes place place lane [] refl below
@@ -68,7 +66,7 @@ same_receiver nodes kind a b x y lb ly e = sym (place_to nodes kind a b lb) ∙ 
 -- the answer that waits at a node, after a node and a lane change
 waits_else : (core : Core) (m n other place : ℕ) (next : NodeOf) (lane : List Letter) → m ≢ other
     → one_if (answers_to (node_at (moved core m next place lane) other).waiting n) ≡ one_if (answers_to (node_at core other).waiting n)
-waits_else core m n other place next lane apart = ap (λ (v : NodeOf). one_if (answers_to v.waiting n)) (node_else core m other next apart)
+waits_else core m n other place next lane apart = ap (λ (v : NodeOf). one_if (answers_to v.waiting n)) (other_node core m other next apart)
 
 waits_here : (core : Core) (m n place : ℕ) (next : NodeOf) (lane : List Letter) → m < length core.parts
     → one_if (answers_to (node_at (moved core m next place lane) m).waiting n) ≡ one_if (answers_to next.waiting n)
@@ -111,7 +109,7 @@ owes_changed core m n other next below same =
           (ap (λ (w : Option Letter). length (lane_of core Requests n m) + (one_if (answers_to w n) + length (lane_of core Answers m n)))
           (ap (λ (v : NodeOf). v.waiting) (node_here core m next below) ∙ same))
       | inr apart ↦ ap (λ (v : NodeOf). length (lane_of core Requests n other) + (one_if (answers_to v.waiting n) + length (lane_of core Answers other n)))
-          (node_else core m other next apart)
+          (other_node core m other next apart)
     ]
 
 -- another node sends a request

@@ -10,17 +10,12 @@ use Rattle.sci_lanes.specs.declared.view.Part.{Part}
 use Rattle.sci_lanes.specs.Shown.{AreOfOthers, IsSeen, me_of}
 use Rattle.sci_lanes.specs.Telling.{IsMade}
 use Rattle.sci_turn.specs.Moves.{own_of}
+use Rattle.sci_turn.proofs.Turns.{own_one, own_join}
 
 -- the own events among these and others' are those among these
 own_others : (n : ℕ) (others : List Event) → AreOfOthers n others → own_of n others ≡ []
 own_others n [] apart = refl
 own_others n (e ∷ others) apart = ap (λ (b : Bool). cond b (e ∷ own_of n others) (own_of n others)) (ne_eqb (node_of e) n apart.0) ∙ own_others n others apart.1
-
-own_one : (n : ℕ) (e : Event) → node_of e ≡ n → own_of n (e ∷ []) ≡ e ∷ []
-own_one n e is = ap (λ (b : Bool). cond b (e ∷ []) []) (eq-eqb (node_of e) n is)
-
-own_join : (n : ℕ) (xs ys : List Event) → own_of n (xs ++ ys) ≡ own_of n xs ++ own_of n ys
-own_join n xs ys = filter-append (λ e. eqb (node_of e) n) xs ys
 
 own_seen : (n : ℕ) (more others : List Event) → AreOfOthers n others → own_of n (more ++ others) ≡ own_of n more
 own_seen n more others apart = own_join n more others ∙ (ap (λ (es : List Event). own_of n more ++ es) (own_others n others apart) ∙ append-nil (own_of n more))

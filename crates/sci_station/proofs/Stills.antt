@@ -10,13 +10,13 @@ use Rattle.std.proofs.lemmas.List.{append_assoc, get_or-set_other}
 use Rattle.sci_words.specs.declared.event.Event.{Event}
 use Rattle.sci_core.specs.Core.{node_of}
 use Rattle.sci_lanes.specs.Shown.{inbound_at, me_of, no_inbound, no_outbound, outbound_at, AreOfOthers, IsSeen}
-use Rattle.sci_lanes.proofs.Keeping.{all_join}
 use Rattle.sci_lanes.specs.Knowing.{has_sent_more, filled_out, is_receiving, is_sending, looked_in, looked_out, read_in, with_lane_known}
 use Rattle.sci_lanes.specs.Telling.{size_in}
 use Rattle.sci_lanes.specs.Ends.{EndOf, IsNextToSend, IsNextToTake, filled_at, informed_at, lane_at_cell, looked_at, read_at, with_part}
 use Rattle.sci_lanes.specs.Cells.{lane_number}
 use Rattle.sci_core.specs.Node.{NodeOf}
 use Rattle.sci_station.specs.Ends.{IsSameEnd, IsStill, LeavesOthers}
+use Rattle.sci_history.proofs.Order.{all-append}
 
 pub same_itself : (end : EndOf) → IsSameEnd end end
 same_itself end = record { table = refl; node = record { me = refl; sized = refl } }
@@ -32,7 +32,7 @@ pub seen_then : (p q : Part) (schedule : List Event) → me_of q ≡ me_of p →
 seen_then p q schedule me one two = record {
   others = one.others ++ two.others;
   further = two.further ∙ (ap (λ (es : List Event). es ++ two.others) one.further ∙ append_assoc p.schedule one.others two.others);
-  apart = all_join (λ e. node_of e ≢ me_of p) one.others two.others one.apart (subst (λ (n : ℕ). AreOfOthers n two.others) me two.apart);
+  apart = all-append (λ e. node_of e ≢ me_of p) one.others two.others one.apart (subst (λ (n : ℕ). AreOfOthers n two.others) me two.apart);
 }
 
 pub still_then : (old mid new : EndOf) → IsStill old mid → IsStill mid new → IsStill old new

@@ -13,6 +13,7 @@ use Rattle.sci_statistics.specs.declared.passage.Passage.{Passage}
 use Rattle.sci_statistics.specs.declared.waits.Wait.{Wait}
 use Rattle.sci_statistics.specs.Measures.{is_line}
 use Rattle.sci_statistics.specs.Waits.{issued_line, performed_at, since_issue, wait_at, wait_behind}
+use Rattle.sci_statistics.proofs.Parts.{range_more}
 
 -- the place behind the last Issue about each line, of the first i events
 pub record IsBehind (n : ℕ) (passages : List Passage) (i : ℕ) (behind : List ℕ) : Type 0 where
@@ -70,10 +71,6 @@ behind_set n passages i d behind line lt some named was =
       long = length-set behind line (i + 1) ∙ was.long;
       places = λ other less. placed n passages i d behind line lt some there other (line == other) refl (was.places other less);
     }
-
-range_more : (n : ℕ) → range_with_len 0 (n + 1) ≡ range_with_len 0 n ++ n ∷ []
-range_more n = sym (map-id (range_with_len 0 (n + 1)))
-    ∙ (map-range_with_len_more (λ x. x) 0 n n (omega arith) ∙ ap (λ (l : List ℕ). l ++ n ∷ []) (map-id (range_with_len 0 n)))
 
 waits_more : (n : ℕ) (passages : List Passage) (i : ℕ) (d : Passage) → i < length passages
     → filter_map (wait_at n passages) (range_with_len 0 (i + 1)) ≡ filter_map (wait_at n passages) (range_with_len 0 i)

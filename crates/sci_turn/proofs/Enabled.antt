@@ -11,7 +11,7 @@ use Rattle.sci_core.specs.Core.{Core, IsEnabled, Takes, lane_of, node_at, node_o
 use Rattle.sci_core.specs.Node.{NodeOf, is_setback, node_accepting, node_asking, node_refusing, node_serving}
 use Rattle.sci_core.specs.Sides.{TakesFront, taken_to}
 use Rattle.sci_core.proofs.Tidy.Enabled.{accept_enabled, request_enabled}
-use Rattle.sci_core.proofs.Basics.Options.{same_some}
+use Rattle.sci_core.proofs.Basics.Options.{same_some, map_some, found}
 use Rattle.sci_core.proofs.Step.Applied.{waits_replying}
 use Rattle.sci_core.proofs.Step.Sides.{steps_by_sides}
 use Rattle.sci_policy.specs.declared.decision.Decision.{Decision}
@@ -22,25 +22,17 @@ use Rattle.sci_policy.proofs.Deciding.{refuses_no_setback}
 use Rattle.sci_policy.proofs.Targets.{asked_target, waiting_target}
 use Rattle.sci_turn.specs.Posts.{IsFront, IsPost, MaySend, MayTake, PostOf, node_in, nodes_in}
 
-there : {A B : Type 0} (f : A → B) (o : Option A) → IsSome o → IsSome (option_map f o)
-there f None e = cc
-there f (Some x) e = refl
-
-pub some_of : {A : Type 0} (o : Option A) → IsSome o → (x : A) × (o ≡ Some x)
-some_of None e = cc
-some_of (Some x) e = (x, refl)
-
 front_taken : (core : Core) (n from : ℕ) (kind : LaneKind) (taking : NodeOf → Letter → Option NodeOf) (e : Event) (letter : Letter) (rest : List Letter)
     → TakesFront core n kind taking from e → lane_of core kind from n ≡ letter ∷ rest → IsSome (taking (node_at core n) letter) → IsEnabled core e
 front_taken core n from kind taking e letter rest takes is some =
-    subst IsSome (sym (takes.front letter rest is)) (there (taken_to core n kind from rest) (taking (node_at core n) letter) some)
+    subst IsSome (sym (takes.front letter rest is)) (map_some (taken_to core n kind from rest) (taking (node_at core n) letter) some)
 
 -- an event by which the node takes the oldest packet of a lane
 takes_oldest : (post : PostOf) (from : ℕ) (kind : LaneKind) (letter : Letter) (e : Event) (taking : NodeOf → Letter → Option NodeOf) → from < nodes_in post
     → node_of e ≡ post.me → side (node_in post) e ≡ Takes kind from (taking (node_in post)) → IsFront post kind from letter
     → TakesFront post.core post.me kind taking from e → IsSome (taking (node_in post) letter) → MayTake post kind from letter e
 takes_oldest post from kind letter e taking f own side_is front takes some =
-    let next = some_of (taking (node_in post) letter) some in
+    let next = found (taking (node_in post) letter) some in
     record {
       own = own;
       front = front;

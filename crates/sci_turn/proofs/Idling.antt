@@ -15,7 +15,7 @@ use Rattle.sci_core.specs.WellFormed.{IsInLane}
 use Rattle.sci_core.proofs.Step.Applied.{front_holds}
 use Rattle.sci_core.proofs.Settling.Drains.{some_node}
 use Rattle.sci_core.proofs.Tidy.Enabled.{request_enabled}
-use Rattle.sci_core.proofs.Basics.Options.{of_some}
+use Rattle.sci_core.proofs.Basics.Options.{of_some, found}
 use Rattle.sci_core.proofs.Step.Places.{place_from}
 use Rattle.sci_core.proofs.WellFormed.WellFormedSteps.{reached_well}
 use Rattle.sci_policy.specs.declared.progress.Progress.{Progress}
@@ -35,7 +35,6 @@ use Rattle.sci_turn.specs.Moves.{taken_next, taking_event}
 use Rattle.sci_turn.specs.Idle.{AsksNothing, IsHeldUp, IsIdleTurn, IsReplyHeldUp, TookNone, WasEmpty, WasSo}
 use Rattle.sci_turn.proofs.Moments.{node_stays, so_after, so_still}
 use Rattle.sci_turn.proofs.Stills.{still_then}
-use Rattle.sci_turn.proofs.Enabled.{some_of}
 
 -- what each step of the turn has found
 pub idle_turn : (before begun policy after : PolicyOf) (old replied accepted taken new : PostOf) (told : Progress) → begun ≡ turned before → IsStill old replied
@@ -80,7 +79,7 @@ some_front : (lane : List Letter) → 1 ≤ length lane → (letter : Letter) ×
 some_front [] some = absurd (omega arith)
 some_front (letter ∷ rest) some = (letter, rest, refl)
 
-no_front : (lane : List Letter) → slice_get lane 0 ≡ None → lane ≡ []
+pub no_front : (lane : List Letter) → slice_get lane 0 ≡ None → lane ≡ []
 no_front [] e = refl
 no_front (letter ∷ rest) e = cc
 
@@ -177,7 +176,7 @@ held_idle : (before after : PolicyOf) (old new : PostOf) (line : ℕ) (kind : As
 held_idle before after old new line kind here idle held asks =
     let core = new.core in
     let n = new.me in
-    let sent = some_of (node_asking (node_in new) line kind) asks in
+    let sent = found (node_asking (node_in new) line kind) asks in
     let to = sent.0.1.target in
     let full : 4 ≤ length (lane_of core Requests n to) =
     of_some (λ (s : NodeOf × Letter). IsFull new Requests s.1.target) (node_asking (node_in new) line kind) sent.0 sent.1 held in

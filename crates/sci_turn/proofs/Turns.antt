@@ -30,10 +30,10 @@ own_others n x [] y lead = refl
 own_others n x (e ∷ others) y lead =
     ap (λ (b : Bool). cond b (e ∷ own_of n others) (own_of n others)) (ne_eqb (node_of e) n lead.2) ∙ own_others n lead.0 others y lead.3
 
-own_one : (n : ℕ) (e : Event) → node_of e ≡ n → own_of n (e ∷ []) ≡ e ∷ []
+pub own_one : (n : ℕ) (e : Event) → node_of e ≡ n → own_of n (e ∷ []) ≡ e ∷ []
 own_one n e is = ap (λ (b : Bool). cond b (e ∷ []) []) (eq-eqb (node_of e) n is)
 
-own_join : (n : ℕ) (xs ys : List Event) → own_of n (xs ++ ys) ≡ own_of n xs ++ own_of n ys
+pub own_join : (n : ℕ) (xs ys : List Event) → own_of n (xs ++ ys) ≡ own_of n xs ++ own_of n ys
 own_join n xs ys = filter-append (λ e. eqb (node_of e) n) xs ys
 
 own_seen : (n : ℕ) (x : Core) (more others : List Event) (y : Core) → OthersLead n x others y → own_of n (more ++ others) ≡ own_of n more

@@ -29,7 +29,7 @@ use Rattle.sci_turn.specs.Moves.{IsTurn, Leads, own_of}
 
 -- ---- an event of another node
 
-other_node : (core : Core) (m n : ℕ) (next : NodeOf) → m ≢ n → node_at (with_node core m next) n ≡ node_at core n
+pub other_node : (core : Core) (m n : ℕ) (next : NodeOf) → m ≢ n → node_at (with_node core m next) n ≡ node_at core n
 other_node core m n next apart = get_or-set_other core.parts m n next no_node (λ e. apart (sym e))
 
 other_as : (core new : Core) (m n place : ℕ) (rest : List Letter) (o : Option NodeOf) → m ≢ n → taken_as core m place rest o ≡ Some new
@@ -71,7 +71,7 @@ stepped core new n e s some own is steps =
     subst (λ (m : ℕ). step_by core m s ≡ Some new) own
     (sym (stepping_side core e s (subst (λ (m : ℕ). m < core.size.nodes) (sym own) some) (subst (λ (m : ℕ). side (node_at core m) e ≡ s) (sym own) is)) ∙ steps)
 
-own_node : (core : Core) (n : ℕ) (next : NodeOf) → IsReached core → n < core.size.nodes → node_at (with_node core n next) n ≡ next
+pub own_node : (core : Core) (n : ℕ) (next : NodeOf) → IsReached core → n < core.size.nodes → node_at (with_node core n next) n ≡ next
 own_node core n next reached some = get_or-set_same core.parts n next no_node (let long = (reached_well core reached).sizes.parts_long in omega arith)
 
 takes_as : (core new : Core) (n place from : ℕ) (kind : LaneKind) (rest : List Letter) (taking : Letter → Option NodeOf) (letter : Letter) (o : Option NodeOf)

@@ -3,7 +3,8 @@ use Rattle.sci_cache.specs.Cache.{letter_of}
 use Rattle.sci_core.specs.declared.lane.LaneKind.TheVariants.{Answers}
 use Rattle.sci_core.specs.Core.{sends}
 use Rattle.sci_core.specs.Node.{NodeOf}
-use Rattle.sci_station.proofs.Events.{reply_target, replying}
+use Rattle.sci_core.proofs.Step.Applied.{waits_replying}
+use Rattle.sci_station.proofs.Events.{reply_target}
 use Rattle.sci_running_tests.proofs.by_hand.reply.Goals as goal
 
 pub send-requires-clause-target : goal.send-requires-clause-target
@@ -15,4 +16,4 @@ pub send-requires-clause-sends : goal.send-requires-clause-sends
 send-requires-clause-sends c =
     let node = c.args.end.now.part.node in
     let waits = ap (λ (m : NodeOf). m.waiting) (sym c.node.ensures.node) ∙ sym c.in-Some.ensures in
-    record { next = record node { waiting = None }; side_is = ap (sends Answers) (replying node (letter_of c.in-Some.answer.now) waits) }
+    record { next = record node { waiting = None }; side_is = ap (sends Answers) (waits_replying node (letter_of c.in-Some.answer.now) waits) }
