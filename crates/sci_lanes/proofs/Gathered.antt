@@ -5,7 +5,6 @@ use Rattle.std.proofs.Math.Nat.{mod-lt}
 use Rattle.std.proofs.lemmas.Bool.{cases_lt}
 use Rattle.std.proofs.lemmas.List.{ext_get_or, get_or_past}
 use Rattle.std.proofs.lemmas.Option.{slice_get-get_or}
-use Rattle.sci_words.specs.declared.event.Event.{Event}
 use Rattle.sci_words.specs.declared.extent.Extent.{Extent}
 use Rattle.sci_words.specs.declared.limits.TheConstants.{MAX_NODES}
 use Rattle.sci_words.specs.declared.stamped.Stamped.{Stamped}
@@ -17,7 +16,8 @@ use Rattle.sci_core.specs.Node.{NodeOf, no_node}
 use Rattle.sci_core.specs.Core.{Core, core_of, node_at, lane_at, run}
 use Rattle.sci_core.specs.Reached.{IsReached}
 use Rattle.sci_core.specs.Outcome.{logs_of}
-use Rattle.sci_core.proofs.WellFormed.WellFormedSteps.{reached_well}
+use Rattle.sci_core.specs.Sharing.{last_of}
+use Rattle.sci_core.proofs.WellFormed.WellFormedSteps.{is_size, reached_well}
 use Rattle.sci_core.proofs.ReachedLaws.{log_at, log_beyond, schedule_log}
 use Rattle.sci_lanes.specs.declared.view.Part.{Part}
 use Rattle.sci_lanes.specs.Cells.{lane_count, receiver_of, word_count}
@@ -25,18 +25,11 @@ use Rattle.sci_lanes.specs.Shown.{AreEnabled, Fits, nodes_of, me_of, IsKnown, Is
 use Rattle.sci_lanes.specs.Telling.{no_part, size_in}
 use Rattle.sci_lanes.specs.Ends.{EndOf, LanesOf}
 use Rattle.sci_lanes.specs.Gathering.{IsOf, AreAll, AreGathered, AreJoined, AreKept, AreLanes, AreMadeBy, HasNodes, HaveInboxTurns, HaveLogs}
+use Rattle.sci_lanes.specs.Gathering.{IsLedTo, IsStateOf}
 use Rattle.sci_lanes.specs.Gathering.{IsReadOff, TakesFrom}
 use Rattle.sci_lanes.proofs.Keeping.{all_at}
 use Rattle.sci_lanes.proofs.Events.{count_is}
 use Rattle.sci_lanes.proofs.Allowed.{size_known}
-
--- The schedule leads to the state of these nodes and lanes; each end knows a beginning of it, and its node is there.
-pub record IsLed (extent : Extent) (limit : ℕ) (ends : List EndOf) (nodes : List NodeOf) (lanes : List (List Letter)) (schedule : List Event) : Type 0 where
-  pub reached : IsReached (core_of extent limit nodes lanes)
-  pub leads : run (size_of extent limit) schedule ≡ core_of extent limit nodes lanes
-  pub enabled : AreEnabled (size_of extent limit) [] schedule
-  pub seen : (place : ℕ) (end : EndOf) → slice_get ends place ≡ Some end → IsSeen end.part schedule
-  pub there : (place : ℕ) (end : EndOf) → slice_get ends place ≡ Some end → get_or nodes (me_of end.part) no_node ≡ end.part.node
 
 module _ {Z : Type 0} where
   -- every node is among the parts that were joined
@@ -125,32 +118,47 @@ module _ {Z : Type 0} where
         ext_get_or [] r.whole.core.lanes lanes lanes_long (λ l lt. lane_there l (subst (λ (m : ℕ). l < m) (lanes_long ∙ read.long) lt)) in
         λ k. record { size = sized k; parts = parts_are k; lanes = lanes_are k }
 
-    pub led : IsLed extent limit ends nodes lanes r.whole.schedule
-    led = record {
-      reached = subst IsReached core_is r.reached;
-      leads = ap (λ (z : Size). run z r.whole.schedule) (sym sized) ∙ (r.leads ∙ core_is);
-      enabled = subst (λ (z : Size). AreEnabled z [] r.whole.schedule) sized r.enabled;
+    pub state_of : IsStateOf (size_of extent limit) ends (core_of extent limit nodes lanes)
+    state_of = record {
+      led = record {
+        reached = subst IsReached core_is r.reached;
+        sized = refl;
+        schedule = r.whole.schedule;
+        leads = ap (λ (z : Size). run z r.whole.schedule) (sym sized) ∙ (r.leads ∙ core_is);
+        enabled = subst (λ (z : Size). AreEnabled z [] r.whole.schedule) sized r.enabled;
+      };
       seen = λ place end is. (
           let h = end_part place end is in subst (λ (x : Part). IsSeen x r.whole.schedule) h.1 (part_at (me_of end.part) h.0).seen);
-      there = end_node;
+      nodes = end_node;
     }
 
 -- logs of the state where a schedule leads are what it makes
-pub logs_made : (size : Size) (schedule : List Event) (core : Core) (logs : List (List Entry)) → IsSize size → run size schedule ≡ core → logs ≡ logs_of core
-    → AreMadeBy size schedule logs
-logs_made size schedule core logs sizes leads is n lt =
-    ap (λ ls. log_of ls n) is ∙ (log_at core n lt ∙ (ap (λ (x : Core). (node_at x n).log) (sym leads) ∙ schedule_log size schedule n sizes))
+pub logs_made : (size : Size) (core : Core) (logs : List (List Entry)) (led : IsLedTo size core) → logs ≡ logs_of core → AreMadeBy size led.schedule logs
+logs_made size core logs led is n lt =
+    let sizes = subst IsSize led.sized (is_size core.size led.reached.size) in
+    ap (λ ls. log_of ls n) is ∙ (log_at core n lt ∙ (ap (λ (x : Core). (node_at x n).log) (sym led.leads) ∙ schedule_log size led.schedule n sizes))
 
 -- the log of each end is its node's
-pub node_log : (size : Size) (ends : List EndOf) (logs : List (List Entry)) (last : List Stamped) → AreGathered size ends logs last → HaveLogs ends logs
-node_log size ends logs last g place end is =
-    ap (λ ls. log_of ls (me_of end.part)) g.logs_are ∙ (log_here (me_of end.part) ∙ ap (λ (x : NodeOf). x.log) (g.nodes place end is))
+pub node_log : (size : Size) (ends : List EndOf) (core : Core) (logs : List (List Entry)) → IsStateOf size ends core → logs ≡ logs_of core → HaveLogs ends logs
+node_log size ends core logs state logs_are place end is =
+    ap (λ ls. log_of ls (me_of end.part)) logs_are ∙ (log_here (me_of end.part) ∙ ap (λ (x : NodeOf). x.log) (state.nodes place end is))
   where
-    log_here : (n : ℕ) → log_of (logs_of g.core) n ≡ (node_at g.core n).log
+    log_here : (n : ℕ) → log_of (logs_of core) n ≡ (node_at core n).log
     log_here n = elim (cases_lt n MAX_NODES) [
-      | inl lt ↦ log_at g.core n lt
+      | inl lt ↦ log_at core n lt
       | inr past ↦ (
-          let long = (reached_well g.core g.reached).sizes.parts_long in
-          let few = g.reached.size.extent.few_nodes in
-          log_beyond g.core n past ∙ sym (ap (λ (x : NodeOf). x.log) (get_or_past g.core.parts n no_node (omega arith))))
+          let reached = state.led.reached in
+          let long = (reached_well core reached).sizes.parts_long in
+          let few = reached.size.extent.few_nodes in
+          log_beyond core n past ∙ sym (ap (λ (x : NodeOf). x.log) (get_or_past core.parts n no_node (omega arith))))
     ]
+
+pub gathered : (size : Size) (ends : List EndOf) (core : Core) (logs : List (List Entry)) (last : List Stamped) → IsStateOf size ends core
+    → logs ≡ logs_of core → last ≡ last_of core → AreGathered size ends logs last
+gathered size ends core logs last state logs_are last_are = record {
+  core = core;
+  state = state;
+  logs_are = logs_are;
+  made = logs_made size core logs state.led logs_are;
+  last_are = last_are;
+}

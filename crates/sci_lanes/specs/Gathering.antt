@@ -57,19 +57,27 @@ pub record AreAll (nodes : ℕ) (ends : List EndOf) : Type 0 where
 abbrev pub AreMadeBy : Size → List Event → List (List Entry) → Type 0
 AreMadeBy size schedule logs = (n : ℕ) → n < MAX_NODES → log_of logs n ≡ filter (is_of_node n) (done size schedule)
 
--- A state where one schedule of enabled events leads, whose nodes are those of the ends, with its logs, which are what the
--- schedule makes, and its last contents. Each end knows a beginning of the schedule, after which no event of its node comes.
-pub record AreGathered (size : Size) (ends : List EndOf) (logs : List (List Entry)) (last : List Stamped) : Type 0 where
-  pub core : Core
+-- a state where one schedule of enabled events leads a machine of this size
+pub record IsLedTo (size : Size) (core : Core) : Type 0 where
   pub reached : IsReached core
   pub sized : core.size ≡ size
   pub schedule : List Event
   pub leads : run size schedule ≡ core
   pub enabled : AreEnabled size [] schedule
-  pub seen : (place : ℕ) (end : EndOf) → slice_get ends place ≡ Some end → IsSeen end.part schedule
+
+-- Such a state whose nodes are those of the ends. Each end knows a beginning of the schedule, after which no event of its node
+-- comes.
+pub record IsStateOf (size : Size) (ends : List EndOf) (core : Core) : Type 0 where
+  pub led : IsLedTo size core
+  pub seen : (place : ℕ) (end : EndOf) → slice_get ends place ≡ Some end → IsSeen end.part led.schedule
   pub nodes : (place : ℕ) (end : EndOf) → slice_get ends place ≡ Some end → node_at core (me_of end.part) ≡ end.part.node
+
+-- its logs, which are what the schedule makes, and its last contents
+pub record AreGathered (size : Size) (ends : List EndOf) (logs : List (List Entry)) (last : List Stamped) : Type 0 where
+  pub core : Core
+  pub state : IsStateOf size ends core
   pub logs_are : logs ≡ logs_of core
-  pub made : AreMadeBy size schedule logs
+  pub made : AreMadeBy size state.led.schedule logs
   pub last_are : last ≡ last_of core
 
 -- each end's log is its node's

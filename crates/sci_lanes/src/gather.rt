@@ -28,16 +28,38 @@ impl Lanes {
     ghost use Rattle.sci_history.specs.Lawful.{Lawful};
     ghost use Rattle.sci_history.specs.Sequential.{IsSequentiallyConsistent};
     ghost use Rattle.sci_lanes.specs.declared.gather.FinishFault.TheVariants.{Memory, Missing};
-    ghost use Rattle.sci_lanes.specs.Gathering.{AreAll, AreGathered, AreOf, HaveLogs, IsFresh};
+    ghost use Rattle.sci_lanes.specs.Gathering.{AreAll, AreGathered, AreOf, HaveLogs, IsFresh, IsStateOf};
 
-    /// Gives the logs of all nodes, and the last contents of each line, in the state that the table shows. The ends may
-    /// come in any order, with packets in their lanes, or with who has them. Requires that they are ends of
-    /// these lanes.
+    /// Joins the ends, and gives the machine in the state that the table shows. The ends may come in any order, and packets
+    /// may still be in their lanes. Requires that they are ends of these lanes.
     ///
     /// Refused with the first of these, and then all comes back as it was:
     ///
     /// - Missing if the ends are not those of all nodes, each once.
     /// - Memory if memory is refused.
+    pub fn join<E: HasEnd + Drop>(
+        self,
+        alloc: Global,
+        ends: Vec<E>,
+    ) -> Result<Machine, (FinishFault, Lanes, Vec<E>)>
+        requires own { AreOf self (map E.end_of ends.items) }
+        ensures state { IfOk result (IsStateOf self.size (map E.end_of ends.items)) }
+        ensures all { IfOk result (λ _. AreAll self.size.nodes (map E.end_of ends.items)) }
+        ensures missing { IfErr result (λ back. back.0 ≡ Missing → ¬ AreAll self.size.nodes (map E.end_of ends.items)) }
+        ensures memory { IfErr result (λ back. back.0 ≡ Memory → AreAll self.size.nodes (map E.end_of ends.items)) }
+        ensures lanes { IfErr result (λ back. back.1 ≡ self) }
+        ensures ends { IfErr result (λ back. back.2.items ≡ ends.items) }
+    {
+        if !are_all(&ends, self.extent.nodes) {
+            return Err((FinishFault::Missing, self, ends));
+        }
+        match Room::new(alloc, self.extent.nodes) {
+            Ok(room) => Ok(self.read(ends, room)),
+            Err(_) => Err((FinishFault::Memory, self, ends)),
+        }
+    }
+
+    /// Joins the ends as `join` does, and gives the logs of all nodes, and the last contents of each line.
     pub fn gather<E: HasEnd + Drop>(
         self,
         alloc: Global,
@@ -57,21 +79,15 @@ impl Lanes {
         ensures lanes { IfErr result (λ back. back.1 ≡ self) }
         ensures ends { IfErr result (λ back. back.2.items ≡ ends.items) }
     {
-        if !are_all(&ends, self.extent.nodes) {
-            return Err((FinishFault::Missing, self, ends));
-        }
-        match Room::new(alloc, self.extent.nodes) {
-            Ok(room) => Ok(self.read(alloc, ends, room)),
-            Err(_) => Err((FinishFault::Memory, self, ends)),
-        }
+        Ok(self.join(alloc, ends)?.finish(alloc))
     }
 
     /// Joins the ends, and reads the state that the table shows.
-    fn read<E: HasEnd + Drop>(self, alloc: Global, ends: Vec<E>, room: Room) -> (Logs, Last)
+    fn read<E: HasEnd + Drop>(self, ends: Vec<E>, room: Room) -> Machine
         requires own { AreOf self (map E.end_of ends.items) }
         requires all { AreAll self.size.nodes (map E.end_of ends.items) }
         requires fresh { IsFresh self.size.nodes room }
-        ensures { AreGathered self.size (map E.end_of ends.items) result.0 result.1 }
+        ensures { IsStateOf self.size (map E.end_of ends.items) result }
     {
         let Lanes {
             table,
@@ -89,7 +105,7 @@ impl Lanes {
         join_all(&mut seat, ends, &mut nodes, &mut inbox_turns, extent.nodes);
         read_words(&table, &mut seat, &mut words, extent.nodes);
         read_lanes(&mut lanes, packets, &words, &inbox_turns, extent.nodes);
-        Machine::of_parts(extent, limit, nodes, lanes).finish(alloc)
+        Machine::of_parts(extent, limit, nodes, lanes)
     }
 }
 

@@ -51,13 +51,13 @@ drawn_sighting script issuing seed rounds done schedule places logs last sightin
 pub led_lines : (script : ScriptValue) (logs : List (List Entry)) (last : List Stamped) → AreLedTo (size_for script) logs last → length last ≡ script.lines
 led_lines script logs last led =
     ap (λ (ls : List Stamped). length ls) led.last_are
-    ∙ (length-map-range_with_len (last_at led.core) 0 led.core.size.lines ∙ ap (λ (z : Size). z.lines) led.sized)
+    ∙ (length-map-range_with_len (last_at led.core) 0 led.core.size.lines ∙ ap (λ (z : Size). z.lines) led.led.sized)
 
 pub led_within : (script : ScriptValue) (logs : List (List Entry)) (last : List Stamped) → AreLedTo (size_for script) logs last → AreWithin (length last) logs
 led_within script logs last led =
     subst (λ n. AreWithin n logs) (sym (led_lines script logs last led))
     (subst (λ (ls : List (List Entry)). AreWithin script.lines ls) (sym led.logs_are)
-    (subst (λ (z : Size). AreWithin z.lines (logs_of led.core)) led.sized (reached_within led.core led.reached)))
+    (subst (λ (z : Size). AreWithin z.lines (logs_of led.core)) led.led.sized (reached_within led.core led.led.reached)))
 
 pub led_places : (script : ScriptValue) (logs : List (List Entry)) (last : List Stamped) (places : List Place) → AreLedTo (size_for script) logs last
     → All (IsPlaceWithin script.lines) places → All (IsPlaceWithin (length last)) places

@@ -5,7 +5,7 @@ use crate::running::{Running, finished};
 use sci_history::{Entry, Verdict};
 use sci_lanes::FinishFault;
 use sci_station::Finished;
-use sci_words::{Act, Extent, LockOp, Op, Reply};
+use sci_words::{Act, Event, Extent, LockOp, Op, Reply};
 use std::alloc::Global;
 use std::test::*;
 
@@ -68,6 +68,33 @@ fn has_the_store_alone(finished: &Finished) -> Result<(), Fail> {
 fn a_copy_under_way_is_last(rt: HostRuntime) -> Result<(), Fail> {
     let running = with_a_copy_under_way(rt.alloc())?;
     has_the_store_alone(&finished(rt.alloc(), running)?)
+}
+
+/// The machine that the stations made goes on: the copy arrives, and the load is performed on it.
+#[test]
+fn a_joined_machine_goes_on(rt: HostRuntime) -> Result<(), Fail> {
+    let running = with_a_copy_under_way(rt.alloc())?;
+    let Ok(mut machine) = running.joined(rt.alloc()) else {
+        return Err(Fail::from("not joined"));
+    };
+    for event in [
+        Event::Accept { from: 0, node: 1 },
+        Event::Perform { node: 1, line: 0 },
+    ] {
+        if machine.apply(&event).is_err() {
+            return Err(Fail::from("not enabled"));
+        }
+    }
+    let (logs, _last) = machine.finish(rt.alloc());
+    let loaded = Entry {
+        node: 1,
+        serial: 0,
+        op: op(Act::Load),
+        reply: Reply::Got(7),
+        version: 1,
+    };
+    assert_eq!(rt; logs.of(1), [loaded].as_slice());
+    Ok(())
 }
 
 /// The same with an allocation refused: then there is no machine, or finishing gives all back and is done the second time.

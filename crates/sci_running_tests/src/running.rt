@@ -1,6 +1,7 @@
 //! Stations with the fabric that they are of.
 
 use crate::nodes::Nodes;
+use sci_core::Machine;
 use sci_history::{Entry, Verdict, audit};
 use sci_lanes::FinishFault;
 use sci_policy::{Progress, SubmitFault};
@@ -79,6 +80,15 @@ impl Running {
         match fabric.finish(alloc, Vec::new(alloc)) {
             Err((FinishFault::Missing, fabric, _none)) => Ok(Running { fabric, stations }),
             _ => Err(Fail::from("finished without a station")),
+        }
+    }
+
+    /// Joins the stations at hand to a machine.
+    pub(crate) fn joined(self, alloc: Global) -> Result<Machine, (FinishFault, Running)> {
+        let Running { fabric, stations } = self;
+        match fabric.join(alloc, stations) {
+            Ok(machine) => Ok(machine),
+            Err((fault, fabric, stations)) => Err((fault, Running { fabric, stations })),
         }
     }
 

@@ -1,6 +1,7 @@
 //! The machine that stations make together.
 
 use crate::station::Station;
+use sci_core::Machine;
 use sci_history::{Last, Logs};
 use sci_lanes::{FinishFault, Lanes};
 use sci_words::Extent;
@@ -34,7 +35,7 @@ impl Fabric {
     ghost use Rattle.sci_history.specs.Lawful.{Lawful};
     ghost use Rattle.sci_history.specs.Sequential.{IsSequentiallyConsistent};
     ghost use Rattle.sci_lanes.specs.declared.gather.FinishFault.TheVariants.{Memory, Missing};
-    ghost use Rattle.sci_lanes.specs.Gathering.{AreAll, AreGathered, AreOf, HaveLogs};
+    ghost use Rattle.sci_lanes.specs.Gathering.{AreAll, AreGathered, AreOf, HaveLogs, IsStateOf};
     ghost use Rattle.sci_words.specs.declared.limits.TheConstants.{MAX_OPERATIONS};
     ghost use Rattle.sci_core.specs.Size.{size_of};
     ghost use Rattle.sci_lanes.specs.Ends.{opening_ends};
@@ -62,8 +63,10 @@ impl Fabric {
         }
         Ok((Fabric { lanes }, stations))
     }
-    /// Gives the logs of all stations, and the last contents of each line. The stations may come in any order, and need
-    /// not have finished their work. Requires that they are stations of this fabric.
+
+    /// Joins the stations, and gives the machine that they made together: it can be looked at, driven on, or finished. The
+    /// stations may come in any order, and need not have finished their work. Requires that they are stations of this
+    /// fabric.
     ///
     /// Refused with the first of these, and then all comes back as it was:
     ///
@@ -71,6 +74,28 @@ impl Fabric {
     /// - Memory if memory is refused.
     // Out of line, so that the places of its stations on the stack are free again when it returns.
     #[inline(never)]
+    pub fn join(
+        self,
+        alloc: Global,
+        stations: Vec<Station>,
+    ) -> Result<Machine, (FinishFault, Fabric, Vec<Station>)>
+        requires own { AreOf self (map end_in stations.items) }
+        ensures state { IfOk result (IsStateOf self.size (map end_in stations.items)) }
+        ensures all { IfOk result (λ _. AreAll self.size.nodes (map end_in stations.items)) }
+        ensures missing { IfErr result (λ back. back.0 ≡ Missing →
+            ¬ AreAll self.size.nodes (map end_in stations.items)) }
+        ensures memory { IfErr result (λ back. back.0 ≡ Memory →
+            AreAll self.size.nodes (map end_in stations.items)) }
+        ensures fabric { IfErr result (λ back. back.1 ≡ self) }
+        ensures stations { IfErr result (λ back. back.2.items ≡ stations.items) }
+    {
+        match self.lanes.join(alloc, stations) {
+            Ok(machine) => Ok(machine),
+            Err((fault, lanes, stations)) => Err((fault, Fabric { lanes }, stations)),
+        }
+    }
+
+    /// Joins the stations as `join` does, and gives the logs of all of them, and the last contents of each line.
     pub fn finish(
         self,
         alloc: Global,
@@ -93,9 +118,7 @@ impl Fabric {
         ensures fabric { IfErr result (λ back. back.1 ≡ self) }
         ensures stations { IfErr result (λ back. back.2.items ≡ stations.items) }
     {
-        match self.lanes.gather(alloc, stations) {
-            Ok((logs, last)) => Ok(Finished { logs, last }),
-            Err((fault, lanes, stations)) => Err((fault, Fabric { lanes }, stations)),
-        }
+        let (logs, last) = self.join(alloc, stations)?.finish(alloc);
+        Ok(Finished { logs, last })
     }
 }

@@ -1,20 +1,18 @@
 -- What each node of a machine does of a script.
 use Rattle.std.specs.Prelude.{◌≡◌, ◌<◌, ◌==◌, ℕ, Bool, true, List, [], filter, length, map, Result, IfOk, slice_index_or, Vec}
 use Rattle.sci_words.specs.declared.limits.TheConstants.{MAX_OPERATIONS}
-use Rattle.sci_words.specs.declared.event.Event.{Event}
 use Rattle.sci_words.specs.declared.operation.Op.{Op}
 use Rattle.sci_words.specs.declared.stamped.Stamped.{Stamped}
 use Rattle.sci_history.specs.declared.entry.Entry.{Entry}
 use Rattle.sci_history.specs.Placed.{log_of}
 use Rattle.sci_text.specs.Script.{ScriptValue}
 use Rattle.sci_core.specs.Size.{Size}
-use Rattle.sci_core.specs.Core.{Core, run}
+use Rattle.sci_core.specs.Core.{Core}
 use Rattle.sci_core.specs.Outcome.{logs_of}
-use Rattle.sci_core.specs.Reached.{IsReached}
 use Rattle.sci_core.specs.Sharing.{last_of}
-use Rattle.sci_lanes.specs.Shown.{AreEnabled, me_of}
+use Rattle.sci_lanes.specs.Shown.{me_of}
 use Rattle.sci_lanes.specs.Ends.{EndOf}
-use Rattle.sci_lanes.specs.Gathering.{AreMadeBy}
+use Rattle.sci_lanes.specs.Gathering.{AreMadeBy, IsLedTo}
 use Rattle.sci_history.specs.Sequential.{IsInProgramOrder}
 use Rattle.sci_drive.specs.declared.driver.Issuing.{Issuing}
 use Rattle.sci_drive.specs.declared.driver.Issuing.TheVariants.{InOrder}
@@ -46,13 +44,9 @@ size_for script = record { nodes = script.nodes; lines = script.lines; slots = s
 -- comes, and each log has the entries that its node's own events make.
 pub record AreLedTo (size : Size) (logs : List (List Entry)) (last : List Stamped) : Type 0 where
   pub core : Core
-  pub reached : IsReached core
-  pub sized : core.size ≡ size
-  pub schedule : List Event
-  pub leads : run size schedule ≡ core
-  pub enabled : AreEnabled size [] schedule
+  pub led : IsLedTo size core
   pub logs_are : logs ≡ logs_of core
-  pub made : AreMadeBy size schedule logs
+  pub made : AreMadeBy size led.schedule logs
   pub last_are : last ≡ last_of core
 
 -- ---- inside

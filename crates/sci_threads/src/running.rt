@@ -11,7 +11,7 @@ use crate::shares::{Plan, gathered, operations_by_node, run_all, shares};
 use sci_drive::{Gate, Issuing};
 use sci_history::{Last, Logs};
 use sci_lanes::FinishFault;
-use sci_station::{Fabric, Finished};
+use sci_station::Fabric;
 use sci_text::Script;
 use sci_words::MAX_OPERATIONS;
 use std::alloc::{AllocError, Global};
@@ -97,8 +97,11 @@ fn run<R: Threads + Sync, G: Gate + Send + Drop>(
     let mut shares = shares(alloc, stations, gates, plan)?;
     run_all(rt, &mut shares, turns);
     let (stations, finished) = gathered(alloc, shares)?;
-    match fabric.finish(alloc, stations) {
-        Ok(Finished { logs, last }) => Ok((logs, last, finished)),
+    match fabric.join(alloc, stations) {
+        Ok(machine) => {
+            let (logs, last) = machine.finish(alloc);
+            Ok((logs, last, finished))
+        }
         Err((FinishFault::Memory, _fabric, _stations)) => Err(AllocError),
         Err((FinishFault::Missing, _fabric, _stations)) => unreachable!(),
     }

@@ -29,7 +29,7 @@ run_are_logs : (s : ScriptValue) (logs : List (List Entry)) (last : List Stamped
 run_are_logs s logs last led =
     let core = led.core in
     let there : AreLogs s.nodes (logs_of core) (last_of core) =
-    subst (λ (z : Size). AreLogs z.nodes (logs_of core) (last_of core)) led.sized (reached_logs core led.reached) in
+    subst (λ (z : Size). AreLogs z.nodes (logs_of core) (last_of core)) led.led.sized (reached_logs core led.led.reached) in
     subst (λ (l : List (List Entry)). AreLogs s.nodes l last) (sym led.logs_are) (subst (AreLogs s.nodes (logs_of core)) (sym led.last_are) there)
 
 pub threads_is : (text : List ℕ) (s : ScriptValue) (logs : List (List Entry)) (last : List Stamped) (finished : Bool) (outcome : Outcome) → IsScript s

@@ -13,13 +13,14 @@ use Rattle.sci_drive.specs.Driving.{HasSubmittedNothing}
 use Rattle.sci_drive.specs.Script.{IsFrontOf, IsLogOf, IsWholeLogOf}
 use Rattle.sci_station.specs.Ends.{IsSameEnd}
 use Rattle.sci_station.specs.Station.{StationOf, end_in, node_in}
+use Rattle.sci_lanes.proofs.Gathered.{gathered, node_log}
 use Rattle.sci_threads.proofs.Sharing.{came_back, each_end, each_log, in_order, opened_long, opened_known, opened_all_fresh}
 use Rattle.sci_threads.proofs.Sharing.{sized_for, whole_if, written_back}
 use Rattle.sci_threads.specs.declared.share.Share.{Share}
 use Rattle.sci_threads.proofs.Going.{all_run}
 use Rattle.sci_threads.specs.Shares.{AreLedTo, HasRun, HaveGoneOn, IsWell, operations_of, own_of}
 use Rattle.sci_threads.proofs.running.run.Goals as goal
-use Rattle.sci_threads.proofs.running.run.Goals.{In-Ok, In_ok-stations}
+use Rattle.sci_threads.proofs.running.run.Goals.{After-finish-logs, In_ok-stations}
 
 pub shares-requires : goal.shares-requires
 shares-requires g c =
@@ -55,8 +56,8 @@ all_came g c =
     before.items after c.in_ok-stations.stations.items c.in_ok-fabric.ensures.size (c.in_ok-shares.ensures.stations ∙ c.in_ok-fabric.ensures.stations)
     before.ok.0 long each c.in_ok-stations.ensures.stations
 
-pub finish-requires : goal.finish-requires
-finish-requires g c = record { own = (all_came g (goal.at.finish-requires g c).In_ok-stations).0 }
+pub join-requires : goal.join-requires
+join-requires g c = record { own = (all_came g (goal.at.join-requires g c).In_ok-stations).0 }
 
 pub unreachable-requires : goal.unreachable-requires
 unreachable-requires g c =
@@ -65,7 +66,7 @@ unreachable-requires g c =
     (all_came g (goal.at.unreachable-requires g c).In_ok-stations).1)
 
 -- what each share has done
-has_run : (g : _) (c : In-Ok g)
+has_run : (g : _) (c : After-finish-logs g)
     → All (λ (s : Share g.row.G.Denot). HasRun c.args.issuing (own_of c.deref.result.now) s.station.end s.finished) c.run_all.new.shares
 has_run g c =
     let before = c.in_ok-shares.shares in
@@ -77,19 +78,19 @@ has_run g c =
     c.in_ok-shares.ensures.opened gone c.run_all.ensures.well
 
 -- the shares are all those that were made
-all_back : (g : _) (c : In-Ok g)
+all_back : (g : _) (c : After-finish-logs g)
     → take c.in_ok-shares.shares.len (c.run_all.new.shares ++ drop (length c.run_all.new.shares) c.in_ok-shares.shares.items) ≡ c.run_all.new.shares
 all_back g c =
     let before = c.in_ok-shares.shares in
     written_back before.len c.run_all.new.shares before.items before.ok.0 (c.run_all.auto.shares ∙ ap length c.deref_mut.ensures.value)
 
-nodes_are : (g : _) (c : In-Ok g) → c.in_ok-fabric.fabric.size.nodes ≡ c.args.script.now.nodes
+nodes_are : (g : _) (c : After-finish-logs g) → c.in_ok-fabric.fabric.size.nodes ≡ c.args.script.now.nodes
 nodes_are g c = ap (λ (z : Size). z.nodes) c.in_ok-fabric.ensures.size ∙ c.extent.ensures.nodes
 
 -- what is so of each share's log, of each node's
-logs_by : (g : _) (c : In-Ok g) (Good : List Op → List Entry → Type 0)
+logs_by : (g : _) (c : After-finish-logs g) (Good : List Op → List Entry → Type 0)
     → All (λ (s : Share g.row.G.Denot). Good (own_of c.deref.result.now (me_of s.station.end.part)) s.station.end.part.node.log) c.run_all.new.shares
-    → (node : ℕ) → node < c.args.script.now.nodes → Good (operations_of node c.args.script.now.operations) (log_of c.in-Ok.field-0.logs node)
+    → (node : ℕ) → node < c.args.script.now.nodes → Good (operations_of node c.args.script.now.operations) (log_of c.finish-logs.result.0 node)
 logs_by g c Good good =
     let operations = c.deref.result.now in
     let script = c.args.script.now in
@@ -101,44 +102,43 @@ logs_by g c Good good =
     let stations : c.in_ok-stations.stations.items ≡ map (λ share. share.station) c.run_all.new.shares =
     c.in_ok-stations.ensures.stations ∙ ap (map (λ share. share.station)) (all_back g c) in
     let Each : EndOf → Type 0 = λ end. Good (own_of operations (me_of end.part)) end.part.node.log in
-    each_log Good script operations (map end_in c.in_ok-stations.stations.items) c.in-Ok.field-0.logs many own all c.in-Ok.ensures.logs
+    let logs = node_log _ _ _ _ c.in-Ok.ensures.state c.finish-logs.ensures.logs in
+    each_log Good script operations (map end_in c.in_ok-stations.stations.items) c.finish-logs.result.0 many own all logs
     (subst (λ (xs : List StationOf). All Each (map end_in xs)) (sym stations) (each_end (λ share. share.station) Each c.run_all.new.shares good))
 
 pub returns-in-Ok-clause-named : goal.returns-in-Ok-clause-named
-returns-in-Ok-clause-named g c = let d = (goal.at.returns-in-Ok-clause-named g c).In-Ok in logs_by g d IsLogOf (λ k x lt. (has_run g d k x lt).named)
+returns-in-Ok-clause-named g c =
+    let d = (goal.at.returns-in-Ok-clause-named g c).After-finish-logs in
+    logs_by g d IsLogOf (λ k x lt. (has_run g d k x lt).named)
 
 pub returns-in-Ok-clause-whole : goal.returns-in-Ok-clause-whole
 returns-in-Ok-clause-whole g c = λ finished.
-    let d = (goal.at.returns-in-Ok-clause-whole g c).In-Ok in
+    let d = (goal.at.returns-in-Ok-clause-whole g c).After-finish-logs in
     let done = subst (All (λ (s : Share g.row.G.Denot). s.finished ≡ Ok true)) (all_back g d) (c.in_ok-stations.ensures.finished finished) in
     logs_by g d IsWholeLogOf (λ k x lt. whole_if _ _ _ (has_run g d k x lt).whole (done k x lt))
 
 pub returns-in-Ok-clause-ordered : goal.returns-in-Ok-clause-ordered
 returns-in-Ok-clause-ordered g c = λ is.
-    let d = (goal.at.returns-in-Ok-clause-ordered g c).In-Ok in
-    let gathered = c.in-Ok.ensures.gathered in
-    in_order c.in-Ok.field-0.logs c.args.script.now.nodes gathered.core gathered.reached gathered.logs_are
-    (ap (λ (z : Size). z.nodes) gathered.sized ∙ nodes_are g d)
+    let d = (goal.at.returns-in-Ok-clause-ordered g c).After-finish-logs in
+    let led = c.in-Ok.ensures.state.led in
+    in_order c.finish-logs.result.0 c.args.script.now.nodes c.in-Ok.machine led.reached c.finish-logs.ensures.logs
+    (ap (λ (z : Size). z.nodes) led.sized ∙ nodes_are g d)
     (logs_by g d (λ _. IsInProgramOrder) (λ k x lt. (has_run g d k x lt).ordered is))
 
 pub returns-in-Ok-clause-front : goal.returns-in-Ok-clause-front
 returns-in-Ok-clause-front g c = λ is.
-    let d = (goal.at.returns-in-Ok-clause-front g c).In-Ok in
+    let d = (goal.at.returns-in-Ok-clause-front g c).After-finish-logs in
     logs_by g d IsFrontOf (λ k x lt. (has_run g d k x lt).front is)
 
 pub returns-in-Ok-clause-led : goal.returns-in-Ok-clause-led
 returns-in-Ok-clause-led g c =
-    let gathered = c.in-Ok.ensures.gathered in
+    let made = gathered _ _ _ _ _ c.in-Ok.ensures.state c.finish-logs.ensures.logs c.finish-logs.ensures.last in
     let extent = c.extent.ensures in
     let size = c.in_ok-fabric.ensures.size ∙ sized_for c.extent.result c.args.script.now extent.nodes extent.lines extent.slots in
-    subst (λ (z : Size). AreLedTo z c.in-Ok.field-0.logs c.in-Ok.field-0.last) size (record {
-      core = gathered.core;
-      reached = gathered.reached;
-      sized = gathered.sized;
-      schedule = gathered.schedule;
-      leads = gathered.leads;
-      enabled = gathered.enabled;
-      logs_are = gathered.logs_are;
-      made = gathered.made;
-      last_are = gathered.last_are;
+    subst (λ (z : Size). AreLedTo z c.finish-logs.result.0 c.finish-logs.result.1) size (record {
+      core = made.core;
+      led = made.state.led;
+      logs_are = made.logs_are;
+      made = made.made;
+      last_are = made.last_are;
     })

@@ -1,8 +1,8 @@
-use Rattle.std.proofs.Common.{map, sym, subst}
-use Rattle.sci_lanes.specs.Ends.{LanesOf}
-use Rattle.sci_lanes.specs.Gathering.{AreOf}
-use Rattle.sci_station.specs.Station.{end_in}
+use Rattle.sci_lanes.proofs.Gathered.{gathered, node_log}
 use Rattle.sci_station.proofs.fabric.Fabric.finish.Goals as goal
 
-pub gather-requires : goal.gather-requires
-gather-requires c = record { own = subst (λ (l : LanesOf). AreOf l (map end_in c.args.stations.items)) (sym c.self.view_is) c.requires.own }
+pub returns-clause-gathered : goal.returns-clause-gathered
+returns-clause-gathered c = gathered _ _ _ _ _ c.in_ok-join.ensures.state c.finish-logs.ensures.logs c.finish-logs.ensures.last
+
+pub returns-clause-logs : goal.returns-clause-logs
+returns-clause-logs c = node_log _ _ _ _ c.in_ok-join.ensures.state c.finish-logs.ensures.logs
