@@ -12,6 +12,7 @@ use Rattle.atomic_table.specs.Seated.{TableId}
 use Rattle.sci_words.specs.declared.extent.Extent.{Extent}
 use Rattle.sci_words.specs.declared.limits.TheConstants.{MAX_NODES, MAX_OPERATIONS}
 use Rattle.sci_words.specs.declared.operation.Op.{Op}
+use Rattle.sci_words.specs.declared.stamped.Stamped.{Stamped}
 use Rattle.sci_history.specs.declared.entry.Entry.{Entry}
 use Rattle.sci_history.specs.Placed.{log_of}
 use Rattle.sci_text.specs.Script.{ScriptValue, IsScript}
@@ -19,12 +20,14 @@ use Rattle.sci_core.specs.Size.{Size, size_of}
 use Rattle.sci_core.specs.Node.{opening_node}
 use Rattle.sci_lanes.specs.Shown.{me_of, opening_part}
 use Rattle.sci_lanes.specs.Ends.{EndOf, LanesOf, opening_ends}
-use Rattle.sci_lanes.specs.Gathering.{AreAll, AreOf, HaveLogs, IsOf}
+use Rattle.sci_lanes.specs.Gathering.{AreAll, AreOf, HaveLogs, IsLedTo, IsOf}
+use Rattle.sci_lanes.proofs.Gathered.{logs_made}
 use Rattle.sci_drive.specs.Driving.{HasSubmittedNothing}
 use Rattle.sci_history.specs.Sequential.{AreInProgramOrder, IsInProgramOrder}
 use Rattle.sci_core.specs.Core.{Core}
 use Rattle.sci_core.specs.Outcome.{logs_of}
 use Rattle.sci_core.specs.Reached.{IsReached}
+use Rattle.sci_core.specs.Sharing.{last_of}
 use Rattle.sci_core.proofs.WellFormed.WellFormedSteps.{reached_well}
 use Rattle.sci_core.proofs.ReachedLaws.{log_at, log_beyond, beyond_log}
 use Rattle.sci_drive.specs.Script.{IsWholeLogOf}
@@ -32,7 +35,7 @@ use Rattle.sci_station.specs.Ends.{IsSameEnd}
 use Rattle.sci_station.specs.Station.{StationOf, end_in, node_in, opening_station}
 use Rattle.sci_station.proofs.Belonging.{opened_of, same_of}
 use Rattle.sci_lanes.proofs.Opening.{replicated}
-use Rattle.sci_threads.specs.Shares.{operations_of, own_of, size_for}
+use Rattle.sci_threads.specs.Shares.{AreLedTo, operations_of, own_of, size_for}
 
 -- ---- sizes
 
@@ -225,3 +228,14 @@ module _ {A : Type 0} (station : A → StationOf) where
         subst (λ (xs : List StationOf). AreOf f (map end_in xs)) (sym here) (still_of f.table size count (map station after) same f refl sized),
         subst (λ (xs : List StationOf). AreAll count (map end_in xs)) (sym here) (still_all f.table size count (map station after) same),
       )
+
+-- the logs and last contents of a state are led to as it is
+pub led_by : (size : Size) (core : Core) (logs : List (List Entry)) (last : List Stamped) → IsLedTo size core → logs ≡ logs_of core → last ≡ last_of core
+    → AreLedTo size logs last
+led_by size core logs last led logs_are last_are = record {
+  core = core;
+  led = led;
+  logs_are = logs_are;
+  made = logs_made size core logs led logs_are;
+  last_are = last_are;
+}

@@ -9,8 +9,9 @@ ghost use Rattle.scimem.specs.ThreadsAnswer.{IsThreadsAnswer};
 ghost use Rattle.sci_command.specs.Writing.{HasWritten};
 
 use sci_command::{Answer, Outcome, finish};
+use sci_drive::Issuing;
 use sci_text::{Tap, TextFault, logs_text, read_script};
-use sci_threads::{YieldingGate, run_nodes};
+use sci_threads::{YieldingGate, run_to_machine};
 use std::alloc::Global;
 use std::io::{Read, Write};
 use std::sync::atomic::AtomicU64;
@@ -36,8 +37,9 @@ fn answer<T: Threads + Sync, R: Read>(
     let nodes = script.extent().nodes;
     let done = AtomicU64::new(0);
     let gates = YieldingGate::for_nodes(alloc, nodes, &done)?;
-    let (logs, last, finished) = run_nodes(rt, alloc, &script, gates, turns)?;
+    let (machine, finished) = run_to_machine(rt, alloc, &script, gates, Issuing::Ahead, turns)?;
     drop(script);
+    let (logs, last) = machine.finish(alloc);
     let text = logs_text(alloc, nodes, &logs, &last)?;
     let outcome = if finished {
         Outcome::Done

@@ -1,26 +1,27 @@
-use Rattle.std.proofs.Common.{◌≡◌, ◌<◌, ◌≤◌, ℕ, List, All, Ok, true, Vec, ◌++◌, drop, length, map, take, get_or, sym, ap, subst, ◌∙◌}
+use Rattle.std.proofs.Common.{◌≡◌, ◌<◌, ◌≤◌, ℕ, List, All, Ok, true, Vec, ◌++◌, drop, length, map, take, get_or, refl, sym, ap, subst, ◌∙◌}
 use Rattle.std.specs.Prelude.{slice_index_or}
 use Rattle.sci_words.specs.declared.operation.Op.{Op}
 use Rattle.sci_history.specs.declared.entry.Entry.{Entry}
 use Rattle.sci_history.specs.Placed.{log_of}
 use Rattle.sci_history.specs.Sequential.{IsInProgramOrder}
+use Rattle.sci_core.specs.Outcome.{logs_of}
 use Rattle.sci_lanes.specs.Ends.{EndOf}
 use Rattle.sci_words.specs.declared.limits.TheConstants.{MAX_OPERATIONS}
 use Rattle.sci_core.specs.Size.{Size, size_of}
 use Rattle.sci_lanes.specs.Shown.{me_of}
-use Rattle.sci_lanes.specs.Gathering.{AreAll, AreOf}
+use Rattle.sci_lanes.specs.Gathering.{AreAll, AreOf, IsLedTo}
 use Rattle.sci_drive.specs.Driving.{HasSubmittedNothing}
 use Rattle.sci_drive.specs.Script.{IsFrontOf, IsLogOf, IsWholeLogOf}
 use Rattle.sci_station.specs.Ends.{IsSameEnd}
 use Rattle.sci_station.specs.Station.{StationOf, end_in, node_in}
-use Rattle.sci_lanes.proofs.Gathered.{gathered, node_log}
+use Rattle.sci_lanes.proofs.Gathered.{node_log}
 use Rattle.sci_threads.proofs.Sharing.{came_back, each_end, each_log, in_order, opened_long, opened_known, opened_all_fresh}
 use Rattle.sci_threads.proofs.Sharing.{sized_for, whole_if, written_back}
 use Rattle.sci_threads.specs.declared.share.Share.{Share}
 use Rattle.sci_threads.proofs.Going.{all_run}
-use Rattle.sci_threads.specs.Shares.{AreLedTo, HasRun, HaveGoneOn, IsWell, operations_of, own_of}
-use Rattle.sci_threads.proofs.running.run.Goals as goal
-use Rattle.sci_threads.proofs.running.run.Goals.{After-finish-logs, In_ok-stations}
+use Rattle.sci_threads.specs.Shares.{HasRun, HaveGoneOn, IsWell, operations_of, own_of}
+use Rattle.sci_threads.proofs.running.run_to_machine.Goals as goal
+use Rattle.sci_threads.proofs.running.run_to_machine.Goals.{In-Ok, In_ok-stations}
 
 pub shares-requires : goal.shares-requires
 shares-requires g c =
@@ -66,7 +67,7 @@ unreachable-requires g c =
     (all_came g (goal.at.unreachable-requires g c).In_ok-stations).1)
 
 -- what each share has done
-has_run : (g : _) (c : After-finish-logs g)
+has_run : (g : _) (c : In-Ok g)
     → All (λ (s : Share g.row.G.Denot). HasRun c.args.issuing (own_of c.deref.result.now) s.station.end s.finished) c.run_all.new.shares
 has_run g c =
     let before = c.in_ok-shares.shares in
@@ -78,19 +79,19 @@ has_run g c =
     c.in_ok-shares.ensures.opened gone c.run_all.ensures.well
 
 -- the shares are all those that were made
-all_back : (g : _) (c : After-finish-logs g)
+all_back : (g : _) (c : In-Ok g)
     → take c.in_ok-shares.shares.len (c.run_all.new.shares ++ drop (length c.run_all.new.shares) c.in_ok-shares.shares.items) ≡ c.run_all.new.shares
 all_back g c =
     let before = c.in_ok-shares.shares in
     written_back before.len c.run_all.new.shares before.items before.ok.0 (c.run_all.auto.shares ∙ ap length c.deref_mut.ensures.value)
 
-nodes_are : (g : _) (c : After-finish-logs g) → c.in_ok-fabric.fabric.size.nodes ≡ c.args.script.now.nodes
+nodes_are : (g : _) (c : In-Ok g) → c.in_ok-fabric.fabric.size.nodes ≡ c.args.script.now.nodes
 nodes_are g c = ap (λ (z : Size). z.nodes) c.in_ok-fabric.ensures.size ∙ c.extent.ensures.nodes
 
 -- what is so of each share's log, of each node's
-logs_by : (g : _) (c : After-finish-logs g) (Good : List Op → List Entry → Type 0)
+logs_by : (g : _) (c : In-Ok g) (Good : List Op → List Entry → Type 0)
     → All (λ (s : Share g.row.G.Denot). Good (own_of c.deref.result.now (me_of s.station.end.part)) s.station.end.part.node.log) c.run_all.new.shares
-    → (node : ℕ) → node < c.args.script.now.nodes → Good (operations_of node c.args.script.now.operations) (log_of c.finish-logs.result.0 node)
+    → (node : ℕ) → node < c.args.script.now.nodes → Good (operations_of node c.args.script.now.operations) (log_of (logs_of c.in-Ok.machine) node)
 logs_by g c Good good =
     let operations = c.deref.result.now in
     let script = c.args.script.now in
@@ -102,43 +103,36 @@ logs_by g c Good good =
     let stations : c.in_ok-stations.stations.items ≡ map (λ share. share.station) c.run_all.new.shares =
     c.in_ok-stations.ensures.stations ∙ ap (map (λ share. share.station)) (all_back g c) in
     let Each : EndOf → Type 0 = λ end. Good (own_of operations (me_of end.part)) end.part.node.log in
-    let logs = node_log _ _ _ _ c.in-Ok.ensures.state c.finish-logs.ensures.logs in
-    each_log Good script operations (map end_in c.in_ok-stations.stations.items) c.finish-logs.result.0 many own all logs
+    let logs = node_log _ _ _ _ c.in-Ok.ensures.state refl in
+    each_log Good script operations (map end_in c.in_ok-stations.stations.items) (logs_of c.in-Ok.machine) many own all logs
     (subst (λ (xs : List StationOf). All Each (map end_in xs)) (sym stations) (each_end (λ share. share.station) Each c.run_all.new.shares good))
 
 pub returns-in-Ok-clause-named : goal.returns-in-Ok-clause-named
 returns-in-Ok-clause-named g c =
-    let d = (goal.at.returns-in-Ok-clause-named g c).After-finish-logs in
+    let d = (goal.at.returns-in-Ok-clause-named g c).In-Ok in
     logs_by g d IsLogOf (λ k x lt. (has_run g d k x lt).named)
 
 pub returns-in-Ok-clause-whole : goal.returns-in-Ok-clause-whole
 returns-in-Ok-clause-whole g c = λ finished.
-    let d = (goal.at.returns-in-Ok-clause-whole g c).After-finish-logs in
+    let d = (goal.at.returns-in-Ok-clause-whole g c).In-Ok in
     let done = subst (All (λ (s : Share g.row.G.Denot). s.finished ≡ Ok true)) (all_back g d) (c.in_ok-stations.ensures.finished finished) in
     logs_by g d IsWholeLogOf (λ k x lt. whole_if _ _ _ (has_run g d k x lt).whole (done k x lt))
 
 pub returns-in-Ok-clause-ordered : goal.returns-in-Ok-clause-ordered
 returns-in-Ok-clause-ordered g c = λ is.
-    let d = (goal.at.returns-in-Ok-clause-ordered g c).After-finish-logs in
+    let d = (goal.at.returns-in-Ok-clause-ordered g c).In-Ok in
     let led = c.in-Ok.ensures.state.led in
-    in_order c.finish-logs.result.0 c.args.script.now.nodes c.in-Ok.machine led.reached c.finish-logs.ensures.logs
+    in_order (logs_of c.in-Ok.machine) c.args.script.now.nodes c.in-Ok.machine led.reached refl
     (ap (λ (z : Size). z.nodes) led.sized ∙ nodes_are g d)
     (logs_by g d (λ _. IsInProgramOrder) (λ k x lt. (has_run g d k x lt).ordered is))
 
 pub returns-in-Ok-clause-front : goal.returns-in-Ok-clause-front
 returns-in-Ok-clause-front g c = λ is.
-    let d = (goal.at.returns-in-Ok-clause-front g c).After-finish-logs in
+    let d = (goal.at.returns-in-Ok-clause-front g c).In-Ok in
     logs_by g d IsFrontOf (λ k x lt. (has_run g d k x lt).front is)
 
 pub returns-in-Ok-clause-led : goal.returns-in-Ok-clause-led
 returns-in-Ok-clause-led g c =
-    let made = gathered _ _ _ _ _ c.in-Ok.ensures.state c.finish-logs.ensures.logs c.finish-logs.ensures.last in
     let extent = c.extent.ensures in
-    let size = c.in_ok-fabric.ensures.size ∙ sized_for c.extent.result c.args.script.now extent.nodes extent.lines extent.slots in
-    subst (λ (z : Size). AreLedTo z c.finish-logs.result.0 c.finish-logs.result.1) size (record {
-      core = made.core;
-      led = made.state.led;
-      logs_are = made.logs_are;
-      made = made.made;
-      last_are = made.last_are;
-    })
+    subst (λ (z : Size). IsLedTo z c.in-Ok.machine)
+    (c.in_ok-fabric.ensures.size ∙ sized_for c.extent.result c.args.script.now extent.nodes extent.lines extent.slots) c.in-Ok.ensures.state.led
