@@ -20,12 +20,12 @@ use Rattle.sci_text.specs.Number.{number, field}
 use Rattle.sci_text.specs.Operation.{act_word, act_operands, operation}
 use Rattle.sci_text.specs.Log.{reply_text, version_text, log_line, last_line, issue_text, outcome_text, entry_line}
 use Rattle.sci_text.specs.LogValue.{StampedFits, Answers, ReplyFits}
-use Rattle.sci_text.specs.Reading.{◌>>=◌, fitting, field_read, number_read, after, byte, command_read, pair_read, operation_read}
+use Rattle.sci_text.specs.Reading.{◌>>=◌, both, fitting, field_read, number_read, after, byte, command_read, pair_read, operation_read}
 use Rattle.sci_text.specs.LogReading.{version_read, eight, words_read, stamped_of, last_line_read, reply_read, serial_of, entry_of, issue_read, outcome_read}
 use Rattle.sci_text.specs.LogReading.{entry_line_read, log_line_read}
 use Rattle.sci_text.proofs.Numbers.{fitting_below, fitting_above, Ends, number_again, number_found, field_again, ends_field, field_found}
 use Rattle.sci_text.proofs.Words.{after_again, after_found}
-use Rattle.sci_text.proofs.Operations.{fitting_is, mapped, both, both_is, byte_is, bind_some, pair_again, pair_found, command_of, command_again, OpFits}
+use Rattle.sci_text.proofs.Operations.{fitting_is, mapped, both_is, byte_is, bind_some, pair_again, pair_found, command_of, command_again, OpFits}
 use Rattle.sci_text.proofs.Operations.{operation_again, operation_found}
 
 -- the same value under a condition that says the same

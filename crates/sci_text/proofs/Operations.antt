@@ -1,6 +1,6 @@
 -- An operation that is written is read again, and what is read as one was written so.
 use Rattle.std.proofs.Common.{◌≡◌, ℕ, ◌^◌, ◌<◌, ◌≤◌, ltb, List, ◌++◌, Option, Some, None, refl, sym, ap, subst, ◌∙◌, append_assoc, arith, inl, inr}
-use Rattle.std.specs.Prelude.{codes, option_map, IsSome, IfNone}
+use Rattle.std.specs.Prelude.{option_map, IsSome, IfNone}
 use Rattle.std.specs.Option.{SomeIff}
 use Rattle.std.proofs.lemmas.Bool.{false≢true, cases_lt, lt-ltb, le-ltb}
 use Rattle.std.proofs.lemmas.Option.{none-some, cond_some, some_pair_parts}
@@ -13,10 +13,11 @@ use Rattle.sci_text.specs.declared.operation.Command.{Command}
 use Rattle.sci_text.specs.declared.operation.Command.TheVariants as commands
 use Rattle.sci_text.specs.Number.{field}
 use Rattle.sci_text.specs.Operation.{act_word, act_operands, operation, ActFits}
-use Rattle.sci_text.specs.Reading.{◌>>=◌, fitting, field_read, after, byte, otherwise, named, command_read, pair_read, one, two, operands_read, made}
+use Rattle.sci_text.specs.Reading.{◌>>=◌, fitting, field_read, after, byte, both, spelled}
+use Rattle.sci_text.specs.Reading.{command_word, all_commands, command_read, pair_read, one, two, operands_read, made}
 use Rattle.sci_text.specs.Reading.{operation_after, operation_read}
 use Rattle.sci_text.proofs.Numbers.{fitting_below, fitting_above, Ends, field_again, ends_field, field_found}
-use Rattle.sci_text.proofs.Words.{after_found}
+use Rattle.sci_text.proofs.Words.{spelled_found}
 
 -- ---- what stands for a value if it fits
 
@@ -30,9 +31,6 @@ fitting_is n =
 pub mapped : {A B : Type 0} (P : Type 0) (f : A → B) (o : Option A) (x : A) → SomeIff o P x → SomeIff (option_map f o) P (f x)
 mapped P f None x h = h
 mapped P f (Some y) x h = (h.0, ap f h.1)
-
-abbrev pub both : {A B : Type 0} → Option A → Option B → Option (A × B)
-both o p = o >>= λ a. option_map (λ b. (a, b)) p
 
 pub both_is : {A B : Type 0} (P Q : Type 0) (o : Option A) (p : Option B) (x : A) (y : B) → SomeIff o P x → SomeIff p Q y → SomeIff (both o p) (P × Q) (x, y)
 both_is P Q None p x y h k = λ pq. h pq.0
@@ -94,44 +92,10 @@ command_of (Lock (FetchAdd datum)) = commands.FetchAdd
 command_of (Lock (BoundedAdd arg datum)) = commands.BoundedAdd
 command_of (Lock (WrapAdd arg datum)) = commands.WrapAdd
 
-abbrev word_of : Command → List ℕ
-word_of commands.Load = codes "load"
-word_of commands.Store = codes "store"
-word_of commands.MaskSwap = codes "mask-swap"
-word_of commands.CompareSwap = codes "compare-swap"
-word_of commands.FetchAdd = codes "fetch-add"
-word_of commands.BoundedAdd = codes "bounded-add"
-word_of commands.WrapAdd = codes "wrap-add"
-
 pub command_again : (act : Act) (rest : List ℕ) → command_read (act_word act ++ rest) ≡ Some (command_of act, rest)
 unfolding after command_read
 command_again (Lock (MaskSwap arg datum)) rest = refl
 command_again _ rest = refl
-
-either : {A P : Type 0} (o second : Option A) (y : A) → (o ≡ Some y → P) → (second ≡ Some y → P) → otherwise o second ≡ Some y → P
-either None second y f g e = g e
-either (Some x) second y f g e = f e
-
-named_found_by : (c k : Command) (bytes rest : List ℕ) (o : Option (List ℕ)) → after (word_of c) bytes ≡ o
-    → ◌≡◌ {A = Option (Command × List ℕ)} (option_map (λ r. (c, r)) o) (Some (k, rest)) → bytes ≡ word_of k ++ rest
-named_found_by c k bytes rest None a e = absurd cc
-named_found_by c k bytes rest (Some r) a e =
-    let parts = some_pair_parts c k r rest e in
-    after_found (word_of c) bytes r a ∙ ap (λ (l : List ℕ). word_of c ++ l) parts.1 ∙ ap (λ (j : Command). word_of j ++ rest) parts.0
-
-named_found : (c k : Command) (bytes rest : List ℕ) → named c (word_of c) bytes ≡ Some (k, rest) → bytes ≡ word_of k ++ rest
-named_found c k bytes rest e = named_found_by c k bytes rest (after (word_of c) bytes) refl e
-
-command_found : (bytes : List ℕ) (k : Command) (rest : List ℕ) → command_read bytes ≡ Some (k, rest) → bytes ≡ word_of k ++ rest
-unfolding command_read
-command_found bytes k rest =
-    let at : (c : Command) → named c (word_of c) bytes ≡ Some (k, rest) → bytes ≡ word_of k ++ rest = λ c. named_found c k bytes rest in
-    either _ _ (k, rest) (at commands.Load) (
-    either _ _ (k, rest) (at commands.Store) (
-    either _ _ (k, rest) (at commands.MaskSwap) (
-    either _ _ (k, rest) (at commands.CompareSwap) (
-    either _ _ (k, rest) (at commands.FetchAdd) (
-    either _ _ (k, rest) (at commands.BoundedAdd) (at commands.WrapAdd))))))
 
 -- ---- the operands
 
@@ -257,9 +221,9 @@ made_is : (line word : ℕ) (o : Option Act) (act : Act) → SomeIff o (ActFits 
 unfolding made
 made_is line word o act h = made_of (byte (fitting line)) (byte (fitting word)) o line word act (byte_is line) (byte_is word) h
 
-command_word : (act : Act) → word_of (command_of act) ≡ act_word act
-command_word (Lock (MaskSwap arg datum)) = refl
-command_word _ = refl
+act_word_is : (act : Act) → command_word (command_of act) ≡ act_word act
+act_word_is (Lock (MaskSwap arg datum)) = refl
+act_word_is _ = refl
 
 pub operation_again : (op : Op) (rest : List ℕ) → Ends rest
     → (o : Option Op) × (operation_read (operation op ++ rest) ≡ Some (o, rest)) × SomeIff o (OpFits op) op
@@ -282,9 +246,9 @@ operation_again op rest ends =
 
 pub operation_found : (bytes : List ℕ) (o : Option Op) (rest : List ℕ) → operation_read bytes ≡ Some (o, rest)
     → (op : Op) × (bytes ≡ operation op ++ rest) × SomeIff o (OpFits op) op
-unfolding operation operation_after operation_read
+unfolding operation operation_after operation_read command_read
 operation_found bytes o rest e =
-    let a = bind_some (command_read bytes)
+    let a = bind_some (spelled command_word all_commands bytes)
     (λ c. field_read c.1 >>= λ line. field_read line.1 >>= λ word. operands_read c.0 word.1 >>= λ act. Some (made line.0 word.0 act.0, act.1)) (o, rest)
     e in
     let b = bind_some (field_read a.0.1) (λ line. field_read line.1 >>= λ word. operands_read a.0.0 word.1 >>= λ act. Some (made line.0 word.0 act.0, act.1))
@@ -296,7 +260,8 @@ operation_found bytes o rest e =
     let act = operands_found a.0.0 c.0.1 d.0.0 d.0.1 d.1 in
     let parts = some_pair_parts (made b.0.0 c.0.0 d.0.0) o d.0.1 rest d.2 in
     let first : bytes ≡ act_word act.0 ++ a.0.1 =
-    command_found bytes a.0.0 a.0.1 a.1 ∙ ap (λ (k : Command). word_of k ++ a.0.1) (sym act.1) ∙ ap (λ (w : List ℕ). w ++ a.0.1) (command_word act.0) in
+    spelled_found command_word all_commands bytes a.0.0 a.0.1 a.1
+    ∙ ap (λ (k : Command). command_word k ++ a.0.1) (sym act.1) ∙ ap (λ (w : List ℕ). w ++ a.0.1) (act_word_is act.0) in
     let third : b.0.1 ≡ field word.0 ++ (act_operands act.0 ++ rest) =
     word.1 ∙ ap (λ (l : List ℕ). field word.0 ++ l) (act.2 ∙ ap (λ (l : List ℕ). act_operands act.0 ++ l) parts.1) in
     let second : a.0.1 ≡ field line.0 ++ (field word.0 ++ (act_operands act.0 ++ rest)) = line.1 ∙ ap (λ (l : List ℕ). field line.0 ++ l) third in

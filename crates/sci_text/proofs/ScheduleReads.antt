@@ -1,10 +1,10 @@
 -- An event's line that is written is read again, and what is read as one was written so.
-use Rattle.std.proofs.Common.{◌≡◌, ℕ, ◌<◌, List, [], ◌∷◌, ◌++◌, Option, Some, None, refl, sym, ap, subst, ◌∙◌, append_assoc}
+use Rattle.std.proofs.Common.{◌≡◌, ℕ, ◌<◌, List, [], ◌∷◌, ◌++◌, Option, Some, refl, sym, ap, subst, ◌∙◌, append_assoc}
 use Rattle.std.specs.Prelude.{codes, option_map}
 use Rattle.std.specs.Option.{SomeIff}
 use Rattle.std.proofs.lemmas.Option.{some_pair_parts}
 use Rattle.sci_words.specs.declared.event.AskKind.{AskKind}
-use Rattle.sci_words.specs.declared.event.AskKind.TheVariants.{Mread, Fread, Cread, Claim, Clear, Purge, Roll, Wback, Setback}
+use Rattle.sci_words.specs.declared.event.AskKind.TheVariants.{Mread}
 use Rattle.sci_words.specs.declared.event.Event.{Event}
 use Rattle.sci_words.specs.declared.event.Event.TheVariants.{Issue, Perform, Ask, Serve, Refuse, Reply, Accept}
 use Rattle.sci_words.specs.declared.operation.Op.{Op}
@@ -12,46 +12,19 @@ use Rattle.sci_text.specs.declared.schedule_event.Verb.{Verb}
 use Rattle.sci_text.specs.declared.schedule_event.Verb.TheVariants as verbs
 use Rattle.sci_text.specs.Number.{field}
 use Rattle.sci_text.specs.Operation.{operation}
-use Rattle.sci_text.specs.Reading.{◌>>=◌, fitting, field_read, after, byte, otherwise, operation_read}
+use Rattle.sci_text.specs.Reading.{◌>>=◌, fitting, field_read, after, byte, both, spelled, operation_read}
 use Rattle.sci_text.specs.Schedule.{kind_word, event_word, first_node, event_details, event_line}
-use Rattle.sci_text.specs.ScheduleReading.{spelled, kind_read, verb_read, paired, numbered_read, details_read, event_line_read}
+use Rattle.sci_text.specs.ScheduleReading.{all_kinds, all_verbs, verb_word, kind_read, verb_read, numbered_read, details_read, event_line_read}
 use Rattle.sci_text.proofs.Numbers.{Ends, field_again, ends_field, field_found}
-use Rattle.sci_text.proofs.Words.{after_again, after_found}
+use Rattle.sci_text.proofs.Words.{after_again, after_found, spelled_found}
 use Rattle.sci_text.proofs.Operations.{mapped, byte_is, both_is, bind_some, OpFits, operation_again, operation_found}
 
 -- ---- words
-
-either : {A P : Type 0} (o second : Option A) (y : A) → (o ≡ Some y → P) → (second ≡ Some y → P) → otherwise o second ≡ Some y → P
-either None second y f g e = g e
-either (Some x) second y f g e = f e
-
-spelled_found_by : {K : Type 0} (word_of : K → List ℕ) (c k : K) (bytes rest : List ℕ) (o : Option (List ℕ)) → after (word_of c) bytes ≡ o
-    → ◌≡◌ {A = Option (K × List ℕ)} (option_map (λ r. (c, r)) o) (Some (k, rest)) → bytes ≡ word_of k ++ rest
-spelled_found_by word_of c k bytes rest None a e = absurd cc
-spelled_found_by word_of c k bytes rest (Some r) a e =
-    let parts = some_pair_parts c k r rest e in
-    after_found (word_of c) bytes r a ∙ ap (λ (l : List ℕ). word_of c ++ l) parts.1 ∙ ap (λ (j : _). word_of j ++ rest) parts.0
-
-spelled_found : {K : Type 0} (word_of : K → List ℕ) (c k : K) (bytes rest : List ℕ) → spelled c (word_of c) bytes ≡ Some (k, rest) → bytes ≡ word_of k ++ rest
-spelled_found word_of c k bytes rest e = spelled_found_by word_of c k bytes rest (after (word_of c) bytes) refl e
 
 kind_again : (kind : AskKind) (rest : List ℕ) → kind_read (kind_word kind ++ rest) ≡ Some (kind, rest)
 unfolding after kind_read
 kind_again Mread rest = refl
 kind_again _ rest = refl
-
-kind_found : (bytes : List ℕ) (kind : AskKind) (rest : List ℕ) → kind_read bytes ≡ Some (kind, rest) → bytes ≡ kind_word kind ++ rest
-unfolding kind_read
-kind_found bytes k rest =
-    let at : (c : AskKind) → spelled c (kind_word c) bytes ≡ Some (k, rest) → bytes ≡ kind_word k ++ rest = λ c. spelled_found kind_word c k bytes rest in
-    either _ _ (k, rest) (at Mread) (
-    either _ _ (k, rest) (at Fread) (
-    either _ _ (k, rest) (at Cread) (
-    either _ _ (k, rest) (at Claim) (
-    either _ _ (k, rest) (at Clear) (
-    either _ _ (k, rest) (at Purge) (
-    either _ _ (k, rest) (at Roll) (
-    either _ _ (k, rest) (at Wback) (at Setback))))))))
 
 abbrev verb_of : Event → Verb
 verb_of (Issue node op) = verbs.Issue
@@ -62,15 +35,6 @@ verb_of (Refuse from node) = verbs.Refuse
 verb_of (Reply node) = verbs.Reply
 verb_of (Accept from node) = verbs.Accept
 
-abbrev verb_word : Verb → List ℕ
-verb_word verbs.Issue = codes "issue"
-verb_word verbs.Perform = codes "perform"
-verb_word verbs.Ask = codes "ask"
-verb_word verbs.Serve = codes "serve"
-verb_word verbs.Refuse = codes "refuse"
-verb_word verbs.Reply = codes "reply"
-verb_word verbs.Accept = codes "accept"
-
 event_verb : (event : Event) → verb_word (verb_of event) ≡ event_word event
 event_verb (Issue node op) = refl
 event_verb _ = refl
@@ -79,17 +43,6 @@ verb_again : (event : Event) (rest : List ℕ) → verb_read (event_word event +
 unfolding after verb_read
 verb_again (Issue node op) rest = refl
 verb_again _ rest = refl
-
-verb_found : (bytes : List ℕ) (verb : Verb) (rest : List ℕ) → verb_read bytes ≡ Some (verb, rest) → bytes ≡ verb_word verb ++ rest
-unfolding verb_read
-verb_found bytes k rest =
-    let at : (c : Verb) → spelled c (verb_word c) bytes ≡ Some (k, rest) → bytes ≡ verb_word k ++ rest = λ c. spelled_found verb_word c k bytes rest in
-    either _ _ (k, rest) (at verbs.Issue) (
-    either _ _ (k, rest) (at verbs.Perform) (
-    either _ _ (k, rest) (at verbs.Ask) (
-    either _ _ (k, rest) (at verbs.Serve) (
-    either _ _ (k, rest) (at verbs.Refuse) (
-    either _ _ (k, rest) (at verbs.Reply) (at verbs.Accept))))))
 
 -- ---- the details
 
@@ -107,15 +60,15 @@ EventFits (Accept from node) = (from < 256) × (node < 256)
 abbrev ReadAs : Event → Option (Option Event × List ℕ) → List ℕ → Type 0
 ReadAs event read rest = (o : Option Event) × (read ≡ Some (o, rest)) × SomeIff o (EventFits event) event
 
-pair_is : (f : ℕ → ℕ → Event) (a b : ℕ) → SomeIff (option_map (λ p. f p.0 p.1) (paired (byte (fitting a)) (byte (fitting b)))) ((a < 256) × (b < 256)) (f a b)
+pair_is : (f : ℕ → ℕ → Event) (a b : ℕ) → SomeIff (option_map (λ p. f p.0 p.1) (both (byte (fitting a)) (byte (fitting b)))) ((a < 256) × (b < 256)) (f a b)
 pair_is f a b =
-    mapped ((a < 256) × (b < 256)) (λ p. f p.0 p.1) (paired (byte (fitting a)) (byte (fitting b))) (a, b)
+    mapped ((a < 256) × (b < 256)) (λ p. f p.0 p.1) (both (byte (fitting a)) (byte (fitting b))) (a, b)
     (both_is (a < 256) (b < 256) (byte (fitting a)) (byte (fitting b)) a b (byte_is a) (byte_is b))
 
 numbered_again : (f : ℕ → ℕ → Event) (a b : ℕ) (rest : List ℕ) → Ends rest
     → (o : Option Event) × (numbered_read f (fitting a) (field b ++ rest) ≡ Some (o, rest)) × SomeIff o ((a < 256) × (b < 256)) (f a b)
 unfolding numbered_read
-numbered_again f a b rest ends = (option_map (λ p. f p.0 p.1) (paired (byte (fitting a)) (byte (fitting b))), rw (field_again b rest ends) refl, pair_is f a b)
+numbered_again f a b rest ends = (option_map (λ p. f p.0 p.1) (both (byte (fitting a)) (byte (fitting b))), rw (field_again b rest ends) refl, pair_is f a b)
 
 ask_again : (node line : ℕ) (kind : AskKind) (rest : List ℕ) → Ends rest
     → ReadAs (Ask node line kind) (details_read verbs.Ask (fitting node) ((field line ++ (codes " " ++ kind_word kind)) ++ rest)) rest
@@ -123,7 +76,7 @@ unfolding details_read
 ask_again node line kind rest ends =
     let gap = codes " " ++ (kind_word kind ++ rest) in
     let regrouped : (field line ++ (codes " " ++ kind_word kind)) ++ rest ≡ field line ++ gap = simp append_assoc in (
-      option_map (λ p. Ask p.0 p.1 kind) (paired (byte (fitting node)) (byte (fitting line))),
+      option_map (λ p. Ask p.0 p.1 kind) (both (byte (fitting node)) (byte (fitting line))),
       rw (regrouped, field_again line gap refl, after_again (codes " ") (kind_word kind ++ rest), kind_again kind rest) refl,
       pair_is (λ n l. Ask n l kind) node line,
     )
@@ -134,9 +87,9 @@ unfolding details_read
 issue_again node op rest ends =
     let regrouped : (codes " " ++ operation op) ++ rest ≡ codes " " ++ (operation op ++ rest) = simp append_assoc in
     let read = operation_again op rest ends in (
-      option_map (λ p. Issue p.0 p.1) (paired (byte (fitting node)) read.0),
+      option_map (λ p. Issue p.0 p.1) (both (byte (fitting node)) read.0),
       rw (regrouped, after_again (codes " ") (operation op ++ rest), read.1) refl,
-      mapped ((node < 256) × OpFits op) (λ p. Issue p.0 p.1) (paired (byte (fitting node)) read.0) (node, op)
+      mapped ((node < 256) × OpFits op) (λ p. Issue p.0 p.1) (both (byte (fitting node)) read.0) (node, op)
           (both_is (node < 256) (OpFits op) (byte (fitting node)) read.0 node op (byte_is node) read.2),
     )
 
@@ -170,7 +123,7 @@ numbered_found : (f : ℕ → ℕ → Event) (a : ℕ) (bytes : List ℕ) (o : O
     → (b : ℕ) × (bytes ≡ field b ++ rest) × SomeIff o ((a < 256) × (b < 256)) (f a b)
 unfolding numbered_read
 numbered_found f a bytes o rest e =
-    let event : Option ℕ → Option Event = λ x. option_map (λ p. f p.0 p.1) (paired (byte (fitting a)) (byte x)) in
+    let event : Option ℕ → Option Event = λ x. option_map (λ p. f p.0 p.1) (both (byte (fitting a)) (byte x)) in
     let s = bind_some (field_read bytes) (λ x. Some (event x.0, x.1)) (o, rest) e in
     let b = field_found bytes s.0.0 s.0.1 s.1 in
     let parts = some_pair_parts (event s.0.0) o s.0.1 rest s.2 in (
@@ -181,16 +134,16 @@ numbered_found f a bytes o rest e =
 
 ask_found : (a : ℕ) (bytes : List ℕ) (o : Option Event) (rest : List ℕ) → details_read verbs.Ask (fitting a) bytes ≡ Some (o, rest)
     → FoundAs verbs.Ask a bytes o rest
-unfolding details_read
+unfolding details_read kind_read
 ask_found a bytes o rest e =
-    let event : Option ℕ → AskKind → Option Event = λ x kind. option_map (λ p. Ask p.0 p.1 kind) (paired (byte (fitting a)) (byte x)) in
-    let s = bind_some (field_read bytes) (λ x. after (codes " ") x.1 >>= λ g. kind_read g >>= λ k. Some (event x.0 k.0, k.1)) (o, rest) e in
-    let g = bind_some (after (codes " ") s.0.1) (λ g. kind_read g >>= λ k. Some (event s.0.0 k.0, k.1)) (o, rest) s.2 in
-    let k = bind_some (kind_read g.0) (λ k. Some (event s.0.0 k.0, k.1)) (o, rest) g.2 in
+    let event : Option ℕ → AskKind → Option Event = λ x kind. option_map (λ p. Ask p.0 p.1 kind) (both (byte (fitting a)) (byte x)) in
+    let s = bind_some (field_read bytes) (λ x. after (codes " ") x.1 >>= λ g. spelled kind_word all_kinds g >>= λ k. Some (event x.0 k.0, k.1)) (o, rest) e in
+    let g = bind_some (after (codes " ") s.0.1) (λ g. spelled kind_word all_kinds g >>= λ k. Some (event s.0.0 k.0, k.1)) (o, rest) s.2 in
+    let k = bind_some (spelled kind_word all_kinds g.0) (λ k. Some (event s.0.0 k.0, k.1)) (o, rest) g.2 in
     let line = field_found bytes s.0.0 s.0.1 s.1 in
     let kind = k.0.0 in
     let parts = some_pair_parts (event s.0.0 kind) o k.0.1 rest k.2 in
-    let word : g.0 ≡ kind_word kind ++ rest = kind_found g.0 kind k.0.1 k.1 ∙ ap (λ (l : List ℕ). kind_word kind ++ l) parts.1 in
+    let word : g.0 ≡ kind_word kind ++ rest = spelled_found kind_word all_kinds g.0 kind k.0.1 k.1 ∙ ap (λ (l : List ℕ). kind_word kind ++ l) parts.1 in
     let gap : s.0.1 ≡ codes " " ++ (kind_word kind ++ rest) = after_found (codes " ") s.0.1 g.0 g.1 ∙ ap (λ (l : List ℕ). codes " " ++ l) word in
     let regrouped : (field line.0 ++ (codes " " ++ kind_word kind)) ++ rest ≡ field line.0 ++ (codes " " ++ (kind_word kind ++ rest)) = simp append_assoc in (
       Ask a line.0 kind,
@@ -205,7 +158,7 @@ issue_found : (a : ℕ) (bytes : List ℕ) (o : Option Event) (rest : List ℕ) 
     → FoundAs verbs.Issue a bytes o rest
 unfolding details_read
 issue_found a bytes o rest e =
-    let event : Option Op → Option Event = λ x. option_map (λ p. Issue p.0 p.1) (paired (byte (fitting a)) x) in
+    let event : Option Op → Option Event = λ x. option_map (λ p. Issue p.0 p.1) (both (byte (fitting a)) x) in
     let g = bind_some (after (codes " ") bytes) (λ g. operation_read g >>= λ y. Some (event y.0, y.1)) (o, rest) e in
     let y = bind_some (operation_read g.0) (λ y. Some (event y.0, y.1)) (o, rest) g.2 in
     let op = operation_found g.0 y.0.0 y.0.1 y.1 in
@@ -217,7 +170,7 @@ issue_found a bytes o rest e =
       refl,
       after_found (codes " ") bytes g.0 g.1 ∙ ap (λ (l : List ℕ). codes " " ++ l) said ∙ sym regrouped,
       subst (λ (v : Option Event). SomeIff v ((a < 256) × OpFits op.0) (Issue a op.0)) parts.0
-          (mapped ((a < 256) × OpFits op.0) (λ p. Issue p.0 p.1) (paired (byte (fitting a)) y.0.0) (a, op.0)
+          (mapped ((a < 256) × OpFits op.0) (λ p. Issue p.0 p.1) (both (byte (fitting a)) y.0.0) (a, op.0)
           (both_is (a < 256) (OpFits op.0) (byte (fitting a)) y.0.0 a op.0 (byte_is a) op.2)),
     )
 
@@ -268,10 +221,10 @@ event_line_again event rest =
 
 pub event_line_found : (bytes : List ℕ) (o : Option Event) (rest : List ℕ) → event_line_read bytes ≡ Some (o, rest)
     → (event : Event) × (bytes ≡ event_line event ++ rest) × SomeIff o (EventFits event) event
-unfolding event_line event_line_read
+unfolding event_line event_line_read verb_read
 event_line_found bytes o rest e =
     let end : Option Event → List ℕ → Option (Option Event × List ℕ) = λ y l. after (10 ∷ []) l >>= λ r. Some (y, r) in
-    let v = bind_some (verb_read bytes) (λ v. field_read v.1 >>= λ x. details_read v.0 x.0 x.1 >>= λ y. end y.0 y.1) (o, rest) e in
+    let v = bind_some (spelled verb_word all_verbs bytes) (λ v. field_read v.1 >>= λ x. details_read v.0 x.0 x.1 >>= λ y. end y.0 y.1) (o, rest) e in
     let x = bind_some (field_read v.0.1) (λ x. details_read v.0.0 x.0 x.1 >>= λ y. end y.0 y.1) (o, rest) v.2 in
     let y = bind_some (details_read v.0.0 x.0.0 x.0.1) (λ y. end y.0 y.1) (o, rest) x.2 in
     let r = bind_some (after (10 ∷ []) y.0.1) (λ r. Some (y.0.0, r)) (o, rest) y.2 in
@@ -287,6 +240,7 @@ event_line_found bytes o rest e =
     let regrouped : (event_word event ++ (field (first_node event) ++ (event_details event ++ 10 ∷ []))) ++ rest ≡ event_word event
     ++ (field (first_node event) ++ (event_details event ++ 10 ∷ rest)) = simp append_assoc in (
       event,
-      verb_found bytes v.0.0 v.0.1 v.1 ∙ ap (λ (w : List ℕ). w ++ v.0.1) word ∙ ap (λ (l : List ℕ). event_word event ++ l) node ∙ sym regrouped,
+      spelled_found verb_word all_verbs bytes v.0.0 v.0.1 v.1 ∙ ap (λ (w : List ℕ). w ++ v.0.1) word
+      ∙ ap (λ (l : List ℕ). event_word event ++ l) node ∙ sym regrouped,
       subst (λ (z : Option Event). SomeIff z (EventFits event) event) parts.0 found.4,
     )

@@ -6,12 +6,12 @@ use Rattle.std.proofs.lemmas.Option.{some_pair_parts}
 use Rattle.sci_words.specs.declared.operation.Op.{Op}
 use Rattle.sci_text.specs.Number.{field}
 use Rattle.sci_text.specs.Operation.{operation}
-use Rattle.sci_text.specs.Reading.{◌>>=◌, fitting, field_read, after, byte, operation_read}
+use Rattle.sci_text.specs.Reading.{◌>>=◌, fitting, field_read, after, byte, both, operation_read}
 use Rattle.sci_text.specs.ScriptReading.{machine_line_read, operation_line_read}
 use Rattle.sci_text.specs.Script.{machine_line, operation_line}
 use Rattle.sci_text.proofs.Numbers.{field_again, ends_field, field_found}
 use Rattle.sci_text.proofs.Words.{after_again, after_found}
-use Rattle.sci_text.proofs.Operations.{byte_is, both, both_is, bind_some, OpFits, operation_again, operation_found}
+use Rattle.sci_text.proofs.Operations.{byte_is, both_is, bind_some, OpFits, operation_again, operation_found}
 
 -- ---- the line of the size
 

@@ -56,30 +56,42 @@ unfoldable pub byte : Option ℕ → Option ℕ
 byte None = None
 byte (Some n) = if nat_lt n 256 then Some n else None
 
--- ---- operations
+-- ---- words and pairs
 
 abbrev pub otherwise : {A : Type 0} → Option A → Option A → Option A
 otherwise None second = second
 otherwise (Some x) second = Some x
 
-abbrev pub named : Command → List ℕ → List ℕ → Option (Command × List ℕ)
-named command word bytes = option_map (λ rest. (command, rest)) (after word bytes)
+-- what the word at the front of bytes stands for, and the bytes after it
+abbrev pub spelled : {A : Type 0} → (A → List ℕ) → List A → List ℕ → Option (A × List ℕ)
+spelled word_of [] bytes = None
+spelled word_of (x ∷ more) bytes = otherwise (option_map (λ rest. (x, rest)) (after (word_of x) bytes)) (spelled word_of more bytes)
+
+abbrev pub both : {A B : Type 0} → Option A → Option B → Option (A × B)
+both o p = o >>= λ a. option_map (λ b. (a, b)) p
+
+-- ---- operations
+
+abbrev pub command_word : Command → List ℕ
+command_word commands.Load = codes "load"
+command_word commands.Store = codes "store"
+command_word commands.MaskSwap = codes "mask-swap"
+command_word commands.CompareSwap = codes "compare-swap"
+command_word commands.FetchAdd = codes "fetch-add"
+command_word commands.BoundedAdd = codes "bounded-add"
+command_word commands.WrapAdd = codes "wrap-add"
+
+abbrev pub all_commands : List Command
+all_commands = commands.Load ∷ commands.Store ∷ commands.MaskSwap ∷ commands.CompareSwap ∷ commands.FetchAdd ∷ commands.BoundedAdd ∷ commands.WrapAdd ∷ []
 
 unfoldable pub command_read : List ℕ → Option (Command × List ℕ)
-command_read bytes =
-    otherwise (named commands.Load (codes "load") bytes) (
-    otherwise (named commands.Store (codes "store") bytes) (
-    otherwise (named commands.MaskSwap (codes "mask-swap") bytes) (
-    otherwise (named commands.CompareSwap (codes "compare-swap") bytes) (
-    otherwise (named commands.FetchAdd (codes "fetch-add") bytes) (
-    otherwise (named commands.BoundedAdd (codes "bounded-add") bytes)
-    (named commands.WrapAdd (codes "wrap-add") bytes))))))
+command_read bytes = spelled command_word all_commands bytes
 
 unfoldable pub pair_read : List ℕ → Option (Option (ℕ × ℕ) × List ℕ)
 pair_read bytes = do
   first ← field_read bytes
   second ← field_read first.1
-  Some (first.0 >>= λ a. option_map (λ b. (a, b)) second.0, second.1)
+  Some (both first.0 second.0, second.1)
 
 abbrev pub one : (ℕ → Act) → List ℕ → Option (Option Act × List ℕ)
 one f bytes = field_read bytes >>= λ x. Some (option_map f x.0, x.1)

@@ -7,53 +7,45 @@ use Rattle.sci_words.specs.declared.event.Event.{Event}
 use Rattle.sci_words.specs.declared.event.Event.TheVariants as events
 use Rattle.sci_text.specs.declared.schedule_event.Verb.{Verb}
 use Rattle.sci_text.specs.declared.schedule_event.Verb.TheVariants as verbs
-use Rattle.sci_text.specs.Reading.{◌>>=◌, field_read, after, byte, otherwise, operation_read}
-use Rattle.sci_text.specs.Schedule.{ScheduleValue, event_line, with_event}
+use Rattle.sci_text.specs.Reading.{◌>>=◌, field_read, after, byte, both, spelled, operation_read}
+use Rattle.sci_text.specs.Schedule.{ScheduleValue, kind_word, event_line, with_event}
 
--- what a word stands for, and the bytes after it, if they begin with it
-abbrev pub spelled : {A : Type 0} → A → List ℕ → List ℕ → Option (A × List ℕ)
-spelled x word bytes = option_map (λ rest. (x, rest)) (after word bytes)
+abbrev pub all_kinds : List AskKind
+all_kinds = Mread ∷ Fread ∷ Cread ∷ Claim ∷ Clear ∷ Purge ∷ Roll ∷ Wback ∷ Setback ∷ []
 
 unfoldable pub kind_read : List ℕ → Option (AskKind × List ℕ)
-kind_read bytes =
-    otherwise (spelled Mread (codes "mread") bytes) (
-    otherwise (spelled Fread (codes "fread") bytes) (
-    otherwise (spelled Cread (codes "cread") bytes) (
-    otherwise (spelled Claim (codes "claim") bytes) (
-    otherwise (spelled Clear (codes "clear") bytes) (
-    otherwise (spelled Purge (codes "purge") bytes) (
-    otherwise (spelled Roll (codes "roll") bytes) (
-    otherwise (spelled Wback (codes "wback") bytes)
-    (spelled Setback (codes "setback") bytes))))))))
+kind_read bytes = spelled kind_word all_kinds bytes
+
+abbrev pub verb_word : Verb → List ℕ
+verb_word verbs.Issue = codes "issue"
+verb_word verbs.Perform = codes "perform"
+verb_word verbs.Ask = codes "ask"
+verb_word verbs.Serve = codes "serve"
+verb_word verbs.Refuse = codes "refuse"
+verb_word verbs.Reply = codes "reply"
+verb_word verbs.Accept = codes "accept"
+
+abbrev pub all_verbs : List Verb
+all_verbs = verbs.Issue ∷ verbs.Perform ∷ verbs.Ask ∷ verbs.Serve ∷ verbs.Refuse ∷ verbs.Reply ∷ verbs.Accept ∷ []
 
 unfoldable pub verb_read : List ℕ → Option (Verb × List ℕ)
-verb_read bytes =
-    otherwise (spelled verbs.Issue (codes "issue") bytes) (
-    otherwise (spelled verbs.Perform (codes "perform") bytes) (
-    otherwise (spelled verbs.Ask (codes "ask") bytes) (
-    otherwise (spelled verbs.Serve (codes "serve") bytes) (
-    otherwise (spelled verbs.Refuse (codes "refuse") bytes) (
-    otherwise (spelled verbs.Reply (codes "reply") bytes)
-    (spelled verbs.Accept (codes "accept") bytes))))))
-
-abbrev pub paired : {A B : Type 0} → Option A → Option B → Option (A × B)
-paired o p = o >>= λ a. option_map (λ b. (a, b)) p
+verb_read bytes = spelled verb_word all_verbs bytes
 
 -- an event of two numbers, of which the first was read
 unfoldable pub numbered_read : (ℕ → ℕ → Event) → Option ℕ → List ℕ → Option (Option Event × List ℕ)
-numbered_read f first bytes = field_read bytes >>= λ x. Some (option_map (λ p. f p.0 p.1) (paired (byte first) (byte x.0)), x.1)
+numbered_read f first bytes = field_read bytes >>= λ x. Some (option_map (λ p. f p.0 p.1) (both (byte first) (byte x.0)), x.1)
 
 unfoldable pub details_read : Verb → Option ℕ → List ℕ → Option (Option Event × List ℕ)
 details_read verbs.Issue first bytes = do
   gap ← after (codes " ") bytes
   op ← operation_read gap
-  Some (option_map (λ p. events.Issue p.0 p.1) (paired (byte first) op.0), op.1)
+  Some (option_map (λ p. events.Issue p.0 p.1) (both (byte first) op.0), op.1)
 details_read verbs.Perform first bytes = numbered_read events.Perform first bytes
 details_read verbs.Ask first bytes = do
   line ← field_read bytes
   gap ← after (codes " ") line.1
   kind ← kind_read gap
-  Some (option_map (λ p. events.Ask p.0 p.1 kind.0) (paired (byte first) (byte line.0)), kind.1)
+  Some (option_map (λ p. events.Ask p.0 p.1 kind.0) (both (byte first) (byte line.0)), kind.1)
 details_read verbs.Serve first bytes = numbered_read events.Serve first bytes
 details_read verbs.Refuse first bytes = numbered_read events.Refuse first bytes
 details_read verbs.Reply first bytes = Some (option_map (λ node. events.Reply node) (byte first), bytes)

@@ -1,8 +1,8 @@
 //! Events, as schedules write them: a word, the first node, and what else the event has.
 
 ghost use Rattle.std.specs.Prelude.{◌≡◌};
-ghost use Rattle.sci_text.specs.Reading.{Gives, byte};
-ghost use Rattle.sci_text.specs.ScheduleReading.{kind_read, verb_read, ended_read, details_read, line_after_read, event_line_read, paired};
+ghost use Rattle.sci_text.specs.Reading.{Gives, byte, both};
+ghost use Rattle.sci_text.specs.ScheduleReading.{kind_read, verb_read, ended_read, details_read, line_after_read, event_line_read};
 
 use crate::number::{Number, field};
 use crate::operation::{after, byte, operation};
@@ -62,7 +62,7 @@ fn verb_of(bytes: &[u8]) -> Option<(Verb, &[u8])>
 
 /// Two numbers, if both are below 256.
 fn bytes_of(first: Number, second: Number) -> Option<(u8, u8)>
-    ensures { result ≡ paired (byte first) (byte second) }
+    ensures { result ≡ both (byte first) (byte second) }
 {
     byte(first).zip(byte(second))
 }
