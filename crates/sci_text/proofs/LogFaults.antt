@@ -24,7 +24,7 @@ use Rattle.sci_text.specs.LogReading.{BeginsLast, NoLast, AddsLast, AddsEntry, I
 use Rattle.sci_text.specs.Reading.{Gives, fitting, after, number_read}
 use Rattle.sci_text.proofs.Numbers.{fitting_below, Ends, number_again, ends_field}
 use Rattle.sci_text.proofs.Words.{after_again, after_found}
-use Rattle.sci_text.proofs.ScriptFaults.{fitting_some}
+use Rattle.sci_text.proofs.Numbers.{fitting_some}
 use Rattle.sci_text.proofs.LineLengths.{line_short, line_long}
 use Rattle.sci_text.proofs.LogReads.{SizeSaid, log_line_again, log_line_found, LastSaid, last_line_again, last_line_found, EntrySaid, EntryReads}
 use Rattle.sci_text.proofs.LogReads.{entry_line_again, entry_line_found}
@@ -272,7 +272,7 @@ fits_reads front entry good few h =
     let serial = h.numbers.serial in
     let line = h.numbers.line in
     let word = h.numbers.word in
-    record { node = omega arith; serial = omega arith; op = (omega arith, omega arith, h.operands); reply = h.reply; version = h.version }
+    record { node = omega arith; serial = omega arith; op = (omega arith, (omega arith, h.operands)); reply = h.reply; version = h.version }
 
 pub entry_unfit : (front : Front) (bytes : List ℕ) (l : Option ℕ) (o : Option Entry) (rest : List ℕ) (latest : ℕ) → IsForm front.form
     → length front.last ≤ MAX_LINES → HasAllLines front.form.lines (length front.last) → IsLatest front.logs latest → latest < 2 ^ 64
@@ -307,7 +307,7 @@ read_entry front bytes l entry rest latest whole is few e short above within =
       s.1,
       record {
         numbers = subst (AreNumbersWithin front.form (length front.last)) s.2.1 within;
-        operands = reads.op.2;
+        operands = reads.op.1.1;
         answers = s.1.answers;
         reply = reads.reply;
         version = reads.version;

@@ -12,7 +12,7 @@ use Rattle.sci_text.specs.LogFault.{SizeFault}
 use Rattle.sci_text.specs.FirstFault.{Says}
 use Rattle.sci_text.specs.Reading.{fitting}
 use Rattle.sci_text.proofs.FirstFaults.{SaysOne, one_line_fault, no_line_fault}
-use Rattle.sci_text.proofs.ScriptFaults.{fitting_some}
+use Rattle.sci_text.proofs.Numbers.{fitting_some}
 use Rattle.sci_text.proofs.Numbers.{fitting_below}
 use Rattle.sci_text.proofs.LogReads.{SizeSaid, log_line_again}
 use Rattle.sci_text.proofs.LogShort.{size_short}

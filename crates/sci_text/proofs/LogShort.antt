@@ -15,7 +15,8 @@ use Rattle.sci_text.specs.LogValue.{IsSize, ReplyFits}
 use Rattle.sci_text.specs.FirstFault.{IsShort}
 use Rattle.sci_text.proofs.LogReads.{EntryReads}
 use Rattle.sci_text.proofs.LogFronts.{GoodLast}
-use Rattle.sci_text.proofs.ScriptUnique.{number_short, field_short, operation_short}
+use Rattle.sci_text.proofs.Numbers.{number_short, field_short}
+use Rattle.sci_text.proofs.Operations.{operation_short}
 
 version_short : (version : ℕ) → version < 2 ^ 64 → length (version_text version) ≤ 22
 unfolding version_text

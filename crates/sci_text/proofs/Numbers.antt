@@ -6,7 +6,9 @@ use Rattle.std.specs.Int.Digits.{digits_of, number_from_digits, number_from_digi
 use Rattle.std.proofs.lemmas.Bool.{cases_lt, cases_Bool, eqb-true, eqb-false}
 use Rattle.std.proofs.lemmas.Option.{cond_some, some_pair_parts}
 use Rattle.std.proofs.lemmas.Bool.Decides.{nat_tests}
-use Rattle.std.proofs.lemmas.List.{map-append}
+use Rattle.std.proofs.Common.{length, ltb}
+use Rattle.std.proofs.lemmas.List.{map-append, length-map}
+use Rattle.std.proofs.lemmas.Int.Digits.{length-digits_of-le}
 use Rattle.std.proofs.lemmas.Nat.{div-mul-add, mod-mul-add}
 use Rattle.std.proofs.lemmas.Int.Digits.{digits_of_step, all_below_base_digits_of, first_digits_of, number_digits_of}
 use Rattle.sci_text.specs.Number.{number, field}
@@ -17,6 +19,9 @@ fitting_below n h = grind (arith, nat_tests)
 
 pub fitting_above : (n : ℕ) → 2 ^ 64 ≤ n → fitting n ≡ None
 fitting_above n h = grind (arith, nat_tests)
+
+pub fitting_some : (n m : ℕ) → fitting n ≡ Some m → n ≡ m
+fitting_some n m e = (cond_some (ltb n (2 ^ 64)) n m e).1
 
 with_digit-fitting : (n b : ℕ) → with_digit (fitting n) b ≡ fitting (n * 10 + (b - 48))
 unfolding with_digit
@@ -192,3 +197,14 @@ field_found (b ∷ bytes) value rest e =
     let s = cond_some_else (eqb b 32) (number_read bytes) (value, rest) e in
     let found = number_found bytes value rest s.1 in
     (found.0, ap (λ (c : ℕ). c ∷ bytes) (eqb-true b 32 s.0) ∙ ap (λ (l : List ℕ). 32 ∷ l) found.1, found.2)
+
+-- ---- numbers are short
+
+pub number_short : (n : ℕ) → n < 2 ^ 64 → length (number n) ≤ 20
+unfolding number
+number_short zero h = omega arith
+number_short (suc n) h = omega (arith, length-map (digits_of 10 (suc n)) (λ digit. 48 + digit), length-digits_of-le 10 20 (suc n) (omega arith) (omega arith))
+
+pub field_short : (n : ℕ) → n < 2 ^ 64 → length (field n) ≤ 21
+unfolding field
+field_short n h = omega (arith, number_short n h)

@@ -1,5 +1,5 @@
 -- An operation that is written is read again, and what is read as one was written so.
-use Rattle.std.proofs.Common.{◌≡◌, ℕ, ◌^◌, ◌<◌, ◌≤◌, ltb, List, ◌++◌, Option, Some, None, refl, sym, ap, subst, ◌∙◌, append_assoc, arith, inl, inr}
+use Rattle.std.proofs.Common.{◌≡◌, ℕ, ◌^◌, ◌<◌, ◌≤◌, ltb, List, ◌++◌, length, Option, Some, None, refl, sym, ap, subst, ◌∙◌, append_assoc, arith, inl, inr}
 use Rattle.std.specs.Prelude.{option_map, IsSome, IfNone}
 use Rattle.std.specs.Option.{SomeIff}
 use Rattle.std.proofs.lemmas.Bool.{false≢true, cases_lt, lt-ltb, le-ltb}
@@ -16,7 +16,8 @@ use Rattle.sci_text.specs.Operation.{act_word, act_operands, operation, ActFits}
 use Rattle.sci_text.specs.Reading.{◌>>=◌, fitting, field_read, after, byte, both, spelled}
 use Rattle.sci_text.specs.Reading.{command_word, all_commands, command_read, pair_read, one, two, operands_read, made}
 use Rattle.sci_text.specs.Reading.{operation_after, operation_read}
-use Rattle.sci_text.proofs.Numbers.{fitting_below, fitting_above, Ends, field_again, ends_field, field_found}
+use Rattle.sci_text.proofs.Numbers.{fitting_below, fitting_above, Ends, field_again, ends_field, field_found, field_short}
+use Rattle.std.proofs.lemmas.List.{length-append}
 use Rattle.sci_text.proofs.Words.{spelled_found}
 
 -- ---- what stands for a value if it fits
@@ -205,19 +206,19 @@ operands_found commands.WrapAdd bytes o rest e = let s = two_found WrapAdd bytes
 
 -- each number fits its place in an `Op`
 abbrev pub OpFits : Op → Type 0
-OpFits op = (op.line < 256) × (op.word < 256) × ActFits op.act
+OpFits op = (op.line < 256) × ((op.word < 256) × ActFits op.act)
 
 made_of : (l w : Option ℕ) (o : Option Act) (line word : ℕ) (act : Act) → SomeIff l (line < 256) line → SomeIff w (word < 256) word
     → SomeIff o (ActFits act) act
-    → SomeIff {T = Op} (l >>= λ x. w >>= λ y. o >>= λ a. Some (record { line = x; word = y; act = a })) ((line < 256) × (word < 256) × ActFits act)
+    → SomeIff {T = Op} (l >>= λ x. w >>= λ y. o >>= λ a. Some (record { line = x; word = y; act = a })) ((line < 256) × ((word < 256) × ActFits act))
     (record { line = line; word = word; act = act })
 made_of None w o line word act h k m = λ all. h all.0
-made_of (Some x) None o line word act h k m = λ all. k all.1
-made_of (Some x) (Some y) None line word act h k m = λ all. m all.2
-made_of (Some x) (Some y) (Some a) line word act h k m = ((h.0, k.0, m.0), cc (h.1, k.1, m.1))
+made_of (Some x) None o line word act h k m = λ all. k all.1.0
+made_of (Some x) (Some y) None line word act h k m = λ all. m all.1.1
+made_of (Some x) (Some y) (Some a) line word act h k m = ((h.0, (k.0, m.0)), cc (h.1, k.1, m.1))
 
 made_is : (line word : ℕ) (o : Option Act) (act : Act) → SomeIff o (ActFits act) act
-    → SomeIff {T = Op} (made (fitting line) (fitting word) o) ((line < 256) × (word < 256) × ActFits act) (record { line = line; word = word; act = act })
+    → SomeIff {T = Op} (made (fitting line) (fitting word) o) ((line < 256) × ((word < 256) × ActFits act)) (record { line = line; word = word; act = act })
 unfolding made
 made_is line word o act h = made_of (byte (fitting line)) (byte (fitting word)) o line word act (byte_is line) (byte_is word) h
 
@@ -273,4 +274,36 @@ operation_found bytes o rest e =
       op,
       first ∙ ap (λ (l : List ℕ). act_word act.0 ++ l) second ∙ sym regrouped,
       subst (λ (v : Option Op). SomeIff v (OpFits op) op) seen (made_is line.0 word.0 d.0.0 act.0 act.3),
+    )
+
+-- ---- operations are short
+
+two_short : (a d : ℕ) → (a < 2 ^ 64) × (d < 2 ^ 64) → length (field a ++ field d) ≤ 42
+two_short a d fits = omega (arith, length-append (field a) (field d), field_short a fits.0, field_short d fits.1)
+
+word_short : (act : Act) → length (act_word act) ≤ 12
+word_short (Lock (MaskSwap arg datum)) = omega arith
+word_short _ = omega arith
+
+operands_short : (act : Act) → ActFits act → length (act_operands act) ≤ 42
+operands_short Load fits = omega arith
+operands_short (Store word) fits = omega (arith, field_short word fits)
+operands_short (Lock (MaskSwap arg datum)) fits = two_short arg datum fits
+operands_short (Lock (CompareSwap arg datum)) fits = two_short arg datum fits
+operands_short (Lock (FetchAdd datum)) fits = omega (arith, field_short datum fits)
+operands_short (Lock (BoundedAdd arg datum)) fits = two_short arg datum fits
+operands_short (Lock (WrapAdd arg datum)) fits = two_short arg datum fits
+
+pub operation_short : (op : Op) → OpFits op → length (operation op) ≤ 96
+unfolding operation
+operation_short op fits =
+    omega (
+      arith,
+      length-append (act_word op.act) (field op.line ++ (field op.word ++ act_operands op.act)),
+      length-append (field op.line) (field op.word ++ act_operands op.act),
+      length-append (field op.word) (act_operands op.act),
+      word_short op.act,
+      field_short op.line (omega (arith, fits.0)),
+      field_short op.word (omega (arith, fits.1.0)),
+      operands_short op.act fits.1.1,
     )

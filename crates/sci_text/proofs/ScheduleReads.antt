@@ -10,6 +10,12 @@ use Rattle.sci_words.specs.declared.event.Event.TheVariants.{Issue, Perform, Ask
 use Rattle.sci_words.specs.declared.operation.Op.{Op}
 use Rattle.sci_text.specs.declared.schedule_event.Verb.{Verb}
 use Rattle.sci_text.specs.declared.schedule_event.Verb.TheVariants as verbs
+use Rattle.std.proofs.Common.{◌≤◌, length, arith}
+use Rattle.std.proofs.lemmas.List.{length-append}
+use Rattle.sci_text.specs.FirstFault.{IsShort}
+use Rattle.sci_text.proofs.Lines.{Line}
+use Rattle.sci_text.proofs.Operations.{operation_short}
+use Rattle.sci_text.proofs.Numbers.{field_short}
 use Rattle.sci_text.specs.Number.{field}
 use Rattle.sci_text.specs.Operation.{operation}
 use Rattle.sci_text.specs.Reading.{◌>>=◌, fitting, field_read, after, byte, both, spelled, operation_read}
@@ -241,6 +247,66 @@ event_line_found bytes o rest e =
     ++ (field (first_node event) ++ (event_details event ++ 10 ∷ rest)) = simp append_assoc in (
       event,
       spelled_found verb_word all_verbs bytes v.0.0 v.0.1 v.1 ∙ ap (λ (w : List ℕ). w ++ v.0.1) word
-      ∙ ap (λ (l : List ℕ). event_word event ++ l) node ∙ sym regrouped,
+          ∙ ap (λ (l : List ℕ). event_word event ++ l) node ∙ sym regrouped,
       subst (λ (z : Option Event). SomeIff z (EventFits event) event) parts.0 found.4,
     )
+
+pub line_nonempty : (event : Event) → 0 < length (event_line event)
+unfolding event_line
+line_nonempty (Issue node op) = omega arith
+line_nonempty _ = omega arith
+
+kind_short : (kind : AskKind) → length (kind_word kind) ≤ 7
+kind_short Mread = omega arith
+kind_short _ = omega arith
+
+line_of_numbers : (word : List ℕ) (a b : ℕ) → length word ≤ 7 → (a < 256) × (b < 256) → IsShort (word ++ (field a ++ (field b ++ 10 ∷ [])))
+line_of_numbers word a b short fit =
+    omega (
+      arith,
+      length-append word (field a ++ (field b ++ 10 ∷ [])),
+      length-append (field a) (field b ++ 10 ∷ []),
+      length-append (field b) (10 ∷ []),
+      field_short a (omega (arith, fit.0)),
+      field_short b (omega (arith, fit.1)),
+    )
+
+pub line_is_short : (event : Event) → EventFits event → IsShort (event_line event)
+unfolding event_line
+line_is_short (Issue node op) fit =
+    omega (
+      arith,
+      length-append (codes "issue") (field node ++ ((codes " " ++ operation op) ++ 10 ∷ [])),
+      length-append (field node) ((codes " " ++ operation op) ++ 10 ∷ []),
+      length-append (operation op) (10 ∷ []),
+      field_short node (omega (arith, fit.0)),
+      operation_short op fit.1,
+    )
+line_is_short (Perform node line) fit = line_of_numbers (codes "perform") node line (omega arith) fit
+line_is_short (Ask node line kind) fit =
+    omega (
+      arith,
+      length-append (codes "ask") (field node ++ ((field line ++ (codes " " ++ kind_word kind)) ++ 10 ∷ [])),
+      length-append (field node) ((field line ++ (codes " " ++ kind_word kind)) ++ 10 ∷ []),
+      length-append (field line ++ (codes " " ++ kind_word kind)) (10 ∷ []),
+      length-append (field line) (codes " " ++ kind_word kind),
+      field_short node (omega (arith, fit.0)),
+      field_short line (omega (arith, fit.1)),
+      kind_short kind,
+    )
+line_is_short (Serve from node) fit = line_of_numbers (codes "serve") from node (omega arith) fit
+line_is_short (Refuse from node) fit = line_of_numbers (codes "refuse") from node (omega arith) fit
+line_is_short (Reply node) fit =
+    omega (arith, length-append (codes "reply") (field node ++ 10 ∷ []), length-append (field node) (10 ∷ []), field_short node (omega (arith, fit)))
+line_is_short (Accept from node) fit = line_of_numbers (codes "accept") from node (omega arith) fit
+
+abbrev pub event_line_format : Line Event
+event_line_format = record {
+  print = event_line;
+  read = event_line_read;
+  Fits = EventFits;
+  again = event_line_again;
+  found = event_line_found;
+  nonempty = line_nonempty;
+  short = line_is_short;
+}

@@ -4,65 +4,120 @@ use Rattle.std.specs.Prelude.{codes, option_map}
 use Rattle.std.specs.Option.{SomeIff}
 use Rattle.std.proofs.lemmas.Option.{some_pair_parts}
 use Rattle.sci_words.specs.declared.operation.Op.{Op}
+use Rattle.std.proofs.Common.{length, arith}
+use Rattle.std.proofs.lemmas.List.{length-append}
+use Rattle.sci_words.specs.Extent.{AreWithinLimits}
+use Rattle.sci_text.specs.FirstFault.{IsShort}
 use Rattle.sci_text.specs.Number.{field}
 use Rattle.sci_text.specs.Operation.{operation}
 use Rattle.sci_text.specs.Reading.{◌>>=◌, fitting, field_read, after, byte, both, operation_read}
-use Rattle.sci_text.specs.ScriptReading.{machine_line_read, operation_line_read}
+use Rattle.sci_text.specs.ScriptReading.{size_of, machine_line_read, operation_line_read}
 use Rattle.sci_text.specs.Script.{machine_line, operation_line}
-use Rattle.sci_text.proofs.Numbers.{field_again, ends_field, field_found}
+use Rattle.sci_text.proofs.Numbers.{field_again, ends_field, field_found, field_short}
 use Rattle.sci_text.proofs.Words.{after_again, after_found}
-use Rattle.sci_text.proofs.Operations.{byte_is, both_is, bind_some, OpFits, operation_again, operation_found}
+use Rattle.sci_text.proofs.Lines.{Line}
+use Rattle.sci_text.proofs.ScriptText.{line_nonempty}
+use Rattle.sci_text.proofs.Operations.{operation_short, mapped, byte_is, both_is, bind_some, OpFits, operation_again, operation_found}
 
 -- ---- the line of the size
 
-abbrev pub Sizes : Type 0
-Sizes = Option ℕ × Option ℕ × Option ℕ
+abbrev pub Size : Type 0
+Size = ℕ × ℕ × ℕ
 
-pub machine_line_again : (nodes lines slots : ℕ) (rest : List ℕ)
-    → machine_line_read (machine_line nodes lines slots ++ rest) ≡ Some ((fitting nodes, fitting lines, fitting slots), rest)
-unfolding machine_line machine_line_read
-machine_line_again nodes lines slots rest =
-    let regrouped : (codes "machine" ++ (field nodes ++ (field lines ++ (field slots ++ 10 ∷ [])))) ++ rest ≡ codes "machine"
-    ++ (field nodes ++ (field lines ++ (field slots ++ 10 ∷ rest))) = simp append_assoc in
-    rw (
-      regrouped,
-      after_again (codes "machine") (field nodes ++ (field lines ++ (field slots ++ 10 ∷ rest))),
-      field_again nodes (field lines ++ (field slots ++ 10 ∷ rest)) (ends_field lines (field slots ++ 10 ∷ rest)),
-      field_again lines (field slots ++ 10 ∷ rest) (ends_field slots (10 ∷ rest)),
-      field_again slots (10 ∷ rest) refl,
-      after_again (10 ∷ []) rest,
-    ) refl
+abbrev SizeFits : Size → Type 0
+SizeFits s = (s.0 < 256) × ((s.1 < 256) × (s.2 < 256))
 
-pub machine_line_found : (bytes : List ℕ) (a b c : Option ℕ) (rest : List ℕ) → machine_line_read bytes ≡ Some ((a, b, c), rest)
-    → (nodes : ℕ) × (lines : ℕ) × (slots : ℕ) × (bytes ≡ machine_line nodes lines slots ++ rest) × (a ≡ fitting nodes) × (b ≡ fitting lines)
-    × (c ≡ fitting slots)
+size_is : (s : Size) → SomeIff (option_map size_of (both (byte (fitting s.0)) (both (byte (fitting s.1)) (byte (fitting s.2))))) (SizeFits s) s
+size_is s =
+    let two = both_is (s.1 < 256) (s.2 < 256) (byte (fitting s.1)) (byte (fitting s.2)) s.1 s.2 (byte_is s.1) (byte_is s.2) in
+    mapped (SizeFits s) size_of (both (byte (fitting s.0)) (both (byte (fitting s.1)) (byte (fitting s.2)))) (s.0, (s.1, s.2))
+    (both_is (s.0 < 256) ((s.1 < 256) × (s.2 < 256)) (byte (fitting s.0)) (both (byte (fitting s.1)) (byte (fitting s.2))) s.0 (s.1, s.2) (byte_is s.0) two)
+
+abbrev SizeRead : Size → Option (Option Size × List ℕ) → List ℕ → Type 0
+SizeRead s read rest = (o : Option Size) × (read ≡ Some (o, rest)) × SomeIff o (SizeFits s) s
+
+pub size_again : (s : Size) (rest : List ℕ) → SizeRead s (machine_line_read (machine_line s.0 s.1 s.2 ++ rest)) rest
 unfolding machine_line machine_line_read
-machine_line_found bytes a b c rest e =
-    let end : Option ℕ → Option ℕ → Option ℕ → List ℕ → Option (Sizes × List ℕ) = λ x y z l. after (10 ∷ []) l >>= λ r. Some ((x, y, z), r) in
+size_again s rest =
+    let regrouped : (codes "machine" ++ (field s.0 ++ (field s.1 ++ (field s.2 ++ 10 ∷ [])))) ++ rest ≡ codes "machine"
+    ++ (field s.0 ++ (field s.1 ++ (field s.2 ++ 10 ∷ rest))) = simp append_assoc in (
+      option_map size_of (both (byte (fitting s.0)) (both (byte (fitting s.1)) (byte (fitting s.2)))),
+      rw (
+        regrouped,
+        after_again (codes "machine") (field s.0 ++ (field s.1 ++ (field s.2 ++ 10 ∷ rest))),
+        field_again s.0 (field s.1 ++ (field s.2 ++ 10 ∷ rest)) (ends_field s.1 (field s.2 ++ 10 ∷ rest)),
+        field_again s.1 (field s.2 ++ 10 ∷ rest) (ends_field s.2 (10 ∷ rest)),
+        field_again s.2 (10 ∷ rest) refl,
+        after_again (10 ∷ []) rest,
+      ) refl,
+      size_is s,
+    )
+
+pub size_found : (bytes : List ℕ) (o : Option Size) (rest : List ℕ) → machine_line_read bytes ≡ Some (o, rest)
+    → (s : Size) × (bytes ≡ machine_line s.0 s.1 s.2 ++ rest) × SomeIff o (SizeFits s) s
+unfolding machine_line machine_line_read
+size_found bytes o rest e =
+    let size : Option ℕ → Option ℕ → Option ℕ → Option Size = λ x y z. option_map size_of (both (byte x) (both (byte y) (byte z))) in
+    let end : Option ℕ → Option ℕ → Option ℕ → List ℕ → Option (Option Size × List ℕ) = λ x y z l. after (10 ∷ []) l >>= λ r. Some (size x y z, r) in
     let first = bind_some (after (codes "machine") bytes) (λ l. field_read l >>= λ x. field_read x.1 >>= λ y. field_read y.1 >>= λ z. end x.0 y.0 z.0 z.1)
-    ((a, b, c), rest) e in
-    let x = bind_some (field_read first.0) (λ x. field_read x.1 >>= λ y. field_read y.1 >>= λ z. end x.0 y.0 z.0 z.1) ((a, b, c), rest) first.2 in
-    let y = bind_some (field_read x.0.1) (λ y. field_read y.1 >>= λ z. end x.0.0 y.0 z.0 z.1) ((a, b, c), rest) x.2 in
-    let z = bind_some (field_read y.0.1) (λ z. end x.0.0 y.0.0 z.0 z.1) ((a, b, c), rest) y.2 in
-    let r = bind_some (after (10 ∷ []) z.0.1) (λ r. Some ((x.0.0, y.0.0, z.0.0), r)) ((a, b, c), rest) z.2 in
+    (o, rest) e in
+    let x = bind_some (field_read first.0) (λ x. field_read x.1 >>= λ y. field_read y.1 >>= λ z. end x.0 y.0 z.0 z.1) (o, rest) first.2 in
+    let y = bind_some (field_read x.0.1) (λ y. field_read y.1 >>= λ z. end x.0.0 y.0 z.0 z.1) (o, rest) x.2 in
+    let z = bind_some (field_read y.0.1) (λ z. end x.0.0 y.0.0 z.0 z.1) (o, rest) y.2 in
+    let r = bind_some (after (10 ∷ []) z.0.1) (λ r. Some (size x.0.0 y.0.0 z.0.0, r)) (o, rest) z.2 in
     let n = field_found first.0 x.0.0 x.0.1 x.1 in
     let m = field_found x.0.1 y.0.0 y.0.1 y.1 in
     let k = field_found y.0.1 z.0.0 z.0.1 z.1 in
-    let parts = some_pair_parts {A = Sizes} (x.0.0, y.0.0, z.0.0) (a, b, c) r.0 rest r.2 in
+    let parts = some_pair_parts (size x.0.0 y.0.0 z.0.0) o r.0 rest r.2 in
     let last : z.0.1 ≡ 10 ∷ rest = after_found (10 ∷ []) z.0.1 r.0 r.1 ∙ ap (λ (l : List ℕ). 10 ∷ l) parts.1 in
     let slots : y.0.1 ≡ field k.0 ++ 10 ∷ rest = k.1 ∙ ap (λ (l : List ℕ). field k.0 ++ l) last in
     let lines : x.0.1 ≡ field m.0 ++ (field k.0 ++ 10 ∷ rest) = m.1 ∙ ap (λ (l : List ℕ). field m.0 ++ l) slots in
     let nodes : first.0 ≡ field n.0 ++ (field m.0 ++ (field k.0 ++ 10 ∷ rest)) = n.1 ∙ ap (λ (l : List ℕ). field n.0 ++ l) lines in
     let regrouped : (codes "machine" ++ (field n.0 ++ (field m.0 ++ (field k.0 ++ 10 ∷ [])))) ++ rest ≡ codes "machine"
-    ++ (field n.0 ++ (field m.0 ++ (field k.0 ++ 10 ∷ rest))) = simp append_assoc in (
-      n.0,
-      m.0,
-      k.0,
+    ++ (field n.0 ++ (field m.0 ++ (field k.0 ++ 10 ∷ rest))) = simp append_assoc in
+    let seen : size (fitting n.0) (fitting m.0) (fitting k.0) ≡ o =
+    ap (λ (v : Option ℕ). size v (fitting m.0) (fitting k.0)) (sym n.2) ∙ ap (λ (v : Option ℕ). size x.0.0 v (fitting k.0)) (sym m.2)
+    ∙ ap (λ (v : Option ℕ). size x.0.0 y.0.0 v) (sym k.2) ∙ parts.0 in (
+      (n.0, m.0, k.0),
       after_found (codes "machine") bytes first.0 first.1 ∙ ap (λ (l : List ℕ). codes "machine" ++ l) nodes ∙ sym regrouped,
-      sym (ap (λ (t : Sizes). t.0) parts.0) ∙ n.2,
-      sym (ap (λ (t : Sizes). t.1) parts.0) ∙ m.2,
-      sym (ap (λ (t : Sizes). t.2) parts.0) ∙ k.2,
+      subst (λ (v : Option Size). SomeIff v (SizeFits (n.0, m.0, k.0)) (n.0, m.0, k.0)) seen (size_is (n.0, m.0, k.0)),
     )
+
+pub size_some : (s : Size) → 0 < length (machine_line s.0 s.1 s.2)
+unfolding machine_line
+size_some s = omega arith
+
+pub size_short : (s : Size) → SizeFits s → IsShort (machine_line s.0 s.1 s.2)
+unfolding machine_line
+size_short s fits =
+    omega (
+      arith,
+      length-append (codes "machine") (field s.0 ++ (field s.1 ++ (field s.2 ++ 10 ∷ []))),
+      length-append (field s.0) (field s.1 ++ (field s.2 ++ 10 ∷ [])),
+      length-append (field s.1) (field s.2 ++ 10 ∷ []),
+      length-append (field s.2) (10 ∷ []),
+      field_short s.0 (omega (arith, fits.0)),
+      field_short s.1 (omega (arith, fits.1.0)),
+      field_short s.2 (omega (arith, fits.1.1)),
+    )
+
+abbrev pub machine_format : Line Size
+machine_format = record {
+  print = λ s. machine_line s.0 s.1 s.2;
+  read = machine_line_read;
+  Fits = SizeFits;
+  again = size_again;
+  found = size_found;
+  nonempty = size_some;
+  short = size_short;
+}
+
+abbrev pub is_size : Size → Type 0
+is_size s = AreWithinLimits s.0 s.1 s.2
+
+-- numbers within their limits fit
+pub limits_fit : (s : Size) → is_size s → SizeFits s
+limits_fit s limits = (omega (arith, limits.few_nodes), (omega (arith, limits.few_lines), omega (arith, limits.few_slots)))
 
 -- ---- the line of an operation
 
@@ -74,7 +129,7 @@ operation_line_again node op rest =
     let gap = codes " " ++ (operation op ++ last) in
     let regrouped : (codes "p" ++ (field node ++ (codes " " ++ (operation op ++ 10 ∷ [])))) ++ rest ≡ codes "p" ++ (field node ++ gap) = simp append_assoc in
     let read = operation_again op last refl in (
-      byte (fitting node) >>= λ n. option_map (λ o. (n, o)) read.0,
+      both (byte (fitting node)) read.0,
       rw (
         regrouped,
         after_again (codes "p") (field node ++ gap),
@@ -114,3 +169,29 @@ operation_line_found bytes o rest e =
       subst (λ (v : Option (ℕ × Op)). SomeIff v ((n.0 < 256) × OpFits op.0) (n.0, op.0)) (ap (λ (v : Option ℕ). both (byte v) y.0.0) (sym n.2) ∙ parts.0)
           (both_is (n.0 < 256) (OpFits op.0) (byte (fitting n.0)) y.0.0 n.0 op.0 (byte_is n.0) op.2),
     )
+
+pub operation_line_short : (p : ℕ × Op) → (p.0 < 256) × OpFits p.1 → IsShort (operation_line p.0 p.1)
+unfolding operation_line
+operation_line_short p fits =
+    omega (
+      arith,
+      length-append (field p.0) (codes " " ++ (operation p.1 ++ 10 ∷ [])),
+      length-append (operation p.1) (10 ∷ []),
+      field_short p.0 (omega (arith, fits.0)),
+      operation_short p.1 fits.1,
+    )
+
+pub found_operation : (bytes : List ℕ) (o : Option (ℕ × Op)) (rest : List ℕ) → operation_line_read bytes ≡ Some (o, rest)
+    → (p : ℕ × Op) × (bytes ≡ operation_line p.0 p.1 ++ rest) × SomeIff o ((p.0 < 256) × OpFits p.1) p
+found_operation bytes o rest e = let f = operation_line_found bytes o rest e in ((f.0, f.1), f.2, f.3)
+
+abbrev pub operation_line_format : Line (ℕ × Op)
+operation_line_format = record {
+  print = λ p. operation_line p.0 p.1;
+  read = operation_line_read;
+  Fits = λ p. (p.0 < 256) × OpFits p.1;
+  again = λ p rest. operation_line_again p.0 p.1 rest;
+  found = found_operation;
+  nonempty = λ p. line_nonempty p.0 p.1;
+  short = operation_line_short;
+}

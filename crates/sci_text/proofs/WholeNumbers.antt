@@ -4,7 +4,7 @@ use Rattle.std.proofs.lemmas.Bool.{cases_lt, eqb-true}
 use Rattle.std.proofs.lemmas.List.{append-nil}
 use Rattle.sci_text.specs.Number.{number}
 use Rattle.sci_text.specs.Reading.{fitting, number_read}
-use Rattle.sci_text.proofs.ScriptFaults.{fitting_some}
+use Rattle.sci_text.proofs.Numbers.{fitting_some}
 use Rattle.sci_text.proofs.Numbers.{fitting_above, fitting_below, number_again, number_found}
 
 -- what is read, if it is all there is

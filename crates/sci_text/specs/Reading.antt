@@ -1,14 +1,19 @@
 -- What the private readers of the code answer, step by step from left to right: what is read, and the bytes
 -- after it. No public contract rests on these words: Script, Schedule and Log say what a text is, and laws in proofs/
 -- join the two.
-use Rattle.std.specs.Prelude.{◌≡◌, ℕ, ◌+◌, ◌-◌, ◌*◌, ◌^◌, Bool, List, [], ◌∷◌, Option, Some, None, option_map, option_and_then, nat_lt, nat_le, ◌&&◌, ◌==◌}
+use Rattle.std.specs.Prelude.{◌≡◌, ℕ, ◌+◌, ◌-◌, ◌*◌, ◌^◌, Bool, ◌<◌, ◌≤◌, ◌⊎◌, List, [], ◌∷◌, ◌++◌, length, Option, Some, None, option_map, option_and_then}
+use Rattle.std.specs.Prelude.{nat_lt, nat_le, ◌&&◌, ◌==◌}
 use Rattle.std.specs.Prelude.{if◌then◌else◌}
 use Rattle.std.specs.Prelude.{codes}
+use denote.Ref.{Bor}
 use Rattle.sci_words.specs.declared.operation.LockOp.{LockOp}
 use Rattle.sci_words.specs.declared.operation.LockOp.TheVariants.{MaskSwap, CompareSwap, FetchAdd, BoundedAdd, WrapAdd}
 use Rattle.sci_words.specs.declared.operation.Act.{Act}
 use Rattle.sci_words.specs.declared.operation.Act.TheVariants.{Load, Store, Lock}
 use Rattle.sci_words.specs.declared.operation.Op.{Op}
+use Rattle.sci_words.specs.declared.limits.TheConstants.{MAX_TEXT_LINE_BYTES}
+use Rattle.sci_text.specs.declared.fault.TextFaultKind.{TextFaultKind}
+use Rattle.sci_text.specs.declared.fault.TextFaultKind.TheVariants.{Syntax, Range, TooMany, Read, Write, Memory}
 use Rattle.sci_text.specs.declared.operation.Command.{Command}
 use Rattle.sci_text.specs.declared.operation.Command.TheVariants as commands
 
@@ -127,3 +132,24 @@ unfoldable pub operation_read : List ℕ → Option (Option Op × List ℕ)
 operation_read bytes = do
   command ← command_read bytes
   operation_after command.0 command.1
+
+-- ---- lines
+
+-- the bytes are a line and the rest, and the new value is the old one with what the line says
+pub record Adds {V X : Type 0} (line_of : X → List ℕ) (added_to : V → X → V) (old new : V) (bytes rest : List ℕ) : Type 0 where
+  pub said : X
+  pub parts : bytes ≡ line_of said ++ rest
+  pub added : new ≡ added_to old said
+
+-- what was read, as the bytes that are left
+abbrev pub read_of : {X : Type 0} → X × Bor (List ℕ) → X × List ℕ
+read_of x = (x.0, x.1.now)
+
+-- why nothing comes of a line, from what was read of it: nothing was, or it is too long, or a number doesn't fit
+abbrev pub IsUnsaid : {X : Type 0} → List ℕ → Option (Option X × List ℕ) → TextFaultKind → Type 0
+IsUnsaid bytes read Syntax = (read ≡ None) ⊎ ((o : _) × (rest : List ℕ) × (read ≡ Some (o, rest)) × (length rest + MAX_TEXT_LINE_BYTES + 1 < length bytes))
+IsUnsaid bytes read Range = (rest : List ℕ) × (read ≡ Some (None, rest)) × (length bytes ≤ length rest + MAX_TEXT_LINE_BYTES + 1)
+IsUnsaid bytes read TooMany = ⊥
+IsUnsaid bytes read Read = ⊥
+IsUnsaid bytes read Write = ⊥
+IsUnsaid bytes read Memory = ⊥

@@ -8,10 +8,9 @@ use Rattle.sci_words.specs.declared.event.Event.{Event}
 use Rattle.sci_words.specs.declared.event.Event.TheVariants.{Issue, Perform, Ask, Serve, Refuse, Reply, Accept}
 use Rattle.sci_words.specs.Extent.{AreWithinLimits}
 use Rattle.sci_text.specs.declared.script.PushFault.{PushFault}
-use Rattle.sci_text.specs.declared.script.PushFault.TheVariants as push
 use Rattle.sci_text.specs.Number.{field}
 use Rattle.sci_text.specs.Operation.{operation}
-use Rattle.sci_text.specs.Script.{IsWithin, machine_line}
+use Rattle.sci_text.specs.Script.{IsWithin, Refusal, machine_line}
 
 -- a machine's size, and events in text order
 pub record ScheduleValue : Type 0 where
@@ -45,9 +44,8 @@ with_event s event = record s { events = s.events ++ event ∷ [] }
 
 -- why an event is not added
 abbrev pub EventRefusal : ScheduleValue → Event → PushFault → Type 0
-EventRefusal s event push.Range = IsEventWithin s.nodes s.lines event → ⊥
-EventRefusal s event push.TooMany = IsEventWithin s.nodes s.lines event × (MAX_EVENTS ≤ length s.events)
-EventRefusal s event push.Memory = IsEventWithin s.nodes s.lines event × (length s.events < MAX_EVENTS)
+EventRefusal s event fault =
+    Refusal (IsEventWithin s.nodes s.lines event) (MAX_EVENTS ≤ length s.events) (length s.events < MAX_EVENTS) fault
 
 -- ---- the text
 

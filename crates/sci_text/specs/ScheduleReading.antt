@@ -1,6 +1,6 @@
 -- What the private readers of events answer, step by step from left to right: what is read, and the bytes after it. No
 -- public contract rests on these words; laws in proofs/ join them to the texts.
-use Rattle.std.specs.Prelude.{◌≡◌, ℕ, List, [], ◌∷◌, ◌++◌, Option, Some, option_map, codes}
+use Rattle.std.specs.Prelude.{ℕ, List, [], ◌∷◌, Option, Some, option_map, codes}
 use Rattle.sci_words.specs.declared.event.AskKind.{AskKind}
 use Rattle.sci_words.specs.declared.event.AskKind.TheVariants.{Mread, Fread, Cread, Claim, Clear, Purge, Roll, Wback, Setback}
 use Rattle.sci_words.specs.declared.event.Event.{Event}
@@ -8,7 +8,7 @@ use Rattle.sci_words.specs.declared.event.Event.TheVariants as events
 use Rattle.sci_text.specs.declared.schedule_event.Verb.{Verb}
 use Rattle.sci_text.specs.declared.schedule_event.Verb.TheVariants as verbs
 use Rattle.sci_text.specs.Reading.{◌>>=◌, field_read, after, byte, both, spelled, operation_read}
-use Rattle.sci_text.specs.Schedule.{ScheduleValue, kind_word, event_line, with_event}
+use Rattle.sci_text.specs.Schedule.{kind_word}
 
 abbrev pub all_kinds : List AskKind
 all_kinds = Mread ∷ Fread ∷ Cread ∷ Claim ∷ Clear ∷ Purge ∷ Roll ∷ Wback ∷ Setback ∷ []
@@ -68,9 +68,3 @@ event_line_read bytes = do
   verb ← verb_read bytes
   first ← field_read verb.1
   line_after_read verb.0 first.0 first.1
-
--- the bytes are a line and the rest, and the new schedule is the old one with the event that the line says
-pub record AddsEvent (old new : ScheduleValue) (bytes rest : List ℕ) : Type 0 where
-  pub event : Event
-  pub parts : bytes ≡ event_line event ++ rest
-  pub added : new ≡ with_event old event

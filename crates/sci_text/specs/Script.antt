@@ -42,11 +42,16 @@ pub record IsScript (s : ScriptValue) : Type 0 where
 abbrev pub with_operation : ScriptValue → ℕ → Op → ScriptValue
 with_operation s node op = record s { operations = s.operations ++ (node, op) ∷ [] }
 
+-- why something is not added: it is not within the machine, or there is no room for it, or no memory
+abbrev pub Refusal : Type 0 → Type 0 → Type 0 → PushFault → Type 0
+Refusal within full room push.Range = within → ⊥
+Refusal within full room push.TooMany = within × full
+Refusal within full room push.Memory = within × room
+
 -- why an operation is not added
 abbrev pub PushRefusal : ScriptValue → ℕ → Op → PushFault → Type 0
-PushRefusal s node op push.Range = IsWithin s.nodes s.lines node op → ⊥
-PushRefusal s node op push.TooMany = IsWithin s.nodes s.lines node op × (MAX_OPERATIONS ≤ count_of node s.operations)
-PushRefusal s node op push.Memory = IsWithin s.nodes s.lines node op × (count_of node s.operations < MAX_OPERATIONS)
+PushRefusal s node op fault =
+    Refusal (IsWithin s.nodes s.lines node op) (MAX_OPERATIONS ≤ count_of node s.operations) (count_of node s.operations < MAX_OPERATIONS) fault
 
 -- the fault of a text that such a refusal is
 abbrev pub kind_of : PushFault → TextFaultKind

@@ -2,13 +2,13 @@
 
 ghost use Rattle.std.specs.Prelude.{◌≡◌, ◌≤◌, ◌⊎◌, ◌++◌, IfOk, IfErr, OnErr};
 ghost use Rattle.sci_text.specs.declared.fault.TextFaultKind.TheVariants.{Memory};
-ghost use Rattle.sci_text.specs.Schedule.{IsSchedule, schedule_text};
-ghost use Rattle.sci_text.specs.ScheduleReading.{AddsEvent};
+ghost use Rattle.sci_text.specs.Reading.{Adds};
+ghost use Rattle.sci_text.specs.Schedule.{IsSchedule, event_line, schedule_text, with_event};
 ghost use Rattle.sci_text.specs.FirstFault.{IsRefusal};
 ghost use Rattle.sci_text.specs.ScheduleFault.{EventFault, IsScheduleFault};
 
 use crate::fault::{TextFault, TextFaultKind, at_line};
-use crate::line_length::check_length;
+use crate::line_length::said_line;
 use crate::schedule::Schedule;
 use crate::schedule_event::event_line;
 use crate::script_lines::machine;
@@ -17,19 +17,13 @@ use std::alloc::Global;
 /// Adds the event that the first line of `bytes` says, and answers the bytes after the line.
 fn push_event<'a>(schedule: &mut Schedule, bytes: &'a [u8]) -> Result<&'a [u8], TextFaultKind>
     requires { IsSchedule schedule.old }
-    ensures ok { IfOk result (λ rest. AddsEvent schedule.old schedule.new bytes.now rest.now) }
+    ensures ok { IfOk result (λ rest. Adds event_line with_event schedule.old schedule.new bytes.now rest.now) }
     ensures fault { IfErr result (λ kind.
         (kind ≡ Memory) ⊎ EventFault schedule.old bytes.now kind) }
     ensures same { OnErr result (schedule.new ≡ schedule.old) }
     ensures good { IsSchedule schedule.new }
 {
-    let Some((said, rest)) = event_line(bytes) else {
-        return Err(TextFaultKind::Syntax);
-    };
-    check_length(bytes, rest)?;
-    let Some(event) = said else {
-        return Err(TextFaultKind::Range);
-    };
+    let (event, rest) = said_line(bytes, event_line(bytes))?;
     schedule.push(event)?;
     Ok(rest)
 }

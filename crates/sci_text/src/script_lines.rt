@@ -1,27 +1,33 @@
 //! Lines of a script, and the whole of its text.
 
-ghost use Rattle.std.specs.Prelude.{◌≡◌, ◌≤◌, ◌⊎◌, ◌++◌, IfOk, IfErr, OnErr, IfNone, IfSome, Some, ℕ};
+ghost use Rattle.std.specs.Prelude.{◌≡◌, ◌≤◌, ◌⊎◌, ◌++◌, IfOk, IfErr, OnErr, option_map};
 ghost use Rattle.sci_text.specs.declared.fault.TextFaultKind.TheVariants.{Memory};
-ghost use Rattle.sci_words.specs.Extent.{AreWithinLimits};
-ghost use Rattle.sci_text.specs.Reading.{Gives};
-ghost use Rattle.sci_text.specs.ScriptReading.{machine_line_read, operation_line_read};
+ghost use Rattle.sci_text.specs.Reading.{Gives, byte, both};
+ghost use Rattle.sci_text.specs.ScriptReading.{AddsLine, size_of, machine_line_read, operation_line_read};
 ghost use Rattle.sci_text.specs.Script.{IsScript, machine_line, script_text};
-ghost use Rattle.sci_text.specs.ScriptReading.{AddsLine};
 ghost use Rattle.sci_text.specs.FirstFault.{IsShort};
 ghost use Rattle.sci_text.specs.FirstFault.{IsRefusal};
 ghost use Rattle.sci_text.specs.ScriptFault.{IsScriptFault, MachineFault, OperationFault};
 
 use crate::fault::{TextFault, TextFaultKind, at_line};
-use crate::line_length::check_length;
+use crate::line_length::said_line;
 use crate::number::{Number, field};
 use crate::operation::{after, byte, operation};
 use crate::script::Script;
 use sci_words::{Extent, Op};
 use std::alloc::Global;
 
-/// The numbers of the line `machine N M C` at the front of `bytes`, and the bytes after the line.
+/// The size of these numbers, or None if one of them doesn't fit a byte.
+fn size(nodes: Number, lines: Number, slots: Number) -> Option<(u8, u8, u8)>
+    ensures { result ≡ option_map size_of (both (byte nodes) (both (byte lines) (byte slots))) }
+{
+    Some((byte(nodes)?, byte(lines)?, byte(slots)?))
+}
+
+/// The size of the line `machine N M C` at the front of `bytes`, or None if a number doesn't fit its type, and the bytes
+/// after the line.
 #[tactic(auto, unfolding(crate::specs::ScriptReading::machine_line_read))]
-fn machine_line(bytes: &[u8]) -> Option<((Number, Number, Number), &[u8])>
+fn machine_line(bytes: &[u8]) -> Option<(Option<(u8, u8, u8)>, &[u8])>
     ensures { Gives (λ x. (x.0, x.1.now)) result (machine_line_read bytes.now) }
 {
     let rest = after(bytes, b"machine")?;
@@ -29,7 +35,7 @@ fn machine_line(bytes: &[u8]) -> Option<((Number, Number, Number), &[u8])>
     let (lines, rest) = field(rest)?;
     let (slots, rest) = field(rest)?;
     let rest = after(rest, b"\n")?;
-    Some(((nodes, lines, slots), rest))
+    Some((size(nodes, lines, slots), rest))
 }
 
 /// The node and the operation of the line `p n OP` at the front of `bytes`, or None if a number doesn't fit
@@ -46,17 +52,6 @@ fn operation_line(bytes: &[u8]) -> Option<(Option<(u8, Op)>, &[u8])>
     Some((byte(node).zip(op), rest))
 }
 
-/// The size of these numbers, if they are within their limits.
-fn size(nodes: Number, lines: Number, slots: Number) -> Option<Extent>
-    ensures nodes { IfSome result (λ extent. nodes ≡ Some extent.nodes) }
-    ensures lines { IfSome result (λ extent. lines ≡ Some extent.lines) }
-    ensures slots { IfSome result (λ extent. slots ≡ Some extent.slots) }
-    ensures none { IfNone result ((n m c : ℕ)
-        → nodes ≡ Some n → lines ≡ Some m → slots ≡ Some c → AreWithinLimits n m c → ⊥) }
-{
-    Extent::new(byte(nodes)?, byte(lines)?, byte(slots)?)
-}
-
 /// The size that the first line of a script says, and the bytes after the line.
 pub fn machine(bytes: &[u8]) -> Result<(Extent, &[u8]), TextFaultKind>
     ensures ok { IfOk result (λ x.
@@ -64,11 +59,8 @@ pub fn machine(bytes: &[u8]) -> Result<(Extent, &[u8]), TextFaultKind>
     ensures short { IfOk result (λ x. IsShort (machine_line x.0.nodes x.0.lines x.0.slots)) }
     ensures fault { IfErr result (MachineFault bytes.now) }
 {
-    let Some(((nodes, lines, slots), rest)) = machine_line(bytes) else {
-        return Err(TextFaultKind::Syntax);
-    };
-    check_length(bytes, rest)?;
-    let Some(extent) = size(nodes, lines, slots) else {
+    let ((nodes, lines, slots), rest) = said_line(bytes, machine_line(bytes))?;
+    let Some(extent) = Extent::new(nodes, lines, slots) else {
         return Err(TextFaultKind::Range);
     };
     Ok((extent, rest))
@@ -83,13 +75,7 @@ fn push_line<'a>(script: &mut Script, bytes: &'a [u8]) -> Result<&'a [u8], TextF
     ensures same { OnErr result (script.new ≡ script.old) }
     ensures good { IsScript script.new }
 {
-    let Some((said, rest)) = operation_line(bytes) else {
-        return Err(TextFaultKind::Syntax);
-    };
-    check_length(bytes, rest)?;
-    let Some((node, op)) = said else {
-        return Err(TextFaultKind::Range);
-    };
+    let ((node, op), rest) = said_line(bytes, operation_line(bytes))?;
     script.push(node, op)?;
     Ok(rest)
 }

@@ -1,5 +1,6 @@
-use Rattle.sci_text.proofs.ScheduleUnique.{one_schedule}
+use Rattle.sci_text.proofs.Schedules.{schedules}
+use Rattle.sci_text.proofs.Listings.{one_value}
 use Rattle.sci_text.proofs.schedule_laws.one_schedule.Goals as goal
 
 pub returns : goal.returns
-returns c = one_schedule
+returns c = one_value schedules

@@ -1,5 +1,6 @@
-use Rattle.sci_text.proofs.ScheduleUnique.{one_fault}
+use Rattle.sci_text.proofs.Schedules.{schedules}
+use Rattle.sci_text.proofs.Listings.{one_fault}
 use Rattle.sci_text.proofs.schedule_laws.one_schedule_fault.Goals as goal
 
 pub returns : goal.returns
-returns c = one_fault
+returns c = one_fault schedules

@@ -1,4 +1,4 @@
-use Rattle.sci_text.proofs.ScheduleUnique.{schedule_short}
+use Rattle.sci_text.proofs.Schedules.{schedule_short}
 use Rattle.sci_text.proofs.schedule_laws.schedules_are_short.Goals as goal
 
 pub returns : goal.returns

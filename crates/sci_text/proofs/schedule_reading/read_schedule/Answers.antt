@@ -1,6 +1,7 @@
 use Rattle.std.proofs.Common.{◌≡◌, ◌∙◌}
 use Rattle.sci_text.specs.Schedule.{schedule_text}
-use Rattle.sci_text.proofs.ScheduleUnique.{schedule_read_as}
+use Rattle.sci_text.proofs.Listings.{value_read}
+use Rattle.sci_text.proofs.Schedules.{schedules}
 use Rattle.sci_text.specs.Tap.{has_failed, tapped}
 use Rattle.sci_text.specs.ScheduleFault.{IsScheduleFault}
 use Rattle.sci_text.proofs.FirstFaults.{told_of_bytes}
@@ -9,8 +10,8 @@ use Rattle.sci_text.proofs.schedule_reading.read_schedule.Goals as goal
 pub returns-clause-only : goal.returns-clause-only
 returns-clause-only g c = λ schedule good few known.
     let text : c.in_ok-input.input.items ≡ schedule_text schedule = rw known at c.in_ok-input.ensures.read.same in
-    schedule_read_as schedule c.deref.result.now c.schedule_of.result good (c.deref.ensures.value ∙ text) c.schedule_of.ensures.ok c.schedule_of.ensures.good
-    c.schedule_of.ensures.fault
+    value_read schedules schedule c.deref.result.now c.schedule_of.result good (c.deref.ensures.value ∙ text) c.schedule_of.ensures.ok
+    c.schedule_of.ensures.good c.schedule_of.ensures.fault
 
 pub returns-clause-fault : goal.returns-clause-fault
 returns-clause-fault g c =

@@ -1,5 +1,6 @@
-use Rattle.sci_text.proofs.ScriptUnique.{one_fault}
+use Rattle.sci_text.proofs.Scripts.{scripts}
+use Rattle.sci_text.proofs.Listings.{one_fault}
 use Rattle.sci_text.proofs.script_laws.one_fault.Goals as goal
 
 pub returns : goal.returns
-returns c = one_fault
+returns c = one_fault scripts

@@ -1,5 +1,6 @@
-use Rattle.sci_text.proofs.ScriptUnique.{one_script}
+use Rattle.sci_text.proofs.Scripts.{scripts}
+use Rattle.sci_text.proofs.Listings.{one_value}
 use Rattle.sci_text.proofs.script_laws.one_script.Goals as goal
 
 pub returns : goal.returns
-returns c = one_script
+returns c = one_value scripts

@@ -1,34 +1,39 @@
+use Rattle.std.proofs.Common.{◌≡◌, ◌++◌, ap, ◌∙◌}
+use Rattle.std.proofs.lemmas.Bool.{false≢true}
 use Rattle.std.proofs.lemmas.Result.{err_from_is_err_and}
-use Rattle.sci_text.proofs.ScriptFaults.{machine_none, machine_long, machine_range, machine_ok}
-use Rattle.sci_text.proofs.LineLengths.{line_short}
 use Rattle.sci_text.specs.Script.{machine_line}
+use Rattle.sci_text.proofs.LineLengths.{line_short}
+use Rattle.sci_text.proofs.Lines.{said_fault, said_is, says}
+use Rattle.sci_text.proofs.ScriptReads.{Size, machine_format, is_size, limits_fit}
 use Rattle.sci_text.proofs.script_lines.machine.Goals as goal
 
-pub returns-in_default-clause-fault : goal.returns-in_default-clause-fault
-returns-in_default-clause-fault c = machine_none c.args.bytes.now c.in_default.ensures
-
-pub returns-in_err-check_length-clause-fault : goal.returns-in_err-check_length-clause-fault
-returns-in_err-check_length-clause-fault c =
+pub returns-in_err-nodes-clause-fault : goal.returns-in_err-nodes-clause-fault
+returns-in_err-nodes-clause-fault c =
     let e = err_from_is_err_and c.from_residual.result c.from_residual.ensures.1 in
-    rw (e.1, e.2, c.in_err-check_length.ensures.fault)
-    (machine_long c.args.bytes.now (c.in-Some.nodes, c.in-Some.lines, c.in-Some.slots) c.in-Some.rest.now c.in-Some.ensures
-    c.in_err-check_length.ensures.long)
+    rw (e.1, e.2) (said_fault machine_format is_size (λ s. ⊥) limits_fit c.args.bytes.now c.machine_line.result c.machine_line.ensures
+    c.in_err-nodes.field-0.0 c.in_err-nodes.ensures.fault)
 
-pub returns-in_default-size-clause-fault : goal.returns-in_default-size-clause-fault
-returns-in_default-size-clause-fault c =
-    machine_range c.args.bytes.now c.in-Some.nodes c.in-Some.lines c.in-Some.slots c.in-Some.rest.now c.in-Some.ensures c.in_ok-check_length.ensures.short
-    c.in_default-size.ensures.none
+pub returns-in_default-clause-fault : goal.returns-in_default-clause-fault
+returns-in_default-clause-fault c = (
+  (c.in_ok-nodes.nodes, c.in_ok-nodes.lines, c.in_ok-nodes.slots),
+  says machine_format c.args.bytes.now c.machine_line.result c.machine_line.ensures
+      (c.in_ok-nodes.nodes, c.in_ok-nodes.lines, c.in_ok-nodes.slots) c.in_ok-nodes.rest.now c.in_ok-nodes.ensures.said c.in_ok-nodes.ensures.short,
+  λ limits. false≢true (c.in_default.ensures.within.1 limits),
+)
+
+parts : (c : goal.In-Some) → c.args.bytes.now ≡ machine_line c.in-Some.extent.nodes c.in-Some.extent.lines c.in-Some.extent.slots ++ c.in_ok-nodes.rest.now
+parts c =
+    let same : ◌≡◌ {A = Size} (c.in_ok-nodes.nodes, c.in_ok-nodes.lines, c.in_ok-nodes.slots) (
+      c.in-Some.extent.nodes,
+      c.in-Some.extent.lines,
+      c.in-Some.extent.slots,
+    ) = cc (c.in-Some.ensures.nodes, c.in-Some.ensures.lines, c.in-Some.ensures.slots) in
+    said_is machine_format c.args.bytes.now c.machine_line.result c.machine_line.ensures
+    (c.in_ok-nodes.nodes, c.in_ok-nodes.lines, c.in_ok-nodes.slots) c.in_ok-nodes.rest.now c.in_ok-nodes.ensures.said
+    ∙ ap (λ (s : Size). machine_line s.0 s.1 s.2 ++ c.in_ok-nodes.rest.now) same
 
 pub returns-clause-ok : goal.returns-clause-ok
-returns-clause-ok c =
-    let extent = c.in-Some-size.extent in
-    machine_ok c.args.bytes.now c.in-Some.nodes c.in-Some.lines c.in-Some.slots c.in-Some.rest.now extent.nodes extent.lines extent.slots c.in-Some.ensures
-    c.in-Some-size.ensures.nodes c.in-Some-size.ensures.lines c.in-Some-size.ensures.slots
+returns-clause-ok c = parts c
 
 pub returns-clause-short : goal.returns-clause-short
-returns-clause-short c =
-    let extent = c.in-Some-size.extent in
-    line_short c.args.bytes.now (machine_line extent.nodes extent.lines extent.slots) c.in-Some.rest.now
-    (machine_ok c.args.bytes.now c.in-Some.nodes c.in-Some.lines c.in-Some.slots c.in-Some.rest.now extent.nodes extent.lines extent.slots c.in-Some.ensures
-    c.in-Some-size.ensures.nodes c.in-Some-size.ensures.lines c.in-Some-size.ensures.slots)
-    c.in_ok-check_length.ensures.short
+returns-clause-short c = line_short c.args.bytes.now _ c.in_ok-nodes.rest.now (parts c) c.in_ok-nodes.ensures.short

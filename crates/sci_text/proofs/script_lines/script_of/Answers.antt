@@ -1,9 +1,10 @@
 use Rattle.sci_text.proofs.Results.{ok_then}
-use Rattle.sci_text.proofs.ScriptText.{line_shrinks}
+use Rattle.sci_text.proofs.Listings.{line_shrinks}
+use Rattle.sci_text.proofs.Scripts.{scripts}
 use Rattle.sci_text.proofs.script_lines.script_of.Goals as goal
 
 pub loop-rest-smaller : goal.loop-rest-smaller
 loop-rest-smaller c =
     let adds = ok_then _ c.push_line.result c.at_line-in-loop-rest.result _ c.in_ok-rest.rest c.at_line-in-loop-rest.ensures c.in_ok-rest.was
     c.push_line.ensures.ok in
-    line_shrinks c.loop-rest.script c.push_line.new.script c.loop-rest.rest.now c.in_ok-rest.rest.now adds
+    line_shrinks scripts adds.said c.loop-rest.rest.now c.in_ok-rest.rest.now adds.parts

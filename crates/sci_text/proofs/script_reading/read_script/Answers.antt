@@ -1,6 +1,7 @@
 use Rattle.std.proofs.Common.{◌≡◌, ◌∙◌}
 use Rattle.sci_text.specs.Script.{script_text}
-use Rattle.sci_text.proofs.ScriptUnique.{script_read_as}
+use Rattle.sci_text.proofs.Listings.{value_read}
+use Rattle.sci_text.proofs.Scripts.{scripts}
 use Rattle.sci_text.specs.Tap.{has_failed, tapped}
 use Rattle.sci_text.specs.ScriptFault.{IsScriptFault}
 use Rattle.sci_text.proofs.FirstFaults.{told_of_bytes}
@@ -9,7 +10,7 @@ use Rattle.sci_text.proofs.script_reading.read_script.Goals as goal
 pub returns-clause-only : goal.returns-clause-only
 returns-clause-only g c = λ script good few known.
     let text : c.in_ok-input.input.items ≡ script_text script = rw known at c.in_ok-input.ensures.read.same in
-    script_read_as script c.deref.result.now c.script_of.result good (c.deref.ensures.value ∙ text) c.script_of.ensures.ok c.script_of.ensures.good
+    value_read scripts script c.deref.result.now c.script_of.result good (c.deref.ensures.value ∙ text) c.script_of.ensures.ok c.script_of.ensures.good
     c.script_of.ensures.fault
 
 pub returns-clause-fault : goal.returns-clause-fault
