@@ -1,20 +1,13 @@
 -- What is seen of one run.
-use Rattle.std.proofs.Common.{◌≡◌, ℕ, ◌<◌, ◌+◌, Bool, true, All, List, [], ◌∷◌, ◌++◌, Some, length, length-append, sym, ap, subst, arith, ◌∙◌, inl, inr}
+use Rattle.std.proofs.Common.{◌≡◌, ℕ, ◌<◌, ◌+◌, Bool, true, List, [], ◌∷◌, ◌++◌, Some, length, length-append, sym, subst, arith, inl, inr}
 use Rattle.std.specs.Prelude.{slice_index_or}
 use Rattle.std.proofs.lemmas.Bool.{cases_lt}
 use Rattle.std.proofs.lemmas.List.{get_or-append-add, get_or_append_left}
-use Rattle.std.proofs.lemmas.List.FromFn.{length-map-range_with_len}
 use Rattle.sci_words.specs.declared.stamped.Stamped.{Stamped}
 use Rattle.sci_history.specs.declared.entry.Entry.{Entry}
-use Rattle.sci_history.specs.Audit.{AreWithin}
 use Rattle.sci_history.specs.Lawful.{Lawful}
 use Rattle.sci_history.specs.Sequential.{IsSequentiallyConsistent}
 use Rattle.sci_text.specs.Script.{ScriptValue}
-use Rattle.sci_core.specs.Outcome.{logs_of}
-use Rattle.sci_core.specs.Sharing.{last_at}
-use Rattle.sci_core.specs.Size.{Size}
-use Rattle.sci_core.proofs.ReachedLaws.{reached_within}
-use Rattle.sci_threads.specs.Shares.{AreLedTo, size_for}
 use Rattle.sci_text.specs.Schedule.{ScheduleValue}
 use Rattle.sci_drive.specs.declared.driver.Issuing.{Issuing}
 use Rattle.sci_runs.specs.Played.{IsPlayed}
@@ -22,7 +15,7 @@ use Rattle.sci_runs.specs.Runs.{IsRunOf, last_behind, logs_behind}
 use Rattle.sci_outcomes.specs.declared.histogram.Histogram.{Histogram}
 use Rattle.sci_outcomes.specs.declared.outcome.Sighting.{Sighting}
 use Rattle.sci_outcomes.specs.declared.place.Place.{Place}
-use Rattle.sci_outcomes.specs.Outcomes.{IsPlaceWithin, IsSeen, written_places}
+use Rattle.sci_outcomes.specs.Outcomes.{IsSeen, written_places}
 use Rattle.sci_outcomes.specs.Rows.{HasCounted}
 use Rattle.sci_outcomes.specs.Trials.{IsDrawnSighting}
 
@@ -46,22 +39,6 @@ drawn_sighting script issuing seed rounds done schedule places logs last sightin
           (subst (λ (l : List Stamped). IsSeen places (logs_behind script schedule) l sighting) last_are
           (subst (λ (ls : List (List Entry)). IsSeen places ls last sighting) logs_are seen));
     }
-
--- the lines of logs and last contents of the script's machine
-pub led_lines : (script : ScriptValue) (logs : List (List Entry)) (last : List Stamped) → AreLedTo (size_for script) logs last → length last ≡ script.lines
-led_lines script logs last led =
-    ap (λ (ls : List Stamped). length ls) led.last_are
-    ∙ (length-map-range_with_len (last_at led.core) 0 led.core.size.lines ∙ ap (λ (z : Size). z.lines) led.led.sized)
-
-pub led_within : (script : ScriptValue) (logs : List (List Entry)) (last : List Stamped) → AreLedTo (size_for script) logs last → AreWithin (length last) logs
-led_within script logs last led =
-    subst (λ n. AreWithin n logs) (sym (led_lines script logs last led))
-    (subst (λ (ls : List (List Entry)). AreWithin script.lines ls) (sym led.logs_are)
-    (subst (λ (z : Size). AreWithin z.lines (logs_of led.core)) led.led.sized (reached_within led.core led.led.reached)))
-
-pub led_places : (script : ScriptValue) (logs : List (List Entry)) (last : List Stamped) (places : List Place) → AreLedTo (size_for script) logs last
-    → All (IsPlaceWithin script.lines) places → All (IsPlaceWithin (length last)) places
-led_places script logs last places led within = subst (λ n. All (IsPlaceWithin n) places) (sym (led_lines script logs last led)) within
 
 -- one more of them
 pub seen_more : (P : ℕ → Sighting → Type 0) (old new : Histogram) (number : ℕ) (x : Sighting)

@@ -1,22 +1,17 @@
 //! A script that is run many times, and its outcomes.
 
-ghost use Rattle.std.specs.Prelude.{◌≡◌, true, IfOk};
-ghost use Rattle.sci_history.specs.Lawful.{Lawful};
-ghost use Rattle.sci_history.specs.Sequential.{AreInProgramOrder, IsSequentiallyConsistent};
-ghost use Rattle.sci_drive.specs.declared.driver.Issuing.TheVariants.{InOrder};
-ghost use Rattle.sci_threads.specs.Shares.{AreLedTo, HaveWholeLogsOf, size_for};
+ghost use Rattle.std.specs.Prelude.{◌≡◌, IfOk};
 ghost use Rattle.sci_outcomes.specs.Trials.{AreOutcomes, AreWrittenBy, IsDrawnSighting, IsSightingOf, IsThreadSighting};
 
 use crate::histogram::{Histogram, Row};
 use crate::outcome::{Sighting, seen};
 use crate::place::{Place, written_places};
 use sci_drive::Issuing;
-use sci_history::{Last, Logs};
 use sci_runs::{Plan, RunFault, run_script};
 use sci_text::Script;
-use sci_threads::{YieldingGate, run_in_order, run_nodes};
+use sci_threads::{YieldingGate, run_to_machine};
 use sci_words::MAX_TURNS;
-use std::alloc::{AllocError, Global};
+use std::alloc::Global;
 use std::sync::atomic::AtomicU64;
 use std::thread::Threads;
 
@@ -84,30 +79,8 @@ fn drawn_run(alloc: Global, litmus: Litmus<'_>, seed: u64) -> Result<Sighting, R
     Ok(seen(alloc, litmus.places, &run.logs, &run.last)?)
 }
 
-/// Runs a script with one thread a node, each for at most 1,000,000,000 turns, and gives the logs, the last contents, and
-/// whether all nodes have finished. Refused if memory is.
-fn run_by_threads<R: Threads + Sync>(
-    rt: &R,
-    alloc: Global,
-    script: &Script,
-    issuing: Issuing,
-) -> Result<(Logs, Last, bool), AllocError>
-    ensures ordered { IfOk result (λ ran. issuing ≡ InOrder → AreInProgramOrder ran.0) }
-    ensures whole { IfOk result (λ ran. ran.2 ≡ true → HaveWholeLogsOf script.now ran.0) }
-    ensures led { IfOk result (λ ran. AreLedTo (size_for script.now) ran.0 ran.1) }
-    ensures lawful { IfOk result (λ ran. Lawful ran.0 ran.1) }
-    ensures consistent { IfOk result (λ ran. IsSequentiallyConsistent ran.0 ran.1) }
-{
-    let done = AtomicU64::new(0);
-    let gates = YieldingGate::for_nodes(alloc, script.extent().nodes, &done)?;
-    match issuing {
-        Issuing::Ahead => run_nodes(rt, alloc, script, gates, MAX_TURNS),
-        Issuing::InOrder => run_in_order(rt, alloc, script, gates, MAX_TURNS),
-    }
-}
-
-/// Runs a script by threads, and gives what is seen of the run. Refused if memory is, and as too many if a node's turns are
-/// used up before each operation is performed.
+/// Runs a script with one thread a node, each for at most 1,000,000,000 turns, and gives what is seen of the run. Refused if
+/// memory is, and as too many if a node's turns are used up before each operation is performed.
 fn threaded_run<R: Threads + Sync>(
     rt: &R,
     alloc: Global,
@@ -116,10 +89,20 @@ fn threaded_run<R: Threads + Sync>(
     requires { AreWrittenBy litmus.script.now litmus.places.now }
     ensures { IfOk result (IsThreadSighting litmus.entry.script.now litmus.entry.issuing) }
 {
-    let (logs, last, finished) = run_by_threads(rt, alloc, litmus.script, litmus.issuing)?;
+    let done = AtomicU64::new(0);
+    let gates = YieldingGate::for_nodes(alloc, litmus.script.extent().nodes, &done)?;
+    let (machine, finished) = run_to_machine(
+        rt,
+        alloc,
+        litmus.script,
+        gates,
+        litmus.issuing,
+        MAX_TURNS,
+    )?;
     if !finished {
         return Err(RunFault::TooMany);
     }
+    let (logs, last) = machine.finish(alloc);
     Ok(seen(alloc, litmus.places, &logs, &last)?)
 }
 

@@ -1,26 +1,33 @@
-use Rattle.std.proofs.Common.{List, subst}
+use Rattle.std.proofs.Common.{ℕ, All, List, sym, ap, subst, ◌∙◌}
+use Rattle.sci_history.specs.Audit.{AreWithin}
+use Rattle.sci_history.specs.Sequential.{AreInProgramOrder}
+use Rattle.sci_core.specs.Size.{Size}
+use Rattle.sci_threads.specs.Shares.{HaveWholeLogsOf}
+use Rattle.sci_threads.proofs.Sharing.{led_by}
 use Rattle.sci_outcomes.specs.declared.place.Place.{Place}
-use Rattle.sci_outcomes.specs.Outcomes.{IsSeen}
-use Rattle.sci_outcomes.proofs.Sightings.{led_places, led_within}
+use Rattle.sci_outcomes.specs.Outcomes.{IsPlaceWithin, IsSeen}
 use Rattle.sci_outcomes.proofs.trials.threaded_run.Goals as goal
 
 pub seen-requires-clause-places : goal.seen-requires-clause-places
 seen-requires-clause-places g c =
-    led_places c.args.litmus.script.now c.in_ok-logs.logs c.in_ok-logs.last c.args.litmus.places.now c.in_ok-logs.ensures.led c.requires.within
+    let lines = c.finish-logs.ensures.lines ∙ ap (λ (z : Size). z.lines) c.in_ok-machine.ensures.led.sized in
+    subst (λ (n : ℕ). All (IsPlaceWithin n) c.args.litmus.places.now) (sym lines) c.requires.within
 
 pub seen-requires-clause-within : goal.seen-requires-clause-within
-seen-requires-clause-within g c = led_within c.args.litmus.script.now c.in_ok-logs.logs c.in_ok-logs.last c.in_ok-logs.ensures.led
+seen-requires-clause-within g c =
+    subst (λ (n : ℕ). AreWithin n c.finish-logs.result.0) (sym c.finish-logs.ensures.lines) c.finish-logs.ensures.within
 
 pub returns : goal.returns
 returns g c =
-    let ran = c.in_ok-logs in
+    let ran = c.in_ok-machine in
+    let ended = c.finish-logs in
     record {
-      logs = ran.logs;
-      last = ran.last;
-      led = ran.ensures.led;
-      whole = ran.ensures.whole c.if-not-finished.false;
-      ordered = ran.ensures.ordered;
-      lawful = ran.ensures.lawful;
-      consistent = ran.ensures.consistent;
-      seen = subst (λ (places : List Place). IsSeen places ran.logs ran.last c.in_ok-seen.field-0) c.requires.places_are c.in_ok-seen.ensures;
+      logs = ended.result.0;
+      last = ended.result.1;
+      led = led_by _ _ _ _ ran.ensures.led ended.ensures.logs ended.ensures.last;
+      whole = subst (HaveWholeLogsOf c.args.litmus.script.now) (sym ended.ensures.logs) (ran.ensures.whole c.if-not-finished.false);
+      ordered = λ is. subst AreInProgramOrder (sym ended.ensures.logs) (ran.ensures.ordered is);
+      lawful = ended.ensures.lawful;
+      consistent = ended.ensures.consistent;
+      seen = subst (λ (places : List Place). IsSeen places ended.result.0 ended.result.1 c.in_ok-seen.field-0) c.requires.places_are c.in_ok-seen.ensures;
     }
