@@ -21,9 +21,8 @@ from collections import namedtuple
 TOP = os.path.dirname(os.path.dirname(os.path.dirname(os.path.abspath(__file__))))
 SCIMEM, SCIVIEW = (f"{TOP}/crates/{name}/out/{name}" for name in ("scimem", "sciview"))
 SPACE = "{http://www.w3.org/2000/svg}"
-ARROWS = ("request", "refused", "answer", "busy")
-# The legend shows each kind of arrow once.
-SAMPLES = len(ARROWS)
+# The kinds of arrows in the order of the legend, which shows each once, with the dashes of each.
+DASHES = {"request": None, "request refused": "6 5", "answer": "18 3", "answer busy": "2 4"}
 # How wide a character is at most, and how high a text is, in pixels.
 WIDTH, HEIGHT = 7, 12
 
@@ -54,39 +53,97 @@ def packets(given):
         yield Packet(line, words[0], int(words[2]), int(words[4]), "".join([words[0], *named]))
 
 
-def said_of_packets(texts, rows):
-    """What the labels beside the rows in which packets are sent say first, in their order."""
-    heights = {int(it.get("y")): it.text.split()[1] for it in rows if it.get("class") == "event"}
-    for text in texts:
-        # A label stands 8 pixels above its row's text, or below it.
-        place = int(text.get("y"))
-        event = heights.get(place + 8) or heights.get(place - 8)
-        if text.get("class") == "label" and event in ("ask", "reply"):
-            yield re.sub(r"^line \d+: ", "", text.text).split(",")[0]
+# A text and an arrow of a chart. Places are in pixels from where the texts of events begin and from the upper edge.
+Text = namedtuple("Text", "kind x y words title")
+Arrow = namedtuple("Arrow", "kind start end title")
 
 
-def points(arrow):
-    """The first point of an arrow, and the last."""
-    found = [tuple(map(int, it.split(","))) for it in arrow.get("points").split()]
-    return found[0], found[-1]
+def drawn(element, names, down=0):
+    """The elements in one, each with how far down it is moved. In the place of a `use` stand the names of the nodes."""
+    for it in element:
+        if it.tag == f"{SPACE}use":
+            yield from drawn(names, names, down + int(it.get("y", "0")))
+        elif it.tag != f"{SPACE}defs":
+            moved = re.fullmatch(r"translate\(0 (\d+)\)", it.get("transform", "translate(0 0)"))
+            yield it, down + int(moved.group(1))
+            yield from drawn(it, names, down + int(moved.group(1)))
 
 
-def overlap(first, second):
-    """Whether two texts overlap."""
-    boxes = [(int(it.get("x")), int(it.get("y")), len(it.text)) for it in (first, second)]
-    (x, y, length), (other_x, other_y, other_length) = boxes
-    return abs(y - other_y) < HEIGHT and x < other_x + WIDTH * other_length and other_x < x + WIDTH * length
+def kind_of(text):
+    """What a text is: one without a class and an x is that of an event, and one without a class a label."""
+    return text.get("class") or ("label" if "x" in text.attrib else "event")
+
+
+def texts_of(chart):
+    """The texts of a chart."""
+    for it, down in drawn(chart, chart.find(f".//{SPACE}g[@id='names']")):
+        if it.tag == f"{SPACE}text":
+            yield Text(kind_of(it), int(it.get("x", "0")), int(it.get("y")) + down, it.text, it.findtext(f"{SPACE}title"))
+
+
+def ends(way):
+    """The first point of an arrow's way, and the last."""
+    straight = re.fullmatch(r"M(\d+) (\d+) (\d+) (\d+)", way)
+    if straight:
+        x, y, to_x, to_y = map(int, straight.groups())
+        return (x, y), (to_x, to_y)
+    around = re.fullmatch(r"M(\d+) (\d+)H\d+V(\d+)H(\d+)", way)
+    x, y, to_y, to_x = map(int, around.groups())
+    return (x, y), (to_x, to_y)
+
+
+def kinds_of(chart):
+    """What the legend calls each class of arrow."""
+    elements = [it for it, _ in drawn(chart, [])]
+    keys = [it.text for it in elements if it.get("class") == "key"]
+    samples = [it.get("class") for it in elements if re.match(r"M\d+ 48 \d+ 48$", it.get("d", ""))]
+    return dict(zip(samples, keys[: len(DASHES)], strict=True))
 
 
 def arrows_of(chart):
     """The arrows of a chart."""
-    return [it for it in chart.iter() if it.get("class") in ARROWS][SAMPLES:]
+    kinds = kinds_of(chart)
+    found = [it for it in drawn(chart, []) if it[0].get("class") in kinds]
+    for it, down in found[len(kinds) :]:
+        (x, y), (to_x, to_y) = ends(it.get("d"))
+        yield Arrow(kinds[it.get("class")], (x, y + down), (to_x, to_y + down), it.findtext(f"{SPACE}title"))
+
+
+def style_faults(chart):
+    """What is wrong with the looks of the arrows."""
+    style = chart.findtext(f"{SPACE}style")
+    for name, kind in kinds_of(chart).items():
+        rule = re.search(rf"^\.{name} {{(.*)}}$", style, re.M).group(1)
+        dashes = re.search(r"stroke-dasharray: (.*?);", rule)
+        if (dashes and dashes.group(1)) != DASHES[kind]:
+            yield f"the dashes of {kind}"
+
+
+def columns_of(chart):
+    """Where the columns of a chart are."""
+    (column,) = (it for it, _ in drawn(chart, []) if it.get("class") == "column")
+    return [int(x) for x in re.findall(r"M(\d+) ", column.get("d"))]
 
 
 def rows_of(chart):
     """The texts of the events of a chart."""
-    texts = chart.iter(f"{SPACE}text")
-    return [it for it in texts if it.get("class") in ("event", "dead") and it.get("x") == "24"]
+    return [it for it in texts_of(chart) if it.kind in ("event", "dead") and it.x == 0]
+
+
+def said_of_packets(texts, rows):
+    """What the labels beside the rows in which packets are sent say first, in their order."""
+    heights = {it.y: it.words.split()[1] for it in rows if it.kind == "event"}
+    for text in texts:
+        # A label stands 8 pixels above its row's text, or below it.
+        event = heights.get(text.y + 8) or heights.get(text.y - 8)
+        if text.kind == "label" and event in ("ask", "reply"):
+            yield re.sub(r"^line \d+: ", "", text.words).split(",")[0]
+
+
+def overlap(first, second):
+    """Whether two texts overlap."""
+    ends_behind = lambda one, other: one.x < other.x + WIDTH * len(other.words)
+    return abs(first.y - second.y) < HEIGHT and ends_behind(first, second) and ends_behind(second, first)
 
 
 def part_faults(given):
@@ -96,55 +153,54 @@ def part_faults(given):
     whole = xml.fromstring(ran(SCIVIEW, "chart", given=given))
     part = xml.fromstring(ran(SCIVIEW, "chart", "--events", str(first), str(last), given=given))
     # A row's text stands 4 pixels below its arrows.
-    lines = {int(it.get("y")) - 4: int(it.text.split(":")[0]) for it in rows_of(whole)}
-    if [it.text for it in rows_of(part)] != [it.text for it in rows_of(whole)][first - 2 : last - 1]:
+    lines = {it.y - 4: int(it.words.split(":")[0]) for it in rows_of(whole)}
+    if [it.words for it in rows_of(part)] != [it.words for it in rows_of(whole)][first - 2 : last - 1]:
         yield f"the rows of lines {first} to {last}"
-    due = []
-    for arrow in arrows_of(whole):
-        (_, sent), (_, taken) = points(arrow)
-        if lines[sent] <= last and lines.get(taken, count) >= first:
-            due.append(arrow.findtext(f"{SPACE}title"))
-    if [it.findtext(f"{SPACE}title") for it in arrows_of(part)] != due:
+    due = [it.title for it in arrows_of(whole) if lines[it.start[1]] <= last and lines.get(it.end[1], count) >= first]
+    if [it.title for it in arrows_of(part)] != due:
         yield f"the arrows of lines {first} to {last}"
+
+
+def arrow_faults(arrows, sent, columns):
+    """What is wrong with the arrows of a chart, beside the packets that a schedule sends."""
+    if len(arrows) != len(sent):
+        yield f"{len(arrows)} arrows of {len(sent)} packets"
+    for arrow, packet in zip(arrows, sent):
+        (x, y), (to_x, to_y) = arrow.start, arrow.end
+        if (x, to_x) != (columns[packet.sender], columns[packet.receiver]) or y >= to_y:
+            yield f"the arrow of {packet.whole}"
+        if (arrow.kind == "answer busy") != (packet.command == "busy"):
+            yield f"the arrow of {packet.command} is drawn as {arrow.kind}"
+        if arrow.title != packet.whole:
+            yield f"the title of the arrow of {packet.whole}"
+    refused = sum(it.kind == "request refused" for it in arrows)
+    if refused > sum(packet.command == "busy" for packet in sent):
+        yield "more refusals than busy answers"
 
 
 def faults(given):
     """What is wrong with the chart of a schedule."""
     chart = xml.fromstring(ran(SCIVIEW, "chart", given=given))
-    columns = [int(it.get("x1")) for it in chart.iter(f"{SPACE}line") if it.get("class") == "column"]
-    arrows = arrows_of(chart)
     sent = list(packets(given))
-    if len(arrows) != len(sent):
-        yield f"{len(arrows)} arrows of {len(sent)} packets"
-    for arrow, packet in zip(arrows, sent):
-        (x, y), (to_x, to_y) = points(arrow)
-        if (x, to_x) != (columns[packet.sender], columns[packet.receiver]) or y >= to_y:
-            yield f"the arrow of {packet.whole}"
-        if (arrow.get("class") == "busy") != (packet.command == "busy"):
-            yield f"the arrow of {packet.command} is drawn as {arrow.get('class')}"
-        if arrow.findtext(f"{SPACE}title") != packet.whole:
-            yield f"the title of the arrow of {packet.whole}"
-    refused = sum(it.get("class") == "refused" for it in arrows)
-    if refused > sum(packet.command == "busy" for packet in sent):
-        yield "more refusals than busy answers"
-    texts = [it for it in chart.iter(f"{SPACE}text")]
-    rows = rows_of(chart)
+    yield from style_faults(chart)
+    yield from arrow_faults(list(arrows_of(chart)), sent, columns_of(chart))
+    texts, rows = list(texts_of(chart)), rows_of(chart)
     events = given.decode().splitlines()[1:]
-    if [it.text for it in rows] != [f"{line}: {event}" for line, event in enumerate(events, 2)]:
+    if [it.words for it in rows] != [f"{line}: {event}" for line, event in enumerate(events, 2)]:
         yield f"{len(rows)} rows, of {len(events)} events"
     if [*said_of_packets(texts, rows)] != [packet.name for packet in sent]:
         yield "a label that names another packet, or none"
-    if any(it.text.endswith(": ") for it in texts if it.get("class") == "label"):
+    if any(it.words.endswith(": ") for it in texts if it.kind == "label"):
         yield "a label that says nothing of its line"
     changes = ran(SCIVIEW, "trace", given=given).decode()
-    for title in (it.findtext(f"{SPACE}title") for it in texts if "->" in it.text and it.get("class") == "label"):
+    for title in (it.title for it in texts if "->" in it.words and it.kind == "label"):
         if title and f"  {title}\n" not in changes:
             yield f"the title {title!r}"
-    texts.sort(key=lambda it: int(it.get("y")))
+    texts.sort(key=lambda it: it.y)
     for place, text in enumerate(texts):
         for other in texts[place + 1 : place + 24]:
             if overlap(text, other):
-                yield f"{text.text!r} overlaps {other.text!r}"
+                yield f"{text.words!r} overlaps {other.words!r}"
 
 
 def stored(name, given):

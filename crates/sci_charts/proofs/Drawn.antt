@@ -6,12 +6,12 @@ use Rattle.std.proofs.lemmas.Bool.{ltb-true, lt-leb}
 use Rattle.std.proofs.lemmas.List.{append-nil, drop_all, drop_more}
 use Rattle.sci_words.specs.declared.event.Event.{Event}
 use Rattle.sci_core.specs.Core.{Core, step, stepping}
-use Rattle.sci_statistics.specs.About.{line_about}
-use Rattle.sci_command.specs.AskedLine.{is_asked}
+use Rattle.sci_cache.specs.Cache.{Letter}
+use Rattle.sci_statistics.specs.About.{letter_sent}
 use Rattle.sci_charts.specs.declared.charting.ChartRequest.{ChartRequest}
 use Rattle.sci_charts.specs.declared.charting.TextLines.{TextLines}
-use Rattle.sci_charts.specs.Rows.{AreRows, IsRow, Place, is_past, is_shown, is_within, places}
-use Rattle.sci_charts.specs.Drawing.{Adds, AddsBy}
+use Rattle.sci_charts.specs.Rows.{AreRows, IsRow, Place, if_enabled, is_past, is_shown, is_within, places}
+use Rattle.sci_charts.specs.Drawing.{Adds, AddsBy, EndsWith, chart_end}
 
 -- ---- an event
 
@@ -26,14 +26,16 @@ not_none None = refl
 not_none (Some x) = refl
 
 -- an event that is shown adds its row
-pub row_added : (request : ChartRequest) (core : Core) (number : ℕ) (e : Event) (dead : Bool) (text : List ℕ)
-    → is_asked request.line (line_about core e) ≡ true → is_within request.events number ≡ true → dead ≡ is_none (stepping core e)
-    → IsRow (not dead) number e text → Adds request (record { core = core; number = number; event = e }) text
-row_added request core number e dead text asked within is_dead row =
+pub row_added : (request : ChartRequest) (core : Core) (number : ℕ) (e : Event) (dead : Bool) (letter : Option Letter) (text : List ℕ)
+    → is_shown request (record { core = core; number = number; event = e }) ≡ true → dead ≡ is_none (stepping core e)
+    → letter ≡ if_enabled (is_some (stepping core e)) (letter_sent core e) → IsRow (not dead) letter number e text
+    → Adds request (record { core = core; number = number; event = e }) text
+row_added request core number e dead letter text shown is_dead is_letter row =
     let place : Place = record { core = core; number = number; event = e } in
     let live : not dead ≡ is_some (stepping core e) = ap not is_dead ∙ not_none (stepping core e) in
-    let shown : is_shown request place ≡ true = rw (asked, within) refl in
-    subst (λ (b : Bool). AddsBy b place text) (sym shown) (subst (λ (b : Bool). IsRow b number e text) live row)
+    let sent = if_enabled (is_some (stepping core e)) (letter_sent core e) in
+    let lettered : IsRow (not dead) sent number e text = subst (λ (o : Option Letter). IsRow (not dead) o number e text) is_letter row in
+    subst (λ (b : Bool). AddsBy b place text) (sym shown) (subst (λ (b : Bool). IsRow b sent number e text) live lettered)
 
 -- ---- behind the lines that are asked for
 
@@ -104,3 +106,32 @@ pub draws_up_to : (request : ChartRequest) (all : List Place) (rows : List ℕ) 
 draws_up_to request all rows core number left past was =
     subst (AreRows all) (append-nil rows)
     (was.ends [] (subst (λ (l : List Place). AreRows l []) (sym (none_left request number past core number left (omega arith))) refl))
+
+-- ---- behind what stands above the rows
+
+pub record IsDrawnBehind (front : List ℕ) (request : ChartRequest) (all : List Place) (text : List ℕ) (core : Core) (number : ℕ) (left : List Event)
+    : Type 0 where
+  pub rows : List ℕ
+  pub written : text ≡ front ++ rows
+  pub drawn : IsDrawnTo request all rows core number left
+
+pub behind_first : (front : List ℕ) (request : ChartRequest) (core : Core) (number : ℕ) (events : List Event)
+    → IsDrawnBehind front request (filter (is_shown request) (places core number events)) front core number events
+behind_first front request core number events =
+    record { rows = []; written = sym (append-nil front); drawn = draws_first request core number events }
+
+pub behind_more : (front : List ℕ) (request : ChartRequest) (all : List Place) (text new : List ℕ) (core : Core) (number : ℕ) (events : List Event)
+    (k : ℕ) (d : Event) (row : List ℕ) → k < length events → new ≡ text ++ row
+    → Adds request (record { core = core; number = number; event = get_or events k d }) row
+    → IsDrawnBehind front request all text core number (drop k events)
+    → IsDrawnBehind front request all new (step core (get_or events k d)) (number + 1) (drop (k + 1) events)
+behind_more front request all text new core number events k d row lt appended adds was = record {
+  rows = was.rows ++ row;
+  written = appended ∙ (ap (λ (l : List ℕ). l ++ row) was.written ∙ append_assoc front was.rows row);
+  drawn = draws_more request all was.rows core number events k d row lt adds was.drawn;
+}
+
+-- the chart ends with its rows
+pub ends_with : (front rows text chart : List ℕ) → text ≡ front ++ rows → chart ≡ text ++ chart_end → EndsWith rows chart
+ends_with front rows text chart written ended =
+    record { front = front; written = ended ∙ (ap (λ (l : List ℕ). l ++ chart_end) written ∙ append_assoc front rows chart_end) }

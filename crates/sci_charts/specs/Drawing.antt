@@ -1,14 +1,15 @@
 -- A chart that is being drawn.
-use Rattle.std.specs.Prelude.{◌≡◌, ℕ, Bool, true, false, List, [], ◌∷◌, ◌++◌, codes}
+use Rattle.std.specs.Prelude.{◌≡◌, ℕ, Bool, true, false, List, [], ◌∷◌, ◌++◌, codes, Option, Some, None}
+use Rattle.sci_cache.specs.Cache.{Letter, letter_of}
 use Rattle.sci_charts.specs.declared.charting.ChartRequest.{ChartRequest}
 use Rattle.sci_charts.specs.declared.deed.Mark.{Mark}
 use Rattle.sci_charts.specs.declared.deed.Mark.TheVariants.{Dead, Issued, Performed, Sent, Taken, Refused}
 use Rattle.sci_charts.specs.Rows.{Place, IsRowOf, is_shown}
 
--- what is asked for, and the text of the rows so far
+-- what is asked for, and the text so far
 pub record Drawn : Type 0 where
   pub request : ChartRequest
-  pub rows : List ℕ
+  pub text : List ℕ
 
 -- whether an event isn't enabled, by its mark
 abbrev pub is_dead : Mark → Bool
@@ -19,6 +20,15 @@ is_dead (Sent packet) = false
 is_dead (Taken packet) = false
 is_dead (Refused packet) = false
 
+-- what an event sent, by its mark
+abbrev pub letter_in : Mark → Option Letter
+letter_in Dead = None
+letter_in Issued = None
+letter_in Performed = None
+letter_in (Sent packet) = Some (letter_of packet)
+letter_in (Taken packet) = None
+letter_in (Refused packet) = None
+
 -- what an event adds to the rows: its row if it is shown, and else nothing
 abbrev pub AddsBy : Bool → Place → List ℕ → Type 0
 AddsBy true place text = IsRowOf place text
@@ -27,7 +37,11 @@ AddsBy false place text = text ≡ []
 abbrev pub Adds : ChartRequest → Place → List ℕ → Type 0
 Adds request place text = AddsBy (is_shown request place) place text
 
+-- what follows the rows: the end of their last block, and of the chart
+abbrev pub chart_end : List ℕ
+chart_end = codes "</g>" ++ (10 ∷ [] ++ (codes "</svg>" ++ 10 ∷ []))
+
 -- the chart ends with its rows
 pub record EndsWith (rows text : List ℕ) : Type 0 where
   pub front : List ℕ
-  pub written : text ≡ front ++ (rows ++ (codes "</svg>" ++ 10 ∷ []))
+  pub written : text ≡ front ++ (rows ++ chart_end)

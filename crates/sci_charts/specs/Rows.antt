@@ -1,17 +1,23 @@
 -- The rows of a chart.
 use Rattle.std.specs.Prelude.{◌≡◌, ℕ, ◌+◌, nat_le, nat_lt, Bool, true, false, ◌&&◌, ◌⊎◌, List, [], ◌∷◌, ◌++◌, filter, codes, Option, Some, None, is_some}
 use Rattle.sci_words.specs.declared.event.Event.{Event}
+use Rattle.sci_packets.specs.declared.packet.Packet.{Packet}
+use Rattle.sci_cache.specs.Cache.{Letter, letter_of}
 use Rattle.sci_core.specs.Core.{Core, step, stepping}
-use Rattle.sci_statistics.specs.About.{line_about}
+use Rattle.sci_statistics.specs.About.{line_about, letter_sent}
 use Rattle.sci_statistics.specs.Beginning.{before}
 use Rattle.sci_text.specs.Number.{number}
 use Rattle.sci_text.specs.Schedule.{ScheduleValue, event_word, event_details, first_node}
 use Rattle.sci_text.specs.Number.{field}
 use Rattle.sci_command.specs.AskedLine.{is_asked}
+use Rattle.sci_command.specs.PacketLine.{packet_line}
 use Rattle.sci_charts.specs.declared.charting.ChartRequest.{ChartRequest}
 use Rattle.sci_charts.specs.declared.charting.TextLines.{TextLines}
+use Rattle.sci_charts.specs.declared.arrows.ArrowKind.{ArrowKind}
+use Rattle.sci_charts.specs.declared.arrows.ArrowKind.TheVariants.{Request, Refused, Answer, Busy}
 use Rattle.sci_charts.specs.declared.elements.Point.{Point}
-use Rattle.sci_charts.specs.Elements.{circle_element, line_element, words_element}
+use Rattle.sci_charts.specs.declared.elements.Way.{Way}
+use Rattle.sci_charts.specs.Elements.{arrow_element, block_element, circle_element, cross_element, event_element, label_element}
 
 -- ---- the events that are shown
 
@@ -52,16 +58,54 @@ row_words k e = number k ++ (codes ": " ++ (event_word e ++ (field (first_node e
 
 -- how an event looks that is enabled, or isn't
 abbrev pub row_class : Bool → List ℕ
-row_class true = codes "event"
+row_class true = []
 row_class false = codes "dead"
+
+-- the words of an event that is enabled or not, on a line of the schedule
+pub record IsEvent (enabled : Bool) (k : ℕ) (e : Event) (text : List ℕ) : Type 0 where
+  pub y : ℕ
+  pub written : text ≡ event_element (row_class enabled) y (row_words k e)
+
+-- what stands before the first row of a block: the end of the block before, and the names of the nodes
+pub record IsBlock (text : List ℕ) : Type 0 where
+  pub y : ℕ
+  pub written : text ≡ block_element y
+
+abbrev pub IsBegun : List ℕ → Type 0
+IsBegun text = (text ≡ []) ⊎ IsBlock text
+
+-- how a packet looks: whole, dashed, with long dashes, or dotted
+abbrev pub kind_class : ArrowKind → List ℕ
+kind_class Request = codes "q"
+kind_class Refused = codes "x"
+kind_class Answer = codes "a"
+kind_class Busy = codes "b"
+
+-- the arrow of a packet that is sent, with its whole line as the title
+pub record IsArrow (letter : Letter) (text : List ℕ) : Type 0 where
+  pub packet : Packet
+  pub is_letter : letter_of packet ≡ letter
+  pub title : List ℕ
+  pub is_title : packet_line packet ≡ title ++ 10 ∷ []
+  pub kind : ArrowKind
+  pub way : Way
+  pub written : text ≡ arrow_element (kind_class kind) way title
+
+-- the arrow of what is sent, if anything is
+abbrev pub IsSent : Option Letter → List ℕ → Type 0
+IsSent None text = text ≡ []
+IsSent (Some letter) text = IsArrow letter text
+
+-- an event that isn't enabled sends nothing
+abbrev pub if_enabled : Bool → Option Letter → Option Letter
+if_enabled true letter = letter
+if_enabled false letter = None
 
 -- what stands at the column of the event's node: a cross, a circle, or nothing, where an arrow begins or ends
 pub record IsCross (text : List ℕ) : Type 0 where
-  pub a : Point
-  pub b : Point
-  pub c : Point
-  pub d : Point
-  pub written : text ≡ line_element (codes "cross") a b ++ line_element (codes "cross") c d
+  pub upper : Point
+  pub lower : Point
+  pub written : text ≡ cross_element upper lower
 
 pub record IsCircle (class text : List ℕ) : Type 0 where
   pub centre : Point
@@ -69,35 +113,37 @@ pub record IsCircle (class text : List ℕ) : Type 0 where
   pub written : text ≡ circle_element class centre radius
 
 abbrev pub IsMarked : List ℕ → Type 0
-IsMarked text = IsCross text ⊎ (IsCircle (codes "issued") text ⊎ (IsCircle (codes "performed") text ⊎ (text ≡ [])))
+IsMarked text = IsCross text ⊎ (IsCircle (codes "i") text ⊎ (IsCircle (codes "p") text ⊎ (text ≡ [])))
 
 -- what is said beside it, if anything is
 pub record IsSaid (text : List ℕ) : Type 0 where
   pub at : Point
   pub words : List ℕ
   pub title : List ℕ
-  pub written : text ≡ words_element (codes "label") at words title
+  pub written : text ≡ label_element [] at words title
 
 abbrev pub IsLabelled : List ℕ → Type 0
 IsLabelled text = (text ≡ []) ⊎ IsSaid text
 
--- the words of an event that is enabled or not, on a line of the schedule
-pub record IsEvent (enabled : Bool) (k : ℕ) (e : Event) (text : List ℕ) : Type 0 where
-  pub at : Point
-  pub written : text ≡ words_element (row_class enabled) at (row_words k e) []
-
--- the row of an event: its words, its mark and its label
-pub record IsRow (enabled : Bool) (k : ℕ) (e : Event) (text : List ℕ) : Type 0 where
+-- the row of an event that sends a packet or not: perhaps the beginning of a block, the arrow of the packet, its words, its mark and its label
+pub record IsRow (enabled : Bool) (sent : Option Letter) (k : ℕ) (e : Event) (text : List ℕ) : Type 0 where
+  pub block : List ℕ
+  pub arrow : List ℕ
   pub event : List ℕ
   pub mark : List ℕ
   pub label : List ℕ
+  pub is_begun : IsBegun block
+  pub is_sent : IsSent sent arrow
   pub is_event : IsEvent enabled k e event
   pub is_marked : IsMarked mark
   pub is_labelled : IsLabelled label
-  pub written : text ≡ event ++ (mark ++ label)
+  pub written : text ≡ block ++ (arrow ++ (event ++ (mark ++ (label ++ 10 ∷ []))))
+
+abbrev pub IsRowAt : Bool → Place → List ℕ → Type 0
+IsRowAt enabled place text = IsRow enabled (if_enabled enabled (letter_sent place.core place.event)) place.number place.event text
 
 abbrev pub IsRowOf : Place → List ℕ → Type 0
-IsRowOf place text = IsRow (is_some (stepping place.core place.event)) place.number place.event text
+IsRowOf place text = IsRowAt (is_some (stepping place.core place.event)) place text
 
 -- one row for each place, in order
 abbrev pub AreRows : List Place → List ℕ → Type 0

@@ -1,9 +1,16 @@
 //! The packets of a chart: when each was sent, and when it was taken.
 
+ghost use Rattle.std.specs.Prelude.{◌≡◌};
+ghost use Rattle.sci_charts.specs.Rows.{kind_class};
+
+use crate::deed::Mark;
 use sci_packets::{Body, Packet};
 use sci_words::MAX_NODES;
 use std::alloc::{AllocError, Global};
 use std::collections::VecDeque;
+
+/// If a packet is under way for more rows than these, both ends of its arrow name it.
+const FAR: u32 = 10;
 
 /// What kind of packet an arrow shows.
 #[derive(Clone, Copy)]
@@ -19,60 +26,87 @@ pub enum ArrowKind {
 }
 
 impl ArrowKind {
-    /// The kind of a packet that is sent.
-    fn of(packet: &Packet) -> ArrowKind {
+    /// The kind of a packet.
+    pub fn of(packet: &Packet, passage: &Passage) -> ArrowKind {
         match packet.body {
             Body::Busy => ArrowKind::Busy,
+            _ if passage.is_refused => ArrowKind::Refused,
             _ if packet.is_request() => ArrowKind::Request,
             _ => ArrowKind::Answer,
         }
     }
 
-    /// The word for it, by which a chart's style knows it.
-    pub fn class(self) -> &'static str {
+    /// The letter for it, by which a chart's style knows it: most elements of a chart have one, so it is short.
+    pub fn class(self) -> &'static str
+        ensures { result.now ≡ kind_class self }
+    {
         match self {
-            ArrowKind::Request => "request",
-            ArrowKind::Refused => "refused",
-            ArrowKind::Answer => "answer",
-            ArrowKind::Busy => "busy",
+            ArrowKind::Request => "q",
+            ArrowKind::Refused => "x",
+            ArrowKind::Answer => "a",
+            ArrowKind::Busy => "b",
         }
     }
 }
 
-/// A packet's way.
+/// When a packet was sent and taken.
 #[derive(Clone, Copy)]
-pub struct Arrow {
-    pub kind: ArrowKind,
-    /// The packet.
-    pub packet: Packet,
+pub struct Passage {
     /// The row where it was sent, unless that was before the first row.
     pub sent: Option<u32>,
     /// The row where it was taken, if it was.
     pub taken: Option<u32>,
     /// Whether it was taken before the first row.
     pub is_past: bool,
-    /// How many packets of the sender to itself were under way when it was sent, if it is one.
-    pub beside: usize,
+    /// Whether it was answered busy.
+    pub is_refused: bool,
+    /// How many packets of the sender to itself were under way when it was sent, if it is one; 3 if there were more.
+    pub beside: u8,
 }
 
-impl Arrow {
-    /// Whether it was taken more than this many rows below the one where it was sent, or was sent before the first row.
-    pub fn is_longer_than(&self, rows: u32) -> bool {
+impl Passage {
+    /// Of no packet.
+    pub fn none() -> Passage {
+        Passage::begun(None, 0)
+    }
+
+    /// Of a packet that is sent in a row, or before the first one.
+    fn begun(sent: Option<u32>, beside: u8) -> Passage {
+        Passage {
+            sent,
+            taken: None,
+            is_past: false,
+            is_refused: false,
+            beside,
+        }
+    }
+
+    /// Whether it was taken many rows below the one where it was sent, or was sent before the first row.
+    fn is_far(&self) -> bool {
         match (self.sent, self.taken) {
-            (Some(sent), Some(taken)) => taken.saturating_sub(sent) > rows,
+            (Some(sent), Some(taken)) => taken.saturating_sub(sent) > FAR,
             (None, taken) => taken.is_some(),
             (Some(_), None) => false,
         }
     }
 }
 
-/// The packets that were sent so far, with those that are under way.
+/// The packets that were sent, and those of them that are under way. A second pass over the schedule asks for each once more, in
+/// their order.
 #[derive(Drop)]
 pub struct Arrows {
-    /// All of them, in the order in which they were sent.
-    sent: Vec<Arrow>,
+    /// Of all packets, in the order in which they were sent.
+    passages: Vec<Passage>,
+    /// Those that were sent before the first row.
+    early: Vec<Packet>,
+    /// Of the packets that were taken in rows, in the order in which they were taken: whether they came from far.
+    far: Vec<bool>,
     /// For each lane the places of the packets that are under way in it, oldest first.
     lanes: Vec<VecDeque<usize>>,
+    /// How many of those that were sent in rows were asked for.
+    asked_sent: usize,
+    /// How many of those that were taken in rows were asked for.
+    asked_taken: usize,
 }
 
 /// The place of a packet's lane: requests and answers in turn, for each sender the lanes to each receiver.
@@ -93,14 +127,18 @@ impl Arrows {
             }
         }
         Ok(Arrows {
-            sent: Vec::new(alloc),
+            passages: Vec::new(alloc),
+            early: Vec::new(alloc),
+            far: Vec::new(alloc),
             lanes,
+            asked_sent: 0,
+            asked_taken: 0,
         })
     }
 
-    /// All packets, in the order in which they were sent.
-    pub fn all(&self) -> &[Arrow] {
-        &self.sent
+    /// The packets that were sent before the first row, with when they were taken.
+    pub fn early(&self) -> (&[Packet], &[Passage]) {
+        (&self.early, &self.passages)
     }
 
     /// How many packets of a packet's sender to itself are under way, if that is whom it is for.
@@ -113,33 +151,73 @@ impl Arrows {
         under_way(first).saturating_add(under_way(second))
     }
 
-    /// A packet is sent in a row, or before the first one. Refused if memory is.
-    pub fn send(&mut self, packet: &Packet, row: Option<u32>) -> Result<(), AllocError> {
+    /// A packet is sent in a row, or before the first one.
+    fn send(&mut self, packet: &Packet, row: Option<u32>) -> Result<(), AllocError> {
         // Makes an option, so that the prover is told of the types inside a packet.
         let _told = Some(*packet);
-        let place = self.sent.len();
-        let beside = self.to_itself(packet);
-        self.sent.push(Arrow {
-            kind: ArrowKind::of(packet),
-            packet: *packet,
-            sent: row,
-            taken: None,
-            is_past: false,
-            beside,
-        })?;
+        let place = self.passages.len();
+        let beside = self.to_itself(packet).min(3) as u8;
+        self.passages.push(Passage::begun(row, beside))?;
+        if row.is_none() {
+            self.early.push(*packet)?;
+        }
         if let Some(lane) = self.lanes.get_mut(lane_of(packet)) {
             lane.push_back(place)?;
         }
         Ok(())
     }
 
-    /// A packet is taken in a row, or before the first one: it is the oldest of its lane. Gives its way.
-    pub fn take(&mut self, packet: &Packet, row: Option<u32>) -> Option<&mut Arrow> {
+    /// A packet is taken in a row, or before the first one: it is the oldest of its lane. Gives its passage.
+    fn take(&mut self, packet: &Packet, row: Option<u32>) -> Option<&mut Passage> {
         let lane = self.lanes.get_mut(lane_of(packet))?;
         let place = lane.pop_front()?;
-        let arrow = self.sent.get_mut(place)?;
-        arrow.taken = row;
-        arrow.is_past = row.is_none();
-        Some(arrow)
+        let passage = self.passages.get_mut(place)?;
+        passage.taken = row;
+        passage.is_past = row.is_none();
+        Some(passage)
+    }
+
+    /// Notes which packet an event sent or took in a row, or before the first one. Whether it took one that came from far.
+    /// Refused if memory is.
+    pub fn note(&mut self, mark: &Mark, row: Option<u32>) -> Result<bool, AllocError> {
+        let is_far = match mark {
+            Mark::Sent(packet) => {
+                self.send(packet, row)?;
+                return Ok(false);
+            }
+            Mark::Taken(packet) => match self.take(packet, row) {
+                Some(passage) => passage.is_far(),
+                None => false,
+            },
+            Mark::Refused(packet) => match self.take(packet, row) {
+                Some(passage) => {
+                    passage.is_refused = true;
+                    passage.is_far()
+                }
+                None => false,
+            },
+            Mark::Dead | Mark::Issued | Mark::Performed => return Ok(false),
+        };
+        if row.is_some() {
+            self.far.push(is_far)?;
+        }
+        Ok(is_far)
+    }
+
+    /// The passage of the packet that is sent in the next row where one is.
+    pub fn next_sent(&mut self) -> Passage {
+        let place = self.early.len().saturating_add(self.asked_sent);
+        self.asked_sent = self.asked_sent.saturating_add(1);
+        match self.passages.get(place) {
+            Some(passage) => *passage,
+            None => Passage::none(),
+        }
+    }
+
+    /// Whether the packet that is taken in the next row where one is came from far.
+    pub fn next_is_far(&mut self) -> bool {
+        let place = self.asked_taken;
+        self.asked_taken = self.asked_taken.saturating_add(1);
+        self.far.get(place).copied().unwrap_or(false)
     }
 }

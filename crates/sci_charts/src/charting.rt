@@ -1,15 +1,15 @@
 //! The command `chart`: a message sequence chart of a schedule.
 
-ghost use Rattle.std.specs.Prelude.{◌≡◌, false, IfOk, IfErr};
+ghost use Rattle.std.specs.Prelude.{◌≡◌, ◌&&◌, false, IfOk, IfErr};
 ghost use Rattle.sci_text.specs.Tap.{has_failed, is_called_again, tapped};
 ghost use Rattle.sci_command.specs.declared.outcome.Outcome.{Outcome};
-ghost use Rattle.sci_command.specs.AskedLine.{IsAskedFault};
 ghost use Rattle.sci_charts.specs.ChartAnswer.{IsChart, IsChartAnswer};
+ghost use Rattle.sci_command.specs.AskedLine.{IsAskedFault, is_asked};
 ghost use Rattle.sci_charts.specs.Rows.{is_past, is_within};
 
 use crate::drawing::Drawing;
 use crate::layout::FIRST_LINE;
-use sci_command::{Answer, Outcome, read_asked};
+use sci_command::{Answer, Outcome, is_asked, read_asked};
 use sci_core::Machine;
 use sci_text::{Schedule, Tap, TextFault};
 use sci_words::MAX_OPERATIONS;
@@ -43,8 +43,15 @@ impl ChartRequest {
         }
     }
 
+    /// Whether an event is shown that is about a line of memory, or none, and stands on a line of the schedule.
+    pub fn shows(&self, line: Option<u8>, number: u64) -> bool
+        ensures { result ≡ (is_asked self.now.line line && is_within self.now.events number) }
+    {
+        is_asked(self.line, line) && self.is_within(number)
+    }
+
     /// Whether a line of the schedule stands behind those that are asked for.
-    fn is_past(&self, number: u64) -> bool
+    pub fn is_past(&self, number: u64) -> bool
         ensures { result ≡ is_past self.now.events number }
     {
         match self.events {
@@ -67,7 +74,7 @@ fn chart_of(
     let mut number = FIRST_LINE;
     for event in schedule.events() {
         if request.is_past(number) {
-            return drawing.text();
+            return drawing.finish();
         }
         match drawing.draw(&mut machine, number, event) {
             Ok(()) => {}
@@ -75,7 +82,7 @@ fn chart_of(
         }
         number += 1;
     }
-    drawing.text()
+    drawing.finish()
 }
 
 /// Reads a schedule to its end, applies its events in text order to a new machine whose nodes may each issue 65,536

@@ -1,16 +1,17 @@
 //! What an event does to its node, and with which packet.
 
-ghost use Rattle.std.specs.Prelude.{◌≡◌, false, IfOk, OnOk, is_none};
+ghost use Rattle.std.specs.Prelude.{◌≡◌, false, IfOk, OnOk, is_none, is_some, option_map};
+ghost use Rattle.sci_cache.specs.Cache.{letter_of};
 ghost use Rattle.sci_core.specs.Core.{step, stepping};
-ghost use Rattle.sci_charts.specs.Drawing.{is_dead};
+ghost use Rattle.sci_statistics.specs.About.{letter_sent};
+ghost use Rattle.sci_charts.specs.Drawing.{is_dead, letter_in};
+ghost use Rattle.sci_charts.specs.Rows.{if_enabled};
 
-use crate::labels::{Change, Sight, push_change, push_packet, push_performed};
-use sci_core::{Machine, node_of};
+use sci_core::Machine;
 use sci_packets::Packet;
-use sci_statistics::{applied, line_about, sent, taken};
-use sci_traces::{push_changes, standing};
+use sci_statistics::{applied, sent, taken};
 use sci_words::Event;
-use std::alloc::{AllocError, Global};
+use std::alloc::AllocError;
 
 /// What an event did.
 #[derive(Clone, Copy)]
@@ -36,85 +37,55 @@ impl Mark {
     {
         matches!(self, Mark::Dead)
     }
-}
 
-/// What an event did, with what a chart says of it.
-#[derive(Drop)]
-pub struct Deed {
-    pub mark: Mark,
-    pub label: Vec<u8>,
-    /// How the line's states changed, with their versions, as a trace has it.
-    pub title: Vec<u8>,
-}
+    /// The packet that the event sent or took.
+    pub fn packet(&self) -> Option<&Packet> {
+        match self {
+            Mark::Sent(packet) | Mark::Taken(packet) | Mark::Refused(packet) => Some(packet),
+            Mark::Dead | Mark::Issued | Mark::Performed => None,
+        }
+    }
 
-/// The packet that an event would send or take, or None if there is none.
-fn packet_of(machine: &Machine, event: &Event) -> Option<Packet> {
-    match event {
-        Event::Ask { .. } | Event::Reply { .. } => sent(machine, event),
-        _ => taken(machine, event),
+    /// Whether the event took a packet that came from the right.
+    pub fn comes_from_right(&self) -> bool {
+        match self {
+            Mark::Taken(packet) | Mark::Refused(packet) => {
+                packet.source.get() > packet.target.get()
+            }
+            _ => false,
+        }
     }
 }
 
-/// What an event that happened did with its packet.
-fn mark_of(event: &Event, packet: Option<&Packet>) -> Mark
-    ensures { is_dead result ≡ false }
+/// What an event that happened did with its packets.
+fn mark_of(event: &Event, sent: Option<Packet>, taken: Option<Packet>) -> Mark
+    ensures live { is_dead result ≡ false }
+    ensures letter { letter_in result ≡ option_map letter_of sent }
 {
-    let Some(packet) = packet else {
-        return match event {
+    match (sent, taken) {
+        (Some(packet), _) => Mark::Sent(packet),
+        (None, Some(packet)) => match event {
+            Event::Refuse { .. } => Mark::Refused(packet),
+            _ => Mark::Taken(packet),
+        },
+        (None, None) => match event {
             Event::Perform { .. } => Mark::Performed,
             _ => Mark::Issued,
-        };
-    };
-    match event {
-        Event::Ask { .. } | Event::Reply { .. } => Mark::Sent(*packet),
-        Event::Refuse { .. } => Mark::Refused(*packet),
-        _ => Mark::Taken(*packet),
+        },
     }
-}
-
-/// What is said of an event that happened at a node: the entry of what was performed, the name of a packet that was
-/// sent, and how the line's states changed.
-fn label_of(
-    alloc: Global,
-    mark: &Mark,
-    machine: &Machine,
-    node: u8,
-    change: &Change,
-) -> Result<Vec<u8>, AllocError> {
-    let mut label = Vec::new(alloc);
-    match mark {
-        Mark::Performed => push_performed(&mut label, machine, node)?,
-        Mark::Sent(packet) => push_packet(&mut label, &packet.body)?,
-        _ => {}
-    }
-    push_change(&mut label, change)?;
-    Ok(label)
 }
 
 /// Applies an event, and tells what it did. Refused if memory is.
-pub fn deed_of(alloc: Global, machine: &mut Machine, event: &Event) -> Result<Deed, AllocError>
-    ensures dead { IfOk result
-        (λ deed. is_dead deed.mark ≡ is_none (stepping machine.old event.now)) }
+pub fn mark_after(machine: &mut Machine, event: &Event) -> Result<Mark, AllocError>
+    ensures dead { IfOk result (λ mark. is_dead mark ≡ is_none (stepping machine.old event.now)) }
+    ensures letter { IfOk result (λ mark. letter_in mark
+        ≡ if_enabled (is_some (stepping machine.old event.now)) (letter_sent machine.old event.now)) }
     ensures step { OnOk result (machine.new ≡ step machine.old event.now) }
 {
-    let node = node_of(event);
-    let packet = packet_of(machine, event);
-    let line = line_about(machine, event);
-    let before = Sight::of(machine, node, line);
-    let words = standing(alloc, machine, node, line)?;
+    let sent = sent(machine, event);
+    let taken = taken(machine, event);
     if !applied(machine, event)? {
-        return Ok(Deed {
-            mark: Mark::Dead,
-            label: Vec::new(alloc),
-            title: Vec::new(alloc),
-        });
+        return Ok(Mark::Dead);
     }
-    let after = Sight::of(machine, node, line);
-    let mark = mark_of(event, packet.as_ref());
-    let label = label_of(alloc, &mark, machine, node, &Change { before, after })?;
-    let mut title = Vec::new(alloc);
-    push_changes(alloc, &mut title, machine, node, line, &words)?;
-    // Without the last line feed.
-    let _feed = title.pop();
-    Ok(Deed { mark, label, title })
+    Ok(mark_of(event, sent, taken))
 }

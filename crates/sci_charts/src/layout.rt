@@ -3,6 +3,7 @@
 ghost use Rattle.std.specs.Prelude.{◌≡◌, ◌<◌, ◌^◌, ◌++◌, OnOk};
 ghost use Rattle.sci_charts.specs.Rows.{row_words};
 
+use crate::elements::Point;
 use sci_text::{Schedule, push_event_line, push_number, push_text};
 use sci_words::Event;
 use std::alloc::{AllocError, Global};
@@ -10,7 +11,7 @@ use std::alloc::{AllocError, Global};
 /// How wide a character is at most, in pixels.
 const CHARACTER: u64 = 7;
 
-/// Where the texts of events begin.
+/// How far the texts of events begin from the left edge of a chart, and as much is free at the other edges.
 pub const MARGIN: u64 = 24;
 
 /// From one column to the next.
@@ -24,6 +25,9 @@ const BAND: u64 = 30;
 
 /// From one row to the next.
 const ROW: u64 = 30;
+
+/// How far labels begin to the right of their columns.
+pub const LABEL: u64 = 8;
 
 /// After so many rows the names of the nodes stand once more.
 pub const ROWS: u32 = 40;
@@ -80,18 +84,36 @@ impl Layout {
 
     /// The column of a node.
     pub fn column(self, node: u16) -> u64 {
-        3 * MARGIN + CHARACTER * u64::from(self.longest) + COLUMN * u64::from(node)
+        2 * MARGIN + CHARACTER * u64::from(self.longest) + COLUMN * u64::from(node)
+    }
+
+    /// Where a row meets the column of a node, in its block.
+    pub fn place(self, node: u16, row: u32) -> Point {
+        Point {
+            x: self.column(node),
+            y: BAND + ROW * u64::from(row % ROWS),
+        }
     }
 }
 
-/// Where a row is. Rows count from 0.
-pub fn row_at(row: u32) -> u64 {
-    names_at(row / ROWS) + BAND + ROW * u64::from(row % ROWS)
+/// The block of a row. Rows and blocks count from 0.
+pub fn block_of(row: u32) -> u32 {
+    row / ROWS
 }
 
-/// Where the names of the nodes stand above a block of rows. Blocks count from 0.
+/// Whether a row begins a block.
+pub fn begins_block(row: u32) -> bool {
+    row % ROWS == 0
+}
+
+/// Where the names of the nodes stand above a block of rows.
 pub fn names_at(block: u32) -> u64
     ensures { result < 2 ^ 48 }
 {
     NAMES + u64::from(block) * (2 * BAND + ROW * u64::from(ROWS - 1))
+}
+
+/// Where a row is.
+pub fn row_at(row: u32) -> u64 {
+    names_at(block_of(row)) + BAND + ROW * u64::from(row % ROWS)
 }

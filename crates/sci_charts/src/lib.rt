@@ -6,9 +6,13 @@ mod charting;
 mod deed;
 mod drawing;
 mod elements;
+mod frame;
 mod labels;
 mod layout;
 mod legend;
+mod plan;
 mod rows;
+mod sights;
+mod survey;
 
 pub use charting::{ChartRequest, TextLines, chart};

@@ -1,14 +1,18 @@
 //! The rows of a chart: an event each.
 
-ghost use Rattle.std.specs.Prelude.{◌≡◌, ℕ, List, [], ◌++◌, OnOk, not};
-ghost use Rattle.sci_charts.specs.Drawing.{is_dead};
-ghost use Rattle.sci_charts.specs.Rows.{IsCross, IsEvent, IsLabelled, IsMarked, IsRow};
+ghost use Rattle.std.specs.Prelude.{◌≡◌, ℕ, List, [], ◌∷◌, ◌++◌, IfOk, OnOk, not};
+ghost use Rattle.sci_command.specs.PacketLine.{packet_line};
+ghost use Rattle.sci_charts.specs.Drawing.{chart_end, is_dead, letter_in};
+ghost use Rattle.sci_charts.specs.Rows.{IsBegun, IsEvent, IsLabelled, IsMarked, IsRow, IsSent, row_class};
 
-use crate::deed::{Deed, Mark};
-use crate::elements::{Point, Words, push_circle, push_line, push_titled, push_words};
-use crate::labels::push_packet;
-use crate::layout::{Layout, MARGIN, push_numbered, row_at, width_of};
-use sci_command::push_labelled;
+use crate::arrows::{ArrowKind, Passage};
+use crate::deed::Mark;
+use crate::elements::{
+    Point, Way, Words, push_arrow, push_block, push_circle, push_cross, push_event, push_label,
+};
+use crate::layout::{LABEL, Layout, begins_block, block_of, names_at, push_numbered, row_at};
+use crate::plan::{Heights, way_of};
+use sci_command::push_packet;
 use sci_core::node_of;
 use sci_packets::Packet;
 use sci_text::push_text;
@@ -19,37 +23,53 @@ use std::marker::Model;
 /// How far a mark goes from its middle.
 const REACH: i16 = 4;
 
-/// The rows so far.
+/// An event with what a chart says of it.
+#[derive(Clone, Copy)]
+pub struct Row<'a> {
+    /// The number of its line.
+    pub number: u64,
+    pub event: Event,
+    pub mark: Mark,
+    /// Of the packet that it sent, if it sent one.
+    pub passage: Passage,
+    /// What is said beside its node's column.
+    pub label: Words<'a>,
+}
+
+/// The rows so far, behind what stands above them.
 #[derive(Drop)]
 pub struct Rows {
     layout: Layout,
-    names_lines: bool,
+    /// Where the columns end.
+    bottom: u64,
     /// How many there are.
     count: u32,
-    /// What lies below the arrows.
-    below: Vec<u8>,
-    /// What lies above them.
-    above: Vec<u8>,
-    /// How far to the right they go.
-    right: u64,
+    out: Vec<u8>,
     /// A text that is being made.
-    text: Vec<u8>,
+    words: Vec<u8>,
 }
 
 impl Model for Rows {
     ghost Value = { List ℕ };
 
-    ghost view = { λ rows. rows.above.items };
+    ghost view = { λ rows. rows.out.items };
 }
 
-/// Appends a cross in the middle of a point.
-pub fn push_cross(out: &mut Vec<u8>, at: Point) -> Result<(), AllocError>
-    ensures { OnOk result ((text : List ℕ) × (out.new.items ≡ out.old.items ++ text) × IsCross text) }
+/// Appends the words of a packet's line, without the line feed.
+pub fn push_packet_words(out: &mut Vec<u8>, packet: &Packet) -> Result<(), AllocError>
+    ensures { OnOk result ((words : List ℕ) × (out.new.items ≡ out.old.items ++ words)
+        × (packet_line packet.now ≡ words ++ 10 ∷ [])) }
 {
-    let (upper, lower) = (at.moved(-REACH, -REACH), at.moved(REACH, REACH));
-    push_line(out, "cross", upper, lower)?;
-    let (upper, lower) = (at.moved(REACH, -REACH), at.moved(-REACH, REACH));
-    push_line(out, "cross", upper, lower)
+    push_packet(out, packet)?;
+    let _feed = out.pop();
+    Ok(())
+}
+
+/// The class of the text of an event.
+fn class_of(mark: &Mark) -> &'static str
+    ensures { result.now ≡ row_class (not (is_dead mark.now)) }
+{
+    if mark.is_dead() { "dead" } else { "" }
 }
 
 /// Appends what stands at the column of an event's node.
@@ -57,162 +77,116 @@ fn push_mark(out: &mut Vec<u8>, mark: &Mark, at: Point) -> Result<(), AllocError
     ensures { OnOk result ((text : List ℕ) × (out.new.items ≡ out.old.items ++ text) × IsMarked text) }
 {
     match mark {
-        Mark::Dead => push_cross(out, at),
-        Mark::Issued => push_circle(out, "issued", at, 4),
-        Mark::Performed => push_circle(out, "performed", at, 4),
+        Mark::Dead => push_cross(out, at.moved(-REACH, -REACH), at.moved(REACH, REACH)),
+        Mark::Issued => push_circle(out, "i", at, 4),
+        Mark::Performed => push_circle(out, "p", at, 4),
         Mark::Sent(_) | Mark::Taken(_) | Mark::Refused(_) => Ok(()),
     }
 }
 
-/// The packet that an event sent or took.
-fn packet_of(mark: &Mark) -> Option<&Packet> {
-    match mark {
-        Mark::Sent(packet) | Mark::Taken(packet) | Mark::Refused(packet) => Some(packet),
-        Mark::Dead | Mark::Issued | Mark::Performed => None,
-    }
-}
-
-/// Whether an event took a packet that came from the right.
-fn comes_from_right(mark: &Mark) -> bool {
-    match mark {
-        Mark::Taken(packet) | Mark::Refused(packet) => packet.source.get() > packet.target.get(),
-        _ => false,
-    }
-}
-
-/// Appends the line that a packet is about, if there is a packet.
-fn push_line_of(out: &mut Vec<u8>, mark: &Mark) -> Result<(), AllocError> {
-    let Some(packet) = packet_of(mark) else {
+/// Appends what is said of an event beside its node's column: above an arrow that comes from the left, and below one that comes
+/// from the right.
+fn push_said(out: &mut Vec<u8>, row: &Row, at: Point) -> Result<(), AllocError>
+    ensures { OnOk result ((text : List ℕ) × (out.new.items ≡ out.old.items ++ text) × IsLabelled text) }
+{
+    if row.label.text.is_empty() {
         return Ok(());
+    }
+    let down = if row.mark.comes_from_right() {
+        3 * REACH
+    } else {
+        -REACH
     };
-    push_labelled(out, b"line", packet.line)?;
-    push_text(out, ": ")
+    let start = at.moved(LABEL as i16, down);
+    push_label(out, "", start, row.label)
 }
 
 impl Rows {
-    /// No row. If `names_lines`, a label says which line it is about.
-    pub fn new(alloc: Global, layout: Layout, names_lines: bool) -> Rows
-        ensures { result ≡ [] }
+    /// No row yet, behind what stands above them. The columns end at `bottom`.
+    pub fn new(alloc: Global, layout: Layout, bottom: u64, out: Vec<u8>) -> Rows
+        ensures { result ≡ out.items }
     {
         Rows {
             layout,
-            names_lines,
+            bottom,
             count: 0,
-            below: Vec::new(alloc),
-            above: Vec::new(alloc),
-            right: 0,
-            text: Vec::new(alloc),
+            out,
+            words: Vec::new(alloc),
         }
     }
 
-    /// How many rows there are.
-    pub fn count(&self) -> u32 {
-        self.count
-    }
-
-    /// How far to the right they go.
-    pub fn right(&self) -> u64 {
-        self.right
-    }
-
-    /// What lies below the arrows.
-    pub fn below(&self) -> &[u8] {
-        &self.below
-    }
-
-    /// What lies above the arrows.
-    pub fn above(&self) -> &[u8]
-        ensures { result.now ≡ self.now }
+    /// Ends a block of rows and begins the next one, if the next row is the first of a block.
+    fn begin(&mut self) -> Result<(), AllocError>
+        ensures { OnOk result ((text : List ℕ) × (self.new ≡ self.old ++ text) × IsBegun text) }
     {
-        &self.above
-    }
-
-    /// Appends the text of an event at the left, and a line from there to its node's column.
-    fn push_event(
-        &mut self,
-        number: u64,
-        event: &Event,
-        is_dead: bool,
-        at: Point,
-    ) -> Result<(), AllocError>
-        ensures { OnOk result ((text : List ℕ) × (self.new ≡ self.old ++ text)
-            × IsEvent (not is_dead) number event.now text) }
-    {
-        self.text.clear();
-        push_numbered(&mut self.text, number, event)?;
-        let class = if is_dead { "dead" } else { "event" };
-        let start = Point { x: MARGIN, y: at.y };
-        push_words(&mut self.above, class, start.moved(0, REACH), &self.text)?;
-        let end = Point {
-            x: MARGIN + width_of(&self.text),
-            y: at.y,
-        };
-        push_line(&mut self.below, "guide", end.moved(REACH, 0), at)
-    }
-
-    /// Makes the text of what is said of an event: first the packet that it took, if that is from far.
-    fn make_label(&mut self, deed: &Deed, is_far: bool) -> Result<(), AllocError>
-        ensures { self.new ≡ self.old }
-    {
-        self.text.clear();
-        let packet = if is_far { packet_of(&deed.mark) } else { None };
-        if deed.label.is_empty() && packet.is_none() {
+        if !begins_block(self.count) {
             return Ok(());
         }
-        if self.names_lines {
-            push_line_of(&mut self.text, &deed.mark)?;
-        }
-        if let Some(packet) = packet {
-            push_packet(&mut self.text, &packet.body)?;
-            if !deed.label.is_empty() {
-                push_text(&mut self.text, ", ")?;
+        push_block(&mut self.out, names_at(block_of(self.count)))
+    }
+
+    /// The way of a packet that is sent in the next row.
+    fn way(&self, packet: &Packet, passage: &Passage, from: u64) -> Way {
+        let end = passage.taken.map_or(self.bottom, row_at);
+        let heights = Heights {
+            from,
+            to: end.saturating_sub(names_at(block_of(self.count))),
+        };
+        way_of(self.layout, packet, passage, heights)
+    }
+
+    /// Appends the arrow of the packet that an event sent, if it sent one.
+    fn push_sent(&mut self, row: &Row, from: u64) -> Result<(), AllocError>
+        ensures { OnOk result ((text : List ℕ) × (self.new ≡ self.old ++ text)
+            × IsSent (letter_in row.now.mark) text) }
+    {
+        match &row.mark {
+            Mark::Sent(packet) => {
+                self.words.clear();
+                push_packet_words(&mut self.words, packet)?;
+                let way = self.way(packet, &row.passage, from);
+                let kind = ArrowKind::of(packet, &row.passage);
+                push_arrow(&mut self.out, kind.class(), &way, &self.words)
             }
+            _ => Ok(()),
         }
-        self.text.extend_from_slice(&deed.label)
     }
 
-    /// Appends what is said of an event beside its node's column.
-    fn push_label(&mut self, deed: &Deed, is_far: bool, at: Point) -> Result<(), AllocError>
-        ensures { OnOk result ((text : List ℕ) × (self.new ≡ self.old ++ text) × IsLabelled text) }
-    {
-        self.make_label(deed, is_far)?;
-        if self.text.is_empty() {
-            return Ok(());
-        }
-        let down = if comes_from_right(&deed.mark) {
-            3 * REACH
-        } else {
-            -REACH
-        };
-        let start = at.moved(2 * REACH, down);
-        self.right = self.right.max(start.x.saturating_add(width_of(&self.text)));
-        let words = Words {
-            text: &self.text,
-            title: deed.title.get(2..).unwrap_or(b""),
-        };
-        push_titled(&mut self.above, "label", start, words)
-    }
-
-    /// Adds a row at the end: an event with the number of its line, and what it did. If it took a packet that `is_far`, the row
-    /// names it. Refused if memory is.
-    pub fn add(
-        &mut self,
-        number: u64,
-        event: &Event,
-        deed: &Deed,
-        is_far: bool,
-    ) -> Result<(), AllocError>
+    /// Appends the text of an event at the left.
+    fn push_numbered(&mut self, row: &Row, y: u64) -> Result<(), AllocError>
         ensures { OnOk result ((text : List ℕ) × (self.new ≡ self.old ++ text)
-            × IsRow (not (is_dead deed.now.mark)) number event.now text) }
+            × IsEvent (not (is_dead row.now.mark)) row.now.number row.now.event text) }
     {
-        let at = Point {
-            x: self.layout.column(u16::from(node_of(event))),
-            y: row_at(self.count),
-        };
-        self.push_event(number, event, deed.mark.is_dead(), at)?;
-        push_mark(&mut self.above, &deed.mark, at)?;
-        self.push_label(deed, is_far, at)?;
+        self.words.clear();
+        push_numbered(&mut self.words, row.number, &row.event)?;
+        push_event(&mut self.out, class_of(&row.mark), y, &self.words)
+    }
+
+    /// Adds a row at the end. Refused if memory is.
+    pub fn add(&mut self, row: &Row) -> Result<(), AllocError>
+        ensures { OnOk result ((text : List ℕ) × (self.new ≡ self.old ++ text)
+            × IsRow (not (is_dead row.now.mark)) (letter_in row.now.mark)
+            row.now.number row.now.event text) }
+    {
+        let at = self
+            .layout
+            .place(u16::from(node_of(&row.event)), self.count);
+        self.begin()?;
+        self.push_sent(row, at.y)?;
+        self.push_numbered(row, at.y.saturating_add(4))?;
+        push_mark(&mut self.out, &row.mark, at)?;
+        push_said(&mut self.out, row, at)?;
+        push_text(&mut self.out, "\n")?;
         self.count = self.count.saturating_add(1);
         Ok(())
+    }
+
+    /// The text of the chart. Refused if memory is.
+    pub fn finish(self) -> Result<Vec<u8>, AllocError>
+        ensures { IfOk result (λ text. text.items ≡ self ++ chart_end) }
+    {
+        let mut out = self.out;
+        push_text(&mut out, "</g>\n</svg>\n")?;
+        Ok(out)
     }
 }

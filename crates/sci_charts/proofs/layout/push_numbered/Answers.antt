@@ -1,9 +1,9 @@
-use Rattle.std.proofs.Common.{◌≡◌, ◌-◌, ℕ, List, [], ◌∷◌, ◌++◌, length, take, codes, append_assoc, arith, sym, ap, ◌∙◌, length-append}
-use Rattle.std.proofs.Math.Seq.{take-append_seam}
+use Rattle.std.proofs.Common.{◌≡◌, ◌-◌, ℕ, List, [], ◌∷◌, ◌++◌, take, codes, append_assoc, sym, ap, ◌∙◌}
 use Rattle.sci_words.specs.declared.event.Event.{Event}
 use Rattle.sci_text.specs.Number.{field, number}
 use Rattle.sci_text.specs.Schedule.{event_details, event_line, event_word, first_node}
 use Rattle.sci_charts.specs.Rows.{row_words}
+use Rattle.sci_charts.proofs.Ended.{without_last}
 use Rattle.sci_charts.proofs.layout.push_numbered.Goals as goal
 
 -- an event's line is its words and the line feed
@@ -24,18 +24,12 @@ numbered k e old n1 n2 n3 e1 e2 e3 =
     (ap (λ (l : List ℕ). l ++ words) (e2 ∙ ap (λ (l : List ℕ). l ++ codes ": ") e1)
     ∙ (append_assoc (old ++ number k) (codes ": ") words ∙ append_assoc old (number k) (codes ": " ++ words)))))
 
-without_last : (xs whole new : List ℕ) → whole ≡ xs ++ 10 ∷ [] → new ≡ take (length whole - 1) whole → new ≡ xs
-without_last xs whole new is rest =
-    let long = length-append xs (10 ∷ []) in
-    let count : length (xs ++ 10 ∷ []) - 1 ≡ length xs = omega (arith, long) in
-    rest ∙ (ap (λ (l : List ℕ). take (length l - 1) l) is ∙ (ap (λ (n : ℕ). take n (xs ++ 10 ∷ [])) count ∙ take-append_seam xs (10 ∷ [])))
-
 pub returns : goal.returns
 returns c =
     let k = c.args.number in
     let e = c.args.event.now in
     let old = c.args.out.now.items in
-    without_last (old ++ row_words k e) c.push_event_line.new.out.items c.pop-feed.new.self.items
+    without_last (old ++ row_words k e) c.push_event_line.new.out.items c.pop-feed.new.self.items 10
     (numbered k e old c.push_number.new.out.items c.push_text.new.out.items c.push_event_line.new.out.items c.in_ok-push_number.ensures.text
     c.in_ok-push_text.ensures.text c.in_ok-push_event_line.ensures)
     (c.pop-feed.ensures.rest ∙ ap (λ (n : ℕ). take (n - 1) c.push_event_line.new.out.items) c.push_event_line.new.out.ok.0)
