@@ -1,4 +1,4 @@
-//! Elements of SVG, appended to a text.
+//! Elements of SVG, appended to a text. Words have none of the characters to which XML gives a meaning there: `>` is not one.
 
 ghost use Rattle.std.specs.Prelude.{◌≡◌, ◌++◌, OnOk};
 ghost use Rattle.sci_charts.specs.Elements.{arrow_element, attribute, block_element, circle_element, class_attribute, cross_element, event_element, label_element, opening, point_text, title_element, way_text};
@@ -266,21 +266,25 @@ pub fn push_use(out: &mut Vec<u8>, y: u64) -> Result<(), AllocError> {
     push_text(out, "/>\n")
 }
 
-/// Appends a white rectangle of this size, which everything else is drawn on.
-pub fn push_ground(out: &mut Vec<u8>, size: Point) -> Result<(), AllocError> {
+/// Appends a white rectangle of this size, which everything else is drawn on; so much of it is to the left of 0.
+pub fn push_ground(out: &mut Vec<u8>, margin: u64, size: Point) -> Result<(), AllocError> {
     push_opening(out, "rect", "ground")?;
-    push_text(out, " x=\"-24\"")?;
+    push_text(out, " x=\"-")?;
+    push_number(out, margin)?;
+    push_text(out, "\"")?;
     push_attribute(out, "width", size.x)?;
     push_attribute(out, "height", size.y)?;
     push_text(out, "/>\n")
 }
 
-/// Appends the opening tag of a chart of this size, in which texts of events begin at 0.
-pub fn push_svg(out: &mut Vec<u8>, size: Point) -> Result<(), AllocError> {
+/// Appends the opening tag of a chart of this size, of which so much is to the left of 0.
+pub fn push_svg(out: &mut Vec<u8>, margin: u64, size: Point) -> Result<(), AllocError> {
     push_text(out, "<svg xmlns=\"http://www.w3.org/2000/svg\"")?;
     push_attribute(out, "width", size.x)?;
     push_attribute(out, "height", size.y)?;
-    push_text(out, " viewBox=\"-24 0 ")?;
+    push_text(out, " viewBox=\"-")?;
+    push_number(out, margin)?;
+    push_text(out, " 0 ")?;
     push_point(out, size)?;
     push_text(out, "\">\n")
 }

@@ -111,10 +111,10 @@ impl Frame<'_> {
     /// Appends all of it. A group is left open, which the first block of rows ends, or the end of the chart.
     pub fn push(&self, out: &mut Vec<u8>) -> Result<(), AllocError> {
         let size = self.size();
-        push_svg(out, size)?;
+        push_svg(out, MARGIN, size)?;
         push_style(out)?;
         self.push_names(out)?;
-        push_ground(out, size)?;
+        push_ground(out, MARGIN, size)?;
         self.push_title(out)?;
         push_legend(out)?;
         push_text(out, "<path class=\"guide\" d=\"")?;
