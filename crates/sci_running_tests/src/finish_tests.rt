@@ -74,9 +74,7 @@ fn a_copy_under_way_is_last(rt: HostRuntime) -> Result<(), Fail> {
 #[test]
 fn a_joined_machine_goes_on(rt: HostRuntime) -> Result<(), Fail> {
     let running = with_a_copy_under_way(rt.alloc())?;
-    let Ok(mut machine) = running.joined(rt.alloc()) else {
-        return Err(Fail::from("not joined"));
-    };
+    let mut machine = running.joined(rt.alloc())?;
     for event in [
         Event::Accept { from: 0, node: 1 },
         Event::Perform { node: 1, line: 0 },

@@ -83,12 +83,12 @@ impl Running {
         }
     }
 
-    /// Joins the stations at hand to a machine.
-    pub(crate) fn joined(self, alloc: Global) -> Result<Machine, (FinishFault, Running)> {
+    /// Joins the stations at hand to a machine. An error if they can't be joined.
+    pub(crate) fn joined(self, alloc: Global) -> Result<Machine, Fail> {
         let Running { fabric, stations } = self;
         match fabric.join(alloc, stations) {
             Ok(machine) => Ok(machine),
-            Err((fault, fabric, stations)) => Err((fault, Running { fabric, stations })),
+            Err(_) => Err(Fail::from("not joined")),
         }
     }
 
