@@ -1,6 +1,7 @@
 -- What the calls for nodes answer.
-use Rattle.std.specs.Prelude.{◌≡◌, ℕ, ◌++◌, List, drop, length, Option, Some, None, ◌<◌, ◌%◌}
+use Rattle.std.specs.Prelude.{◌≡◌, ℕ, ◌++◌, List, drop, length, Option, Some, None, ◌<◌, ◌%◌, slice_get}
 use Rattle.sci_words.specs.declared.event.AskKind.{AskKind}
+use Rattle.sci_words.specs.declared.event.TheConstants.AskKind.{ALL}
 use Rattle.sci_words.specs.declared.operation.Op.{Op}
 use Rattle.sci_words.specs.declared.stamped.Stamped.{Stamped}
 use Rattle.sci_packets.specs.declared.packet.Packet.{Packet}
@@ -13,7 +14,7 @@ use Rattle.sci_core.specs.Node.{NodeOf, node_issuing, node_performing, node_aski
 use Rattle.sci_c_values.specs.declared.entry.SciEntry.{SciEntry}
 use Rattle.sci_c_values.specs.declared.operation.SciOp.{SciOp}
 use Rattle.sci_c_values.specs.Entry.{entry_struct}
-use Rattle.sci_c_values.specs.Operation.{SaysOp, ask_number, op_struct}
+use Rattle.sci_c_values.specs.Operation.{SaysOp, op_struct}
 use Rattle.sci_c_values.specs.declared.stamped.SciStamped.{SciStamped}
 use Rattle.sci_c_values.specs.Stamped.{stamped_struct}
 use Rattle.sci_c.specs.declared.thing.Thing.{Thing}
@@ -63,7 +64,7 @@ pub record IsAsk (old : Option Thing) (line ask : ℕ) (bytes written : List ℕ
   pub letter : Letter
   pub was : node_in old ≡ Some before
   pub is_now : node_in new ≡ Some after
-  pub number : ask ≡ ask_number kind
+  pub number : slice_get ALL ask ≡ Some kind
   pub asked : node_asking before line kind ≡ Some (after, letter)
   pub spelled : IsSpelled letter bytes written used
 
@@ -72,7 +73,7 @@ pub record IsNoAsk (old : Option Thing) (line ask : ℕ) : Type 0 where
   pub node : NodeOf
   pub kind : AskKind
   pub was : node_in old ≡ Some node
-  pub number : ask ≡ ask_number kind
+  pub number : slice_get ALL ask ≡ Some kind
   pub none : node_asking node line kind ≡ None
 
 -- the answer that waited is taken, and stands over the first bytes

@@ -1,11 +1,12 @@
 //! Nodes: the controller that a simulator has at each processor.
 
-ghost use Rattle.std.specs.Prelude.{◌≡◌, ◌≢◌, ◌≤◌, ◌<◌, ◌⊎◌, ◌↔◌, Some, None, IsSome, ◌%◌, IfSome};
+ghost use Rattle.std.specs.Prelude.{◌≡◌, ◌≢◌, ◌≤◌, ◌<◌, ◌⊎◌, ◌↔◌, Some, None, IsSome, ◌%◌, IfSome, slice_get};
 ghost use Rattle.sci_home.specs.Serving.{current_of};
 ghost use Rattle.sci_core.specs.Node.{IsAtRest, home_of, lines_of, node_performing, node_replying, opening_node, pending_on};
 ghost use Rattle.sci_core.specs.Size.{IsMachineSize};
 ghost use Rattle.sci_c_values.specs.declared.status.TheConstants.{SCI_MISUSE, SCI_NOT_ENABLED, SCI_NO_MEMORY, SCI_OK, SCI_RANGE};
-ghost use Rattle.sci_c_values.specs.Operation.{SaysNoAsk, SaysNoOp};
+ghost use Rattle.sci_words.specs.declared.event.TheConstants.AskKind.{ALL};
+ghost use Rattle.sci_c_values.specs.Operation.{SaysNoOp};
 ghost use Rattle.sci_c.specs.declared.thing.Kind.TheVariants as kind;
 ghost use Rattle.sci_c.specs.Closing.{IsClosed, IsOpened};
 ghost use Rattle.sci_c.specs.Kinds.{OnNode, node_in};
@@ -17,11 +18,11 @@ use crate::handle::SciObject;
 use crate::thing::{Kind, Thing};
 use sci_c_values::{
     SCI_MISUSE, SCI_NO_MEMORY, SCI_NOT_ENABLED, SCI_OK, SCI_RANGE, SciEntry, SciOp, SciStamped,
-    ask_in, entry_out, op_in, op_out, stamped_out,
+    entry_out, op_in, op_out, stamped_out,
 };
 use sci_core::Node;
 use sci_packets::encode;
-use sci_words::{Extent, MAX_OPERATIONS, Stamped};
+use sci_words::{AskKind, Extent, MAX_OPERATIONS, Stamped};
 use std::alloc::Global;
 
 /// Puts a node's controller into an empty object.
@@ -132,7 +133,7 @@ pub extern "C" fn sci_node_ask(
     ensures done { result ≡ SCI_OK
         → IsAsk object.old.value line ask bytes.old bytes.new used.new object.new.value }
     ensures refused { result ≡ SCI_NOT_ENABLED → IsNoAsk object.old.value line ask }
-    ensures range { result ≡ SCI_RANGE → SaysNoAsk ask }
+    ensures range { result ≡ SCI_RANGE → slice_get ALL ask ≡ None }
     ensures range_node { result ≡ SCI_RANGE → IsSome (node_in object.old.value) }
     ensures misuse { result ≡ SCI_MISUSE → node_in object.old.value ≡ None }
     ensures status { (result ≤ SCI_MISUSE) × (result ≢ SCI_NO_MEMORY) }
@@ -144,7 +145,7 @@ pub extern "C" fn sci_node_ask(
         return SCI_MISUSE;
     }
     match object.as_mut() {
-        Thing::Node(node) => match ask_in(ask) {
+        Thing::Node(node) => match AskKind::with_number(ask) {
             Some(kind) => match node.ask(line, kind) {
                 Some(packet) => {
                     *used = encode(&packet, bytes);

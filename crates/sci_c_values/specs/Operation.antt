@@ -1,7 +1,6 @@
 -- The operation, the kind of ask and the event that a struct says.
-use Rattle.std.specs.Prelude.{◌≡◌, ℕ}
-use Rattle.sci_words.specs.declared.event.AskKind.{AskKind}
-use Rattle.sci_words.specs.declared.event.AskKind.TheVariants.{Mread, Fread, Cread, Claim, Clear, Purge, Roll, Wback, Setback}
+use Rattle.std.specs.Prelude.{◌≡◌, ℕ, Some, slice_get}
+use Rattle.sci_words.specs.declared.event.TheConstants.AskKind.{ALL}
 use Rattle.sci_words.specs.declared.event.Event.{Event}
 use Rattle.sci_words.specs.declared.event.Event.TheVariants.{Issue, Perform, Ask, Serve, Refuse, Reply, Accept}
 use Rattle.sci_words.specs.declared.operation.Act.{Act}
@@ -68,20 +67,6 @@ pub record SaysOp (c : SciOp) (op : Op) : Type 0 where
 abbrev pub SaysNoOp : SciOp → Type 0
 SaysNoOp c = (op : Op) → SaysOp c op → ⊥
 
-abbrev pub ask_number : AskKind → ℕ
-ask_number Mread = 0
-ask_number Fread = 1
-ask_number Cread = 2
-ask_number Claim = 3
-ask_number Clear = 4
-ask_number Purge = 5
-ask_number Roll = 6
-ask_number Wback = 7
-ask_number Setback = 8
-
-abbrev pub SaysNoAsk : ℕ → Type 0
-SaysNoAsk number = (kind : AskKind) → number ≡ ask_number kind → ⊥
-
 abbrev pub event_number : Event → ℕ
 event_number (Issue n op) = 0
 event_number (Perform n line) = 1
@@ -95,7 +80,7 @@ event_number (Accept from n) = 6
 abbrev pub SaysParts : SciEvent → Event → Type 0
 SaysParts c (Issue n op) = (c.node ≡ n) × SaysOp c.op op
 SaysParts c (Perform n line) = (c.node ≡ n) × (c.line ≡ line)
-SaysParts c (Ask n line kind) = (c.node ≡ n) × (c.line ≡ line) × (c.ask ≡ ask_number kind)
+SaysParts c (Ask n line kind) = (c.node ≡ n) × (c.line ≡ line) × (slice_get ALL c.ask ≡ Some kind)
 SaysParts c (Serve from n) = (c.from ≡ from) × (c.node ≡ n)
 SaysParts c (Refuse from n) = (c.from ≡ from) × (c.node ≡ n)
 SaysParts c (Reply n) = c.node ≡ n

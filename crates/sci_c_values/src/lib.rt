@@ -9,7 +9,7 @@ mod status;
 mod verdict;
 
 pub use entry::{SciEntry, entry_in, entry_out};
-pub use operation::{SciEvent, SciOp, ask_in, event_in, op_in, op_out};
+pub use operation::{SciEvent, SciOp, event_in, op_in, op_out};
 pub use packet::{PacketRefusal, SciPacket, packet_in, packet_out, status_of_fault};
 pub use stamped::{SciStamped, stamped_in, stamped_out};
 pub use status::{

@@ -1,7 +1,7 @@
 //! Operations and events.
 
 ghost use Rattle.std.specs.Prelude.{◌≡◌, MatchOption};
-ghost use Rattle.sci_c_values.specs.Operation.{SaysAct, SaysEvent, SaysNoAct, SaysNoAsk, SaysNoEvent, SaysNoOp, SaysOp, ask_number, op_struct};
+ghost use Rattle.sci_c_values.specs.Operation.{SaysAct, SaysEvent, SaysNoAct, SaysNoEvent, SaysNoOp, SaysOp, op_struct};
 
 use sci_words::{Act, AskKind, Event, LockOp, Op};
 
@@ -86,24 +86,6 @@ pub fn op_out(op: &Op) -> SciOp
     }
 }
 
-/// The kind of ask that has this number, or None if none has.
-pub fn ask_in(number: u8) -> Option<AskKind>
-    ensures { MatchOption result (SaysNoAsk number) (λ kind. number ≡ ask_number kind) }
-{
-    match number {
-        0 => Some(AskKind::Mread),
-        1 => Some(AskKind::Fread),
-        2 => Some(AskKind::Cread),
-        3 => Some(AskKind::Claim),
-        4 => Some(AskKind::Clear),
-        5 => Some(AskKind::Purge),
-        6 => Some(AskKind::Roll),
-        7 => Some(AskKind::Wback),
-        8 => Some(AskKind::Setback),
-        _ => None,
-    }
-}
-
 /// The event that the struct says, or None if it says none.
 pub fn event_in(event: &SciEvent) -> Option<Event>
     ensures { MatchOption result (SaysNoEvent event.now) (SaysEvent event.now) }
@@ -122,7 +104,7 @@ pub fn event_in(event: &SciEvent) -> Option<Event>
             None => None,
         },
         1 => Some(Event::Perform { node, line }),
-        2 => match ask_in(ask) {
+        2 => match AskKind::with_number(ask) {
             Some(kind) => Some(Event::Ask { node, line, kind }),
             None => None,
         },

@@ -5,8 +5,6 @@ use Rattle.rand_xoshiro.specs.Xoshiro256.{of_seed, plus_plus}
 use Rattle.sci_words.specs.declared.operation.Act.{Act}
 use Rattle.sci_words.specs.declared.operation.Act.TheVariants.{Load, Store, Lock}
 use Rattle.sci_words.specs.declared.operation.LockOp.TheVariants.{MaskSwap, CompareSwap, FetchAdd, BoundedAdd, WrapAdd}
-use Rattle.sci_words.specs.declared.event.AskKind.{AskKind}
-use Rattle.sci_words.specs.declared.event.AskKind.TheVariants.{Mread, Fread, Cread, Claim, Clear, Purge, Roll, Wback, Setback}
 
 -- the state of a seed
 unfoldable pub seeded : ℕ → List ℕ
@@ -19,10 +17,6 @@ drawn bound state = (plus_plus state).0 / 2 ^ 32 * bound / 2 ^ 32
 -- the state after one number
 unfoldable pub after : List ℕ → List ℕ
 after state = (plus_plus state).1
-
--- the kinds of asks, in the order of the numbers that they are drawn by
-abbrev pub kinds : List AskKind
-kinds = Mread ∷ Fread ∷ Cread ∷ Claim ∷ Clear ∷ Purge ∷ Roll ∷ Wback ∷ Setback ∷ []
 
 -- the word that a state gives: the greatest one or 0 to 3
 abbrev pub word_of : List ℕ → ℕ

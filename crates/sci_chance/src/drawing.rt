@@ -1,8 +1,9 @@
 //! Lines, operations and kinds of asks that are drawn.
 
 ghost use Rattle.std.specs.Prelude.{◌≡◌, ◌<◌, ◌==◌, if◌then◌else◌, min, slice_get, true};
-ghost use Rattle.sci_chance.specs.Drawing.{IsActOf, after, drawn, kinds, word_of};
+ghost use Rattle.sci_chance.specs.Drawing.{IsActOf, after, drawn, word_of};
 ghost use Rattle.sci_words.specs.Operation.{has_words};
+ghost use Rattle.sci_words.specs.declared.event.TheConstants.AskKind.{ALL};
 ghost use Rattle.sci_words.specs.declared.limits.TheConstants.{WORDS_PER_LINE};
 
 use crate::random::Random;
@@ -67,18 +68,8 @@ pub fn any_operation(random: &mut Random, line: u8) -> Op
 
 /// A kind of ask, each as often as the others.
 pub fn any_kind(random: &mut Random) -> AskKind
-    ensures drawn { slice_get kinds (drawn 9 random.old) ≡ Some result }
+    ensures drawn { slice_get ALL (drawn 9 random.old) ≡ Some result }
     ensures after { random.new ≡ after random.old }
 {
-    match random.below(9) {
-        0 => AskKind::Mread,
-        1 => AskKind::Fread,
-        2 => AskKind::Cread,
-        3 => AskKind::Claim,
-        4 => AskKind::Clear,
-        5 => AskKind::Purge,
-        6 => AskKind::Roll,
-        7 => AskKind::Wback,
-        _ => AskKind::Setback,
-    }
+    AskKind::ALL[usize::from(random.below(9))]
 }

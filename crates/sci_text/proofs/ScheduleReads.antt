@@ -5,6 +5,8 @@ use Rattle.std.specs.Option.{SomeIff}
 use Rattle.std.proofs.lemmas.Option.{some_pair_parts}
 use Rattle.sci_words.specs.declared.event.AskKind.{AskKind}
 use Rattle.sci_words.specs.declared.event.AskKind.TheVariants.{Mread}
+use Rattle.sci_words.specs.declared.event.TheConstants.AskKind.{ALL}
+use Rattle.sci_words.specs.Event.{kind_word}
 use Rattle.sci_words.specs.declared.event.Event.{Event}
 use Rattle.sci_words.specs.declared.event.Event.TheVariants.{Issue, Perform, Ask, Serve, Refuse, Reply, Accept}
 use Rattle.sci_words.specs.declared.operation.Op.{Op}
@@ -19,8 +21,8 @@ use Rattle.sci_text.proofs.Numbers.{field_short}
 use Rattle.sci_text.specs.Number.{field}
 use Rattle.sci_text.specs.Operation.{operation}
 use Rattle.sci_text.specs.Reading.{◌>>=◌, fitting, field_read, after, byte, both, spelled, operation_read}
-use Rattle.sci_text.specs.Schedule.{kind_word, event_word, first_node, event_details, event_line}
-use Rattle.sci_text.specs.ScheduleReading.{all_kinds, all_verbs, verb_word, kind_read, verb_read, numbered_read, details_read, event_line_read}
+use Rattle.sci_text.specs.Schedule.{event_word, first_node, event_details, event_line}
+use Rattle.sci_text.specs.ScheduleReading.{all_verbs, verb_word, kind_read, verb_read, numbered_read, details_read, event_line_read}
 use Rattle.sci_text.proofs.Numbers.{Ends, field_again, ends_field, field_found}
 use Rattle.sci_text.proofs.Words.{after_again, after_found, spelled_found}
 use Rattle.sci_text.proofs.Operations.{mapped, byte_is, both_is, bind_some, OpFits, operation_again, operation_found}
@@ -143,13 +145,13 @@ ask_found : (a : ℕ) (bytes : List ℕ) (o : Option Event) (rest : List ℕ) �
 unfolding details_read kind_read
 ask_found a bytes o rest e =
     let event : Option ℕ → AskKind → Option Event = λ x kind. option_map (λ p. Ask p.0 p.1 kind) (both (byte (fitting a)) (byte x)) in
-    let s = bind_some (field_read bytes) (λ x. after (codes " ") x.1 >>= λ g. spelled kind_word all_kinds g >>= λ k. Some (event x.0 k.0, k.1)) (o, rest) e in
-    let g = bind_some (after (codes " ") s.0.1) (λ g. spelled kind_word all_kinds g >>= λ k. Some (event s.0.0 k.0, k.1)) (o, rest) s.2 in
-    let k = bind_some (spelled kind_word all_kinds g.0) (λ k. Some (event s.0.0 k.0, k.1)) (o, rest) g.2 in
+    let s = bind_some (field_read bytes) (λ x. after (codes " ") x.1 >>= λ g. spelled kind_word ALL g >>= λ k. Some (event x.0 k.0, k.1)) (o, rest) e in
+    let g = bind_some (after (codes " ") s.0.1) (λ g. spelled kind_word ALL g >>= λ k. Some (event s.0.0 k.0, k.1)) (o, rest) s.2 in
+    let k = bind_some (spelled kind_word ALL g.0) (λ k. Some (event s.0.0 k.0, k.1)) (o, rest) g.2 in
     let line = field_found bytes s.0.0 s.0.1 s.1 in
     let kind = k.0.0 in
     let parts = some_pair_parts (event s.0.0 kind) o k.0.1 rest k.2 in
-    let word : g.0 ≡ kind_word kind ++ rest = spelled_found kind_word all_kinds g.0 kind k.0.1 k.1 ∙ ap (λ (l : List ℕ). kind_word kind ++ l) parts.1 in
+    let word : g.0 ≡ kind_word kind ++ rest = spelled_found kind_word ALL g.0 kind k.0.1 k.1 ∙ ap (λ (l : List ℕ). kind_word kind ++ l) parts.1 in
     let gap : s.0.1 ≡ codes " " ++ (kind_word kind ++ rest) = after_found (codes " ") s.0.1 g.0 g.1 ∙ ap (λ (l : List ℕ). codes " " ++ l) word in
     let regrouped : (field line.0 ++ (codes " " ++ kind_word kind)) ++ rest ≡ field line.0 ++ (codes " " ++ (kind_word kind ++ rest)) = simp append_assoc in (
       Ask a line.0 kind,

@@ -2,10 +2,9 @@
 use Rattle.std.specs.Prelude.{ℕ, ◌<◌, ◌≤◌, List, [], ◌∷◌, ◌++◌, length, codes, All}
 use Rattle.std.specs.List.{flat_map}
 use Rattle.sci_words.specs.declared.limits.TheConstants.{MAX_EVENTS}
-use Rattle.sci_words.specs.declared.event.AskKind.{AskKind}
-use Rattle.sci_words.specs.declared.event.AskKind.TheVariants.{Mread, Fread, Cread, Claim, Clear, Purge, Roll, Wback, Setback}
 use Rattle.sci_words.specs.declared.event.Event.{Event}
 use Rattle.sci_words.specs.declared.event.Event.TheVariants.{Issue, Perform, Ask, Serve, Refuse, Reply, Accept}
+use Rattle.sci_words.specs.Event.{kind_word}
 use Rattle.sci_words.specs.Extent.{AreWithinLimits}
 use Rattle.sci_text.specs.declared.script.PushFault.{PushFault}
 use Rattle.sci_text.specs.Number.{field}
@@ -48,18 +47,6 @@ EventRefusal s event fault =
     Refusal (IsEventWithin s.nodes s.lines event) (MAX_EVENTS ≤ length s.events) (length s.events < MAX_EVENTS) fault
 
 -- ---- the text
-
--- the word for what is asked
-abbrev pub kind_word : AskKind → List ℕ
-kind_word Mread = codes "mread"
-kind_word Fread = codes "fread"
-kind_word Cread = codes "cread"
-kind_word Claim = codes "claim"
-kind_word Clear = codes "clear"
-kind_word Purge = codes "purge"
-kind_word Roll = codes "roll"
-kind_word Wback = codes "wback"
-kind_word Setback = codes "setback"
 
 -- the word for what happens
 abbrev pub event_word : Event → List ℕ

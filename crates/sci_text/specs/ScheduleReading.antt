@@ -2,19 +2,16 @@
 -- public contract rests on these words; laws in proofs/ join them to the texts.
 use Rattle.std.specs.Prelude.{ℕ, List, [], ◌∷◌, Option, Some, option_map, codes}
 use Rattle.sci_words.specs.declared.event.AskKind.{AskKind}
-use Rattle.sci_words.specs.declared.event.AskKind.TheVariants.{Mread, Fread, Cread, Claim, Clear, Purge, Roll, Wback, Setback}
+use Rattle.sci_words.specs.declared.event.TheConstants.AskKind.{ALL}
 use Rattle.sci_words.specs.declared.event.Event.{Event}
 use Rattle.sci_words.specs.declared.event.Event.TheVariants as events
 use Rattle.sci_text.specs.declared.schedule_event.Verb.{Verb}
 use Rattle.sci_text.specs.declared.schedule_event.Verb.TheVariants as verbs
+use Rattle.sci_words.specs.Event.{kind_word}
 use Rattle.sci_text.specs.Reading.{◌>>=◌, field_read, after, byte, both, spelled, operation_read}
-use Rattle.sci_text.specs.Schedule.{kind_word}
-
-abbrev pub all_kinds : List AskKind
-all_kinds = Mread ∷ Fread ∷ Cread ∷ Claim ∷ Clear ∷ Purge ∷ Roll ∷ Wback ∷ Setback ∷ []
 
 unfoldable pub kind_read : List ℕ → Option (AskKind × List ℕ)
-kind_read bytes = spelled kind_word all_kinds bytes
+kind_read bytes = spelled kind_word ALL bytes
 
 abbrev pub verb_word : Verb → List ℕ
 verb_word verbs.Issue = codes "issue"

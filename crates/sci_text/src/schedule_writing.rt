@@ -4,7 +4,7 @@ ghost use Rattle.std.specs.Prelude.{◌≡◌, ◌+◌, ◌≤◌, ◌++◌, fal
 ghost use Rattle.std.specs.Io.KnownBytes.{Appends};
 ghost use Rattle.sci_words.specs.declared.limits.TheConstants.{MAX_INPUT_BYTES, MAX_TEXT_LINE_BYTES};
 ghost use Rattle.sci_text.specs.Writing.{IsWriteFault};
-ghost use Rattle.sci_text.specs.Schedule.{IsSchedule, event_details, event_line, event_lines, event_word as word_of_event, first_node as node_of_event, kind_word as word_of_kind, schedule_text as text_of};
+ghost use Rattle.sci_text.specs.Schedule.{IsSchedule, event_details, event_line, event_lines, event_word as word_of_event, first_node as node_of_event, schedule_text as text_of};
 ghost use Rattle.sci_text.specs.Script.{machine_line};
 ghost use Rattle.sci_text.specs.Tap.{has_failed, is_called_again, tapped};
 
@@ -15,27 +15,9 @@ use crate::schedule::Schedule;
 use crate::schedule_laws::schedules_are_short;
 use crate::tap::Tap;
 use crate::writing::write_text;
-use sci_words::{AskKind, Event, Extent};
+use sci_words::{Event, Extent};
 use std::alloc::{AllocError, Global};
 use std::io::Write;
-
-/// The word for what is asked, as it stands in a schedule.
-pub fn kind_word(kind: AskKind) -> &'static str
-    ensures word { result.now ≡ word_of_kind kind }
-    ensures short { length result.now ≤ 7 }
-{
-    match kind {
-        AskKind::Mread => "mread",
-        AskKind::Fread => "fread",
-        AskKind::Cread => "cread",
-        AskKind::Claim => "claim",
-        AskKind::Clear => "clear",
-        AskKind::Purge => "purge",
-        AskKind::Roll => "roll",
-        AskKind::Wback => "wback",
-        AskKind::Setback => "setback",
-    }
-}
 
 /// The word of an event, as it stands in a schedule: `issue`, `perform` and so on.
 pub fn event_word(event: Event) -> &'static str
@@ -83,7 +65,7 @@ fn put_details(line: &mut LineEnd, event: Event)
             kind,
             ..
         } => {
-            line.put_text(kind_word(kind));
+            line.put_text(kind.word());
             line.put_text(" ");
             line.put_field(u64::from(number));
         }

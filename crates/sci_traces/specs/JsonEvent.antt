@@ -12,7 +12,8 @@ use Rattle.sci_core.specs.declared.obstacle.Obstacle.TheVariants.{NotAllowed, No
 use Rattle.sci_core.specs.Node.{home_of, lines_of}
 use Rattle.sci_core.specs.Core.{Core, node_at, node_of, stepping}
 use Rattle.sci_core.specs.Obstacles.{obstacle_to}
-use Rattle.sci_text.specs.Schedule.{event_word, kind_word}
+use Rattle.sci_words.specs.Event.{kind_word}
+use Rattle.sci_text.specs.Schedule.{event_word}
 use Rattle.sci_traces.specs.JsonMembers.{number_member, object_member, text_member, truth_member}
 use Rattle.sci_traces.specs.JsonParts.{entry_members, home_members, operation_members, packet_members, state_members}
 use Rattle.sci_traces.specs.declared.json_event.When.{When}

@@ -7,7 +7,8 @@ use Rattle.sci_core.specs.declared.obstacle.Obstacle.TheVariants.{NoSuchNode, No
 use Rattle.sci_core.specs.declared.obstacle.Obstacle.TheVariants.{NotAllowed, NotAsked, NoSlot, NothingUnderWay, AnswerWaits, SetbackComes, NoAnswerWaits}
 use Rattle.sci_core.specs.Core.{node_of}
 use Rattle.sci_text.specs.Number.{field}
-use Rattle.sci_text.specs.Schedule.{first_node, kind_word}
+use Rattle.sci_words.specs.Event.{kind_word}
+use Rattle.sci_text.specs.Schedule.{first_node}
 
 -- the line that an Issue, a Perform or an Ask names
 unfoldable pub line_named : Event → ℕ

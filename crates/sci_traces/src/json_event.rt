@@ -15,7 +15,7 @@ use sci_core::{Machine, Obstacle, node_of};
 use sci_history::Entry;
 use sci_packets::Packet;
 use sci_statistics::{line_changed, sent, taken};
-use sci_text::{event_word, kind_word};
+use sci_text::event_word;
 use sci_words::Event;
 use std::alloc::{AllocError, Global};
 
@@ -50,7 +50,7 @@ fn write_parts(out: &mut Writer, event: &Event) -> Result<(), AllocError>
         Event::Perform { node, line } => write_naming(out, node, line),
         Event::Ask { node, line, kind } => {
             write_naming(out, node, line)?;
-            write_text(out, "request", kind_word(kind))
+            write_text(out, "request", kind.word())
         }
         Event::Serve { from, node } | Event::Refuse { from, node } | Event::Accept { from, node } =>
             write_taking(out, from, node),

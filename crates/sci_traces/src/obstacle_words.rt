@@ -6,7 +6,7 @@ ghost use Rattle.sci_traces.specs.ObstacleWords.{lacking_words, line_named as li
 
 use sci_command::push_labelled;
 use sci_core::{Obstacle, node_of};
-use sci_text::{kind_word, push_field, push_text};
+use sci_text::{push_field, push_text};
 use sci_words::Event;
 use std::alloc::AllocError;
 
@@ -28,7 +28,7 @@ fn word_asked(event: &Event) -> &'static str
     ensures { result.now ≡ word_asked_of event.now }
 {
     match *event {
-        Event::Ask { kind, .. } => kind_word(kind),
+        Event::Ask { kind, .. } => kind.word(),
         _ => "",
     }
 }

@@ -1,3 +1,4 @@
+pub mod Event
 pub mod Extent
 pub mod Operation
 pub mod Stamped

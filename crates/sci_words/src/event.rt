@@ -1,5 +1,8 @@
 //! What can happen next in a machine.
 
+ghost use Rattle.std.specs.Prelude.{◌≡◌, ◌≤◌, length, slice_get};
+ghost use Rattle.sci_words.specs.Event.{kind_word};
+
 use crate::operation::Op;
 
 /// What a cache asks of a home or of another cache.
@@ -23,6 +26,46 @@ pub enum AskKind {
     Wback,
     /// What a leaver tells the entry behind it: its new backward identifier.
     Setback,
+}
+
+impl AskKind {
+    /// All kinds, in the order of their numbers.
+    pub const ALL: [AskKind; 9] = [
+        AskKind::Mread,
+        AskKind::Fread,
+        AskKind::Cread,
+        AskKind::Claim,
+        AskKind::Clear,
+        AskKind::Purge,
+        AskKind::Roll,
+        AskKind::Wback,
+        AskKind::Setback,
+    ];
+
+    /// The kind with this number, 0 to 8, or None if none has it.
+    pub fn with_number(number: u8) -> Option<AskKind>
+        ensures { result ≡ slice_get AskKind.ALL number }
+    {
+        AskKind::ALL.get(usize::from(number)).copied()
+    }
+
+    /// The kind's word in texts, such as `mread`.
+    pub fn word(self) -> &'static str
+        ensures word { result.now ≡ kind_word self }
+        ensures short { length result.now ≤ 7 }
+    {
+        match self {
+            AskKind::Mread => "mread",
+            AskKind::Fread => "fread",
+            AskKind::Cread => "cread",
+            AskKind::Claim => "claim",
+            AskKind::Clear => "clear",
+            AskKind::Purge => "purge",
+            AskKind::Roll => "roll",
+            AskKind::Wback => "wback",
+            AskKind::Setback => "setback",
+        }
+    }
 }
 
 /// An atomic step of the machine. Nodes and lines count from 0.

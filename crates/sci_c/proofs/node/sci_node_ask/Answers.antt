@@ -1,4 +1,4 @@
-use Rattle.std.proofs.Common.{rules, refl}
+use Rattle.std.proofs.Common.{rules, refl, sym}
 use Rattle.sci_cache.specs.Cache.{letter_of}
 use Rattle.sci_c.proofs.node.sci_node_ask.Goals as goal
 
@@ -10,7 +10,7 @@ returns-in-Some-ask-clause-done c = λ status. record {
   letter = letter_of c.in-Some-ask.packet;
   was = search rules;
   is_now = refl;
-  number = c.in-Some.ensures;
+  number = sym c.in-Some.ensures;
   asked = c.in-Some-ask.ensures.asked;
   spelled = record { packet = c.in-Some-ask.packet; letter_is = refl; bytes = c.encode.ensures.bytes; length_is = c.encode.ensures.length };
 }
