@@ -1,75 +1,87 @@
 -- Two bodies with the same parts are the same body, and the table knows each body's command.
-use Rattle.std.proofs.Common.{◌≡◌, ℕ, zero, suc, get_or, ◌<◌, ◌^◌, true, false, List, ◌∷◌, ◌++◌, Option, Some, None, refl, sym, ap, ◌∙◌, arith}
-use Rattle.std.specs.Prelude.{◌==◌, if◌then◌else◌, IfSome, unwrap_or}
+use Rattle.std.proofs.Common.{◌≡◌, ℕ, zero, suc, get_or, ◌<◌, ◌^◌, false, List, ◌∷◌, ◌++◌, Option, Some, None, refl, sym, ap, ◌∙◌, arith}
+use Rattle.std.specs.Prelude.{IfSome, unwrap_or}
 use Rattle.std.specs.Option.{is_some}
 use Rattle.sci_words.specs.declared.stamped.Stamped.{Stamped}
 use Rattle.sci_words.specs.Stamped.{zero_stamped}
 use Rattle.sci_packets.specs.declared.body.Body.{Body}
-use Rattle.sci_packets.specs.declared.body.Body.TheVariants.{Mread, Cread, Purge, Roll, Wback, Setback, Fread, Claim, Clear, Mdata, Mgone, Cdata, Purged}
-use Rattle.sci_packets.specs.declared.body.Body.TheVariants.{Rolled, Wbok, Wbno, Told, Busy, Fdata}
-use Rattle.sci_packets.specs.declared.table.Parts.{Parts}
+use Rattle.sci_packets.specs.declared.body.Body.TheVariants as body
+use Rattle.sci_packets.specs.declared.command.Command.{Command}
+use Rattle.sci_packets.specs.declared.command.Command.TheVariants.{Mread, Cread, Purge, Roll, Wback, Setback, Fread, Claim, Clear, Mdata, Mgone, Cdata}
+use Rattle.sci_packets.specs.declared.command.Command.TheVariants.{Purged, Rolled, Wbok, Wbno, Told, Busy, Fdata}
 use Rattle.sci_packets.specs.Fields.{word_bytes, contents_words}
 use Rattle.sci_packets.specs.Spelling.{IsContents}
-use Rattle.sci_packets.specs.Table.{parts_of, number_of, is_command, is_misnamed, takes_contents}
+use Rattle.sci_packets.specs.Table.{carries, command_number, command_of, command_with, parts_of, number_of, is_misnamed, takes_contents}
 use Rattle.sci_packets.proofs.Fields.{words_cancel}
 
--- the body of parts, whatever it is if there is none
-unfoldable body_from : Parts → Body
-body_from p =
-    let c = p.command in
-    let id = unwrap_or p.identifier 0 in
-    let stamped = unwrap_or p.contents zero_stamped in
-    if c == 0x0001 then Mread
-    else (if c == 0x0002 then Cread
-    else (if c == 0x0003 then Purge
-    else (if c == 0x0004 then Roll p.identifier
-    else (if c == 0x0005 then Wback stamped
-    else (if c == 0x0006 then Setback id
-    else (if c == 0x0007 then Fread
-    else (if c == 0x0008 then Claim
-    else (if c == 0x0009 then Clear
-    else (if c == 0x0101 then Mdata stamped
-    else (if c == 0x0102 then Mgone id
-    else (if c == 0x0103 then Cdata stamped
-    else (if c == 0x0104 then Purged p.identifier
-    else (if c == 0x0105 then Rolled
-    else (if c == 0x0106 then Wbok
-    else (if c == 0x0107 then Wbno
-    else (if c == 0x0108 then Told
-    else (if c == 0x0109 then Busy
-    else Fdata p.identifier stamped)))))))))))))))))
+-- the body of a command with this identifier and these contents, as far as it takes them
+unfoldable body_with : Command → Option ℕ → Option Stamped → Body
+body_with Mread id stamped = body.Mread
+body_with Cread id stamped = body.Cread
+body_with Purge id stamped = body.Purge
+body_with Roll id stamped = body.Roll id
+body_with Wback id stamped = body.Wback (unwrap_or stamped zero_stamped)
+body_with Setback id stamped = body.Setback (unwrap_or id 0)
+body_with Fread id stamped = body.Fread
+body_with Claim id stamped = body.Claim
+body_with Clear id stamped = body.Clear
+body_with Mdata id stamped = body.Mdata (unwrap_or stamped zero_stamped)
+body_with Mgone id stamped = body.Mgone (unwrap_or id 0)
+body_with Cdata id stamped = body.Cdata (unwrap_or stamped zero_stamped)
+body_with Purged id stamped = body.Purged id
+body_with Rolled id stamped = body.Rolled
+body_with Wbok id stamped = body.Wbok
+body_with Wbno id stamped = body.Wbno
+body_with Told id stamped = body.Told
+body_with Busy id stamped = body.Busy
+body_with Fdata id stamped = body.Fdata id (unwrap_or stamped zero_stamped)
 
-body_from-parts_of : (body : Body) → body_from (parts_of body) ≡ body
-unfolding body_from parts_of
-body_from-parts_of (Roll forward) = refl
-body_from-parts_of _ = refl
+body_again : (b : Body) → body_with (parts_of b).command (parts_of b).identifier (parts_of b).contents ≡ b
+unfolding body_with parts_of
+body_again (body.Roll forward) = refl
+body_again _ = refl
 
-joined : (made : ℕ → Option ℕ → Option Stamped → Parts) (c c' : ℕ) (i i' : Option ℕ) (s s' : Option Stamped) → c ≡ c' → i ≡ i' → s ≡ s'
-    → made c i s ≡ made c' i' s'
-joined made c c' i i' s s' p q r = cc
+joined : (c c' : Command) (i i' : Option ℕ) (s s' : Option Stamped) → c ≡ c' → i ≡ i' → s ≡ s' → body_with c i s ≡ body_with c' i' s'
+joined c c' i i' s s' p q r = cc
 
-pub same_body : (a b : Body) → (parts_of a).command ≡ (parts_of b).command → (parts_of a).identifier ≡ (parts_of b).identifier
+pub same_body : (a b : Body) → command_of a ≡ command_of b → (parts_of a).identifier ≡ (parts_of b).identifier
     → (parts_of a).contents ≡ (parts_of b).contents → a ≡ b
-same_body a b c i s =
-    let e : parts_of a ≡ parts_of b = joined (λ c i s. record { command = c; identifier = i; contents = s }) _ _ _ _ _ _ c i s in
-    sym (body_from-parts_of a) ∙ ap body_from e ∙ body_from-parts_of b
+same_body a b c i s = sym (body_again a) ∙ joined _ _ _ _ _ _ c i s ∙ body_again b
+
+-- commands by their numbers
+pub command_again : (c : Command) → command_with (command_number c) ≡ Some c
+unfolding command_with
+command_again Mread = refl
+command_again _ = refl
+
+some_same : (c d : Command) → Some c ≡ Some d → c ≡ d
+some_same c d e = cc
+
+pub same_command : (c d : Command) → command_number c ≡ command_number d → c ≡ d
+same_command c d e = some_same c d (sym (command_again c) ∙ ap command_with e ∙ command_again d)
+
+pub number-above : (c : Command) → 0 < command_number c
+number-above Mread = omega arith
+number-above _ = omega arith
+
+pub number-lt : (c : Command) → command_number c < 2 ^ 16
+number-lt Mread = omega arith
+number-lt _ = omega arith
 
 -- what the table says of the command of each body
-pub record IsKnown (p : Parts) : Type 0 where
-  pub command : is_command p.command ≡ true
-  pub identifier : is_misnamed p.command p.identifier ≡ false
-  pub contents : takes_contents p.command ≡ is_some p.contents
-  pub above : 0 < p.command
-  pub below : p.command < 2 ^ 16
-
-known : (p : Parts) → is_command p.command ≡ true → is_misnamed p.command p.identifier ≡ false → takes_contents p.command ≡ is_some p.contents → 0 < p.command
-    → p.command < 2 ^ 16 → IsKnown p
-known p a b c d e = record { command = a; identifier = b; contents = c; above = d; below = e }
-
-pub is_known : (body : Body) → IsKnown (parts_of body)
+pub is_named : (b : Body) → is_misnamed (command_of b) (parts_of b).identifier ≡ false
 unfolding parts_of is_misnamed
-is_known (Roll forward) = known _ refl refl refl (omega arith) (omega arith)
-is_known _ = known _ refl refl refl (omega arith) (omega arith)
+is_named (body.Roll forward) = refl
+is_named _ = refl
+
+pub has_contents : (b : Body) → takes_contents (command_of b) ≡ is_some (parts_of b).contents
+unfolding parts_of
+has_contents (body.Roll forward) = refl
+has_contents _ = refl
+
+-- and of its number
+pub number_carries : (b : Body) → carries (command_with (command_number (command_of b))) ≡ is_some (parts_of b).contents
+number_carries b = ap carries (command_again (command_of b)) ∙ has_contents b
 
 -- identifiers by their numbers
 pub number_of-lt : (a : Option ℕ) → IfSome a (λ id. id < 0xFFFF) → number_of a < 2 ^ 16

@@ -11,6 +11,7 @@ use mathlib.Core.HLevel.{Σ_prop_path}
 use Rattle.std.proofs.Props.{props}
 use Rattle.sci_packets.specs.declared.body.Body.{Body}
 use Rattle.sci_words.specs.declared.stamped.Stamped.{Stamped}
+use Rattle.sci_packets.specs.declared.command.Command.{Command}
 use Rattle.sci_packets.specs.declared.fault.PacketFault.{PacketFault}
 use Rattle.sci_packets.specs.declared.fault.PacketFault.TheVariants.{Short}
 use Rattle.sci_packets.specs.declared.header.Header.{Header}
@@ -19,22 +20,20 @@ use Rattle.sci_packets.specs.declared.table.Parts.{Parts}
 use Rattle.sci_packets.specs.Fault.{header_fault, fault_of}
 use Rattle.sci_packets.specs.Fields.{spelled, header_in, word_bytes, contents_words, contents_in, contents_for}
 use Rattle.sci_packets.specs.Spelling.{IsContents, IsPacket, header_of, spelling, Spells, NoneSpells}
-use Rattle.sci_packets.specs.Table.{parts_of, number_of, identifier_of, body_fault, takes_contents}
-use Rattle.sci_packets.proofs.Bodies.{is_known, same_body, same_identifier, number_of-lt, contents_cancel}
+use Rattle.sci_packets.specs.Table.{carries, command_of, command_with, parts_of, number_of, identifier_of, body_fault, takes_contents}
+use Rattle.sci_packets.proofs.Bodies.{command_again, contents_cancel, has_contents, is_named, number-lt, number_carries, number_of-lt, same_body, same_command, same_identifier}
 use Rattle.sci_packets.proofs.Fields.{IsBytes, length-word_bytes, length-words_at, words_takes, words_at-lt, field_at-lt}
 use Rattle.sci_packets.proofs.Headers.{IsHeader, length-spelled, spelled-append, header_takes, header_cancel, header_in-fits}
 
 pub header_fits : (p : Packet) → IsPacket p → IsHeader (header_of p)
-header_fits p h =
-    let k = is_known p.body in
-    record {
-      target = omega (arith, h.target);
-      command = k.below;
-      source = omega (arith, h.source);
-      control = h.control;
-      offset = omega (arith, p.low_line);
-      identifier = number_of-lt (parts_of p.body).identifier h.identifier;
-    }
+header_fits p h = record {
+  target = omega (arith, h.target);
+  command = number-lt (command_of p.body);
+  source = omega (arith, h.source);
+  control = h.control;
+  offset = omega (arith, p.low_line);
+  identifier = number_of-lt (parts_of p.body).identifier h.identifier;
+}
 
 -- a line's number with its bound
 abbrev Line : Type 0
@@ -56,7 +55,9 @@ same_fields p q a b c d e =
 
 -- a packet by its header and its contents
 pub same_packet : (p q : Packet) → IsPacket p → IsPacket q → header_of p ≡ header_of q → (parts_of p.body).contents ≡ (parts_of q.body).contents → p ≡ q
-same_packet p q h k e s = grind (arith, same_identifier, same_fields, same_body)
+same_packet p q h k e s =
+    let command = same_command (command_of p.body) (command_of q.body) (ap (λ (x : Header). x.command) e) in
+    grind (arith, same_identifier, same_fields, same_body)
 
 -- spellings that agree as far as both go are of one packet
 pub spelling_cancel : (p q : Packet) (r s : List ℕ) → IsPacket p → IsPacket q → spelling p ++ r ≡ spelling q ++ s → (p ≡ q) × (r ≡ s)
@@ -67,9 +68,8 @@ spelling_cancel p q r s h k e =
     let shown = sym (spelled-append (header_of p) (word_bytes (contents_words a.contents)) r) ∙ e
     ∙ spelled-append (header_of q) (word_bytes (contents_words b.contents)) s in
     let headers = header_cancel (header_of p) (header_of q) _ _ (header_fits p h) (header_fits q k) shown in
-    let command : a.command ≡ b.command = ap (λ (x : Header). x.command) headers.0 in
     let both : is_some a.contents ≡ is_some b.contents =
-    sym (is_known p.body).contents ∙ ap (λ (c : ℕ). takes_contents c) command ∙ (is_known q.body).contents in
+    sym (number_carries p.body) ∙ ap (λ (x : Header). carries (command_with x.command)) headers.0 ∙ number_carries q.body in
     let contents = contents_cancel a.contents b.contents r s h.contents k.contents both headers.1 in
     (same_packet p q h k headers.0 contents.0, contents.1)
 
@@ -110,23 +110,24 @@ length-spelling p h = grind (arith, length-spelled, length-contents, sixteen)
 
 -- a packet that begins bytes has no fault there
 pub body_known : (p : Packet) (length : ℕ) → IsPacket p → cond (is_some (parts_of p.body).contents) 88 16 ≤ length
-    → body_fault (parts_of p.body).command (parts_of p.body).identifier length ≡ None
+    → body_fault (command_of p.body) (parts_of p.body).identifier length ≡ None
 unfolding body_fault
 body_known p length h long =
-    let k = is_known p.body in
-    rw (k.identifier, k.contents) (elim (is_some (parts_of p.body).contents) as (λ b. cond b 88 16 ≤ length
+    rw (is_named p.body, has_contents p.body) (elim (is_some (parts_of p.body).contents) as (λ b. cond b 88 16 ≤ length
     → cond (b && ltb length 88) (Some Short) None ≡ None) [
       | true ↦ λ le. rw (le-ltb length 88 le) refl
       | false ↦ λ le. refl
     ] long)
 
-pub header_known : (p : Packet) (length : ℕ) → IsPacket p → cond (is_some (parts_of p.body).contents) 88 16 ≤ length → header_fault (header_of p) length ≡ None
+pub header_known : (p : Packet) (length : ℕ) → IsPacket p → cond (is_some (parts_of p.body).contents) 88 16 ≤ length
+    → header_fault (command_with (header_of p).command) (header_of p) length ≡ None
 unfolding header_fault
-header_known p length h long = grind (arith, is_known, eqb-below, identifier_again, body_known)
+header_known p length h long = rw (command_again (command_of p.body)) (grind (arith, eqb-below, identifier_again, body_known))
 
 pub none_wrong : (p : Packet) (rest bytes : List ℕ) → IsPacket p → IsBytes bytes → bytes ≡ spelling p ++ rest → fault_of bytes ≡ None
 unfolding fault_of
-none_wrong p rest bytes h fits e = grind (arith, length-spelling, length-append, at_least, le-ltb, header_again, header_known)
+none_wrong p rest bytes h fits e =
+    rw (header_again p rest bytes h fits e) (grind (arith, length-spelling, length-append, at_least, le-ltb, header_known))
 
 -- ---- what is read is spelled so
 
@@ -142,7 +143,7 @@ contents_take : (bytes : List ℕ) → IsBytes bytes → 88 ≤ length bytes →
 unfolding contents_in
 contents_take bytes fits long = words_takes 16 9 88 bytes fits refl long
 
-pub contents_for-fits : (command : ℕ) (bytes : List ℕ) → IsBytes bytes → IfSome (contents_for command bytes) IsContents
+pub contents_for-fits : (command : Command) (bytes : List ℕ) → IsBytes bytes → IfSome (contents_for command bytes) IsContents
 contents_for-fits command bytes fits =
     elim (takes_contents command) as (λ b. IfSome (cond b (Some (contents_in bytes)) None) IsContents) [ true ↦ contents_in-fits bytes fits | false ↦ tt ]
 
@@ -150,14 +151,14 @@ taken : (b : Bool) (s t : Stamped) → Some s ≡ cond b (Some t) None → s ≡
 taken true s t e = cc
 taken false s t e = absurd cc
 
-tail_takes : (a : Option Stamped) (command : ℕ) (bytes : List ℕ) → IsBytes bytes → a ≡ contents_for command bytes → cond (is_some a) 88 16 ≤ length bytes
+tail_takes : (a : Option Stamped) (command : Command) (bytes : List ℕ) → IsBytes bytes → a ≡ contents_for command bytes → cond (is_some a) 88 16 ≤ length bytes
     → drop 16 bytes ≡ word_bytes (contents_words a) ++ drop (cond (is_some a) 88 16) bytes
 tail_takes None command bytes fits e long = refl
 tail_takes (Some s) command bytes fits e long = grind (arith, taken, contents_take)
 
 -- the bytes of a packet with the header and the contents that are read
 pub packet_takes : (p : Packet) (bytes : List ℕ) → IsBytes bytes → header_of p ≡ header_in bytes
-    → (parts_of p.body).contents ≡ contents_for (header_in bytes).command bytes → cond (is_some (parts_of p.body).contents) 88 16 ≤ length bytes
+    → (parts_of p.body).contents ≡ contents_for (command_of p.body) bytes → cond (is_some (parts_of p.body).contents) 88 16 ≤ length bytes
     → bytes ≡ spelling p ++ drop (cond (is_some (parts_of p.body).contents) 88 16) bytes
 unfolding spelling
 packet_takes p bytes fits e s long = grind (arith, at_least, header_takes, tail_takes, spelled-append)
@@ -172,7 +173,7 @@ not_short : (b : Bool) (n : ℕ) → 16 ≤ n → (b && ltb n 88) ≡ false → 
 not_short true n le h = ltb-false n 88 h
 not_short false n le h = le
 
-pub none_long : (bytes : List ℕ) → fault_of bytes ≡ None → cond (takes_contents (header_in bytes).command) 88 16 ≤ length bytes
+pub none_long : (bytes : List ℕ) → fault_of bytes ≡ None → cond (carries (command_with (header_in bytes).command)) 88 16 ≤ length bytes
 unfolding fault_of header_fault body_fault
 none_long bytes none = grind (arith, passed, not_short, ltb-false)
 
@@ -184,7 +185,7 @@ too_short bytes lt = rw (lt-ltb (length bytes) 16 lt) refl
 -- ---- the clauses of a decoder
 
 pub is_packet : (p : Packet) (bytes : List ℕ) → IsBytes bytes → header_of p ≡ header_in bytes
-    → (parts_of p.body).contents ≡ contents_for (header_in bytes).command bytes → (p.target < 0xFFFF) × (p.source < 0xFFFF)
+    → (parts_of p.body).contents ≡ contents_for (command_of p.body) bytes → (p.target < 0xFFFF) × (p.source < 0xFFFF)
     → IfSome (parts_of p.body).identifier (λ id. id < 0xFFFF) → IsPacket p
 is_packet p bytes fits e s nodes identifier = grind (arith, header_in-fits, contents_for-fits)
 
@@ -193,12 +194,11 @@ pub record Found (p : Packet) (k : ℕ) (bytes : List ℕ) : Type 0 where
   pub within : k ≤ length bytes
 
 pub is_found : (p : Packet) (k : ℕ) (bytes : List ℕ) → IsBytes bytes → header_of p ≡ header_in bytes
-    → (parts_of p.body).contents ≡ contents_for (header_in bytes).command bytes → IsPacket p → fault_of bytes ≡ None
+    → (parts_of p.body).contents ≡ contents_for (command_of p.body) bytes → IsPacket p → fault_of bytes ≡ None
     → k ≡ cond (is_some (parts_of p.body).contents) 88 16 → Found p k bytes
 is_found p k bytes fits e s h none size =
-    let command : (parts_of p.body).command ≡ (header_in bytes).command = ap (λ (x : Header). x.command) e in
-    let which : takes_contents (header_in bytes).command ≡ is_some (parts_of p.body).contents =
-    ap (λ (c : ℕ). takes_contents c) (sym command) ∙ (is_known p.body).contents in
+    let which : carries (command_with (header_in bytes).command) ≡ is_some (parts_of p.body).contents =
+    ap (λ (x : Header). carries (command_with x.command)) (sym e) ∙ number_carries p.body in
     let long : cond (is_some (parts_of p.body).contents) 88 16 ≤ length bytes =
     subst (λ (b : Bool). cond b 88 16 ≤ length bytes) which (none_long bytes none) in
     let text = packet_takes p bytes fits e s long in

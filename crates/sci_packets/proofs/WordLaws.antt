@@ -15,9 +15,9 @@ use Rattle.sci_words.specs.declared.stamped.Stamped.{Stamped}
 use Rattle.sci_packets.specs.declared.header.Header.{Header}
 use Rattle.sci_packets.specs.declared.packet.Packet.{Packet}
 use Rattle.sci_packets.specs.Fields.{field, field_at, spelled, word_bytes, words_at, contents_words, contents_in, header_in}
-use Rattle.sci_packets.specs.Spelling.{IsContents, IsPacket, header_of, spelling, Spells, SpellsInWords, first_word, second_word, words_of}
-use Rattle.sci_packets.specs.Table.{parts_of, takes_contents}
-use Rattle.sci_packets.proofs.Bodies.{is_known}
+use Rattle.sci_packets.specs.Spelling.{IsContents, IsPacket, header_of, spelling, Spells, SpellsInWords, CountsWords, first_word, second_word, words_of}
+use Rattle.sci_packets.specs.Table.{carries, command_number, command_of, command_with, parts_of}
+use Rattle.sci_packets.proofs.Bodies.{number-above, number_carries}
 use Rattle.sci_packets.proofs.Fields.{IsBytes, length-word_bytes, words_takes, words_at-lt, length-words_at, words_cancel}
 use Rattle.sci_packets.proofs.Headers.{IsHeader, header_takes, header_cancel, header_in-fits}
 use Rattle.sci_packets.proofs.Packets.{header_fits}
@@ -96,7 +96,7 @@ length-words_of p h = ap (λ (n : ℕ). suc (suc n)) (length-contents_words (par
 
 pub first_word-above : (p : Packet) → 0 < get_or (words_of p) 0 0
 unfolding words_of
-first_word-above p = let k = (is_known p.body).above in omega arith
+first_word-above p = omega (arith, number-above (command_of p.body))
 
 at_most : (b : Bool) → cond b 11 2 ≤ 11
 at_most true = omega arith
@@ -109,19 +109,19 @@ two_or_eleven false n e = inl e
 pub count_of : (p : Packet) → IsPacket p → (length (words_of p) ≡ 2) ⊎ (length (words_of p) ≡ 11)
 count_of p h = two_or_eleven (is_some (parts_of p.body).contents) (length (words_of p)) (length-words_of p h)
 
-count_of_command : (p : Packet) → IsPacket p → (c : ℕ) → c ≡ (parts_of p.body).command → cond (takes_contents c) 11 2 ≡ length (words_of p)
-count_of_command p h c is =
-    let contents : takes_contents c ≡ is_some (parts_of p.body).contents = ap (λ (x : ℕ). takes_contents x) is ∙ (is_known p.body).contents in
+count_of_command : (p : Packet) → IsPacket p → (n : ℕ) → n ≡ command_number (command_of p.body) → cond (carries (command_with n)) 11 2 ≡ length (words_of p)
+count_of_command p h n is =
+    let contents = ap (λ (x : ℕ). carries (command_with x)) is ∙ number_carries p.body in
     ap (λ (b : Bool). cond b 11 2) contents ∙ sym (length-words_of p h)
 
 -- the count that a packet's first word tells
-pub word_count_is : (p : Packet) (first : ℕ) (rest : List ℕ) → SpellsInWords p (first ∷ rest)
-    → cond (takes_contents (first / 2 ^ 32 % 2 ^ 16)) 11 2 ≡ length (first ∷ rest)
+pub counts_words : (first count : ℕ) → count ≡ cond (carries (command_with (first / 2 ^ 32 % 2 ^ 16))) 11 2 → CountsWords first count
 unfolding words_of
-word_count_is p first rest h =
+counts_words first count told = λ p rest h.
     let f = header_fits p h.packet in
     let word : first ≡ first_word (header_of p) = ap (λ (words : List ℕ). get_or words 0 0) h.spelled_so in
-    count_of_command p h.packet (first / 2 ^ 32 % 2 ^ 16) (omega (arith, word, f.target, f.command, f.source, f.control))
+    told
+    ∙ count_of_command p h.packet (first / 2 ^ 32 % 2 ^ 16) (omega (arith, word, f.target, f.command, f.source, f.control))
     ∙ ap (λ (words : List ℕ). length words) (sym h.spelled_so)
 
 pub few_words : (p : Packet) → IsPacket p → length (words_of p) ≤ 11

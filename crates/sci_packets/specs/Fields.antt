@@ -4,6 +4,7 @@ use Rattle.std.specs.List.{flat_map}
 use Rattle.byteorder.specs.Endian.{big_bytes, big_number}
 use Rattle.sci_words.specs.declared.limits.TheConstants.{WORDS_PER_LINE}
 use Rattle.sci_words.specs.declared.stamped.Stamped.{Stamped}
+use Rattle.sci_packets.specs.declared.command.Command.{Command}
 use Rattle.sci_packets.specs.declared.header.Header.{Header}
 use Rattle.sci_packets.specs.Table.{takes_contents}
 
@@ -50,5 +51,5 @@ unfoldable pub contents_in : List ℕ → Stamped
 contents_in bytes = record { line = words_at 24 WORDS_PER_LINE bytes; version = field_at 16 8 bytes }
 
 -- the contents, if the command takes them
-abbrev pub contents_for : ℕ → List ℕ → Option Stamped
+abbrev pub contents_for : Command → List ℕ → Option Stamped
 contents_for command bytes = if takes_contents command then Some (contents_in bytes) else None

@@ -5,7 +5,7 @@ use Rattle.sci_words.specs.declared.stamped.Stamped.{Stamped}
 use Rattle.sci_packets.specs.declared.header.Header.{Header}
 use Rattle.sci_packets.specs.declared.packet.Packet.{Packet}
 use Rattle.sci_packets.specs.Fields.{spelled, word_bytes, contents_words}
-use Rattle.sci_packets.specs.Table.{parts_of, number_of}
+use Rattle.sci_packets.specs.Table.{command_number, command_of, parts_of, number_of}
 
 -- what the types of a packet say of its numbers, which contracts see without bounds
 pub record IsContents (stamped : Stamped) : Type 0 where
@@ -24,7 +24,7 @@ pub record IsPacket (p : Packet) : Type 0 where
 abbrev pub header_of : Packet → Header
 header_of p = record {
   target = p.target;
-  command = (parts_of p.body).command;
+  command = command_number (command_of p.body);
   source = p.source;
   control = p.control;
   offset = p.line * 64;

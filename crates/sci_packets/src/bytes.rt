@@ -7,15 +7,16 @@ ghost use Rattle.sci_packets.specs.declared.packet.Packet.{Packet};
 ghost use Rattle.sci_packets.specs.Fault.{fault_of};
 ghost use Rattle.sci_packets.specs.Fields.{header_in, contents_for};
 ghost use Rattle.sci_packets.specs.Spelling.{IsPacket, Spells, NoneSpells, header_of, spelling};
-ghost use Rattle.sci_packets.specs.Table.{number_of, parts_of};
+ghost use Rattle.sci_packets.specs.Table.{command_of, number_of, parts_of};
 
 use crate::body::Body;
+use crate::command::Command;
 use crate::contents::{InBytes, LONG, Spelled, write_contents};
 use crate::fault::PacketFault;
 use crate::header::Header;
 use crate::node_id::{NO_NODE, NodeId};
 use crate::packet::Packet;
-use crate::table::{Parts, body_of, is_command, parts_in};
+use crate::table::{Parts, body_of, parts_in};
 use sci_words::LINE_BYTES;
 
 /// The bytes of a packet without contents.
@@ -51,7 +52,7 @@ pub fn header_for(p: &Packet, parts: &Parts) -> Header
 {
     Header {
         target: p.target.get(),
-        command: parts.command,
+        command: parts.command.number(),
         source: p.source.get(),
         control: p.control,
         offset: p.line * LINE_BYTES as u64,
@@ -64,10 +65,7 @@ pub fn header_for(p: &Packet, parts: &Parts) -> Header
 pub fn size_of(body: &Body) -> usize
     ensures { result ≡ (if is_some (parts_of body.now).contents then 88 else 16) }
 {
-    match body {
-        Body::Wback(_) | Body::Mdata(_) | Body::Cdata(_) | Body::Fdata { .. } => LONG,
-        _ => SHORT,
-    }
+    body.command().packet_bytes()
 }
 
 /// The number of an identifier, 0xFFFF for none.
@@ -98,21 +96,19 @@ pub fn packet_of<S: Spelled>(header: Header, spelled: &S) -> Result<Packet, Pack
     requires offset { header.offset < 2 ^ 48 }
     ensures header { IfOk result (λ p. header_of p ≡ header_in (S.bytes spelled.now)) }
     ensures contents { IfOk result (λ p. (parts_of p.body).contents
-        ≡ contents_for (header_in (S.bytes spelled.now)).command (S.bytes spelled.now)) }
+        ≡ contents_for (command_of p.body) (S.bytes spelled.now)) }
     ensures nodes { IfOk result (λ p. (p.target < 0xFFFF) × (p.source < 0xFFFF)) }
     ensures identifier { IfOk result
         (λ p. IfSome (parts_of p.body).identifier (λ id. id < 0xFFFF)) }
     ensures fault { result_err result ≡ fault_of (S.bytes spelled.now) }
 {
-    if !is_command(header.command) {
-        return Err(PacketFault::UnknownCommand);
-    }
+    let command = Command::with_number(header.command).ok_or(PacketFault::UnknownCommand)?;
     if header.offset % LINE_BYTES as u64 != 0 {
         return Err(PacketFault::BadOffset);
     }
     let target = node(header.target)?;
     let source = node(header.source)?;
-    let body = body_of(header.command, NodeId::new(header.identifier), spelled)?;
+    let body = body_of(command, NodeId::new(header.identifier), spelled)?;
     Ok(Packet {
         target,
         source,

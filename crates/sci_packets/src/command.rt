@@ -1,39 +1,114 @@
-//! The numbers of the commands: the requests are below 0x0100, the answers above. They are this project's own.
+//! The commands of packets.
 
-pub const MREAD: u16 = 0x0001;
+ghost use Rattle.std.specs.Prelude.{◌≡◌, ◌≤◌, IfSome};
+ghost use Rattle.sci_packets.specs.Table.{command_name, command_number, command_with, packet_bytes as packet_bytes_of, takes_contents as takes_contents_of};
 
-pub const CREAD: u16 = 0x0002;
+/// What a packet asks or answers, without what it carries, which `Body` says. The numbers are this project's own: the
+/// requests are below 0x0100, the answers above.
+#[derive(Clone, Copy, Debug, PartialEq, Eq)]
+pub enum Command {
+    Mread = 0x0001,
+    Cread = 0x0002,
+    Purge = 0x0003,
+    Roll = 0x0004,
+    Wback = 0x0005,
+    Setback = 0x0006,
+    Fread = 0x0007,
+    Claim = 0x0008,
+    Clear = 0x0009,
+    Mdata = 0x0101,
+    Mgone = 0x0102,
+    Cdata = 0x0103,
+    Purged = 0x0104,
+    Rolled = 0x0105,
+    Wbok = 0x0106,
+    Wbno = 0x0107,
+    Told = 0x0108,
+    Busy = 0x0109,
+    Fdata = 0x010A,
+}
 
-pub const PURGE: u16 = 0x0003;
+impl Command {
+    /// The number of the command, as a header has it.
+    pub fn number(self) -> u16
+        ensures number { result ≡ command_number self }
+    {
+        self as u16
+    }
 
-pub const ROLL: u16 = 0x0004;
+    /// The command with this number, or None if there is none.
+    #[tactic(auto, unfolding(crate::specs::Table::command_with))]
+    pub fn with_number(number: u16) -> Option<Command>
+        ensures command { result ≡ command_with number }
+        ensures number { IfSome result (λ command. command_number command ≡ number) }
+    {
+        match number {
+            0x0001 => Some(Command::Mread),
+            0x0002 => Some(Command::Cread),
+            0x0003 => Some(Command::Purge),
+            0x0004 => Some(Command::Roll),
+            0x0005 => Some(Command::Wback),
+            0x0006 => Some(Command::Setback),
+            0x0007 => Some(Command::Fread),
+            0x0008 => Some(Command::Claim),
+            0x0009 => Some(Command::Clear),
+            0x0101 => Some(Command::Mdata),
+            0x0102 => Some(Command::Mgone),
+            0x0103 => Some(Command::Cdata),
+            0x0104 => Some(Command::Purged),
+            0x0105 => Some(Command::Rolled),
+            0x0106 => Some(Command::Wbok),
+            0x0107 => Some(Command::Wbno),
+            0x0108 => Some(Command::Told),
+            0x0109 => Some(Command::Busy),
+            0x010A => Some(Command::Fdata),
+            _ => None,
+        }
+    }
 
-pub const WBACK: u16 = 0x0005;
+    /// The name of the command, as `mread`.
+    #[tactic(auto, unfolding(crate::specs::Table::command_name))]
+    pub fn name(self) -> &'static str
+        ensures { result.now ≡ command_name self }
+    {
+        match self {
+            Command::Mread => "mread",
+            Command::Cread => "cread",
+            Command::Purge => "purge",
+            Command::Roll => "roll",
+            Command::Wback => "wback",
+            Command::Setback => "setback",
+            Command::Fread => "fread",
+            Command::Claim => "claim",
+            Command::Clear => "clear",
+            Command::Mdata => "mdata",
+            Command::Mgone => "mgone",
+            Command::Cdata => "cdata",
+            Command::Purged => "purged",
+            Command::Rolled => "rolled",
+            Command::Wbok => "wbok",
+            Command::Wbno => "wbno",
+            Command::Told => "told",
+            Command::Busy => "busy",
+            Command::Fdata => "fdata",
+        }
+    }
 
-pub const SETBACK: u16 = 0x0006;
+    /// Whether its packets have contents.
+    pub fn takes_contents(self) -> bool
+        ensures { result ≡ takes_contents_of self }
+    {
+        matches!(
+            self,
+            Command::Wback | Command::Mdata | Command::Cdata | Command::Fdata
+        )
+    }
 
-pub const FREAD: u16 = 0x0007;
-
-pub const CLAIM: u16 = 0x0008;
-
-pub const CLEAR: u16 = 0x0009;
-
-pub const MDATA: u16 = 0x0101;
-
-pub const MGONE: u16 = 0x0102;
-
-pub const CDATA: u16 = 0x0103;
-
-pub const PURGED: u16 = 0x0104;
-
-pub const ROLLED: u16 = 0x0105;
-
-pub const WBOK: u16 = 0x0106;
-
-pub const WBNO: u16 = 0x0107;
-
-pub const TOLD: u16 = 0x0108;
-
-pub const BUSY: u16 = 0x0109;
-
-pub const FDATA: u16 = 0x010A;
+    /// The bytes of a packet with this command: 88 if it has contents, else 16.
+    pub fn packet_bytes(self) -> usize
+        ensures bytes { result ≡ packet_bytes_of self }
+        ensures few { result ≤ 88 }
+    {
+        if self.takes_contents() { 88 } else { 16 }
+    }
+}

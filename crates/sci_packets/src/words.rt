@@ -5,14 +5,15 @@ ghost use Rattle.std.specs.Result.{result_err};
 ghost use Rattle.sci_packets.specs.declared.packet.Packet.{Packet};
 ghost use Rattle.sci_packets.specs.Fault.{fault_of_words};
 ghost use Rattle.sci_packets.specs.Spelling.{CountsWords, IsPacket, SpellsInWords, NoneSpellsInWords, words_of};
-ghost use Rattle.sci_packets.specs.Table.{takes_contents as takes_contents_of};
+ghost use Rattle.sci_packets.specs.Table.{carries, command_with};
 
 use crate::bytes::{header_for, packet_of, size_of};
+use crate::command::Command;
 use crate::contents::{InWords, LONG_WORDS, write_contents_words};
 use crate::fault::PacketFault;
 use crate::header::Header;
 use crate::packet::Packet;
-use crate::table::{parts_in, takes_contents};
+use crate::table::parts_in;
 
 /// The words of a packet without contents.
 const SHORT_WORDS: usize = 2;
@@ -41,14 +42,13 @@ pub fn to_words(p: &Packet, to: &mut [u64; 11]) -> usize
 /// How many words the packet has whose first word this is: 2, or 11 if its command is one with contents. A word that
 /// begins no packet is counted by the same 16 bits, the second highest.
 pub fn word_count(first: u64) -> usize
-    ensures command { result ≡ (if takes_contents_of (first / 2 ^ 32 % 2 ^ 16) then 11 else 2) }
+    ensures command { result ≡ (if carries (command_with (first / 2 ^ 32 % 2 ^ 16)) then 11 else 2) }
     ensures packet { CountsWords first result }
     ensures sizes { (result ≡ 2) ⊎ (result ≡ 11) }
 {
-    if takes_contents((first / 0x1_0000_0000 % 0x1_0000) as u16) {
-        LONG_WORDS
-    } else {
-        SHORT_WORDS
+    match Command::with_number((first / 0x1_0000_0000 % 0x1_0000) as u16) {
+        Some(command) if command.takes_contents() => LONG_WORDS,
+        _ => SHORT_WORDS,
     }
 }
 

@@ -1,11 +1,12 @@
-use Rattle.std.proofs.Common.{Bool, cond, sym, ap, ◌∙◌}
-use Rattle.sci_packets.proofs.WordLaws.{word_count_is}
+use Rattle.std.proofs.Common.{arith}
+use Rattle.sci_packets.proofs.WordLaws.{counts_words}
 use Rattle.sci_packets.proofs.words.word_count.Goals as goal
 
-pub returns-then-takes_contents-clause-packet : goal.returns-then-takes_contents-clause-packet
-returns-then-takes_contents-clause-packet c = λ p rest h.
-    ap (λ (b : Bool). cond b 11 2) (sym c.if-takes_contents.true ∙ c.takes_contents.ensures) ∙ word_count_is p c.args.first rest h
+pub returns-in-Some-clause-packet : goal.returns-in-Some-clause-packet
+returns-in-Some-clause-packet c = counts_words c.args.first 11 (grind arith)
 
-pub returns-else-takes_contents-clause-packet : goal.returns-else-takes_contents-clause-packet
-returns-else-takes_contents-clause-packet c = λ p rest h.
-    ap (λ (b : Bool). cond b 11 2) (sym c.if-takes_contents.false ∙ c.takes_contents.ensures) ∙ word_count_is p c.args.first rest h
+pub returns-in_default-clause-packet : goal.returns-in_default-clause-packet
+returns-in_default-clause-packet c = counts_words c.args.first 2 (grind arith)
+
+pub returns-in_default-2-clause-packet : goal.returns-in_default-2-clause-packet
+returns-in_default-2-clause-packet c = counts_words c.args.first 2 (grind arith)
