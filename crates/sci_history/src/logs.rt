@@ -85,7 +85,7 @@ impl Logs {
     }
 
     /// Makes these entries the log of a node, in place of those that it has. Requires that the node is below 16, and that
-    /// the entries are its own.
+    /// the entries are its own. Their number isn't bounded: `push` alone keeps a log to 65,536 entries.
     pub fn put(&mut self, node: u8, log: Vec<Entry>)
         requires node { node < MAX_NODES }
         requires own { All (λ entry. entry.node ≡ node) log.items }
