@@ -9,7 +9,7 @@ use crate::thing::{Kind, Thing};
 use sci_c_values::{SCI_MISUSE, SCI_NO_MEMORY, SCI_OK};
 use std::alloc::Global;
 
-/// Puts a thing into an empty object. The caller sees to it that it is empty.
+/// Puts a thing into an empty object. Requires that it is empty.
 pub(crate) fn opened(alloc: Global, object: &mut SciObject, thing: Thing) -> u32
     requires { object.old.value ≡ None }
     ensures opened { result ≡ SCI_OK → object.new.value ≡ Some thing }

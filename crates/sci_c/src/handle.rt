@@ -45,7 +45,7 @@ impl SciObject {
         self.live
     }
 
-    /// Keeps a thing. The caller sees to it that the object is empty.
+    /// Keeps a thing. Requires that the object is empty.
     pub(crate) fn keep(&mut self, thing: Box<Thing, Global>)
         requires { self.old.value ≡ None }
         ensures { self.new.value ≡ Some thing.value }
@@ -62,7 +62,7 @@ impl SciObject {
         self.live = 1;
     }
 
-    /// Takes the thing out, which leaves the object empty. The caller sees to it that there is one.
+    /// Takes the thing out, which leaves the object empty. Requires that there is one.
     pub(crate) fn take(&mut self, alloc: Global) -> Box<Thing, Global>
         requires { IsSome self.old.value }
         ensures thing { self.old.value ≡ Some result.value }
@@ -72,7 +72,7 @@ impl SciObject {
         unsafe { Box::from_raw(alloc, self.at as *mut Thing) }
     }
 
-    /// The thing. The caller sees to it that there is one.
+    /// The thing. Requires that there is one.
     pub(crate) fn as_mut(&mut self) -> &mut Thing
         requires { IsSome self.old.value }
         ensures* writes_back { sem 𝓛 (Lends the_row thing_row self.entry result (with_thing self.old)) }

@@ -33,7 +33,7 @@ impl Journal {
     ghost use Rattle.sci_c_values.specs.declared.status.TheConstants.{SCI_FULL, SCI_NO_MEMORY, SCI_OK};
     ghost use Rattle.sci_c.specs.Journal.{FitsJournal, empty_journal, journal_of, with_entry, with_last};
 
-    /// Logs without entries, and zero words at version 0. The caller sees to it that there are 1 to 16 nodes and 1 to 64 lines.
+    /// Logs without entries, and zero words at version 0. Requires that there are 1 to 16 nodes and 1 to 64 lines.
     pub(crate) fn new(alloc: Global, nodes: u8, lines: u8) -> Journal
         requires { IsSize nodes lines }
         ensures { result ≡ empty_journal nodes lines }
@@ -45,7 +45,7 @@ impl Journal {
         }
     }
 
-    /// These logs and last contents. The caller sees to it that they fit together.
+    /// These logs and last contents. Requires that they fit together.
     pub(crate) fn of(nodes: u8, logs: Logs, last: Last) -> Journal
         requires some { 1 ≤ nodes }
         requires few { nodes ≤ MAX_NODES }
@@ -86,7 +86,7 @@ impl Journal {
             && usize::from(entry.op.word) < WORDS_PER_LINE
     }
 
-    /// Ends the log of the entry's node with the entry, and answers a status. The caller sees to it that the logs have its
+    /// Ends the log of the entry's node with the entry, and answers a status. Requires that the logs have its
     /// node, its line and its word.
     pub(crate) fn push(&mut self, entry: Entry) -> u32
         requires node { entry.node < self.old.nodes }
@@ -104,7 +104,7 @@ impl Journal {
         }
     }
 
-    /// Replaces the last contents of a line. The caller sees to it that there is such a line.
+    /// Replaces the last contents of a line. Requires that there is such a line.
     pub(crate) fn set_last(&mut self, line: u8, contents: Stamped)
         requires { line < length self.old.last }
         ensures { self.new ≡ with_last self.old line contents }

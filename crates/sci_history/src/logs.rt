@@ -69,8 +69,7 @@ impl Logs {
         }
     }
 
-    /// Ends the log of the entry's node with the entry; an error leaves all logs as they were. The caller sees
-    /// to it that the node is below 16.
+    /// Ends the log of the entry's node with the entry; an error leaves all logs as they were. Requires that the node is below 16.
     pub fn push(&mut self, entry: Entry) -> Result<(), PushFault>
         requires { entry.node < MAX_NODES }
         ensures ok { OnOk result (self.new
