@@ -1,5 +1,5 @@
 -- The table of packets: commands, their numbers and names, identifiers and contents. The numbers are this project's own.
-use Rattle.std.specs.Prelude.{ℕ, Bool, false, ◌&&◌, nat_lt, ◌==◌, if◌then◌else◌, List, [], ◌∷◌, codes, find, Option, Some, None, true, IsTrue}
+use Rattle.std.specs.Prelude.{ℕ, Bool, false, ◌&&◌, nat_lt, ◌==◌, if◌then◌else◌, List, codes, find, Option, Some, None, true, IsTrue}
 use Rattle.std.specs.Option.{is_some, is_none}
 use Rattle.sci_words.specs.declared.stamped.Stamped.{Stamped}
 use Rattle.sci_packets.specs.declared.fault.PacketFault.{PacketFault}
@@ -9,6 +9,7 @@ use Rattle.sci_packets.specs.declared.body.Body.TheVariants as body
 use Rattle.sci_packets.specs.declared.command.Command.{Command}
 use Rattle.sci_packets.specs.declared.command.Command.TheVariants.{Mread, Cread, Purge, Roll, Wback, Setback, Fread, Claim, Clear, Mdata, Mgone, Cdata}
 use Rattle.sci_packets.specs.declared.command.Command.TheVariants.{Purged, Rolled, Wbok, Wbno, Told, Busy, Fdata}
+use Rattle.sci_packets.specs.declared.command.TheConstants.Command.{ALL}
 use Rattle.sci_packets.specs.declared.table.Parts.{Parts}
 
 -- the number of a command: the requests are below 0x0100, the answers above
@@ -55,13 +56,9 @@ command_name Told = codes "told"
 command_name Busy = codes "busy"
 command_name Fdata = codes "fdata"
 
-abbrev pub all_commands : List Command
-all_commands =
-    Mread ∷ Cread ∷ Purge ∷ Roll ∷ Wback ∷ Setback ∷ Fread ∷ Claim ∷ Clear ∷ Mdata ∷ Mgone ∷ Cdata ∷ Purged ∷ Rolled ∷ Wbok ∷ Wbno ∷ Told ∷ Busy ∷ Fdata ∷ []
-
 -- the command with a number, if there is one
 unfoldable pub command_with : ℕ → Option Command
-command_with number = find (λ command. command_number command == number) all_commands
+command_with number = find (λ command. command_number command == number) ALL
 
 -- parts as a record
 abbrev pub parts : Command → Option ℕ → Option Stamped → Parts

@@ -28,7 +28,33 @@ pub enum Command {
     Fdata = 0x010A,
 }
 
+/// How many commands there are.
+pub const COMMANDS: usize = 19;
+
 impl Command {
+    /// All commands, as lists of them show them.
+    pub const ALL: [Command; COMMANDS] = [
+        Command::Mread,
+        Command::Fread,
+        Command::Cread,
+        Command::Claim,
+        Command::Clear,
+        Command::Purge,
+        Command::Roll,
+        Command::Wback,
+        Command::Setback,
+        Command::Mdata,
+        Command::Mgone,
+        Command::Fdata,
+        Command::Cdata,
+        Command::Purged,
+        Command::Rolled,
+        Command::Wbok,
+        Command::Wbno,
+        Command::Told,
+        Command::Busy,
+    ];
+
     /// The number of the command, as a header has it.
     pub fn number(self) -> u16
         ensures number { result ≡ command_number self }
