@@ -10,6 +10,7 @@ pub mod Scripts
 pub mod Schedules
 pub mod LineLengths
 pub mod Results
+pub mod EventLines
 pub mod FirstFaults
 pub mod Digits
 pub mod LogLines

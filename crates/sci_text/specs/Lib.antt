@@ -8,6 +8,7 @@ pub mod Script
 pub mod ScriptFault
 pub mod ScriptReading
 pub mod Schedule
+pub mod ScheduleEvents
 pub mod ScheduleFault
 pub mod ScheduleReading
 pub mod Log

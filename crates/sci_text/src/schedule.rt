@@ -9,8 +9,8 @@ use std::marker::Model;
 /// see the numbers of the size and the list of the events.
 #[derive(Debug, Drop)]
 pub struct Schedule {
-    extent: Extent,
-    events: Vec<Event>,
+    pub(crate) extent: Extent,
+    pub(crate) events: Vec<Event>,
 }
 
 impl Model for Schedule {
@@ -43,7 +43,7 @@ fn is_operation_within(extent: Extent, node: u8, op: Op) -> bool
 }
 
 /// Whether an event's nodes, line and word are this machine's.
-fn is_within(extent: Extent, event: Event) -> bool
+pub(crate) fn is_within(extent: Extent, event: Event) -> bool
     ensures { IsTrue result ↔ IsEventWithin extent.nodes extent.lines event }
 {
     match event {

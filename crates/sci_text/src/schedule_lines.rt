@@ -1,32 +1,14 @@
-//! Lines of a schedule, and the whole of its text.
+//! The whole of a schedule's text.
 
-ghost use Rattle.std.specs.Prelude.{◌≡◌, ◌≤◌, ◌⊎◌, ◌++◌, IfOk, IfErr, OnErr};
-ghost use Rattle.sci_text.specs.declared.fault.TextFaultKind.TheVariants.{Memory};
-ghost use Rattle.sci_text.specs.Reading.{Adds};
-ghost use Rattle.sci_text.specs.Schedule.{IsSchedule, event_line, schedule_text, with_event};
+ghost use Rattle.std.specs.Prelude.{◌≡◌, IfOk, IfErr};
+ghost use Rattle.sci_text.specs.Schedule.{IsSchedule, schedule_text};
 ghost use Rattle.sci_text.specs.FirstFault.{IsRefusal};
-ghost use Rattle.sci_text.specs.ScheduleFault.{EventFault, IsScheduleFault};
+ghost use Rattle.sci_text.specs.ScheduleFault.{IsScheduleFault};
 
-use crate::fault::{TextFault, TextFaultKind, at_line};
-use crate::line_length::said_line;
+use crate::fault::{TextFault, TextFaultKind};
 use crate::schedule::Schedule;
-use crate::schedule_event::event_line;
-use crate::script_lines::machine;
+use crate::schedule_events::ScheduleEvents;
 use std::alloc::Global;
-
-/// Adds the event that the first line of `bytes` says, and answers the bytes after the line.
-fn push_event<'a>(schedule: &mut Schedule, bytes: &'a [u8]) -> Result<&'a [u8], TextFaultKind>
-    requires { IsSchedule schedule.old }
-    ensures ok { IfOk result (λ rest. Adds event_line with_event schedule.old schedule.new bytes.now rest.now) }
-    ensures fault { IfErr result (λ kind.
-        (kind ≡ Memory) ⊎ EventFault schedule.old bytes.now kind) }
-    ensures same { OnErr result (schedule.new ≡ schedule.old) }
-    ensures good { IsSchedule schedule.new }
-{
-    let (event, rest) = said_line(bytes, event_line(bytes))?;
-    schedule.push(event)?;
-    Ok(rest)
-}
 
 /// The schedule whose text the bytes are. A refusal names the first line with a fault, or has line 0 if memory was refused; an
 /// input that is too long isn't refused here.
@@ -35,11 +17,15 @@ pub fn schedule_of(alloc: Global, input: &[u8]) -> Result<Schedule, TextFault>
     ensures good { IfOk result IsSchedule }
     ensures fault { IfErr result (IsRefusal IsScheduleFault input.now) }
 {
-    let (extent, mut rest) = at_line(1, machine(input))?;
-    let mut schedule = Schedule::new(alloc, extent);
-    while !rest.is_empty() {
-        let line = schedule.events().len() + 2;
-        rest = at_line(line, push_event(&mut schedule, rest))?;
+    let mut lines = ScheduleEvents::of(input)?;
+    let mut events = Vec::new(alloc);
+    while let Some(event) = lines.next_event()? {
+        if events.push(event).is_err() {
+            return Err(TextFault::of_input(TextFaultKind::Memory));
+        }
     }
-    Ok(schedule)
+    Ok(Schedule {
+        extent: lines.extent(),
+        events,
+    })
 }
