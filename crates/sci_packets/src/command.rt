@@ -28,12 +28,9 @@ pub enum Command {
     Fdata = 0x010A,
 }
 
-/// How many commands there are.
-pub const COMMANDS: usize = 19;
-
 impl Command {
     /// All commands, as lists of them show them.
-    pub const ALL: [Command; COMMANDS] = [
+    pub const ALL: [Command; 19] = [
         Command::Mread,
         Command::Fread,
         Command::Cread,

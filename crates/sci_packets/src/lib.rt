@@ -15,7 +15,7 @@ mod words;
 
 pub use body::Body;
 pub use bytes::{decode, encode};
-pub use command::{COMMANDS, Command};
+pub use command::Command;
 pub use fault::PacketFault;
 pub use node_id::NodeId;
 pub use packet::Packet;
