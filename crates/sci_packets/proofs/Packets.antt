@@ -21,7 +21,8 @@ use Rattle.sci_packets.specs.Fault.{header_fault, fault_of}
 use Rattle.sci_packets.specs.Fields.{spelled, header_in, word_bytes, contents_words, contents_in, contents_for}
 use Rattle.sci_packets.specs.Spelling.{IsContents, IsPacket, header_of, spelling, Spells, NoneSpells}
 use Rattle.sci_packets.specs.Table.{carries, command_of, command_with, parts_of, number_of, identifier_of, body_fault, takes_contents}
-use Rattle.sci_packets.proofs.Bodies.{command_again, contents_cancel, has_contents, is_named, number-lt, number_carries, number_of-lt, same_body, same_command, same_identifier}
+use Rattle.sci_packets.proofs.Bodies.{command_again, contents_cancel, has_contents, is_named, number-lt, number_carries, number_of-lt, same_body}
+use Rattle.sci_packets.proofs.Bodies.{same_command, same_identifier}
 use Rattle.sci_packets.proofs.Fields.{IsBytes, length-word_bytes, length-words_at, words_takes, words_at-lt, field_at-lt}
 use Rattle.sci_packets.proofs.Headers.{IsHeader, length-spelled, spelled-append, header_takes, header_cancel, header_in-fits}
 
