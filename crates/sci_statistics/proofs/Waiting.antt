@@ -4,9 +4,8 @@ use Rattle.std.proofs.Common.{arith, sym, ap, ◌∙◌, refl, get_or-set_same, 
 use Rattle.std.proofs.lemmas.Bool.{eqb-true, eqb-false}
 use Rattle.std.specs.Prelude.{not, option_map, cond}
 use Rattle.std.specs.List.{filter_map, prefix_len, range_with_len, cons_option}
-use Rattle.std.proofs.lemmas.List.{append-nil, take_more, reverse-append, map-id}
+use Rattle.std.proofs.lemmas.List.{append-nil, take_more, reverse-append}
 use Rattle.std.proofs.lemmas.List.Elements.{filter_map-append}
-use Rattle.std.proofs.lemmas.List.FromFn.{map-range_with_len_more}
 use Rattle.std.proofs.lemmas.Option.{slice_get-get_or}
 use Rattle.sci_statistics.specs.declared.kind.Access.{Access}
 use Rattle.sci_statistics.specs.declared.passage.Passage.{Passage}

@@ -1,20 +1,17 @@
 -- The figures of a schedule: each is a count of passages that meet a test, or a sum over passages.
 use Rattle.std.specs.Prelude.{ℕ, ◌-◌, true, false, not, List, filter, count_by, length}
-use Rattle.std.specs.List.{sum_by}
-use Rattle.sci_statistics.specs.declared.command.Command.TheVariants.{Mread, Cread, Purge, Roll, Wback, Setback, Fread, Claim, Clear, Mdata, Mgone, Cdata}
-use Rattle.sci_statistics.specs.declared.command.Command.TheVariants.{Purged, Rolled, Wbok, Wbno, Told, Busy, Fdata}
+use Rattle.sci_packets.specs.declared.command.Command.TheVariants.{Cread, Claim, Clear, Purge, Roll, Wback, Cdata, Purged, Rolled, Wbok}
 use Rattle.sci_statistics.specs.declared.kind.Access.TheVariants.{Load, Maker}
 use Rattle.sci_statistics.specs.declared.kind.EventKind.{EventKind}
 use Rattle.sci_statistics.specs.declared.kind.EventKind.TheVariants.{Issue, Perform, Ask, Serve, Refuse, Reply, Accept}
-use Rattle.sci_statistics.specs.declared.levels.Level.TheVariants.{Packets, Members}
+use Rattle.sci_statistics.specs.declared.levels.Level.TheVariants.{Members}
 use Rattle.sci_statistics.specs.declared.passage.Passage.{Passage}
 use Rattle.sci_statistics.specs.declared.event_figures.Tally.{Tally}
 use Rattle.sci_statistics.specs.declared.event_figures.EventFigures.{EventFigures}
-use Rattle.sci_statistics.specs.declared.packet_figures.PacketFigures.{PacketFigures}
 use Rattle.sci_statistics.specs.declared.line_figures.LineFigures.{LineFigures}
 use Rattle.sci_statistics.specs.declared.node_figures.NodeFigures.{NodeFigures}
 use Rattle.sci_statistics.specs.Levels.{level_figures}
-use Rattle.sci_statistics.specs.Measures.{comes, enters, has_made, has_sent, is_at, is_on, sends, sent_bytes, serves}
+use Rattle.sci_statistics.specs.Measures.{comes, enters, has_made, has_sent, is_at, is_on, serves}
 
 -- ---- events
 
@@ -32,34 +29,6 @@ event_figures passages = record {
   refuse = tally_of Refuse passages;
   reply = tally_of Reply passages;
   accept = tally_of Accept passages;
-}
-
--- ---- packets
-
-unfoldable pub packet_figures : List Passage → PacketFigures
-packet_figures passages = record {
-  mread = count_by (sends Mread) passages;
-  fread = count_by (sends Fread) passages;
-  cread = count_by (sends Cread) passages;
-  claim = count_by (sends Claim) passages;
-  clear = count_by (sends Clear) passages;
-  purge = count_by (sends Purge) passages;
-  roll = count_by (sends Roll) passages;
-  wback = count_by (sends Wback) passages;
-  setback = count_by (sends Setback) passages;
-  mdata = count_by (sends Mdata) passages;
-  mgone = count_by (sends Mgone) passages;
-  fdata = count_by (sends Fdata) passages;
-  cdata = count_by (sends Cdata) passages;
-  purged = count_by (sends Purged) passages;
-  rolled = count_by (sends Rolled) passages;
-  wbok = count_by (sends Wbok) passages;
-  wbno = count_by (sends Wbno) passages;
-  told = count_by (sends Told) passages;
-  busy = count_by (sends Busy) passages;
-  all = count_by has_sent passages;
-  bytes = sum_by sent_bytes passages;
-  most_under_way = (level_figures Packets passages).greatest;
 }
 
 -- ---- nodes

@@ -1,7 +1,7 @@
 -- How many of the things that begin and end there are at once.
 use Rattle.std.specs.Prelude.{ℕ, ◌-◌, Bool, ◌||◌, List, length, map, take, max, count_by, is_some, sum}
 use Rattle.std.specs.List.{fold, range_with_len}
-use Rattle.sci_statistics.specs.declared.command.Command.TheVariants.{Purge, Roll, Wback, Clear, Purged, Rolled, Wbok}
+use Rattle.sci_packets.specs.declared.command.Command.TheVariants.{Purge, Roll, Wback, Clear, Purged, Rolled, Wbok}
 use Rattle.sci_statistics.specs.declared.levels.Level.{Level}
 use Rattle.sci_statistics.specs.declared.levels.Level.TheVariants.{Packets, Members}
 use Rattle.sci_statistics.specs.declared.levels.LevelFigures.{LevelFigures}

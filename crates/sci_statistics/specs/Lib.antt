@@ -1,5 +1,4 @@
 pub mod About
-pub mod Commands
 pub mod Kinds
 pub mod Passages
 pub mod Measures

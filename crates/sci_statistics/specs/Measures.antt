@@ -1,12 +1,12 @@
 -- What a passage is, and what happened in it: the tests and the sizes that figures count and add up.
 use Rattle.std.specs.Prelude.{ℕ, ◌==◌, Bool, false, ◌&&◌, ◌||◌, not, Option, Some, None, is_some, if◌then◌else◌}
-use Rattle.sci_statistics.specs.declared.command.Command.{Command}
-use Rattle.sci_statistics.specs.declared.command.Command.TheVariants.{Mread, Fread}
+use Rattle.sci_packets.specs.declared.command.Command.{Command}
+use Rattle.sci_packets.specs.declared.command.Command.TheVariants.{Mread, Fread}
+use Rattle.sci_packets.specs.Table.{command_number, packet_bytes}
 use Rattle.sci_statistics.specs.declared.kind.Access.{Access}
 use Rattle.sci_statistics.specs.declared.kind.EventKind.{EventKind}
 use Rattle.sci_statistics.specs.declared.kind.EventKind.TheVariants.{Serve}
 use Rattle.sci_statistics.specs.declared.passage.Passage.{Passage}
-use Rattle.sci_statistics.specs.Commands.{has_command, packet_bytes}
 use Rattle.sci_statistics.specs.Kinds.{is_access, is_kind}
 
 -- ---- the event
@@ -42,6 +42,11 @@ unfoldable pub has_made : Access → Passage → Bool
 has_made access p = has_access access p.made
 
 -- ---- packets
+
+-- whether there is a packet, with this command
+abbrev pub has_command : Command → Option Command → Bool
+has_command command None = false
+has_command command (Some other) = command_number other == command_number command
 
 -- a packet with this command was sent
 unfoldable pub sends : Command → Passage → Bool

@@ -3,6 +3,8 @@ use Rattle.std.specs.Prelude.{ℕ, nat_lt, List, [], ◌∷◌, Option, Some, No
 use Rattle.sci_words.specs.declared.event.Event.{Event}
 use Rattle.sci_words.specs.declared.extent.Extent.{Extent}
 use Rattle.sci_words.specs.declared.limits.TheConstants.{MAX_OPERATIONS}
+use Rattle.sci_packets.specs.declared.command.Command.{Command}
+use Rattle.sci_packets.specs.Table.{command_of}
 use Rattle.sci_history.specs.declared.entry.Entry.{Entry}
 use Rattle.sci_cache.specs.Cache.{Letter}
 use Rattle.sci_core.specs.Core.{Core, node_at, node_of, opening, step, stepping}
@@ -11,13 +13,17 @@ use Rattle.sci_core.specs.Size.{size_of}
 use Rattle.sci_statistics.specs.declared.kind.Access.{Access}
 use Rattle.sci_statistics.specs.declared.passage.Passage.{Passage}
 use Rattle.sci_statistics.specs.About.{letter_sent, letter_taken, line_about}
-use Rattle.sci_statistics.specs.Commands.{command_in}
 use Rattle.sci_statistics.specs.Kinds.{access_of, kind_of}
 
 -- what an operation does that was performed, if one was
 abbrev pub access_in : Option Entry → Option Access
 access_in None = None
 access_in (Some entry) = Some (access_of entry.op)
+
+-- the command of a packet, if there is one
+abbrev pub command_in : Option Letter → Option Command
+command_in None = None
+command_in (Some letter) = Some (command_of letter.body)
 
 -- the packet that an event takes, if it leads to another state
 abbrev pub taken_to : Core → Event → Option Core → Option Letter

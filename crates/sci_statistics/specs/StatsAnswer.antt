@@ -1,15 +1,20 @@
 -- What `stats` writes for its input.
 use denote.Ref.{Bor}
-use Rattle.std.specs.Prelude.{◌≡◌, ◌<◌, ◌⊎◌, ℕ, ◌+◌, ◌*◌, ◌/◌, ◌%◌, Bool, List, [], ◌∷◌, ◌++◌, codes, Option, Some, None}
-use Rattle.std.specs.List.{flat_map, range_with_len}
+use Rattle.std.specs.Prelude.{◌≡◌, ◌<◌, ◌⊎◌, ℕ, ◌+◌, ◌*◌, ◌/◌, ◌%◌, Bool, List, [], ◌∷◌, ◌++◌, codes, count_by, map, Option, Some, None}
+use Rattle.std.specs.List.{flat_map, range_with_len, sum_by}
+use Rattle.sci_packets.specs.declared.command.Command.{Command}
+use Rattle.sci_packets.specs.declared.command.TheConstants.Command.{ALL}
+use Rattle.sci_packets.specs.Table.{command_name}
 use Rattle.sci_statistics.specs.declared.event_figures.EventFigures.{EventFigures}
-use Rattle.sci_statistics.specs.declared.packet_figures.PacketFigures.{PacketFigures}
+use Rattle.sci_statistics.specs.declared.levels.Level.TheVariants.{Packets}
 use Rattle.sci_statistics.specs.declared.line_figures.LineFigures.{LineFigures}
 use Rattle.sci_statistics.specs.declared.node_figures.NodeFigures.{NodeFigures}
 use Rattle.sci_statistics.specs.declared.passage.Passage.{Passage}
 use Rattle.sci_statistics.specs.declared.waits.NodeWaits.{NodeWaits}
 use Rattle.sci_statistics.specs.declared.waits.WaitFigures.{WaitFigures}
-use Rattle.sci_statistics.specs.Figures.{at_node, event_figures, line_figures, node_figures, on_line, packet_figures}
+use Rattle.sci_statistics.specs.Figures.{at_node, event_figures, line_figures, node_figures, on_line}
+use Rattle.sci_statistics.specs.Levels.{level_figures}
+use Rattle.sci_statistics.specs.Measures.{has_sent, sends, sent_bytes}
 use Rattle.sci_statistics.specs.Passages.{passages}
 use Rattle.sci_statistics.specs.Waits.{node_waits}
 use Rattle.sci_text.specs.declared.fault.TextFaultKind.{TextFaultKind}
@@ -68,30 +73,20 @@ event_rows figures =
     (codes "accept.enabled", figures.accept.enabled) ∷
     (codes "accept.not_enabled", figures.accept.not_enabled) ∷ []
 
-unfoldable pub packet_rows : PacketFigures → List (List ℕ × ℕ)
-packet_rows figures =
-    (codes "sent", figures.all) ∷
-    (codes "bytes", figures.bytes) ∷
-    (codes "most_under_way", figures.most_under_way) ∷
-    (codes "mread", figures.mread) ∷
-    (codes "fread", figures.fread) ∷
-    (codes "cread", figures.cread) ∷
-    (codes "claim", figures.claim) ∷
-    (codes "clear", figures.clear) ∷
-    (codes "purge", figures.purge) ∷
-    (codes "roll", figures.roll) ∷
-    (codes "wback", figures.wback) ∷
-    (codes "setback", figures.setback) ∷
-    (codes "mdata", figures.mdata) ∷
-    (codes "mgone", figures.mgone) ∷
-    (codes "fdata", figures.fdata) ∷
-    (codes "cdata", figures.cdata) ∷
-    (codes "purged", figures.purged) ∷
-    (codes "rolled", figures.rolled) ∷
-    (codes "wbok", figures.wbok) ∷
-    (codes "wbno", figures.wbno) ∷
-    (codes "told", figures.told) ∷
-    (codes "busy", figures.busy) ∷ []
+-- a command, and how many packets with it
+abbrev pub command_row : List Passage → Command → List ℕ × ℕ
+command_row passages command = (command_name command, count_by (sends command) passages)
+
+abbrev pub packet_rows : List Passage → List (List ℕ × ℕ)
+packet_rows passages =
+    (codes "sent", count_by has_sent passages) ∷
+    (codes "bytes", sum_by sent_bytes passages) ∷
+    (codes "most_under_way", (level_figures Packets passages).greatest) ∷ []
+
+-- of all packets, and of those with each command
+unfoldable pub packets_text : List Passage → List ℕ
+packets_text passages =
+    figures_text (codes "packets.") (packet_rows passages) ++ figures_text (codes "packets.") (map (command_row passages) ALL)
 
 unfoldable pub line_rows : LineFigures → List (List ℕ × ℕ)
 line_rows figures =
@@ -155,7 +150,7 @@ shown (Some n) count = n ∷ []
 unfoldable pub passages_text : StatsRequest → ℕ → ℕ → List Passage → List ℕ
 passages_text request lines nodes passages =
     figures_text (codes "events.") (event_rows (event_figures passages))
-    ++ (figures_text (codes "packets.") (packet_rows (packet_figures passages))
+    ++ (packets_text passages
     ++ (flat_map (line_part passages) (shown request.line lines) ++ flat_map (node_part passages) (shown request.node nodes)))
 
 -- the figures of a schedule

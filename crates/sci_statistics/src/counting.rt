@@ -10,7 +10,6 @@ use crate::event_figures::EventFigures;
 use crate::figures::{push_events, push_line, push_node, push_packets, push_waits};
 use crate::line_figures::LineFigures;
 use crate::node_figures::NodeFigures;
-use crate::packet_figures::PacketFigures;
 use crate::passage::Passage;
 use crate::waits::NodeWaits;
 use crate::walk::passages_of;
@@ -131,7 +130,7 @@ fn stats_of(
     let passages = passages_of(alloc, extent, schedule.events())?;
     let mut text = Vec::new(alloc);
     push_events(&mut text, &EventFigures::of(&passages))?;
-    push_packets(&mut text, &PacketFigures::of(&passages))?;
+    push_packets(&mut text, &passages)?;
     let lines = Shown {
         asked: request.line,
         count: extent.lines,

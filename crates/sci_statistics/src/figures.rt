@@ -1,13 +1,17 @@
 //! Figures in text, one on each line.
 
-ghost use Rattle.std.specs.Prelude.{◌≡◌, ◌<◌, ◌/◌, ◌++◌, IfOk, OnOk, codes, map};
-ghost use Rattle.sci_statistics.specs.StatsAnswer.{event_rows, figure_text, figures_text, group_of as group_text, hundredths_of, line_text, mean_text, named, node_rows, packet_rows, wait_group as wait_group_text, wait_text, waits_text};
+ghost use Rattle.std.specs.Prelude.{◌≡◌, ◌<◌, ◌≤◌, ◌/◌, ◌++◌, IfOk, OnOk, codes, length, map};
+ghost use Rattle.sci_words.specs.declared.limits.TheConstants.{MAX_EVENTS};
+ghost use Rattle.sci_statistics.specs.StatsAnswer.{command_row, event_rows, figure_text, figures_text, group_of as group_text, hundredths_of, line_text, mean_text, named, node_rows, packets_text, wait_group as wait_group_text, wait_text, waits_text};
 
 use crate::event_figures::EventFigures;
+use crate::levels::{Level, LevelFigures};
 use crate::line_figures::LineFigures;
 use crate::node_figures::NodeFigures;
-use crate::packet_figures::PacketFigures;
+use crate::packet_figures::{bytes_sent, packets_sent, packets_with};
+use crate::passage::Passage;
 use crate::waits::{NodeWaits, WaitFigures};
+use sci_packets::Command;
 use sci_text::{push_field, push_number, push_text};
 use std::alloc::{AllocError, Global};
 
@@ -106,37 +110,37 @@ pub fn push_events(out: &mut Vec<u8>, figures: &EventFigures) -> Result<(), Allo
     push_figures(out, b"events.", &rows)
 }
 
-/// Appends how many packets were sent.
-#[tactic(auto, unfolding(crate::specs::StatsAnswer::packet_rows))]
-pub fn push_packets(out: &mut Vec<u8>, figures: &PacketFigures) -> Result<(), AllocError>
-    ensures { OnOk result
-        (out.new.items ≡ out.old.items ++ figures_text (codes "packets.") (packet_rows figures.now)) }
+/// Appends how many packets with each of these commands were sent.
+fn push_commands(
+    out: &mut Vec<u8>,
+    passages: &[Passage],
+    commands: &[Command],
+) -> Result<(), AllocError>
+    ensures { OnOk result (out.new.items ≡ out.old.items
+        ++ figures_text (codes "packets.") (map (command_row passages.now) commands.now)) }
 {
+    for command in commands {
+        let count = packets_with(passages, *command);
+        push_figure(out, b"packets.", &(command.name(), count))?;
+    }
+    Ok(())
+}
+
+/// Appends how many packets were sent, their bytes as they are spelled, the most that were under way at once (sent, and not
+/// yet taken), and how many with each command. Requires that there are at most 500,000 events.
+#[tactic(auto, unfolding(crate::specs::StatsAnswer::packets_text))]
+pub fn push_packets(out: &mut Vec<u8>, passages: &[Passage]) -> Result<(), AllocError>
+    requires { length passages.now ≤ MAX_EVENTS }
+    ensures { OnOk result (out.new.items ≡ out.old.items ++ packets_text passages.now) }
+{
+    let under_way = LevelFigures::of(passages, Level::Packets);
     let rows = [
-        ("sent", figures.all),
-        ("bytes", figures.bytes),
-        ("most_under_way", figures.most_under_way),
-        ("mread", figures.mread),
-        ("fread", figures.fread),
-        ("cread", figures.cread),
-        ("claim", figures.claim),
-        ("clear", figures.clear),
-        ("purge", figures.purge),
-        ("roll", figures.roll),
-        ("wback", figures.wback),
-        ("setback", figures.setback),
-        ("mdata", figures.mdata),
-        ("mgone", figures.mgone),
-        ("fdata", figures.fdata),
-        ("cdata", figures.cdata),
-        ("purged", figures.purged),
-        ("rolled", figures.rolled),
-        ("wbok", figures.wbok),
-        ("wbno", figures.wbno),
-        ("told", figures.told),
-        ("busy", figures.busy),
+        ("sent", packets_sent(passages)),
+        ("bytes", bytes_sent(passages)),
+        ("most_under_way", under_way.greatest),
     ];
-    push_figures(out, b"packets.", &rows)
+    push_figures(out, b"packets.", &rows)?;
+    push_commands(out, passages, &Command::ALL)
 }
 
 /// Appends what happened to a line.

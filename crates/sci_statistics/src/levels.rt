@@ -4,8 +4,8 @@ ghost use Rattle.std.specs.Prelude.{◌≡◌, ◌≤◌, length};
 ghost use Rattle.sci_words.specs.declared.limits.TheConstants.{MAX_EVENTS};
 ghost use Rattle.sci_statistics.specs.Levels.{begins as begins_of, ends as ends_of, level_figures};
 
-use crate::command::Command;
 use crate::passage::Passage;
+use sci_packets::Command;
 
 /// What begins and ends.
 #[derive(Clone, Copy)]

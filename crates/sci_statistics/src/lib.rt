@@ -2,7 +2,6 @@
 #![tactic(auto)]
 
 mod about;
-mod command;
 mod counting;
 mod event_figures;
 mod figures;
@@ -16,14 +15,13 @@ mod waits;
 mod walk;
 
 pub use about::{line_about, line_changed, sent, taken};
-pub use command::Command;
 pub use counting::{StatsRequest, stats};
 pub use event_figures::{EventFigures, Tally};
 pub use kind::{Access, EventKind};
 pub use levels::{Level, LevelFigures};
 pub use line_figures::LineFigures;
 pub use node_figures::NodeFigures;
-pub use packet_figures::PacketFigures;
+pub use packet_figures::{bytes_sent, packets_sent, packets_with};
 pub use passage::Passage;
 pub use waits::{NodeWaits, WaitFigures};
 pub use walk::{applied, passages_of};

@@ -5,10 +5,10 @@ ghost use Rattle.sci_words.specs.declared.limits.TheConstants.{MAX_EVENTS};
 ghost use Rattle.sci_statistics.specs.Measures.{enters, has_made, serves};
 ghost use Rattle.sci_statistics.specs.Figures.{line_figures, on_line as on_line_of};
 
-use crate::command::Command;
 use crate::kind::Access;
 use crate::levels::{Level, LevelFigures};
 use crate::passage::Passage;
+use sci_packets::Command;
 use std::alloc::{AllocError, Global};
 
 /// What happened to one line of memory.

@@ -5,7 +5,7 @@ ghost use Rattle.sci_statistics.specs.Figures.{at_node as at_node_of, node_figur
 
 use crate::event_figures::count_of;
 use crate::kind::EventKind;
-use crate::packet_figures::sent_count;
+use crate::packet_figures::packets_sent;
 use crate::passage::Passage;
 use std::alloc::{AllocError, Global};
 
@@ -50,7 +50,7 @@ impl NodeFigures {
             issued,
             performed,
             pending: issued.saturating_sub(performed),
-            sent: sent_count(&own),
+            sent: packets_sent(&own),
             served: count_of(&own, EventKind::Serve, true),
         })
     }

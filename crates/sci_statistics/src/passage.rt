@@ -3,8 +3,8 @@
 ghost use Rattle.std.specs.Prelude.{◌≡◌, ◌≤◌};
 ghost use Rattle.sci_statistics.specs.Measures.{comes as comes_of, enters as enters_of, has_made as has_made_of, has_sent as has_sent_of, is_at as is_at_of, is_on as is_on_of, is_serve as is_serve_of, leaves as leaves_of, sends as sends_of, sent_bytes as sent_bytes_of, serves as serves_of, takes as takes_of};
 
-use crate::command::Command;
 use crate::kind::{Access, EventKind};
+use sci_packets::Command;
 
 /// An event of a schedule, and what came of it.
 #[derive(Clone, Copy)]
@@ -59,7 +59,7 @@ impl Passage {
         ensures few { result ≤ 88 }
     {
         match self.sent {
-            Some(command) => command.packet_bytes(),
+            Some(command) => command.packet_bytes() as u64,
             None => 0,
         }
     }

@@ -6,16 +6,14 @@ ghost use Rattle.sci_words.specs.declared.limits.TheConstants.{MAX_EVENTS};
 ghost use Rattle.sci_cache.specs.Cache.{letter_of};
 ghost use Rattle.sci_core.specs.Core.{step, stepping};
 ghost use Rattle.sci_core.specs.Done.{made_by};
-ghost use Rattle.sci_statistics.specs.Commands.{command_in as command_in_of};
-ghost use Rattle.sci_statistics.specs.Passages.{access_in as access_in_of, passage_of, passages_from, waiting_at};
+ghost use Rattle.sci_statistics.specs.Passages.{access_in as access_in_of, command_in as command_in_of, passage_of, passages_from, waiting_at};
 
 use crate::about::{line_about, sent, taken};
-use crate::command::Command;
 use crate::kind::{Access, EventKind};
 use crate::passage::Passage;
 use sci_core::{ApplyFault, Machine, node_of};
 use sci_history::Entry;
-use sci_packets::Packet;
+use sci_packets::{Command, Packet};
 use sci_words::{Event, Extent, MAX_OPERATIONS};
 use std::alloc::{AllocError, Global};
 
@@ -31,7 +29,7 @@ fn command_in(packet: Option<Packet>) -> Option<Command>
     ensures { result ≡ command_in_of (option_map letter_of packet) }
 {
     match packet {
-        Some(packet) => Some(Command::of(&packet.body)),
+        Some(packet) => Some(packet.body.command()),
         None => None,
     }
 }

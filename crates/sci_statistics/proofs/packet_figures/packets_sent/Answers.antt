@@ -1,6 +1,6 @@
 use Rattle.std.proofs.Common.{rules}
 use Rattle.std.proofs.iter.runs.Made.{chains}
-use Rattle.sci_statistics.proofs.packet_figures.sent_count.Goals as goal
+use Rattle.sci_statistics.proofs.packet_figures.packets_sent.Goals as goal
 
 pub returns : goal.returns
 returns c = search (rules, chains)
