@@ -2,7 +2,7 @@
 
 use crate::deed::Mark;
 use crate::sights::{Change, push_change};
-use sci_command::{command_name, push_labelled};
+use sci_command::push_labelled;
 use sci_core::Machine;
 use sci_packets::{Body, NodeId, Packet};
 use sci_text::{push_entry, push_field, push_text};
@@ -30,7 +30,7 @@ fn push_named(out: &mut Vec<u8>, label: &str, node: Option<NodeId>) -> Result<()
 
 /// Appends the name of a packet, and the node that it names: `mgone 2`, `roll none`, `purged -> 0`.
 fn push_packet(out: &mut Vec<u8>, packet: &Packet) -> Result<(), AllocError> {
-    push_text(out, command_name(&packet.body))?;
+    push_text(out, packet.body.command().name())?;
     match &packet.body {
         Body::Roll { forward } => push_named(out, "", *forward),
         Body::Setback { backward } => push_named(out, "", Some(*backward)),

@@ -3,32 +3,10 @@ use Rattle.std.specs.Prelude.{ℕ, List, [], ◌∷◌, ◌++◌, codes, Option,
 use Rattle.std.specs.List.{flat_map}
 use Rattle.sci_words.specs.declared.stamped.Stamped.{Stamped}
 use Rattle.sci_packets.specs.declared.body.Body.{Body}
-use Rattle.sci_packets.specs.declared.body.Body.TheVariants.{Mread, Cread, Purge, Roll, Wback, Setback, Fread, Claim, Clear, Mdata, Mgone, Cdata, Purged}
-use Rattle.sci_packets.specs.declared.body.Body.TheVariants.{Rolled, Wbok, Wbno, Told, Busy, Fdata}
+use Rattle.sci_packets.specs.declared.body.Body.TheVariants.{Roll, Wback, Setback, Mdata, Mgone, Cdata, Purged, Fdata}
 use Rattle.sci_packets.specs.declared.packet.Packet.{Packet}
+use Rattle.sci_packets.specs.Table.{command_name, command_of}
 use Rattle.sci_text.specs.Number.{number, field}
-
--- the name of a command
-unfoldable pub name_of : Body → List ℕ
-name_of Mread = codes "mread"
-name_of Cread = codes "cread"
-name_of Purge = codes "purge"
-name_of (Roll forward) = codes "roll"
-name_of (Wback contents) = codes "wback"
-name_of (Setback backward) = codes "setback"
-name_of Fread = codes "fread"
-name_of Claim = codes "claim"
-name_of Clear = codes "clear"
-name_of (Mdata contents) = codes "mdata"
-name_of (Mgone old_head) = codes "mgone"
-name_of (Cdata contents) = codes "cdata"
-name_of (Purged forward) = codes "purged"
-name_of Rolled = codes "rolled"
-name_of Wbok = codes "wbok"
-name_of Wbno = codes "wbno"
-name_of Told = codes "told"
-name_of Busy = codes "busy"
-name_of (Fdata old_head contents) = codes "fdata"
 
 -- an identifier, or that there is none
 unfoldable pub identifier_text : Option ℕ → List ℕ
@@ -41,30 +19,20 @@ contents_text stamped = codes " @" ++ (number stamped.version ++ flat_map field 
 
 -- what a command's line ends with: the identifier if the command uses it, and the contents if it carries them
 unfoldable pub said_text : Body → List ℕ
-said_text Mread = []
-said_text Cread = []
-said_text Purge = []
 said_text (Roll forward) = identifier_text forward
 said_text (Wback contents) = contents_text contents
 said_text (Setback backward) = identifier_text (Some backward)
-said_text Fread = []
-said_text Claim = []
-said_text Clear = []
 said_text (Mdata contents) = contents_text contents
 said_text (Mgone old_head) = identifier_text (Some old_head)
 said_text (Cdata contents) = contents_text contents
 said_text (Purged forward) = identifier_text forward
-said_text Rolled = []
-said_text Wbok = []
-said_text Wbno = []
-said_text Told = []
-said_text Busy = []
 said_text (Fdata old_head contents) = identifier_text old_head ++ contents_text contents
+said_text _ = []
 
 -- `NAME to T from S control K line L`, what the command says, and the line feed
 unfoldable pub line_of_packet : ℕ → ℕ → ℕ → ℕ → Body → List ℕ
 line_of_packet target source control line body =
-    name_of body ++ (codes " to" ++ (field target
+    command_name (command_of body) ++ (codes " to" ++ (field target
     ++ (codes " from" ++ (field source ++ (codes " control" ++ (field control ++ (codes " line" ++ (field line ++ (said_text body ++ 10 ∷ [])))))))))
 
 unfoldable pub packet_line : Packet → List ℕ

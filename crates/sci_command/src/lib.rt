@@ -15,7 +15,7 @@ mod writing;
 pub use answer::{Answer, finish};
 pub use asked_line::{is_asked, read_asked};
 pub use outcome::Outcome;
-pub use packet_line::{command_name, push_contents, push_identifier, push_packet, put_contents};
+pub use packet_line::{push_contents, push_identifier, push_packet, put_contents};
 pub use printing::push_labelled;
 pub use refusal::refusal_text;
 pub use verdict::verdict_line;

@@ -4,41 +4,13 @@ ghost use Rattle.std.specs.Prelude.{◌≡◌, ◌≤◌, ◌+◌, ◌++◌, len
 ghost use Rattle.std.specs.List.{flat_map};
 ghost use Rattle.sci_words.specs.declared.limits.TheConstants.{MAX_TEXT_LINE_BYTES};
 ghost use Rattle.sci_text.specs.Number.{field};
-ghost use Rattle.sci_command.specs.PacketLine.{name_of, identifier_text, contents_text, said_text, packet_line};
+ghost use Rattle.sci_command.specs.PacketLine.{identifier_text, contents_text, said_text, packet_line};
 
 use crate::printing::push_labelled;
 use sci_packets::{Body, NodeId, Packet};
 use sci_text::{LineEnd, push_text};
 use sci_words::{Line, Stamped, WORDS_PER_LINE};
 use std::alloc::AllocError;
-
-/// The name of a command, as `mread`.
-#[tactic(auto, unfolding(crate::specs::PacketLine::name_of))]
-pub fn command_name(body: &Body) -> &'static str
-    ensures { result.now ≡ name_of body.now }
-{
-    match body {
-        Body::Mread => "mread",
-        Body::Cread => "cread",
-        Body::Purge => "purge",
-        Body::Roll { .. } => "roll",
-        Body::Wback(_) => "wback",
-        Body::Setback { .. } => "setback",
-        Body::Fread => "fread",
-        Body::Claim => "claim",
-        Body::Clear => "clear",
-        Body::Mdata(_) => "mdata",
-        Body::Mgone { .. } => "mgone",
-        Body::Cdata(_) => "cdata",
-        Body::Purged { .. } => "purged",
-        Body::Rolled => "rolled",
-        Body::Wbok => "wbok",
-        Body::Wbno => "wbno",
-        Body::Told => "told",
-        Body::Busy => "busy",
-        Body::Fdata { .. } => "fdata",
-    }
-}
 
 /// Appends an identifier, as ` id 3`, or that there is none, as ` id none`. Refused if memory is.
 #[tactic(auto, unfolding(crate::specs::PacketLine::identifier_text))]
@@ -112,7 +84,7 @@ fn push_said(out: &mut Vec<u8>, body: &Body) -> Result<(), AllocError>
 pub fn push_packet(out: &mut Vec<u8>, packet: &Packet) -> Result<(), AllocError>
     ensures { OnOk result (out.new.items ≡ out.old.items ++ packet_line packet.now) }
 {
-    push_text(out, command_name(&packet.body))?;
+    push_text(out, packet.body.command().name())?;
     push_labelled(out, b" to", u64::from(packet.target.get()))?;
     push_labelled(out, b" from", u64::from(packet.source.get()))?;
     push_labelled(out, b" control", u64::from(packet.control))?;

@@ -11,13 +11,13 @@ use Rattle.sci_words.specs.declared.operation.Reply.TheVariants.{Stored, Got}
 use Rattle.sci_words.specs.declared.stamped.Stamped.{Stamped}
 use Rattle.sci_packets.specs.declared.body.Body.{Body}
 use Rattle.sci_packets.specs.declared.body.Body.TheVariants.{Roll, Wback, Setback, Mdata, Mgone, Cdata, Purged, Fdata}
+use Rattle.sci_packets.specs.Table.{command_name, command_of}
 use Rattle.sci_history.specs.declared.entry.Entry.{Entry}
 use Rattle.sci_cache.specs.Cache.{Letter}
 use Rattle.sci_cache.specs.State.{CacheState, backward_of, contents_of, forward_of, is_sent}
 use Rattle.sci_home.specs.declared.state.HomeState.{HomeState}
 use Rattle.sci_home.specs.Serving.{current_of, head_of}
 use Rattle.sci_text.specs.Operation.{act_word}
-use Rattle.sci_command.specs.PacketLine.{name_of}
 use Rattle.sci_traces.specs.JsonMembers.{flag_member, null_member, number_member, optional_member, text_member, word_member, words_member}
 use Rattle.sci_traces.specs.StateWords.{home_name, state_name}
 
@@ -44,7 +44,7 @@ said_members _ = []
 
 unfoldable pub packet_members : Letter → List Token
 packet_members letter =
-    text_member (codes "command") (name_of letter.body)
+    text_member (codes "command") (command_name (command_of letter.body))
     ++ (number_member (codes "to") letter.target
     ++ (number_member (codes "from") letter.source
     ++ (number_member (codes "control") letter.control ++ (number_member (codes "line") letter.line ++ said_members letter.body))))

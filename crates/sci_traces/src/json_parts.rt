@@ -12,7 +12,6 @@ use crate::json_members::{
 use crate::state_words::{home_name, state_name};
 use json::Writer;
 use sci_cache::Held;
-use sci_command::command_name;
 use sci_history::Entry;
 use sci_home::Home;
 use sci_packets::{Body, NodeId, Packet};
@@ -76,7 +75,7 @@ fn write_said(out: &mut Writer, body: &Body) -> Result<(), AllocError>
 pub fn write_packet(out: &mut Writer, packet: &Packet) -> Result<(), AllocError>
     ensures { OnOk result (Adds out.old out.new (packet_members (letter_of packet.now))) }
 {
-    write_text(out, "command", command_name(&packet.body))?;
+    write_text(out, "command", packet.body.command().name())?;
     write_number(out, "to", u64::from(packet.target.get()))?;
     write_number(out, "from", u64::from(packet.source.get()))?;
     write_number(out, "control", u64::from(packet.control))?;

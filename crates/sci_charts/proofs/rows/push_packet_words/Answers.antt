@@ -1,14 +1,15 @@
 use Rattle.std.proofs.Common.{◌≡◌, ◌-◌, ℕ, List, [], ◌∷◌, ◌++◌, take, codes, append_assoc, sym, ap, ◌∙◌}
 use Rattle.sci_packets.specs.declared.packet.Packet.{Packet}
+use Rattle.sci_packets.specs.Table.{command_name, command_of}
 use Rattle.sci_text.specs.Number.{field}
-use Rattle.sci_command.specs.PacketLine.{line_of_packet, name_of, packet_line, said_text}
+use Rattle.sci_command.specs.PacketLine.{line_of_packet, packet_line, said_text}
 use Rattle.sci_charts.proofs.Ended.{without_last}
 use Rattle.sci_charts.proofs.rows.push_packet_words.Goals as goal
 
 -- what stands in front of the line feed
 words_of : Packet → List ℕ
 words_of p =
-    name_of p.body ++ (codes " to" ++ (field p.target
+    command_name (command_of p.body) ++ (codes " to" ++ (field p.target
     ++ (codes " from" ++ (field p.source ++ (codes " control" ++ (field p.control ++ (codes " line" ++ (field p.line ++ said_text p.body))))))))
 
 line_of : (p : Packet) → packet_line p ≡ words_of p ++ 10 ∷ []
