@@ -1,6 +1,6 @@
 //! Contents, nodes and what packets say in words: a name, the node that is named, and the contents.
 
-use sci_packets::{Body, NodeId, Packet};
+use sci_packets::{Body, Command, NodeId, Packet, from_words};
 use sci_words::{Line, Reply, Stamped};
 use std::alloc::{AllocError, Global};
 use std::test::*;
@@ -31,30 +31,6 @@ pub fn push_contents(text: &mut String, contents: &Stamped) -> Result<(), AllocE
     Ok(())
 }
 
-fn name(body: &Body) -> &'static str {
-    match body {
-        Body::Mread => "mread",
-        Body::Cread => "cread",
-        Body::Purge => "purge",
-        Body::Roll { .. } => "roll",
-        Body::Wback(_) => "wback",
-        Body::Setback { .. } => "setback",
-        Body::Fread => "fread",
-        Body::Claim => "claim",
-        Body::Clear => "clear",
-        Body::Mdata(_) => "mdata",
-        Body::Mgone { .. } => "mgone",
-        Body::Cdata(_) => "cdata",
-        Body::Purged { .. } => "purged",
-        Body::Rolled => "rolled",
-        Body::Wbok => "wbok",
-        Body::Wbno => "wbno",
-        Body::Told => "told",
-        Body::Busy => "busy",
-        Body::Fdata { .. } => "fdata",
-    }
-}
-
 fn link(body: &Body) -> Option<Link> {
     match *body {
         Body::Roll { forward } | Body::Purged { forward } => Some(("forward", forward)),
@@ -75,7 +51,7 @@ fn contents(body: &Body) -> Option<Stamped> {
 
 /// What a packet says, as `purged forward 2` or `mdata @1 7`.
 pub fn body_text(alloc: Global, body: &Body) -> Result<String, AllocError> {
-    let mut text = String::from_str(alloc, name(body))?;
+    let mut text = String::from_str(alloc, body.command().name())?;
     if let Some((label, node)) = link(body) {
         push_link(&mut text, label, node)?;
     }
@@ -129,34 +105,19 @@ pub fn body_of(text: &str) -> Result<Body, Fail> {
         version: version.unwrap_or(0),
     };
     let name = text.split_whitespace().next().ok_or("no word")?;
-    Ok(body_named(name, node, contents).ok_or("no packet says so")?)
+    Ok(body_named(name, node, &contents).ok_or("no packet says so")?)
 }
 
-/// The body of this name with this node and these contents.
-fn body_named(name: &str, node: Option<NodeId>, contents: Stamped) -> Option<Body> {
-    Some(match name {
-        "mread" => Body::Mread,
-        "cread" => Body::Cread,
-        "purge" => Body::Purge,
-        "roll" => Body::Roll { forward: node },
-        "wback" => Body::Wback(contents),
-        "setback" => Body::Setback { backward: node? },
-        "fread" => Body::Fread,
-        "claim" => Body::Claim,
-        "clear" => Body::Clear,
-        "mdata" => Body::Mdata(contents),
-        "mgone" => Body::Mgone { old_head: node? },
-        "cdata" => Body::Cdata(contents),
-        "purged" => Body::Purged { forward: node },
-        "rolled" => Body::Rolled,
-        "wbok" => Body::Wbok,
-        "wbno" => Body::Wbno,
-        "told" => Body::Told,
-        "busy" => Body::Busy,
-        "fdata" => Body::Fdata {
-            old_head: node,
-            contents,
-        },
-        _ => return None,
-    })
+/// The body of this name with this node and these contents: that of the packet with these fields.
+fn body_named(name: &str, node: Option<NodeId>, contents: &Stamped) -> Option<Body> {
+    let command = Command::ALL
+        .into_iter()
+        .find(|command| command.name() == name)?;
+    let mut words = [0; 11];
+    words[0] = u64::from(command.number()) * 0x1_0000_0000;
+    words[1] = node.map_or(0xFFFF, |id| u64::from(id.get()));
+    words[2] = contents.version;
+    words[3..].copy_from_slice(&contents.line.words());
+    let (packet, _) = from_words(&words).ok()?;
+    Some(packet.body)
 }
