@@ -24,9 +24,12 @@ use Rattle.sci_outcomes.specs.declared.histogram.Row.{Row}
 use Rattle.sci_outcomes.specs.declared.histogram.Tally.{Tally}
 use Rattle.sci_outcomes.specs.declared.outcome.Outcome.{Outcome}
 use Rattle.sci_outcomes.specs.declared.outcome.Sighting.{Sighting}
-use Rattle.sci_outcomes.specs.Rows.{AreRowsOf, HasCounted, IsRowOf, has_outcome, outcome_cmp, row_cmp, row_of}
+use Rattle.sci_outcomes.specs.Rows.{AreRowsOf, HasCounted, IsRowOf, has_outcome, outcome_cmp, row_cmp}
 use Rattle.sci_outcomes.proofs.Counts.{bit, some_tally, sum_by_map, tally_is}
 use Rattle.sci_outcomes.proofs.Histograms.{is_same, outcome_total, same_back}
+
+abbrev pub row_of : Outcome × Tally → Row
+row_of entry = record { outcome = entry.0; runs = entry.1.runs; first = entry.1.first; in_order = entry.1.in_order }
 
 -- whether two rows have one outcome
 abbrev row_same : Row → Row → Bool

@@ -70,6 +70,3 @@ pub record HasCounted (histogram : Histogram) (seen : List Sighting) : Type 0 wh
   pub many : histogram.runs ≡ length seen
   pub each : (outcome : Outcome) → get outcome_cmp histogram.tallies outcome ≡ tally_by (has_outcome outcome) seen
   pub whole : sum_by (λ tally. tally.runs) (values histogram.tallies) ≡ length seen
-
-abbrev pub row_of : Outcome × Tally → Row
-row_of entry = record { outcome = entry.0; runs = entry.1.runs; first = entry.1.first; in_order = entry.1.in_order }

@@ -1,19 +1,29 @@
 -- Shares that go on.
-use Rattle.std.proofs.Common.{◌≡◌, ◌<◌, ℕ, List, All, length, refl, sym, ap, subst, ◌∙◌, inl, inr, Bool, Result, arith}
+use Rattle.std.proofs.Common.{◌≡◌, ◌<◌, ℕ, List, All, length, refl, sym, ap, subst, ◌∙◌, inl, inr, Bool, true, IfOk, Result, arith}
 use Rattle.std.specs.Prelude.{slice_index_or, slice_set}
 use Rattle.std.proofs.lemmas.Bool.{cases_eq}
 use Rattle.std.proofs.lemmas.List.{get_or-set_same, get_or-set_other}
 use Rattle.std.proofs.lemmas.Option.{get_or_from_slice_get, slice_get-get_or}
 use Rattle.std.proofs.lemmas.Result.{IfOk-weaker}
 use Rattle.sci_words.specs.declared.operation.Op.{Op}
+use Rattle.sci_history.specs.Sequential.{IsInProgramOrder}
 use Rattle.sci_lanes.specs.Ends.{EndOf}
 use Rattle.sci_lanes.specs.Shown.{me_of}
 use Rattle.sci_drive.specs.declared.driver.Issuing.{Issuing}
+use Rattle.sci_drive.specs.declared.driver.Issuing.TheVariants.{InOrder}
 use Rattle.sci_drive.specs.Driving.{DriverOf}
 use Rattle.sci_drive.specs.Script.{IsFrontOf, IsLogOf, IsWholeLogOf}
 use Rattle.sci_drive.proofs.Drives.{log_of, whole_of}
 use Rattle.sci_station.proofs.Stills.{same_itself, same_then}
-use Rattle.sci_threads.specs.Shares.{GoesOn, HasRun, HaveGoneOn, IsOpened, IsWell}
+use Rattle.sci_threads.specs.Shares.{GoesOn, HaveGoneOn, IsOpened, IsWell}
+
+-- The log of the end's node is of the operations that stand under its number, and whole if it has finished. If they were
+-- issued in order, it stands in their order and has the first ones of them.
+pub record HasRun {E : Type 0} (issuing : Issuing) (operations : ℕ → List Op) (end : EndOf) (finished : Result Bool E) : Type 0 where
+  pub named : IsLogOf (operations (me_of end.part)) end.part.node.log
+  pub whole : IfOk finished (λ all. all ≡ true → IsWholeLogOf (operations (me_of end.part)) end.part.node.log)
+  pub ordered : issuing ≡ InOrder → IsInProgramOrder end.part.node.log
+  pub front : issuing ≡ InOrder → IsFrontOf (operations (me_of end.part)) end.part.node.log
 
 pub stays : (driver : DriverOf) (end : EndOf) → GoesOn driver end driver end
 stays driver end = record { same = same_itself end; script = refl; order = λ h. h }

@@ -13,7 +13,6 @@ use Rattle.sci_core.specs.Sharing.{last_of}
 use Rattle.sci_lanes.specs.Shown.{me_of}
 use Rattle.sci_lanes.specs.Ends.{EndOf}
 use Rattle.sci_lanes.specs.Gathering.{AreMadeBy, IsLedTo}
-use Rattle.sci_history.specs.Sequential.{IsInProgramOrder}
 use Rattle.sci_drive.specs.declared.driver.Issuing.{Issuing}
 use Rattle.sci_drive.specs.declared.driver.Issuing.TheVariants.{InOrder}
 use Rattle.sci_drive.specs.Driving.{DriverOf, IsDriven, IsInOrder}
@@ -75,11 +74,3 @@ pub record GoesOn (driver : DriverOf) (end : EndOf) (later : DriverOf) (last : E
 abbrev pub HaveGoneOn : {A : Type 0} → (A → DriverOf) → (A → EndOf) → List A → List A → ℕ → A → Type 0
 HaveGoneOn driver end old new k d =
     GoesOn (driver (slice_index_or old k d)) (end (slice_index_or old k d)) (driver (slice_index_or new k d)) (end (slice_index_or new k d))
-
--- The log of the end's node is of the operations that stand under its number, and whole if it has finished. If they were
--- issued in order, it stands in their order and has the first ones of them.
-pub record HasRun {E : Type 0} (issuing : Issuing) (operations : ℕ → List Op) (end : EndOf) (finished : Result Bool E) : Type 0 where
-  pub named : IsLogOf (operations (me_of end.part)) end.part.node.log
-  pub whole : IfOk finished (λ all. all ≡ true → IsWholeLogOf (operations (me_of end.part)) end.part.node.log)
-  pub ordered : issuing ≡ InOrder → IsInProgramOrder end.part.node.log
-  pub front : issuing ≡ InOrder → IsFrontOf (operations (me_of end.part)) end.part.node.log

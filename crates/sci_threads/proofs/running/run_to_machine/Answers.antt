@@ -18,8 +18,8 @@ use Rattle.sci_lanes.proofs.Gathered.{node_log}
 use Rattle.sci_threads.proofs.Sharing.{came_back, each_end, each_log, in_order, opened_long, opened_known, opened_all_fresh}
 use Rattle.sci_threads.proofs.Sharing.{sized_for, whole_if, written_back}
 use Rattle.sci_threads.specs.declared.share.Share.{Share}
-use Rattle.sci_threads.proofs.Going.{all_run}
-use Rattle.sci_threads.specs.Shares.{HasRun, HaveGoneOn, IsWell, operations_of, own_of}
+use Rattle.sci_threads.proofs.Going.{HasRun, all_run}
+use Rattle.sci_threads.specs.Shares.{HaveGoneOn, IsWell, operations_of, own_of}
 use Rattle.sci_threads.proofs.running.run_to_machine.Goals as goal
 use Rattle.sci_threads.proofs.running.run_to_machine.Goals.{In-Ok, In_ok-stations}
 

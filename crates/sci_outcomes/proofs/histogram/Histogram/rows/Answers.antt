@@ -6,9 +6,8 @@ use Rattle.std.specs.declared.cmp.Reverse.{Reverse}
 use Rattle.sci_outcomes.specs.declared.histogram.Row.{Row}
 use Rattle.sci_outcomes.specs.declared.histogram.Tally.{Tally}
 use Rattle.sci_outcomes.specs.declared.outcome.Outcome.{Outcome}
-use Rattle.sci_outcomes.specs.Rows.{row_of}
 use Rattle.sci_outcomes.proofs.Counts.{map_same}
-use Rattle.sci_outcomes.proofs.Ranked.{are_rows, is_more}
+use Rattle.sci_outcomes.proofs.Ranked.{are_rows, is_more, row_of}
 use Rattle.sci_outcomes.proofs.histogram.Histogram.rows.Goals as goal
 
 pub returns : goal.returns

@@ -1,5 +1,5 @@
 use Rattle.std.proofs.Common.{◌≡◌, map}
-use Rattle.sci_outcomes.specs.Rows.{row_of}
+use Rattle.sci_outcomes.proofs.Ranked.{row_of}
 use Rattle.sci_outcomes.proofs.histogram.Histogram.rows.Given as goal
 
 -- the rows so far
