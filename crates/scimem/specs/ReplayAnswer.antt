@@ -23,6 +23,13 @@ replay_size s = record { nodes = s.nodes; lines = s.lines; slots = s.slots; limi
 abbrev pub replayed : ScheduleValue → Core
 replayed s = run (replay_size s) s.events
 
+-- the bytes are the text of a schedule, which leads a machine here
+pub record IsWhereLed (input : List ℕ) (machine : Core) : Type 0 where
+  pub schedule : ScheduleValue
+  pub good : IsSchedule schedule
+  pub read : input ≡ schedule_text schedule
+  pub led : machine ≡ replayed schedule
+
 -- the text of the logs and the last contents there
 abbrev pub replay_text : ScheduleValue → List ℕ
 replay_text s = log_text s.nodes (logs_of (replayed s)) (last_of (replayed s))

@@ -1,19 +1,33 @@
 //! The command `replay`: the log of the machine where a schedule leads.
 
 ghost use Rattle.std.specs.Prelude.{◌≡◌, false, IfOk, IfErr};
-ghost use Rattle.sci_text.specs.FirstFault.{IsTold};
+ghost use Rattle.sci_text.specs.FirstFault.{IsRefusal, IsTold};
 ghost use Rattle.sci_text.specs.ScheduleFault.{IsScheduleFault};
 ghost use Rattle.sci_text.specs.Tap.{has_failed, is_called_again, tapped};
 ghost use Rattle.sci_command.specs.declared.outcome.Outcome.{Outcome};
-ghost use Rattle.scimem.specs.ReplayAnswer.{IsReplayAnswer};
+ghost use Rattle.scimem.specs.ReplayAnswer.{IsReplayAnswer, IsWhereLed};
 ghost use Rattle.sci_command.specs.Writing.{HasWritten};
 
 use sci_command::{Answer, Outcome, finish};
 use sci_core::Machine;
-use sci_text::{Tap, TextFault, logs_text, read_schedule};
+use sci_text::{ScheduleEvents, Tap, TextFault, logs_text, read_input};
 use sci_words::MAX_OPERATIONS;
 use std::alloc::Global;
 use std::io::{Read, Write};
+
+/// The machine where the schedule leads whose text the bytes are. Each event is applied as soon as its line is read. Refused by
+/// the first fault of the bytes, or at line 0 if memory is.
+fn machine_of(alloc: Global, input: &[u8]) -> Result<Machine, TextFault>
+    ensures led { IfOk result (IsWhereLed input.now) }
+    ensures fault { IfErr result (IsRefusal IsScheduleFault input.now) }
+{
+    let mut events = ScheduleEvents::of(input)?;
+    let mut machine = Machine::new(alloc, events.extent(), MAX_OPERATIONS)?;
+    while let Some(event) = events.next_event()? {
+        machine.run(&[event])?;
+    }
+    Ok(machine)
+}
 
 /// The text of the log of where the schedule that the reader gives leads, or its fault.
 fn answer<R: Read>(alloc: Global, reader: &mut Tap<R>) -> Result<Answer, TextFault>
@@ -25,13 +39,12 @@ fn answer<R: Read>(alloc: Global, reader: &mut Tap<R>) -> Result<Answer, TextFau
         (R.remaining (tapped reader.old)) (has_failed reader.new) fault.line) }
     ensures again { is_called_again reader.new ≡ is_called_again reader.old }
 {
-    let schedule = read_schedule(alloc, reader)?;
-    let extent = schedule.extent();
-    let mut machine = Machine::new(alloc, extent, MAX_OPERATIONS)?;
-    machine.run(schedule.events())?;
-    drop(schedule);
+    let input = read_input(alloc, reader)?;
+    let machine = machine_of(alloc, &input)?;
+    drop(input);
+    let nodes = machine.extent().nodes;
     let (logs, last) = machine.finish(alloc);
-    let text = logs_text(alloc, extent.nodes, &logs, &last)?;
+    let text = logs_text(alloc, nodes, &logs, &last)?;
     Ok(Answer {
         text,
         outcome: Outcome::Done,
