@@ -24,4 +24,4 @@ pub record IsChartOf (request : ChartRequest) (input text : List ℕ) : Type 0 w
 
 -- what `chart` writes, and how it ends, for the bytes of a reader, which has failed or not
 abbrev pub IsChartAnswer : ChartRequest → Option (List ℕ) → Bool → List ℕ → Outcome → Type 0
-IsChartAnswer request input failed = IsDoneBy (IsChartOf request) (λ kind line. IsAskedFault request.line kind input failed line) input failed
+IsChartAnswer request = IsDoneBy (IsChartOf request) (IsAskedFault request.line)

@@ -1,7 +1,8 @@
 //! The command `chart`: a message sequence chart of a schedule.
 
-ghost use Rattle.std.specs.Prelude.{◌≡◌, ◌&&◌, false, IfOk, IfErr};
+ghost use Rattle.std.specs.Prelude.{◌≡◌, ◌&&◌, false, IfOk};
 ghost use Rattle.sci_text.specs.Tap.{has_failed, is_called_again, tapped};
+ghost use Rattle.sci_command.specs.Answer.{IsAnswered};
 ghost use Rattle.sci_command.specs.declared.outcome.Outcome.{Outcome};
 ghost use Rattle.sci_charts.specs.ChartAnswer.{IsChart, IsChartAnswer};
 ghost use Rattle.sci_command.specs.AskedLine.{IsAskedFault, is_asked};
@@ -97,11 +98,8 @@ pub fn chart<R: Read>(
     reader: &mut Tap<R>,
 ) -> Result<Answer, TextFault>
     requires { has_failed reader.old ≡ false }
-    ensures answer { IfOk result (λ answer.
-        IsChartAnswer request (R.remaining (tapped reader.old)) (has_failed reader.new)
-        answer.text.items answer.outcome) }
-    ensures fault { IfErr result (λ fault. IsAskedFault request.line fault.kind
-        (R.remaining (tapped reader.old)) (has_failed reader.new) fault.line) }
+    ensures answered { IsAnswered (IsChartAnswer request) (IsAskedFault request.line)
+        (R.remaining (tapped reader.old)) (has_failed reader.new) result }
     ensures again { is_called_again reader.new ≡ is_called_again reader.old }
 {
     let schedule = read_asked(alloc, request.line, reader)?;

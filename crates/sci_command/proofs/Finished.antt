@@ -1,15 +1,14 @@
 -- What is written of a command's answer is an answer to its input.
-use Rattle.std.proofs.Common.{◌≡◌, ℕ, List, Bool, false, true, Option, Result, Ok, Err}
+use Rattle.std.proofs.Common.{◌≡◌, ℕ, List, Bool, false, true, Option, None, Result, Ok, Err}
 use Rattle.std.specs.Prelude.{IfOk, IfErr}
 use Rattle.std.specs.Io.KnownBytes.{Appends}
 use Rattle.sci_text.specs.declared.fault.TextFault.{TextFault}
 use Rattle.sci_command.specs.declared.answer.Answer.{Answer}
 use Rattle.sci_command.specs.declared.outcome.Outcome.{Outcome}
 use Rattle.sci_command.specs.declared.outcome.Outcome.TheVariants.{Refused}
-use Rattle.sci_command.specs.Answer.{IsWrittenOf}
+use Rattle.sci_command.specs.Answer.{IsAnswered, IsWrittenOf}
 use Rattle.sci_text.specs.declared.fault.TextFaultKind.{TextFaultKind}
-use Rattle.sci_text.specs.FirstFault.{IsTold}
-use Rattle.sci_command.proofs.Refusals.{refused_told}
+use Rattle.sci_command.proofs.Refusals.{AllowsMemory, refused_by}
 use Rattle.sci_command.specs.Refusal.{Refuses, IsRefusalBy}
 use Rattle.sci_command.specs.Writing.{HasWritten, WritesFront}
 
@@ -23,34 +22,44 @@ written_text is_answer text outcome is old new failed ended front whole unfailed
   refused = refused;
 }
 
-answers : (is_answer : List ℕ → Outcome → Type 0) (told : TextFault → Type 0) (result : Result Answer TextFault) (text : List ℕ) (outcome : Outcome)
-    → ((fault : TextFault) → told fault → Refuses fault text → is_answer text Refused)
-    → IfOk result (λ answer. is_answer answer.text.items answer.outcome) → IfErr result told → IsWrittenOf result text outcome → is_answer text outcome
-answers is_answer told (Ok answer) text outcome refused ok err written = rw (written.0, written.1) ok
-answers is_answer told (Err fault) text outcome refused ok err written = rw written.1 (refused fault err written.0)
+answers : (is_answer : Option (List ℕ) → Bool → List ℕ → Outcome → Type 0) (is_told : TextFaultKind → Option (List ℕ) → Bool → ℕ → Type 0)
+    (known : Option (List ℕ)) (unread : Bool) (result : Result Answer TextFault) (text : List ℕ) (outcome : Outcome)
+    → ((fault : TextFault) → is_told fault.kind known unread fault.line → Refuses fault text → is_answer known unread text Refused)
+    → IsAnswered is_answer is_told known unread result → IsWrittenOf result text outcome → is_answer known unread text outcome
+answers is_answer is_told known unread (Ok answer) text outcome refused answered written = rw (written.0, written.1) answered
+answers is_answer is_told known unread (Err fault) text outcome refused answered written = rw written.1 (refused fault answered written.0)
 
--- a command whose answers are right, and whose faults are told, has written an answer
-pub finished : (is_answer : List ℕ → Outcome → Type 0) (told : TextFault → Type 0) (result : Result Answer TextFault)
-    → ((fault : TextFault) (text : List ℕ) → told fault → Refuses fault text → is_answer text Refused)
-    → IfOk result (λ answer. is_answer answer.text.items answer.outcome) → IfErr result told
-    → (old new : Option (List ℕ)) (failed : Bool) (outcome : Outcome) → HasWritten old new failed outcome (IsWrittenOf result)
-    → HasWritten old new failed outcome is_answer
-finished is_answer told result refused ok err old new failed outcome written =
+-- a command that has answered an input, and whose faults are refused as its answer says, has written an answer to it
+pub finished : (is_answer : Option (List ℕ) → Bool → List ℕ → Outcome → Type 0) (is_told : TextFaultKind → Option (List ℕ) → Bool → ℕ → Type 0)
+    {known : Option (List ℕ)} {unread : Bool} (result : Result Answer TextFault)
+    → ((fault : TextFault) (text : List ℕ) → is_told fault.kind known unread fault.line → Refuses fault text → is_answer known unread text Refused)
+    → IsAnswered is_answer is_told known unread result
+    → {old new : Option (List ℕ)} {failed : Bool} {outcome : Outcome} → HasWritten old new failed outcome (IsWrittenOf result)
+    → HasWritten old new failed outcome (is_answer known unread)
+finished is_answer is_told {known} {unread} result refused answered {outcome = outcome} written =
     let front = written.front in record {
       whole = λ unfailed.
           let whole = written.whole unfailed in
-          (whole.0, whole.1, answers is_answer told result whole.0 outcome (λ fault. refused fault whole.0) ok err whole.2);
-      front = (front.0, front.1, front.2, answers is_answer told result front.0 front.1 (λ fault. refused fault front.0) ok err front.3);
+          (whole.0, whole.1, answers is_answer is_told known unread result whole.0 outcome (λ fault. refused fault whole.0) answered whole.2);
+      front = (front.0, front.1, front.2, answers is_answer is_told known unread result front.0 front.1 (λ fault. refused fault front.0) answered front.3);
       refused = written.refused;
     }
 
--- the same of a command that reads a text, and refuses it for the fault that is told of it
-pub finished_reading : (is_first : List ℕ → ℕ → TextFaultKind → Type 0) (known : Option (List ℕ)) (unread : Bool) (is_answer : List ℕ → Outcome → Type 0)
-    (result : Result Answer TextFault)
-    → ((text : List ℕ) → IsRefusalBy (λ kind line. IsTold is_first kind known unread line) text → is_answer text Refused)
-    → IfOk result (λ answer. is_answer answer.text.items answer.outcome) → IfErr result (λ fault. IsTold is_first fault.kind known unread fault.line)
-    → (old new : Option (List ℕ)) (failed : Bool) (outcome : Outcome) → HasWritten old new failed outcome (IsWrittenOf result)
-    → HasWritten old new failed outcome is_answer
-finished_reading is_first known unread is_answer result refused ok err =
-    finished is_answer (λ fault. IsTold is_first fault.kind known unread fault.line) result
-    (λ fault text told refuses. refused text (refused_told is_first known unread fault text told refuses)) ok err
+-- the same where an answer is Refused if it is the refusal of a fault that is told
+pub finished_by : (is_answer : Option (List ℕ) → Bool → List ℕ → Outcome → Type 0) (is_told : TextFaultKind → Option (List ℕ) → Bool → ℕ → Type 0)
+    {known : Option (List ℕ)} {unread : Bool} (result : Result Answer TextFault)
+    → ((input : Option (List ℕ)) (failed : Bool) → AllowsMemory (λ kind line. is_told kind input failed line))
+    → ((text : List ℕ) → IsRefusalBy (λ kind line. is_told kind known unread line) text → is_answer known unread text Refused)
+    → IsAnswered is_answer is_told known unread result
+    → {old new : Option (List ℕ)} {failed : Bool} {outcome : Outcome} → HasWritten old new failed outcome (IsWrittenOf result)
+    → HasWritten old new failed outcome (is_answer known unread)
+finished_by is_answer is_told {known} {unread} result memory refused =
+    finished is_answer is_told result
+    (λ fault text told refuses. refused text (refused_by (λ kind line. is_told kind known unread line) (memory known unread) fault text told refuses))
+
+-- an answer that is right, or a fault that is told, of a command that reads nothing
+pub answered_by : (is_answer : List ℕ → Outcome → Type 0) (is_told : TextFaultKind → ℕ → Type 0) (result : Result Answer TextFault)
+    → IfOk result (λ answer. is_answer answer.text.items answer.outcome) → IfErr result (λ fault. is_told fault.kind fault.line)
+    → IsAnswered (λ known unread. is_answer) (λ kind known unread. is_told kind) None false result
+answered_by is_answer is_told (Ok answer) ok err = ok
+answered_by is_answer is_told (Err fault) ok err = err

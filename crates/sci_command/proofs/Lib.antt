@@ -2,5 +2,4 @@ pub mod Answers
 pub mod Finished
 pub mod Refusals
 pub mod Written
-pub mod Asked
 pub mod Joined

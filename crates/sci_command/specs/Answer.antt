@@ -15,13 +15,21 @@ IsWrittenOf (Err fault) text outcome = Refuses fault text × (outcome ≡ Refuse
 
 -- What a command writes for the text that a reader gives, and how it ends: what is made of the bytes that were read, or the
 -- refusal of a fault that is told.
-abbrev pub IsAnswerBy : (List ℕ → List ℕ → Outcome → Type 0) → (TextFaultKind → ℕ → Type 0) → Option (List ℕ) → Bool → List ℕ → Outcome → Type 0
+abbrev pub IsAnswerBy : (List ℕ → List ℕ → Outcome → Type 0) → (TextFaultKind → Option (List ℕ) → Bool → ℕ → Type 0) → Option (List ℕ) → Bool → List ℕ
+    → Outcome → Type 0
 IsAnswerBy is_made is_told known failed text Done = IsReadAs known failed (λ bytes. is_made bytes text Done)
 IsAnswerBy is_made is_told known failed text Unlawful = IsReadAs known failed (λ bytes. is_made bytes text Unlawful)
-IsAnswerBy is_made is_told known failed text Refused = IsRefusalBy is_told text
+IsAnswerBy is_made is_told known failed text Refused = IsRefusalBy (λ kind line. is_told kind known failed line) text
 
 -- the same of a command that ends Done whatever the text says
-abbrev pub IsDoneBy : (List ℕ → List ℕ → Type 0) → (TextFaultKind → ℕ → Type 0) → Option (List ℕ) → Bool → List ℕ → Outcome → Type 0
+abbrev pub IsDoneBy : (List ℕ → List ℕ → Type 0) → (TextFaultKind → Option (List ℕ) → Bool → ℕ → Type 0) → Option (List ℕ) → Bool → List ℕ → Outcome
+    → Type 0
 IsDoneBy is_made is_told known failed text Done = IsReadAs known failed (λ bytes. is_made bytes text)
 IsDoneBy is_made is_told known failed text Unlawful = ⊥
-IsDoneBy is_made is_told known failed text Refused = IsRefusalBy is_told text
+IsDoneBy is_made is_told known failed text Refused = IsRefusalBy (λ kind line. is_told kind known failed line) text
+
+-- what a command gives for the bytes of a reader, which has failed or not: an answer to them, or a fault that is told of them
+abbrev pub IsAnswered : (Option (List ℕ) → Bool → List ℕ → Outcome → Type 0) → (TextFaultKind → Option (List ℕ) → Bool → ℕ → Type 0) → Option (List ℕ) → Bool
+    → Result Answer TextFault → Type 0
+IsAnswered is_answer is_told known failed (Ok answer) = is_answer known failed answer.text.items answer.outcome
+IsAnswered is_answer is_told known failed (Err fault) = is_told fault.kind known failed fault.line

@@ -1,6 +1,6 @@
 -- What reading a text as one kind after another comes to.
 use Rattle.std.proofs.Common.{◌≡◌, ℕ, suc, ◌+◌, ◌<◌, ◌≤◌, ◌⊎◌, List, [], ◌∷◌, ◌++◌, length, take, refl, sym, ap, ◌∙◌, subst, arith, inl, inr}
-use Rattle.std.specs.Prelude.{Bool, false, Option, Result, Ok, Err, IfOk}
+use Rattle.std.specs.Prelude.{Bool, false, Option, Result, Ok, Err, IfOk, IfErr}
 use Rattle.std.specs.List.{flat_map}
 use Rattle.std.proofs.Math.Seq.{take-suc}
 use Rattle.std.proofs.lemmas.List.{append-nil, length-append, take_all}
@@ -20,6 +20,8 @@ use Rattle.sci_text.specs.Schedule.{ScheduleValue, IsSchedule, schedule_text}
 use Rattle.sci_text.specs.ScheduleFault.{BeginsSchedule, EventFault, IsScheduleFault}
 use Rattle.sci_text.specs.Script.{ScriptValue, IsScript, script_text}
 use Rattle.sci_text.specs.ScriptFault.{BeginsScript, IsScriptFault, MachineFault, OperationFault}
+use Rattle.sci_command.specs.Answer.{IsAnswered}
+use Rattle.sci_command.specs.declared.answer.Answer.{Answer}
 use Rattle.sci_command.specs.declared.outcome.Outcome.{Outcome}
 use Rattle.sci_command.specs.declared.outcome.Outcome.TheVariants.{Done, Unlawful, Refused}
 use Rattle.sci_command.specs.Refusal.{Refuses, line_refusal}
@@ -29,7 +31,8 @@ use Rattle.sci_reports.specs.declared.checking.TextSize.{TextSize}
 use Rattle.sci_reports.specs.declared.text_lines.TextKind.{TextKind}
 use Rattle.sci_reports.specs.declared.text_lines.TextKind.TheVariants.{Script, Schedule, Log}
 use Rattle.sci_reports.specs.declared.checking.Readings.{Readings}
-use Rattle.sci_reports.specs.CheckAnswer.{IsCheckAnswer, IsKnown, IsLastFault, IsLogText, IsNoLater, IsRefusedAt, IsSaid, IsScheduleText, IsScriptText}
+use Rattle.sci_reports.specs.CheckAnswer.{IsCheckAnswer, IsCheckFault, IsKnown, IsLastFault, IsLogText, IsNoLater, IsRefusedAt, IsSaid, IsScheduleText}
+use Rattle.sci_reports.specs.CheckAnswer.{IsScriptText}
 use Rattle.sci_reports.specs.CheckAnswer.{kind_name, log_size, schedule_size, script_size, size_text}
 use Rattle.sci_reports.specs.TextReadings.{AreReadings, IsChecked, IsReading, known_text, said_of}
 
@@ -198,26 +201,26 @@ checked_answer known failed bytes text Refused ok read h = record {
   bare = λ e. (let some = has_line bytes h.0 h.1 h.3 in absurd (omega (arith, some, e)));
 }
 
-pub checked_answers : {A : Type 0} (known : Option (List ℕ)) (failed : Bool) (bytes slice : List ℕ) (text : A → List ℕ) (outcome : A → Outcome)
-    (r : Result A TextFault) → failed ≡ false → AreRead known bytes → slice ≡ bytes
-    → IfOk r (λ x. IsChecked slice (text x) (outcome x)) → IfOk r (λ x. IsCheckAnswer known failed (text x) (outcome x))
-checked_answers known failed bytes slice text outcome (Ok x) ok read same h =
-    checked_answer known failed bytes (text x) (outcome x) ok read (subst (λ (i : List ℕ). IsChecked i (text x) (outcome x)) same h)
-checked_answers known failed bytes slice text outcome (Err e) ok read same h = tt
+pub checked_answers : (known : Option (List ℕ)) (failed : Bool) (bytes slice : List ℕ) (result : Result Answer TextFault)
+    → failed ≡ false → AreRead known bytes → slice ≡ bytes → IfOk result (λ x. IsChecked slice x.text.items x.outcome)
+    → IfErr result (λ fault. (fault.line ≡ 0) × (fault.kind ≡ Memory)) → IsAnswered IsCheckAnswer IsCheckFault known failed result
+checked_answers known failed bytes slice (Ok x) ok read same checked memory =
+    checked_answer known failed bytes x.text.items x.outcome ok read (subst (λ (i : List ℕ). IsChecked i x.text.items x.outcome) same checked)
+checked_answers known failed bytes slice (Err fault) ok read same checked memory = (memory.0, rw memory.1 (ok, memory.0))
 
 -- a refusal of the whole input
-pub refused_whole : (known : Option (List ℕ)) (failed : Bool) (fault : TextFault) (text : List ℕ) → IsTold IsLastFault fault.kind known failed fault.line
-    → fault.line ≡ 0 → Refuses fault text → IsRefusedAt known failed text
-refused_whole known failed fault text is_told whole (inl is) =
+pub refused_whole : (known : Option (List ℕ)) (failed : Bool) (fault : TextFault) (text : List ℕ) → IsCheckFault fault.kind known failed fault.line
+    → Refuses fault text → IsRefusedAt known failed text
+refused_whole known failed fault text why (inl is) =
     record {
       line = fault.line;
       kind = fault.kind;
       note = [];
-      is_told = is_told;
+      is_told = why.1;
       written = is ∙ sym (append-nil (line_refusal fault.line fault.kind));
       bare = λ e. refl;
     }
-refused_whole known failed fault text is_told whole (inr m) = absurd (omega (arith, whole, m.0))
+refused_whole known failed fault text why (inr m) = absurd (omega (arith, why.0, m.0))
 
 -- ---- counting entries
 

@@ -121,6 +121,10 @@ pub record IsRefusedAt (input : Option (List ℕ)) (failed : Bool) (text : List 
   pub written : text ≡ line_refusal line kind ++ note
   pub bare : line ≡ 0 → note ≡ []
 
+-- why a text isn't checked: it couldn't be read, or memory was refused
+abbrev pub IsCheckFault : TextFaultKind → Option (List ℕ) → Bool → ℕ → Type 0
+IsCheckFault kind input failed line = (line ≡ 0) × IsTold IsLastFault kind input failed line
+
 -- what `check` writes, and how it ends, for the bytes of a reader, which has failed or not
 abbrev pub IsCheckAnswer : Option (List ℕ) → Bool → List ℕ → Outcome → Type 0
 IsCheckAnswer input failed text Done = IsReadAs input failed (λ bytes. IsKnown bytes text)

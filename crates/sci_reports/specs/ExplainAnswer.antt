@@ -41,4 +41,4 @@ pub record IsExplanationOf (input text : List ℕ) (outcome : Outcome) : Type 0 
 
 -- what `explain` writes, and how it ends, for the bytes of a reader, which has failed or not
 abbrev pub IsExplainAnswer : Option (List ℕ) → Bool → List ℕ → Outcome → Type 0
-IsExplainAnswer input failed = IsAnswerBy IsExplanationOf (λ kind line. IsTold IsLogFault kind input failed line) input failed
+IsExplainAnswer = IsAnswerBy IsExplanationOf (IsTold IsLogFault)

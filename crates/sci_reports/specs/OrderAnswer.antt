@@ -117,4 +117,4 @@ pub record IsOrderOf (request : OrderRequest) (input text : List ℕ) (outcome :
 
 -- what `order` writes, and how it ends, for the bytes of a reader, which has failed or not
 abbrev pub IsOrderAnswer : OrderRequest → Option (List ℕ) → Bool → List ℕ → Outcome → Type 0
-IsOrderAnswer request input failed = IsAnswerBy (IsOrderOf request) (λ kind line. IsTold IsLogFault kind input failed line) input failed
+IsOrderAnswer request = IsAnswerBy (IsOrderOf request) (IsTold IsLogFault)

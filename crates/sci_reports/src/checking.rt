@@ -2,14 +2,14 @@
 
 ghost use Rattle.std.specs.Prelude.{◌≡◌, ◌++◌, ◌⊎◌, ℕ, List, false, true, [], IfOk, IfErr, IfSome, IfNone, OnOk};
 ghost use Rattle.sci_text.specs.declared.fault.TextFaultKind.TheVariants.{Memory};
-ghost use Rattle.sci_text.specs.FirstFault.{IsTold};
 ghost use Rattle.sci_text.specs.LogFault.{IsLogFault};
 ghost use Rattle.sci_text.specs.ScheduleFault.{IsScheduleFault};
 ghost use Rattle.sci_text.specs.ScriptFault.{IsScriptFault};
 ghost use Rattle.sci_text.specs.Tap.{has_failed, is_called_again, tapped};
+ghost use Rattle.sci_command.specs.Answer.{IsAnswered};
 ghost use Rattle.sci_command.specs.declared.outcome.Outcome.{Outcome};
 ghost use Rattle.sci_command.specs.Refusal.{line_refusal};
-ghost use Rattle.sci_reports.specs.CheckAnswer.{IsCheckAnswer, IsLastFault, IsLogText, IsNoLater, IsScheduleText, IsScriptText, counted, depth as depth_of, log_size, schedule_size, script_size, size_text};
+ghost use Rattle.sci_reports.specs.CheckAnswer.{IsCheckAnswer, IsCheckFault, IsLastFault, IsLogText, IsNoLater, IsScheduleText, IsScriptText, counted, depth as depth_of, log_size, schedule_size, script_size, size_text};
 ghost use Rattle.sci_reports.specs.TextReadings.{AreFaults, AreReadings, IsChecked, IsReading, known_text, said_of};
 
 use crate::diagnosis::diagnosis;
@@ -306,11 +306,8 @@ fn checked(alloc: Global, text: &[u8]) -> Result<Answer, TextFault>
 /// more is read.
 pub fn check<R: Read>(alloc: Global, reader: &mut Tap<R>) -> Result<Answer, TextFault>
     requires { has_failed reader.old ≡ false }
-    ensures answer { IfOk result (λ answer.
-        IsCheckAnswer (R.remaining (tapped reader.old)) (has_failed reader.new)
-        answer.text.items answer.outcome) }
-    ensures fault { IfErr result (λ fault. (fault.line ≡ 0) × IsTold IsLastFault fault.kind
-        (R.remaining (tapped reader.old)) (has_failed reader.new) fault.line) }
+    ensures answered { IsAnswered IsCheckAnswer IsCheckFault
+        (R.remaining (tapped reader.old)) (has_failed reader.new) result }
     ensures again { is_called_again reader.new ≡ is_called_again reader.old }
 {
     let bytes = read_input(alloc, reader)?;

@@ -1,6 +1,6 @@
 //! The command `explain`: what is wrong with a log, line by line, and what would be right.
 
-ghost use Rattle.std.specs.Prelude.{◌≡◌, ◌+◌, ◌≤◌, ◌<◌, ℕ, List, Option, Some, false, length, IfOk, IfErr};
+ghost use Rattle.std.specs.Prelude.{◌≡◌, ◌+◌, ◌≤◌, ◌<◌, ℕ, List, Option, Some, false, length, IfOk};
 ghost use Rattle.sci_words.specs.declared.limits.TheConstants.{MAX_LINES, MAX_OPERATIONS};
 ghost use Rattle.sci_history.specs.declared.faults.LineFault.{LineFault};
 ghost use Rattle.sci_history.specs.Audit.{AreFound, AreWithin};
@@ -8,6 +8,7 @@ ghost use Rattle.sci_history.specs.Placed.{log_of};
 ghost use Rattle.sci_text.specs.FirstFault.{IsTold};
 ghost use Rattle.sci_text.specs.LogFault.{IsLogFault};
 ghost use Rattle.sci_text.specs.Tap.{has_failed, is_called_again, tapped};
+ghost use Rattle.sci_command.specs.Answer.{IsAnswered};
 ghost use Rattle.sci_command.specs.declared.outcome.Outcome.{Outcome};
 ghost use Rattle.sci_reports.specs.ExplainAnswer.{AreNotes, IsExplainAnswer, IsExplained, IsNote};
 ghost use Rattle.sci_reports.specs.Subject.{IsSubject};
@@ -112,11 +113,8 @@ fn explained(alloc: Global, before: usize, logs: &Logs, last: &Last) -> Result<A
 /// After a failed read nothing more is read.
 pub fn explain<R: Read>(alloc: Global, reader: &mut Tap<R>) -> Result<Answer, TextFault>
     requires { has_failed reader.old ≡ false }
-    ensures answer { IfOk result (λ answer.
-        IsExplainAnswer (R.remaining (tapped reader.old)) (has_failed reader.new)
-        answer.text.items answer.outcome) }
-    ensures fault { IfErr result (λ fault. IsTold IsLogFault fault.kind
-        (R.remaining (tapped reader.old)) (has_failed reader.new) fault.line) }
+    ensures answered { IsAnswered IsExplainAnswer (IsTold IsLogFault)
+        (R.remaining (tapped reader.old)) (has_failed reader.new) result }
     ensures again { is_called_again reader.new ≡ is_called_again reader.old }
 {
     let bytes = read_input(alloc, reader)?;

@@ -74,4 +74,4 @@ pub record IsOutcomesText (request : OutcomesRequest) (input text : List ℕ) : 
 
 -- what `outcomes` writes, and how it ends, for the bytes of a reader, which has failed or not
 abbrev pub IsOutcomesAnswer : OutcomesRequest → Option (List ℕ) → Bool → List ℕ → ending.Outcome → Type 0
-IsOutcomesAnswer request input failed = IsDoneBy (IsOutcomesText request) (λ kind line. IsRunRefusal kind input failed line) input failed
+IsOutcomesAnswer request = IsDoneBy (IsOutcomesText request) IsRunRefusal

@@ -1,8 +1,9 @@
 //! The command `outcomes`: the outcomes of a script that is run many times.
 
-ghost use Rattle.std.specs.Prelude.{◌≡◌, ◌++◌, false, IfOk, IfErr, OnOk};
+ghost use Rattle.std.specs.Prelude.{◌≡◌, ◌++◌, false, IfOk, OnOk};
 ghost use Rattle.std.specs.List.{flat_map};
 ghost use Rattle.sci_text.specs.Tap.{has_failed, is_called_again, tapped};
+ghost use Rattle.sci_command.specs.Answer.{IsAnswered};
 ghost use Rattle.sci_command.specs.declared.outcome.Outcome.{Outcome};
 ghost use Rattle.sci_run_reports.specs.RunAnswer.{IsRunRefusal};
 ghost use Rattle.sci_run_reports.specs.OutcomesAnswer.{IsOutcomesAnswer, count_text, held_text, outcome_text, outcomes_text as outcomes_text_of, replied_text, row_text, seed_text, sense_text, total_text};
@@ -172,11 +173,8 @@ pub fn outcomes_of<T: Threads + Sync, R: Read>(
     reader: &mut Tap<R>,
 ) -> Result<Answer, TextFault>
     requires { has_failed reader.old ≡ false }
-    ensures answer { IfOk result (λ answer.
-        IsOutcomesAnswer request (R.remaining (tapped reader.old)) (has_failed reader.new)
-        answer.text.items answer.outcome) }
-    ensures fault { IfErr result (λ fault. IsRunRefusal fault.kind
-        (R.remaining (tapped reader.old)) (has_failed reader.new) fault.line) }
+    ensures answered { IsAnswered (IsOutcomesAnswer request) IsRunRefusal
+        (R.remaining (tapped reader.old)) (has_failed reader.new) result }
     ensures again { is_called_again reader.new ≡ is_called_again reader.old }
 {
     let script = read_script(alloc, reader)?;

@@ -1,8 +1,9 @@
 //! The command `run`: the schedule of a script's run.
 
-ghost use Rattle.std.specs.Prelude.{◌≡◌, ◌⊎◌, false, true, IfOk, IfErr};
+ghost use Rattle.std.specs.Prelude.{◌≡◌, ◌⊎◌, false, true};
 ghost use Rattle.sci_text.specs.declared.fault.TextFaultKind.TheVariants.{Memory, TooMany};
 ghost use Rattle.sci_text.specs.Tap.{has_failed, is_called_again, tapped};
+ghost use Rattle.sci_command.specs.Answer.{IsAnswered};
 ghost use Rattle.sci_command.specs.declared.outcome.Outcome.{Outcome};
 ghost use Rattle.sci_run_reports.specs.RunAnswer.{IsRunAnswer, IsRunRefusal};
 
@@ -60,11 +61,8 @@ pub fn run<R: Read>(
     reader: &mut Tap<R>,
 ) -> Result<Answer, TextFault>
     requires { has_failed reader.old ≡ false }
-    ensures answer { IfOk result (λ answer.
-        IsRunAnswer request (R.remaining (tapped reader.old)) (has_failed reader.new)
-        answer.text.items answer.outcome) }
-    ensures fault { IfErr result (λ fault. IsRunRefusal fault.kind
-        (R.remaining (tapped reader.old)) (has_failed reader.new) fault.line) }
+    ensures answered { IsAnswered (IsRunAnswer request) IsRunRefusal
+        (R.remaining (tapped reader.old)) (has_failed reader.new) result }
     ensures again { is_called_again reader.new ≡ is_called_again reader.old }
 {
     let script = read_script(alloc, reader)?;

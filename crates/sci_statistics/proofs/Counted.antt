@@ -1,15 +1,9 @@
--- A refusal that was written is that of the fault, or of a line or a node that the machine doesn't have.
+-- A refusal of a line or a node that the machine doesn't have is told of the whole input.
 use Rattle.std.proofs.Common.{ℕ, List, Bool, Option, inl, inr, arith}
-use Rattle.sci_text.specs.declared.fault.TextFault.{TextFault}
-use Rattle.sci_command.specs.Refusal.{Refuses, IsRefusalBy}
 use Rattle.sci_statistics.specs.declared.counting.StatsRequest.{StatsRequest}
 use Rattle.sci_statistics.specs.StatsAnswer.{IsStatsFault}
-use Rattle.sci_command.proofs.Asked.{refused_asked}
+use Rattle.sci_command.proofs.Refusals.{AllowsMemory, asked_memory}
 
-pub refused_stats : (request : StatsRequest) (known : Option (List ℕ)) (failed : Bool) (fault : TextFault) (text : List ℕ)
-    → IsStatsFault request fault.kind known failed fault.line → Refuses fault text → IsRefusalBy (λ kind line. IsStatsFault request kind known failed line) text
-refused_stats request known failed fault text (inl told) refuses =
-    let is = refused_asked request.line known failed fault text told refuses in
-    record { line = is.line; kind = is.kind; is_told = inl is.is_told; written = is.written }
-refused_stats request known failed fault text (inr lacks) (inl is) = record { line = fault.line; kind = fault.kind; is_told = inr lacks; written = is }
-refused_stats request known failed fault text (inr lacks) (inr memory) = let zero = lacks.1 in absurd (omega (arith, memory.0))
+pub stats_memory : (request : StatsRequest) (known : Option (List ℕ)) (failed : Bool) → AllowsMemory (λ kind line. IsStatsFault request kind known failed line)
+stats_memory request known failed kind line (inl told) lt = inl (asked_memory request.line known failed kind line told lt)
+stats_memory request known failed kind line (inr lacks) lt = let zero = lacks.1 in absurd (omega arith)

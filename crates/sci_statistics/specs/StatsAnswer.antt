@@ -185,4 +185,4 @@ IsStatsFault request kind input failed at =
 
 -- what `stats` writes, and how it ends, for the bytes of a reader, which has failed or not
 abbrev pub IsStatsAnswer : StatsRequest → Option (List ℕ) → Bool → List ℕ → Outcome → Type 0
-IsStatsAnswer request input failed = IsDoneBy (IsStatsOf request) (λ kind line. IsStatsFault request kind input failed line) input failed
+IsStatsAnswer request = IsDoneBy (IsStatsOf request) (IsStatsFault request)

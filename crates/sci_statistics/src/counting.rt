@@ -1,8 +1,9 @@
 //! The command `stats`: figures of a schedule.
 
-ghost use Rattle.std.specs.Prelude.{◌≡◌, ◌≤◌, ◌++◌, true, false, length, IfOk, IfErr, OnOk};
+ghost use Rattle.std.specs.Prelude.{◌≡◌, ◌≤◌, ◌++◌, true, false, length, IfOk, OnOk};
 ghost use Rattle.std.specs.List.{flat_map};
 ghost use Rattle.sci_words.specs.declared.limits.TheConstants.{MAX_EVENTS};
+ghost use Rattle.sci_command.specs.Answer.{IsAnswered};
 ghost use Rattle.sci_text.specs.Tap.{has_failed, is_called_again, tapped};
 ghost use Rattle.sci_statistics.specs.StatsAnswer.{HasNode, IsStatsAnswer, IsStatsFault, line_part, node_part, shown, stats_text};
 
@@ -156,11 +157,8 @@ pub fn stats<R: Read>(
     reader: &mut Tap<R>,
 ) -> Result<Answer, TextFault>
     requires { has_failed reader.old ≡ false }
-    ensures answer { IfOk result (λ answer.
-        IsStatsAnswer request (R.remaining (tapped reader.old)) (has_failed reader.new)
-        answer.text.items answer.outcome) }
-    ensures fault { IfErr result (λ fault. IsStatsFault request fault.kind
-        (R.remaining (tapped reader.old)) (has_failed reader.new) fault.line) }
+    ensures answered { IsAnswered (IsStatsAnswer request) (IsStatsFault request)
+        (R.remaining (tapped reader.old)) (has_failed reader.new) result }
     ensures again { is_called_again reader.new ≡ is_called_again reader.old }
 {
     let schedule = read_asked(alloc, request.line, reader)?;

@@ -102,4 +102,4 @@ pub record IsListsOf (asked : Option ℕ) (input text : List ℕ) : Type 0 where
 
 -- what `lists` writes, and how it ends, for the bytes of a reader, which has failed or not
 abbrev pub IsListsAnswer : Option ℕ → Option (List ℕ) → Bool → List ℕ → Outcome → Type 0
-IsListsAnswer asked input failed = IsDoneBy (IsListsOf asked) (λ kind line. IsAskedFault asked kind input failed line) input failed
+IsListsAnswer asked = IsDoneBy (IsListsOf asked) (IsAskedFault asked)

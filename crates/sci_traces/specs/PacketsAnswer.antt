@@ -35,4 +35,4 @@ pub record IsPacketsOf (input bytes : List ℕ) : Type 0 where
 
 -- what `packets` writes, and how it ends, for the bytes of a reader, which has failed or not
 abbrev pub IsPacketsAnswer : Option (List ℕ) → Bool → List ℕ → Outcome → Type 0
-IsPacketsAnswer input failed = IsDoneBy IsPacketsOf (λ kind line. IsTold IsScheduleFault kind input failed line) input failed
+IsPacketsAnswer = IsDoneBy IsPacketsOf (IsTold IsScheduleFault)

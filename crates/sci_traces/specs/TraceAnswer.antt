@@ -165,4 +165,4 @@ pub record IsTraceOf (request : TraceRequest) (input text : List ℕ) (outcome :
 
 -- what `trace` writes, and how it ends, for the bytes of a reader, which has failed or not
 abbrev pub IsTraceAnswer : TraceRequest → Option (List ℕ) → Bool → List ℕ → Outcome → Type 0
-IsTraceAnswer request input failed = IsAnswerBy (IsTraceOf request) (λ kind line. IsAskedFault request.line kind input failed line) input failed
+IsTraceAnswer request = IsAnswerBy (IsTraceOf request) (IsAskedFault request.line)

@@ -1,6 +1,6 @@
 //! The command `packets`: the bytes of all packets that a schedule sends.
 
-ghost use Rattle.std.specs.Prelude.{◌≡◌, ◌++◌, false, IfOk, IfErr, OnOk, option_map, option_to_list};
+ghost use Rattle.std.specs.Prelude.{◌≡◌, ◌++◌, false, IfOk, OnOk, option_map, option_to_list};
 ghost use Rattle.std.specs.List.{flat_map};
 ghost use Rattle.sci_packets.specs.Spelling.{spelling};
 ghost use Rattle.sci_cache.specs.Cache.{letter_of};
@@ -10,6 +10,7 @@ ghost use Rattle.sci_statistics.specs.Beginning.{before};
 ghost use Rattle.sci_text.specs.FirstFault.{IsTold};
 ghost use Rattle.sci_text.specs.ScheduleFault.{IsScheduleFault};
 ghost use Rattle.sci_text.specs.Tap.{has_failed, is_called_again, tapped};
+ghost use Rattle.sci_command.specs.Answer.{IsAnswered};
 ghost use Rattle.sci_command.specs.declared.outcome.Outcome.{Outcome};
 ghost use Rattle.sci_traces.specs.PacketsAnswer.{AreSpelled, IsPacketsAnswer, letters_sent};
 
@@ -71,11 +72,8 @@ fn packets_of(alloc: Global, schedule: &Schedule) -> Result<Vec<u8>, AllocError>
 /// fails, too long an input and running out of memory, at line 0. After a failed read nothing more is read.
 pub fn packets<R: Read>(alloc: Global, reader: &mut Tap<R>) -> Result<Answer, TextFault>
     requires { has_failed reader.old ≡ false }
-    ensures answer { IfOk result (λ answer.
-        IsPacketsAnswer (R.remaining (tapped reader.old)) (has_failed reader.new)
-        answer.text.items answer.outcome) }
-    ensures fault { IfErr result (λ fault. IsTold IsScheduleFault fault.kind
-        (R.remaining (tapped reader.old)) (has_failed reader.new) fault.line) }
+    ensures answered { IsAnswered IsPacketsAnswer (IsTold IsScheduleFault)
+        (R.remaining (tapped reader.old)) (has_failed reader.new) result }
     ensures again { is_called_again reader.new ≡ is_called_again reader.old }
 {
     let schedule = read_schedule(alloc, reader)?;

@@ -1,8 +1,9 @@
 //! The command `trace`: what each event of a schedule does.
 
-ghost use Rattle.std.specs.Prelude.{◌≡◌, ◌++◌, ◌&&◌, not, false, is_some, IfOk, IfErr, OnOk};
+ghost use Rattle.std.specs.Prelude.{◌≡◌, ◌++◌, ◌&&◌, not, false, is_some, IfOk, OnOk};
 ghost use Rattle.sci_text.specs.Tap.{has_failed, is_called_again, tapped};
 ghost use Rattle.sci_core.specs.Core.{step, stepping};
+ghost use Rattle.sci_command.specs.Answer.{IsAnswered};
 ghost use Rattle.sci_command.specs.declared.outcome.Outcome.{Outcome};
 ghost use Rattle.sci_command.specs.AskedLine.{IsAskedFault};
 ghost use Rattle.sci_traces.specs.TraceAnswer.{is_traced as is_traced_of, IsTrace, IsTraceAnswer, shown_text};
@@ -114,11 +115,8 @@ pub fn trace<R: Read>(
     reader: &mut Tap<R>,
 ) -> Result<Answer, TextFault>
     requires { has_failed reader.old ≡ false }
-    ensures answer { IfOk result (λ answer.
-        IsTraceAnswer request (R.remaining (tapped reader.old)) (has_failed reader.new)
-        answer.text.items answer.outcome) }
-    ensures fault { IfErr result (λ fault. IsAskedFault request.line fault.kind
-        (R.remaining (tapped reader.old)) (has_failed reader.new) fault.line) }
+    ensures answered { IsAnswered (IsTraceAnswer request) (IsAskedFault request.line)
+        (R.remaining (tapped reader.old)) (has_failed reader.new) result }
     ensures again { is_called_again reader.new ≡ is_called_again reader.old }
 {
     let schedule = read_asked(alloc, request.line, reader)?;

@@ -42,5 +42,5 @@ pub record IsRandomText (walk : Walk) (text : List ℕ) : Type 0 where
 -- what `random` writes, and how it ends
 abbrev pub IsRandomAnswer : Walk → Option ℕ → List ℕ → Outcome → Type 0
 IsRandomAnswer walk dead text Done = IsWalk walk dead × IsRandomText walk text
-IsRandomAnswer walk dead text Refused = IsRefusalBy (λ kind line. IsWalkFault walk dead kind line) text
+IsRandomAnswer walk dead text Refused = IsRefusalBy (IsWalkFault walk dead) text
 IsRandomAnswer walk dead text Unlawful = ⊥

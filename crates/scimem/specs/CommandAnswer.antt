@@ -11,9 +11,9 @@ use Rattle.scimem.specs.ThreadsAnswer.{IsThreadsAnswer}
 
 -- the text that a command writes, and how it ends, for the bytes of a reader, which has failed or not
 abbrev pub IsAnswerTo : Command → Option (List ℕ) → Bool → List ℕ → Outcome → Type 0
-IsAnswerTo commands.Oracle input failed text outcome = IsOracleAnswer input failed text outcome
-IsAnswerTo commands.Replay input failed text outcome = IsReplayAnswer input failed text outcome
-IsAnswerTo (commands.Threads turns) input failed text outcome = IsThreadsAnswer input failed text outcome
-IsAnswerTo commands.Decode input failed text outcome = IsAnswer input failed text outcome
-IsAnswerTo commands.Audit input failed text outcome = IsAuditAnswer input failed text outcome
-IsAnswerTo commands.Upgrade input failed text outcome = IsUpgradeAnswer input failed text outcome
+IsAnswerTo commands.Oracle = IsOracleAnswer
+IsAnswerTo commands.Replay = IsReplayAnswer
+IsAnswerTo (commands.Threads turns) = IsThreadsAnswer
+IsAnswerTo commands.Decode = IsAnswer
+IsAnswerTo commands.Audit = IsAuditAnswer
+IsAnswerTo commands.Upgrade = IsUpgradeAnswer

@@ -34,7 +34,7 @@ pub record IsAuditOf (input text : List ℕ) (outcome : Outcome) : Type 0 where
 
 -- what `audit` writes, and how it ends, for the bytes of a reader, which has failed or not
 abbrev pub IsAuditAnswer : Option (List ℕ) → Bool → List ℕ → Outcome → Type 0
-IsAuditAnswer input failed = IsAnswerBy IsAuditOf (λ kind line. IsTold IsLogFault kind input failed line) input failed
+IsAuditAnswer = IsAnswerBy IsAuditOf (IsTold IsLogFault)
 
 -- the input is the text of logs with last contents, whose text in format 2 is written: the same logs have that text too
 pub record IsUpgradeOf (input text : List ℕ) : Type 0 where
@@ -47,4 +47,4 @@ pub record IsUpgradeOf (input text : List ℕ) : Type 0 where
 
 -- what `upgrade` writes, and how it ends
 abbrev pub IsUpgradeAnswer : Option (List ℕ) → Bool → List ℕ → Outcome → Type 0
-IsUpgradeAnswer input failed = IsDoneBy IsUpgradeOf (λ kind line. IsTold IsLogFault kind input failed line) input failed
+IsUpgradeAnswer = IsDoneBy IsUpgradeOf (IsTold IsLogFault)

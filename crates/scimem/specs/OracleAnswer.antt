@@ -25,4 +25,4 @@ pub record IsOracleOf (input text : List ℕ) : Type 0 where
 
 -- what is written, and how the command ends, for the bytes of a reader, which has failed or not
 abbrev pub IsOracleAnswer : Option (List ℕ) → Bool → List ℕ → Outcome → Type 0
-IsOracleAnswer input failed = IsDoneBy IsOracleOf (λ kind line. IsTold IsScriptFault kind input failed line) input failed
+IsOracleAnswer = IsDoneBy IsOracleOf (IsTold IsScriptFault)

@@ -47,4 +47,4 @@ pub record IsReplayOf (input text : List ℕ) : Type 0 where
 
 -- what is written, and how the command ends, for the bytes of a reader, which has failed or not
 abbrev pub IsReplayAnswer : Option (List ℕ) → Bool → List ℕ → Outcome → Type 0
-IsReplayAnswer input failed = IsDoneBy IsReplayOf (λ kind line. IsTold IsScheduleFault kind input failed line) input failed
+IsReplayAnswer = IsDoneBy IsReplayOf (IsTold IsScheduleFault)

@@ -32,4 +32,4 @@ pub record IsThreadsOf (input text : List ℕ) (outcome : Outcome) : Type 0 wher
 
 -- what is written, and how the command ends, for the bytes of a reader, which has failed or not
 abbrev pub IsThreadsAnswer : Option (List ℕ) → Bool → List ℕ → Outcome → Type 0
-IsThreadsAnswer input failed = IsAnswerBy IsThreadsOf (λ kind line. IsTold IsScriptFault kind input failed line) input failed
+IsThreadsAnswer = IsAnswerBy IsThreadsOf (IsTold IsScriptFault)

@@ -1,9 +1,10 @@
 //! The command `audit`: whether a log is lawful, or the first rule that it breaks.
 
-ghost use Rattle.std.specs.Prelude.{◌≡◌, false, IfOk, IfErr};
+ghost use Rattle.std.specs.Prelude.{◌≡◌, false};
 ghost use Rattle.sci_text.specs.FirstFault.{IsTold};
 ghost use Rattle.sci_text.specs.LogFault.{IsLogFault};
 ghost use Rattle.sci_text.specs.Tap.{has_failed, is_called_again, tapped};
+ghost use Rattle.sci_command.specs.Answer.{IsAnswered};
 ghost use Rattle.sci_command.specs.declared.outcome.Outcome.{Outcome};
 ghost use Rattle.scimem.specs.LogAnswer.{IsAuditAnswer, outcome_of};
 ghost use Rattle.sci_command.specs.Writing.{HasWritten};
@@ -27,11 +28,8 @@ fn end_of(verdict: Verdict) -> Outcome
 /// The line for the log that the reader gives and how the audit ends, or its fault.
 fn answer<R: Read>(alloc: Global, reader: &mut Tap<R>) -> Result<Answer, TextFault>
     requires { has_failed reader.old ≡ false }
-    ensures answer { IfOk result (λ answer.
-        IsAuditAnswer (R.remaining (tapped reader.old)) (has_failed reader.new)
-        answer.text.items answer.outcome) }
-    ensures fault { IfErr result (λ fault. IsTold IsLogFault fault.kind
-        (R.remaining (tapped reader.old)) (has_failed reader.new) fault.line) }
+    ensures answered { IsAnswered IsAuditAnswer (IsTold IsLogFault)
+        (R.remaining (tapped reader.old)) (has_failed reader.new) result }
     ensures again { is_called_again reader.new ≡ is_called_again reader.old }
 {
     let (_, logs, last) = read_logs(alloc, reader)?;

@@ -1,9 +1,10 @@
 //! The command `oracle`: the log of one memory that does a script's operations in text order.
 
-ghost use Rattle.std.specs.Prelude.{◌≡◌, ◌⊎◌, ◌++◌, false, IfOk, IfErr};
+ghost use Rattle.std.specs.Prelude.{◌≡◌, false};
 ghost use Rattle.sci_text.specs.FirstFault.{IsTold};
 ghost use Rattle.sci_text.specs.ScriptFault.{IsScriptFault};
 ghost use Rattle.sci_text.specs.Tap.{has_failed, is_called_again, tapped};
+ghost use Rattle.sci_command.specs.Answer.{IsAnswered};
 ghost use Rattle.sci_command.specs.declared.outcome.Outcome.{Outcome};
 ghost use Rattle.scimem.specs.OracleAnswer.{IsOracleAnswer};
 ghost use Rattle.sci_command.specs.Writing.{HasWritten};
@@ -17,11 +18,8 @@ use std::io::{Read, Write};
 /// The text of the log of the script that the reader gives, or its fault.
 fn answer<R: Read>(alloc: Global, reader: &mut Tap<R>) -> Result<Answer, TextFault>
     requires { has_failed reader.old ≡ false }
-    ensures answer { IfOk result (λ answer.
-        IsOracleAnswer (R.remaining (tapped reader.old)) (has_failed reader.new)
-        answer.text.items answer.outcome) }
-    ensures fault { IfErr result (λ fault. IsTold IsScriptFault fault.kind
-        (R.remaining (tapped reader.old)) (has_failed reader.new) fault.line) }
+    ensures answered { IsAnswered IsOracleAnswer (IsTold IsScriptFault)
+        (R.remaining (tapped reader.old)) (has_failed reader.new) result }
     ensures again { is_called_again reader.new ≡ is_called_again reader.old }
 {
     let script = read_script(alloc, reader)?;

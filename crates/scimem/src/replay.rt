@@ -4,6 +4,7 @@ ghost use Rattle.std.specs.Prelude.{◌≡◌, false, IfOk, IfErr};
 ghost use Rattle.sci_text.specs.FirstFault.{IsRefusal, IsTold};
 ghost use Rattle.sci_text.specs.ScheduleFault.{IsScheduleFault};
 ghost use Rattle.sci_text.specs.Tap.{has_failed, is_called_again, tapped};
+ghost use Rattle.sci_command.specs.Answer.{IsAnswered};
 ghost use Rattle.sci_command.specs.declared.outcome.Outcome.{Outcome};
 ghost use Rattle.scimem.specs.ReplayAnswer.{IsReplayAnswer, IsWhereLed};
 ghost use Rattle.sci_command.specs.Writing.{HasWritten};
@@ -32,11 +33,8 @@ fn machine_of(alloc: Global, input: &[u8]) -> Result<Machine, TextFault>
 /// The text of the log of where the schedule that the reader gives leads, or its fault.
 fn answer<R: Read>(alloc: Global, reader: &mut Tap<R>) -> Result<Answer, TextFault>
     requires { has_failed reader.old ≡ false }
-    ensures answer { IfOk result (λ answer.
-        IsReplayAnswer (R.remaining (tapped reader.old)) (has_failed reader.new)
-        answer.text.items answer.outcome) }
-    ensures fault { IfErr result (λ fault. IsTold IsScheduleFault fault.kind
-        (R.remaining (tapped reader.old)) (has_failed reader.new) fault.line) }
+    ensures answered { IsAnswered IsReplayAnswer (IsTold IsScheduleFault)
+        (R.remaining (tapped reader.old)) (has_failed reader.new) result }
     ensures again { is_called_again reader.new ≡ is_called_again reader.old }
 {
     let input = read_input(alloc, reader)?;

@@ -19,16 +19,16 @@ use Rattle.sci_traces.specs.TraceAnswer.{IsTraceAnswer}
 
 -- the text that a command writes, and how it ends, for the bytes of a reader, which has failed or not
 abbrev pub IsAnswerTo : Command → Option (List ℕ) → Bool → List ℕ → Outcome → Type 0
-IsAnswerTo (commands.Order request) input failed text outcome = IsOrderAnswer request input failed text outcome
-IsAnswerTo commands.Explain input failed text outcome = IsExplainAnswer input failed text outcome
-IsAnswerTo commands.Check input failed text outcome = IsCheckAnswer input failed text outcome
-IsAnswerTo commands.Packets input failed text outcome = IsPacketsAnswer input failed text outcome
-IsAnswerTo (commands.Trace request) input failed text outcome = IsTraceAnswer request input failed text outcome
-IsAnswerTo (commands.Lists line) input failed text outcome = IsListsAnswer line input failed text outcome
-IsAnswerTo (commands.Stats request) input failed text outcome = IsStatsAnswer request input failed text outcome
-IsAnswerTo (commands.Chart request) input failed text outcome = IsChartAnswer request input failed text outcome
-IsAnswerTo (commands.Random walk dead) input failed text outcome = IsRandomAnswer walk dead text outcome
-IsAnswerTo (commands.Run request) input failed text outcome = IsRunAnswer request input failed text outcome
-IsAnswerTo (commands.Outcomes request) input failed text outcome = IsOutcomesAnswer request input failed text outcome
-IsAnswerTo commands.Help input failed text outcome = (text ≡ HELP.now) × (outcome ≡ Done)
-IsAnswerTo commands.Version input failed text outcome = (text ≡ VERSION.now) × (outcome ≡ Done)
+IsAnswerTo (commands.Order request) = IsOrderAnswer request
+IsAnswerTo commands.Explain = IsExplainAnswer
+IsAnswerTo commands.Check = IsCheckAnswer
+IsAnswerTo commands.Packets = IsPacketsAnswer
+IsAnswerTo (commands.Trace request) = IsTraceAnswer request
+IsAnswerTo (commands.Lists line) = IsListsAnswer line
+IsAnswerTo (commands.Stats request) = IsStatsAnswer request
+IsAnswerTo (commands.Chart request) = IsChartAnswer request
+IsAnswerTo (commands.Random walk dead) = λ input failed. IsRandomAnswer walk dead
+IsAnswerTo (commands.Run request) = IsRunAnswer request
+IsAnswerTo (commands.Outcomes request) = IsOutcomesAnswer request
+IsAnswerTo commands.Help = λ input failed text outcome. (text ≡ HELP.now) × (outcome ≡ Done)
+IsAnswerTo commands.Version = λ input failed text outcome. (text ≡ VERSION.now) × (outcome ≡ Done)

@@ -4,13 +4,13 @@ use Rattle.sci_command.specs.AskedLine.{IsAskedFault}
 use Rattle.sci_traces.specs.TraceAnswer.{IsTraceOf}
 use Rattle.sci_traces.proofs.tracing.trace.Goals as goal
 
-pub returns-clause-answer : goal.returns-clause-answer
-returns-clause-answer g c =
+pub returns-clause-answered : goal.returns-clause-answered
+returns-clause-answered g c =
     let known = g.R.Read.remaining (tapped c.args.reader.now) in
     let unread = has_failed c.read_asked.new.reader in
     let asked = c.in_ok-schedule.ensures in
     let found = c.in_ok-traced.field-0 in
-    answer_made (IsTraceOf c.args.request) (λ kind line. IsAskedFault c.args.request.line kind known unread line) known unread found.text.items found.outcome
+    answer_made (IsTraceOf c.args.request) (IsAskedFault c.args.request.line) known unread found.text.items found.outcome
     c.in_ok-traced.ensures.judged (
       asked.read.0,
       (

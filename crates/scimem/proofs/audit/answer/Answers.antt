@@ -14,15 +14,15 @@ judged : (verdict : Verdict) → outcome_of verdict ≡ Refused → ⊥
 judged verdicts.Lawful is = cc
 judged (verdicts.Fault line kind at) is = cc
 
-pub returns-clause-answer : goal.returns-clause-answer
-returns-clause-answer g c =
+pub returns-clause-answered : goal.returns-clause-answered
+returns-clause-answered g c =
     let known = g.R.Read.remaining (tapped c.args.reader.now) in
     let unread = has_failed c.read_logs.new.reader in
     let logs = c.in_ok-logs in
     let text = logs.ensures.text in
     let verdict = c.in_ok-verdict in
     let ends = c.end_of.ensures in
-    answer_made IsAuditOf (λ kind line. IsTold IsLogFault kind known unread line) known unread c.in_ok-text.text.items c.end_of.result
+    answer_made IsAuditOf (IsTold IsLogFault) known unread c.in_ok-text.text.items c.end_of.result
     (λ refused. judged verdict.verdict (sym ends ∙ refused)) (
       logs.ensures.unfailed,
       (

@@ -1,12 +1,10 @@
+use Rattle.sci_text.specs.FirstFault.{IsTold}
 use Rattle.sci_text.specs.LogFault.{IsLogFault}
-use Rattle.sci_text.specs.Tap.{tapped, has_failed}
-use Rattle.sci_command.proofs.Finished.{finished_reading}
+use Rattle.sci_command.proofs.Finished.{finished_by}
+use Rattle.sci_command.proofs.Refusals.{told_memory}
 use Rattle.scimem.specs.LogAnswer.{IsAuditAnswer}
 use Rattle.scimem.proofs.audit.audit_text.Goals as goal
 
 pub returns-clause-written : goal.returns-clause-written
 returns-clause-written g c =
-    let known = g.R.Read.remaining (tapped c.args.reader.now) in
-    let unread = has_failed c.answer.new.reader in
-    finished_reading IsLogFault known unread (IsAuditAnswer known unread) c.answer.result (λ text refusal. refusal) c.answer.ensures.answer
-    c.answer.ensures.fault _ _ _ _ c.finish.ensures.written
+    finished_by IsAuditAnswer (IsTold IsLogFault) c.answer.result (told_memory IsLogFault) (λ text is. is) c.answer.ensures.answered c.finish.ensures.written

@@ -13,8 +13,8 @@ run_oracle-requires-clause-room g c = λ node.
     subst (λ (ops : List (ℕ × Op)). count_by (λ p. p.0 == node) ops ≤ MAX_OPERATIONS) (sym c.operations.ensures.value)
     (few_of_each c.in_ok-script.script c.in_ok-script.ensures.good node)
 
-pub returns-clause-answer : goal.returns-clause-answer
-returns-clause-answer g c =
+pub returns-clause-answered : goal.returns-clause-answered
+returns-clause-answered g c =
     let script = c.in_ok-script.script in
     let read = c.in_ok-script.ensures.text in
     (c.in_ok-script.ensures.unfailed, (script_text script, read, oracle_is c.in_ok-text.text.items script c.in_ok-script.ensures.good read.few (search rules)))

@@ -1,13 +1,13 @@
 -- What is written is the text of where the schedule leads, which says lawful logs.
 use Rattle.std.proofs.Common.{rules}
 use Rattle.sci_text.specs.ScheduleFault.{IsScheduleFault}
-use Rattle.sci_text.specs.Tap.{has_failed, tapped}
-use Rattle.sci_text.proofs.FirstFaults.{told_of_bytes}
+use Rattle.sci_command.proofs.Answers.{answer_refused}
+use Rattle.scimem.specs.ReplayAnswer.{IsReplayAnswer}
 use Rattle.scimem.proofs.ReplayLogs.{written_is}
 use Rattle.scimem.proofs.replay.answer.Goals as goal
 
-pub returns-clause-answer : goal.returns-clause-answer
-returns-clause-answer g c =
+pub returns-clause-answered : goal.returns-clause-answered
+returns-clause-answered g c =
     let input = c.in_ok-input.input.items in
     let machine = c.in_ok-machine.machine in
     let nodes = c.extent-nodes.result.nodes in
@@ -22,8 +22,8 @@ returns-clause-answer g c =
       ),
     )
 
-pub returns-in_err-machine-clause-fault : goal.returns-in_err-machine-clause-fault
-returns-in_err-machine-clause-fault g c =
-    let known = g.R.Read.remaining (tapped c.args.reader.now) in
-    told_of_bytes IsScheduleFault known (has_failed c.read_input.new.reader) c.deref.result.now c.from_residual-in_err-machine.result
-    c.in_ok-input.ensures.unfailed (rw c.deref.ensures.value c.in_ok-input.ensures.read) (search rules)
+pub returns-in_err-machine-clause-answered : goal.returns-in_err-machine-clause-answered
+returns-in_err-machine-clause-answered g c =
+    let refused = c.from_residual-in_err-machine in
+    answer_refused IsReplayAnswer IsScheduleFault _ _ c.deref.result.now refused.result c.in_ok-input.ensures.unfailed
+    (rw c.deref.ensures.value c.in_ok-input.ensures.read) refused.ensures.0 (search rules)

@@ -14,8 +14,8 @@ use Rattle.sci_command.specs.declared.outcome.Outcome.TheVariants.{Done, Refused
 use Rattle.scimem.proofs.threads.answer.Goals.{then-finished, else-finished}
 use Rattle.scimem.proofs.threads.answer.Goals as goal
 
-pub returns-clause-answer : goal.returns-clause-answer
-returns-clause-answer g c =
+pub returns-clause-answered : goal.returns-clause-answered
+returns-clause-answered g c =
     let script = c.in_ok-script.script in
     let ran = c.in_ok-machine in
     let ended = c.finish-logs in
@@ -39,7 +39,7 @@ returns-clause-answer g c =
     λ done. (elim c.if-finished.branch [ then-finished w ↦ w.if-finished.true | else-finished w ↦ absurd (apart (sym w.outcome-is ∙ done)) ]) in
     let unread = has_failed c.read_script.new.reader in
     let written = c.in_ok-text.ensures.text ∙ ap (λ (n : ℕ). log_text n ended.result.0 ended.result.1) c.extent-nodes.ensures.nodes in
-    answer_made IsThreadsOf (λ kind line. IsTold IsScriptFault kind known unread line) known unread text outcome never (
+    answer_made IsThreadsOf (IsTold IsScriptFault) known unread text outcome never (
       c.in_ok-script.ensures.unfailed,
       (
         script_text script,

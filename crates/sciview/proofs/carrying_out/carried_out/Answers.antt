@@ -1,15 +1,15 @@
 -- Each command answers as its contract says. The help and the version are written as they stand.
-use Rattle.std.proofs.Common.{◌≡◌, refl}
+use Rattle.std.proofs.Common.{◌≡◌, false, None, refl}
 use Rattle.sci_text.specs.LogFault.{IsLogFault}
 use Rattle.sci_text.specs.ScheduleFault.{IsScheduleFault}
 use Rattle.sci_text.specs.FirstFault.{IsTold}
-use Rattle.sci_text.specs.Tap.{has_failed, tapped}
 use Rattle.sci_command.specs.declared.outcome.Outcome.TheVariants.{Done}
-use Rattle.sci_command.proofs.Finished.{finished, finished_reading, written_text}
+use Rattle.sci_command.proofs.Finished.{answered_by, finished, finished_by, written_text}
+use Rattle.sci_command.proofs.Refusals.{asked_memory, told_memory}
 use Rattle.sciview.specs.declared.help.TheConstants.{HELP, VERSION}
 use Rattle.sci_command.specs.AskedLine.{IsAskedFault}
 use Rattle.sci_charts.specs.ChartAnswer.{IsChartAnswer}
-use Rattle.sci_reports.specs.CheckAnswer.{IsCheckAnswer, IsLastFault}
+use Rattle.sci_reports.specs.CheckAnswer.{IsCheckAnswer, IsCheckFault}
 use Rattle.sci_reports.specs.ExplainAnswer.{IsExplainAnswer}
 use Rattle.sci_traces.specs.ListsAnswer.{IsListsAnswer}
 use Rattle.sci_reports.specs.OrderAnswer.{IsOrderAnswer}
@@ -19,98 +19,69 @@ use Rattle.sci_walks.specs.RandomAnswer.{IsRandomAnswer, IsWalkFault}
 use Rattle.sci_run_reports.specs.RunAnswer.{IsRunAnswer, IsRunRefusal}
 use Rattle.sci_statistics.specs.StatsAnswer.{IsStatsAnswer, IsStatsFault}
 use Rattle.sci_traces.specs.TraceAnswer.{IsTraceAnswer}
-use Rattle.sci_command.proofs.Asked.{refused_asked}
-use Rattle.sci_statistics.proofs.Counted.{refused_stats}
+use Rattle.sci_statistics.proofs.Counted.{stats_memory}
 use Rattle.sci_reports.proofs.Checked.{refused_whole}
-use Rattle.sci_run_reports.proofs.Ran.{run_refused}
-use Rattle.sci_walks.proofs.Walks.{walk_refused}
+use Rattle.sci_run_reports.proofs.Ran.{run_memory}
+use Rattle.sci_walks.proofs.Walks.{walk_memory}
 use Rattle.sciview.proofs.carrying_out.carried_out.Goals as goal
 
 pub returns-in-Order-clause-written : goal.returns-in-Order-clause-written
 returns-in-Order-clause-written g c =
-    let known = g.R.Read.remaining (tapped c.args.reader.now) in
-    let unread = has_failed c.order.new.reader in
-    rw c.in-Order.is (finished_reading IsLogFault known unread (IsOrderAnswer c.in-Order.request known unread) c.order.result (λ text refusal. refusal)
-    c.order.ensures.answer c.order.ensures.fault _ _ _ _ c.finish.ensures.written)
+    rw c.in-Order.is (finished_by (IsOrderAnswer c.in-Order.request) (IsTold IsLogFault) c.order.result (told_memory IsLogFault) (λ text is. is)
+    c.order.ensures.answered c.finish.ensures.written)
 
 pub returns-in-Explain-clause-written : goal.returns-in-Explain-clause-written
 returns-in-Explain-clause-written g c =
-    let known = g.R.Read.remaining (tapped c.args.reader.now) in
-    let unread = has_failed c.explain.new.reader in
-    rw c.in-Explain.is (finished_reading IsLogFault known unread (IsExplainAnswer known unread) c.explain.result (λ text refusal. refusal)
-    c.explain.ensures.answer c.explain.ensures.fault _ _ _ _ c.finish-in-Explain.ensures.written)
+    rw c.in-Explain.is (finished_by IsExplainAnswer (IsTold IsLogFault) c.explain.result (told_memory IsLogFault) (λ text is. is)
+    c.explain.ensures.answered c.finish-in-Explain.ensures.written)
 
 pub returns-in-Check-clause-written : goal.returns-in-Check-clause-written
 returns-in-Check-clause-written g c =
-    let known = g.R.Read.remaining (tapped c.args.reader.now) in
-    let unread = has_failed c.check.new.reader in
-    rw c.in-Check.is (finished (IsCheckAnswer known unread) (λ fault. (fault.line ≡ 0) × IsTold IsLastFault fault.kind known unread fault.line) c.check.result
-    (λ fault text told. refused_whole known unread fault text told.1 told.0) c.check.ensures.answer c.check.ensures.fault _ _ _ _
-    c.finish-in-Check.ensures.written)
+    rw c.in-Check.is (finished IsCheckAnswer IsCheckFault c.check.result (refused_whole _ _) c.check.ensures.answered c.finish-in-Check.ensures.written)
 
 pub returns-in-Packets-clause-written : goal.returns-in-Packets-clause-written
 returns-in-Packets-clause-written g c =
-    let known = g.R.Read.remaining (tapped c.args.reader.now) in
-    let unread = has_failed c.packets.new.reader in
-    rw c.in-Packets.is (finished_reading IsScheduleFault known unread (IsPacketsAnswer known unread) c.packets.result (λ text refusal. refusal)
-    c.packets.ensures.answer c.packets.ensures.fault _ _ _ _ c.finish-in-Packets.ensures.written)
+    rw c.in-Packets.is (finished_by IsPacketsAnswer (IsTold IsScheduleFault) c.packets.result (told_memory IsScheduleFault) (λ text is. is)
+    c.packets.ensures.answered c.finish-in-Packets.ensures.written)
 
 pub returns-in-Trace-clause-written : goal.returns-in-Trace-clause-written
 returns-in-Trace-clause-written g c =
-    let known = g.R.Read.remaining (tapped c.args.reader.now) in
-    let unread = has_failed c.trace.new.reader in
-    rw c.in-Trace.is (finished (IsTraceAnswer c.in-Trace.request known unread)
-    (λ fault. IsAskedFault c.in-Trace.request.line fault.kind known unread fault.line) c.trace.result
-    (λ fault text. refused_asked c.in-Trace.request.line known unread fault text) c.trace.ensures.answer c.trace.ensures.fault _ _ _ _
-    c.finish-in-Trace.ensures.written)
+    rw c.in-Trace.is (finished_by (IsTraceAnswer c.in-Trace.request) (IsAskedFault c.in-Trace.request.line) c.trace.result
+    (asked_memory c.in-Trace.request.line) (λ text is. is) c.trace.ensures.answered c.finish-in-Trace.ensures.written)
 
 pub returns-in-Lists-clause-written : goal.returns-in-Lists-clause-written
 returns-in-Lists-clause-written g c =
-    let known = g.R.Read.remaining (tapped c.args.reader.now) in
-    let unread = has_failed c.lists.new.reader in
-    rw c.in-Lists.is (finished (IsListsAnswer c.in-Lists.line known unread) (λ fault. IsAskedFault c.in-Lists.line fault.kind known unread fault.line)
-    c.lists.result (λ fault text. refused_asked c.in-Lists.line known unread fault text) c.lists.ensures.answer c.lists.ensures.fault _ _ _ _
-    c.finish-in-Lists.ensures.written)
+    rw c.in-Lists.is (finished_by (IsListsAnswer c.in-Lists.line) (IsAskedFault c.in-Lists.line) c.lists.result (asked_memory c.in-Lists.line) (λ text is. is)
+    c.lists.ensures.answered c.finish-in-Lists.ensures.written)
 
 pub returns-in-Stats-clause-written : goal.returns-in-Stats-clause-written
 returns-in-Stats-clause-written g c =
-    let known = g.R.Read.remaining (tapped c.args.reader.now) in
-    let unread = has_failed c.stats.new.reader in
-    let request = c.in-Stats.request in
-    rw c.in-Stats.is (finished (IsStatsAnswer request known unread) (λ fault. IsStatsFault request fault.kind known unread fault.line) c.stats.result
-    (λ fault text. refused_stats request known unread fault text) c.stats.ensures.answer c.stats.ensures.fault _ _ _ _ c.finish-in-Stats.ensures.written)
+    rw c.in-Stats.is (finished_by (IsStatsAnswer c.in-Stats.request) (IsStatsFault c.in-Stats.request) c.stats.result
+    (stats_memory c.in-Stats.request) (λ text is. is) c.stats.ensures.answered c.finish-in-Stats.ensures.written)
 
 pub returns-in-Chart-clause-written : goal.returns-in-Chart-clause-written
 returns-in-Chart-clause-written g c =
-    let known = g.R.Read.remaining (tapped c.args.reader.now) in
-    let unread = has_failed c.chart.new.reader in
-    rw c.in-Chart.is (finished (IsChartAnswer c.in-Chart.request known unread)
-    (λ fault. IsAskedFault c.in-Chart.request.line fault.kind known unread fault.line) c.chart.result
-    (λ fault text. refused_asked c.in-Chart.request.line known unread fault text) c.chart.ensures.answer c.chart.ensures.fault _ _ _ _
-    c.finish-in-Chart.ensures.written)
+    rw c.in-Chart.is (finished_by (IsChartAnswer c.in-Chart.request) (IsAskedFault c.in-Chart.request.line) c.chart.result
+    (asked_memory c.in-Chart.request.line) (λ text is. is) c.chart.ensures.answered c.finish-in-Chart.ensures.written)
 
 pub returns-in-Random-clause-written : goal.returns-in-Random-clause-written
 returns-in-Random-clause-written g c =
     let walk = c.in-Random.walk in
     let dead = c.in-Random.dead in
-    rw c.in-Random.is (finished (IsRandomAnswer walk dead) (λ fault. IsWalkFault walk dead fault.kind fault.line) c.random_schedule.result
-    (λ fault text. walk_refused walk dead fault text) c.random_schedule.ensures.answer c.random_schedule.ensures.fault _ _ _ _
+    let drawn = c.random_schedule in
+    rw c.in-Random.is (finished_by (λ input failed. IsRandomAnswer walk dead) (λ kind input failed. IsWalkFault walk dead kind) {known = None} {unread = false}
+    drawn.result (λ input failed. walk_memory walk dead) (λ text is. is) (answered_by _ _ drawn.result drawn.ensures.answer drawn.ensures.fault)
     c.finish-in-Random.ensures.written)
 
 pub returns-in-Run-clause-written : goal.returns-in-Run-clause-written
 returns-in-Run-clause-written g c =
-    let known = g.R.Read.remaining (tapped c.args.reader.now) in
-    let unread = has_failed c.run.new.reader in
-    rw c.in-Run.is (finished (IsRunAnswer c.in-Run.request known unread) (λ fault. IsRunRefusal fault.kind known unread fault.line) c.run.result
-    (λ fault text. run_refused known unread fault text) c.run.ensures.answer c.run.ensures.fault _ _ _ _ c.finish-in-Run.ensures.written)
+    rw c.in-Run.is (finished_by (IsRunAnswer c.in-Run.request) IsRunRefusal c.run.result run_memory (λ text is. is)
+    c.run.ensures.answered c.finish-in-Run.ensures.written)
 
 pub returns-in-Outcomes-clause-written : goal.returns-in-Outcomes-clause-written
 returns-in-Outcomes-clause-written g c =
-    let known = g.R.Read.remaining (tapped c.args.reader.now) in
-    let unread = has_failed c.outcomes_of.new.reader in
-    rw c.in-Outcomes.is (finished (IsOutcomesAnswer c.in-Outcomes.request known unread) (λ fault. IsRunRefusal fault.kind known unread fault.line)
-    c.outcomes_of.result (λ fault text. run_refused known unread fault text) c.outcomes_of.ensures.answer c.outcomes_of.ensures.fault _ _ _ _
-    c.finish-in-Outcomes.ensures.written)
+    rw c.in-Outcomes.is (finished_by (IsOutcomesAnswer c.in-Outcomes.request) IsRunRefusal c.outcomes_of.result run_memory (λ text is. is)
+    c.outcomes_of.ensures.answered c.finish-in-Outcomes.ensures.written)
 
 pub returns-in-Help-clause-written : goal.returns-in-Help-clause-written
 returns-in-Help-clause-written g c =
