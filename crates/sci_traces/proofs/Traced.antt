@@ -1,6 +1,6 @@
 -- A trace, one event after another.
 use Rattle.std.proofs.Common.{◌≡◌, ◌<◌, ℕ, ◌+◌, List, [], ◌∷◌, ◌++◌, length, drop, get_or, Bool, true, false, Option, Some, None, append_assoc, sym, ap, ◌∙◌}
-use Rattle.std.proofs.Common.{refl}
+use Rattle.std.proofs.Common.{refl, subst}
 use Rattle.std.specs.Prelude.{◌&&◌, not, is_some, is_none, if◌then◌else◌}
 use Rattle.std.proofs.lemmas.List.{drop_more, append-nil}
 use Rattle.sci_words.specs.declared.event.Event.{Event}
@@ -22,30 +22,24 @@ end_seen false enabled next e = refl
 end_seen true enabled None e = ap not (sym e)
 end_seen true enabled (Some next) e = ap not (sym e)
 
--- the next event, which is traced, and what is left behind it
-record IsOpened (request : TraceRequest) (whole : List ℕ) (outcome : Outcome) (text : List ℕ) (core : Core) (number : ℕ) (e : Event) (left : List Event) : Type
-    0 where
-  written : whole ≡ text ++ (shown_text request.json core number e
-      ++ (if is_end request.strict core e then [] else trace_text request (step core e) (number + 1) left))
-  ends : outcome ≡ (if is_end request.strict core e then Unlawful else trace_outcome request (step core e) left)
+-- what is left of the text and of the judgement at the next event, which is traced or isn't
+record IsNext (request : TraceRequest) (whole : List ℕ) (outcome : Outcome) (text : List ℕ) (core : Core) (number : ℕ) (e : Event) (left : List Event)
+    (traced : Bool) : Type 0 where
+  written : whole ≡ text ++ (if traced then shown_text request.json core number e
+      ++ (if is_end request.strict core e then [] else trace_text request (step core e) (number + 1) left) else trace_text request (step core e)
+      (number + 1) left)
+  ends : outcome ≡ (if traced then (if is_end request.strict core e then Unlawful else trace_outcome request (step core e) left) else trace_outcome request
+      (step core e) left)
 
-opened : (request : TraceRequest) (whole : List ℕ) (outcome : Outcome) (text : List ℕ) (core : Core) (number : ℕ) (events : List Event) (k : ℕ) (d : Event)
-    → k < length events → is_traced request core (get_or events k d) ≡ true
+next : (request : TraceRequest) (whole : List ℕ) (outcome : Outcome) (text : List ℕ) (core : Core) (number : ℕ) (events : List Event) (k : ℕ) (d : Event)
+    (traced : Bool) → k < length events → is_traced request core (get_or events k d) ≡ traced
     → IsTracedTo request whole outcome text core number (drop k events)
-    → IsOpened request whole outcome text core number (get_or events k d) (drop (k + 1) events)
-opened request whole outcome text core number events k d lt traced was =
+    → IsNext request whole outcome text core number (get_or events k d) (drop (k + 1) events) traced
+next request whole outcome text core number events k d traced lt is was =
     let e = get_or events k d in
     let left = drop (k + 1) events in
-    let next : IsTracedTo request whole outcome text core number (e ∷ left) = rw (drop_more events k d lt) at was in
-    record {
-      written = next.written ∙ ap (λ (b : Bool). text
-          ++ (if b then shown_text request.json core number e
-          ++ (if is_end request.strict core e then [] else trace_text request (step core e) (number + 1) left) else trace_text request (step core e)
-          (number + 1) left)) traced;
-      ends = next.ends ∙ ap (λ (b : Bool).
-          if b then (if is_end request.strict core e then Unlawful else trace_outcome request (step core e) left) else trace_outcome request (step core e) left)
-          traced;
-    }
+    let at : IsTracedTo request whole outcome text core number (e ∷ left) = rw (drop_more events k d lt) at was in
+    subst (IsNext request whole outcome text core number e left) is (record { written = at.written; ends = at.ends })
 
 -- one that isn't traced
 pub traces_past : (request : TraceRequest) (whole : List ℕ) (outcome : Outcome) (text : List ℕ) (core : Core) (number : ℕ) (events : List Event) (k : ℕ)
@@ -53,21 +47,10 @@ pub traces_past : (request : TraceRequest) (whole : List ℕ) (outcome : Outcome
     → IsTracedTo request whole outcome text core number (drop k events)
     → IsTracedTo request whole outcome text (step core (get_or events k d)) (number + 1) (drop (k + 1) events)
 traces_past request whole outcome text core number events k d lt untraced was =
-    let e = get_or events k d in
-    let left = drop (k + 1) events in
-    let next : IsTracedTo request whole outcome text core number (e ∷ left) = rw (drop_more events k d lt) at was in
-    record {
-      written = next.written ∙ ap (λ (b : Bool). text
-          ++ (if b then shown_text request.json core number e
-          ++ (if is_end request.strict core e then [] else trace_text request (step core e) (number + 1) left) else trace_text request (step core e)
-          (number + 1) left)) untraced;
-      ends = next.ends ∙ ap (λ (b : Bool).
-          if b then (if is_end request.strict core e then Unlawful else trace_outcome request (step core e) left) else trace_outcome request (step core e) left)
-          untraced;
-    }
+    let at = next request whole outcome text core number events k d false lt untraced was in record { written = at.written; ends = at.ends }
 
 more : (request : TraceRequest) (whole : List ℕ) (outcome : Outcome) (text : List ℕ) (core : Core) (number : ℕ) (e : Event) (left : List Event)
-    → is_end request.strict core e ≡ false → IsOpened request whole outcome text core number e left
+    → is_end request.strict core e ≡ false → IsNext request whole outcome text core number e left true
     → IsTracedTo request whole outcome (text ++ shown_text request.json core number e) (step core e) (number + 1) left
 more request whole outcome text core number e left goes_on was = record {
   written = was.written ∙ (ap (λ (b : Bool). text
@@ -77,7 +60,7 @@ more request whole outcome text core number e left goes_on was = record {
 }
 
 last : (request : TraceRequest) (whole : List ℕ) (outcome : Outcome) (text : List ℕ) (core : Core) (number : ℕ) (e : Event) (left : List Event)
-    → is_end request.strict core e ≡ true → IsOpened request whole outcome text core number e left
+    → is_end request.strict core e ≡ true → IsNext request whole outcome text core number e left true
     → (text ++ shown_text request.json core number e ≡ whole) × (Unlawful ≡ outcome)
 last request whole outcome text core number e left ends was = (
   sym (was.written ∙ (ap (λ (b : Bool). text
@@ -96,7 +79,7 @@ pub traces_more : (request : TraceRequest) (enabled : Bool) (whole : List ℕ) (
 traces_more request enabled whole outcome text core number events k d lt traced seen goes_on was =
     let e = get_or events k d in
     more request whole outcome text core number e (drop (k + 1) events) (end_seen request.strict enabled (stepping core e) seen ∙ goes_on)
-    (opened request whole outcome text core number events k d lt traced was)
+    (next request whole outcome text core number events k d true lt traced was)
 
 -- the event with which a trace ends
 pub traces_last : (request : TraceRequest) (enabled : Bool) (whole : List ℕ) (outcome : Outcome) (text : List ℕ) (core : Core) (number : ℕ)
@@ -107,4 +90,4 @@ pub traces_last : (request : TraceRequest) (enabled : Bool) (whole : List ℕ) (
 traces_last request enabled whole outcome text core number events k d lt traced seen ends was =
     let e = get_or events k d in
     last request whole outcome text core number e (drop (k + 1) events) (end_seen request.strict enabled (stepping core e) seen ∙ ends)
-    (opened request whole outcome text core number events k d lt traced was)
+    (next request whole outcome text core number events k d true lt traced was)

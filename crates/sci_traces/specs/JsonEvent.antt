@@ -1,16 +1,15 @@
 -- What an event does, as a JSON object.
-use Rattle.std.specs.Prelude.{◌==◌, ◌%◌, ◌&&◌, nat_lt, ℕ, true, false, List, [], ◌∷◌, ◌++◌, codes, Option, Some, None, if◌then◌else◌}
+use Rattle.std.specs.Prelude.{ℕ, true, false, List, [], ◌∷◌, ◌++◌, codes, Option, Some, None}
 use Rattle.json.specs.Token.{Token, begin_object, end_object}
 use Rattle.json.specs.Print.{print}
 use Rattle.sci_words.specs.declared.event.Event.{Event}
 use Rattle.sci_words.specs.declared.event.Event.TheVariants as event
 use Rattle.sci_history.specs.declared.entry.Entry.{Entry}
-use Rattle.sci_cache.specs.Cache.{Letter, line_of}
+use Rattle.sci_cache.specs.Cache.{Letter}
 use Rattle.sci_core.specs.declared.obstacle.Obstacle.{Obstacle}
 use Rattle.sci_core.specs.declared.obstacle.Obstacle.TheVariants.{NoSuchNode, NoSuchSender, NoSuchLine, NoSuchWord, AlreadyPending, NoIssueLeft, NothingPending}
 use Rattle.sci_core.specs.declared.obstacle.Obstacle.TheVariants.{NotAllowed, NotAsked, NoSlot, NothingUnderWay, AnswerWaits, SetbackComes, NoAnswerWaits}
-use Rattle.sci_core.specs.Node.{home_of, lines_of}
-use Rattle.sci_core.specs.Core.{Core, node_at, node_of, stepping}
+use Rattle.sci_core.specs.Core.{Core, node_of, stepping}
 use Rattle.sci_core.specs.Obstacles.{obstacle_to}
 use Rattle.sci_words.specs.Event.{kind_word}
 use Rattle.sci_text.specs.Schedule.{event_word}
@@ -20,6 +19,7 @@ use Rattle.sci_traces.specs.declared.json_event.When.{When}
 use Rattle.sci_traces.specs.declared.json_event.When.TheVariants.{Before, After}
 use Rattle.sci_statistics.specs.About.{letter_sent, letter_taken, line_changed}
 use Rattle.sci_traces.specs.Logged.{entry_logged}
+use Rattle.sci_traces.specs.Standing.{of_cache, of_home}
 
 -- the sender and the node of an event that takes a packet
 unfoldable pub taking_members : ℕ → ℕ → List Token
@@ -46,16 +46,11 @@ packet_member name (Some letter) = object_member name (packet_members letter)
 
 -- the state of a line in a node's cache, if there are both
 unfoldable pub cache_member : List ℕ → Core → ℕ → ℕ → List Token
-cache_member name core n line =
-    if nat_lt n core.size.nodes && nat_lt line (lines_of (node_at core n)) then object_member name (state_members (line_of (node_at core n).cache line).state)
-    else []
+cache_member name core n line = of_cache (λ state. object_member name (state_members state)) core n line
 
 -- the state of a line's home, if it is at this node
 unfoldable pub home_member : List ℕ → Core → ℕ → ℕ → List Token
-home_member name core n line =
-    if (nat_lt n core.size.nodes && nat_lt line (lines_of (node_at core n))) && (line % (node_at core n).cache.nodes == (node_at core n).cache.me)
-    then object_member name (home_members (home_of (node_at core n) line))
-    else []
+home_member name core n line = of_home (λ state. object_member name (home_members state)) core n line
 
 -- the names of the states before an event, and after it
 unfoldable pub cache_name : When → List ℕ

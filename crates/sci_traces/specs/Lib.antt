@@ -1,5 +1,6 @@
 pub mod PacketsAnswer
 pub mod StateWords
+pub mod Standing
 pub mod ObstacleWords
 pub mod TraceAnswer
 pub mod ListsAnswer

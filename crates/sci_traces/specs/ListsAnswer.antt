@@ -1,11 +1,9 @@
 -- What `lists` writes for its input.
-use Rattle.std.specs.Prelude.{◌≡◌, ℕ, ◌+◌, ◌%◌, ◌<◌, ◌==◌, nat_lt, Bool, ◌&&◌, List, [], ◌∷◌, ◌++◌, codes, Option, Some, None, if◌then◌else◌}
+use Rattle.std.specs.Prelude.{◌≡◌, ℕ, ◌+◌, ◌%◌, ◌<◌, nat_lt, Bool, List, [], ◌∷◌, ◌++◌, codes, Option, Some, None, if◌then◌else◌}
 use Rattle.std.specs.List.{flat_map}
 use Rattle.sci_words.specs.declared.stamped.Stamped.{Stamped}
 use Rattle.sci_words.specs.declared.event.Event.{Event}
-use Rattle.sci_cache.specs.Cache.{line_of}
-use Rattle.sci_core.specs.Node.{lines_of, home_of}
-use Rattle.sci_core.specs.Core.{Core, node_at, step, stepping}
+use Rattle.sci_core.specs.Core.{Core, step, stepping}
 use Rattle.sci_core.specs.Shape.{IsAuthority}
 use Rattle.sci_core.specs.Sharing.{last_at}
 use Rattle.sci_core.specs.SharingList.{IsSharingList}
@@ -17,6 +15,7 @@ use Rattle.sci_command.specs.Answer.{IsDoneBy}
 use Rattle.sci_command.specs.PacketLine.{contents_text}
 use Rattle.sci_command.specs.AskedLine.{HasLine, IsAskedFault, is_asked}
 use Rattle.sci_statistics.specs.Beginning.{before}
+use Rattle.sci_traces.specs.Standing.{of_cache, of_home}
 use Rattle.sci_traces.specs.StateWords.{state_name, home_name}
 
 -- the line that an event may change, if the machine has it
@@ -26,15 +25,11 @@ line_within core (Some line) = if nat_lt line core.size.lines then Some line els
 
 -- the name of a line's state in a node's cache; none if there is no such node or line
 unfoldable pub name_text : Core → ℕ → ℕ → List ℕ
-name_text core n line =
-    if nat_lt n core.size.nodes && nat_lt line (lines_of (node_at core n)) then state_name (line_of (node_at core n).cache line).state else []
+name_text core n line = of_cache state_name core n line
 
 -- the name of the state of a line's home; none if it isn't at this node
 unfoldable pub home_name_text : Core → ℕ → ℕ → List ℕ
-home_name_text core n line =
-    if (nat_lt n core.size.nodes && nat_lt line (lines_of (node_at core n))) && (line % (node_at core n).cache.nodes == (node_at core n).cache.me)
-    then home_name (home_of (node_at core n) line)
-    else []
+home_name_text core n line = of_home home_name core n line
 
 -- ` -> N `
 unfoldable pub front_text : ℕ → List ℕ

@@ -1,13 +1,12 @@
 -- What `trace` writes for its input.
-use Rattle.std.specs.Prelude.{◌≡◌, ℕ, ◌+◌, ◌-◌, ◌%◌, ◌==◌, nat_lt, Bool, ◌&&◌, List, [], ◌∷◌, ◌++◌, length, codes, bytes_eq, slice_get, Option, Some, None}
+use Rattle.std.specs.Prelude.{◌≡◌, ℕ, ◌+◌, Bool, ◌&&◌, List, [], ◌∷◌, ◌++◌, codes, bytes_eq, Option, Some, None}
 use Rattle.std.specs.Prelude.{is_none, if◌then◌else◌}
 use Rattle.sci_words.specs.declared.event.Event.{Event}
 use Rattle.sci_words.specs.declared.event.Event.TheVariants as event
 use Rattle.sci_history.specs.declared.entry.Entry.{Entry}
-use Rattle.sci_cache.specs.Cache.{Letter, line_of}
+use Rattle.sci_cache.specs.Cache.{Letter}
 use Rattle.sci_core.specs.declared.obstacle.Obstacle.{Obstacle}
-use Rattle.sci_core.specs.Node.{lines_of, home_of}
-use Rattle.sci_core.specs.Core.{Core, node_at, node_of, step, stepping}
+use Rattle.sci_core.specs.Core.{Core, node_of, step, stepping}
 use Rattle.sci_core.specs.Obstacles.{obstacle_to}
 use Rattle.sci_statistics.specs.About.{letter_sent, letter_taken, line_about, line_changed}
 use Rattle.sci_text.specs.Number.{number, field}
@@ -22,6 +21,7 @@ use Rattle.sci_command.specs.AskedLine.{HasLine, IsAskedFault, is_asked}
 use Rattle.sci_traces.specs.JsonEvent.{json_line}
 use Rattle.sci_traces.specs.Logged.{entry_logged}
 use Rattle.sci_statistics.specs.Beginning.{before}
+use Rattle.sci_traces.specs.Standing.{of_cache, of_home}
 use Rattle.sci_traces.specs.StateWords.{state_text, home_text}
 use Rattle.sci_traces.specs.ObstacleWords.{line_named, obstacle_words}
 
@@ -40,15 +40,11 @@ moved_text done (Some letter) = done ++ letter_line letter
 
 -- the words for the state of a line in a node's cache; none if there is no such node or line
 unfoldable pub cache_text : Core → ℕ → ℕ → List ℕ
-cache_text core n line =
-    if nat_lt n core.size.nodes && nat_lt line (lines_of (node_at core n)) then state_text (line_of (node_at core n).cache line).state else []
+cache_text core n line = of_cache state_text core n line
 
 -- the words for the state of a line's home; none if it isn't at this node
 unfoldable pub home_words : Core → ℕ → ℕ → List ℕ
-home_words core n line =
-    if (nat_lt n core.size.nodes && nat_lt line (lines_of (node_at core n))) && (line % (node_at core n).cache.nodes == (node_at core n).cache.me)
-    then home_text (home_of (node_at core n) line)
-    else []
+home_words core n line = of_home home_text core n line
 
 -- the same of a line, if there is one
 abbrev pub cache_on : Core → ℕ → Option ℕ → List ℕ
