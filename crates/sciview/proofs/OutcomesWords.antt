@@ -9,10 +9,7 @@ use Rattle.sci_outcomes.specs.declared.trials.Turns.TheVariants.{Drawn, Threads}
 use Rattle.sci_run_reports.specs.declared.outcomes.OutcomesRequest.{OutcomesRequest}
 use Rattle.sci_run_reports.specs.declared.outcomes.TheConstants.{MAX_RUNS}
 use Rattle.sciview.specs.Choice.{ChoosesOutcomes, ChoosesTurnOrder, flag, is_in_order, turn_order_words}
-
-abbrev first : List (List ℕ) → List ℕ
-first [] = []
-first (word ∷ rest) = word
+use Rattle.sciview.proofs.Words.{first}
 
 abbrev third_letter : List ℕ → ℕ
 third_letter word = slice_index word 2

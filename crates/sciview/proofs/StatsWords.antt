@@ -1,38 +1,15 @@
 -- The words of figures.
-use Rattle.std.proofs.Common.{◌≡◌, ◌↔◌, ◌<◌, ◌≤◌, ◌+◌, ◌-◌, ℕ, arith, length, get_or, take, List, [], ◌∷◌, ◌++◌, map, drop, Option, Some, None, append_assoc}
+use Rattle.std.proofs.Common.{◌≡◌, ◌↔◌, ◌<◌, ◌≤◌, ◌-◌, ℕ, arith, length, get_or, take, List, [], ◌∷◌, map, drop, Option, Some, None}
 use Rattle.std.proofs.Common.{sym, ap, ◌∙◌, refl}
 use Rattle.std.specs.Prelude.{codes, option_map}
-use Rattle.std.specs.List.{flat_map, range_with_len}
-use Rattle.std.proofs.lemmas.List.{append-nil, length-drop, map-id, take_all}
-use Rattle.std.proofs.lemmas.List.Concat.{flat_map-append}
-use Rattle.std.proofs.lemmas.List.FromFn.{map-range_with_len_more}
-use Rattle.sci_words.specs.declared.limits.TheConstants.{MAX_LINES, MAX_NODES}
+use Rattle.std.proofs.lemmas.List.{length-drop, take_all}
+use Rattle.sci_words.specs.declared.limits.TheConstants.{MAX_LINES}
 use Rattle.sci_text.specs.Number.{number}
 use Rattle.sci_statistics.specs.declared.counting.StatsRequest.{StatsRequest}
 use Rattle.sciview.specs.Choice.{ChoosesStats, FitsNode, line_words, node_words}
-use Rattle.sciview.proofs.Words.{two}
-
--- ---- the node that two words say
-
-pub node_said : {X : Type 0} (f : X → List ℕ) (words : List X) (d : X) (said : Option ℕ) (there : ℕ) → length words ≡ 2 → f (get_or words 0 d) ≡ codes "--node"
-    → said ≡ Some there
-    → ((n : ℕ) → (said ≡ Some n) ↔ ((f (get_or words 1 d) ≡ number n) × (n < MAX_NODES)))
-    → (node : Option ℕ) → (let one : Option (Option ℕ) = Some (Some there) in one ≡ Some node) ↔ ((map f words ≡ node_words node) × FitsNode node)
-unfolding node_words
-node_said f words d said there long first is says None =
-    let none : map f words ≡ [] → ⊥ = λ e. let l = ap (λ (ws : List (List ℕ)). length ws) (sym (two f words d long) ∙ e) in absurd (omega arith) in
-    (λ same. absurd (cc), λ h. absurd (none h.0))
-node_said f words d said there long first is says (Some n) = (
-  λ same. let h = (says n).0 (let e : said ≡ Some n = cc in e) in (two f words d long ∙ rw (first, h.0) refl, h.1),
-  λ h. let word : f (get_or words 1 d) ≡ number n = ap (λ (ws : List (List ℕ)). get_or ws 1 []) (sym (two f words d long) ∙ h.0) in let e =
-      (says n).1 (word, h.1) in cc,
-)
+use Rattle.sciview.proofs.Words.{first}
 
 -- ---- a line and a node
-
-abbrev first : List (List ℕ) → List ℕ
-first [] = []
-first (word ∷ rest) = word
 
 abbrev on_all_lines : Option ℕ → StatsRequest
 on_all_lines node = record { line = None; node = node }

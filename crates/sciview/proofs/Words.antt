@@ -1,16 +1,15 @@
 -- The words of a walk, from the words of its numbers and those of its share.
-use Rattle.std.proofs.Common.{◌-◌, ◌≡◌, ◌↔◌, ◌<◌, ◌≤◌, ◌⊎◌, ◌+◌, ◌^◌, ℕ, inl, inr, arith, length, get_or, IfSome, List, [], ◌∷◌, ◌++◌, map, take, drop, Option}
+use Rattle.std.proofs.Common.{◌-◌, ◌≡◌, ◌↔◌, ◌<◌, ◌≤◌, ◌+◌, ◌^◌, ℕ, arith, length, get_or, IfSome, List, [], ◌∷◌, ◌++◌, map, take, drop, Option}
 use Rattle.std.proofs.Common.{Some, None, sym, ap, ◌∙◌, refl, subst}
 use Rattle.std.proofs.lemmas.List.{length-map, take_all, take-map, drop-map, take-append-drop, map-append}
 use Rattle.std.specs.Prelude.{codes, Bool, true, false, option_map}
 use Rattle.sci_charts.specs.declared.charting.ChartRequest.{ChartRequest}
 use Rattle.sci_charts.specs.declared.charting.TextLines.{TextLines}
 use Rattle.sci_traces.specs.declared.tracing.TraceRequest.{TraceRequest}
-use Rattle.sci_words.specs.declared.limits.TheConstants.{MAX_LINES}
 use Rattle.sci_text.specs.Number.{number}
 use Rattle.sci_walks.specs.declared.random.Walk.{Walk}
 use Rattle.sciview.specs.Choice.{ChoosesChart, ChoosesTrace, ChoosesWords, FitsDead, FitsEvents, FitsLine, FitsWalk, dead_words, events_words, flag, line_words}
-use Rattle.sciview.specs.Choice.{walk_words}
+use Rattle.sciview.specs.Choice.{number_words, walk_words}
 
 -- the words are those of the first five and those of the rest
 parts : {X : Type 0} (f : X → List ℕ) (words : List X) → map f words ≡ map f (take 5 words) ++ map f (drop 5 words)
@@ -103,7 +102,7 @@ five_said f words d n0 n1 n2 n3 n4 s0 s1 s2 s3 s4 long i0 i1 i2 i3 i4 e0 e1 e2 e
           rw (a0, a1, a2, a3, a4) refl,
     )
 
--- ---- the line that two words say
+-- ---- the number that two words say
 
 pub two : {X : Type 0} (f : X → List ℕ) (words : List X) (d : X) → length words ≡ 2 → map f words ≡ f (get_or words 0 d) ∷ f (get_or words 1 d) ∷ []
 two f [] d long = absurd (omega arith)
@@ -111,23 +110,22 @@ two f (a ∷ []) d long = absurd (omega arith)
 two f (a ∷ b ∷ []) d long = refl
 two f (a ∷ b ∷ c ∷ rest) d long = absurd (omega arith)
 
-pub line_said : {X : Type 0} (f : X → List ℕ) (words : List X) (d : X) (said : Option ℕ) (there : ℕ) → length words ≡ 2 → f (get_or words 0 d) ≡ codes "--line"
-    → said ≡ Some there
-    → ((line : ℕ) → (said ≡ Some line) ↔ ((f (get_or words 1 d) ≡ number line) × (line < MAX_LINES)))
-    → (line : Option ℕ) → (let one : Option (Option ℕ) = Some (Some there) in one ≡ Some line) ↔ ((map f words ≡ line_words line) × FitsLine line)
-unfolding line_words
-line_said f words d said there long first is says None =
+pub number_said : {X : Type 0} (f : X → List ℕ) (words : List X) (d : X) (name : List ℕ) (limit : ℕ) (said : Option ℕ) (there : ℕ)
+    → length words ≡ 2 → f (get_or words 0 d) ≡ name → said ≡ Some there
+    → ((n : ℕ) → (said ≡ Some n) ↔ ((f (get_or words 1 d) ≡ number n) × (n < limit)))
+    → (n : Option ℕ) → (let one : Option (Option ℕ) = Some (Some there) in one ≡ Some n) ↔ ((map f words ≡ number_words name n) × IfSome n (λ n. n < limit))
+number_said f words d name limit said there long first is says None =
     let none : map f words ≡ [] → ⊥ = λ e. let l = ap (λ (ws : List (List ℕ)). length ws) (sym (two f words d long) ∙ e) in absurd (omega arith) in
     (λ same. absurd (cc), λ h. absurd (none h.0))
-line_said f words d said there long first is says (Some line) = (
-  λ same. let h = (says line).0 (let e : said ≡ Some line = cc in e) in (two f words d long ∙ rw (first, h.0) refl, h.1),
-  λ h. let word : f (get_or words 1 d) ≡ number line = ap (λ (ws : List (List ℕ)). get_or ws 1 []) (sym (two f words d long) ∙ h.0) in let e =
-      (says line).1 (word, h.1) in cc,
+number_said f words d name limit said there long first is says (Some n) = (
+  λ same. let h = (says n).0 (let e : said ≡ Some n = cc in e) in (two f words d long ∙ rw (first, h.0) refl, h.1),
+  λ h. let word : f (get_or words 1 d) ≡ number n = ap (λ (ws : List (List ℕ)). get_or ws 1 []) (sym (two f words d long) ∙ h.0) in let e =
+      (says n).1 (word, h.1) in cc,
 )
 
 -- ---- words without `--strict`
 
-abbrev first : List (List ℕ) → List ℕ
+abbrev pub first : List (List ℕ) → List ℕ
 first [] = []
 first (word ∷ rest) = word
 
@@ -272,63 +270,8 @@ parted words at (Some line) (Some lines) short long is =
     let two_words : at ≡ 2 = (let l = ap (λ (ws : List (List ℕ)). length ws) is in let e = long (omega (arith, l)) in omega (arith, l, e)) in
     rw (two_words, is) (refl, refl)
 
-abbrev events_of : Option ChartRequest → Option (Option TextLines)
-events_of None = None
-events_of (Some request) = Some request.events
-
-abbrev chart_line_of : Option ChartRequest → Option (Option ℕ)
-chart_line_of None = None
-chart_line_of (Some request) = Some request.line
-
-pub chart_said : (words : List (List ℕ)) (at : ℕ) (line_said : Option (Option ℕ)) (events_said : Option (Option TextLines)) (line_there : Option ℕ)
-    (events_there : Option TextLines) → (length words < 3 → at ≡ length words) → (3 ≤ length words → at + 3 ≡ length words)
-    → line_said ≡ Some line_there → events_said ≡ Some events_there
-    → ((line : Option ℕ) → (line_said ≡ Some line) ↔ ((take at words ≡ line_words line) × FitsLine line))
-    → ((events : Option TextLines) → (events_said ≡ Some events) ↔ ((drop at words ≡ events_words events) × FitsEvents events))
-    → (request : ChartRequest) → (let one : Option ChartRequest = Some record { line = line_there; events = events_there } in one ≡ Some request)
-    ↔ ChoosesChart words request
-chart_said words at line_said events_said line_there events_there short long line_is events_is lines events request = (
-  λ same.
-      let from_line = (lines request.line).0 (line_is ∙ ap chart_line_of same) in
-      let from_events = (events request.events).0 (events_is ∙ ap events_of same) in (
-        sym (take-append-drop at words) ∙ ap (λ (l : List (List ℕ)). l ++ drop at words) from_line.0
-            ∙ ap (λ (l : List (List ℕ)). line_words request.line ++ l) from_events.0,
-        from_line.1,
-        from_events.1,
-      ),
-  λ said.
-      let parts = parted words at request.line request.events short long said.0 in
-      let line_same : line_said ≡ Some request.line = (lines request.line).1 (parts.0, said.1) in
-      let events_same : events_said ≡ Some request.events = (events request.events).1 (parts.1, said.2) in
-      let line_at : line_there ≡ request.line = (let e : Some line_there ≡ Some request.line = sym line_is ∙ line_same in cc) in
-      let events_at : events_there ≡ request.events = (let e : Some events_there ≡ Some request.events = sym events_is ∙ events_same in cc) in
-      rw (line_at, events_at) refl,
-)
-
--- words that don't say a line, or don't say lines of the schedule behind it, choose nothing
-pub chart_not_said : (words : List (List ℕ)) (at : ℕ) (line_said : Option (Option ℕ)) (events_said : Option (Option TextLines)) (result : Option ChartRequest)
-    → (length words < 3 → at ≡ length words) → (3 ≤ length words → at + 3 ≡ length words)
-    → result ≡ None → (line_said ≡ None) ⊎ (events_said ≡ None)
-    → ((line : Option ℕ) → (line_said ≡ Some line) ↔ ((take at words ≡ line_words line) × FitsLine line))
-    → ((events : Option TextLines) → (events_said ≡ Some events) ↔ ((drop at words ≡ events_words events) × FitsEvents events))
-    → (request : ChartRequest) → (result ≡ Some request) ↔ ChoosesChart words request
-chart_not_said words at line_said events_said result short long is (inl none) lines events request = (
-  λ same. absurd (cc),
-  λ said.
-      let parts = parted words at request.line request.events short long said.0 in
-      let line_same : line_said ≡ Some request.line = (lines request.line).1 (parts.0, said.1) in
-      absurd (cc),
-)
-chart_not_said words at line_said events_said result short long is (inr none) lines events request = (
-  λ same. absurd (cc),
-  λ said.
-      let parts = parted words at request.line request.events short long said.0 in
-      let events_same : events_said ≡ Some request.events = (events request.events).1 (parts.1, said.2) in
-      absurd (cc),
-)
-
 -- what the first words say and what the others say, of the texts of the words
-pub chart_parts : {X : Type 0} (f : X → List ℕ) (words front back : List X) (at : ℕ) (line_said : Option (Option ℕ)) (events_said : Option (Option TextLines))
+chart_parts : {X : Type 0} (f : X → List ℕ) (words front back : List X) (at : ℕ) (line_said : Option (Option ℕ)) (events_said : Option (Option TextLines))
     → (length words < 3 → at ≡ length words) → (3 ≤ length words → at + 3 ≡ length words) → front ≡ take at words → back ≡ drop at words
     → ((line : Option ℕ) → (line_said ≡ Some line) ↔ ((map f front ≡ line_words line) × FitsLine line))
     → ((events : Option TextLines) → (events_said ≡ Some events) ↔ ((map f back ≡ events_words events) × FitsEvents events))
@@ -343,4 +286,29 @@ chart_parts f words front back at line_said events_said short long in_front behi
           (ap (map f) in_front ∙ sym (take-map f at words)) lines,
       subst (λ (l : List (List ℕ)). (events : Option TextLines) → (events_said ≡ Some events) ↔ ((l ≡ events_words events) × FitsEvents events))
           (ap (map f) behind ∙ sym (drop-map f at words)) events,
+    )
+
+-- the first words say a line and the others lines of the schedule exactly if all words say both
+pub chart_said : {X : Type 0} (f : X → List ℕ) (words front back : List X) (at : ℕ) (line_said : Option (Option ℕ)) (events_said : Option (Option TextLines))
+    (said : Option ChartRequest) → (length words < 3 → at ≡ length words) → (3 ≤ length words → at + 3 ≡ length words)
+    → front ≡ take at words → back ≡ drop at words
+    → ((line : Option ℕ) → (line_said ≡ Some line) ↔ ((map f front ≡ line_words line) × FitsLine line))
+    → ((events : Option TextLines) → (events_said ≡ Some events) ↔ ((map f back ≡ events_words events) × FitsEvents events))
+    → ((request : ChartRequest) → (said ≡ Some request) ↔ ((line_said ≡ Some request.line) × (events_said ≡ Some request.events)))
+    → (request : ChartRequest) → (said ≡ Some request) ↔ ChoosesChart (map f words) request
+chart_said f words front back at line_said events_said said short long in_front behind lines events is request =
+    let texts = map f words in
+    let p = chart_parts f words front back at line_said events_said short long in_front behind lines events in (
+      λ same.
+          let both = (is request).0 same in
+          let line = (p.2 request.line).0 both.0 in
+          let last = (p.3 request.events).0 both.1 in (
+            sym (take-append-drop at texts) ∙ ap (λ (l : List (List ℕ)). l ++ drop at texts) line.0
+                ∙ ap (λ (l : List (List ℕ)). line_words request.line ++ l) last.0,
+            line.1,
+            last.1,
+          ),
+      λ chosen.
+          let halves = parted texts at request.line request.events p.0 p.1 chosen.0 in
+          (is request).1 ((p.2 request.line).1 (halves.0, chosen.1), (p.3 request.events).1 (halves.1, chosen.2)),
     )

@@ -1,5 +1,5 @@
 -- The words of a command line.
-use Rattle.std.specs.Prelude.{◌≡◌, ◌<◌, ◌≤◌, ◌^◌, ◌++◌, ◌⊎◌, ℕ, Bool, List, [], ◌∷◌, codes, Option, Some, None, true, false}
+use Rattle.std.specs.Prelude.{◌≡◌, ◌<◌, ◌≤◌, ◌^◌, ◌++◌, ◌⊎◌, ℕ, Bool, List, [], ◌∷◌, codes, Option, Some, None, IfSome, true, false}
 use Rattle.sci_words.specs.declared.limits.TheConstants.{MAX_LINES, MAX_NODES}
 use Rattle.sci_text.specs.Number.{number}
 use Rattle.sci_charts.specs.declared.charting.ChartRequest.{ChartRequest}
@@ -25,15 +25,18 @@ abbrev pub flag : List ℕ → Bool → List (List ℕ)
 flag word false = []
 flag word true = word ∷ []
 
+-- an option with a number, if it is given
+abbrev pub number_words : List ℕ → Option ℕ → List (List ℕ)
+number_words name None = []
+number_words name (Some n) = name ∷ number n ∷ []
+
 -- the words that say a line, if one is asked for
 unfoldable pub line_words : Option ℕ → List (List ℕ)
-line_words None = []
-line_words (Some line) = codes "--line" ∷ number line ∷ []
+line_words = number_words (codes "--line")
 
 -- a line that some machine has
 abbrev pub FitsLine : Option ℕ → Type 0
-FitsLine None = Unit {0}
-FitsLine (Some line) = line < MAX_LINES
+FitsLine line = IfSome line (λ n. n < MAX_LINES)
 
 -- options stand in either order
 abbrev pub AreOptions : List (List ℕ) → List (List ℕ) → List (List ℕ) → Type 0
@@ -76,13 +79,11 @@ ChoosesLine words line = (words ≡ line_words line) × FitsLine line
 
 -- the words that say a node, if one is asked for
 unfoldable pub node_words : Option ℕ → List (List ℕ)
-node_words None = []
-node_words (Some n) = codes "--node" ∷ number n ∷ []
+node_words = number_words (codes "--node")
 
 -- a node that some machine has
 abbrev pub FitsNode : Option ℕ → Type 0
-FitsNode None = Unit {0}
-FitsNode (Some n) = n < MAX_NODES
+FitsNode node = IfSome node (λ n. n < MAX_NODES)
 
 -- what stands behind `stats`
 abbrev pub ChoosesStats : List (List ℕ) → StatsRequest → Type 0
@@ -94,8 +95,7 @@ walk_words walk = number walk.nodes ∷ number walk.lines ∷ number walk.slots 
 
 -- the words that say how many of a hundred events may be dead, if any do
 unfoldable pub dead_words : Option ℕ → List (List ℕ)
-dead_words None = []
-dead_words (Some share) = codes "--dead" ∷ number share ∷ []
+dead_words = number_words (codes "--dead")
 
 -- each number of a walk has 64 bits
 pub record FitsWalk (walk : Walk) : Type 0 where
@@ -107,8 +107,7 @@ pub record FitsWalk (walk : Walk) : Type 0 where
 
 -- so has the share
 abbrev pub FitsDead : Option ℕ → Type 0
-FitsDead None = Unit {0}
-FitsDead (Some share) = share < 2 ^ 64
+FitsDead share = IfSome share (λ n. n < 2 ^ 64)
 
 -- what stands behind `random`, for a walk and a share
 abbrev pub ChoosesWalk : List (List ℕ) → Walk → Option ℕ → Type 0
@@ -116,12 +115,10 @@ ChoosesWalk words walk dead = (words ≡ walk_words walk ++ dead_words dead) × 
 
 -- the words that say how many turns a run takes at most, if some do
 unfoldable pub turns_words : Option ℕ → List (List ℕ)
-turns_words None = []
-turns_words (Some turns) = codes "--turns" ∷ number turns ∷ []
+turns_words = number_words (codes "--turns")
 
 abbrev pub FitsTurns : Option ℕ → Type 0
-FitsTurns None = Unit {0}
-FitsTurns (Some turns) = turns < 2 ^ 64
+FitsTurns turns = IfSome turns (λ n. n < 2 ^ 64)
 
 abbrev pub is_in_order : Issuing → Bool
 is_in_order Ahead = false
@@ -133,12 +130,10 @@ ChoosesPace words issuing turns = (words ≡ flag (codes "--in-order") (is_in_or
 
 -- the words that say a seed, if one is given
 abbrev pub seed_words : Option ℕ → List (List ℕ)
-seed_words None = []
-seed_words (Some seed) = codes "--seed" ∷ number seed ∷ []
+seed_words = number_words (codes "--seed")
 
 abbrev pub FitsSeed : Option ℕ → Type 0
-FitsSeed None = Unit {0}
-FitsSeed (Some seed) = seed < 2 ^ 64
+FitsSeed seed = IfSome seed (λ n. n < 2 ^ 64)
 
 -- what stands behind `run`
 abbrev pub ChoosesRun : List (List ℕ) → RunRequest → Type 0
@@ -147,12 +142,10 @@ ChoosesRun words request = (words ≡ seed_words request.seed ++ (flag (codes "-
 
 -- the words that say how many runs there are, if some do
 abbrev pub runs_words : Option ℕ → List (List ℕ)
-runs_words None = []
-runs_words (Some runs) = codes "--runs" ∷ number runs ∷ []
+runs_words = number_words (codes "--runs")
 
 abbrev pub FitsRuns : Option ℕ → Type 0
-FitsRuns None = Unit {0}
-FitsRuns (Some runs) = (1 ≤ runs) × (runs ≤ MAX_RUNS)
+FitsRuns runs = IfSome runs (λ n. (1 ≤ n) × (n ≤ MAX_RUNS))
 
 -- the words that say in which order nodes take turns, if some do
 abbrev pub turn_order_words : Option Turns → List (List ℕ)

@@ -282,6 +282,17 @@ fn line_word_count(words: &[&str]) -> usize
     }
 }
 
+/// What is asked of a chart, if both parts are said.
+fn chart_of(line: Option<Option<u8>>, events: Option<Option<TextLines>>) -> Option<ChartRequest>
+    ensures { (request : ChartRequest) → (result ≡ Some request) ↔
+        ((line ≡ Some request.line) × (events ≡ Some request.events)) }
+{
+    Some(ChartRequest {
+        line: line?,
+        events: events?,
+    })
+}
+
 /// What the words behind `chart` ask for: a line, then the lines of the schedule, or one of them, or neither. None if they say
 /// something else.
 fn chart_choice(words: &[&str]) -> Option<ChartRequest>
@@ -289,11 +300,7 @@ fn chart_choice(words: &[&str]) -> Option<ChartRequest>
         ChoosesChart (map (λ word. word.now) words.now) request }
 {
     let (front, back) = words.split_at(line_word_count(words));
-    let (line, events) = (line_choice(front), events_choice(back));
-    Some(ChartRequest {
-        line: line?,
-        events: events?,
-    })
+    chart_of(line_choice(front), events_choice(back))
 }
 
 /// How many turns a run takes at most, as words say: `--turns` with a number below 2^64, or no word. None if they say
