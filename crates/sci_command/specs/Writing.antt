@@ -1,6 +1,8 @@
 -- What is written of a text.
 use Rattle.std.specs.Prelude.{◌≡◌, ℕ, Bool, false, true, List, ◌++◌, Option}
 use Rattle.std.specs.Io.KnownBytes.{Appends}
+use Rattle.sci_text.specs.declared.tap.Tap.{Tap}
+use Rattle.sci_text.specs.Tap.{has_failed, is_called_again, tapped}
 use Rattle.sci_command.specs.declared.outcome.Outcome.{Outcome}
 use Rattle.sci_command.specs.declared.outcome.Outcome.TheVariants.{Refused}
 
@@ -17,3 +19,12 @@ pub record HasWritten (old new : Option (List ℕ)) (failed : Bool) (outcome : O
   pub whole : failed ≡ false → (text : List ℕ) × Appends old new text × is_answer text outcome
   pub front : (text : List ℕ) × (ends : Outcome) × WritesFront old new text × is_answer text ends
   pub refused : failed ≡ true → outcome ≡ Refused
+
+-- A command has written an answer to what its reader had, and has read and written nothing more after a read or a write that
+-- failed. `read` and `written` are the reader and the writer after it.
+pub record HasCarriedOut {R W : Type 0} (remaining : R → Option (List ℕ)) (contents : W → Option (List ℕ)) (reader read : Tap R) (writer written : Tap W)
+    (outcome : Outcome) (is_answer : Option (List ℕ) → Bool → List ℕ → Outcome → Type 0) : Type 0 where
+  pub answers : HasWritten (contents (tapped writer)) (contents (tapped written)) (has_failed written) outcome
+      (is_answer (remaining (tapped reader)) (has_failed read))
+  pub read_no_more : is_called_again read ≡ is_called_again reader
+  pub wrote_no_more : is_called_again written ≡ is_called_again writer

@@ -4,7 +4,7 @@ ghost use Rattle.std.specs.Prelude.{◌≡◌, ◌++◌, false, OnOk, IfOk, IfEr
 ghost use Rattle.sci_text.specs.Tap.{has_failed, is_called_again, tapped};
 ghost use Rattle.sci_command.specs.declared.outcome.Outcome.{Outcome};
 ghost use Rattle.sci_command.specs.Input.{IsReadAs};
-ghost use Rattle.sci_command.specs.Writing.{HasWritten};
+ghost use Rattle.sci_command.specs.Writing.{HasCarriedOut};
 ghost use Rattle.sci_text.specs.FirstFault.{IsInputFault};
 ghost use Rattle.scimem.specs.Decoding.{IsDecoded, IsAnswer, refusal, fault_word};
 ghost use Rattle.sci_command.specs.Refusal.{kind_word};
@@ -112,11 +112,8 @@ pub fn decode_bytes<R: Read, W: Write>(
 ) -> Outcome
     requires reader { has_failed reader.old ≡ false }
     requires writer { has_failed writer.old ≡ false }
-    ensures written { HasWritten (W.contents (tapped writer.old)) (W.contents (tapped writer.new))
-        (has_failed writer.new) result
-        (IsAnswer (R.remaining (tapped reader.old)) (has_failed reader.new)) }
-    ensures read_no_more { is_called_again reader.new ≡ is_called_again reader.old }
-    ensures wrote_no_more { is_called_again writer.new ≡ is_called_again writer.old }
+    ensures { HasCarriedOut R.remaining W.contents reader.old reader.new writer.old writer.new
+        result IsAnswer }
 {
     match answer(alloc, reader) {
         Ok(answer) => write_answer(writer, &answer.text, answer.outcome),

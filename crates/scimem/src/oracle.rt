@@ -7,7 +7,7 @@ ghost use Rattle.sci_text.specs.Tap.{has_failed, is_called_again, tapped};
 ghost use Rattle.sci_command.specs.Answer.{IsAnswered};
 ghost use Rattle.sci_command.specs.declared.outcome.Outcome.{Outcome};
 ghost use Rattle.scimem.specs.OracleAnswer.{IsOracleAnswer};
-ghost use Rattle.sci_command.specs.Writing.{HasWritten};
+ghost use Rattle.sci_command.specs.Writing.{HasCarriedOut};
 
 use sci_command::{Answer, Outcome, finish};
 use sci_history::run_oracle;
@@ -41,11 +41,8 @@ fn answer<R: Read>(alloc: Global, reader: &mut Tap<R>) -> Result<Answer, TextFau
 pub fn oracle<R: Read, W: Write>(alloc: Global, reader: &mut Tap<R>, writer: &mut Tap<W>) -> Outcome
     requires reader { has_failed reader.old ≡ false }
     requires writer { has_failed writer.old ≡ false }
-    ensures written { HasWritten (W.contents (tapped writer.old)) (W.contents (tapped writer.new))
-        (has_failed writer.new) result
-        (IsOracleAnswer (R.remaining (tapped reader.old)) (has_failed reader.new)) }
-    ensures read_no_more { is_called_again reader.new ≡ is_called_again reader.old }
-    ensures wrote_no_more { is_called_again writer.new ≡ is_called_again writer.old }
+    ensures { HasCarriedOut R.remaining W.contents reader.old reader.new writer.old writer.new
+        result IsOracleAnswer }
 {
     finish(alloc, writer, answer(alloc, reader))
 }

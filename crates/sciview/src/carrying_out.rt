@@ -1,8 +1,8 @@
 //! The commands, each by its word.
 
 ghost use Rattle.std.specs.Prelude.{◌≡◌, false};
-ghost use Rattle.sci_text.specs.Tap.{has_failed, is_called_again, tapped};
-ghost use Rattle.sci_command.specs.Writing.{HasWritten};
+ghost use Rattle.sci_text.specs.Tap.{has_failed};
+ghost use Rattle.sci_command.specs.Writing.{HasCarriedOut};
 ghost use Rattle.sciview.specs.CommandAnswer.{IsAnswerTo};
 
 use crate::choice::Command;
@@ -30,11 +30,8 @@ pub fn carried_out<T: Threads + Sync, R: Read, W: Write>(
 ) -> Outcome
     requires reader { has_failed reader.old ≡ false }
     requires writer { has_failed writer.old ≡ false }
-    ensures written { HasWritten (W.contents (tapped writer.old)) (W.contents (tapped writer.new))
-        (has_failed writer.new) result
-        (IsAnswerTo command (R.remaining (tapped reader.old)) (has_failed reader.new)) }
-    ensures read_no_more { is_called_again reader.new ≡ is_called_again reader.old }
-    ensures wrote_no_more { is_called_again writer.new ≡ is_called_again writer.old }
+    ensures { HasCarriedOut R.remaining W.contents reader.old reader.new writer.old writer.new
+        result (IsAnswerTo command) }
 {
     match command {
         Command::Order(request) => finish(alloc, writer, order(alloc, request, reader)),
