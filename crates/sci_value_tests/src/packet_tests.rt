@@ -101,6 +101,28 @@ fn table() -> Result<[(Body, u64, u64); 19], Fail> {
     ])
 }
 
+/// The packet of the table with this body.
+fn of_table(body: Body) -> Result<Packet, Fail> {
+    Ok(Packet {
+        target: node(1)?,
+        source: node(2)?,
+        control: 3,
+        line: 5,
+        body,
+    })
+}
+
+/// A packet with this body from node 0 to node 1, control 2, line 3.
+fn from_home(body: Body) -> Result<Packet, Fail> {
+    Ok(Packet {
+        target: node(1)?,
+        source: node(0)?,
+        control: 2,
+        line: 3,
+        body,
+    })
+}
+
 fn has_contents(body: &Body) -> bool {
     matches!(
         body,
@@ -166,13 +188,7 @@ fn packets(rt: HostRuntime) -> Result<(), Fail> {
         PacketFault::UnknownCommand,
     );
     refused(&rt, first, 0, PacketFault::BadIdentifier);
-    let mgone = Packet {
-        target: node(1)?,
-        source: node(0)?,
-        control: 2,
-        line: 3,
-        body: Body::Mgone { old_head: node(0)? },
-    };
+    let mgone = from_home(Body::Mgone { old_head: node(0)? })?;
     let words = zeros(0x0001_0102_0000_0002, 0x00C0_0000);
     both_ways(&rt, mgone, &words, 2);
     Ok(())
@@ -197,19 +213,14 @@ fn mdata(rt: HostRuntime) -> Result<(), Fail> {
 
 #[test]
 fn fdata(rt: HostRuntime) -> Result<(), Fail> {
-    let packet = Packet {
-        target: node(1)?,
-        source: node(0)?,
-        control: 2,
-        line: 3,
-        body: Body::Fdata {
-            old_head: Some(node(0)?),
-            contents: Stamped {
-                line: Line::zero(),
-                version: 0,
-            },
+    let body = Body::Fdata {
+        old_head: Some(node(0)?),
+        contents: Stamped {
+            line: Line::zero(),
+            version: 0,
         },
     };
+    let packet = from_home(body)?;
     let words = zeros(0x0001_010A_0000_0002, 0x00C0_0000);
     both_ways(&rt, packet, &words, 11);
     Ok(())
@@ -231,13 +242,7 @@ fn decode_faults(rt: HostRuntime) {
 #[test]
 fn every_command(rt: HostRuntime) -> Result<(), Fail> {
     for (body, first, second) in table()? {
-        let packet = Packet {
-            target: node(1)?,
-            source: node(2)?,
-            control: 3,
-            line: 5,
-            body,
-        };
+        let packet = of_table(body)?;
         let count = if has_contents(&body) { 11 } else { 2 };
         both_ways(&rt, packet, &long(first, second), count);
         let answers = first & 0x0100_0000_0000 != 0;
@@ -263,13 +268,7 @@ fn identifiers_that_are_none(rt: HostRuntime) -> Result<(), Fail> {
         ),
     ];
     for (body, first, count) in table {
-        let packet = Packet {
-            target: node(1)?,
-            source: node(2)?,
-            control: 3,
-            line: 5,
-            body,
-        };
+        let packet = of_table(body)?;
         both_ways(&rt, packet, &long(first, 0x0140_FFFF), count);
     }
     Ok(())

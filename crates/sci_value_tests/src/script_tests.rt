@@ -99,13 +99,6 @@ fn refused_texts(rt: HostRuntime) {
         b"p 0 load 0 0\n",
         b"machine 17 1 01\n",
     ];
-    for text in first {
-        assert_eq!(rt;
-            fault_of(rt.alloc(), text),
-            at(1, TextFaultKind::Syntax),
-            "{text:?}"
-        );
-    }
     let sizes: [&[u8]; 6] = [
         b"machine 17 1 1\n",
         b"machine 0 1 1\n",
@@ -114,12 +107,13 @@ fn refused_texts(rt: HostRuntime) {
         b"machine 257 1 1\n",
         b"machine 1 99999999999999999999999999 1\n",
     ];
-    for text in sizes {
-        assert_eq!(rt;
-            fault_of(rt.alloc(), text),
-            at(1, TextFaultKind::Range),
-            "{text:?}"
-        );
+    for (texts, kind) in [
+        (first.as_slice(), TextFaultKind::Syntax),
+        (sizes.as_slice(), TextFaultKind::Range),
+    ] {
+        for text in texts {
+            assert_eq!(rt; fault_of(rt.alloc(), text), at(1, kind), "{text:?}");
+        }
     }
 }
 
