@@ -1,20 +1,12 @@
 //! Ends that go through events by hand, and are gathered with packets under way.
 
 use crate::by_hand::ByHand;
+use crate::given::{ORDERS, op, stored};
 use sci_core::Machine;
-use sci_history::{Entry, Last, Logs};
-use sci_words::{Act, AskKind, Event, Extent, Op, Reply};
+use sci_history::{Last, Logs};
+use sci_words::{Act, AskKind, Event, Extent};
 use std::alloc::Global;
 use std::test::*;
-
-/// An operation on word 0 of line 0.
-fn op(act: Act) -> Op {
-    Op {
-        line: 0,
-        word: 0,
-        act,
-    }
-}
 
 /// A node asks a request about line 0.
 fn asks(node: u8, kind: AskKind) -> Event {
@@ -22,17 +14,6 @@ fn asks(node: u8, kind: AskKind) -> Event {
         node,
         line: 0,
         kind,
-    }
-}
-
-/// The entry of a node's first operation, a store of a word that made a version.
-fn stored(node: u8, word: u64, version: u64) -> Entry {
-    Entry {
-        node,
-        serial: 0,
-        op: op(Act::Store(word)),
-        reply: Reply::Stored,
-        version,
     }
 }
 
@@ -48,15 +29,22 @@ fn ends_with(last: &Last, word: u64, version: u64) -> Result<(), Fail> {
     Ok(())
 }
 
+/// The ends of so many nodes and one line, after these events.
+fn hand_after(alloc: Global, nodes: u8, events: &[Event]) -> Result<ByHand, Fail> {
+    let extent = Extent::new(nodes, 1, 1).ok_or("an extent")?;
+    let mut hand = ByHand::new(alloc, extent, 1)?;
+    for event in events {
+        hand.make(event)?;
+    }
+    Ok(hand)
+}
+
 /// One end looks, fills and publishes an mread as its Ask; the other looks, reads and frees it as its Serve. Nothing
 /// was performed then, and the line is as it was.
 #[test]
 fn ends_by_hand(rt: HostRuntime) -> Result<(), Fail> {
-    let extent = Extent::new(2, 1, 1).ok_or("an extent")?;
-    let mut hand = ByHand::new(rt.alloc(), extent, 1)?;
-    hand.make(&asks(1, AskKind::Mread))?;
-    hand.make(&Event::Serve { from: 1, node: 0 })?;
-    let (logs, last) = hand.gather(rt.alloc())?;
+    let events = [asks(1, AskKind::Mread), Event::Serve { from: 1, node: 0 }];
+    let (logs, last) = hand_after(rt.alloc(), 2, &events)?.gather(rt.alloc())?;
     if !logs.of(0).is_empty() || !logs.of(1).is_empty() {
         return Err(Fail::from("an entry"));
     }
@@ -106,11 +94,7 @@ fn join_purge_and_write_back() -> [Event; 27] {
 /// Two ends go through a whole join, a purge and a write-back.
 #[test]
 fn ends_join_purge_and_write_back(rt: HostRuntime) -> Result<(), Fail> {
-    let extent = Extent::new(2, 1, 1).ok_or("an extent")?;
-    let mut hand = ByHand::new(rt.alloc(), extent, 1)?;
-    for event in &join_purge_and_write_back() {
-        hand.make(event)?;
-    }
+    let mut hand = hand_after(rt.alloc(), 2, &join_purge_and_write_back())?;
     hand.make(&Event::Accept { from: 0, node: 0 })?;
     let (logs, last) = hand.gather(rt.alloc())?;
     if logs.of(0) != [stored(0, 8, 2)].as_slice() || logs.of(1) != [stored(1, 7, 1)].as_slice() {
@@ -140,23 +124,9 @@ fn three_under_way() -> [Event; 11] {
     ]
 }
 
-/// By which swaps three ends come in each order.
-const ORDERS: [[(usize, usize); 2]; 6] = [
-    [(0, 0), (0, 0)],
-    [(0, 1), (0, 0)],
-    [(0, 2), (0, 0)],
-    [(1, 2), (0, 0)],
-    [(0, 1), (1, 2)],
-    [(0, 1), (0, 2)],
-];
-
 /// The ends of three nodes after these events, in one of their orders.
 fn three(alloc: Global, events: &[Event], order: &[(usize, usize)]) -> Result<ByHand, Fail> {
-    let extent = Extent::new(3, 1, 1).ok_or("an extent")?;
-    let mut hand = ByHand::new(alloc, extent, 1)?;
-    for event in events {
-        hand.make(event)?;
-    }
+    let mut hand = hand_after(alloc, 3, events)?;
     for (first, second) in order {
         hand.swap(*first, *second)?;
     }

@@ -1,22 +1,14 @@
 //! Stations that are finished: in any order, with packets under way, and after a refusal.
 
+use crate::given::{ORDERS, op, stored};
 use crate::nodes::Nodes;
 use crate::running::{Running, finished};
 use sci_history::{Entry, Verdict};
 use sci_lanes::FinishFault;
 use sci_station::Finished;
-use sci_words::{Act, Event, Extent, LockOp, Op, Reply};
+use sci_words::{Act, Event, Extent, LockOp, Reply};
 use std::alloc::Global;
 use std::test::*;
-
-/// An operation on word 0 of line 0.
-fn op(act: Act) -> Op {
-    Op {
-        line: 0,
-        word: 0,
-        act,
-    }
-}
 
 /// A station performs what it can on line 0, and takes a turn.
 fn go(running: &mut Running, node: u8) -> Result<(), Fail> {
@@ -47,14 +39,7 @@ fn with_a_copy_under_way(alloc: Global) -> Result<Running, Fail> {
 
 /// An error unless node 0's store is all that was done.
 fn has_the_store_alone(finished: &Finished) -> Result<(), Fail> {
-    let stored = Entry {
-        node: 0,
-        serial: 0,
-        op: op(Act::Store(7)),
-        reply: Reply::Stored,
-        version: 1,
-    };
-    if finished.logs.of(0) != [stored].as_slice() || !finished.logs.of(1).is_empty() {
+    if finished.logs.of(0) != [stored(0, 7, 1)].as_slice() || !finished.logs.of(1).is_empty() {
         return Err(Fail::from("the logs"));
     }
     if finished.last.lines() != 1 || finished.last.get(0).version != 1 {
@@ -143,16 +128,6 @@ fn adding(alloc: Global, rounds: usize) -> Result<Running, Fail> {
     }
     Ok(running)
 }
-
-/// By which swaps three stations come in each order.
-const ORDERS: [[(usize, usize); 2]; 6] = [
-    [(0, 0), (0, 0)],
-    [(0, 1), (0, 0)],
-    [(0, 2), (0, 0)],
-    [(1, 2), (0, 0)],
-    [(0, 1), (1, 2)],
-    [(0, 1), (0, 2)],
-];
 
 /// After each number of rounds the stations are finished in each order, with whatever is under way.
 #[test]

@@ -14,6 +14,8 @@ mod finish_tests;
 #[cfg(test)]
 mod gate_tests;
 #[cfg(test)]
+mod given;
+#[cfg(test)]
 mod lane_tests;
 #[cfg(test)]
 mod lent_memory_tests;
