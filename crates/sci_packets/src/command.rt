@@ -29,7 +29,7 @@ pub enum Command {
 }
 
 impl Command {
-    /// All commands, as lists of them show them.
+    /// All commands, in the order in which lists show them.
     pub const ALL: [Command; 19] = [
         Command::Mread,
         Command::Fread,
@@ -65,27 +65,34 @@ impl Command {
         ensures command { result ≡ command_with number }
         ensures number { IfSome result (λ command. command_number command ≡ number) }
     {
-        match number {
-            0x0001 => Some(Command::Mread),
-            0x0002 => Some(Command::Cread),
-            0x0003 => Some(Command::Purge),
-            0x0004 => Some(Command::Roll),
-            0x0005 => Some(Command::Wback),
-            0x0006 => Some(Command::Setback),
-            0x0007 => Some(Command::Fread),
-            0x0008 => Some(Command::Claim),
-            0x0009 => Some(Command::Clear),
-            0x0101 => Some(Command::Mdata),
-            0x0102 => Some(Command::Mgone),
-            0x0103 => Some(Command::Cdata),
-            0x0104 => Some(Command::Purged),
-            0x0105 => Some(Command::Rolled),
-            0x0106 => Some(Command::Wbok),
-            0x0107 => Some(Command::Wbno),
-            0x0108 => Some(Command::Told),
-            0x0109 => Some(Command::Busy),
-            0x010A => Some(Command::Fdata),
-            _ => None,
+        // Two dense matches compile to two comparisons, one sparse match to a jump through a table.
+        if number < 0x0100 {
+            match number {
+                0x0001 => Some(Command::Mread),
+                0x0002 => Some(Command::Cread),
+                0x0003 => Some(Command::Purge),
+                0x0004 => Some(Command::Roll),
+                0x0005 => Some(Command::Wback),
+                0x0006 => Some(Command::Setback),
+                0x0007 => Some(Command::Fread),
+                0x0008 => Some(Command::Claim),
+                0x0009 => Some(Command::Clear),
+                _ => None,
+            }
+        } else {
+            match number {
+                0x0101 => Some(Command::Mdata),
+                0x0102 => Some(Command::Mgone),
+                0x0103 => Some(Command::Cdata),
+                0x0104 => Some(Command::Purged),
+                0x0105 => Some(Command::Rolled),
+                0x0106 => Some(Command::Wbok),
+                0x0107 => Some(Command::Wbno),
+                0x0108 => Some(Command::Told),
+                0x0109 => Some(Command::Busy),
+                0x010A => Some(Command::Fdata),
+                _ => None,
+            }
         }
     }
 
