@@ -24,6 +24,7 @@ const SHORT: usize = 16;
 
 /// Writes the packet over the first bytes, and answers how many: 16, or 88 with contents. The bytes after
 /// the packet stay.
+#[tactic(auto, using(crate::proofs::Packets::packet_made))]
 pub fn encode(p: &Packet, to: &mut [u8; 88]) -> usize
     ensures bytes { to.new ≡ spelling p.now ++ drop result to.old }
     ensures length { result ≡ length (spelling p.now) }

@@ -20,6 +20,7 @@ const SHORT_WORDS: usize = 2;
 
 /// Writes the packet over the first words, and answers how many: 2, or 11 with contents. The words after
 /// the packet stay.
+#[tactic(auto, using(crate::proofs::Packets::packet_made))]
 pub fn to_words(p: &Packet, to: &mut [u64; 11]) -> usize
     ensures words { to.new ≡ words_of p.now ++ drop result to.old }
     ensures length { result ≡ length (words_of p.now) }
