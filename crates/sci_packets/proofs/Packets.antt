@@ -185,7 +185,7 @@ too_short bytes lt = rw (lt-ltb (length bytes) 16 lt) refl
 
 -- ---- the clauses of a decoder
 
-pub is_packet : (p : Packet) (bytes : List ℕ) → IsBytes bytes → header_of p ≡ header_in bytes
+is_packet : (p : Packet) (bytes : List ℕ) → IsBytes bytes → header_of p ≡ header_in bytes
     → (parts_of p.body).contents ≡ contents_for (command_of p.body) bytes → (p.target < 0xFFFF) × (p.source < 0xFFFF)
     → IfSome (parts_of p.body).identifier (λ id. id < 0xFFFF) → IsPacket p
 is_packet p bytes fits e s nodes identifier = grind (arith, header_in-fits, contents_for-fits)
@@ -195,13 +195,14 @@ pub record Found (p : Packet) (k : ℕ) (bytes : List ℕ) : Type 0 where
   pub within : k ≤ length bytes
 
 pub is_found : (p : Packet) (k : ℕ) (bytes : List ℕ) → IsBytes bytes → header_of p ≡ header_in bytes
-    → (parts_of p.body).contents ≡ contents_for (command_of p.body) bytes → IsPacket p → fault_of bytes ≡ None
-    → k ≡ cond (is_some (parts_of p.body).contents) 88 16 → Found p k bytes
-is_found p k bytes fits e s h none size =
+    → (parts_of p.body).contents ≡ contents_for (command_of p.body) bytes → (p.target < 0xFFFF) × (p.source < 0xFFFF)
+    → IfSome (parts_of p.body).identifier (λ id. id < 0xFFFF) → None ≡ fault_of bytes → k ≡ cond (is_some (parts_of p.body).contents) 88 16 → Found p k bytes
+is_found p k bytes fits e s nodes identifier none size =
+    let h = is_packet p bytes fits e s nodes identifier in
     let which : carries (command_with (header_in bytes).command) ≡ is_some (parts_of p.body).contents =
     ap (λ (x : Header). carries (command_with x.command)) (sym e) ∙ number_carries p.body in
     let long : cond (is_some (parts_of p.body).contents) 88 16 ≤ length bytes =
-    subst (λ (b : Bool). cond b 88 16 ≤ length bytes) which (none_long bytes none) in
+    subst (λ (b : Bool). cond b 88 16 ≤ length bytes) which (none_long bytes (sym none)) in
     let text = packet_takes p bytes fits e s long in
     let front : take k bytes ≡ spelling p = ap (λ (b : List ℕ). take k b) text ∙ take_at (spelling p) _ k (length-spelling p h ∙ sym size) in
     record { spells = record { packet = h; spelled_so = front }; within = omega (arith, size, long) }

@@ -1,19 +1,16 @@
-use Rattle.std.proofs.Common.{arith, Err, Ok, sym}
+use Rattle.std.proofs.Common.{arith, Err, Ok}
 use Rattle.std.proofs.lemmas.Result.{err_from_is_err_and}
 use Rattle.sci_packets.specs.declared.fault.PacketFault.TheVariants.{Short}
-use Rattle.sci_packets.proofs.Fields.{IsBytes}
-use Rattle.sci_packets.proofs.Packets.{Found, only_found, none_found, none_refused, is_packet, is_found, too_short}
+use Rattle.sci_packets.proofs.Packets.{Found, only_found, none_found, none_refused, is_found, too_short}
 use Rattle.sci_packets.proofs.bytes.decode.Goals as goal
 use Rattle.sci_packets.proofs.bytes.decode.Goals.{After-size_of-len}
 
 found : (c : After-size_of-len) → Found c.in_ok-packet.packet c.size_of-len.result c.args.bytes.now
 found c =
     let bytes = c.args.bytes.now in
-    let p = c.in_ok-packet.packet in
     let known = c.in_ok-packet.ensures in
-    let fits : IsBytes bytes = λ i. omega (arith, c.type_inv.bytes i) in
-    is_found p c.size_of-len.result bytes fits known.header known.contents (is_packet p bytes fits known.header known.contents known.nodes known.identifier)
-    (sym known.fault) c.size_of-len.ensures
+    is_found c.in_ok-packet.packet c.size_of-len.result bytes (λ i. omega (arith, c.type_inv.bytes i)) known.header known.contents known.nodes
+    known.identifier known.fault c.size_of-len.ensures
 
 pub returns-then-bytes-lt-SHORT-clause-only : goal.returns-then-bytes-lt-SHORT-clause-only
 returns-then-bytes-lt-SHORT-clause-only c =

@@ -1,11 +1,11 @@
-use Rattle.std.proofs.Common.{◌≡◌, ◌/◌, Some, Ok, Err, sym, refl, arith}
+use Rattle.std.proofs.Common.{◌≡◌, ◌/◌, Some, Ok, Err, refl, arith}
 use Rattle.std.proofs.lemmas.Result.{err_from_is_err_and}
 use Rattle.sci_packets.specs.declared.fault.PacketFault.TheVariants.{Short}
 use Rattle.sci_packets.specs.Fault.{fault_of, fault_of_words}
 use Rattle.sci_packets.specs.Fields.{word_bytes}
-use Rattle.sci_packets.proofs.Fields.{IsBytes, length-word_bytes}
+use Rattle.sci_packets.proofs.Fields.{length-word_bytes}
 use Rattle.sci_packets.proofs.FromWords.{Only, only_words, none_in_words}
-use Rattle.sci_packets.proofs.Packets.{Found, only_found, is_packet, is_found, too_short}
+use Rattle.sci_packets.proofs.Packets.{Found, only_found, is_found, too_short}
 use Rattle.sci_packets.proofs.WordLaws.{BeginsWords, begins_words, word_bytes-fits}
 use Rattle.sci_packets.proofs.words.from_words.Goals as goal
 use Rattle.sci_packets.proofs.words.from_words.Goals.{Then-words-lt-SHORT_WORDS, After-from_residual, After-size_of}
@@ -49,11 +49,9 @@ returns-in_err-packet-clause-fault c =
 found : (c : After-size_of) → Found c.in_ok-packet.packet c.size_of.result (word_bytes c.args.words.now)
 found c =
     let bytes = word_bytes c.args.words.now in
-    let p = c.in_ok-packet.packet in
     let known = c.in_ok-packet.ensures in
-    let fits : IsBytes bytes = word_bytes-fits c.args.words.now in
-    is_found p c.size_of.result bytes fits known.header known.contents (is_packet p bytes fits known.header known.contents known.nodes known.identifier)
-    (sym known.fault) c.size_of.ensures
+    is_found c.in_ok-packet.packet c.size_of.result bytes (word_bytes-fits c.args.words.now) known.header known.contents known.nodes known.identifier
+    known.fault c.size_of.ensures
 
 begins : (c : After-size_of) → BeginsWords c.in_ok-packet.packet (c.size_of.result / 8) c.args.words.now
 begins c =
