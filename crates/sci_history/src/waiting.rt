@@ -109,35 +109,8 @@ fn push_wait(
     Ok(found.node)
 }
 
-/// A cycle of entries that are left first in their logs, each of which is followed by what it waits for. It has at most two
-/// entries for each node.
-fn any_cycle(
-    alloc: Global,
-    logs: &Logs,
-    next: &[usize; NODES],
-    first: u8,
-) -> Result<Vec<Step>, AllocError>
-    requires node { first < MAX_NODES }
-    requires left { slice_index_or next.now first 0 < length (log_of logs.now first) }
-    requires blocked { AreBlocked (rests_of logs.now next.now) }
-    ensures cycle { IfOk result (λ steps. IsCycle logs.now steps.items) }
-    ensures few { IfOk result (λ steps. length steps.items ≤ 2 * MAX_NODES) }
-{
-    let mut starts: [Option<usize>; NODES] = [None; NODES];
-    let mut steps = Vec::new(alloc);
-    let mut node = first;
-    for _ in 0..=MAX_NODES {
-        if let Some(start) = starts[node as usize] {
-            return Vec::from_slice(alloc, &steps[start..]);
-        }
-        starts[node as usize] = Some(steps.len());
-        node = push_wait(logs, next, node, &mut steps)?;
-    }
-    // Each turn marks another node.
-    unreachable!()
-}
-
-/// A cycle of entries that are left, none of which can be left out. It has at most two entries for each node.
+/// A cycle of entries that are left, none of which can be left out: entries that are left first in their logs, each of
+/// which is followed by what it waits for. It has at most two entries for each node.
 pub fn cycle(
     alloc: Global,
     logs: &Logs,
@@ -151,6 +124,16 @@ pub fn cycle(
     ensures bare { IfOk result (λ steps. HasNoShortcut steps.items) }
     ensures few { IfOk result (λ steps. length steps.items ≤ 2 * MAX_NODES) }
 {
-    let steps = any_cycle(alloc, logs, next, first)?;
-    without_shortcuts(alloc, &steps)
+    let mut starts: [Option<usize>; NODES] = [None; NODES];
+    let mut steps = Vec::new(alloc);
+    let mut node = first;
+    for _ in 0..=MAX_NODES {
+        if let Some(start) = starts[node as usize] {
+            return without_shortcuts(alloc, &steps[start..]);
+        }
+        starts[node as usize] = Some(steps.len());
+        node = push_wait(logs, next, node, &mut steps)?;
+    }
+    // Each turn marks another node.
+    unreachable!()
 }

@@ -1,26 +1,57 @@
 use Rattle.std.specs.Global.{Vec}
-use Rattle.std.proofs.Common.{length, ◌≤◌, ◌*◌, ap, subst, sym, arith}
+use Rattle.std.proofs.Common.{◌-◌, ◌*◌, take, drop, ◌≡◌, ◌+◌, ◌≤◌, ℕ, Some, length, set, ap, sym, subst, ◌∙◌, arith}
+use Rattle.std.proofs.lemmas.List.{length-set}
 use Rattle.std.proofs.lemmas.Result.{IfOk-weaker}
 use Rattle.sci_words.specs.declared.limits.TheConstants.{MAX_NODES}
-use Rattle.sci_history.specs.declared.order_verdict.Step.{Step}
 use Rattle.sci_history.specs.Cycle.{HasNoShortcut, IsCycle}
 use Rattle.sci_history.specs.Shortcuts.{IsBareRoundOf}
+use Rattle.sci_history.specs.declared.order_verdict.Step.{Step}
 use Rattle.sci_history.proofs.Shortening.{cycle_kept}
+use Rattle.sci_history.proofs.Walks.{IsWalking, sliced, walk_closes, walk_ends, walk_more, walk_short}
 use Rattle.sci_history.proofs.waiting.cycle.Goals as goal
+use Rattle.sci_history.proofs.waiting.cycle.Goals.{After-deref}
 
-pub returns-clause-cycle : goal.returns-clause-cycle
-returns-clause-cycle c =
-    let cycle = subst (IsCycle c.args.logs.now) (sym c.deref.ensures.value) c.in_ok-steps.ensures.cycle in
-    IfOk-weaker c.without_shortcuts.result (λ (v : Vec Step). IsBareRoundOf c.deref.result.now v.items) (λ v. IsCycle c.args.logs.now v.items)
-    (λ v is. cycle_kept c.args.logs.now c.deref.result.now v.items cycle is.own is.round) c.without_shortcuts.ensures
+-- the steps from the first at the node on
+closing : (c : After-deref) → IsCycle c.args.logs.now (take (length c.deref.result.now - c.in-Some.start) (drop c.in-Some.start c.deref.result.now))
+closing c =
+    subst (IsCycle c.args.logs.now) (sym (sliced c.loop.steps.items c.deref.result.now c.in-Some.start c.deref.ensures.value))
+    (walk_closes c.args.logs.now c.args.next.now c.loop.starts c.loop.steps.items c.loop.node c.loop.counter c.in-Some.start c.in-Some.is
+    c.loop.invariant.walking)
 
-pub returns-clause-bare : goal.returns-clause-bare
-returns-clause-bare c = IfOk-weaker c.without_shortcuts.result (λ (v : Vec Step). IsBareRoundOf c.deref.result.now v.items) (λ v. HasNoShortcut v.items)
-    (λ v is. is.bare) c.without_shortcuts.ensures
+pub without_shortcuts-requires : goal.without_shortcuts-requires
+without_shortcuts-requires c = (closing (goal.at.without_shortcuts-requires c).After-deref).round
 
-pub returns-clause-few : goal.returns-clause-few
-returns-clause-few c =
-    let short = c.in_ok-steps.ensures.few in
-    let long = ap length c.deref.ensures.value in
-    IfOk-weaker c.without_shortcuts.result (λ (v : Vec Step). IsBareRoundOf c.deref.result.now v.items) (λ v. length v.items ≤ 2 * MAX_NODES)
+pub returns-in-Some-clause-cycle : goal.returns-in-Some-clause-cycle
+returns-in-Some-clause-cycle c =
+    IfOk-weaker c.without_shortcuts.result (λ (v : Vec Step). IsBareRoundOf _ v.items) (λ v. IsCycle c.args.logs.now v.items)
+    (λ v is. cycle_kept c.args.logs.now _ v.items (closing (goal.at.returns-in-Some-clause-cycle c).After-deref) is.own is.round) c.without_shortcuts.ensures
+
+pub returns-in-Some-clause-bare : goal.returns-in-Some-clause-bare
+returns-in-Some-clause-bare c =
+    IfOk-weaker c.without_shortcuts.result (λ (v : Vec Step). IsBareRoundOf _ v.items) (λ v. HasNoShortcut v.items) (λ v is. is.bare)
+    c.without_shortcuts.ensures
+
+pub returns-in-Some-clause-few : goal.returns-in-Some-clause-few
+returns-in-Some-clause-few c =
+    let short = walk_short c.args.logs.now c.args.next.now c.loop.starts c.loop.steps.items c.loop.node c.loop.counter c.in-Some.start c.loop.invariant.long
+    c.loop.invariant.walking in
+    let long = ap length (sliced c.loop.steps.items c.deref.result.now c.in-Some.start c.deref.ensures.value) in
+    IfOk-weaker c.without_shortcuts.result (λ (v : Vec Step). IsBareRoundOf _ v.items) (λ v. length v.items ≤ 2 * MAX_NODES)
     (λ v is. let few = is.few in omega arith) c.without_shortcuts.ensures
+
+pub loop-preserved : goal.loop-preserved
+loop-preserved c =
+    let leads = c.in_ok-node.ensures.leads in
+    let more = walk_more c.args.logs.now c.args.next.now c.loop.starts c.loop.steps.items leads.0 c.push_wait.new.steps.items c.loop.node c.in_ok-node.node
+    c.loop.counter c.loop.invariant.long c.in_default.is leads.1 leads.2 c.in_ok-node.ensures.known c.in_ok-node.ensures.left c.loop.invariant.walking in
+    record {
+      long = length-set c.loop.starts c.loop.node (Some c.len.result) ∙ c.loop.invariant.long;
+      walking = subst (λ (k : ℕ). IsWalking c.args.logs.now c.args.next.now (set c.loop.starts c.loop.node (Some k)) c.push_wait.new.steps.items
+          c.in_ok-node.node (c.loop.counter + 1)) (sym (let is : c.len.result ≡ length c.loop.steps.items = omega arith in is)) more;
+    }
+
+pub unreachable-requires : goal.unreachable-requires
+unreachable-requires c =
+    let ends = walk_ends c.args.logs.now c.args.next.now c.loop.starts c.loop.steps.items c.loop.node c.loop.counter c.loop.invariant.long
+    c.loop.invariant.walking in
+    omega arith

@@ -1,7 +1,7 @@
 use Rattle.std.proofs.Common.{◌≡◌, length}
 use Rattle.sci_words.specs.declared.limits.TheConstants.{MAX_NODES}
 use Rattle.sci_history.proofs.Walks.{IsWalking}
-use Rattle.sci_history.proofs.waiting.any_cycle.Given as goal
+use Rattle.sci_history.proofs.waiting.cycle.Given as goal
 
 abbrev pub invariant-loop : goal.invariant-loop
 invariant-loop l = record {
