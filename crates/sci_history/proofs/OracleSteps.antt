@@ -170,10 +170,6 @@ count-take p script i =
 pub range-take : (lines : ℕ) (script : List Issue) (i : ℕ) → All (IsInRange lines) script → AllByRecursion (IsInRange lines) (take i script)
 range-take lines script i h = recursion_from_All (IsInRange lines) (take i script) (All-take (IsInRange lines) i script h)
 
-pub few_logged : (lines limit : ℕ) (script : List Issue) (i node : ℕ) (logs : List (List Entry)) (memory : List Stamped) → node < MAX_NODES
-    → Ran lines (take i script) logs memory → count_by (λ issue. eqb issue.0 node) script ≤ limit → length (log_of logs node) ≤ limit
-few_logged lines limit script i node logs memory lt h few = grind (arith, ran_serial, count-take)
-
 pub fewer_logged : (lines limit : ℕ) (script : List Issue) (i : ℕ) (d : Issue) (logs : List (List Entry)) (memory : List Stamped) → i < length script
     → (get_or script i d).0 < MAX_NODES → Ran lines (take i script) logs memory → count_by (λ issue. eqb issue.0 (get_or script i d).0) script ≤ limit
     → length (log_of logs (get_or script i d).0) < limit

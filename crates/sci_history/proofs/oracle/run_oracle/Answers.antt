@@ -1,15 +1,17 @@
 -- Each issue is the oracle's next, and no log is full before its last.
-use Rattle.std.proofs.Common.{◌≡◌, length, get_or, take, refl, ap, ◌∙◌, subst, arith}
+use Rattle.std.proofs.Common.{◌≡◌, ◌<◌, length, get_or, take, refl, ap, ◌∙◌, subst, arith}
 use Rattle.std.proofs.lemmas.List.{length-take, take_more, take_all}
 use Rattle.std.proofs.lemmas.List.Elements.{recursion_from_All}
 use Rattle.sci_words.specs.declared.operation.Act.TheVariants.{Load}
 use Rattle.sci_words.specs.declared.limits.TheConstants.{MAX_OPERATIONS}
 use Rattle.std.specs.Prelude.{List, Err}
 use Rattle.sci_history.specs.declared.entry.Entry.{Entry}
+use Rattle.sci_history.specs.Placed.{log_of}
 use Rattle.sci_history.specs.Oracle.{Issue, IsInRange}
-use Rattle.sci_history.proofs.OracleSteps.{Ran, ran_none, ran_long, ran_version, ran_step, range-take, few_logged, fewer_logged}
+use Rattle.sci_history.proofs.OracleSteps.{Ran, ran_none, ran_long, ran_version, ran_step, range-take, fewer_logged}
 use Rattle.sci_history.proofs.Oracles.{oracle-lawful}
 use Rattle.sci_history.proofs.oracle.run_oracle.Goals as goal
+use Rattle.sci_history.proofs.oracle.run_oracle.Goals.{After-of}
 
 abbrev no_issue : Issue
 no_issue = (0, record { line = 0; word = 0; act = Load })
@@ -33,25 +35,20 @@ do_op-reply-requires-clause-room c = λ maker.
     let front = length-take i script in
     omega arith
 
+-- the node has fewer entries than it may have
+fewer : (c : After-of) → length (log_of c.loop-node.logs (get_or c.args.script.now c.loop-node.node-index no_issue).0) < MAX_OPERATIONS
+fewer c =
+    let here = c.requires.in_range c.loop-node.node-index no_issue c.loop-node-test.true in
+    fewer_logged _ MAX_OPERATIONS c.args.script.now c.loop-node.node-index no_issue _ _ c.loop-node-test.true here.node c.loop-node.invariant
+    (c.requires.room _)
+
 pub overflow_cast-serial : goal.overflow_cast-serial
-overflow_cast-serial c =
-    let script = c.args.script.now in
-    let i = c.loop-node.node-index in
-    let node = (get_or script i no_issue).0 in
-    let here = c.requires.in_range i no_issue c.loop-node-test.true in
-    let few = few_logged _ MAX_OPERATIONS script i node _ _ here.node c.loop-node.invariant (c.requires.room node) in
-    let is = ap length c.of.ensures.log in
-    omega arith
+overflow_cast-serial c = let is = ap length c.of.ensures.log in omega (arith, fewer (goal.at.overflow_cast-serial c).After-of)
 
 pub unreachable-requires : goal.unreachable-requires
 unreachable-requires c =
-    let script = c.args.script.now in
-    let i = c.loop-node.node-index in
-    let node = (get_or script i no_issue).0 in
-    let here = c.requires.in_range i no_issue c.loop-node-test.true in
-    let few = fewer_logged _ MAX_OPERATIONS script i no_issue _ _ c.loop-node-test.true here.node c.loop-node.invariant (c.requires.room node) in
     let full = c.in-Err-Full.ensures.full.0 (ap Err c.in-Err-Full.field-0-is) in
-    absurd (omega arith)
+    absurd (omega (arith, fewer (goal.at.unreachable-requires c).After-of))
 
 pub loop-node-preserved : goal.loop-node-preserved
 loop-node-preserved c =
