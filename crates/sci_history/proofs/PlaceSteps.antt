@@ -31,10 +31,14 @@ pub record IsFrontAt (logs : List (List Entry)) (loads : List (List ℕ)) (rests
   pub own : entry.node ≡ n
   pub left : log_of rests n ≡ entry ∷ rest
 
+-- the same of a log, as the code reads it
+abbrev pub IsFrontRead : List (List Entry) → List (Vec ℕ) → List ℕ → ℕ → List Entry → Type 0
+IsFrontRead logs loads next n log =
+    IsFrontAt logs (lists_of_counts loads) (rests_of logs next) n (get_or log (get_or next n 0) no_entry) (drop (get_or next n 0 + 1) (log_of logs n))
+
 pub front_read : (logs : List (List Entry)) (loads : List (Vec ℕ)) (lines : List LineState) (next : List ℕ) (order : List Entry) (n : ℕ) (log : List Entry)
     → AreOrderable logs (lists_of_counts loads) → IsPlacing logs (length loads) lines (rests_of logs next) order
-    → n < MAX_NODES → log ≡ log_of logs n → get_or next n 0 < length log
-    → IsFrontAt logs (lists_of_counts loads) (rests_of logs next) n (get_or log (get_or next n 0) no_entry) (drop (get_or next n 0 + 1) (log_of logs n))
+    → n < MAX_NODES → log ≡ log_of logs n → get_or next n 0 < length log → IsFrontRead logs loads next n log
 front_read logs loads lines next order n log able placing lt is below =
     let place = get_or next n 0 in
     let front : log_of (rests_of logs next) n ≡ get_or log place no_entry ∷ drop (place + 1) (log_of logs n) =
