@@ -1,6 +1,6 @@
 -- What the audit of a line needs of its entries, and what lines that are found lawful say of all.
-use Rattle.std.proofs.Common.{◌≡◌, ◌↔◌, ℕ, suc, ◌+◌, ◌<◌, ◌≤◌, false, List, [], ◌∷◌, ◌++◌, length, get_or, Option, None, refl, sym, ap, ◌∙◌, subst, arith, inl}
-use Rattle.std.proofs.Common.{inr, below_more}
+use Rattle.std.proofs.Common.{◌≡◌, ◌↔◌, ℕ, suc, ◌+◌, ◌<◌, ◌≤◌, false, List, [], ◌∷◌, ◌++◌, length, get_or, Option, Some, None, refl, sym, ap, ◌∙◌, subst, arith}
+use Rattle.std.proofs.Common.{inl, inr, below_more}
 use Rattle.std.specs.Prelude.{All}
 use Rattle.std.specs.List.{flat_map, AllByRecursion}
 use Rattle.std.proofs.lemmas.Bool.{cases_lt, ne_eqb}
@@ -17,7 +17,7 @@ use Rattle.sci_history.specs.declared.faults.LineFault.{LineFault}
 use Rattle.sci_history.specs.Memory.{stamped_at}
 use Rattle.sci_history.specs.Placed.{log_of, AreOwn, is_on_line, on_line, maker_count, by_version, placed_entries}
 use Rattle.sci_history.specs.Lawful.{IsLawfulLine, Lawful}
-use Rattle.sci_history.specs.Audit.{IsWithin, AreWithin, is_version_missing, first_missing, HasNoFault, IsLineFault, IsFault, IsFound, AreFound, IsVerdict}
+use Rattle.sci_history.specs.Audit.{AreKnown, IsWithin, AreWithin, is_version_missing, first_missing, HasNoFault, IsFault, IsFound, AreFound, IsVerdict}
 use Rattle.sci_history.proofs.Order.{all_weaker, all-append, all-filter, filter_none}
 use Rattle.sci_history.proofs.Placement.{by_node_and_serial-none}
 use Rattle.sci_history.proofs.AuditVersions.{none_fail, versions_within}
@@ -45,13 +45,14 @@ all_logs P (log ∷ logs) h = all-append P log (flat_map same_log logs) (recursi
 pub within_on_line : (lines line : ℕ) (logs : List (List Entry)) → AreWithin lines logs → AllByRecursion (IsWithin lines) (on_line line logs)
 within_on_line lines line logs h = all-filter (IsWithin lines) (is_on_line line) (flat_map same_log logs) (all_logs (IsWithin lines) logs h)
 
-pub words_on_line : (lines line : ℕ) (logs : List (List Entry)) → AreWithin lines logs → All (λ e. e.op.word < WORDS_PER_LINE) (on_line line logs)
-words_on_line lines line logs h =
-    All-from_recursion (λ e. e.op.word < WORDS_PER_LINE) (on_line line logs)
-    (all_weaker (IsWithin lines) (λ e. e.op.word < WORDS_PER_LINE) (λ e w. w.1) (on_line line logs) (within_on_line lines line logs h))
-
-pub all_nodes_on_line : (line : ℕ) (logs : List (List Entry)) → AreOwn logs → length logs ≡ MAX_NODES → All (λ e. e.node < MAX_NODES) (on_line line logs)
-all_nodes_on_line line logs own sixteen = All-from_recursion (λ e. e.node < MAX_NODES) (on_line line logs) (nodes_on_line logs line own sixteen)
+pub known_on_line : (line : ℕ) (logs : List (List Entry)) (lines : ℕ) (entries : List Entry) → entries ≡ on_line line logs → AreOwn logs
+    → length logs ≡ MAX_NODES → AreWithin lines logs → AreKnown entries
+known_on_line line logs lines entries is own sixteen within =
+    subst AreKnown (sym is) (record {
+      nodes = All-from_recursion (λ e. e.node < MAX_NODES) (on_line line logs) (nodes_on_line logs line own sixteen);
+      words = All-from_recursion (λ e. e.op.word < WORDS_PER_LINE) (on_line line logs)
+          (all_weaker (IsWithin lines) (λ e. e.op.word < WORDS_PER_LINE) (λ e w. w.1) (on_line line logs) (within_on_line lines line logs within));
+    })
 
 pub none_past : (lines line : ℕ) (logs : List (List Entry)) → AreWithin lines logs → lines ≤ line → on_line line logs ≡ []
 none_past lines line logs h le =
@@ -65,11 +66,18 @@ placed_none = rw by_node_and_serial-none refl
 
 -- ---- lawful lines
 
-pub lawful_from_found : (logs : List (List Entry)) (line : ℕ) (entries : List Entry) (last : Stamped) → AreOwn logs → length logs ≡ MAX_NODES
-    → entries ≡ on_line line logs → HasNoFault entries last → IsLawfulLine logs line last
-lawful_from_found logs line entries last own sixteen is found =
-    let h : HasNoFault (on_line line logs) last = subst (λ (es : List Entry). HasNoFault es last) is found in
-    lawful_found logs line last own sixteen h.twice h.missing h.wrong h.disordered h.words h.version
+-- what the code finds of a line's entries, at the contents that it read
+found_as : (entries : List Entry) (a b : Stamped) (o p : Option LineFault) → a ≡ b → o ≡ p → IsFound entries a o → IsFound entries b p
+found_as entries a b o p e f h = subst (λ (s : Stamped). IsFound entries s p) e (subst (IsFound entries a) f h)
+
+pub lawful_from_found : (logs : List (List Entry)) (last : List Stamped) (line : ℕ) (entries : List Entry) (here : Stamped) (found : Option LineFault)
+    → AreOwn logs → length logs ≡ MAX_NODES → entries ≡ on_line line logs → here ≡ stamped_at last line → found ≡ None → IsFound entries here found
+    → IsLawfulLine logs line (stamped_at last line)
+lawful_from_found logs last line entries here found own sixteen is read none found_so =
+    let there = stamped_at last line in
+    let h : HasNoFault (on_line line logs) there =
+    subst (λ (es : List Entry). HasNoFault es there) is (found_as entries here there found None read none found_so) in
+    lawful_found logs line there own sixteen h.twice h.missing h.wrong h.disordered h.words h.version
 
 -- a line beyond the last contents has no entries, and is lawful at zero
 lawful_past : (logs : List (List Entry)) (last : List Stamped) (line : ℕ) → AreOwn logs → length logs ≡ MAX_NODES → AreWithin (length last) logs
@@ -79,7 +87,7 @@ lawful_past logs last line own sixteen within le =
     let zero_there : stamped_at last line ≡ zero_stamped = get_or_past last line zero_stamped le in
     let h : HasNoFault [] zero_stamped =
     record { twice = refl; missing = refl; wrong = rw placed_none refl; disordered = refl; words = rw placed_none refl; version = refl } in
-    subst (IsLawfulLine logs line) (sym zero_there) (lawful_from_found logs line [] zero_stamped own sixteen (sym none) h)
+    lawful_from_found logs last line [] zero_stamped None own sixteen (sym none) (sym zero_there) refl h
 
 -- if the lines of the last contents are lawful, all are
 pub lawful_all : (logs : List (List Entry)) (last : List Stamped) → AreOwn logs → length logs ≡ MAX_NODES → AreWithin (length last) logs
@@ -93,21 +101,25 @@ lawful_more logs last line below here = below_more (λ (other : ℕ). IsLawfulLi
 
 -- one line's fault more
 pub faults_more : (logs : List (List Entry)) (last : List Stamped) (faults : List (Option LineFault)) (line : ℕ) (fault : Option LineFault)
-    → AreFound logs last line faults → IsFound (on_line line logs) (stamped_at last line) fault → AreFound logs last (line + 1) (faults ++ fault ∷ [])
-faults_more logs last faults line fault below here = record {
+    (entries : List Entry) (here : Stamped) → AreFound logs last line faults → entries ≡ on_line line logs → here ≡ stamped_at last line
+    → IsFound entries here fault → AreFound logs last (line + 1) (faults ++ fault ∷ [])
+faults_more logs last faults line fault entries here below is read found = record {
   many = length-append faults (fault ∷ []) ∙ ap (λ n. n + 1) below.many;
   each = below_more (λ (other : ℕ). IsFound (on_line other logs) (stamped_at last other) (get_or (faults ++ fault ∷ []) other None)) line
       (λ other lt. subst (IsFound (on_line other logs) (stamped_at last other)) (sym (get_or_append_left faults (fault ∷ []) None other (rw below.many lt)))
       (below.each other lt))
-      (subst (IsFound (on_line line logs) (stamped_at last line)) (sym (get_or_push faults fault None line below.many)) here);
+      (subst (IsFound (on_line line logs) (stamped_at last line)) (sym (get_or_push faults fault None line below.many))
+      (subst (λ (es : List Entry). IsFound es (stamped_at last line) fault) is (subst (λ (s : Stamped). IsFound entries s fault) read found)));
 }
 
 -- ---- the verdict
 
-pub fault_found : (logs : List (List Entry)) (last : List Stamped) (line : ℕ) (entries : List Entry) (fault : LineFault) → line < length last
-    → ((other : ℕ) → other < line → IsLawfulLine logs other (stamped_at last other)) → entries ≡ on_line line logs
-    → IsLineFault entries (stamped_at last line) fault.kind fault.at → IsFault logs last line fault.kind fault.at
-fault_found logs last line entries fault lt below is found = grind arith
+pub fault_found : (logs : List (List Entry)) (last : List Stamped) (line : ℕ) (entries : List Entry) (here : Stamped) (found : Option LineFault)
+    (fault : LineFault) → line < length last → ((other : ℕ) → other < line → IsLawfulLine logs other (stamped_at last other))
+    → entries ≡ on_line line logs → here ≡ stamped_at last line → found ≡ Some fault → IsFound entries here found → IsFault logs last line fault.kind fault.at
+fault_found logs last line entries here found fault lt below is read some found_so =
+    let h = found_as entries here (stamped_at last line) found (Some fault) read some found_so in
+    grind arith
 
 faulty_not : (logs : List (List Entry)) (last : List Stamped) (line : ℕ) (kind : FaultKind) (at : Option (ℕ × ℕ)) → AreOwn logs → length logs ≡ MAX_NODES
     → IsFault logs last line kind at → Lawful logs last → ⊥
@@ -121,6 +133,3 @@ pub verdict_is : (logs : List (List Entry)) (last : List Stamped) (verdict : Ver
     → (verdict ≡ verdicts.Lawful) ↔ Lawful logs last
 verdict_is logs last verdicts.Lawful own sixteen h = (λ e. h, λ lawful. refl)
 verdict_is logs last (verdicts.Fault line kind at) own sixteen h = grind (arith, verdict_faulty, faulty_not)
-
-pub found_as : (entries : List Entry) (a b : Stamped) (o p : Option LineFault) → a ≡ b → o ≡ p → IsFound entries a o → IsFound entries b p
-found_as entries a b o p e f h = subst (λ (s : Stamped). IsFound entries s p) e (subst (IsFound entries a) f h)

@@ -1,5 +1,5 @@
 -- Entries that are put into the lists of their lines.
-use Rattle.std.proofs.Common.{◌≡◌, ℕ, ◌+◌, ◌<◌, List, [], ◌∷◌, ◌++◌, length, get_or, set, take, sym, ap, ◌∙◌, append_assoc, inl, inr}
+use Rattle.std.proofs.Common.{◌≡◌, ℕ, ◌+◌, ◌<◌, List, [], ◌∷◌, ◌++◌, length, get_or, set, take, sym, ap, ◌∙◌, append_assoc, arith, inl, inr}
 use Rattle.std.specs.List.{filter, flat_map}
 use Rattle.std.specs.Global.{Vec}
 use Rattle.std.proofs.lemmas.Bool.{cases_eq, eq-eqb, ne_eqb}
@@ -7,7 +7,7 @@ use Rattle.std.proofs.lemmas.List.{append-nil, length-map, map-append, map-set, 
 use Rattle.std.proofs.lemmas.List.Elements.{filter-append}
 use denote.Ref.{Bor}
 use Rattle.sci_history.specs.declared.entry.Entry.{Entry}
-use Rattle.sci_history.specs.Placed.{is_on_line}
+use Rattle.sci_history.specs.Placed.{is_on_line, on_line}
 use Rattle.sci_history.specs.Audit.{entries_of, lists_of}
 use Rattle.sci_history.proofs.Order.{filter_yes, filter_no}
 use Rattle.sci_history.proofs.AuditFinds.{no_entry}
@@ -58,8 +58,10 @@ list_more lists log base i line old new ref lt at below was pushed h =
 abbrev pub front_on_line : ℕ → ℕ → List (List Entry) → List Entry
 front_on_line line nodes logs = filter (is_on_line line) (flat_map same_log (take nodes logs))
 
-pub list_at : (lists : List (Vec (Bor Entry))) (line : ℕ) (list : Vec (Bor Entry)) (refs : List (Bor Entry)) → line < length lists
-    → list ≡ get_or lists line list → refs ≡ list.items → entries_of refs ≡ get_or (lists_of lists) line []
-list_at lists line list refs lt at is =
+-- the list of a line, as the code reads it from the lists of all lines
+pub list_at : (lists : List (Vec (Bor Entry))) (logs : List (List Entry)) (line lines : ℕ) (list : Vec (Bor Entry)) (refs : List (Bor Entry))
+    → length lists ≡ lines → line < lines → list ≡ get_or lists line list → refs ≡ list.items
+    → ((l : ℕ) → l < lines → get_or (lists_of lists) l [] ≡ on_line l logs) → entries_of refs ≡ on_line line logs
+list_at lists logs line lines list refs long lt at is each =
     let f : Vec (Bor Entry) → List Entry = λ list. entries_of list.items in
-    ap entries_of is ∙ ap f at ∙ sym (get_or-map f lists line list [] lt)
+    ap entries_of is ∙ ap f at ∙ sym (get_or-map f lists line list [] (omega arith)) ∙ each line lt

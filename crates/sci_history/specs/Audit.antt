@@ -4,7 +4,7 @@ use Rattle.std.specs.Prelude.{None, if◌then◌else◌, slice_index_or}
 use Rattle.std.specs.List.{All, list_any}
 use denote.Ref.{Bor}
 use Rattle.std.specs.Global.{Vec}
-use Rattle.sci_words.specs.declared.limits.TheConstants.{WORDS_PER_LINE}
+use Rattle.sci_words.specs.declared.limits.TheConstants.{MAX_NODES, WORDS_PER_LINE}
 use Rattle.sci_words.specs.declared.operation.Op.{Op}
 use Rattle.sci_words.specs.declared.operation.Reply.{Reply}
 use Rattle.sci_words.specs.declared.operation.Reply.TheVariants.{Stored, Got}
@@ -32,6 +32,11 @@ IsWithin lines entry = (entry.op.line < lines) × (entry.op.word < WORDS_PER_LIN
 
 abbrev pub AreWithin : ℕ → List (List Entry) → Type 0
 AreWithin lines logs = (node : ℕ) → All (IsWithin lines) (log_of logs node)
+
+-- the same of the entries on a line: nodes and words that there are
+pub record AreKnown (entries : List Entry) : Type 0 where
+  pub nodes : All (λ entry. entry.node < MAX_NODES) entries
+  pub words : All (λ entry. entry.op.word < WORDS_PER_LINE) entries
 
 -- ---- the five kinds, for the entries on one line in reading order: by node, then by place in the log
 

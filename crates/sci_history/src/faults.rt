@@ -3,7 +3,7 @@
 ghost use Rattle.std.specs.Prelude.{◌≡◌, ◌≤◌, ◌<◌, [], true, None, Some, length, not, All, IfOk, IfErr};
 ghost use Rattle.std.specs.Option.{option_copied};
 ghost use Rattle.sci_words.specs.declared.limits.TheConstants.{MAX_NODES, WORDS_PER_LINE};
-ghost use Rattle.sci_history.specs.Audit.{IsFound, breaks_order as breaks_order_of, entries_of, first_disordered, first_failing, first_twice, first_wrong, is_placed_before, is_reply_wrong, is_version_missing, same_reply, words_after};
+ghost use Rattle.sci_history.specs.Audit.{AreKnown, IsFound, breaks_order as breaks_order_of, entries_of, first_disordered, first_failing, first_twice, first_wrong, is_placed_before, is_reply_wrong, is_version_missing, same_reply, words_after};
 ghost use Rattle.sci_history.specs.Placed.{by_node_and_serial as by_node_and_serial_of, maker_count, placed_entries};
 
 use crate::entry::Entry;
@@ -206,8 +206,7 @@ fn fault_among(
     entries: &[&Entry],
     last: Stamped,
 ) -> Result<Option<LineFault>, AllocError>
-    requires nodes { All (λ entry. entry.node < MAX_NODES) (entries_of entries.now) }
-    requires words { All (λ entry. entry.op.word < WORDS_PER_LINE) (entries_of entries.now) }
+    requires { AreKnown (entries_of entries.now) }
     ensures { IfOk result (IsFound (entries_of entries.now) last) }
 {
     let makers = makers(entries);
@@ -260,8 +259,7 @@ pub fn line_fault(
     entries: &[&Entry],
     last: Stamped,
 ) -> Result<Option<LineFault>, AllocError>
-    requires nodes { All (λ entry. entry.node < MAX_NODES) (entries_of entries.now) }
-    requires words { All (λ entry. entry.op.word < WORDS_PER_LINE) (entries_of entries.now) }
+    requires { AreKnown (entries_of entries.now) }
     ensures { IfOk result (IsFound (entries_of entries.now) last) }
 {
     if entries.len() > MAX_COPIED {

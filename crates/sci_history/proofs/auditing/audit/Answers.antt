@@ -1,54 +1,34 @@
 -- Each line is judged by its own entries, and the lines that were found lawful are all.
-use Rattle.std.proofs.Common.{◌<◌, Some, None, sym, ◌∙◌, subst, arith, length}
-use Rattle.std.specs.Prelude.{All}
-use Rattle.sci_words.specs.declared.limits.TheConstants.{MAX_NODES, WORDS_PER_LINE}
+use Rattle.std.proofs.Common.{◌≡◌, arith}
 use Rattle.sci_history.specs.declared.verdict.Verdict.TheVariants as verdicts
-use Rattle.sci_history.specs.Memory.{stamped_at}
 use Rattle.sci_history.specs.Audit.{entries_of}
+use Rattle.sci_history.specs.Placed.{on_line}
 use Rattle.sci_history.proofs.ByLine.{list_at}
-use Rattle.sci_history.proofs.AuditLines.{words_on_line, all_nodes_on_line, lawful_from_found, lawful_all, lawful_more, fault_found, found_as, verdict_is}
+use Rattle.sci_history.proofs.AuditLines.{known_on_line, lawful_from_found, lawful_all, lawful_more, fault_found, verdict_is}
 use Rattle.sci_history.proofs.auditing.audit.Goals as goal
+use Rattle.sci_history.proofs.auditing.audit.Goals.{After-get}
 
-pub line_fault-requires-clause-nodes : goal.line_fault-requires-clause-nodes
-line_fault-requires-clause-nodes c =
-    let lists = c.in_ok-lists.ensures in
-    let below : c.loop-line.line < length c.in_ok-lists.lists.items = omega (arith, lists.lines) in
-    let entries = list_at c.in_ok-lists.lists.items c.loop-line.line c.index.result.now c.deref.result.now below c.index.ensures c.deref.ensures.value
-    ∙ lists.lists c.loop-line.line c.loop-line-test.true in
-    subst (All (λ entry. entry.node < MAX_NODES)) (sym entries) (all_nodes_on_line c.loop-line.line c.args.logs.now lists.own lists.sixteen)
+entries : (c : After-get) → entries_of c.deref.result.now ≡ on_line c.loop-line.line c.args.logs.now
+entries c =
+    list_at c.in_ok-lists.lists.items c.args.logs.now c.loop-line.line _ c.index.result.now c.deref.result.now c.in_ok-lists.ensures.lines
+    c.loop-line-test.true c.index.ensures c.deref.ensures.value c.in_ok-lists.ensures.lists
 
-pub line_fault-requires-clause-words : goal.line_fault-requires-clause-words
-line_fault-requires-clause-words c =
-    let lists = c.in_ok-lists.ensures in
-    let below : c.loop-line.line < length c.in_ok-lists.lists.items = omega (arith, lists.lines) in
-    let entries = list_at c.in_ok-lists.lists.items c.loop-line.line c.index.result.now c.deref.result.now below c.index.ensures c.deref.ensures.value
-    ∙ lists.lists c.loop-line.line c.loop-line-test.true in
-    subst (All (λ entry. entry.op.word < WORDS_PER_LINE)) (sym entries) (words_on_line (length c.args.last.now) c.loop-line.line c.args.logs.now c.requires)
+pub line_fault-requires : goal.line_fault-requires
+line_fault-requires c = known_on_line c.loop-line.line c.args.logs.now _ _ (entries c) c.in_ok-lists.ensures.own c.in_ok-lists.ensures.sixteen c.requires
 
 pub returns-in-Some-clause-lawful : goal.returns-in-Some-clause-lawful
 returns-in-Some-clause-lawful c =
     let lists = c.in_ok-lists.ensures in
-    let below : c.loop-line.line < length c.in_ok-lists.lists.items = omega (arith, lists.lines) in
-    let entries = list_at c.in_ok-lists.lists.items c.loop-line.line c.index.result.now c.deref.result.now below c.index.ensures c.deref.ensures.value
-    ∙ lists.lists c.loop-line.line c.loop-line-test.true in
-    let here = stamped_at c.args.last.now c.loop-line.line in
-    let fault = found_as (entries_of c.deref.result.now) c.get.result here c.in_ok-fault.field-0 (Some c.in-Some.fault) c.get.ensures c.in-Some.is
-    c.in_ok-fault.ensures in
     verdict_is c.args.logs.now c.args.last.now (verdicts.Fault c.loop-line.line c.in-Some.fault.kind c.in-Some.fault.at) lists.own lists.sixteen
-    (fault_found c.args.logs.now c.args.last.now c.loop-line.line (entries_of c.deref.result.now) c.in-Some.fault (omega arith) c.loop-line.invariant entries
-    fault)
+    (fault_found c.args.logs.now c.args.last.now c.loop-line.line _ _ _ c.in-Some.fault (omega arith) c.loop-line.invariant
+    (entries (goal.at.returns-in-Some-clause-lawful c).After-get) c.get.ensures c.in-Some.is c.in_ok-fault.ensures)
 
 pub loop-line-preserved : goal.loop-line-preserved
 loop-line-preserved c =
     let lists = c.in_ok-lists.ensures in
-    let below : c.loop-line.line < length c.in_ok-lists.lists.items = omega (arith, lists.lines) in
-    let entries = list_at c.in_ok-lists.lists.items c.loop-line.line c.index.result.now c.deref.result.now below c.index.ensures c.deref.ensures.value
-    ∙ lists.lists c.loop-line.line c.loop-line-test.true in
-    let found = found_as (entries_of c.deref.result.now) c.get.result (stamped_at c.args.last.now c.loop-line.line) c.in_ok-fault.field-0 None c.get.ensures
-    c.in_default.is c.in_ok-fault.ensures in
     lawful_more c.args.logs.now c.args.last.now c.loop-line.line c.loop-line.invariant
-    (lawful_from_found c.args.logs.now c.loop-line.line (entries_of c.deref.result.now) (stamped_at c.args.last.now c.loop-line.line) lists.own lists.sixteen
-    entries found)
+    (lawful_from_found c.args.logs.now c.args.last.now c.loop-line.line _ _ _ lists.own lists.sixteen (entries (goal.at.loop-line-preserved c).After-get)
+    c.get.ensures c.in_default.is c.in_ok-fault.ensures)
 
 pub returns-clause-verdict : goal.returns-clause-verdict
 returns-clause-verdict c =
