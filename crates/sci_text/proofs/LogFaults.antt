@@ -283,59 +283,50 @@ entry_unfit front bytes l o rest latest good few_lines whole is few e short abov
     let no : EntryReads s.0 → ⊥ = subst (λ (v : Option Entry). SomeIff v (EntryReads s.0) s.0) unfit s.2 in
     (inr s.0, s.1, λ fits. no (fits_reads front s.0 good few_lines fits))
 
-pub entry_outside : (front : Front) (bytes : List ℕ) (l : Option ℕ) (entry : Entry) (rest : List ℕ) (latest : ℕ)
+-- the entry that was read, at its place
+pub record IsSaid (front : Front) (bytes : List ℕ) (entry : Entry) (rest : List ℕ) (latest : ℕ) : Type 0 where
+  pub says : SaysEntry front bytes entry
+  pub reads : EntryReads entry
+  pub parts : bytes ≡ entry_line entry ++ rest
+  pub later : latest ≤ entry.node
+
+pub is_said : (front : Front) (bytes : List ℕ) (l : Option ℕ) (o : Option Entry) (entry : Entry) (rest : List ℕ) (latest : ℕ)
     → HasAllLines front.form.lines (length front.last) → IsLatest front.logs latest → latest < 2 ^ 64
-    → entry_line_read bytes ≡ Some ((l, Some entry), rest) → length bytes ≤ length rest + MAX_TEXT_LINE_BYTES + 1 → ((m : ℕ) → l ≡ Some m → latest ≤ m)
+    → entry_line_read bytes ≡ Some ((l, o), rest) → o ≡ Some entry → length bytes ≤ length rest + MAX_TEXT_LINE_BYTES + 1
+    → ((m : ℕ) → l ≡ Some m → latest ≤ m) → IsSaid front bytes entry rest latest
+is_said front bytes l o entry rest latest whole is few e some short above =
+    let s = says_entry front bytes l o rest latest whole is few e short above in
+    let all : SomeIff (Some entry) (EntryReads s.0) s.0 = subst (λ (v : Option Entry). SomeIff v (EntryReads s.0) s.0) some s.2 in
+    subst (λ (e : Entry). IsSaid front bytes e rest latest) (sym all.1) (record { says = s.1; reads = all.0; parts = s.3; later = s.4 })
+
+pub entry_outside : (front : Front) (bytes : List ℕ) (entry : Entry) (rest : List ℕ) (latest : ℕ) → IsSaid front bytes entry rest latest
     → (AreNumbersWithin front.form (length front.last) entry → ⊥) → LogLineFault front bytes Range
-entry_outside front bytes l entry rest latest whole is few e short above outside =
-    let s = says_entry front bytes l (Some entry) rest latest whole is few e short above in
-    (inr s.0, s.1, λ fits. outside (subst (AreNumbersWithin front.form (length front.last)) (sym s.2.1) fits.numbers))
+entry_outside front bytes entry rest latest said outside = (inr entry, said.says, λ fits. outside fits.numbers)
 
--- the entry that was read, and that it fits
-abbrev ReadEntry : Front → List ℕ → Entry → List ℕ → ℕ → Type 0
-ReadEntry front bytes entry rest latest =
-    SaysEntry front bytes entry × EntryFits front.form (length front.last) entry × (bytes ≡ entry_line entry ++ rest) × (latest ≤ entry.node)
+-- it fits
+said_fits : (front : Front) (bytes : List ℕ) (entry : Entry) (rest : List ℕ) (latest : ℕ) → IsSaid front bytes entry rest latest
+    → AreNumbersWithin front.form (length front.last) entry → EntryFits front.form (length front.last) entry
+said_fits front bytes entry rest latest said within =
+    let reads = said.reads in
+    record { numbers = within; operands = reads.op.1.1; answers = said.says.answers; reply = reads.reply; version = reads.version }
 
-read_entry : (front : Front) (bytes : List ℕ) (l : Option ℕ) (entry : Entry) (rest : List ℕ) (latest : ℕ) → HasAllLines front.form.lines (length front.last)
-    → IsLatest front.logs latest → latest < 2 ^ 64
-    → entry_line_read bytes ≡ Some ((l, Some entry), rest) → length bytes ≤ length rest + MAX_TEXT_LINE_BYTES + 1 → ((m : ℕ) → l ≡ Some m → latest ≤ m)
-    → AreNumbersWithin front.form (length front.last) entry → ReadEntry front bytes entry rest latest
-read_entry front bytes l entry rest latest whole is few e short above within =
-    let s = says_entry front bytes l (Some entry) rest latest whole is few e short above in
-    let reads = s.2.0 in
-    let all : ReadEntry front bytes s.0 rest latest = (
-      s.1,
-      record {
-        numbers = subst (AreNumbersWithin front.form (length front.last)) s.2.1 within;
-        operands = reads.op.1.1;
-        answers = s.1.answers;
-        reply = reads.reply;
-        version = reads.version;
-      },
-      s.3,
-      s.4,
-    ) in
-    subst (λ (e : Entry). ReadEntry front bytes e rest latest) (sym s.2.1) all
+pub entry_too_many : (front : Front) (bytes : List ℕ) (entry : Entry) (rest : List ℕ) (latest : ℕ) → IsSaid front bytes entry rest latest
+    → AreNumbersWithin front.form (length front.last) entry → front.form.entries ≤ length (log_of front.logs entry.node) → LogLineFault front bytes TooMany
+entry_too_many front bytes entry rest latest said within full = (inr entry, said.says, said_fits front bytes entry rest latest said within, full)
 
-pub entry_too_many : (front : Front) (bytes : List ℕ) (l : Option ℕ) (entry : Entry) (rest : List ℕ) (latest : ℕ)
-    → HasAllLines front.form.lines (length front.last) → IsLatest front.logs latest → latest < 2 ^ 64
-    → entry_line_read bytes ≡ Some ((l, Some entry), rest) → length bytes ≤ length rest + MAX_TEXT_LINE_BYTES + 1 → ((m : ℕ) → l ≡ Some m → latest ≤ m)
-    → AreNumbersWithin front.form (length front.last) entry
-    → front.form.entries ≤ length (log_of front.logs entry.node) → LogLineFault front bytes TooMany
-entry_too_many front bytes l entry rest latest whole is few e short above within full =
-    let r = read_entry front bytes l entry rest latest whole is few e short above within in
-    (inr entry, r.0, r.1, full)
-
-pub entry_ok : (front : Front) (bytes : List ℕ) (l : Option ℕ) (entry : Entry) (rest : List ℕ) (latest : ℕ) → HasAllLines front.form.lines (length front.last)
-    → IsLatest front.logs latest → latest < 2 ^ 64
-    → entry_line_read bytes ≡ Some ((l, Some entry), rest) → length bytes ≤ length rest + MAX_TEXT_LINE_BYTES + 1 → ((m : ℕ) → l ≡ Some m → latest ≤ m)
-    → AreNumbersWithin front.form (length front.last) entry
-    → length (log_of front.logs entry.node) < front.form.entries → (new : List (List Entry))
+pub entry_ok : (front : Front) (bytes : List ℕ) (entry : Entry) (rest : List ℕ) (latest : ℕ) → IsSaid front bytes entry rest latest
+    → AreNumbersWithin front.form (length front.last) entry → length (log_of front.logs entry.node) < front.form.entries → (new : List (List Entry))
     → new ≡ set front.logs entry.node (log_of front.logs entry.node ++ entry ∷ [])
     → AddsEntry front.form (length front.last) front.logs new latest entry.node bytes rest
-entry_ok front bytes l entry rest latest whole is few e short above within room new added =
-    let r = read_entry front bytes l entry rest latest whole is few e short above within in
-    record { entry = entry; parts = r.2; fits = r.1; room = room; added = added; later = r.3; now_is = refl }
+entry_ok front bytes entry rest latest said within room new added = record {
+  entry = entry;
+  parts = said.parts;
+  fits = said_fits front bytes entry rest latest said within;
+  room = room;
+  added = added;
+  later = said.later;
+  now_is = refl;
+}
 
 found_by : (word bytes : List ℕ) (read : Option (List ℕ)) → after word bytes ≡ read → (read ≡ None → ⊥) → (rest : List ℕ) × (bytes ≡ word ++ rest)
 found_by word bytes None e h = absurd (h refl)
