@@ -7,7 +7,7 @@ use Rattle.std.proofs.lemmas.Bool.{cases_lt, lt-ltb, le-ltb}
 use Rattle.std.proofs.lemmas.List.Elements.{All-from_recursion, recursion_from_All}
 use Rattle.std.proofs.lemmas.Option.{some_pair_parts}
 use Rattle.sci_words.specs.declared.limits.TheConstants.{WORDS_PER_LINE}
-use Rattle.sci_words.specs.declared.operation.LockOp.TheVariants.{MaskSwap, CompareSwap, FetchAdd, BoundedAdd, WrapAdd}
+use Rattle.sci_words.specs.declared.operation.LockOp.TheVariants.{MaskSwap}
 use Rattle.sci_words.specs.declared.operation.Act.{Act}
 use Rattle.sci_words.specs.declared.operation.Act.TheVariants.{Load, Store, Lock}
 use Rattle.sci_words.specs.declared.operation.Op.{Op}
@@ -25,7 +25,8 @@ use Rattle.sci_text.specs.LogReading.{version_read, eight, words_read, stamped_o
 use Rattle.sci_text.specs.LogReading.{entry_line_read, log_line_read}
 use Rattle.sci_text.proofs.Numbers.{fitting_below, fitting_above, Ends, number_again, number_found, field_again, ends_field, field_found}
 use Rattle.sci_text.proofs.Words.{after_again, after_found}
-use Rattle.sci_text.proofs.Operations.{fitting_is, mapped, both_is, byte_is, bind_some, pair_again, pair_found, command_of, command_again, OpFits}
+use Rattle.sci_text.proofs.Operations.{fitting_is, mapped, number_as, number_made, both_is, byte_is, bind_some, pair_again, pair_found}
+use Rattle.sci_text.proofs.Operations.{command_of, command_again, OpFits}
 use Rattle.sci_text.proofs.Operations.{operation_again, operation_found}
 
 -- the same value under a condition that says the same
@@ -248,44 +249,24 @@ last_line_found bytes l o rest e =
 
 -- ---- replies
 
+got_again : (word : ℕ) (rest : List ℕ) → Ends rest
+    → (o : Option Reply) × ((number_read (number word ++ rest) >>= number_as Got) ≡ Some (o, rest)) × SomeIff o (word < 2 ^ 64) (Got word)
+got_again word rest ends =
+    (option_map Got (fitting word), rw (number_again word rest ends) refl, mapped (word < 2 ^ 64) Got (fitting word) word (fitting_is word))
+
 reply_again : (act : Act) (reply : Reply) (rest : List ℕ) → Answers act reply → Ends rest
     → (o : Option Reply) × (reply_read (command_of act) (reply_text reply ++ rest) ≡ Some (o, rest)) × SomeIff o (ReplyFits reply) reply
 unfolding reply_read after
 reply_again Load Stored rest h ends = absurd h
-reply_again Load (Got word) rest h ends =
-    (option_map Got (fitting word), rw (number_again word rest ends) refl, mapped (word < 2 ^ 64) Got (fitting word) word (fitting_is word))
 reply_again (Store word) Stored rest h ends = (Some Stored, refl, (tt, refl))
 reply_again (Store word) (Got other) rest h ends = absurd h
 reply_again (Lock lock) Stored rest h ends = absurd h
-reply_again (Lock (MaskSwap arg datum)) (Got word) rest h ends =
-    (option_map Got (fitting word), rw (number_again word rest ends) refl, mapped (word < 2 ^ 64) Got (fitting word) word (fitting_is word))
-reply_again (Lock (CompareSwap arg datum)) (Got word) rest h ends =
-    (option_map Got (fitting word), rw (number_again word rest ends) refl, mapped (word < 2 ^ 64) Got (fitting word) word (fitting_is word))
-reply_again (Lock (FetchAdd datum)) (Got word) rest h ends =
-    (option_map Got (fitting word), rw (number_again word rest ends) refl, mapped (word < 2 ^ 64) Got (fitting word) word (fitting_is word))
-reply_again (Lock (BoundedAdd arg datum)) (Got word) rest h ends =
-    (option_map Got (fitting word), rw (number_again word rest ends) refl, mapped (word < 2 ^ 64) Got (fitting word) word (fitting_is word))
-reply_again (Lock (WrapAdd arg datum)) (Got word) rest h ends =
-    (option_map Got (fitting word), rw (number_again word rest ends) refl, mapped (word < 2 ^ 64) Got (fitting word) word (fitting_is word))
+reply_again (Lock (MaskSwap arg datum)) (Got word) rest h ends = got_again word rest ends
+reply_again _ (Got word) rest h ends = got_again word rest ends
 
 -- what bytes begin with as the reply of an operation
 abbrev ReplyFound : Act → List ℕ → Option Reply → List ℕ → Type 0
 ReplyFound act bytes o rest = (reply : Reply) × (bytes ≡ reply_text reply ++ rest) × SomeIff o (ReplyFits reply) reply × Answers act reply
-
-abbrev got_of : Option ℕ × List ℕ → Option (Option Reply × List ℕ)
-got_of x = Some (option_map Got x.0, x.1)
-
-got_found : (bytes : List ℕ) (o : Option Reply) (rest : List ℕ) → (number_read bytes >>= got_of) ≡ Some (o, rest)
-    → (word : ℕ) × (bytes ≡ number word ++ rest) × SomeIff o (word < 2 ^ 64) (Got word)
-got_found bytes o rest e =
-    let x = bind_some (number_read bytes) got_of (o, rest) e in
-    let n = number_found bytes x.0.0 x.0.1 x.1 in
-    let parts = some_pair_parts (option_map Got x.0.0) o x.0.1 rest x.2 in (
-      n.0,
-      n.1 ∙ ap (λ (l : List ℕ). number n.0 ++ l) parts.1,
-      subst (λ (v : Option Reply). SomeIff v (n.0 < 2 ^ 64) (Got n.0)) (ap (option_map Got) (sym n.2) ∙ parts.0)
-          (mapped (n.0 < 2 ^ 64) Got (fitting n.0) n.0 (fitting_is n.0)),
-    )
 
 stored_found : (bytes : List ℕ) (o : Option Reply) (rest : List ℕ) (read : Option (List ℕ)) → after (codes "-") bytes ≡ read
     → ◌≡◌ {A = Option (Option Reply × List ℕ)} (option_map (λ r. (Some Stored, r)) read) (Some (o, rest))
@@ -300,8 +281,8 @@ stored_found bytes o rest (Some r) a e =
 reply_found : (act : Act) (bytes : List ℕ) (o : Option Reply) (rest : List ℕ) → reply_read (command_of act) bytes ≡ Some (o, rest) → ReplyFound act bytes o rest
 unfolding reply_read
 reply_found (Store word) bytes o rest e = let s = stored_found bytes o rest (after (codes "-") bytes) refl e in (Stored, s.0, s.1, tt)
-reply_found (Lock (MaskSwap arg datum)) bytes o rest e = let s = got_found bytes o rest e in (Got s.0, s.1, s.2, tt)
-reply_found _ bytes o rest e = let s = got_found bytes o rest e in (Got s.0, s.1, s.2, tt)
+reply_found (Lock (MaskSwap arg datum)) bytes o rest e = let s = number_made Got number number_read number_found bytes o rest e in (Got s.0, s.1, s.2, tt)
+reply_found _ bytes o rest e = let s = number_made Got number number_read number_found bytes o rest e in (Got s.0, s.1, s.2, tt)
 
 -- ---- entries
 

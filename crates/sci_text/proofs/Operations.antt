@@ -104,8 +104,9 @@ command_again _ rest = refl
 abbrev ReadAs : Act → Option (Option Act × List ℕ) → List ℕ → Type 0
 ReadAs act read rest = (o : Option Act) × (read ≡ Some (o, rest)) × SomeIff o (ActFits act) act
 
-one_again : (f : ℕ → Act) (n : ℕ) (rest : List ℕ) → Ends rest → one f (field n ++ rest) ≡ Some (option_map f (fitting n), rest)
-one_again f n rest ends = rw (field_again n rest ends) refl
+one_again : (f : ℕ → Act) (n : ℕ) (rest : List ℕ) → Ends rest
+    → (o : Option Act) × (one f (field n ++ rest) ≡ Some (o, rest)) × SomeIff o (n < 2 ^ 64) (f n)
+one_again f n rest ends = (option_map f (fitting n), rw (field_again n rest ends) refl, mapped (n < 2 ^ 64) f (fitting n) n (fitting_is n))
 
 pub pair_again : (a d : ℕ) (rest : List ℕ) → Ends rest → pair_read ((field a ++ field d) ++ rest) ≡ Some (both (fitting a) (fitting d), rest)
 unfolding pair_read
@@ -123,13 +124,10 @@ two_again f a d rest ends = (
 operands_again : (act : Act) (rest : List ℕ) → Ends rest → ReadAs act (operands_read (command_of act) (act_operands act ++ rest)) rest
 unfolding operands_read
 operands_again Load rest ends = (Some Load, refl, (tt, refl))
-operands_again (Store word) rest ends =
-    (option_map Store (fitting word), one_again Store word rest ends, mapped (word < 2 ^ 64) Store (fitting word) word (fitting_is word))
+operands_again (Store word) rest ends = one_again Store word rest ends
 operands_again (Lock (MaskSwap arg datum)) rest ends = two_again MaskSwap arg datum rest ends
 operands_again (Lock (CompareSwap arg datum)) rest ends = two_again CompareSwap arg datum rest ends
-operands_again (Lock (FetchAdd datum)) rest ends =
-    let f : ℕ → Act = λ n. Lock (FetchAdd n) in
-    (option_map f (fitting datum), one_again f datum rest ends, mapped (datum < 2 ^ 64) f (fitting datum) datum (fitting_is datum))
+operands_again (Lock (FetchAdd datum)) rest ends = one_again (λ n. Lock (FetchAdd n)) datum rest ends
 operands_again (Lock (BoundedAdd arg datum)) rest ends = two_again BoundedAdd arg datum rest ends
 operands_again (Lock (WrapAdd arg datum)) rest ends = two_again WrapAdd arg datum rest ends
 
@@ -146,17 +144,27 @@ ends_operands (Lock (WrapAdd arg datum)) rest ends = rw append_assoc (ends_field
 abbrev FoundAs : Command → List ℕ → Option Act → List ℕ → Type 0
 FoundAs command bytes o rest = (act : Act) × (command_of act ≡ command) × (bytes ≡ act_operands act ++ rest) × SomeIff o (ActFits act) act
 
+-- what is made of a number that was read
+abbrev pub number_as : {A : Type 0} → (ℕ → A) → Option ℕ × List ℕ → Option (Option A × List ℕ)
+number_as f x = Some (option_map f x.0, x.1)
+
+pub number_made : {A : Type 0} (f : ℕ → A) (text : ℕ → List ℕ) (read : List ℕ → Option (Option ℕ × List ℕ))
+    → ((bytes : List ℕ) (value : Option ℕ) (rest : List ℕ) → read bytes ≡ Some (value, rest)
+    → (n : ℕ) × (bytes ≡ text n ++ rest) × (value ≡ fitting n)) → (bytes : List ℕ) (o : Option A) (rest : List ℕ)
+    → (read bytes >>= number_as f) ≡ Some (o, rest) → (n : ℕ) × (bytes ≡ text n ++ rest) × SomeIff o (n < 2 ^ 64) (f n)
+number_made {A} f text read found bytes o rest e =
+    let s = bind_some (read bytes) (number_as f) (o, rest) e in
+    let n = found bytes s.0.0 s.0.1 s.1 in
+    let parts = some_pair_parts (option_map f s.0.0) o s.0.1 rest s.2 in (
+      n.0,
+      n.1 ∙ ap (λ (l : List ℕ). text n.0 ++ l) parts.1,
+      subst (λ (v : Option A). SomeIff v (n.0 < 2 ^ 64) (f n.0)) (ap (option_map f) (sym n.2) ∙ parts.0)
+          (mapped (n.0 < 2 ^ 64) f (fitting n.0) n.0 (fitting_is n.0)),
+    )
+
 one_found : (f : ℕ → Act) (bytes : List ℕ) (o : Option Act) (rest : List ℕ) → one f bytes ≡ Some (o, rest)
     → (n : ℕ) × (bytes ≡ field n ++ rest) × SomeIff o (n < 2 ^ 64) (f n)
-one_found f bytes o rest e =
-    let s = bind_some (field_read bytes) (λ x. Some (option_map f x.0, x.1)) (o, rest) e in
-    let found = field_found bytes s.0.0 s.0.1 s.1 in
-    let parts = some_pair_parts (option_map f s.0.0) o s.0.1 rest s.2 in (
-      found.0,
-      found.1 ∙ ap (λ (l : List ℕ). field found.0 ++ l) parts.1,
-      subst (λ (v : Option Act). SomeIff v (found.0 < 2 ^ 64) (f found.0)) (ap (option_map f) (sym found.2) ∙ parts.0)
-          (mapped (found.0 < 2 ^ 64) f (fitting found.0) found.0 (fitting_is found.0)),
-    )
+one_found f bytes o rest e = number_made f field field_read field_found bytes o rest e
 
 pub pair_found : (bytes : List ℕ) (o : Option (ℕ × ℕ)) (rest : List ℕ) → pair_read bytes ≡ Some (o, rest)
     → (a : ℕ) × (d : ℕ) × (bytes ≡ (field a ++ field d) ++ rest) × (o ≡ both (fitting a) (fitting d))
