@@ -1,7 +1,7 @@
 //! Schedules: the events that are to happen in a machine, one after another.
 
-use crate::script::PushFault;
-use sci_words::{Event, Extent, MAX_EVENTS, Op, WORDS_PER_LINE};
+use crate::script::{PushFault, is_operation_within};
+use sci_words::{Event, Extent, MAX_EVENTS};
 use std::alloc::Global;
 use std::marker::Model;
 
@@ -32,15 +32,7 @@ impl Model for Schedule {
 }
 
 ghost use Rattle.std.specs.Prelude.{◌↔◌, IsTrue};
-ghost use Rattle.sci_text.specs.Script.{IsWithin};
 ghost use Rattle.sci_text.specs.Schedule.{IsEventWithin};
-
-/// Whether an operation is one of this machine's.
-fn is_operation_within(extent: Extent, node: u8, op: Op) -> bool
-    ensures { IsTrue result ↔ IsWithin extent.nodes extent.lines node op }
-{
-    node < extent.nodes && op.line < extent.lines && (op.word as usize) < WORDS_PER_LINE
-}
 
 /// Whether an event's nodes, line and word are this machine's.
 pub(crate) fn is_within(extent: Extent, event: Event) -> bool

@@ -61,6 +61,16 @@ impl From<PushFault> for TextFaultKind {
     }
 }
 
+ghost use Rattle.std.specs.Prelude.{◌↔◌, IsTrue};
+ghost use Rattle.sci_text.specs.Script.{IsWithin};
+
+/// Whether an operation is one of this machine's.
+pub(crate) fn is_operation_within(extent: Extent, node: u8, op: Op) -> bool
+    ensures { IsTrue result ↔ IsWithin extent.nodes extent.lines node op }
+{
+    node < extent.nodes && op.line < extent.lines && (op.word as usize) < WORDS_PER_LINE
+}
+
 impl Script {
     ghost use Rattle.std.specs.Prelude.{◌≡◌, ◌≤◌, ◌<◌, ◌++◌, [], ◌∷◌, OnOk, OnErr, IfErr};
     ghost use Rattle.sci_words.specs.declared.limits.TheConstants.{MAX_OPERATIONS};
@@ -110,10 +120,7 @@ impl Script {
         ensures same { OnErr result (self.new ≡ self.old) }
         ensures good { IsScript self.new }
     {
-        let is_within = node < self.extent.nodes
-            && op.line < self.extent.lines
-            && (op.word as usize) < WORDS_PER_LINE;
-        if !is_within {
+        if !is_operation_within(self.extent, node, op) {
             return Err(PushFault::Range);
         }
         let place = node as usize;

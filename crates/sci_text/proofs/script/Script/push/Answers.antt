@@ -3,8 +3,8 @@ use Rattle.sci_text.specs.Script.{IsScript, IsWithin}
 use Rattle.sci_text.proofs.ScriptLimits.{is_script_inside, within_push, counts_push}
 use Rattle.sci_text.proofs.script.Script.push.Goals as goal
 
-pub returns-then-not-is_within-clause-good : goal.returns-then-not-is_within-clause-good
-returns-then-not-is_within-clause-good c =
+pub returns-then-not-is_operation_within-clause-good : goal.returns-then-not-is_operation_within-clause-good
+returns-then-not-is_operation_within-clause-good c =
     subst IsScript c.self.view_is (is_script_inside c.self.inside.extent c.self.inside.counts c.self.inside.operations.items c.self.invariant)
 
 pub returns-then-self-place-ge-MAX_OPERATIONS-clause-good :
