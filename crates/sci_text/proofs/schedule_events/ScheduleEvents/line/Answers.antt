@@ -5,12 +5,15 @@ use Rattle.std.proofs.lemmas.Result.{err_from_is_err_and}
 use Rattle.sci_words.specs.declared.event.Event.{Event}
 use Rattle.sci_text.specs.declared.fault.TextFaultKind.TheVariants.{Range, TooMany}
 use Rattle.sci_text.specs.ScheduleEvents.{EventsOf, AreBefore, schedule_with}
+use Rattle.sci_text.specs.FirstFault.{Says}
+use Rattle.sci_text.specs.Schedule.{event_line}
 use Rattle.sci_text.specs.ScheduleFault.{EventFault}
 use Rattle.sci_text.proofs.Lines.{said_is, says}
 use Rattle.sci_text.proofs.Listings.{line_shrinks, line_unsaid}
 use Rattle.sci_text.proofs.Schedules.{schedules}
 use Rattle.sci_text.proofs.EventLines.{before_more}
 use Rattle.sci_text.proofs.schedule_events.ScheduleEvents.line.Goals as goal
+use Rattle.sci_text.proofs.schedule_events.ScheduleEvents.line.Goals.{In_ok-event}
 
 pub returns-in_err-event-clause-fault : goal.returns-in_err-event-clause-fault
 returns-in_err-event-clause-fault c =
@@ -20,13 +23,18 @@ returns-in_err-event-clause-fault c =
     (λ events before. line_unsaid schedules (schedule_with c.self.inside.extent events) c.self.inside.rest.now c.event_line.result before.good
     c.event_line.ensures kind c.in_err-event.ensures.fault))
 
+-- the line of the event that was read
+said : (c : In_ok-event) → Says c.self.inside.rest.now (event_line c.in_ok-event.event)
+said c =
+    says schedules.line c.self.inside.rest.now c.event_line.result c.event_line.ensures c.in_ok-event.event c.in_ok-event.rest.now c.in_ok-event.ensures.said
+    c.in_ok-event.ensures.short
+
 pub returns-then-not-is_within-clause-fault : goal.returns-then-not-is_within-clause-fault
 returns-then-not-is_within-clause-fault c =
     subst (λ (e : EventsOf). (events : List Event) → AreBefore events e → EventFault (schedule_with e.extent events) e.rest Range) c.self.view_is
     (λ events before. (
       c.in_ok-event.event,
-      says schedules.line c.self.inside.rest.now c.event_line.result c.event_line.ensures c.in_ok-event.event c.in_ok-event.rest.now
-          c.in_ok-event.ensures.said c.in_ok-event.ensures.short,
+      said (goal.at.returns-then-not-is_within-clause-fault c).In_ok-event,
       search rules,
     ))
 
@@ -35,8 +43,7 @@ returns-then-self-clause-fault c =
     subst (λ (e : EventsOf). (events : List Event) → AreBefore events e → EventFault (schedule_with e.extent events) e.rest TooMany) c.self.view_is
     (λ events before. (
       c.in_ok-event.event,
-      says schedules.line c.self.inside.rest.now c.event_line.result c.event_line.ensures c.in_ok-event.event c.in_ok-event.rest.now
-          c.in_ok-event.ensures.said c.in_ok-event.ensures.short,
+      said (goal.at.returns-then-self-clause-fault c).In_ok-event,
       search rules,
       grind (arith, nat_tests),
     ))
