@@ -4,8 +4,6 @@ use Rattle.std.proofs.Common.{◌≡◌, ℕ, ◌-◌, ◌^◌, nat_lt, Bool, tr
 use Rattle.std.specs.Prelude.{IfSome}
 use Rattle.std.proofs.lemmas.Option.{IfSome_then}
 use Rattle.sci_words.specs.declared.stamped.Stamped.{Stamped}
-use Rattle.sci_words.specs.declared.event.AskKind.{AskKind}
-use Rattle.sci_words.specs.declared.event.AskKind.TheVariants as kind
 use Rattle.sci_words.specs.declared.operation.Op.{Op}
 use Rattle.sci_words.specs.Operation.{is_maker}
 use Rattle.sci_words.specs.Stamped.{after, reply_of}
@@ -13,8 +11,6 @@ use Rattle.sci_packets.specs.declared.body.Body.{Body}
 use Rattle.sci_packets.specs.declared.body.Body.TheVariants as body
 use Rattle.sci_cache.specs.State.{CacheState, Asking, Joining, FreshJoining, Head, FreshHead, Below, Purging, Claiming, Clearing, Returning, Rolling}
 use Rattle.sci_cache.specs.State.{Telling, waits, contents_of}
-use Rattle.sci_cache.specs.Asking.{Asked, asking}
-use Rattle.sci_cache.specs.Accepting.{accepting}
 use Rattle.sci_cache.specs.Performing.{Performed, performing}
 use Rattle.sci_cache.specs.Member.{link_of}
 use Rattle.sci_core.specs.Fresh.{is_fresh}
@@ -92,28 +88,6 @@ busy_alike h (FreshJoining p true d) request sent other = search rules
 busy_alike h (Rolling None b d) request sent other = search rules
 busy_alike h (Telling r w true) request sent other = let told : is_setback request.body ≡ true = ap is_setback sent.0 in cc
 busy_alike h _ request sent other = search rules
-
--- ---- asking
-
-pub asking_alike : (state : CacheState) (k : AskKind) → IfSome (asking state k) (λ (asked : Asked). Alike state None asked.next None)
-asking_alike (Joining p false) kind.Cread = search rules
-asking_alike (FreshJoining p false d) kind.Cread = search rules
-asking_alike (Head None d) kind.Wback = search rules
-asking_alike (FreshHead None d) kind.Clear = search rules
-asking_alike (Telling r w false) kind.Setback = search rules
-asking_alike _ kind.Mread = search rules
-asking_alike _ _ = search rules
-
--- ---- accepting
-
-pub accepting_alike : (state : CacheState) (answer : Body) → IfSome (accepting state answer) (λ (next : CacheState). Alike state (Some answer) next None)
-accepting_alike Asking (body.Fdata None d) = search rules
-accepting_alike (Joining p true) body.Busy = search rules
-accepting_alike (FreshJoining p true d) body.Busy = search rules
-accepting_alike (Rolling None b d) body.Rolled = search rules
-accepting_alike (Telling r w true) body.Busy = search rules
-accepting_alike _ body.Busy = search rules
-accepting_alike _ _ = search rules
 
 -- ---- performing
 

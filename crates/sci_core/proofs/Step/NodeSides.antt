@@ -24,7 +24,8 @@ use Rattle.sci_core.specs.Node.{performing_pending, node_performing, asked_by, n
 use Rattle.sci_core.specs.Node.{serving_in_cache, serving_request, answered_by, node_serving, is_setback, node_refusing, replied_by, node_replying, accepted_by}
 use Rattle.sci_core.specs.Node.{node_accepting}
 use Rattle.sci_core.proofs.Basics.Lists.{if_either, at_place_set, if_cases}
-use Rattle.sci_core.proofs.Shape.Standings.{Alike, alike_itself, asking_alike, accepting_alike}
+use Rattle.sci_core.proofs.Shape.Standings.{Alike, alike_itself}
+use Rattle.sci_core.proofs.Tidy.Waits.{BeginsToWait, EndsToWait, asking_waits, accepting_waits}
 
 pub record SameHomes (old new : NodeOf) : Type 0 where
   pub homes : new.homes ≡ old.homes
@@ -79,18 +80,18 @@ pub record AsksAlike (part : NodeOf) (sent : NodeOf × Letter) : Type 0 where
   pub same : SameHomes part sent.0
 
 asked_alike : (part : NodeOf) (line : ℕ) (lacks : Bool) (made : Option Asked)
-    → IfSome made (λ (a : Asked). Alike (line_of part.cache line).state None a.next None)
+    → IfSome made (BeginsToWait (line_of part.cache line).state)
     → IfSome (asked_by part (cache_asked part.cache line (ask_or_fault made lacks))) (AsksAlike part)
-asked_alike part line lacks None keeps = tt
-asked_alike part line true (Some asked) keeps = tt
-asked_alike part line false (Some asked) keeps = record {
+asked_alike part line lacks None begins = tt
+asked_alike part line true (Some asked) begins = tt
+asked_alike part line false (Some asked) begins = record {
   alike = at_place_set (λ (k : ℕ) (l : LineState). Alike (line_of part.cache k).state None l.state None) part.cache.lines line
-      (line_asked (line_of part.cache line) asked) untouched (λ k. alike_itself (line_of part.cache k).state None) keeps;
+      (line_asked (line_of part.cache line) asked) untouched (λ k. alike_itself (line_of part.cache k).state None) begins.alike;
   same = record { homes = refl; nodes = refl };
 }
 
 pub ask_alike : (part : NodeOf) (line : ℕ) (kind : AskKind) → IfSome (node_asking part line kind) (AsksAlike part)
-ask_alike part line kind = grind (arith, if_either, asked_alike, asking_alike)
+ask_alike part line kind = grind (arith, if_either, asked_alike, asking_waits)
 
 -- ---- Serve and Refuse
 
@@ -150,6 +151,7 @@ pub record AcceptedAs (part : NodeOf) (answer : Letter) (next : NodeOf) : Type 0
   pub state : CacheState
   pub accepts : accepting (line_of part.cache answer.line).state answer.body ≡ Some state
   pub then_ : with_state part answer.line state ≡ next
+  pub ends : EndsToWait (line_of part.cache answer.line).state answer.body state
 
 accepted_as : (part : NodeOf) (answer : Letter) (awaits : Bool) (state : Option CacheState)
     → accepting (line_of part.cache answer.line).state answer.body ≡ state
@@ -159,7 +161,13 @@ accepted_as : (part : NodeOf) (answer : Letter) (awaits : Bool) (state : Option 
     ])) (AcceptedAs part answer)
 accepted_as part answer false state is = tt
 accepted_as part answer true None is = tt
-accepted_as part answer true (Some s) is = record { state = s; accepts = is; then_ = refl }
+accepted_as part answer true (Some s) is = record {
+  state = s;
+  accepts = is;
+  then_ = refl;
+  ends = of_some (EndsToWait (line_of part.cache answer.line).state answer.body) (accepting (line_of part.cache answer.line).state answer.body) s is
+      (accepting_waits (line_of part.cache answer.line).state answer.body);
+}
 
 pub accept_as : (part : NodeOf) (answer : Letter) → IfSome (node_accepting part answer) (AcceptedAs part answer)
 accept_as part answer = grind (arith, accepted_as)
@@ -170,11 +178,8 @@ pub record AcceptsAlike (answer : Letter) (part next : NodeOf) : Type 0 where
 
 pub accept_alike : (part : NodeOf) (answer : Letter) → IfSome (node_accepting part answer) (AcceptsAlike answer part)
 accept_alike part answer = IfSome_then (node_accepting part answer) (accept_as part answer) (λ next does.
-    let old = (line_of part.cache answer.line).state in
-    let keeps = of_some (λ (s : CacheState). Alike old (Some answer.body) s None) (accepting old answer.body) does.state does.accepts
-    (accepting_alike old answer.body) in
     subst (AcceptsAlike answer part) does.then_ (record {
-      alike = λ below. subst (λ (l : LineState). Alike old (Some answer.body) l.state None)
-          (sym (get_or-set_same part.cache.lines answer.line (line_in (line_of part.cache answer.line) does.state) untouched below)) keeps;
+      alike = λ below. subst (λ (l : LineState). Alike (line_of part.cache answer.line).state (Some answer.body) l.state None)
+          (sym (get_or-set_same part.cache.lines answer.line (line_in (line_of part.cache answer.line) does.state) untouched below)) does.ends.alike;
       same = record { homes = refl; nodes = refl };
     }))

@@ -11,7 +11,6 @@ use Rattle.sci_history.specs.declared.entry.Entry.{Entry}
 use Rattle.sci_cache.specs.State.{CacheState, waits}
 use Rattle.sci_cache.specs.Asking.{Asked}
 use Rattle.sci_cache.specs.Serving.{serving}
-use Rattle.sci_cache.specs.Accepting.{accepting}
 use Rattle.sci_cache.specs.Performing.{Performed, performing}
 use Rattle.sci_cache.specs.Line.{LineState, untouched, line_in, line_asked, ask_or_fault}
 use Rattle.sci_cache.specs.Cache.{CacheOf, Letter, line_of, with_line, target_of, letter_asking, cache_asked}
@@ -21,7 +20,7 @@ use Rattle.sci_core.specs.Node.{answered_by, node_serving, node_refusing, replie
 use Rattle.sci_core.specs.Tidy.{IsAwaited}
 use Rattle.sci_core.proofs.Basics.Lists.{if_either, at_place_set}
 use Rattle.sci_core.proofs.Basics.Options.{if_below, of_some}
-use Rattle.sci_core.proofs.Tidy.Waits.{BeginsToWait, asking_waits, Keeps, keeps_itself, KeepsWait, serving_waits, performing_waits, EndsToWait, accepting_waits}
+use Rattle.sci_core.proofs.Tidy.Waits.{BeginsToWait, asking_waits, Keeps, keeps_itself, KeepsWait, serving_waits, performing_waits}
 use Rattle.sci_core.proofs.Tidy.Waits.{asked_number}
 use Rattle.sci_core.proofs.Step.NodeSides.{ServedAs, At_home, In_cache, perform_as, request_served, accept_as}
 
@@ -151,10 +150,10 @@ pub record Accepts (line : ℕ) (old new : NodeOf) : Type 0 where
 pub accept_accepts : (part : NodeOf) (answer : Letter) → IfSome (node_accepting part answer) (Accepts answer.line part)
 accept_accepts part answer = IfSome_then (node_accepting part answer) (accept_as part answer) (λ next does.
     let old = line_of part.cache answer.line in
-    let ends = of_some (EndsToWait old.state) (accepting old.state answer.body) does.state does.accepts (accepting_waits old.state answer.body) in
     subst (Accepts answer.line part) does.then_ (record {
-      waited = ends.waiting;
-      idle = λ below. ap (λ (l : LineState). waits l.state) (get_or-set_same part.cache.lines answer.line (line_in old does.state) untouched below) ∙ ends.idle;
+      waited = does.ends.waiting;
+      idle = λ below. ap (λ (l : LineState). waits l.state) (get_or-set_same part.cache.lines answer.line (line_in old does.state) untouched below)
+          ∙ does.ends.idle;
       others = λ k other. get_or-set_other part.cache.lines answer.line k (line_in old does.state) untouched other;
       waiting = refl;
     }))

@@ -1,4 +1,4 @@
--- Each row of the tables, as far as it tells who waits and for which request.
+-- Each row of the tables, as far as it tells who waits and for which request. Who asks or takes an answer stands as it stood.
 use Rattle.std.proofs.Common.{◌≡◌, ℕ, ◌+◌, ◌%◌, ◌<◌, true, false, List, [], ◌∷◌, Some, None, refl, ◌∙◌, sym, ap, subst, arith, rules}
 use Rattle.std.specs.Prelude.{IfSome}
 use Rattle.sci_words.specs.declared.limits.TheConstants.{CONTROLS}
@@ -16,7 +16,7 @@ use Rattle.sci_cache.specs.Performing.{Performed, performing}
 use Rattle.sci_cache.specs.Line.{LineState}
 use Rattle.sci_cache.specs.Cache.{Letter}
 use Rattle.sci_core.specs.Tidy.{IsSentIn, IsAwaited, HasItsPackets}
-use Rattle.sci_core.proofs.Shape.Standings.{performing_keeps}
+use Rattle.sci_core.proofs.Shape.Standings.{Alike, performing_keeps}
 
 -- ---- asking
 
@@ -24,6 +24,7 @@ abbrev asks_letter : ℕ → Letter → Asked → Type 0
 asks_letter home letter asked = (asked.to ≡ None → letter.target ≡ home) × ((p : ℕ) → asked.to ≡ Some p → letter.target ≡ p) × (letter.body ≡ asked.request)
 
 pub record BeginsToWait (state : CacheState) (asked : Asked) : Type 0 where
+  pub alike : Alike state None asked.next None
   pub idle : waits state ≡ false
   pub waiting : waits asked.next ≡ true
   pub sent : (home : ℕ) (letter : Letter) → asks_letter home letter asked → IsSentIn home asked.next letter
@@ -66,11 +67,12 @@ performing_waits state op = performing_keeps (KeepsWait state) state op (same_wa
 
 -- ---- accepting
 
-pub record EndsToWait (old new : CacheState) : Type 0 where
+pub record EndsToWait (old : CacheState) (answer : Body) (new : CacheState) : Type 0 where
+  pub alike : Alike old (Some answer) new None
   pub waiting : waits old ≡ true
   pub idle : waits new ≡ false
 
-pub accepting_waits : (state : CacheState) (answer : Body) → IfSome (accepting state answer) (EndsToWait state)
+pub accepting_waits : (state : CacheState) (answer : Body) → IfSome (accepting state answer) (EndsToWait state answer)
 accepting_waits Asking (body.Fdata None c) = search rules
 accepting_waits (Joining p true) body.Busy = search rules
 accepting_waits (FreshJoining p true c) body.Busy = search rules

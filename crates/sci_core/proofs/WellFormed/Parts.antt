@@ -29,7 +29,7 @@ use Rattle.sci_core.proofs.Basics.Options.{if_below, of_some}
 use Rattle.std.proofs.lemmas.List.Elements.{All-push}
 use Rattle.sci_core.proofs.Step.Caches.{same_line}
 use Rattle.sci_core.proofs.Step.NodeSides.{ServedAs, At_home, In_cache, with_state, perform_as, serve_as, accept_as}
-use Rattle.sci_core.proofs.WellFormed.Slots.{GetsSlot, StaysOut, slots_with_line, gets_none, performing_stays, serving_stays, accepting_stays}
+use Rattle.sci_core.proofs.WellFormed.Slots.{GetsSlot, StaysOut, slots_with_line, gets_none, performing_stays, serving_stays, awaiting_stays}
 use Rattle.sci_core.proofs.Step.Nodes.{node_with_cache, node_with_homes, node_with_waiting, node_with_issue, node_with_entry}
 use Rattle.sci_core.proofs.WellFormed.Identifiers.{AsksWell, asking_names, ServesWell, serving_names, HomeServesWell, home_names, accepting_names}
 use Rattle.sci_core.proofs.WellFormed.Identifiers.{performing_names}
@@ -237,6 +237,6 @@ part_accepting size n part answer answers is = IfSome_then (node_accepting part 
     let accepting_ = accepting old.state answer.body in
     let names = of_some (NamesNodes size.nodes) accepting_ does.state does.accepts
     (accepting_names size.nodes old.state answer.body (is.states answer.line) answers.letter_ok.names) in
-    let stays = of_some (StaysOut old.state) accepting_ does.state does.accepts (accepting_stays old.state answer.body) in
+    let stays = awaiting_stays old.state does.state does.ends.waiting in
     subst (IsPart size n) does.then_
     (part_with_line size n part answer.line (line_in old does.state) names (is.asks answer.line) (gets_none part.cache answer.line does.state stays) is))

@@ -1,5 +1,5 @@
 -- A line gets an entry only if a version slot is free, so a node has no more entries than slots.
-use Rattle.std.proofs.Common.{◌≡◌, ℕ, ◌+◌, ◌<◌, ◌≤◌, not, cond, Bool, true, false, set, None, refl, sym, ap, ◌∙◌}
+use Rattle.std.proofs.Common.{◌≡◌, ℕ, ◌+◌, ◌<◌, ◌≤◌, not, cond, Bool, true, false, set, refl, sym, ap, ◌∙◌}
 use Rattle.std.proofs.Common.{arith, rules}
 use Rattle.std.specs.Prelude.{IfSome}
 use Rattle.std.proofs.lemmas.Bool.{cases_lt, ltb-true}
@@ -8,10 +8,8 @@ use Rattle.std.proofs.lemmas.List.Sums.{sum_by-set}
 use Rattle.sci_words.specs.declared.operation.Op.{Op}
 use Rattle.sci_packets.specs.declared.body.Body.{Body}
 use Rattle.sci_packets.specs.declared.body.Body.TheVariants as body
-use Rattle.sci_cache.specs.State.{CacheState, Asking, Joining, FreshJoining, Head, Rolling, Telling}
-use Rattle.sci_cache.specs.State.{is_out}
+use Rattle.sci_cache.specs.State.{CacheState, Out, Head, is_out, waits}
 use Rattle.sci_cache.specs.Serving.{serving}
-use Rattle.sci_cache.specs.Accepting.{accepting}
 use Rattle.sci_cache.specs.Performing.{Performed, performing}
 use Rattle.sci_cache.specs.Line.{LineState}
 use Rattle.sci_cache.specs.Cache.{CacheOf, line_of, has_slot, slots_taken}
@@ -55,11 +53,6 @@ serving_stays _ n body.Cread = search rules
 serving_stays _ n _ = search rules
 
 -- no answer gives an entry, since a line without one awaits none
-pub accepting_stays : (state : CacheState) (answer : Body) → IfSome (accepting state answer) (λ (next : CacheState). StaysOut state next)
-accepting_stays Asking (body.Fdata None d) = search rules
-accepting_stays (Joining p true) body.Busy = search rules
-accepting_stays (FreshJoining p true d) body.Busy = search rules
-accepting_stays (Rolling None b d) body.Rolled = search rules
-accepting_stays (Telling r w true) body.Busy = search rules
-accepting_stays _ body.Busy = search rules
-accepting_stays _ _ = search rules
+pub awaiting_stays : (old new : CacheState) → waits old ≡ true → StaysOut old new
+awaiting_stays Out new waiting out = cc
+awaiting_stays _ new waiting out = cc
