@@ -1,6 +1,7 @@
 -- A node that is read at its place, changes, and is written back, is the node with that number.
 use Rattle.std.proofs.Common.{◌≡◌, ℕ, ◌<◌, length, get_or, set, Option, Some, None, sym, ap, subst, ◌∙◌, arith}
 use Rattle.std.specs.Prelude.{IfSome}
+use Rattle.std.proofs.lemmas.Option.{IfSome_then}
 use Rattle.std.proofs.lemmas.List.{get_or_read, get_or-set_same}
 use Rattle.sci_words.specs.declared.event.Event.{Event}
 use Rattle.sci_core.specs.Node.{NodeOf, no_node}
@@ -10,34 +11,31 @@ use Rattle.sci_core.proofs.Step.Stepping.{stepping_idle, stepping_changed}
 pub read_node : (core : Core) (i n : ℕ) (old : NodeOf) → i ≡ n → n < length core.parts → old ≡ get_or core.parts i old → old ≡ node_at core n
 read_node core i n old is below e = get_or_read core.parts n old below (subst (λ (k : ℕ). old ≡ get_or core.parts k old) is e) no_node
 
--- what a node's call gives, told of the whole state before and after it
-abbrev pub Gives : {X : Type 0} → (NodeOf → X → NodeOf → Type 0) → Core → Core → ℕ → X → Type 0
-Gives side core after n x = (next : NodeOf) × side (node_at core n) x next × (after ≡ with_node core n next)
+-- what is so of two nodes is so of what they are
+pub at_both : (P : NodeOf → NodeOf → Type 0) (old new before after : NodeOf) → old ≡ before → new ≡ after → P old new → P before after
+at_both P old new before after was is so = subst (P before) is (subst (λ (node : NodeOf). P node new) was so)
 
-pub gives_some : {X : Type 0} (side : NodeOf → X → NodeOf → Type 0) (core : Core) (i n : ℕ) (old new : NodeOf) (result : Option X) → i ≡ n
-    → n < length core.parts → old ≡ get_or core.parts i old
-    → IfSome result (λ x. side old x new) → IfSome result (Gives side core (record core { parts = set core.parts i new }) n)
-gives_some side core i n old new None is below e done = done
-gives_some side core i n old new (Some x) is below e done =
-    (new, subst (λ (o : NodeOf). side o x new) (read_node core i n old is below e) done, ap (λ (k : ℕ). with_node core k new) is)
+-- what a node's call does to the machine, if it changes its node alone
+pub record NodeCall {X : Type 0} (core after : Core) (e : Event) (old new : NodeOf) (made : Option X) : Type 0 where
+  pub was : old ≡ node_at core (node_of e)
+  pub is : new ≡ node_at after (node_of e)
+  -- one that gives something is the step of its event, and one that gives nothing is none
+  pub done : IfSome made (λ x. side old e ≡ Changes new) → IfSome made (λ x. stepping core e ≡ Some after)
+  pub not : (made ≡ None → side old e ≡ Idle) → made ≡ None → stepping core e ≡ None
 
--- what is so of a node before and after its call is so of the node with that number
-pub both_nodes : (P : NodeOf → NodeOf → Type 0) (core : Core) (i n : ℕ) (old new : NodeOf) → i ≡ n → n < length core.parts → old ≡ get_or core.parts i old
-    → P old new → P (node_at core n) (node_at (record core { parts = set core.parts i new }) n)
-both_nodes P core i n old new is below read so = grind (arith, get_or-set_same, read_node)
-
--- a call that changes its node alone, and gives something, is the step of its event
-pub changed_by : {X : Type 0} (core : Core) (e : Event) (i : ℕ) (old new : NodeOf) (result : Option X) → i ≡ node_of e → node_of e < core.size.nodes
-    → node_of e < length core.parts → old ≡ get_or core.parts i old
-    → IfSome result (λ x. side old e ≡ Changes new) → IfSome result (λ x. stepping core e ≡ Some (record core { parts = set core.parts i new }))
-changed_by core e i old new None is lt below read done = done
-changed_by core e i old new (Some x) is lt below read done =
-    stepping_changed core (record core { parts = set core.parts i new }) e new lt
-    (ap (λ (node : NodeOf). side node e) (sym (read_node core i (node_of e) old is below read)) ∙ done) (ap (λ (k : ℕ). with_node core k new) is)
-
--- and one that gives nothing is none
-pub idle_by : {X : Type 0} (core : Core) (e : Event) (i : ℕ) (old : NodeOf) (result : Option X) → i ≡ node_of e → node_of e < core.size.nodes
-    → node_of e < length core.parts → old ≡ get_or core.parts i old
-    → (result ≡ None → side old e ≡ Idle) → result ≡ None → stepping core e ≡ None
-idle_by core e i old result is lt below read idle none =
-    stepping_idle core e lt (ap (λ (node : NodeOf). side node e) (sym (read_node core i (node_of e) old is below read)) ∙ idle none)
+pub node_call : {X : Type 0} (core now : Core) (e : Event) (i : ℕ) (old new : NodeOf) (made : Option X) → core ≡ now → length core.parts ≡ core.size.nodes
+    → i ≡ node_of e → node_of e < now.size.nodes → old ≡ get_or core.parts i old
+    → NodeCall now (record core { parts = set core.parts i new }) e old new made
+node_call core now e i old new made view long at lt value =
+    let size = ap (λ (k : Core). k.size.nodes) view in
+    let after : Core = record core { parts = set core.parts i new } in
+    let within : node_of e < core.size.nodes = omega arith in
+    let below : node_of e < length core.parts = omega arith in
+    let read = read_node core i (node_of e) old at below value in
+    subst (λ (k : Core). NodeCall k after e old new made) view (record {
+      was = read;
+      is = grind (arith, get_or-set_same);
+      done = λ changed. IfSome_then made changed (λ x is. stepping_changed core after e new within (ap (λ (node : NodeOf). side node e) (sym read) ∙ is)
+          (ap (λ (k : ℕ). with_node core k new) at));
+      not = λ idle none. stepping_idle core e within (ap (λ (node : NodeOf). side node e) (sym read) ∙ idle none);
+    })
