@@ -55,17 +55,20 @@ target_below core n line kind next letter well lt e = grind (arith, part_asking)
 
 -- the node that sends is the same once its packet is in the lane
 pub read_sent : (core mid : Core) (kind : LaneKind) (i n : ℕ) (letter : Letter) (old : NodeOf) → mid ≡ with_sent core kind n letter → i ≡ n
-    → n < length mid.parts → old ≡ get_or mid.parts i old → old ≡ node_at core n
-read_sent core mid kind i n letter old sent is below read = subst (λ (m : Core). old ≡ node_at m n) sent (read_node mid i n old is below read)
+    → length mid.parts ≡ mid.size.nodes → n < core.size.nodes → old ≡ get_or mid.parts i old → old ≡ node_at core n
+read_sent core mid kind i n letter old sent is long lt read =
+    let size = ap (λ (m : Core). m.size.nodes) sent in
+    subst (λ (m : Core). old ≡ node_at m n) sent (read_node mid i n old is (omega arith) read)
 
 -- the packet ends its lane, and then the node changes
 pub sent_done : (core mid : Core) (e : Event) (kind : LaneKind) (sending : NodeOf → Option (NodeOf × Letter)) (i : ℕ) (old new next : NodeOf) (letter : Letter)
     → node_of e < core.size.nodes
     → ((node : NodeOf) → side node e ≡ sends kind (sending node))
     → sending (node_at core (node_of e)) ≡ Some (next, letter) → mid ≡ with_sent core kind (node_of e) letter → i ≡ node_of e
-    → old ≡ node_at core (node_of e) → IfSome (sending old) (λ sent. new ≡ sent.0)
+    → length mid.parts ≡ mid.size.nodes → old ≡ get_or mid.parts i old → IfSome (sending old) (λ sent. new ≡ sent.0)
     → stepping core e ≡ Some (record mid { parts = set mid.parts i new })
-sent_done core mid e kind sending i old new next letter lt is made sent at here done =
+sent_done core mid e kind sending i old new next letter lt is made sent at long read done =
+    let here = read_sent core mid kind i (node_of e) letter old sent at long lt read in
     let same : new ≡ next = subst (λ (o : Option (NodeOf × Letter)). IfSome o (λ x. new ≡ x.0)) (ap sending here ∙ made) done in
     stepping_sent core (record mid { parts = set mid.parts i new }) e kind next letter lt (is (node_at core (node_of e)) ∙ ap (sends kind) made)
     (rw (sent, at, same) refl)

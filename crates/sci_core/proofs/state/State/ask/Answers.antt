@@ -1,11 +1,11 @@
 -- The packet that is sent is the one that the ask makes.
-use Rattle.std.proofs.Common.{length, refl, ap, sym, subst, ◌∙◌, ◌<◌, arith}
+use Rattle.std.proofs.Common.{refl, ap, sym, subst, ◌∙◌, arith}
 use Rattle.std.specs.Prelude.{IsSome}
 use Rattle.sci_words.specs.declared.event.Event.TheVariants as event
 use Rattle.sci_cache.specs.Cache.{letter_of}
 use Rattle.sci_core.specs.declared.lane.LaneKind.TheVariants.{Requests}
 use Rattle.sci_core.specs.Node.{NodeOf, node_asking}
-use Rattle.sci_core.specs.Core.{Core, sends}
+use Rattle.sci_core.specs.Core.{sends}
 use Rattle.sci_core.specs.contracts.state.State.{the_view}
 use Rattle.sci_core.proofs.Step.Stepping.{stepping_idle}
 use Rattle.sci_core.proofs.Step.Applied.{target_below, read_sent, sent_done, sent_enabled}
@@ -34,29 +34,14 @@ returns-in-Err-clause-refused c =
 
 pub apply_ask-requires : goal.apply_ask-requires
 apply_ask-requires c =
-    let mid = the_view c.self.inside in
-    let long = c.self.invariant.parts_long in
-    let view = ap (λ (core : Core). core.size.nodes) c.self.view_is in
-    let size = ap (λ (core : Core). core.size.nodes) (c.in_default-send.ensures.ok) in
-    let given = c.requires.n in
-    let below : c.args.n < length mid.parts = omega arith in
-    let here = read_sent c.args.self.now mid Requests c.from.result c.args.n (letter_of c.in-Some.request) c.index_mut.result.now
-    (c.self.view_is ∙ c.in_default-send.ensures.ok) c.from.ensures below c.index_mut.ensures.value in
+    let here = read_sent c.args.self.now (the_view c.self.inside) Requests c.from.result c.args.n (letter_of c.in-Some.request) c.index_mut.result.now
+    (c.self.view_is ∙ c.in_default-send.ensures.ok) c.from.ensures c.self.invariant.parts_long c.requires.n c.index_mut.ensures.value in
     subst IsSome (sym (ap (λ (node : NodeOf). node_asking node c.args.line c.args.kind) here
     ∙ (ap (λ (node : NodeOf). node_asking node c.args.line c.args.kind) (sym c.node.ensures) ∙ c.in-Some.ensures.asked.1))) refl
 
 pub returns-clause-done : goal.returns-clause-done
 returns-clause-done c =
-    let mid = the_view c.self.inside in
-    let long = c.self.invariant.parts_long in
-    let view = ap (λ (core : Core). core.size.nodes) c.self.view_is in
-    let size = ap (λ (core : Core). core.size.nodes) (c.in_default-send.ensures.ok) in
-    let given = c.requires.n in
-    let below : c.args.n < length mid.parts = omega arith in
-    let sent = c.self.view_is ∙ c.in_default-send.ensures.ok in
-    sent_done c.args.self.now mid (event.Ask c.args.n c.args.line c.args.kind) Requests (λ node. node_asking node c.args.line c.args.kind) c.from.result
-    c.index_mut.result.now c.apply_ask.new.self _ (letter_of c.in-Some.request)
-    c.requires.n (λ node. refl) (ap (λ (node : NodeOf). node_asking node c.args.line c.args.kind) (sym c.node.ensures) ∙ c.in-Some.ensures.asked.1) sent
-    c.from.ensures
-    (read_sent c.args.self.now mid Requests c.from.result c.args.n (letter_of c.in-Some.request) c.index_mut.result.now sent c.from.ensures below
-    c.index_mut.ensures.value) c.apply_ask.ensures
+    sent_done c.args.self.now (the_view c.self.inside) (event.Ask c.args.n c.args.line c.args.kind) Requests
+    (λ node. node_asking node c.args.line c.args.kind) c.from.result c.index_mut.result.now c.apply_ask.new.self _ (letter_of c.in-Some.request) c.requires.n
+    (λ node. refl) (ap (λ (node : NodeOf). node_asking node c.args.line c.args.kind) (sym c.node.ensures) ∙ c.in-Some.ensures.asked.1)
+    (c.self.view_is ∙ c.in_default-send.ensures.ok) c.from.ensures c.self.invariant.parts_long c.index_mut.ensures.value c.apply_ask.ensures

@@ -1,15 +1,15 @@
 -- The packet that is sent is the answer that waits.
-use Rattle.std.proofs.Common.{◌≡◌, ◌<◌, None, Some, Option, option_map, length, refl, ap, sym, subst, ◌∙◌, arith}
+use Rattle.std.proofs.Common.{◌≡◌, None, Some, Option, option_map, refl, ap, sym, subst, ◌∙◌}
 use Rattle.std.specs.Prelude.{IfSome}
 use Rattle.sci_words.specs.declared.event.Event.TheVariants as event
 use Rattle.sci_packets.specs.declared.packet.Packet.{Packet}
 use Rattle.sci_cache.specs.Cache.{Letter, letter_of}
 use Rattle.sci_core.specs.declared.lane.LaneKind.TheVariants.{Answers}
 use Rattle.sci_core.specs.Node.{NodeOf, node_replying, replied_by}
-use Rattle.sci_core.specs.Core.{Core, sends, node_at}
+use Rattle.sci_core.specs.Core.{sends, node_at}
 use Rattle.sci_core.specs.contracts.state.State.{the_view}
 use Rattle.sci_core.proofs.Step.Stepping.{stepping_idle}
-use Rattle.sci_core.proofs.Step.Applied.{read_sent, sent_done, sent_enabled, waits_replying}
+use Rattle.sci_core.proofs.Step.Applied.{sent_done, sent_enabled, waits_replying}
 use Rattle.sci_core.proofs.state.State.reply.Goals as goal
 
 gone : (old new : NodeOf) (result : Option Packet) → IfSome result (λ answer. node_replying old ≡ Some (new, letter_of answer))
@@ -38,16 +38,8 @@ pub returns-clause-done : goal.returns-clause-done
 returns-clause-done c =
     let some : (node_at c.args.self.now c.args.n).waiting ≡ Some (letter_of c.in-Some.answer) =
     ap (λ (node : NodeOf). node.waiting) (sym c.node.ensures) ∙ (sym c.waiting.ensures ∙ ap (option_map letter_of) (sym c.copied.ensures ∙ c.in-Some.is)) in
-    let mid = the_view c.self.inside in
-    let long = c.self.invariant.parts_long in
-    let view = ap (λ (core : Core). core.size.nodes) c.self.view_is in
-    let size = ap (λ (core : Core). core.size.nodes) (c.in_default-send.ensures.ok) in
-    let given = c.requires.n in
-    let below : c.args.n < length mid.parts = omega arith in
-    let sent = c.self.view_is ∙ c.in_default-send.ensures.ok in
-    sent_done c.args.self.now mid (event.Reply c.args.n) Answers node_replying c.from.result c.index_mut.result.now c.take_answer-answer.new.self _
-    (letter_of c.in-Some.answer)
-    c.requires.n (λ node. refl) (waits_replying (node_at c.args.self.now c.args.n) (letter_of c.in-Some.answer) some) sent c.from.ensures
-    (read_sent c.args.self.now mid Answers c.from.result c.args.n (letter_of c.in-Some.answer) c.index_mut.result.now sent c.from.ensures below
-    c.index_mut.ensures.value)
+    sent_done c.args.self.now (the_view c.self.inside) (event.Reply c.args.n) Answers node_replying c.from.result c.index_mut.result.now
+    c.take_answer-answer.new.self _ (letter_of c.in-Some.answer) c.requires.n (λ node. refl)
+    (waits_replying (node_at c.args.self.now c.args.n) (letter_of c.in-Some.answer) some) (c.self.view_is ∙ c.in_default-send.ensures.ok) c.from.ensures
+    c.self.invariant.parts_long c.index_mut.ensures.value
     (gone c.index_mut.result.now c.take_answer-answer.new.self c.take_answer-answer.result c.take_answer-answer.ensures.taken c.take_answer-answer.ensures.none)
