@@ -74,9 +74,11 @@ found_waiting core from n line body well tidy f lt inside is =
     ap (seek n line) parts ∙ found_in n line before here (after ++ lanes) body
     (subst (λ (letters : List Letter). length (filter (is_about n line) letters) ≤ 1) parts few) is
 
-found_carried : (core : Core) (place n line : ℕ) (body : Body) → IsTidy core → place < length core.lanes → n < core.size.nodes → line < core.size.lines
-    → seek n line (lane_at core place) ≡ Some body → answer_to core n line ≡ Some body
-found_carried core place n line body tidy below lt inside is =
+-- what is so of all packets, with a lane's in their midst and one at most for the node and the line, is so of the answer
+among_lanes : (P : Option Body → Type 0) (core : Core) (place n line : ℕ) → IsTidy core → place < length core.lanes → n < core.size.nodes
+    → line < core.size.lines → ((before after : List Letter) → length (filter (is_about n line) (before ++ (lane_at core place ++ after))) ≤ 1
+    → P (seek n line (before ++ (lane_at core place ++ after)))) → P (answer_to core n line)
+among_lanes P core place n line tidy below lt inside so =
     let few = few_packets (line % core.size.nodes) (line_of (node_at core n).cache line) (packets_of core n line) (tidy n line lt inside) in
     let first = flat_map waiting core.parts in
     let before = flat_map carried (take place core.lanes) in
@@ -84,8 +86,14 @@ found_carried core place n line body tidy below lt inside is =
     let after = flat_map carried (drop (place + 1) core.lanes) in
     let parts : under_way core ≡ (first ++ before) ++ (here ++ after) =
     ap (λ (letters : List Letter). first ++ letters) (split_at carried core.lanes place [] below) ∙ sym (append_assoc first before (here ++ after)) in
-    ap (seek n line) parts ∙ found_in n line (first ++ before) here after body
-    (subst (λ (letters : List Letter). length (filter (is_about n line) letters) ≤ 1) parts few) is
+    subst (λ (letters : List Letter). P (seek n line letters)) (sym parts)
+    (so (first ++ before) after (subst (λ (letters : List Letter). length (filter (is_about n line) letters) ≤ 1) parts few))
+
+found_carried : (core : Core) (place n line : ℕ) (body : Body) → IsTidy core → place < length core.lanes → n < core.size.nodes → line < core.size.lines
+    → seek n line (lane_at core place) ≡ Some body → answer_to core n line ≡ Some body
+found_carried core place n line body tidy below lt inside is =
+    among_lanes (λ found. found ≡ Some body) core place n line tidy below lt inside
+    (λ before after few. found_in n line before (lane_at core place) after body few is)
 
 -- ---- a request that is under way
 
@@ -128,15 +136,8 @@ asked_in n line before here after few asks = grind (arith, list_any-append, any_
 asked_carried : (core : Core) (place n line : ℕ) → IsTidy core → place < length core.lanes → n < core.size.nodes → line < core.size.lines
     → list_any (asks_about n line) (lane_at core place) ≡ true → answer_to core n line ≡ None
 asked_carried core place n line tidy below lt inside asks =
-    let few = few_packets (line % core.size.nodes) (line_of (node_at core n).cache line) (packets_of core n line) (tidy n line lt inside) in
-    let first = flat_map waiting core.parts in
-    let before = flat_map carried (take place core.lanes) in
-    let here = lane_at core place in
-    let after = flat_map carried (drop (place + 1) core.lanes) in
-    let parts : under_way core ≡ (first ++ before) ++ (here ++ after) =
-    ap (λ (letters : List Letter). first ++ letters) (split_at carried core.lanes place [] below) ∙ sym (append_assoc first before (here ++ after)) in
-    ap (seek n line) parts ∙ asked_in n line (first ++ before) here after
-    (subst (λ (letters : List Letter). length (filter (is_about n line) letters) ≤ 1) parts few) asks
+    among_lanes (λ found. found ≡ None) core place n line tidy below lt inside
+    (λ before after few. asked_in n line before (lane_at core place) after few asks)
 
 -- ---- nothing is found
 
