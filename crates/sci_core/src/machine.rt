@@ -250,8 +250,7 @@ impl Machine {
         requires { line < self.now.size.lines }
         ensures { IfOk result (λ nodes. IsSharingList self.now line nodes.items) }
     {
-        let sharing = self.state.sharing(alloc, line)?;
-        Ok(sharing.nodes)
+        Ok(self.sharing(alloc, line)?.nodes)
     }
 
     /// The sharing list of a line, the one node that may change it or is about to, and its last contents: what
