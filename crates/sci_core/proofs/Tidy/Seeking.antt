@@ -55,13 +55,13 @@ pub seek_this : (n line : ℕ) (letter : Letter) → (is_about n line letter && 
 seek_this n line letter e = seek_one n line letter ∙ an_answer (is_about n line letter) (is_request letter.body) (Some letter.body) e
 
 -- the packets so far, and one more
-pub seek_more : (n line : ℕ) (packets : List Packet) (i : ℕ) (d : Packet) → i < length packets → seek n line (map letter_of (take i packets)) ≡ None
-    → seek n line (map letter_of (take (i + 1) packets)) ≡ seek n line (letter_of (get_or packets i d) ∷ [])
-seek_more n line packets i d below none =
-    ap (λ (ps : List Packet). seek n line (map letter_of ps)) (take_more packets i d below) ∙
-    (ap (seek n line) (map-append letter_of (take i packets) (get_or packets i d ∷ [])) ∙
-    (seek_append n line (map letter_of (take i packets)) (letter_of (get_or packets i d) ∷ [])
-    ∙ after_none (seek n line (map letter_of (take i packets))) _ none))
+pub seek_more : (n line : ℕ) (packets : List Packet) (i : ℕ) (item : Packet) → item ≡ get_or packets i item → i < length packets
+    → seek n line (map letter_of (take i packets)) ≡ None → seek n line (map letter_of (take (i + 1) packets)) ≡ seek n line (letter_of item ∷ [])
+seek_more n line packets i item is below none =
+    ap (λ (ps : List Packet). seek n line (map letter_of ps)) (take_more packets i item below) ∙
+    (ap (seek n line) (map-append letter_of (take i packets) (get_or packets i item ∷ [])) ∙
+    (seek_append n line (map letter_of (take i packets)) (letter_of (get_or packets i item) ∷ [])
+    ∙ (after_none (seek n line (map letter_of (take i packets))) _ none ∙ ap (λ (p : Packet). seek n line (letter_of p ∷ [])) (sym is))))
 
 -- what is found in a front is found in the whole
 pub seek_whole : (n line : ℕ) (packets : List Packet) (i : ℕ) (b : Body) → seek n line (map letter_of (take i packets)) ≡ Some b
