@@ -151,52 +151,43 @@ leads_alone : (old new : View) (a : ℕ) (asker : CacheState) (body : Body) (c :
     → IsLed new c must (a ∷ ns)
 leads_alone old new a asker body c must ns asks empty role fresh agrees = grind (arith, after, agrees_after, role_of)
 
+-- the asker is in front of the list
+fronted : (old new : View) (home next : HomeState) (a : ℕ) (body : Body) (c : Stamped) (ns : List ℕ) → Asks old new a Asking body → IsShaped old home c ns
+    → link_of Asking (Some body) ≡ Some (head_of home) → head_of next ≡ Some a → IsSome (accepting Asking body) → IsLedFrom new next c (a ∷ ns)
+    → Shaped new next c
+fronted old new home next a body c ns asks is joins head accepted led = (
+  a ∷ ns,
+  record {
+    list = fronts_list old new home next a Asking body ns asks refl joins head is.list;
+    led = led;
+    accepts = accepts_after old new a Asking body asks accepted is.accepts;
+  },
+)
+
 -- it is told the old head, p
 told_front : (old new : View) (home : HomeState) (p a : ℕ) (c : Stamped) (ns : List ℕ) → head_of home ≡ Some p → Asks old new a Asking (body.Mgone p)
     → IsShaped old home c ns → IsLed old c false ns → Shaped new (at.Gone a) c
-told_front old new home p a c ns head asks is led = (
-  a ∷ ns,
-  record {
-    list = fronts_list old new home (at.Gone a) a Asking (body.Mgone p) ns asks refl (ap Some (sym head)) refl is.list;
-    led = comes_first old new (head_of home) a Asking (body.Mgone p) c false ns asks refl is.list refl (λ e. cc) (tt, tt) led;
-    accepts = accepts_after old new a Asking (body.Mgone p) asks refl is.accepts;
-  },
-)
+told_front old new home p a c ns head asks is led =
+    fronted old new home (at.Gone a) a (body.Mgone p) c ns asks is (ap Some (sym head)) refl refl
+    (comes_first old new (head_of home) a Asking (body.Mgone p) c false ns asks refl is.list refl (λ e. cc) (tt, tt) led)
 
 mread_shaped : (old new : View) (home : HomeState) (c : Stamped) (a : ℕ) → Asks old new a Asking (serving_mread home a).1 → Shaped old home c
     → Shaped new (serving_mread home a).0 c
 mread_shaped old new (at.Home d) c a asks (ns, is) =
-    let empty = none_empty (link_in old) None ns refl is.list in (
-      a ∷ ns,
-      record {
-        list = fronts_list old new (at.Home d) (at.Gone a) a Asking (body.Mdata d) ns asks refl refl refl is.list;
-        led = leads_alone old new a Asking (body.Mdata d) c false ns asks empty refl (λ e. cc) (tt, is.led);
-        accepts = accepts_after old new a Asking (body.Mdata d) asks refl is.accepts;
-      },
-    )
+    fronted old new (at.Home d) (at.Gone a) a (body.Mdata d) c ns asks is refl refl refl
+    (leads_alone old new a Asking (body.Mdata d) c false ns asks (none_empty (link_in old) None ns refl is.list) refl (λ e. cc) (tt, is.led))
 mread_shaped old new (at.Fresh p d) c a asks (ns, is) = told_front old new (at.Fresh p d) p a c ns refl asks is (led_weaker old c true ns is.led.1)
 mread_shaped old new (at.Gone p) c a asks (ns, is) = told_front old new (at.Gone p) p a c ns refl asks is is.led
 
 fread_shaped : (old new : View) (home : HomeState) (c : Stamped) (a : ℕ) → Asks old new a Asking (serving_fread home a).1 → Shaped old home c
     → Shaped new (serving_fread home a).0 c
 fread_shaped old new (at.Home d) c a asks (ns, is) =
-    let empty = none_empty (link_in old) None ns refl is.list in (
-      a ∷ ns,
-      record {
-        list = fronts_list old new (at.Home d) (at.Fresh a d) a Asking (body.Fdata None d) ns asks refl refl refl is.list;
-        led = (is.led, leads_alone old new a Asking (body.Fdata None d) c true ns asks empty refl (λ e. refl) (tt, is.led));
-        accepts = accepts_after old new a Asking (body.Fdata None d) asks refl is.accepts;
-      },
-    )
+    fronted old new (at.Home d) (at.Fresh a d) a (body.Fdata None d) c ns asks is refl refl refl
+    (is.led, leads_alone old new a Asking (body.Fdata None d) c true ns asks (none_empty (link_in old) None ns refl is.list) refl (λ e. refl) (tt, is.led))
 fread_shaped old new (at.Fresh p d) c a asks (ns, is) =
-    let body = (serving_fread (at.Fresh p d) a).1 in (
-      a ∷ ns,
-      record {
-        list = fronts_list old new (at.Fresh p d) (at.Fresh a d) a Asking body ns asks refl refl refl is.list;
-        led = (is.led.0, comes_first old new (Some p) a Asking body c true ns asks refl is.list refl (λ e. refl) (tt, is.led.0) is.led.1);
-        accepts = accepts_after old new a Asking body asks refl is.accepts;
-      },
-    )
+    let body = (serving_fread (at.Fresh p d) a).1 in
+    fronted old new (at.Fresh p d) (at.Fresh a d) a body c ns asks is refl refl refl
+    (is.led.0, comes_first old new (Some p) a Asking body c true ns asks refl is.list refl (λ e. refl) (tt, is.led.0) is.led.1)
 fread_shaped old new (at.Gone p) c a asks (ns, is) = told_front old new (at.Gone p) p a c ns refl asks is is.led
 
 -- ---- claims, clears and write-backs
