@@ -43,13 +43,9 @@ pub record LogsInTurn (part : NodeOf) : Type 0 where
 
 same_turn : (old new : NodeOf) → SameWork old new → LogsInTurn old → LogsInTurn new
 same_turn old new same has = record {
-  below = subst (λ (log : List Entry). AllByRecursion (λ entry. entry.serial < new.issued) log) (sym same.log)
-      (subst (λ (k : ℕ). AllByRecursion (λ entry. entry.serial < k) old.log) (sym same.issued) has.below);
-  rising = subst IsInProgramOrder (sym same.log) has.rising;
-  pending = λ line.
-      subst (λ (log : List Entry). IfSome (pending_on new line) (λ p. AllByRecursion (λ entry. entry.serial < p.serial) log)) (sym same.log)
-      (subst (λ (ps : List (Option Pending)). IfSome (get_or ps line None) (λ p. AllByRecursion (λ entry. entry.serial < p.serial) old.log)) (sym same.pending)
-      (has.pending line));
+  below = rw (same.log, same.issued) has.below;
+  rising = rw same.log has.rising;
+  pending = λ line. rw (same.log, same.pending) (has.pending line);
 }
 
 -- an operation that is issued gets a serial above all

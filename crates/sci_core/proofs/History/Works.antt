@@ -60,15 +60,9 @@ pub record HasSerials (part : NodeOf) : Type 0 where
 
 pub same_serials : (old new : NodeOf) → SameWork old new → HasSerials old → HasSerials new
 same_serials old new same has = record {
-  below = subst (λ (log : List Entry). AllByRecursion (λ entry. entry.serial < new.issued) log) (sym same.log)
-      (subst (λ (k : ℕ). AllByRecursion (λ entry. entry.serial < k) old.log) (sym same.issued) has.below);
-  rising = λ line. subst (λ (log : List Entry). AllPairs (λ x y. x.serial < y.serial) (filter (is_on_line line) log)) (sym same.log) (has.rising line);
-  pending = λ line.
-      subst (λ (log : List Entry). IfSome (pending_on new line) (λ p. AllByRecursion (λ entry. entry.serial < p.serial) (filter (is_on_line line) log)))
-      (sym same.log)
-      (subst (λ (ps : List (Option Pending)).
-      IfSome (get_or ps line None) (λ p. AllByRecursion (λ entry. entry.serial < p.serial) (filter (is_on_line line) old.log))) (sym same.pending)
-      (has.pending line));
+  below = rw (same.log, same.issued) has.below;
+  rising = λ line. rw same.log (has.rising line);
+  pending = λ line. rw (same.log, same.pending) (has.pending line);
 }
 
 -- an operation that is issued gets a serial above all
