@@ -39,8 +39,13 @@ waiting_answers size n next answer waits is = grind arith
 
 -- a request is taken, and its answer waits
 took_tidy : (core new : Core) (taking : NodeOf → Letter → Option NodeOf) (t : Taken core new Requests taking) → IsWellFormed core → IsTidy core
-    → Answers core.size.nodes t.letter (node_at core t.node) t.next → IsPart core.size t.node t.next → IsTidy new
-took_tidy core new taking t well tidy answers is = grind (arith, served_tidy, node_below, waiting_answers)
+    → IfSome (taking (node_at core t.node) t.letter) (Answers core.size.nodes t.letter (node_at core t.node))
+    → IfSome (taking (node_at core t.node) t.letter) (IsPart core.size t.node) → IsTidy new
+took_tidy core new taking t well tidy answers is =
+    let made = taking (node_at core t.node) t.letter in
+    let answers_ = of_some (Answers core.size.nodes t.letter (node_at core t.node)) made t.next t.takes answers in
+    let part = of_some (IsPart core.size t.node) made t.next t.takes is in
+    grind (arith, served_tidy, node_below, waiting_answers)
 
 stepped_tidy : (core new : Core) (e : Event) (made : Option Entry) → IsWellFormed core → IsTidy core → Stepped core e made new → IsTidy new
 stepped_tidy core new e made well tidy (By_issue n op next event lt is then_ none) = grind (arith, changed_tidy, of_some, issue_stays)
@@ -51,16 +56,12 @@ stepped_tidy core new e made well tidy (By_perform n line done lt is then_ some)
 stepped_tidy core new e made well tidy (By_ask n line kind sent is sends_well s none) = grind (arith, of_some, ask_once, asked_tidy, node_below)
 stepped_tidy core new e made well tidy (By_serve t none) =
     let part = node_at core t.node in
-    took_tidy core new node_serving t well tidy
-    (of_some (Answers core.size.nodes t.letter part) (node_serving part t.letter) t.next t.takes (serve_answers core.size.nodes part t.letter))
-    (of_some (IsPart core.size t.node) (node_serving part t.letter) t.next t.takes
-    (part_serving core.size t.node part t.letter t.comes.0 t.comes.1 (well.each_part t.node t.some)))
+    took_tidy core new node_serving t well tidy (serve_answers core.size.nodes part t.letter)
+    (part_serving core.size t.node part t.letter t.comes.0 t.comes.1 (well.each_part t.node t.some))
 stepped_tidy core new e made well tidy (By_refuse t none) =
     let part = node_at core t.node in
-    took_tidy core new node_refusing t well tidy
-    (of_some (Answers core.size.nodes t.letter part) (node_refusing part t.letter) t.next t.takes (refuse_answers core.size.nodes part t.letter))
-    (of_some (IsPart core.size t.node) (node_refusing part t.letter) t.next t.takes
-    (part_refusing core.size t.node part t.letter t.comes.0 t.comes.1 (well.each_part t.node t.some)))
+    took_tidy core new node_refusing t well tidy (refuse_answers core.size.nodes part t.letter)
+    (part_refusing core.size t.node part t.letter t.comes.0 t.comes.1 (well.each_part t.node t.some))
 stepped_tidy core new e made well tidy (By_reply n sent is sends_well s none) = grind (arith, of_some, reply_replies, replied_tidy, node_below)
 stepped_tidy core new e made well tidy (By_accept t none) =
     let part = node_at core t.node in
