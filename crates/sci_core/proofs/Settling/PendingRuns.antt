@@ -39,13 +39,13 @@ use Rattle.sci_core.proofs.Settling.EmptyRuns.{pending_same}
 use Rattle.sci_core.proofs.Settling.Leading.{leads_join, leads_more, leads_on, leads_weaker}
 use Rattle.sci_core.proofs.Basics.Lists.{at_place_set}
 use Rattle.sci_core.proofs.Settling.Moves.{drained_weighs}
-use Rattle.sci_core.proofs.Step.NodeSides.{At_home, In_cache, PerformedAs, ServedAs, perform_as, reply_as, serve_as}
+use Rattle.sci_core.proofs.Step.NodeSides.{AcceptedAs, At_home, In_cache, PerformedAs, ServedAs, accept_as, perform_as, reply_as, serve_as}
 use Rattle.sci_core.proofs.Basics.Options.{found, of_some}
 use Rattle.sci_core.proofs.History.Pendings.{sole_performs}
 use Rattle.sci_core.proofs.Settling.Ranks.{few_rounds, none_left, rank_one, rank_shift, sum_less, sum_one, sum_over}
 use Rattle.sci_core.proofs.Settling.Resting.{home_alone, line_known, quiet}
 use Rattle.sci_core.proofs.Shape.ShapeRuns.{operates_so}
-use Rattle.sci_core.proofs.Settling.Shifts.{AcceptedAs, Shifts, accepted_as}
+use Rattle.sci_core.proofs.Settling.Shifts.{Shifts}
 use Rattle.sci_core.proofs.Step.Sides.{steps_by_sides}
 use Rattle.sci_core.proofs.Shape.Standings.{Leaves, Makes, Performs, Reads, performing_does}
 use Rattle.sci_core.proofs.WellFormed.WellFormedSteps.{reachable, reached_stepping, reached_well, step_well}
@@ -75,8 +75,8 @@ move_pending core new (event.Accept from n) is steps m =
     let f = some_sender core new (event.Accept from n) Answers from (node_accepting (node_at core n)) lt refl steps in
     let took = took_along core new Answers n from node_accepting (event.Accept from n) _ ((steps_by_sides core n lt).accept from f) refl steps in
     let as_ = of_some (AcceptedAs (node_at core n) took.letter) (node_accepting (node_at core n) took.letter) took.next took.takes
-    (accepted_as (node_at core n) took.letter) in
-    ap (λ (x : Core). (node_at x m).pending) took.then_ ∙ one_pending core n took.next (ap (λ (p : NodeOf). p.pending) as_.then_) m
+    (accept_as (node_at core n) took.letter) in
+    ap (λ (x : Core). (node_at x m).pending) took.then_ ∙ one_pending core n took.next (ap (λ (p : NodeOf). p.pending) (sym as_.then_)) m
 move_pending core new _ is steps m = cc
 
 -- moves keep the size, and what is pending

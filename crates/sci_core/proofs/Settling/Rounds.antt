@@ -28,11 +28,12 @@ use Rattle.sci_core.proofs.Step.Applied.{waits_replying}
 use Rattle.sci_core.proofs.Tidy.Enabled.{accept_enabled, serve_enabled}
 use Rattle.sci_core.proofs.Basics.Lists.{at_place_set}
 use Rattle.sci_core.proofs.Step.NodeSides.{At_home as Home_served, In_cache as Cache_served, ServedAs, ask_alike, serve_as}
+use Rattle.sci_core.proofs.Step.NodeSides.{AcceptedAs, accept_as}
 use Rattle.sci_core.proofs.Basics.Options.{found, of_some}
 use Rattle.sci_core.proofs.WellFormed.Parts.{SendsWell, part_asking}
 use Rattle.sci_core.proofs.Step.Places.{place_answers, place_requests}
 use Rattle.sci_core.proofs.Shape.ShapeSteps.{homes_same}
-use Rattle.sci_core.proofs.Settling.Shifts.{AcceptedAs, AskedAs, Shifts, accepted_as, asked_as, shifts, stays}
+use Rattle.sci_core.proofs.Settling.Shifts.{AskedAs, Shifts, asked_as, shifts, stays}
 use Rattle.sci_core.proofs.Step.Sides.{steps_by_sides}
 use Rattle.sci_core.proofs.Step.Steps.{lane_below}
 use Rattle.sci_core.proofs.Tidy.TidyRuns.{node_below}
@@ -229,16 +230,16 @@ accepts_one core n t line answer reached lt some about inside lane =
     let well = reached_well core reached in
     let part = node_at core n in
     let taken = found (node_accepting part answer) (accept_enabled core t n reached some lt answer [] lane) in
-    let as_ = of_some (AcceptedAs part answer) (node_accepting part answer) taken.0 taken.1 (accepted_as part answer) in
+    let as_ = of_some (AcceptedAs part answer) (node_accepting part answer) taken.0 taken.1 (accept_as part answer) in
     let new = taken_to core n Answers t [] taken.0 in
     let below : line < lines_of part = subst (λ (k : ℕ). line < k) (sym (well.each_part n lt).each) inside in
     let cache : taken.0.cache ≡ with_line part.cache line (line_in (line_of part.cache line) as_.state) =
-    ap (λ (p : NodeOf). p.cache) as_.then_ ∙ ap (λ (k : ℕ). with_line part.cache k (line_in (line_of part.cache k) as_.state)) about in
+    ap (λ (p : NodeOf). p.cache) (sym as_.then_) ∙ ap (λ (k : ℕ). with_line part.cache k (line_in (line_of part.cache k) as_.state)) about in
     let accepts : Accepts core new n line answer.body = record {
       state = as_.state;
       accepts = ap (λ (k : ℕ). accepting (line_of part.cache k).state answer.body) (sym about) ∙ as_.accepts;
       shift = shifts core new n line taken.0 (line_in (line_of part.cache line) as_.state) (node_below core n well lt) below cache
-          (ap (λ (p : NodeOf). p.pending) as_.then_) refl refl;
+          (ap (λ (p : NodeOf). p.pending) (sym as_.then_)) refl refl;
     } in
     (new, accepts, ((steps_by_sides core n lt).accept t some).front answer [] lane ∙ ap (option_map (taken_to core n Answers t [])) taken.1)
 

@@ -1,16 +1,15 @@
 -- What one event of a round does to the states of all lines: one line of one node changes at most.
-use Rattle.std.proofs.Common.{◌≡◌, ℕ, ◌<◌, ◌==◌, Bool, true, false, if◌then◌else◌, length, set, slice_index_or, Option, Some, None, refl, arith}
+use Rattle.std.proofs.Common.{◌≡◌, ℕ, ◌<◌, Bool, true, false, length, set, slice_index_or, Option, Some, None, refl, arith}
 use Rattle.std.specs.Prelude.{IfSome}
 use Rattle.std.proofs.lemmas.Bool.{cases_eq}
 use Rattle.std.proofs.lemmas.List.{get_or-set_same, get_or-set_other}
 use Rattle.sci_words.specs.declared.event.AskKind.{AskKind}
 use Rattle.sci_cache.specs.State.{CacheState}
 use Rattle.sci_cache.specs.Asking.{Asked, asking}
-use Rattle.sci_cache.specs.Accepting.{accepting}
-use Rattle.sci_cache.specs.Line.{LineState, ask_or_fault, last_control, line_asked, line_in}
-use Rattle.sci_cache.specs.Cache.{CacheOf, Letter, cache_asked, letter_asking, line_of, with_line}
+use Rattle.sci_cache.specs.Line.{LineState, ask_or_fault, line_asked}
+use Rattle.sci_cache.specs.Cache.{Letter, cache_asked, letter_asking, line_of, with_line}
 use Rattle.sci_core.specs.Core.{Core, node_at}
-use Rattle.sci_core.specs.Node.{NodeOf, accepted_by, asked_by, lines_of, node_accepting, node_asking}
+use Rattle.sci_core.specs.Node.{NodeOf, asked_by, lines_of, node_asking}
 use Rattle.sci_core.specs.Shape.{state_at}
 use Rattle.sci_core.proofs.Basics.Options.{if_below}
 
@@ -33,25 +32,6 @@ made_as part line kind false (Some asked) below is = record { asked = asked; ask
 
 pub asked_as : (part : NodeOf) (line : ℕ) (kind : AskKind) → IfSome (node_asking part line kind) (AskedAs part line kind)
 asked_as part line kind = grind (arith, if_below, made_as)
-
--- what a node took
-pub record AcceptedAs (part : NodeOf) (answer : Letter) (next : NodeOf) : Type 0 where
-  pub state : CacheState
-  pub accepts : accepting (line_of part.cache answer.line).state answer.body ≡ Some state
-  pub then_ : next ≡ (record part { cache = with_line part.cache answer.line (line_in (line_of part.cache answer.line) state) })
-
-took_as : (part : NodeOf) (answer : Letter) (awaits : Bool) (state : Option CacheState) → accepting (line_of part.cache answer.line).state answer.body ≡ state
-    → IfSome (accepted_by part (elim (if awaits then state else None) as (λ _. Option CacheOf) [
-      | None ↦ None
-      | Some s ↦ Some (with_line part.cache answer.line (line_in (line_of part.cache answer.line) s))
-    ])) (AcceptedAs part answer)
-took_as part answer false state is = tt
-took_as part answer true None is = tt
-took_as part answer true (Some s) is = record { state = s; accepts = is; then_ = refl }
-
-pub accepted_as : (part : NodeOf) (answer : Letter) → IfSome (node_accepting part answer) (AcceptedAs part answer)
-accepted_as part answer = took_as part answer (answer.control == last_control (line_of part.cache answer.line))
-    (accepting (line_of part.cache answer.line).state answer.body) refl
 
 -- ---- the states of all nodes
 
