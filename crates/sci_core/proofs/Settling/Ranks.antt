@@ -1,20 +1,17 @@
 -- How the number of rounds that are left changes with the states of one line.
-use Rattle.std.proofs.Common.{◌≡◌, ◌≢◌, ◌⊎◌, ℕ, zero, suc, ◌+◌, ◌*◌, ◌<◌, ◌≤◌, not, false, List, length, take, get_or, refl, sym, ap, subst, ◌∙◌, arith, inl}
+use Rattle.std.proofs.Common.{◌≡◌, ◌≢◌, ◌⊎◌, ℕ, zero, suc, ◌+◌, ◌*◌, ◌<◌, ◌≤◌, refl, sym, ap, subst, ◌∙◌, arith, inl}
 use Rattle.std.proofs.Common.{inr}
-use Rattle.std.specs.Prelude.{count_by}
 use Rattle.std.specs.List.{range_with_len, sum_by}
-use Rattle.std.proofs.lemmas.Bool.{cases_Bool, cases_eq}
-use Rattle.std.proofs.lemmas.List.{take_all}
-use Rattle.std.proofs.lemmas.List.Sums.{count_by_more_no, count_by_more_yes, sum_by-cons}
-use Rattle.sci_cache.specs.State.{CacheState, Out, Joining, FreshJoining, FreshHead, is_out}
-use Rattle.sci_cache.specs.Line.{LineState, untouched}
-use Rattle.sci_cache.specs.Cache.{slots_taken}
+use Rattle.std.proofs.lemmas.Bool.{cases_eq}
+use Rattle.std.proofs.lemmas.List.Sums.{sum_by-cons}
+use Rattle.sci_cache.specs.State.{CacheState, Out, Joining, FreshJoining, FreshHead}
 use Rattle.sci_core.specs.Core.{Core, node_at}
 use Rattle.sci_core.specs.Reached.{IsReached}
 use Rattle.sci_core.specs.Rounds.{AreOut, entry_rank, rank}
 use Rattle.sci_core.specs.Shape.{state_at}
 use Rattle.sci_core.specs.Size.{Size}
 use Rattle.sci_core.proofs.Settling.Shifts.{Shifts}
+use Rattle.sci_core.proofs.Tidy.Burdens.{entries_few, sum_to, sum_to_less}
 use Rattle.sci_core.proofs.WellFormed.WellFormedSteps.{reached_well}
 
 -- ---- sums over numbers
@@ -161,19 +158,6 @@ small (FreshJoining p sent c) = omega arith
 small (FreshHead f c) = omega arith
 small _ = omega arith
 
-none_out : (s : CacheState) → not (is_out s) ≡ false → entry_rank s ≡ 0
-none_out Out e = refl
-none_out _ e = cc
-
-pub sum_less : (f : ℕ → ℕ) (k from count : ℕ) → ((i : ℕ) → i < from + count → f i ≤ k) → sum_over f from count ≤ count * k
-sum_less f k from zero each = omega arith
-sum_less f k from (suc count) each =
-    let more = sum_more f from count in
-    let here = each from (omega arith) in
-    let rest = sum_less f k (from + 1) count (λ i below. each i (omega arith)) in
-    let product : suc count * k ≡ count * k + k = grind arith in
-    omega arith
-
 -- the last of a sum
 sum_last : (f : ℕ → ℕ) (from count : ℕ) → sum_over f from (suc count) ≡ sum_over f from count + f (from + count)
 sum_last f from zero = let more = sum_more f from 0 in let here : f (from + 0) ≡ f from = ap f (omega arith) in omega arith
@@ -184,40 +168,21 @@ sum_last f from (suc count) =
     let here : f (from + 1 + count) ≡ f (from + suc count) = ap f (omega arith) in
     omega arith
 
-entries_rank : (lines : List LineState) (n : ℕ) → n ≤ length lines
-    → sum_over (λ i. entry_rank (get_or lines i untouched).state) 0 n ≤ 2 * count_by (λ line. not (is_out line.state)) (take n lines)
-entries_rank lines zero le = omega arith
-entries_rank lines (suc n) le =
-    let p = λ (line : LineState). not (is_out line.state) in
-    let f = λ (i : ℕ). entry_rank (get_or lines i untouched).state in
-    let below : n < length lines = omega arith in
-    let before = entries_rank lines n (omega arith) in
-    let next : n + 1 ≡ suc n = omega arith in
-    let sum = sum_last f 0 n in
-    let two = small (get_or lines n untouched).state in
-    let at : f (0 + n) ≡ f n = ap f (omega arith) in
-    elim (cases_Bool (not (is_out (get_or lines n untouched).state))) [
-      | inl entry ↦
-          let more : count_by p (take (suc n) lines) ≡ count_by p (take n lines) + 1 =
-          subst (λ (k : ℕ). count_by p (take k lines) ≡ count_by p (take n lines) + 1) next (count_by_more_yes p lines n untouched below entry) in
-          omega arith
-      | inr out ↦
-          let more : count_by p (take (suc n) lines) ≡ count_by p (take n lines) =
-          subst (λ (k : ℕ). count_by p (take k lines) ≡ count_by p (take n lines)) next (count_by_more_no p lines n untouched below out) in
-          let none = none_out (get_or lines n untouched).state out in
-          omega arith
-    ]
+over_to : (f : ℕ → ℕ) (count : ℕ) → sum_over f 0 count ≡ sum_to f count
+over_to f zero = refl
+over_to f (suc count) =
+    let last = sum_last f 0 count in
+    let before = over_to f count in
+    let at : f (0 + count) ≡ f count = ap f (omega arith) in
+    omega arith
+
+pub sum_less : (f : ℕ → ℕ) (k count : ℕ) → ((i : ℕ) → i < count → f i ≤ k) → sum_over f 0 count ≤ count * k
+sum_less f k count each = let same = over_to f count in let less = sum_to_less f k count each in omega arith
 
 node_few : (core : Core) (n : ℕ) → IsReached core → n < core.size.nodes → node_rank core n ≤ 2 * core.size.slots
 node_few core n reached lt =
-    let part = (reached_well core reached).each_part n lt in
-    let lines = (node_at core n).cache.lines in
-    let long : length lines ≡ core.size.lines = part.each in
-    let entries = entries_rank lines core.size.lines (omega arith) in
-    let whole : count_by (λ line. not (is_out line.state)) (take core.size.lines lines) ≡ slots_taken lines =
-    ap (count_by (λ line. not (is_out line.state))) (take_all core.size.lines lines (omega arith)) in
-    let few = part.few in
-    let room = part.room in
+    let few = entries_few entry_rank 2 small refl core.size n (node_at core n) ((reached_well core reached).each_part n lt) in
+    let same = over_to (λ line. entry_rank (state_at core line n)) core.size.lines in
     omega arith
 
 pub record IsFew (core : Core) : Type 0 where
@@ -226,9 +191,9 @@ pub record IsFew (core : Core) : Type 0 where
 
 pub few_rounds : (core : Core) → IsReached core → IsFew core
 few_rounds core reached =
-    let by_lines = sum_less (node_rank core) (core.size.lines * 2) 0 core.size.nodes
-    (λ n below. sum_less (λ line. entry_rank (state_at core line n)) 2 0 core.size.lines (λ line inside. small (state_at core line n))) in
-    let by_slots = sum_less (node_rank core) (2 * core.size.slots) 0 core.size.nodes (λ n below. node_few core n reached (omega arith)) in
+    let by_lines = sum_less (node_rank core) (core.size.lines * 2) core.size.nodes
+    (λ n below. sum_less (λ line. entry_rank (state_at core line n)) 2 core.size.lines (λ line inside. small (state_at core line n))) in
+    let by_slots = sum_less (node_rank core) (2 * core.size.slots) core.size.nodes (λ n below. node_few core n reached (omega arith)) in
     let one : core.size.nodes * (core.size.lines * 2) ≡ 2 * (core.size.nodes * core.size.lines) = grind arith in
     let other : core.size.nodes * (2 * core.size.slots) ≡ 2 * (core.size.nodes * core.size.slots) = grind arith in
     record { lines = omega arith; slots = omega arith }
@@ -236,8 +201,8 @@ few_rounds core reached =
 -- no rounds are left if no cache has an entry
 pub none_left : (core : Core) → AreOut core → rank core ≡ 0
 none_left core out =
-    let all = sum_less (node_rank core) 0 0 core.size.nodes (λ n below. (
-    let lines = sum_less (λ line. entry_rank (state_at core line n)) 0 0 core.size.lines
+    let all = sum_less (node_rank core) 0 core.size.nodes (λ n below. (
+    let lines = sum_less (λ line. entry_rank (state_at core line n)) 0 core.size.lines
     (λ line inside. (let none = ap entry_rank (out line n) in omega arith)) in
     let zero_ : core.size.lines * 0 ≡ 0 = grind arith in
     omega arith)) in

@@ -1,9 +1,10 @@
 -- How much can be under way: one packet for each line of a node that waits.
 use Rattle.std.proofs.Common.{◌≡◌, ℕ, zero, suc, ◌+◌, ◌*◌, ◌<◌, ◌≤◌, not, Bool, true, false, if◌then◌else◌, List, [], ◌∷◌, length, get_or, filter, take}
-use Rattle.std.proofs.Common.{Option, Some, None, refl, sym, ap, subst, arith, inl, inr}
+use Rattle.std.proofs.Common.{Option, Some, None, refl, sym, ap, subst, ◌∙◌, arith, inl, inr}
 use Rattle.std.specs.Prelude.{count_by, IfSome, option_to_list}
 use Rattle.std.specs.List.{AllByRecursion, flat_map, sum_by}
 use Rattle.std.proofs.lemmas.List.Elements.{All-weaker, recursion_from_All}
+use Rattle.std.proofs.Math.Nat.{mul-le-mul_left}
 use Rattle.std.proofs.lemmas.Bool.{cases_Bool, cases_lt}
 use Rattle.std.proofs.lemmas.List.{length-append, take_all}
 use Rattle.std.proofs.lemmas.List.Sums.{count_by_more_no, count_by_more_yes, sum_by-cons}
@@ -18,7 +19,8 @@ use Rattle.sci_core.specs.Node.{NodeOf, no_node}
 use Rattle.sci_core.specs.Reached.{IsReachable}
 use Rattle.sci_core.specs.Sharing.{asker_of, is_about, packets_of, under_way}
 use Rattle.sci_core.specs.Tidy.{HasItsPackets}
-use Rattle.sci_core.specs.WellFormed.{IsAnswerLetter, IsInLane, IsWellFormed}
+use Rattle.sci_core.specs.Size.{Size}
+use Rattle.sci_core.specs.WellFormed.{IsAnswerLetter, IsInLane, IsPart, IsWellFormed}
 use Rattle.sci_core.proofs.Tidy.TidyRuns.{any_tidy}
 use Rattle.sci_core.proofs.Tidy.TidySteps.{about_from}
 use Rattle.sci_core.proofs.WellFormed.WellFormedSteps.{any_well}
@@ -26,7 +28,7 @@ use Rattle.sci_core.proofs.WellFormed.WellFormedSteps.{any_well}
 -- ---- sums
 
 -- f 0 + .. + f (n - 1)
-abbrev sum_to : (ℕ → ℕ) → ℕ → ℕ
+abbrev pub sum_to : (ℕ → ℕ) → ℕ → ℕ
 sum_to f zero = 0
 sum_to f (suc n) = sum_to f n + f n
 
@@ -42,7 +44,7 @@ sum_to_more : (f g h : ℕ → ℕ) (n : ℕ) → ((i : ℕ) → f i ≡ g i + h
 sum_to_more f g h zero each = omega arith
 sum_to_more f g h (suc n) each = let before = sum_to_more f g h n each in let here = each n in omega arith
 
-sum_to_less : (f : ℕ → ℕ) (k n : ℕ) → ((i : ℕ) → i < n → f i ≤ k) → sum_to f n ≤ n * k
+pub sum_to_less : (f : ℕ → ℕ) (k n : ℕ) → ((i : ℕ) → i < n → f i ≤ k) → sum_to f n ≤ n * k
 sum_to_less f k zero each = omega arith
 sum_to_less f k (suc n) each =
     let before = sum_to_less f k n (λ i below. each i (omega arith)) in
@@ -182,31 +184,49 @@ few_if : (b : Bool) → one_if b ≤ 1
 few_if true = omega arith
 few_if false = omega arith
 
--- a line that waits has an entry
-waits_in : (state : CacheState) → not (is_out state) ≡ false → waits state ≡ false
-waits_in Out e = refl
-waits_in _ e = cc
+at_out : (state : CacheState) → not (is_out state) ≡ false → state ≡ Out
+at_out Out e = refl
+at_out _ e = cc
 
-waiting_lines : (lines : List LineState) (n : ℕ) → n ≤ length lines
-    → sum_to (λ i. one_if (waits (get_or lines i untouched).state)) n ≤ count_by (λ line. not (is_out line.state)) (take n lines)
-waiting_lines lines zero le = omega arith
-waiting_lines lines (suc n) le =
+-- a number that is k at most, and 0 of a line with no entry
+entries_count : (f : CacheState → ℕ) (k : ℕ) → ((state : CacheState) → f state ≤ k) → f Out ≡ 0 → (lines : List LineState) (n : ℕ) → n ≤ length lines
+    → sum_to (λ i. f (get_or lines i untouched).state) n ≤ k * count_by (λ line. not (is_out line.state)) (take n lines)
+entries_count f k most none lines zero le = omega arith
+entries_count f k most none lines (suc n) le =
     let p = λ (line : LineState). not (is_out line.state) in
+    let state = (get_or lines n untouched).state in
     let below : n < length lines = omega arith in
-    let before = waiting_lines lines n (omega arith) in
+    let before = entries_count f k most none lines n (omega arith) in
     let next : n + 1 ≡ suc n = omega arith in
-    elim (cases_Bool (not (is_out (get_or lines n untouched).state))) [
+    elim (cases_Bool (not (is_out state))) [
       | inl entry ↦
           let more : count_by p (take (suc n) lines) ≡ count_by p (take n lines) + 1 =
           subst (λ (k : ℕ). count_by p (take k lines) ≡ count_by p (take n lines) + 1) next (count_by_more_yes p lines n untouched below entry) in
-          let one = few_if (waits (get_or lines n untouched).state) in
+          let product : k * (count_by p (take n lines) + 1) ≡ k * count_by p (take n lines) + k = grind arith in
+          let whole = ap (λ (c : ℕ). k * c) more in
+          let here = most state in
           omega arith
       | inr out ↦
           let more : count_by p (take (suc n) lines) ≡ count_by p (take n lines) =
           subst (λ (k : ℕ). count_by p (take k lines) ≡ count_by p (take n lines)) next (count_by_more_no p lines n untouched below out) in
-          let none : one_if (waits (get_or lines n untouched).state) ≡ 0 = ap one_if (waits_in (get_or lines n untouched).state out) in
+          let whole = ap (λ (c : ℕ). k * c) more in
+          let here : f state ≡ 0 = ap f (at_out state out) ∙ none in
           omega arith
     ]
+
+-- of all lines of a node, whose entries are no more than its slots
+pub entries_few : (f : CacheState → ℕ) (k : ℕ) → ((state : CacheState) → f state ≤ k) → f Out ≡ 0 → (size : Size) (n : ℕ) (part : NodeOf) → IsPart size n part
+    → sum_to (λ line. f (line_of part.cache line).state) size.lines ≤ k * size.slots
+entries_few f k most none size n part is =
+    let lines = part.cache.lines in
+    let p = λ (line : LineState). not (is_out line.state) in
+    let long : length lines ≡ size.lines = is.each in
+    let entries = entries_count f k most none lines size.lines (omega arith) in
+    let whole : count_by p (take size.lines lines) ≡ slots_taken lines = ap (count_by p) (take_all size.lines lines (omega arith)) in
+    let few = is.few in
+    let room = is.room in
+    let enough : count_by p (take size.lines lines) ≤ size.slots = omega arith in
+    omega (arith, mul-le-mul_left k enough)
 
 -- how many packets are of a node's asks
 abbrev of_node : Core → ℕ → ℕ
@@ -224,14 +244,8 @@ node_lines core n = sum_to_less (λ line. one_if (waits (line_of (node_at core n
 
 node_slots : (core : Core) (n : ℕ) → IsReachable core → n < core.size.nodes → waiting_of core n ≤ core.size.slots
 node_slots core n reached lt =
-    let part = (any_well core reached).each_part n lt in
-    let lines = (node_at core n).cache.lines in
-    let long : length lines ≡ core.size.lines = part.each in
-    let entries = waiting_lines lines core.size.lines (omega arith) in
-    let whole : count_by (λ line. not (is_out line.state)) (take core.size.lines lines) ≡ slots_taken lines =
-    ap (count_by (λ line. not (is_out line.state))) (take_all core.size.lines lines (omega arith)) in
-    let few = part.few in
-    let room = part.room in
+    let few = entries_few (λ state. one_if (waits state)) 1 (λ state. few_if (waits state)) refl core.size n (node_at core n)
+    ((any_well core reached).each_part n lt) in
     omega arith
 
 -- at most one packet for each line of a node that has an entry
