@@ -29,11 +29,9 @@ pub data IsServed (core : Core) (n line : ℕ) (request : Body) (old new : Cache
   At_home : (home : HomeState) → home_serving (home_at core line) n request ≡ Some (home, answer) → new ≡ old → IsServed core n line request old new answer
   In_cache : serving old n request ≡ Some (new, answer) → IsServed core n line request old new answer
 
--- node n asks about a line, and takes the answer; no other state changes but the server's, and no operation is
--- performed
-pub record IsRound (core new : Core) (n line : ℕ) (ask : AskKind) : Type 0 where
-  pub asked : Asked
-  pub asks : asking (state_at core line n) ask ≡ Some asked
+-- what node n asks about a line is answered, and the node takes the answer; no other state changes but the server's, and no
+-- operation is performed
+pub record IsAnswered (core new : Core) (n line : ℕ) (asked : Asked) : Type 0 where
   pub server : ℕ
   pub to : server ≡ server_of core line asked.to
   -- the server's state as it serves, and after it; the asker may be the server
@@ -54,6 +52,12 @@ pub record IsRound (core new : Core) (n line : ℕ) (ask : AskKind) : Type 0 whe
   pub others : (m k : ℕ) → (k ≡ line → (m ≡ n) ⊎ (m ≡ server) → ⊥) → state_at new k m ≡ state_at core k m
   pub pending : (m : ℕ) → (node_at new m).pending ≡ (node_at core m).pending
   pub size : new.size ≡ core.size
+
+-- node n asks about a line, and is answered
+pub record IsRound (core new : Core) (n line : ℕ) (ask : AskKind) : Type 0 where
+  pub asked : Asked
+  pub asks : asking (state_at core line n) ask ≡ Some asked
+  pub answered : IsAnswered core new n line asked
 
 -- ---- which round is next
 

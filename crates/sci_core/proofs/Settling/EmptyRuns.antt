@@ -38,7 +38,7 @@ emptied_more old mid new n line ask count so reached lt inside next round leads 
       leads = leads_join settles old mid new count 4 so.leads leads;
       drained = drained;
       few = omega arith;
-      pending = pending_same mid new round.pending round.size ∙ so.pending;
+      pending = pending_same mid new round.answered.pending round.answered.size ∙ so.pending;
     }
 
 -- the rounds are few
