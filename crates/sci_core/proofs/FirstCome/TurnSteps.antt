@@ -33,7 +33,7 @@ use Rattle.sci_core.specs.Tidy.{IsTidy}
 use Rattle.sci_core.specs.WellFormed.{IsPart, IsWellFormed}
 use Rattle.sci_core.proofs.Step.Applied.{front_comes}
 use Rattle.sci_core.proofs.Shape.CacheShapes.{ServesAs, cache_serves}
-use Rattle.sci_core.proofs.Settling.Drains.{Took, made_by, some_node, some_sender, took_along}
+use Rattle.sci_core.proofs.Settling.Drains.{TookFrom, made_by, some_node, took_from}
 use Rattle.sci_core.proofs.Shape.Led.{IsLed, alike_same, role_in}
 use Rattle.sci_core.proofs.Step.NodeSides.{At_home, In_cache, PerformedAs, ServedAs, perform_as}
 use Rattle.sci_core.proofs.Basics.Options.{of_some}
@@ -320,20 +320,20 @@ served_turned core new t well tidy is (In_cache served serves e) line c ns shape
 
 -- ---- every event
 
-abbrev taken_of : (core new : Core) (kind : LaneKind) (n from : ℕ) (taking : NodeOf → Letter → Option NodeOf) → IsWellFormed core → n < core.size.nodes
-    → from < core.size.nodes → Took core new kind n from taking → Taken core new kind taking
-taken_of core new kind n from taking well lt f took = record {
+abbrev taken_of : (core new : Core) (kind : LaneKind) (n from : ℕ) (taking : NodeOf → Letter → Option NodeOf) → IsWellFormed core
+    → TookFrom core new kind n from taking → Taken core new kind taking
+taken_of core new kind n from taking well t = record {
   node = n;
   place = lane_place core.size.nodes kind from n;
-  letter = took.letter;
-  rest = took.rest;
-  next = took.next;
-  some = lt;
-  within = lane_below core kind from n well f lt;
-  front = took.front;
-  comes = front_comes core from n kind took.letter well f lt (ap (λ (lane : List Letter). slice_get lane 0) took.front);
-  takes = took.takes;
-  then_ = sym took.then_;
+  letter = t.took.letter;
+  rest = t.took.rest;
+  next = t.took.next;
+  some = t.some;
+  within = lane_below core kind from n well t.sender t.some;
+  front = t.took.front;
+  comes = front_comes core from n kind t.took.letter well t.sender t.some (ap (λ (lane : List Letter). slice_get lane 0) t.took.front);
+  takes = t.took.takes;
+  then_ = sym t.took.then_;
 }
 
 turned : (core new : Core) (e : Event) → IsWellFormed core → IsTidy core → stepping core e ≡ Some new → (line : ℕ) → line < core.size.lines
@@ -358,11 +358,9 @@ turned core new (event.Ask n at kind) well tidy steps line inside c ns is =
     record { some = lt; within = lane_below core Requests n made.0.1.target well lt sends_well.request.letter_ok.target; then_ = sym made.2 } in
     stood_turned core new line c ns (ask_stands core new n at kind made.0 well tidy made.1 sends_well sent line) is
 turned core new (event.Serve from n) well tidy steps line inside c ns is =
-    let lt = some_node core new (event.Serve from n) steps in
-    let f = some_sender core new (event.Serve from n) Requests from (node_serving (node_at core n)) lt refl steps in
-    let took = took_along core new Requests n from node_serving (event.Serve from n) (lane_of core Requests from n) ((steps_by_sides core n lt).serve from f)
-    refl steps in
-    let t = taken_of core new Requests n from node_serving well lt f took in
+    let from_ = took_from core new Requests from node_serving (event.Serve from n) refl steps in
+    let took = from_.took in
+    let t = taken_of core new Requests n from node_serving well from_ in
     let does = serve_does core new t well in
     let then_ = served_turned core new t well tidy does.0 does.1 line c ns is in
     let enabled : entrants core (event.Serve from n) line ≡ entrant_by line (slice_get (lane_of core Requests from n) 0) =
@@ -372,11 +370,8 @@ turned core new (event.Serve from n) well tidy steps line inside c ns is =
     subst (λ (xs : List ℕ). TurnedAt core new line ns xs) (sym who)
     (subst (λ (x : Core). TurnedAt core x line ns (entrant_by line (Some took.letter))) (sym took.then_) then_)
 turned core new (event.Refuse from n) well tidy steps line inside c ns is =
-    let lt = some_node core new (event.Refuse from n) steps in
-    let f = some_sender core new (event.Refuse from n) Requests from (node_refusing (node_at core n)) lt refl steps in
-    let took = took_along core new Requests n from node_refusing (event.Refuse from n) (lane_of core Requests from n) ((steps_by_sides core n lt).refuse from f)
-    refl steps in
-    stood_turned core new line c ns (refuse_stands core new (taken_of core new Requests n from node_refusing well lt f took) well tidy line) is
+    let took = took_from core new Requests from node_refusing (event.Refuse from n) refl steps in
+    stood_turned core new line c ns (refuse_stands core new (taken_of core new Requests n from node_refusing well took) well tidy line) is
 turned core new (event.Reply n) well tidy steps line inside c ns is =
     let lt = some_node core new (event.Reply n) steps in
     let made = made_by (λ (s : NodeOf × Letter). sent_by core n Answers s.0 s.1) (node_replying (node_at core n)) new
@@ -387,11 +382,8 @@ turned core new (event.Reply n) well tidy steps line inside c ns is =
     record { some = lt; within = lane_below core Answers n made.0.1.target well lt sends_well.answer.letter_ok.target; then_ = sym made.2 } in
     stood_turned core new line c ns (reply_stands core new n made.0 well tidy made.1 sends_well sent line inside) is
 turned core new (event.Accept from n) well tidy steps line inside c ns is =
-    let lt = some_node core new (event.Accept from n) steps in
-    let f = some_sender core new (event.Accept from n) Answers from (node_accepting (node_at core n)) lt refl steps in
-    let took = took_along core new Answers n from node_accepting (event.Accept from n) (lane_of core Answers from n) ((steps_by_sides core n lt).accept from f)
-    refl steps in
-    stood_turned core new line c ns (accept_stands core new (taken_of core new Answers n from node_accepting well lt f took) well tidy line) is
+    let took = took_from core new Answers from node_accepting (event.Accept from n) refl steps in
+    stood_turned core new line c ns (accept_stands core new (taken_of core new Answers n from node_accepting well took) well tidy line) is
 
 -- ---- steps
 

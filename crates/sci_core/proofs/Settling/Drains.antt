@@ -26,7 +26,7 @@ use Rattle.sci_core.proofs.Step.Applied.{front_comes, waits_replying}
 use Rattle.sci_core.proofs.Tidy.Enabled.{any_accept_enabled, serve_enabled}
 use Rattle.sci_core.proofs.Basics.Options.{of_some, map_some}
 use Rattle.sci_core.proofs.WellFormed.Parts.{SendsWell, part_asking}
-use Rattle.sci_core.proofs.Step.Sides.{steps_by_sides}
+use Rattle.sci_core.proofs.Step.Sides.{steps_by_sides, takes}
 use Rattle.sci_core.proofs.Step.Stepping.{stepping_from_nobody, stepping_nobody}
 use Rattle.sci_core.proofs.Step.Steps.{lane_below}
 use Rattle.sci_core.proofs.Tidy.TidyRuns.{node_below}
@@ -65,9 +65,9 @@ pub record Took (core new : Core) (kind : LaneKind) (n from : ℕ) (taking : Nod
 
 pub took_along : (core new : Core) (kind : LaneKind) (n from : ℕ) (taking : NodeOf → Letter → Option NodeOf) (e : Event) (lane : List Letter)
     → TakesFront core n kind taking from e → lane_of core kind from n ≡ lane → stepping core e ≡ Some new → Took core new kind n from taking
-took_along core new kind n from taking e [] takes is steps = let none = takes.empty is in let clash : None ≡ Some new = sym none ∙ steps in cc
-took_along core new kind n from taking e (letter ∷ rest) takes is steps =
-    let made = made_by (taken_to core n kind from rest) (taking (node_at core n) letter) new (sym (takes.front letter rest is) ∙ steps) in
+took_along core new kind n from taking e [] by is steps = let none = by.empty is in let clash : None ≡ Some new = sym none ∙ steps in cc
+took_along core new kind n from taking e (letter ∷ rest) by is steps =
+    let made = made_by (taken_to core n kind from rest) (taking (node_at core n) letter) new (sym (by.front letter rest is) ∙ steps) in
     record { letter = letter; rest = rest; next = made.0; front = is; takes = made.1; then_ = made.2 }
 
 -- the node of an event that is enabled is there, and so is the sender of what it takes
@@ -78,16 +78,33 @@ pub some_sender : (core new : Core) (e : Event) (kind : LaneKind) (from : ℕ) (
     → side (node_at core (node_of e)) e ≡ Takes kind from taking → stepping core e ≡ Some new → from < core.size.nodes
 some_sender core new e kind from taking lt is steps = grind (arith, cases_lt, stepping_from_nobody)
 
+-- what a step took, and who there is for it
+pub record TookFrom (core new : Core) (kind : LaneKind) (n from : ℕ) (taking : NodeOf → Letter → Option NodeOf) : Type 0 where
+  pub some : n < core.size.nodes
+  pub sender : from < core.size.nodes
+  pub took : Took core new kind n from taking
+
+pub took_from : (core new : Core) (kind : LaneKind) (from : ℕ) (taking : NodeOf → Letter → Option NodeOf) (e : Event)
+    → side (node_at core (node_of e)) e ≡ Takes kind from (taking (node_at core (node_of e))) → stepping core e ≡ Some new
+    → TookFrom core new kind (node_of e) from taking
+took_from core new kind from taking e is steps =
+    let n = node_of e in
+    let lt = some_node core new e steps in
+    let f = some_sender core new e kind from (taking (node_at core n)) lt is steps in
+    let took = took_along core new kind n from taking e (lane_of core kind from n) (takes core e kind taking from lt f is) refl steps in
+    record { some = lt; sender = f; took = took }
+
 -- a request is taken, and its answer waits
-weighs_served : (core new : Core) (n from : ℕ) (taking : NodeOf → Letter → Option NodeOf) → IsWellFormed core → n < core.size.nodes → from < core.size.nodes
-    → Took core new Requests n from taking
+weighs_served : (core new : Core) (n from : ℕ) (taking : NodeOf → Letter → Option NodeOf) → IsWellFormed core → TookFrom core new Requests n from taking
     → ((letter : Letter) → IfSome (taking (node_at core n) letter) (AnswersTo core.size.nodes letter (node_at core n))) → weight core ≡ weight new + 1
-weighs_served core new n from taking well lt f took answers =
-    let comes = front_comes core from n Requests took.letter well f lt (ap (λ (lane : List Letter). slice_get lane 0) took.front) in
+weighs_served core new n from taking well t answers =
+    let took = t.took in
+    let lt = t.some in
+    let comes = front_comes core from n Requests took.letter well t.sender lt (ap (λ (lane : List Letter). slice_get lane 0) took.front) in
     let does = of_some (AnswersTo core.size.nodes took.letter (node_at core n)) (taking (node_at core n) took.letter) took.next took.takes
     (answers took.letter) in
     let place = lane_place core.size.nodes Requests from n in
-    let both = weighs_both core n place took.next took.rest (node_below core n well lt) (lane_below core Requests from n well f lt) in
+    let both = weighs_both core n place took.next took.rest (node_below core n well lt) (lane_below core Requests from n well t.sender lt) in
     let old : answer_weight (node_at core n).waiting ≡ 0 = ap answer_weight does.free in
     let now : answer_weight took.next.waiting ≡ 2 = ap answer_weight does.waiting in
     let lane : lane_weight (lane_at core place) ≡ letter_weight took.letter + lane_weight took.rest =
@@ -96,14 +113,15 @@ weighs_served core new n from taking well lt f took answers =
     let then_ : weight new ≡ weight (taken_to core n Requests from took.rest took.next) = ap weight took.then_ in
     omega arith
 
-weighs_accepted : (core new : Core) (n from : ℕ) → IsWellFormed core → n < core.size.nodes → from < core.size.nodes
-    → Took core new Answers n from node_accepting → weight core ≡ weight new + 1
-weighs_accepted core new n from well lt f took =
-    let comes = front_comes core from n Answers took.letter well f lt (ap (λ (lane : List Letter). slice_get lane 0) took.front) in
+weighs_accepted : (core new : Core) (n from : ℕ) → IsWellFormed core → TookFrom core new Answers n from node_accepting → weight core ≡ weight new + 1
+weighs_accepted core new n from well t =
+    let took = t.took in
+    let lt = t.some in
+    let comes = front_comes core from n Answers took.letter well t.sender lt (ap (λ (lane : List Letter). slice_get lane 0) took.front) in
     let does = of_some (Accepts took.letter.line (node_at core n)) (node_accepting (node_at core n) took.letter) took.next took.takes
     (accept_accepts (node_at core n) took.letter) in
     let place = lane_place core.size.nodes Answers from n in
-    let both = weighs_both core n place took.next took.rest (node_below core n well lt) (lane_below core Answers from n well f lt) in
+    let both = weighs_both core n place took.next took.rest (node_below core n well lt) (lane_below core Answers from n well t.sender lt) in
     let same : answer_weight took.next.waiting ≡ answer_weight (node_at core n).waiting = ap answer_weight does.waiting in
     let lane : lane_weight (lane_at core place) ≡ letter_weight took.letter + lane_weight took.rest =
     ap lane_weight took.front ∙ sum_by-cons letter_weight took.letter took.rest in
@@ -160,24 +178,14 @@ weighs core new (event.Perform n line) well steps asks =
     (perform_stays core.size.nodes (node_at core n) line)).waiting made.2
 weighs core new (event.Ask n line kind) well steps asks = cc
 weighs core new (event.Serve from n) well steps asks =
-    let lt = some_node core new (event.Serve from n) steps in
-    let f = some_sender core new (event.Serve from n) Requests from (node_serving (node_at core n)) lt refl steps in
-    weighs_served core new n from node_serving well lt f
-    (took_along core new Requests n from node_serving (event.Serve from n) (lane_of core Requests from n) ((steps_by_sides core n lt).serve from f) refl
-    steps) (λ letter. serve_answers core.size.nodes (node_at core n) letter)
+    weighs_served core new n from node_serving well (took_from core new Requests from node_serving (event.Serve from n) refl steps)
+    (serve_answers core.size.nodes (node_at core n))
 weighs core new (event.Refuse from n) well steps asks =
-    let lt = some_node core new (event.Refuse from n) steps in
-    let f = some_sender core new (event.Refuse from n) Requests from (node_refusing (node_at core n)) lt refl steps in
-    weighs_served core new n from node_refusing well lt f
-    (took_along core new Requests n from node_refusing (event.Refuse from n) (lane_of core Requests from n) ((steps_by_sides core n lt).refuse from f) refl
-    steps) (λ letter. refuse_answers core.size.nodes (node_at core n) letter)
+    weighs_served core new n from node_refusing well (took_from core new Requests from node_refusing (event.Refuse from n) refl steps)
+    (refuse_answers core.size.nodes (node_at core n))
 weighs core new (event.Reply n) well steps asks = grind (arith, some_node, made_by, steps_by_sides, weighs_replied)
 weighs core new (event.Accept from n) well steps asks =
-    let lt = some_node core new (event.Accept from n) steps in
-    let f = some_sender core new (event.Accept from n) Answers from (node_accepting (node_at core n)) lt refl steps in
-    weighs_accepted core new n from well lt f
-    (took_along core new Answers n from node_accepting (event.Accept from n) (lane_of core Answers from n) ((steps_by_sides core n lt).accept from f) refl
-    steps)
+    weighs_accepted core new n from well (took_from core new Answers from node_accepting (event.Accept from n) refl steps)
 
 -- ---- runs
 

@@ -33,7 +33,7 @@ use Rattle.sci_core.specs.Settling.{AreMade, IsSettled, IsWithin, Leads, LeadsOn
 use Rattle.sci_core.specs.Shape.{state_at}
 use Rattle.sci_core.specs.Size.{Size}
 use Rattle.sci_core.proofs.Tidy.Burdens.{light}
-use Rattle.sci_core.proofs.Settling.Drains.{drained, made_by, some_node, some_sender, took_along, weighs}
+use Rattle.sci_core.proofs.Settling.Drains.{drained, made_by, some_node, took_from, weighs}
 use Rattle.sci_core.proofs.Settling.Emptying.{asks_if, home_round, known}
 use Rattle.sci_core.proofs.Settling.EmptyRuns.{pending_same}
 use Rattle.sci_core.proofs.Settling.Leading.{leads_join, leads_more, leads_on, leads_weaker}
@@ -63,17 +63,13 @@ one_pending core n next same m = at_place_set (λ (j : ℕ) (part : NodeOf). par
 
 move_pending : (core new : Core) (e : Event) → brings_on e ≡ true → stepping core e ≡ Some new → (m : ℕ) → (node_at new m).pending ≡ (node_at core m).pending
 move_pending core new (event.Serve from n) is steps m =
-    let lt = some_node core new (event.Serve from n) steps in
-    let f = some_sender core new (event.Serve from n) Requests from (node_serving (node_at core n)) lt refl steps in
-    let took = took_along core new Requests n from node_serving (event.Serve from n) _ ((steps_by_sides core n lt).serve from f) refl steps in
+    let took = (took_from core new Requests from node_serving (event.Serve from n) refl steps).took in
     let as_ = of_some (ServedAs (node_at core n) took.letter) (node_serving (node_at core n) took.letter) took.next took.takes
     (serve_as (node_at core n) took.letter) in
     ap (λ (x : Core). (node_at x m).pending) took.then_ ∙ one_pending core n took.next (served_pending (node_at core n) took.letter took.next as_) m
 move_pending core new (event.Reply n) is steps m = grind (arith, some_node, made_by, steps_by_sides, of_some, reply_as, one_pending)
 move_pending core new (event.Accept from n) is steps m =
-    let lt = some_node core new (event.Accept from n) steps in
-    let f = some_sender core new (event.Accept from n) Answers from (node_accepting (node_at core n)) lt refl steps in
-    let took = took_along core new Answers n from node_accepting (event.Accept from n) _ ((steps_by_sides core n lt).accept from f) refl steps in
+    let took = (took_from core new Answers from node_accepting (event.Accept from n) refl steps).took in
     let as_ = of_some (AcceptedAs (node_at core n) took.letter) (node_accepting (node_at core n) took.letter) took.next took.takes
     (accept_as (node_at core n) took.letter) in
     ap (λ (x : Core). (node_at x m).pending) took.then_ ∙ one_pending core n took.next (ap (λ (p : NodeOf). p.pending) (sym as_.then_)) m

@@ -30,8 +30,9 @@ took : (core : Core) (n : ℕ) (kind : LaneKind) (from : ℕ) (rest : List Lette
 took core n kind from rest None = refl
 took core n kind from rest (Some next) = refl
 
-takes : (core : Core) (e : Event) (kind : LaneKind) (taking : NodeOf → Letter → Option NodeOf) (from : ℕ) → node_of e < core.size.nodes → from < core.size.nodes
-    → side (node_at core (node_of e)) e ≡ Takes kind from (taking (node_at core (node_of e))) → TakesFront core (node_of e) kind taking from e
+pub takes : (core : Core) (e : Event) (kind : LaneKind) (taking : NodeOf → Letter → Option NodeOf) (from : ℕ) → node_of e < core.size.nodes
+    → from < core.size.nodes → side (node_at core (node_of e)) e ≡ Takes kind from (taking (node_at core (node_of e)))
+    → TakesFront core (node_of e) kind taking from e
 takes core e kind taking from lt f is =
     let n = node_of e in
     let place = lane_place core.size.nodes kind from n in
