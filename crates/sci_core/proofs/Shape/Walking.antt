@@ -39,9 +39,6 @@ linked_on : (link : ℕ → Option (Option ℕ)) (n : ℕ) (rest : List ℕ) →
 linked_on link n [] linked none = let no : Some n ≡ None = linked in cc
 linked_on link n (m ∷ ms) linked none = grind arith
 
-pub walk_goes_on : (link : ℕ → Option (Option ℕ)) (first : Option ℕ) (so_far : List ℕ) (n : ℕ) → IsWalked link first so_far (Some n) → link n ≡ None → ⊥
-walk_goes_on link first so_far n walked none = linked_on link n walked.rest walked.linked none
-
 -- one node more
 more : (link : ℕ → Option (Option ℕ)) (first : Option ℕ) (so_far : List ℕ) (n : ℕ) (next : Option ℕ) (rest : List ℕ) → LinkedFrom link (Some n) rest
     → IsListOf link first (so_far ++ rest) → link n ≡ Some next → IsWalked link first (so_far ++ n ∷ []) next
@@ -89,7 +86,7 @@ begun link first so_far (m ∷ ms) n size below linked whole =
     let next : m < size = below m linked.1.0 linked.1.1 in
     (omega (arith, length-append so_far (m ∷ ms)), omega arith)
 
-pub walk_fits : (core : Core) (line : ℕ) (first : Option ℕ) (so_far : List ℕ) (n : ℕ) → IsWellFormed core → IsWalked (link_at core line) first so_far (Some n)
+walk_fits : (core : Core) (line : ℕ) (first : Option ℕ) (so_far : List ℕ) (n : ℕ) → IsWellFormed core → IsWalked (link_at core line) first so_far (Some n)
     → (length so_far < core.size.nodes) × (n < core.size.nodes)
 walk_fits core line first so_far n well walked =
     begun (link_at core line) first so_far walked.rest n core.size.nodes (λ m next is. member_below core line m next well is) walked.linked walked.whole
@@ -101,8 +98,15 @@ walk_done core line first so_far None well long walked = walk_ends (link_at core
 walk_done core line first so_far (Some n) well long walked = let fits = walk_fits core line first so_far n well walked in
     let less : length so_far < core.size.nodes = fits.0 in absurd (omega arith)
 
--- the walk at a node that is next, by its number
-pub walked_at : (link : ℕ → Option (Option ℕ)) (first : Option ℕ) (so_far : List ℕ) (next : Option ℕ) (id n : ℕ) → next ≡ Some id → n ≡ id
-    → IsWalked link first so_far next → IsWalked link first so_far (Some n)
-walked_at link first so_far next id n is same walked =
-    subst (IsWalked link first so_far) (is ∙ ap (λ (x : ℕ). let o : Option ℕ = Some x in o) (sym same)) walked
+-- the walk at a node that is next, by its number: it is one of the machine's, and a member
+pub record IsAt (core : Core) (line : ℕ) (so_far : List ℕ) (n : ℕ) : Type 0 where
+  pub walked : IsWalked (link_at core line) (head_of (home_at core line)) so_far (Some n)
+  pub below : n < core.size.nodes
+  pub goes_on : link_at core line n ≡ None → ⊥
+
+pub walked_at : (core : Core) (line : ℕ) (so_far : List ℕ) (next : Option ℕ) (id n : ℕ) → IsWellFormed core → next ≡ Some id → n ≡ id
+    → IsWalked (link_at core line) (head_of (home_at core line)) so_far next → IsAt core line so_far n
+walked_at core line so_far next id n well is same walked =
+    let first = head_of (home_at core line) in
+    let at = subst (IsWalked (link_at core line) first so_far) (is ∙ ap (λ (x : ℕ). let o : Option ℕ = Some x in o) (sym same)) walked in
+    record { walked = at; below = (walk_fits core line first so_far n well at).1; goes_on = linked_on (link_at core line) n at.rest at.linked }

@@ -1,9 +1,9 @@
-use Rattle.std.proofs.Common.{◌≡◌, ◌<◌, List, ℕ, length, ap, subst, arith, length-append, refl}
+use Rattle.std.proofs.Common.{◌≡◌, List, ℕ, length, ap, subst, arith, length-append, refl}
 use Rattle.sci_home.specs.Serving.{head_of}
 use Rattle.sci_core.specs.Sharing.{authority_contents, home_at, sharer_of}
 use Rattle.sci_core.specs.SharingList.{link_at}
 use Rattle.sci_core.proofs.Shape.Shared.{sought_first, sought_more}
-use Rattle.sci_core.proofs.Shape.Walking.{IsWalked, walk_begins, walk_ends, walk_goes_on, walks_more, walk_fits, walk_done, walked_at}
+use Rattle.sci_core.proofs.Shape.Walking.{IsWalked, walk_begins, walk_ends, walks_more, walk_done, walked_at}
 use Rattle.sci_core.proofs.state.State.members.Goals as goal
 
 pub loop-place-init : goal.loop-place-init
@@ -15,45 +15,30 @@ loop-place-init c = record {
 
 pub overflow_cast-node : goal.overflow_cast-node
 overflow_cast-node c =
-    let core = c.args.self.now in
-    let first = head_of (home_at core c.args.line) in
-    let at = walked_at (link_at core c.args.line) first c.loop-place.nodes.items c.loop-place.next c.in-Some.id c.get-node.result c.in-Some.is
-    c.get-node.ensures.number c.loop-place.invariant.walked in
-    let fits = walk_fits core c.args.line first c.loop-place.nodes.items c.get-node.result c.requires.well at in
-    let below : c.get-node.result < core.size.nodes = fits.1 in
+    let at = walked_at c.args.self.now c.args.line _ _ _ _ c.requires.well c.in-Some.is c.get-node.ensures.number c.loop-place.invariant.walked in
+    let below = at.below in
     omega (arith, c.nodes.ensures.nodes, c.nodes.type_inv)
 
 pub behind-next-requires-clause-n : goal.behind-next-requires-clause-n
 behind-next-requires-clause-n c =
-    let core = c.args.self.now in
-    let first = head_of (home_at core c.args.line) in
-    let at = walked_at (link_at core c.args.line) first c.loop-place.nodes.items c.loop-place.next c.in-Some.id c.get-node.result c.in-Some.is
-    c.get-node.ensures.number c.loop-place.invariant.walked in
-    let fits = walk_fits core c.args.line first c.loop-place.nodes.items c.get-node.result c.requires.well at in
-    fits.1
+    (walked_at c.args.self.now c.args.line _ _ _ _ c.requires.well c.in-Some.is c.get-node.ensures.number c.loop-place.invariant.walked).below
 
 pub behind-next-requires-clause-member : goal.behind-next-requires-clause-member
 behind-next-requires-clause-member c =
-    let core = c.args.self.now in
-    let first = head_of (home_at core c.args.line) in
-    let at = walked_at (link_at core c.args.line) first c.loop-place.nodes.items c.loop-place.next c.in-Some.id c.get-node.result c.in-Some.is
-    c.get-node.ensures.number c.loop-place.invariant.walked in
-    λ no. walk_goes_on (link_at core c.args.line) first c.loop-place.nodes.items c.get-node.result at no
+    (walked_at c.args.self.now c.args.line _ _ _ _ c.requires.well c.in-Some.is c.get-node.ensures.number c.loop-place.invariant.walked).goes_on
 
 pub loop-place-preserved : goal.loop-place-preserved
 loop-place-preserved c =
     let core = c.args.self.now in
-    let first = head_of (home_at core c.args.line) in
-    let at = walked_at (link_at core c.args.line) first c.loop-place.nodes.items c.loop-place.next c.in-Some.id c.get-node.result c.in-Some.is
-    c.get-node.ensures.number c.loop-place.invariant.walked in
+    let at = walked_at c.args.self.now c.args.line _ _ _ _ c.requires.well c.in-Some.is c.get-node.ensures.number c.loop-place.invariant.walked in
     let longer = ap (λ (l : List ℕ). length l) c.in_ok-push.ensures.items in record {
       walked = rw c.in_ok-push.ensures.items
-          (walks_more (link_at core c.args.line) first c.loop-place.nodes.items c.get-node.result c.behind-next.result at c.behind-next.ensures.behind);
+          (walks_more (link_at core c.args.line) (head_of (home_at core c.args.line)) c.loop-place.nodes.items c.get-node.result c.behind-next.result at.walked
+          c.behind-next.ensures.behind);
       counted = omega (arith, longer, length-append {A = ℕ}, c.loop-place.invariant.counted);
       sought = rw c.in_ok-push.ensures.items
           (sought_more core c.args.line c.get-node.result c.loop-place.nodes.items c.loop-place.authority c.behind-next.new.found
-          (authority_contents (sharer_of core c.args.line c.get-node.result)) c.loop-place.invariant.sought
-          (walk_fits core c.args.line first c.loop-place.nodes.items c.get-node.result c.requires.well at).1 refl c.behind-next.ensures.here
+          (authority_contents (sharer_of core c.args.line c.get-node.result)) c.loop-place.invariant.sought at.below refl c.behind-next.ensures.here
           c.behind-next.ensures.before);
     }
 
