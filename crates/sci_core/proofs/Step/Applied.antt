@@ -13,7 +13,7 @@ use Rattle.sci_core.specs.Core.{Core, node_at, lane_place, lane_of, with_sent, s
 use Rattle.sci_core.specs.WellFormed.{IsInLane, IsWellFormed}
 use Rattle.sci_core.proofs.WellFormed.Parts.{part_asking}
 use Rattle.sci_core.proofs.WellFormed.WellFormedSteps.{Comes, comes_from_lane}
-use Rattle.sci_core.proofs.Step.States.{read_node}
+use Rattle.sci_core.proofs.Step.States.{read_at}
 use Rattle.sci_core.proofs.Step.Stepping.{stepping_sent}
 
 -- ---- packets that come
@@ -53,13 +53,6 @@ pub target_below : (core : Core) (n line : ℕ) (kind : AskKind) (next : NodeOf)
     → node_asking (node_at core n) line kind ≡ Some (next, letter) → letter.target < core.size.nodes
 target_below core n line kind next letter well lt e = grind (arith, part_asking)
 
--- the node that sends is the same once its packet is in the lane
-pub read_sent : (core mid : Core) (kind : LaneKind) (i n : ℕ) (letter : Letter) (old : NodeOf) → mid ≡ with_sent core kind n letter → i ≡ n
-    → length mid.parts ≡ mid.size.nodes → n < core.size.nodes → old ≡ get_or mid.parts i old → old ≡ node_at core n
-read_sent core mid kind i n letter old sent is long lt read =
-    let size = ap (λ (m : Core). m.size.nodes) sent in
-    subst (λ (m : Core). old ≡ node_at m n) sent (read_node mid i n old is (omega arith) read)
-
 -- the packet ends its lane, and then the node changes
 pub sent_done : (core mid : Core) (e : Event) (kind : LaneKind) (sending : NodeOf → Option (NodeOf × Letter)) (i : ℕ) (old new next : NodeOf) (letter : Letter)
     → node_of e < core.size.nodes
@@ -68,7 +61,7 @@ pub sent_done : (core mid : Core) (e : Event) (kind : LaneKind) (sending : NodeO
     → length mid.parts ≡ mid.size.nodes → old ≡ get_or mid.parts i old → IfSome (sending old) (λ sent. new ≡ sent.0)
     → stepping core e ≡ Some (record mid { parts = set mid.parts i new })
 sent_done core mid e kind sending i old new next letter lt is made sent at long read done =
-    let here = read_sent core mid kind i (node_of e) letter old sent at long lt read in
+    let here : old ≡ node_at core (node_of e) = read_at mid (with_sent core kind (node_of e) letter) i (node_of e) old sent long at lt read in
     let same : new ≡ next = subst (λ (o : Option (NodeOf × Letter)). IfSome o (λ x. new ≡ x.0)) (ap sending here ∙ made) done in
     stepping_sent core (record mid { parts = set mid.parts i new }) e kind next letter lt (is (node_at core (node_of e)) ∙ ap (sends kind) made)
     (rw (sent, at, same) refl)

@@ -11,6 +11,13 @@ use Rattle.sci_core.proofs.Step.Stepping.{stepping_idle, stepping_changed}
 pub read_node : (core : Core) (i n : ℕ) (old : NodeOf) → i ≡ n → n < length core.parts → old ≡ get_or core.parts i old → old ≡ node_at core n
 read_node core i n old is below e = get_or_read core.parts n old below (subst (λ (k : ℕ). old ≡ get_or core.parts k old) is e) no_node
 
+-- the same of a machine that is another by its view
+pub read_at : (core now : Core) (i n : ℕ) (old : NodeOf) → core ≡ now → length core.parts ≡ core.size.nodes → i ≡ n → n < now.size.nodes
+    → old ≡ get_or core.parts i old → old ≡ node_at now n
+read_at core now i n old view long at lt value =
+    let size = ap (λ (k : Core). k.size.nodes) view in
+    subst (λ (k : Core). old ≡ node_at k n) view (read_node core i n old at (omega arith) value)
+
 -- what is so of two nodes is so of what they are
 pub at_both : (P : NodeOf → NodeOf → Type 0) (old new before after : NodeOf) → old ≡ before → new ≡ after → P old new → P before after
 at_both P old new before after was is so = subst (P before) is (subst (λ (node : NodeOf). P node new) was so)

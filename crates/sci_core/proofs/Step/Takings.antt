@@ -1,5 +1,5 @@
 -- A packet that a node takes: Serve, Refuse and Accept are one step.
-use Rattle.std.proofs.Common.{◌≡◌, ℕ, ◌<◌, ◌≤◌, length, get_or, set, drop, Some, None, refl, ◌∙◌, arith}
+use Rattle.std.proofs.Common.{◌≡◌, ℕ, ◌<◌, ◌≤◌, set, drop, Some, None, refl, ◌∙◌, arith}
 use Rattle.std.specs.Prelude.{slice_get}
 use Rattle.sci_words.specs.declared.event.Event.TheVariants as event
 use Rattle.sci_cache.specs.Cache.{Letter}
@@ -11,7 +11,6 @@ use Rattle.sci_core.specs.Core.{Core, node_at, lane_place, lane_of, with_lane, t
 use Rattle.sci_core.specs.Taking.{lane_kind, taking_event, node_taking, IsTakable}
 use Rattle.sci_core.specs.WellFormed.{IsWellFormed}
 use Rattle.sci_core.proofs.Step.Applied.{servable, acceptable}
-use Rattle.sci_core.proofs.Step.States.{read_node}
 use Rattle.sci_core.proofs.Step.Stepping.{stepping_takes, stepping_from_nobody, empty_lane, front_taken}
 
 -- there is no such sender
@@ -43,16 +42,16 @@ takable core Accept from n letter well f lt front = acceptable core from n lette
 
 -- ---- what a call on the node at its place gives, told of the whole state
 
-pub taking_untaken : (core : Core) (taking : Taking) (from n i : ℕ) (old : NodeOf) (letter : Letter) → n < core.size.nodes → from < core.size.nodes
+pub taking_untaken : (core : Core) (taking : Taking) (from n : ℕ) (old : NodeOf) (letter : Letter) → n < core.size.nodes → from < core.size.nodes
     → slice_get (lane_of core (lane_kind taking) from n) 0 ≡ Some letter
-    → i ≡ n → n < length core.parts → old ≡ get_or core.parts i old → node_taking taking old letter ≡ None → stepping core (taking_event taking from n) ≡ None
-taking_untaken core taking from n i old letter lt f front is below e none = grind (arith, stepping_taking, front_taken, read_node)
+    → old ≡ node_at core n → node_taking taking old letter ≡ None → stepping core (taking_event taking from n) ≡ None
+taking_untaken core taking from n old letter lt f front read none = grind (arith, stepping_taking, front_taken)
 
 -- the node takes a packet, and then the packet leaves its lane
 pub taking_done : (core new : Core) (taking : Taking) (from n i : ℕ) (old next : NodeOf) (letter : Letter) → n < core.size.nodes → from < core.size.nodes
     → slice_get (lane_of core (lane_kind taking) from n) 0 ≡ Some letter
-    → i ≡ n → n < length core.parts → old ≡ get_or core.parts i old → node_taking taking old letter ≡ Some next
+    → i ≡ n → old ≡ node_at core n → node_taking taking old letter ≡ Some next
     → new ≡ with_lane (record core { parts = set core.parts i next }) (lane_place core.size.nodes (lane_kind taking) from n)
     (drop 1 (lane_of core (lane_kind taking) from n))
     → stepping core (taking_event taking from n) ≡ Some new
-taking_done core new taking from n i old next letter lt f front is below e some same = grind (arith, stepping_taking, front_taken, read_node)
+taking_done core new taking from n i old next letter lt f front is read some same = grind (arith, stepping_taking, front_taken)
