@@ -1,5 +1,5 @@
 -- What the audit of a line needs of its entries, and what lines that are found lawful say of all.
-use Rattle.std.proofs.Common.{◌≡◌, ◌↔◌, ℕ, suc, ◌+◌, ◌<◌, ◌≤◌, false, List, [], ◌∷◌, ◌++◌, length, get_or, Option, Some, None, refl, sym, ap, ◌∙◌, subst, arith}
+use Rattle.std.proofs.Common.{◌≡◌, ◌↔◌, ℕ, suc, ◌+◌, ◌<◌, ◌≤◌, false, List, [], ◌∷◌, ◌++◌, length, Option, Some, None, refl, sym, subst, arith}
 use Rattle.std.proofs.Common.{inl, inr, below_more}
 use Rattle.std.specs.Prelude.{All}
 use Rattle.std.specs.List.{flat_map, AllByRecursion}
@@ -103,14 +103,7 @@ lawful_more logs last line below here = below_more (λ (other : ℕ). IsLawfulLi
 pub faults_more : (logs : List (List Entry)) (last : List Stamped) (faults : List (Option LineFault)) (line : ℕ) (fault : Option LineFault)
     (entries : List Entry) (here : Stamped) → AreFound logs last line faults → entries ≡ on_line line logs → here ≡ stamped_at last line
     → IsFound entries here fault → AreFound logs last (line + 1) (faults ++ fault ∷ [])
-faults_more logs last faults line fault entries here below is read found = record {
-  many = length-append faults (fault ∷ []) ∙ ap (λ n. n + 1) below.many;
-  each = below_more (λ (other : ℕ). IsFound (on_line other logs) (stamped_at last other) (get_or (faults ++ fault ∷ []) other None)) line
-      (λ other lt. subst (IsFound (on_line other logs) (stamped_at last other)) (sym (get_or_append_left faults (fault ∷ []) None other (rw below.many lt)))
-      (below.each other lt))
-      (subst (IsFound (on_line line logs) (stamped_at last line)) (sym (get_or_push faults fault None line below.many))
-      (subst (λ (es : List Entry). IsFound es (stamped_at last line) fault) is (subst (λ (s : Stamped). IsFound entries s fault) read found)));
-}
+faults_more logs last faults line fault entries here below is read found = grind (arith, length-append, below_more, get_or_append_left, get_or_push)
 
 -- ---- the verdict
 

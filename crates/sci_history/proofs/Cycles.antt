@@ -124,11 +124,7 @@ record IsPlacedAt (order : List Entry) (x : Step) : Type 0 where
 
 placed_at : (logs : List (List Entry)) (last : List Stamped) (order : List Entry) (x : Step) → IsSequentialOrder logs last order → IsInLog logs x
     → IsPlacedAt order x
-placed_at logs last order x is logged =
-    let found = got (filter (is_of_node x.entry.node) order) x.place x.entry
-    (ap (λ (log : List Entry). slice_get log x.place) (is.logged x.entry.node) ∙ logged) in
-    let at = stands (is_of_node x.entry.node) order x.place found.0 in
-    record { below = at.below; same = at.same ∙ found.1 }
+placed_at logs last order x is logged = grind (arith, got, stands)
 
 after_by_place : (logs : List (List Entry)) (last : List Stamped) (order : List Entry) (x y : Step) → IsSequentialOrder logs last order → IsInLog logs x
     → IsInLog logs y → y.entry.op.line ≡ x.entry.op.line → place y.entry < place x.entry → stands_at order y < stands_at order x
@@ -146,11 +142,7 @@ after_by_place logs last order x y is in_x in_y line less =
 
 after_stands : (logs : List (List Entry)) (last : List Stamped) (order : List Entry) (reason : Reason) (x y : Step) → IsSequentialOrder logs last order
     → IsInLog logs x → IsInLog logs y → ComesAfter reason x y → stands_at order y < stands_at order x
-after_stands logs last order Logged x y is in_x in_y after =
-    let found = got (filter (is_of_node x.entry.node) order) x.place x.entry
-    (ap (λ (log : List Entry). slice_get log x.place) (is.logged x.entry.node) ∙ in_x) in
-    subst (λ (n : ℕ). place_in (is_of_node n) order y.place < stands_at order x) (sym after.0)
-    (later (is_of_node x.entry.node) order y.place x.place after.1 found.0)
+after_stands logs last order Logged x y is in_x in_y after = grind (arith, got, later)
 after_stands logs last order ReadsFrom x y is in_x in_y after =
     let version = after.3 in
     after_by_place logs last order x y is in_x in_y after.0 (rw (after.1, after.2) (omega arith))

@@ -1,10 +1,9 @@
 -- The number of loads at each version among the first entries.
-use Rattle.std.proofs.Common.{◌≡◌, ℕ, ◌+◌, ◌<◌, ◌≤◌, true, false, List, [], ◌∷◌, ◌++◌, length, map, get_or, set, take, refl, sym, ap, subst, ◌∙◌, arith, inl}
+use Rattle.std.proofs.Common.{◌≡◌, ℕ, ◌+◌, ◌<◌, ◌≤◌, true, false, List, [], ◌∷◌, ◌++◌, length, get_or, set, take, refl, sym, ap, ◌∙◌, arith, inl}
 use Rattle.std.proofs.Common.{inr}
 use Rattle.std.specs.Global.{Vec}
 use Rattle.std.specs.Prelude.{count_by}
 use Rattle.std.proofs.Math.Seq.{get_or-append_seam}
-use borrow.Author.Count.{below_more}
 use Rattle.std.proofs.lemmas.Bool.{cases_eq, eq-eqb, ne_eqb}
 use Rattle.std.proofs.lemmas.List.{get_or_append_left, map-append, length-map, length-set, length-take, get_or-set_same, get_or-set_other}
 use Rattle.std.proofs.lemmas.List.Sums.{count_by-le-length}
@@ -66,26 +65,11 @@ counted_load counts refs n makers lt load within has =
 -- no count is above the number of entries
 pub few_counted : (counts : List ℕ) (refs : List (Bor Entry)) (n makers version : ℕ) → version ≤ makers → HasCounted counts refs n makers
     → get_or counts version 0 ≤ n
-few_counted counts refs n makers version le has =
-    let was = has.each version le in
-    let few = count_by-le-length (reads version) (take n (entries_of refs)) in
-    let long = length-take n (entries_of refs) in
-    omega arith
+few_counted counts refs n makers version le has = grind (arith, count_by-le-length, length-take)
 
 -- ---- one line more
 
 pub counts_more : (loads new : List (Vec ℕ)) (list : Vec ℕ) (n : ℕ) (logs : List (List Entry)) → length loads ≡ n → new ≡ loads ++ list ∷ []
     → ((line : ℕ) → line < n → HasCounts (get_or (lists_of_counts loads) line []) (on_line line logs))
     → HasCounts list.items (on_line n logs) → (line : ℕ) → line < n + 1 → HasCounts (get_or (lists_of_counts new) line []) (on_line line logs)
-counts_more loads new list n logs long is before here =
-    let f = λ (l : Vec ℕ). l.items in
-    let joined : lists_of_counts new ≡ lists_of_counts loads ++ list.items ∷ [] = ap (λ (ls : List (Vec ℕ)). map f ls) is ∙ map-append f loads (list ∷ []) in
-    let size : length (lists_of_counts loads) ≡ n = length-map loads f ∙ long in
-    below_more (λ (line : ℕ). HasCounts (get_or (lists_of_counts new) line []) (on_line line logs)) n
-    (λ line lt. subst (λ (cs : List ℕ). HasCounts cs (on_line line logs))
-    (sym (ap (λ (ls : List (List ℕ)). get_or ls line []) joined ∙ get_or_append_left (lists_of_counts loads) (list.items ∷ []) [] line (omega arith)))
-    (before line lt))
-    (subst (λ (cs : List ℕ). HasCounts cs (on_line n logs))
-    (sym (ap (λ (ls : List (List ℕ)). get_or ls n []) joined
-    ∙ (ap (λ (k : ℕ). get_or (lists_of_counts loads ++ list.items ∷ []) k []) (sym size) ∙ get_or-append_seam (lists_of_counts loads) list.items [] [])))
-    here)
+counts_more loads new list n logs long is before here = grind (arith, map-append, length-map, get_or_append_left, get_or-append_seam)

@@ -53,15 +53,7 @@ pub load_counted : (logs : List (List Entry)) (loads : List (Vec ℕ)) (lines : 
     (entry : Entry) (rest : List Entry) → IsPlacing logs (length loads) lines rests order → n < MAX_NODES
     → IsFrontAt logs (lists_of_counts loads) rests n entry rest → CanFollow (state_of lines entry.op.line) entry → is_making entry ≡ false
     → 1 ≤ (state_of lines entry.op.line).left
-load_counted logs loads lines rests order n entry rest placing lt front can load =
-    let state = state_of lines entry.op.line in
-    let long = counts_long loads in
-    let sixteen = placing.sixteen in
-    let inside = front.is.within in
-    let on = placing.each entry.op.line (omega arith) in
-    let one = one_left_at rests n entry rest state.version (omega arith) front.left load (can.load load) in
-    let left = on.left in
-    omega arith
+load_counted logs loads lines rests order n entry rest placing lt front can load = grind (arith, counts_long, one_left_at)
 
 -- it is placed
 pub front_placed : (logs : List (List Entry)) (loads : List (Vec ℕ)) (lines : List LineState) (next : List ℕ) (order : List Entry) (n : ℕ) (entry : Entry)
@@ -117,16 +109,7 @@ pub state_more : (lines : List LineState) (loads : List (Vec ℕ)) (line left : 
     → get_or (get_or (lists_of_counts loads) line []) 0 0 ≡ left
     → ((k : ℕ) → k < line → state_of lines k ≡ record { version = 0; left = get_or (get_or (lists_of_counts loads) k []) 0 0 }) → (k : ℕ) → k < line + 1
     → state_of (set lines line (record { version = 0; left = left })) k ≡ record { version = 0; left = get_or (get_or (lists_of_counts loads) k []) 0 0 }
-state_more lines loads line left lt is before k below =
-    let new = set lines line (record { version = 0; left = left }) in
-    let state = λ (n : ℕ). let s : LineState = record { version = 0; left = n } in s in
-    elim (cases_eq k line) [
-      | inl same ↦
-          ap (λ (j : ℕ). state_of new j) same
-          ∙ (get_or-set_same lines line (state left) (state 0) lt
-          ∙ (ap state (sym is) ∙ ap (λ (j : ℕ). state (get_or (get_or (lists_of_counts loads) j []) 0 0)) (sym same)))
-      | inr ne ↦ get_or-set_other lines line k (state left) (state 0) ne ∙ before k (not_last k line ne below)
-    ]
+state_more lines loads line left lt is before k below = grind (arith, cases_eq, get_or-set_same, get_or-set_other, not_last)
 
 all_counted : (entries : List Entry) → count_by (λ (e : Entry). true) entries ≡ length entries
 all_counted [] = refl
@@ -135,11 +118,7 @@ all_counted (e ∷ entries) = count-cons (λ (x : Entry). true) e entries ∙ om
 -- no more entries are placed than there are
 pub order_within : (logs : List (List Entry)) (count : ℕ) (lines : List LineState) (rests : List (List Entry)) (order : List Entry)
     → IsPlacing logs count lines rests order → length order ≤ length (all_of logs)
-order_within logs count lines rests order is =
-    let all = is.counts (λ (e : Entry). true) in
-    let a = all_counted order in
-    let b = all_counted (all_of logs) in
-    omega arith
+order_within logs count lines rests order is = grind (arith, all_counted)
 
 -- ---- references to what is placed
 

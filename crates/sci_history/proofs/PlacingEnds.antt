@@ -111,10 +111,7 @@ one_left p rests n e rest lt front passes =
     omega arith
 
 none_made : (entries : List Entry) (version : ℕ) → AllByRecursion (λ e. e.version < version) entries → count_by (makes version) entries ≡ 0
-none_made entries version all =
-    none_counted (makes version) entries
-    (all_weaker (λ (e : Entry). e.version < version) (λ e. makes version e ≡ false)
-    (λ e lt. and_right (is_making e) (eqb e.version version) (ne_eqb e.version version (λ same. absurd (omega arith)))) entries all)
+none_made entries version all = grind (arith, none_counted, all_weaker, and_right, eqb, ne_eqb)
 
 -- ---- each reason, by what both entries are
 
@@ -140,12 +137,7 @@ reads_at version y is = eqb-true y.version version (and_parts (not (is_making y)
 
 no_maker_left : (x : Entry) (version : ℕ) → (is_making x ≡ true → version < x.version) → (is_making x ≡ false → version ≡ x.version) → (y : Entry)
     → line_reason x y ≡ None → (is_on_line x.op.line y && makes version y) ≡ false
-no_maker_left x version above same y none = fails_unless (is_on_line x.op.line y) (makes version y) (λ on makes_.
-    let is = makes_at version y makes_ in
-    elim (cases_Bool (is_making x)) [
-      | inl maker ↦ after_made x y maker on (let lt = above maker in let at = is.1 in omega arith) none
-      | inr load ↦ reads_from x y load on is.0 (eq-eqb y.version x.version (is.1 ∙ same load)) none
-    ])
+no_maker_left x version above same y none = grind (arith, fails_unless, makes_at, cases_Bool, after_made, reads_from, eq-eqb)
 
 no_load_left : (x : Entry) (version : ℕ) → is_making x ≡ true → version < x.version → (y : Entry) → line_reason x y ≡ None
     → (is_on_line x.op.line y && reads version y) ≡ false

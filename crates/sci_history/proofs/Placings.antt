@@ -59,13 +59,7 @@ count-filter p q (x ∷ xs) =
 
 pub taken : (p : Entry → Bool) (rests : List (List Entry)) (n : ℕ) (e : Entry) (rest : List Entry) → n < length rests → log_of rests n ≡ e ∷ rest
     → count_by p (all_of rests) ≡ once (p e) + count_by p (all_of (set rests n rest))
-taken p rests n e rest lt front =
-    let f = λ (log : List Entry). count_by p log in
-    let moved = sum_by-set f rests n rest [] lt in
-    let first : f (get_or rests n []) ≡ once (p e) + f rest = ap f front ∙ count-cons p e rest in
-    let before = count-all p rests in
-    let now = count-all p (set rests n rest) in
-    omega arith
+taken p rests n e rest lt front = grind (arith, sum_by-set, count-cons, count-all)
 
 pub taken_on : (p : Entry → Bool) (line : ℕ) (rests : List (List Entry)) (n : ℕ) (e : Entry) (rest : List Entry) → n < length rests → log_of rests n ≡ e ∷ rest
     → count_by p (on_line line rests) ≡ once (is_on_line line e && p e) + count_by p (on_line line (set rests n rest))
@@ -78,24 +72,13 @@ taken_on p line rests n e rest lt front =
 pub split_on : (p : Entry → Bool) (line count : ℕ) (logs rests : List (List Entry)) (lines : List LineState) (order : List Entry)
     → IsPlacing logs count lines rests order
     → count_by p (filter (is_on_line line) order) + count_by p (on_line line rests) ≡ count_by p (on_line line logs)
-split_on p line count logs rests lines order is =
-    let both = λ (x : Entry). is_on_line line x && p x in
-    let all = is.counts both in
-    let a = count-filter p (is_on_line line) order in
-    let b = count-filter p (is_on_line line) (all_of rests) in
-    let c = count-filter p (is_on_line line) (all_of logs) in
-    omega arith
+split_on p line count logs rests lines order is = grind (arith, count-filter)
 
 -- ---- a history with one entry more
 
 pub history_push : (entries : List Entry) (entry : Entry) (old mid new : Stamped) → IsHistory entries old mid → entry.reply ≡ reply_of mid.line entry.op
     → entry.version ≡ (after mid entry.op).version → new ≡ after mid entry.op → IsHistory (entries ++ entry ∷ []) old new
-history_push [] entry old mid new h reply version end =
-    subst (λ (s : Stamped). (entry.reply ≡ reply_of s.line entry.op) × (entry.version ≡ (after s entry.op).version) × (new ≡ after s entry.op)) h (
-      reply,
-      version,
-      end,
-    )
+history_push [] entry old mid new h reply version end = grind arith
 history_push (x ∷ entries) entry old mid new h reply version end = (h.0, h.1, history_push entries entry (after old x.op) mid new h.2 reply version end)
 
 among_back : (xs : List Entry) (e : Entry) (rest : List Entry) → IsAmong e (xs ++ e ∷ rest)

@@ -1,11 +1,11 @@
 -- What a push to one of several lists leaves, if each list is the part f of an element.
-use Rattle.std.proofs.Common.{◌≡◌, ℕ, ◌<◌, List, [], ◌∷◌, ◌++◌, length, map, get_or, set, sym, ap, ◌∙◌, inl, inr}
+use Rattle.std.proofs.Common.{◌≡◌, ℕ, ◌<◌, List, [], ◌∷◌, ◌++◌, length, map, get_or, set, ap, arith}
 use Rattle.std.specs.Prelude.{Result, Ok, Err, OnOk, OnErr, All}
 use Rattle.std.proofs.lemmas.Bool.{cases_eq}
 use Rattle.std.proofs.lemmas.List.{get_or-map, set-get_or, get_or-set_same, get_or-set_other}
-use Rattle.std.proofs.lemmas.List.Elements.{All-same, All-push, All-weaker}
+use Rattle.std.proofs.lemmas.List.Elements.{All-same, All-push}
 use Rattle.sci_history.specs.declared.entry.Entry.{Entry}
-use Rattle.sci_history.specs.Placed.{log_of, AreOwn}
+use Rattle.sci_history.specs.Placed.{AreOwn}
 
 pub pushed : {X Y : Type 0} (f : X → List Y) (xs : List X) (i : ℕ) (d : X) (new : List Y) (y : Y) → i < length xs → new ≡ f (get_or xs i d) ++ y ∷ []
     → set (map f xs) i new ≡ set (map f xs) i (get_or (map f xs) i [] ++ y ∷ [])
@@ -25,10 +25,4 @@ all_pushed P (Err e) old new x ok err h k = All-same P new old err h
 -- one log is another, and each still has its own node's entries
 pub own_set : (logs : List (List Entry)) (node : ℕ) (log : List Entry) → AreOwn logs → node < length logs → All (λ e. e.node ≡ node) log
     → AreOwn (set logs node log)
-own_set logs node log own lt h n =
-    elim (cases_eq n node) [
-      | inl is ↦
-          let same : log_of (set logs node log) n ≡ log = ap (log_of (set logs node log)) is ∙ get_or-set_same logs node log [] lt in
-          All-same (λ e. e.node ≡ n) (log_of (set logs node log) n) log same (All-weaker (λ e. e.node ≡ node) (λ e. e.node ≡ n) (λ e at. at ∙ sym is) log h)
-      | inr other ↦ All-same (λ e. e.node ≡ n) (log_of (set logs node log) n) (log_of logs n) (get_or-set_other logs node n log [] other) (own n)
-    ]
+own_set logs node log own lt h n = grind (arith, cases_eq, get_or-set_same, get_or-set_other)

@@ -1,5 +1,5 @@
 -- Runs on a memory, and on the words of a memory whose lines have versions.
-use Rattle.std.proofs.Common.{◌≡◌, ℕ, zero, suc, List, [], ◌∷◌, refl, ap, ◌∙◌}
+use Rattle.std.proofs.Common.{◌≡◌, ℕ, zero, suc, List, [], ◌∷◌, refl, arith}
 use Rattle.std.proofs.lemmas.List.{map-set}
 use Rattle.sci_words.specs.declared.operation.Op.{Op}
 use Rattle.sci_words.specs.declared.stamped.Stamped.{Stamped}
@@ -15,7 +15,4 @@ pub words_of_lines-contents_after : (contents : List Stamped) (op : Op)
 words_of_lines-contents_after contents op = rw (map-set, line_at-words_of_lines contents op.line) refl
 
 pub same_stamped : (a b : Stamped) → a.line ≡ b.line → a.version ≡ b.version → a ≡ b
-same_stamped a b lines versions =
-    let with_line : List ℕ → Stamped = λ line. record { line = line; version = a.version } in
-    let with_version : ℕ → Stamped = λ version. record { line = b.line; version = version } in
-    ap with_line lines ∙ ap with_version versions
+same_stamped a b lines versions = grind arith

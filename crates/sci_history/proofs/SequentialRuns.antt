@@ -1,8 +1,8 @@
 -- An order that is each line's history is a run of the whole memory, and makes the logs lawful.
-use Rattle.std.proofs.Common.{◌≡◌, ℕ, zero, suc, ◌<◌, ◌≤◌, true, false, List, [], ◌∷◌, length, map, replicate, length-set, refl, sym, ap, subst, ◌∙◌, arith}
+use Rattle.std.proofs.Common.{◌≡◌, ℕ, zero, suc, ◌<◌, ◌≤◌, false, List, [], ◌∷◌, length, map, replicate, length-set, refl, sym, ap, subst, ◌∙◌, arith}
 use Rattle.std.proofs.Common.{inl, inr}
 use Rattle.std.specs.List.{filter, AllByRecursion, AllPairs}
-use Rattle.std.proofs.lemmas.Bool.{cases_Bool, cases_lt, cases_eq, eq-eqb, ne_eqb, eqb-true}
+use Rattle.std.proofs.lemmas.Bool.{cases_Bool, cases_lt, cases_eq, eq-eqb, ne_eqb}
 use Rattle.std.proofs.lemmas.List.{ext_get_or, set_past, get_or-set_same, get_or-set_other, get_or_past, length-replicate}
 use Rattle.sci_words.specs.declared.limits.TheConstants.{MAX_NODES}
 use Rattle.sci_words.specs.declared.operation.Op.{Op}
@@ -17,7 +17,7 @@ use Rattle.sci_history.specs.Placed.{log_of, is_of_node, is_on_line, pair_of}
 use Rattle.sci_history.specs.Sequential.{IsSequentialOrder}
 use Rattle.sci_history.proofs.Histories.{line_after-load, version-load, version-maker, version-end}
 use Rattle.sci_history.proofs.Lawfulness.{lawful_line}
-use Rattle.sci_history.proofs.Order.{filter_yes, filter_no, filter-filter, all_weaker, all-filter, all-passes}
+use Rattle.sci_history.proofs.Order.{filter_yes, filter_no, filter-filter, all-filter}
 use Rattle.sci_history.proofs.Runs.{line_at-words_of_lines, words_of_lines-contents_after, same_stamped}
 
 -- ---- runs
@@ -29,51 +29,19 @@ after-load old op load = same_stamped (after old op) old (line_after-load old.li
 -- what has a history to version 0 leaves no trace
 after-zero : (op : Op) (entries : List Entry) (new : Stamped) → new ≡ zero_stamped → IsHistory entries (after zero_stamped op) new
     → after zero_stamped op ≡ zero_stamped
-after-zero op entries new gone h =
-    let end = version-end entries (after zero_stamped op) new h in
-    let none : new.version ≡ 0 = ap (λ (s : Stamped). s.version) gone in
-    elim (cases_Bool (is_maker op)) [
-      | inl maker ↦ let more = version-maker zero_stamped op maker in absurd (omega arith)
-      | inr load ↦ after-load zero_stamped op load
-    ]
+after-zero op entries new gone h = grind (arith, version-end, cases_Bool, version-maker, after-load)
 
 -- the line of an operation afterwards, whether there is such a line or not
 here_after : (old new : List Stamped) (op : Op) (entries : List Entry) → length old ≡ length new
     → IsHistory entries (after (stamped_at old op.line) op) (stamped_at new op.line)
     → stamped_at (contents_after old op) op.line ≡ after (stamped_at old op.line) op
-here_after old new op entries long h = elim (cases_lt op.line (length old)) [
-  | inl lt ↦ get_or-set_same old op.line (after (stamped_at old op.line) op) zero_stamped lt
-  | inr past ↦
-      let none : stamped_at old op.line ≡ zero_stamped = get_or_past old op.line zero_stamped past in
-      let gone : stamped_at new op.line ≡ zero_stamped = get_or_past new op.line zero_stamped (omega arith) in
-      let same : after zero_stamped op ≡ zero_stamped =
-      after-zero op entries (stamped_at new op.line) gone (subst (λ (s : Stamped). IsHistory entries (after s op) (stamped_at new op.line)) none h) in
-      ap (λ (contents : List Stamped). stamped_at contents op.line) (set_past old op.line (after (stamped_at old op.line) op) past)
-      ∙ (none ∙ (sym same ∙ ap (λ (s : Stamped). after s op) (sym none)))
-]
+here_after old new op entries long h = grind (arith, cases_lt, get_or-set_same, get_or_past, after-zero, set_past)
 
 rest_of : (entry : Entry) (entries : List Entry) (old new : List Stamped) → length old ≡ length new
     → ((line : ℕ) → IsHistory (filter (is_on_line line) (entry ∷ entries)) (stamped_at old line) (stamped_at new line))
     → (entry.reply ≡ reply_of (stamped_at old entry.op.line).line entry.op)
     × ((line : ℕ) → IsHistory (filter (is_on_line line) entries) (stamped_at (contents_after old entry.op) line) (stamped_at new line))
-rest_of entry entries old new long each =
-    let on = entry.op.line in
-    let first : IsHistory (entry ∷ filter (is_on_line on) entries) (stamped_at old on) (stamped_at new on) =
-    subst (λ (es : List Entry). IsHistory es (stamped_at old on) (stamped_at new on)) (filter_yes (is_on_line on) entry entries (eq-eqb on on refl))
-    (each on) in
-    let here = here_after old new entry.op (filter (is_on_line on) entries) long first.2 in (
-      first.0,
-      λ line. elim (cases_eq line on) [
-        | inl same ↦ subst (λ (k : ℕ). IsHistory (filter (is_on_line k) entries) (stamped_at (contents_after old entry.op) k) (stamped_at new k)) (sym same)
-            (subst (λ (s : Stamped). IsHistory (filter (is_on_line on) entries) s (stamped_at new on)) (sym here) first.2)
-        | inr other ↦
-            let stays : stamped_at (contents_after old entry.op) line ≡ stamped_at old line =
-            get_or-set_other old on line (after (stamped_at old on) entry.op) zero_stamped other in
-            subst (λ (s : Stamped). IsHistory (filter (is_on_line line) entries) s (stamped_at new line)) (sym stays)
-            (subst (λ (es : List Entry). IsHistory es (stamped_at old line) (stamped_at new line))
-            (filter_no (is_on_line line) entry entries (ne_eqb on line (λ e. other (sym e)))) (each line))
-      ],
-    )
+rest_of entry entries old new long each = grind (arith, filter_yes, eq-eqb, here_after, cases_eq, get_or-set_other, filter_no, ne_eqb)
 
 -- entries that are a history of each line are a run of the memory
 pub histories_run : (entries : List Entry) (old new : List Stamped) → length old ≡ length new
@@ -114,22 +82,11 @@ order_is_run logs last order is = histories_are_run order last is.histories
 
 -- ---- lawfulness
 
--- each log has its own node's entries
-pub order_owns : (logs : List (List Entry)) (last : List Stamped) (order : List Entry) (node : ℕ) → IsSequentialOrder logs last order
-    → AllByRecursion (λ entry. entry.node ≡ node) (log_of logs node)
-order_owns logs last order node is =
-    subst (AllByRecursion (λ (entry : Entry). entry.node ≡ node)) (is.logged node)
-    (all_weaker (λ (entry : Entry). is_of_node node entry ≡ true) (λ entry. entry.node ≡ node) (λ entry own. eqb-true entry.node node own)
-    (filter (is_of_node node) order) (all-passes (is_of_node node) order))
-
 not_none : {X : Type 0} {x : X} {xs : List X} → x ∷ xs ≡ [] → ⊥
 not_none e = absurd cc
 
 tail_none : (node : ℕ) (entry : Entry) (entries : List Entry) → filter (is_of_node node) (entry ∷ entries) ≡ [] → filter (is_of_node node) entries ≡ []
-tail_none node entry entries none = elim (cases_Bool (is_of_node node entry)) [
-  | inl own ↦ absurd (not_none (sym (filter_yes (is_of_node node) entry entries own) ∙ none))
-  | inr other ↦ sym (filter_no (is_of_node node) entry entries other) ∙ none
-]
+tail_none node entry entries none = grind (arith, cases_Bool, not_none, filter_yes, filter_no)
 
 none_beyond : (entries : List Entry) (bound : ℕ) → ((node : ℕ) → bound ≤ node → filter (is_of_node node) entries ≡ [])
     → AllByRecursion (λ entry. entry.node < bound) entries

@@ -11,7 +11,7 @@ use Rattle.sci_history.specs.Audit.{AreWithin, IsWithin}
 use Rattle.sci_history.specs.Lawful.{Lawful}
 use Rattle.sci_history.specs.Placed.{AreOwn, in_serial_order, log_of, is_on_line, on_line, placed, above_serials, in_order}
 use Rattle.sci_history.specs.Sequential.{AreInProgramOrder, by_serial}
-use Rattle.sci_history.proofs.Order.{IsInOrder, HasKeysBelow, all-filter, all-in_order, filter-in_order, in_order-ordered}
+use Rattle.sci_history.proofs.Order.{IsInOrder, all-filter, all-in_order, filter-in_order, in_order-ordered}
 use Rattle.sci_history.proofs.Placement.{above_serials-above, in_order_from_rising, on_line-logs}
 use Rattle.sci_history.proofs.Sorting.{in_order-bound}
 
@@ -21,13 +21,7 @@ all_sorted P log h = All-from_recursion P (in_serial_order log) (all-in_order P 
 
 -- what passes a test is sorted by itself
 pub filter-sorted : (p : Entry → Bool) (log : List Entry) → filter p (in_serial_order log) ≡ in_serial_order (filter p log)
-filter-sorted p log =
-    let serial = λ (e : Entry). e.serial in
-    let below : HasKeysBelow serial (above_serials log) (filter p log) =
-    all-filter (λ e. e.serial < above_serials log) p log (above_serials-above log (above_serials log) (omega arith)) in
-    filter-in_order p serial (above_serials log) log
-    ∙ in_order-bound serial (above_serials log) (above_serials (filter p log)) (filter p log) below
-    (above_serials-above (filter p log) (above_serials (filter p log)) (omega arith))
+filter-sorted p log = grind (arith, all-filter, above_serials-above, filter-in_order, in_order-bound)
 
 -- entries whose serials don't fall stay
 pub sorted_stays : (log : List Entry) → IsInOrder (λ e. e.serial) log → in_serial_order log ≡ log

@@ -12,7 +12,6 @@ use Rattle.sci_history.specs.declared.order_verdict.Reason.{Reason}
 use Rattle.sci_history.specs.declared.order_verdict.Reason.TheVariants.{Logged, ReadsFrom, FromRead, Coherence}
 use Rattle.sci_history.specs.declared.order_verdict.Step.{Step}
 use Rattle.sci_history.specs.Cycle.{ComesAfter, IsChain, IsCycle, IsInLog, IsRound}
-use Rattle.sci_history.specs.Placed.{log_of}
 use Rattle.sci_history.specs.Shortcuts.{AreOf, ComesAfterAt, IsBareRoundOf, IsFree, IsFreeWithin}
 use Rattle.sci_history.proofs.AuditFinds.{no_entry}
 use Rattle.sci_history.proofs.Waits.{chain_joined}
@@ -67,10 +66,7 @@ round_at (s ∷ steps) k x y round a b = chain_at (s ∷ steps) s k x y round a 
 
 -- the step at a place comes after the next one, for its reason
 pub next_comes : (steps : List Step) (place : ℕ) → IsRound steps → ComesAfterAt steps place (place + 1) (get_or steps place no_step).reason
-next_comes steps place round x y a b =
-    let next : place + 1 ≡ suc place = omega arith in
-    subst (λ (z : Step). ComesAfter z.reason x y) (sym (get_or_from_slice_get steps place x no_step a))
-    (round_at steps place x y round a (subst (λ (k : ℕ). slice_get steps k ≡ Some y) next b))
+next_comes steps place round x y a b = grind (arith, get_or_from_slice_get, round_at)
 
 last_at : (s : Step) (steps : List Step) → (x : Step) × (slice_get (s ∷ steps) (length steps) ≡ Some x)
 last_at s [] = (s, refl)
@@ -125,19 +121,7 @@ pub record IsKept (steps kept : List Step) (first last next : ℕ) : Type 0 wher
       → IsFree y x
 
 pub none_kept : (steps kept : List Step) (first last : ℕ) → kept ≡ [] → first < last → IsKept steps kept first last first
-none_kept steps kept first last none lt = subst (λ ks. IsKept steps ks first last first) (sym none) (record {
-  many = omega arith;
-  before = omega arith;
-  own = λ k x a. absurd cc;
-  empty = λ e. refl;
-  begins = λ x y a b. absurd cc;
-  chain = λ y end a s. tt;
-  apart = λ i j x y lt a b. absurd cc;
-  back = λ i j x y lt a b. absurd cc;
-  onward = λ i there x y few le in_part a b. absurd cc;
-  beyond = λ i there x y few le in_part a b. absurd cc;
-  behind = λ i there x y one le in_part a b. absurd cc;
-})
+none_kept steps kept first last none lt = grind arith
 
 -- ---- one step more
 
@@ -292,14 +276,7 @@ all_in_log logs [] each = tt
 all_in_log logs (x ∷ kept) each = (each zero x refl, all_in_log logs kept (λ k y a. each (suc k) y a))
 
 pub cycle_kept : (logs : List (List Entry)) (steps kept : List Step) → IsCycle logs steps → AreOf steps kept → IsRound kept → IsCycle logs kept
-cycle_kept logs steps kept cycle own round = record {
-  entries = all_in_log logs kept (λ k x a.
-      let from = own k x a in
-      let here = in_log logs steps from.0 from.1 cycle.entries from.2 in
-      subst (λ (e : Entry). slice_get (log_of logs e.node) x.place ≡ Some e) from.3
-      (subst (λ (p : ℕ). slice_get (log_of logs from.1.entry.node) p ≡ Some from.1.entry) from.4 here));
-  round = round;
-}
+cycle_kept logs steps kept cycle own round = grind (arith, all_in_log, in_log)
 
 pub still_kept : (steps kept kept' : List Step) (first last next next' : ℕ) → IsKept steps kept first last next → kept' ≡ kept → next' ≡ next
     → IsKept steps kept' first last next'

@@ -92,11 +92,7 @@ chain_dropped _ end _ chain = tt
 -- the entry that is left first is one
 same_entry : (logs : List (List Entry)) (next : List ℕ) (node : ℕ) (end : Step) (other : Entry) → IsFirstLeft logs next node end
     → slice_get (log_of logs node) (get_or next node 0) ≡ Some other → other ≡ end.entry
-same_entry logs next node end other first at =
-    let there : slice_get (log_of logs node) (get_or next node 0) ≡ Some end.entry =
-    ap (λ (k : ℕ). slice_get (log_of logs node) k) (sym first.first)
-    ∙ (ap (λ (n : ℕ). slice_get (log_of logs n) end.place) (sym first.own) ∙ first.logged) in
-    cc
+same_entry logs next node end other first at = grind arith
 
 same_place : (a b : ℕ) → a ≤ b → (a < b → ⊥) → a ≡ b
 same_place a b le ne = elim (cases_lt a b) [ inl lt ↦ absurd (ne lt) | inr past ↦ omega arith ]
@@ -113,41 +109,13 @@ own_at logs node place y own at = let found = got (log_of logs node) place y at 
 -- it waits for an entry that is left first of its node
 pub leads_one : (logs : List (List Entry)) (next : List ℕ) (from node place : ℕ) (x : Step) → IsFirstLeft logs next from x
     → IsBlocker logs next x.entry node place x.reason → (get_or next node 0 < place → ⊥) → LeadsTo logs next (x ∷ []) from node
-leads_one logs next from node place x begins found not_behind = record {
-  first = x;
-  rest = [];
-  whole = refl;
-  begins = begins;
-  entries = (begins.logged, tt);
-  chain = λ end first.
-      let here : get_or next node 0 ≡ place = same_place (get_or next node 0) place found.left not_behind in
-      let other = same_entry logs next node end found.other first (ap (λ (k : ℕ). slice_get (log_of logs node) k) here ∙ found.here) in
-      comes_after x end x.reason (ap (line_reason x.entry) (sym other) ∙ found.after);
-  few = omega arith;
-}
+leads_one logs next from node place x begins found not_behind = grind (arith, same_place, same_entry, comes_after)
 
 -- or for one behind it
 pub leads_two : (logs : List (List Entry)) (next : List ℕ) (from node place : ℕ) (x y : Step) → AreOwn logs → IsFirstLeft logs next from x
     → IsBlocker logs next x.entry node place x.reason → slice_get (log_of logs node) place ≡ Some y.entry → y.place ≡ place → y.reason ≡ Logged
     → get_or next node 0 < place → LeadsTo logs next (x ∷ y ∷ []) from node
-leads_two logs next from node place x y own begins found at is logged behind =
-    let node_is : y.entry.node ≡ node = own_at logs node place y.entry own at in
-    let same : found.other ≡ y.entry = one_value (slice_get (log_of logs node) place) found.other y.entry found.here at in
-    record {
-      first = x;
-      rest = y ∷ [];
-      whole = refl;
-      begins = begins;
-      entries = (begins.logged, (ap (λ (n : ℕ). slice_get (log_of logs n) y.place) node_is ∙ (ap (λ (k : ℕ). slice_get (log_of logs node) k) is ∙ at), tt));
-      chain = λ end first. (
-        comes_after x y x.reason (ap (line_reason x.entry) (sym same) ∙ found.after),
-        subst (λ (r : Reason). ComesAfter r y end) (sym logged) (
-          first.own ∙ sym node_is,
-          before_place end.place y.place (get_or next node 0) place first.first is behind,
-        ),
-      );
-      few = omega arith;
-    }
+leads_two logs next from node place x y own begins found at is logged behind = grind (arith, own_at, one_value, comes_after, before_place)
 
 -- ---- as the code reads them
 
@@ -159,12 +127,7 @@ get_is (x ∷ xs) (suc k) lt = get_is xs k (omega arith)
 pub begins_at : (logs : List (List Entry)) (next : List ℕ) (node : ℕ) (log : List Entry) (reason : Reason) → AreOwn logs → log ≡ log_of logs node
     → get_or next node 0 < length log
     → IsFirstLeft logs next node (record { entry = get_or log (get_or next node 0) no_entry; place = get_or next node 0; reason = reason })
-begins_at logs next node log reason own is below =
-    let place = get_or next node 0 in
-    let at : slice_get (log_of logs node) place ≡ Some (get_or log place no_entry) =
-    ap (λ (xs : List Entry). slice_get xs place) (sym is) ∙ get_is log place below in
-    let mine = own_at logs node place (get_or log place no_entry) own at in
-    record { logged = ap (λ (n : ℕ). slice_get (log_of logs n) place) mine ∙ at; own = mine; first = refl }
+begins_at logs next node log reason own is below = grind (arith, no_entry, get_is, own_at)
 
 pub never_free : (logs : List (List Entry)) (next : List ℕ) (node : ℕ) (log : List Entry) → AreBlocked (rests_of logs next) → node < MAX_NODES
     → log ≡ log_of logs node → get_or next node 0 < length log

@@ -1,6 +1,6 @@
 -- From one entry that is left first to another: the steps come back to a node where they were.
-use Rattle.std.proofs.Common.{◌≡◌, ℕ, zero, suc, ◌+◌, ◌-◌, ◌*◌, ◌<◌, ◌≤◌, cond, List, [], ◌∷◌, ◌++◌, length, get_or, set, take, drop, replicate, Option, Some}
-use Rattle.std.proofs.Common.{None, refl, sym, ap, subst, ◌∙◌, arith, inl, inr}
+use Rattle.std.proofs.Common.{◌≡◌, ℕ, zero, suc, ◌+◌, ◌-◌, ◌*◌, ◌<◌, ◌≤◌, List, [], ◌∷◌, ◌++◌, length, get_or, set, take, drop, replicate, Option, Some}
+use Rattle.std.proofs.Common.{None, refl, sym, ap, subst, ◌∙◌, arith}
 use Rattle.std.specs.Prelude.{IfSome, count_by, is_some}
 use Rattle.std.specs.List.{AllByRecursion}
 use Rattle.std.proofs.lemmas.Bool.{cases_eq}
@@ -39,15 +39,7 @@ none_started P (suc count) (suc m) = none_started P count m
 
 pub walk_begins : (logs : List (List Entry)) (next : List ℕ) (steps : List Step) (node : ℕ) → steps ≡ [] → node < MAX_NODES
     → get_or next node 0 < length (log_of logs node) → IsWalking logs next (replicate 16 None) steps node 0
-walk_begins logs next steps node none lt left = record {
-  known = lt;
-  left = left;
-  entries = subst (AllByRecursion (IsInLog logs)) (sym none) tt;
-  chain = λ end first. subst (λ (s : List Step). IsChain s end) (sym none) tt;
-  started = λ m. none_started (λ start. IsStarted logs next steps m start) 16 m;
-  marked = refl;
-  few = let long = ap (λ (s : List Step). length s) none in omega arith;
-}
+walk_begins logs next steps node none lt left = grind (arith, none_started)
 
 -- ---- one step more
 
@@ -70,51 +62,15 @@ at_end : (steps added : List Step) → drop (length steps) (steps ++ added) ≡ 
 at_end [] added = refl
 at_end (s ∷ steps) added = at_end steps added
 
-abbrev one_if : Option ℕ → ℕ
-one_if o = cond (is_some o) 1 0
-
 marked_more : (starts : List (Option ℕ)) (node start met : ℕ) → node < length starts → get_or starts node None ≡ None → count_by is_some starts ≡ met
     → count_by is_some (set starts node (Some start)) ≡ met + 1
-marked_more starts node start met lt unmet marked =
-    let moved = sum_by-set one_if starts node (Some start) None lt in
-    let was : one_if (get_or starts node None) ≡ 0 = ap one_if unmet in
-    omega arith
+marked_more starts node start met lt unmet marked = grind (arith, sum_by-set)
 
 pub walk_more : (logs : List (List Entry)) (next : List ℕ) (starts : List (Option ℕ)) (steps added new : List Step) (node to met : ℕ)
     → length starts ≡ MAX_NODES → get_or starts node None ≡ None → new ≡ steps ++ added → LeadsTo logs next added node to → to < MAX_NODES
     → get_or next to 0 < length (log_of logs to) → IsWalking logs next starts steps node met
     → IsWalking logs next (set starts node (Some (length steps))) new to (met + 1)
-walk_more logs next starts steps added new node to met long unmet is leads lt left walking =
-    let known = walking.known in
-    subst (λ (s : List Step). IsWalking logs next (set starts node (Some (length steps))) s to (met + 1)) (sym is) (record {
-      known = lt;
-      left = left;
-      entries = all-append (IsInLog logs) steps added walking.entries leads.entries;
-      chain = λ end first.
-          let joined = chain_joined steps leads.first leads.rest end (walking.chain leads.first leads.begins)
-          (subst (λ (s : List Step). IsChain s end) leads.whole (leads.chain end first)) in
-          subst (λ (s : List Step). IsChain (steps ++ s) end) (sym leads.whole) joined;
-      started = λ m. elim (cases_eq m node) [
-        | inl same ↦
-            let here : get_or (set starts node (Some (length steps))) m None ≡ Some (length steps) =
-            ap (λ (k : ℕ). get_or (set starts node (Some (length steps))) k None) same
-            ∙ get_or-set_same starts node (Some (length steps)) None (omega arith) in
-            subst (λ (o : Option ℕ). IfSome o (λ start. IsStarted logs next (steps ++ added) m start)) (sym here)
-            (record {
-              first = leads.first;
-              rest = leads.rest;
-              from = at_end steps added ∙ leads.whole;
-              begins = subst (λ (n : ℕ). IsFirstLeft logs next n leads.first) (sym same) leads.begins;
-            })
-        | inr ne ↦
-            let there : get_or (set starts node (Some (length steps))) m None ≡ get_or starts m None =
-            get_or-set_other starts node m (Some (length steps)) None ne in
-            subst (λ (o : Option ℕ). IfSome o (λ start. IsStarted logs next (steps ++ added) m start)) (sym there)
-            (still_all logs next steps added m (get_or starts m None) (walking.started m))
-      ];
-      marked = marked_more starts node (length steps) met (omega arith) unmet walking.marked;
-      few = let long = length-append steps added in let more = leads.few in let before = walking.few in omega arith;
-    })
+walk_more logs next starts steps added new node to met long unmet is leads lt left walking = grind (arith, all-append, chain_joined, cases_eq, get_or-set_same, at_end, get_or-set_other, still_all, marked_more, length-append)
 
 -- ---- the end
 
@@ -138,12 +94,6 @@ walk_closes logs next starts steps node met start at walking =
       round = subst IsRound (sym started.from) (subst (λ (s : List Step). IsChain s started.first) started.from chain);
     }
 
-pub walk_within : (logs : List (List Entry)) (next : List ℕ) (starts : List (Option ℕ)) (steps : List Step) (node met start : ℕ)
-    → get_or starts node None ≡ Some start → IsWalking logs next starts steps node met → start ≤ length steps
-walk_within logs next starts steps node met start at walking =
-    let started = subst (λ (o : Option ℕ). IfSome o (λ i. IsStarted logs next steps node i)) at (walking.started node) in
-    drop_within steps start started.first started.rest started.from
-
 -- no more nodes are met than there are
 pub walk_ends : (logs : List (List Entry)) (next : List ℕ) (starts : List (Option ℕ)) (steps : List Step) (node met : ℕ) → length starts ≡ MAX_NODES
     → IsWalking logs next starts steps node met → met ≤ MAX_NODES
@@ -158,8 +108,4 @@ sliced steps now start is =
 -- a cycle is short
 pub walk_short : (logs : List (List Entry)) (next : List ℕ) (starts : List (Option ℕ)) (steps : List Step) (node met start : ℕ) → length starts ≡ MAX_NODES
     → IsWalking logs next starts steps node met → length (drop start steps) ≤ 2 * MAX_NODES
-walk_short logs next starts steps node met start long walking =
-    let ends = walk_ends logs next starts steps node met long walking in
-    let few = walking.few in
-    let dropped_ = length-drop start steps in
-    omega arith
+walk_short logs next starts steps node met start long walking = grind (arith, walk_ends, length-drop)
