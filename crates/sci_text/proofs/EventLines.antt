@@ -1,5 +1,5 @@
 -- The events of a schedule's text, one after another.
-use Rattle.std.proofs.Common.{◌≡◌, ℕ, ◌+◌, ◌<◌, List, [], ◌∷◌, ◌++◌, length, sym, ap, ◌∙◌, append_assoc, arith, inl, inr, rules}
+use Rattle.std.proofs.Common.{◌≡◌, ℕ, ◌+◌, ◌<◌, List, [], ◌∷◌, ◌++◌, length, sym, ap, ◌∙◌, append_assoc, arith, rules}
 use Rattle.std.proofs.lemmas.List.{flat_map_more, length-append}
 use Rattle.std.proofs.lemmas.List.Elements.{All-append}
 use Rattle.sci_words.specs.declared.limits.TheConstants.{MAX_EVENTS}
@@ -37,21 +37,10 @@ before_more e event rest says within few events before =
 -- a fault of the next line is the first of the text
 pub next_is_first : (e : EventsOf) (events : List Event) (kind : TextFaultKind) → AreBefore events e → 0 < length e.rest
     → EventFault (schedule_with e.extent events) e.rest kind → IsScheduleFault e.text (e.count + 2) kind
-next_is_first e events kind before some wrong = inr (record {
-  before = schedule_with e.extent events;
-  rest = e.rest;
-  right = (before.good, before.parts);
-  more = some;
-  place = omega (arith, before.count);
-  wrong = wrong;
-})
+next_is_first e events kind before some wrong = grind arith
 
 first_is_of_line : (input : List ℕ) (line : ℕ) (kind : TextFaultKind) → IsScheduleFault input line kind → IsOfLine kind
-first_is_of_line input line kind fault =
-    elim fault [
-      | inl opening ↦ line_fault_is _ _ _ kind opening.1
-      | inr after ↦ line_fault_is _ _ _ kind after.wrong
-    ]
+first_is_of_line input line kind fault = grind (arith, line_fault_is)
 
 refusal_is : (kind : TextFaultKind) (input : List ℕ) (line : ℕ) → IsOfLine kind → IsScheduleFault input line kind → IsRefusalOf IsScheduleFault kind input line
 refusal_is Syntax input line is fault = fault

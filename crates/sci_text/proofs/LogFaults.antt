@@ -19,7 +19,7 @@ use Rattle.sci_text.specs.Number.{number, field}
 use Rattle.sci_text.specs.Operation.{operation}
 use Rattle.sci_text.specs.Log.{log_line, last_line, entry_line, issue_text, outcome_text}
 use Rattle.sci_text.specs.LogValue.{IsSize, BeginsLog, Front, HasRoom, StampedFits, Answers, IsForm, HasAllLines, EntryFits, AreNumbersWithin, entry_count}
-use Rattle.sci_text.specs.LogFault.{SizeFault, SaysEntry, LogLine, SaysNext, LogLineFault}
+use Rattle.sci_text.specs.LogFault.{SizeFault, SaysEntry, LogLineFault}
 use Rattle.sci_text.specs.LogReading.{BeginsLast, NoLast, AddsLast, AddsEntry, IsLatest, log_line_read, last_line_read, entry_line_read}
 use Rattle.sci_text.specs.Reading.{Gives, fitting, after, number_read}
 use Rattle.sci_text.proofs.Numbers.{fitting_below, Ends, number_again, ends_field}
@@ -72,11 +72,7 @@ size_range bytes a b rest begins e short outside =
 
 pub size_ok : (bytes : List ℕ) (a b : Option ℕ) (rest : List ℕ) (n m : ℕ) → log_line_read bytes ≡ Some ((a, b), rest) → a ≡ Some n → b ≡ Some m
     → bytes ≡ log_line n m ++ rest
-size_ok bytes a b rest n m e an bm =
-    let f = log_line_found bytes a b rest e in
-    let en : f.0 ≡ n = fitting_some f.0 n (sym f.3 ∙ an) in
-    let em : f.1 ≡ m = fitting_some f.1 m (sym f.4 ∙ bm) in
-    f.2 ∙ ap (λ (x : ℕ). log_line x f.1 ++ rest) en ∙ ap (λ (x : ℕ). log_line n x ++ rest) em
+size_ok bytes a b rest n m e an bm = grind (arith, log_line_found, fitting_some)
 
 -- ---- whether a word was found
 
@@ -95,11 +91,7 @@ abbrev pub NoEntry : Front → List ℕ → Type 0
 NoEntry front bytes = (entry : Entry) → SaysEntry front bytes entry → ⊥
 
 pub neither : (front : Front) (bytes : List ℕ) → NoLast front bytes → NoEntry front bytes → LogLineFault front bytes Syntax
-neither front bytes no_last no_entry = says_nothing
-  where
-    says_nothing : (line : LogLine) → SaysNext front bytes line → ⊥
-    says_nothing (inl last) says = no_last last.0 last.1 says
-    says_nothing (inr entry) says = no_entry entry says
+neither front bytes no_last no_entry = grind arith
 
 -- ---- `last` lines
 
@@ -156,10 +148,7 @@ last_no_entry front bytes begins = λ entry h.
 
 pub last_is : (bytes : List ℕ) (l : Option ℕ) (o : Option Stamped) (rest : List ℕ) (count : ℕ) → last_line_read bytes ≡ Some ((l, o), rest) → l ≡ Some count
     → (stamped : Stamped) × (length stamped.line ≡ WORDS_PER_LINE) × (bytes ≡ last_line count stamped ++ rest) × SomeIff o (StampedFits stamped) stamped
-last_is bytes l o rest count e is =
-    let f = last_line_found bytes l o rest e in
-    let en : f.0 ≡ count = fitting_some f.0 count (sym f.4 ∙ is) in
-    (f.1, f.2, f.3 ∙ ap (λ (x : ℕ). last_line x f.1 ++ rest) en, f.5)
+last_is bytes l o rest count e is = grind (arith, last_line_found, fitting_some)
 
 -- a `last` line whose numbers are out of range
 pub last_range : (front : Front) (bytes : List ℕ) (l : Option ℕ) (o : Option Stamped) (rest : List ℕ) → entry_count front.logs ≡ 0
@@ -233,30 +222,14 @@ entry_lower front bytes l o rest latest is e lower = λ entry h.
     absurd (omega (arith, ap length empty))
 
 not_lower : (l : Option ℕ) (node latest : ℕ) → l ≡ fitting node → latest < 2 ^ 64 → ((m : ℕ) → l ≡ Some m → latest ≤ m) → latest ≤ node
-not_lower l node latest e few above =
-    elim (cases_lt node (2 ^ 64)) [
-      | inl fits ↦ above node (e ∙ fitting_below node fits)
-      | inr wide ↦ omega arith
-    ]
+not_lower l node latest e few above = grind (arith, cases_lt, fitting_below)
 
 -- the line that was read, at its place
 says_entry : (front : Front) (bytes : List ℕ) (l : Option ℕ) (o : Option Entry) (rest : List ℕ) (latest : ℕ) → HasAllLines front.form.lines (length front.last)
     → IsLatest front.logs latest → latest < 2 ^ 64
     → entry_line_read bytes ≡ Some ((l, o), rest) → length bytes ≤ length rest + MAX_TEXT_LINE_BYTES + 1 → ((m : ℕ) → l ≡ Some m → latest ≤ m)
     → (entry : Entry) × SaysEntry front bytes entry × SomeIff o (EntryReads entry) entry × (bytes ≡ entry_line entry ++ rest) × (latest ≤ entry.node)
-says_entry front bytes l o rest latest whole is few e short above =
-    let f = entry_line_found bytes l o rest e in
-    let later = not_lower l f.0.node latest f.3 few above in (
-      f.0,
-      record {
-        place = record { whole = whole; none_above = λ other lt. is.none_above other (omega arith) };
-        says = record { rest = rest; parts = f.2; short = line_short bytes (entry_line f.0) rest f.2 short };
-        answers = f.1;
-      },
-      f.4,
-      f.2,
-      later,
-    )
+says_entry front bytes l o rest latest whole is few e short above = grind (arith, entry_line_found, not_lower, line_short)
 
 form_small : (form : Form) → IsForm form → (form.nodes ≤ 16) × (form.serials ≤ 65536)
 form_small form (inl e) = (rw e (omega arith), rw e (omega arith))
@@ -264,15 +237,7 @@ form_small form (inr h) = let few = h.2.few_nodes in (omega arith, rw h.1 (omega
 
 pub fits_reads : (front : Front) (entry : Entry) → IsForm front.form → length front.last ≤ MAX_LINES → EntryFits front.form (length front.last) entry
     → EntryReads entry
-fits_reads front entry good few h =
-    let small = form_small front.form good in
-    let nodes = small.0 in
-    let serials = small.1 in
-    let node = h.numbers.node in
-    let serial = h.numbers.serial in
-    let line = h.numbers.line in
-    let word = h.numbers.word in
-    record { node = omega arith; serial = omega arith; op = (omega arith, (omega arith, h.operands)); reply = h.reply; version = h.version }
+fits_reads front entry good few h = grind (arith, form_small)
 
 pub entry_unfit : (front : Front) (bytes : List ℕ) (l : Option ℕ) (o : Option Entry) (rest : List ℕ) (latest : ℕ) → IsForm front.form
     → length front.last ≤ MAX_LINES → HasAllLines front.form.lines (length front.last) → IsLatest front.logs latest → latest < 2 ^ 64

@@ -69,11 +69,7 @@ abbrev is_size : ℕ × ℕ → Type 0
 is_size size = IsSize size.0 size.1
 
 one_size : (bytes : List ℕ) → SaysOne (says_size bytes) is_size
-one_size bytes a b f size g =
-    let same = same_sizes b.0 b.1 a.0 a.1 g.rest f.rest size (sym g.parts ∙ f.parts) in
-    let first : ℕ → ℕ × ℕ = λ n. (n, a.1) in
-    let second : ℕ → ℕ × ℕ = λ m. (b.0, m) in
-    ap first (sym same.nodes) ∙ ap second (sym same.lines)
+one_size bytes a b f size g = grind (arith, same_sizes)
 
 -- the line of a size within the limits has no fault
 size_of_2 : (n m : ℕ) (input rest : List ℕ) (kind : TextFaultKind) → IsSize n m → input ≡ log_line n m ++ rest → SizeFault input kind → ⊥

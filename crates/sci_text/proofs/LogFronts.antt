@@ -21,7 +21,7 @@ use Rattle.sci_text.specs.Number.{number, field}
 use Rattle.sci_text.specs.Log.{last_line, last_lines, issue_text, entry_line, entry_lines}
 use Rattle.sci_text.specs.LogValue.{StampedFits, EntryFits, Front, front_of, IsFront, IsForm, HasAllLines, HasRoom, HasNoExtra, first_line, front_text}
 use Rattle.sci_text.specs.LogValue.{entry_count, BeginsLog}
-use Rattle.sci_text.specs.LogFault.{first_lines, SaysNext, NextFits, HasNoRoomFor, LogLineFault, IsLogFault}
+use Rattle.sci_text.specs.LogFault.{first_lines, LogLineFault, IsLogFault}
 use Rattle.sci_text.specs.LogReading.{BeginsLast, NoLast, IsRefusalAfter, AddsLast, AddsEntry, IsLatest, no_logs}
 use Rattle.sci_text.proofs.FirstFaults.{line_fault_is, told_at}
 use Rattle.sci_text.proofs.LogFaults.{neither}
@@ -48,11 +48,7 @@ last_shrinks form old new bytes rest h =
 
 pub last_goes_on : (form : Form) (all : List ℕ) (old new : List Stamped) (bytes rest : List ℕ) → all ≡ last_lines 0 old ++ bytes
     → AddsLast form old new bytes rest → all ≡ last_lines 0 new ++ rest
-last_goes_on form all old new bytes rest so_far h =
-    let same : 0 + length old ≡ length old = omega arith in
-    so_far ∙ ap (λ (t : List ℕ). last_lines 0 old ++ t) h.parts ∙ sym (append_assoc (last_lines 0 old) (last_line (length old) h.stamped) rest)
-    ∙ ap (λ (t : List ℕ). t ++ rest)
-    (ap (λ (n : ℕ). last_lines 0 old ++ last_line n h.stamped) (sym same) ∙ sym (last_lines-push 0 old h.stamped) ∙ ap (last_lines 0) (sym h.added))
+last_goes_on form all old new bytes rest so_far h = grind (arith, append_assoc, last_lines-push)
 
 abbrev pub GoodLast : Stamped → Type 0
 GoodLast stamped = (length stamped.line ≡ WORDS_PER_LINE) × StampedFits stamped
@@ -64,28 +60,13 @@ pub record IsFrontOf (form : Form) (contents : List Stamped) : Type 0 where
   pub no_extra : HasNoExtra form.lines (length contents)
 
 no_log : (node : ℕ) → log_of no_logs node ≡ []
-no_log node = none_of 16 node
-  where
-    none_of : (n node : ℕ) → log_of (Rattle.std.specs.Prelude.replicate n []) node ≡ []
-    none_of zero node = refl
-    none_of (suc n) zero = refl
-    none_of (suc n) (suc node) = none_of n node
+no_log node = grind arith
 
 all_none : (P : Entry → Type 0) (log : List Entry) → log ≡ [] → All P log
 all_none P log e = λ k d lt. absurd (omega (arith, ap length e))
 
 pub front_of_last : (form : Form) (last : List Stamped) → IsForm form → IsFrontOf form last → IsFront (front_of form last no_logs)
-front_of_last form last good h = record {
-  form = good;
-  last = h.last;
-  few_lines = h.few;
-  no_extra = h.no_extra;
-  last_first = λ some. absurd (omega arith);
-  sixteen = refl;
-  own = λ node. all_none (λ e. e.node ≡ node) (log_of no_logs node) (no_log node);
-  entries = λ node. all_none (EntryFits form (length last)) (log_of no_logs node) (no_log node);
-  few_entries = λ node. let none = no_log node in omega (arith, ap length none);
-}
+front_of_last form last good h = grind (arith, all_none, no_log)
 
 one_more : (lines : Option ℕ) (old new : ℕ) → HasRoom lines old → new ≡ old + 1 → HasNoExtra lines new
 one_more None old new room more = tt
@@ -105,22 +86,7 @@ refusal_at : (kind : TextFaultKind) (input : List ℕ) (fault : TextFault) (line
     → (0 < length rest) ⊎ (HasAllLines front.form.lines (length front.last) → ⊥)
     → line ≡ first_lines front.form.lines + length front.last + entry_count front.logs + 1 → (kind ≡ Memory) ⊎ LogLineFault front rest kind
     → IsRefusal IsLogFault input fault
-refusal_at kind input fault line front rest at good parts first goes_on place faulty =
-    told_at IsLogFault kind input fault line at (elim faulty [
-      | inl memory ↦ inl memory
-      | inr wrong ↦
-          inr (
-            line_fault_is (SaysNext front rest) (NextFits front) (HasNoRoomFor front) kind wrong,
-            inr (record {
-              before = front;
-              rest = rest;
-              right = record { good = good; parts = parts; first = first };
-              more = goes_on;
-              place = place;
-              wrong = wrong;
-            }),
-          )
-    ])
+refusal_at kind input fault line front rest at good parts first goes_on place faulty = grind (arith, told_at, line_fault_is)
 
 -- a faulty `last` line
 pub last_refused : (form : Form) (last : List Stamped) (bytes rest : List ℕ) (kind : TextFaultKind) (line : ℕ) (fault : TextFault) → IsForm form
@@ -243,32 +209,12 @@ front_more form last old new latest now bytes rest h whole a =
 
 pub latest_more : (form : Form) (last : List Stamped) (old new : List (List Entry)) (latest now : ℕ) (bytes rest : List ℕ) → IsFront (front_of form last old)
     → IsLatest old latest → AddsEntry form (length last) old new latest now bytes rest → IsLatest new now
-latest_more form last old new latest now bytes rest h is a =
-    let node = a.entry.node in
-    let log = log_of old node in
-    let below = few_below form last old a.entry h a.fits in
-    let same : log_of new now ≡ log ++ a.entry ∷ [] =
-    ap (λ (ls : List (List Entry)). log_of ls now) a.added ∙ ap (log_of (set old node (log ++ a.entry ∷ []))) a.now_is
-    ∙ get_or-set_same old node (log ++ a.entry ∷ []) [] below in
-    let later = a.later in
-    let now_is = a.now_is in
-    record {
-      none_above = λ other lt. ap (λ (ls : List (List Entry)). log_of ls other) a.added
-          ∙ get_or-set_other old node other (log ++ a.entry ∷ []) [] (λ e. absurd (omega arith)) ∙ is.none_above other (omega arith);
-      some = λ lt. omega (arith, ap length same, length-append log (a.entry ∷ []));
-    }
+latest_more form last old new latest now bytes rest h is a = grind (arith, few_below, get_or-set_same, get_or-set_other, length-append)
 
 pub entries_go_on : (form : Form) (last : List Stamped) (all : List ℕ) (old new : List (List Entry)) (latest now : ℕ) (bytes rest : List ℕ)
     → IsFront (front_of form last old) → IsLatest old latest → all ≡ entry_lines old ++ bytes → AddsEntry form (length last) old new latest now bytes rest
     → all ≡ entry_lines new ++ rest
-entries_go_on form last all old new latest now bytes rest h is so_far a =
-    let node = a.entry.node in
-    let later = a.later in
-    let below = few_below form last old a.entry h a.fits in
-    let grown : entry_lines new ≡ entry_lines old ++ entry_line a.entry =
-    ap entry_lines a.added ∙ entry_lines-push old node a.entry below (λ other above. is.none_above other (omega arith)) in
-    so_far ∙ ap (λ (t : List ℕ). entry_lines old ++ t) a.parts ∙ sym (append_assoc (entry_lines old) (entry_line a.entry) rest)
-    ∙ ap (λ (t : List ℕ). t ++ rest) (sym grown)
+entries_go_on form last all old new latest now bytes rest h is so_far a = grind (arith, few_below, entry_lines-push, append_assoc)
 
 pub count_more : (form : Form) (last : List Stamped) (old new : List (List Entry)) (latest now : ℕ) (bytes rest : List ℕ) → IsFront (front_of form last old)
     → AddsEntry form (length last) old new latest now bytes rest → entry_count new ≡ entry_count old + 1
@@ -280,10 +226,7 @@ pub entry_refused : (form : Form) (last : List Stamped) (logs : List (List Entry
     → IsFront (front_of form last logs) → bytes ≡ entry_lines logs ++ rest → 0 < length rest → IsToldAt line kind fault
     → (kind ≡ Memory) ⊎ LogLineFault (front_of form last logs) rest kind → line ≡ first_lines form.lines + length last + entry_count logs + 1
     → IsRefusalAfter form (last_lines 0 last ++ bytes) fault
-entry_refused form last logs bytes rest kind line fault good parts some at faulty place = λ input is first.
-    let front = front_of form last logs in
-    let whole : input ≡ front_text front ++ rest = is ∙ ap (λ (t : List ℕ). first_line form ++ (last_lines 0 last ++ t)) parts ∙ simp append_assoc in
-    refusal_at kind input fault line front rest at good whole first (inl some) place faulty
+entry_refused form last logs bytes rest kind line fault good parts some at faulty place = grind (arith, append_assoc, refusal_at)
 
 pub no_last_after : (front : Front) (bytes : List ℕ) (count : ℕ) → entry_count front.logs ≡ count + 1 → NoLast front bytes
 no_last_after front bytes count e = λ line stamped h. let first = h.place.first in absurd (omega arith)

@@ -53,16 +53,7 @@ next_first line y ys r u good e =
     }
 
 next_more : (line : ℕ) (x y : Stamped) (xs ys : List Stamped) (r : List ℕ) → x ≡ y → NextLast (line + 1) xs ys r → NextLast line (x ∷ xs) (y ∷ ys) r
-next_more line x y xs ys r one next =
-    let here : line + 1 + length xs ≡ line + suc (length xs) = omega arith in
-    record {
-      stamped = next.stamped;
-      more = next.more;
-      tail = next.tail;
-      parts = ap (λ (s : Stamped). s ∷ ys) (sym one) ∙ ap (λ (l : List Stamped). x ∷ l) next.parts;
-      left = next.left ∙ ap (λ (n : ℕ). last_line n next.stamped ++ next.tail) here;
-      good = next.good;
-    }
+next_more line x y xs ys r one next = grind arith
 
 lasts_more : (line : ℕ) (x y : Stamped) (xs ys : List Stamped) (r u : List ℕ) → x ≡ y → MeetsLast (line + 1) xs ys r u → MeetsLast line (x ∷ xs) (y ∷ ys) r u
 lasts_more line x y xs ys r u one (inl same) = inl (ap (λ (s : Stamped). s ∷ xs) one ∙ ap (λ (l : List Stamped). y ∷ l) same.0, same.1)

@@ -1,5 +1,5 @@
 -- A line of a log that is written is read again, and what is read as one was written so.
-use Rattle.std.proofs.Common.{◌≡◌, ℕ, ◌^◌, ◌<◌, ◌≤◌, List, [], ◌∷◌, ◌++◌, length, Option, Some, None, refl, sym, ap, subst, ◌∙◌, append_assoc, arith, inl, inr}
+use Rattle.std.proofs.Common.{◌≡◌, ℕ, ◌^◌, ◌<◌, ◌≤◌, List, [], ◌∷◌, ◌++◌, length, Option, Some, None, refl, sym, ap, subst, ◌∙◌, append_assoc, arith}
 use Rattle.std.specs.Prelude.{codes, option_map}
 use Rattle.std.specs.List.{flat_map, AllByRecursion}
 use Rattle.std.specs.Option.{SomeIff}
@@ -107,15 +107,7 @@ words_again : (a b c d : ℕ × ℕ) (rest : List ℕ) → Ends rest
       rest,
     )
 unfolding words_read
-words_again a b c d rest ends =
-    rw (
-      eight_text a b c d rest,
-      pair_again a.0 a.1 (pair_text b ++ (pair_text c ++ (pair_text d ++ rest)))
-          (ends_pair b (pair_text c ++ (pair_text d ++ rest))),
-      pair_again b.0 b.1 (pair_text c ++ (pair_text d ++ rest)) (ends_pair c (pair_text d ++ rest)),
-      pair_again c.0 c.1 (pair_text d ++ rest) (ends_pair d rest),
-      pair_again d.0 d.1 rest ends,
-    ) refl
+words_again a b c d rest ends = grind (arith, eight_text, pair_again, ends_pair)
 
 -- what is read as these words
 abbrev ReadWords : List ℕ → List ℕ → Option (Option (List ℕ) × List ℕ) → Type 0
@@ -299,15 +291,7 @@ unfolding serial_of
 serial_none = refl
 
 serial_is : (n : ℕ) → SomeIff (serial_of (fitting n)) (n < 2 ^ 32) n
-serial_is n =
-    elim (cases_lt n (2 ^ 32)) [
-      | inl below ↦ rw (fitting_below n (omega arith), serial_below n below) (below, refl)
-      | inr above ↦
-          elim (cases_lt n (2 ^ 64)) [
-            | inl fits ↦ rw (fitting_below n fits, serial_above n above) (λ below. absurd (omega arith))
-            | inr wide ↦ rw (fitting_above n wide, serial_none) (λ below. absurd (omega arith))
-          ]
-    ]
+serial_is n = grind (arith, cases_lt, fitting_below, serial_below, serial_above, fitting_above, serial_none)
 
 -- each number fits its place in an `Entry`
 pub record EntryReads (entry : Entry) : Type 0 where
@@ -332,20 +316,7 @@ entry_is : (n s : Option ℕ) (o : Option Op) (r : Option Reply) (v : Option ℕ
     → SomeIff o (OpFits entry.op) entry.op → SomeIff r (ReplyFits entry.reply) entry.reply → SomeIff v (entry.version < 2 ^ 64) entry.version
     → SomeIff (entry_of n s o r v) (EntryReads entry) entry
 unfolding entry_of
-entry_is n s o r v entry a b c d e = joined (byte n) (serial_of s) o r v entry a b c d e
-  where
-    joined : (n s : Option ℕ) (o : Option Op) (r : Option Reply) (v : Option ℕ) (entry : Entry) → SomeIff n (entry.node < 256) entry.node
-        → SomeIff s (entry.serial < 2 ^ 32) entry.serial
-        → SomeIff o (OpFits entry.op) entry.op → SomeIff r (ReplyFits entry.reply) entry.reply → SomeIff v (entry.version < 2 ^ 64) entry.version
-        → SomeIff {T = Entry} (n >>= λ x. s >>= λ y. o >>= λ z. r >>= λ u. v >>= λ w. Some (record { node = x; serial = y; op = z; reply = u; version = w }))
-        (EntryReads entry) entry
-    joined None s o r v entry a b c d e = λ all. a all.node
-    joined (Some x) None o r v entry a b c d e = λ all. b all.serial
-    joined (Some x) (Some y) None r v entry a b c d e = λ all. c all.op
-    joined (Some x) (Some y) (Some z) None v entry a b c d e = λ all. d all.reply
-    joined (Some x) (Some y) (Some z) (Some u) None entry a b c d e = λ all. e all.version
-    joined (Some x) (Some y) (Some z) (Some u) (Some w) entry a b c d e =
-        (record { node = a.0; serial = b.0; op = c.0; reply = d.0; version = e.0 }, same_entry x y z u w entry a.1 b.1 c.1 d.1 e.1)
+entry_is n s o r v entry a b c d e = grind (arith, same_entry)
 
 command_again_of : (op : Op) (rest : List ℕ) → (more : List ℕ) × (command_read (operation op ++ rest) ≡ Some (command_of op.act, more))
 unfolding operation

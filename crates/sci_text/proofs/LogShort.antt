@@ -9,7 +9,6 @@ use Rattle.sci_words.specs.declared.operation.Reply.TheVariants.{Stored, Got}
 use Rattle.sci_words.specs.declared.stamped.Stamped.{Stamped}
 use Rattle.sci_history.specs.declared.entry.Entry.{Entry}
 use Rattle.sci_text.specs.Number.{number, field}
-use Rattle.sci_text.specs.Operation.{operation}
 use Rattle.sci_text.specs.Log.{reply_text, version_text, log_line, last_line, issue_text, outcome_text, entry_line}
 use Rattle.sci_text.specs.LogValue.{IsSize, ReplyFits}
 use Rattle.sci_text.specs.FirstFault.{IsShort}
@@ -27,13 +26,7 @@ words_short [] h = omega arith
 words_short (w ∷ words) h = omega (arith, length-append (field w) (flat_map field words), field_short w h.0, words_short words h.1)
 
 last_parts : (a b c d : List ℕ) → length (a ++ (b ++ (c ++ (d ++ 10 ∷ [])))) ≡ length a + length b + length c + length d + 1
-last_parts a b c d = omega (
-  arith,
-  length-append a (b ++ (c ++ (d ++ 10 ∷ []))),
-  length-append b (c ++ (d ++ 10 ∷ [])),
-  length-append c (d ++ 10 ∷ []),
-  length-append d (10 ∷ []),
-)
+last_parts a b c d = grind (arith, length-append)
 
 pub last_short : (line : ℕ) (stamped : Stamped) → line < 2 ^ 64 → GoodLast stamped → IsShort (last_line line stamped)
 unfolding last_line
@@ -54,40 +47,12 @@ reply_short (Got word) h = number_short word h
 
 entry_parts : (a b c d f g : List ℕ)
     → length ((a ++ (b ++ (codes " " ++ c))) ++ ((codes " = " ++ (d ++ f)) ++ g)) ≡ length a + length b + length c + length d + length f + length g + 4
-entry_parts a b c d f g = omega (
-  arith,
-  length-append (a ++ (b ++ (codes " " ++ c))) ((codes " = " ++ (d ++ f)) ++ g),
-  length-append a (b ++ (codes " " ++ c)),
-  length-append b (codes " " ++ c),
-  length-append (codes " = " ++ (d ++ f)) g,
-  length-append d f,
-)
+entry_parts a b c d f g = grind (arith, length-append)
 
 pub entry_short : (entry : Entry) → EntryReads entry → IsShort (entry_line entry)
 unfolding entry_line issue_text outcome_text
-entry_short entry h =
-    let node = h.node in
-    let serial = h.serial in
-    omega (
-      arith,
-      entry_parts (number entry.node) (field entry.serial) (operation entry.op) (reply_text entry.reply) (version_text entry.version) (10 ∷ []),
-      number_short entry.node (omega arith),
-      field_short entry.serial (omega arith),
-      operation_short entry.op h.op,
-      reply_short entry.reply h.reply,
-      version_short entry.version h.version,
-    )
+entry_short entry h = grind (arith, entry_parts, number_short, field_short, operation_short, reply_short, version_short)
 
 pub size_short : (nodes lines : ℕ) → IsSize nodes lines → IsShort (log_line nodes lines)
 unfolding log_line
-size_short nodes lines size =
-    let few_nodes = size.few_nodes in
-    let few_lines = size.few_lines in
-    omega (
-      arith,
-      length-append (codes "log 2") (field nodes ++ (field lines ++ 10 ∷ [])),
-      length-append (field nodes) (field lines ++ 10 ∷ []),
-      length-append (field lines) (10 ∷ []),
-      field_short nodes (omega arith),
-      field_short lines (omega arith),
-    )
+size_short nodes lines size = grind (arith, length-append, field_short)

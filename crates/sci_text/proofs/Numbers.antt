@@ -1,5 +1,5 @@
 -- A number that is written is read again, and what is read as a number is written so.
-use Rattle.std.proofs.Common.{◌≡◌, ℕ, zero, suc, ◌+◌, ◌-◌, ◌*◌, ◌/◌, ◌%◌, ◌^◌, ◌<◌, ◌≤◌, Bool, true, false, cond, eqb, List, [], ◌∷◌, ◌++◌, get_or, map, Option}
+use Rattle.std.proofs.Common.{◌≡◌, ℕ, zero, suc, ◌+◌, ◌-◌, ◌*◌, ◌^◌, ◌<◌, ◌≤◌, Bool, true, false, cond, eqb, List, [], ◌∷◌, ◌++◌, get_or, map, Option}
 use Rattle.std.proofs.Common.{Some, None, refl, sym, ap, ◌∙◌, append_assoc, arith, inl, inr, ◌⊎◌}
 use Rattle.std.specs.List.{AllByRecursion}
 use Rattle.std.specs.Int.Digits.{digits_of, number_from_digits, number_from_digits_after, AllBelowBase}
@@ -25,11 +25,7 @@ fitting_some n m e = (cond_some (ltb n (2 ^ 64)) n m e).1
 
 with_digit-fitting : (n b : ℕ) → with_digit (fitting n) b ≡ fitting (n * 10 + (b - 48))
 unfolding with_digit
-with_digit-fitting n b =
-    elim (cases_lt n (2 ^ 64)) [
-      | inl below ↦ rw (fitting_below n below) refl
-      | inr above ↦ rw (fitting_above n above) (sym (fitting_above (n * 10 + (b - 48)) (omega arith)))
-    ]
+with_digit-fitting n b = grind (arith, cases_lt, fitting_below, fitting_above)
 
 is_digit-add : (d : ℕ) → d < 10 → is_digit (48 + d) ≡ true
 is_digit-add d h = grind (arith, nat_tests)
@@ -44,13 +40,7 @@ number_pos (suc n) h = refl
 
 -- one more digit at the end
 pub number_step : (n d : ℕ) → 0 < n → d < 10 → number (n * 10 + d) ≡ number n ++ glyph d ∷ []
-number_step n d pos small =
-    let cut : digits_of 10 (n * 10 + d) ≡ digits_of 10 n ++ d ∷ [] =
-    digits_of_step 10 (n * 10 + d) (omega arith) (omega arith)
-    ∙ ap (λ (q : ℕ). digits_of 10 q ++ (n * 10 + d) % 10 ∷ []) (div-mul-add n 10 d small)
-    ∙ ap (λ (r : ℕ). digits_of 10 n ++ r ∷ []) (mod-mul-add n 10 d small) in
-    number_pos (n * 10 + d) (omega arith) ∙ ap (map glyph) cut ∙ map-append glyph (digits_of 10 n) (d ∷ [])
-    ∙ ap (λ (ds : List ℕ). ds ++ glyph d ∷ []) (sym (number_pos n pos))
+number_step n d pos small = grind (arith, digits_of_step, div-mul-add, mod-mul-add, number_pos, map-append)
 
 -- ---- what is written is read
 
@@ -142,16 +132,7 @@ digits_found n (b ∷ bytes) pos =
     ]
 
 one_digit : (b : ℕ) → 49 ≤ b → b ≤ 57 → number (b - 48) ≡ b ∷ []
-one_digit b low high =
-    let d : ℕ = b - 48 in
-    let quotient : d / 10 ≡ 0 = omega arith in
-    let remainder : d % 10 ≡ d = omega arith in
-    let cut : digits_of 10 d ≡ digits_of 10 0 ++ d ∷ [] =
-    digits_of_step 10 d (omega arith) (omega arith)
-    ∙ ap (λ (q : ℕ). digits_of 10 q ++ d % 10 ∷ []) quotient
-    ∙ ap (λ (r : ℕ). digits_of 10 0 ++ r ∷ []) remainder in
-    let same : glyph d ≡ b = omega arith in
-    number_pos d (omega arith) ∙ ap (map glyph) cut ∙ ap (λ (c : ℕ). c ∷ []) same
+one_digit b low high = grind (arith, digits_of_step, number_pos)
 
 chosen : {A : Type 0} (b : Bool) (x y z : A) → cond b x y ≡ z → ((b ≡ true) × (x ≡ z)) ⊎ ((b ≡ false) × (y ≡ z))
 chosen true x y z e = inl (refl, e)
@@ -181,22 +162,13 @@ cond_some_else false o x e = absurd cc
 pub number_found : (bytes : List ℕ) (value : Option ℕ) (rest : List ℕ) → number_read bytes ≡ Some (value, rest) → IsNumberThen bytes value rest
 unfolding number_read
 number_found [] value rest e = absurd cc
-number_found (b ∷ bytes) value rest e =
-    elim (chosen (eqb b 48) (Some (Some 0, bytes)) (cond (is_digit b) (Some (digits_read (Some (b - 48)) bytes)) None) (Some (value, rest)) e) [
-      | inl zeros ↦ number_found_zero b bytes value rest (eqb-true b 48 zeros.0) zeros.1
-      | inr others ↦
-          let d = cond_some (is_digit b) (digits_read (Some (b - 48)) bytes) (value, rest) others.1 in
-          number_found_digits b bytes value rest (eqb-false b 48 others.0) (digit_bounds b d.0) d.1
-    ]
+number_found (b ∷ bytes) value rest e = grind (arith, chosen, eqb, number_found_zero, eqb-true, cond_some, number_found_digits, eqb-false, digit_bounds)
 
 pub field_found : (bytes : List ℕ) (value : Option ℕ) (rest : List ℕ) → field_read bytes ≡ Some (value, rest)
     → (n : ℕ) × (bytes ≡ field n ++ rest) × (value ≡ fitting n)
 unfolding field field_read
 field_found [] value rest e = absurd cc
-field_found (b ∷ bytes) value rest e =
-    let s = cond_some_else (eqb b 32) (number_read bytes) (value, rest) e in
-    let found = number_found bytes value rest s.1 in
-    (found.0, ap (λ (c : ℕ). c ∷ bytes) (eqb-true b 32 s.0) ∙ ap (λ (l : List ℕ). 32 ∷ l) found.1, found.2)
+field_found (b ∷ bytes) value rest e = grind (arith, cond_some_else, eqb, number_found, eqb-true)
 
 -- ---- numbers are short
 

@@ -1,5 +1,5 @@
 -- An operation that is written is read again, and what is read as one was written so.
-use Rattle.std.proofs.Common.{◌≡◌, ℕ, ◌^◌, ◌<◌, ◌≤◌, ltb, List, ◌++◌, length, Option, Some, None, refl, sym, ap, subst, ◌∙◌, append_assoc, arith, inl, inr}
+use Rattle.std.proofs.Common.{◌≡◌, ℕ, ◌^◌, ◌<◌, ◌≤◌, ltb, List, ◌++◌, length, Option, Some, None, refl, sym, ap, subst, ◌∙◌, append_assoc, arith}
 use Rattle.std.specs.Prelude.{option_map, IsSome, IfNone}
 use Rattle.std.specs.Option.{SomeIff}
 use Rattle.std.proofs.lemmas.Bool.{false≢true, cases_lt, lt-ltb, le-ltb}
@@ -23,11 +23,7 @@ use Rattle.sci_text.proofs.Words.{spelled_found}
 -- ---- what stands for a value if it fits
 
 pub fitting_is : (n : ℕ) → SomeIff (fitting n) (n < 2 ^ 64) n
-fitting_is n =
-    elim (cases_lt n (2 ^ 64)) as (λ _. SomeIff (fitting n) (n < 2 ^ 64) n) [
-      | inl below ↦ rw (fitting_below n below) (below, refl)
-      | inr above ↦ rw (fitting_above n above) (λ below. absurd (omega arith))
-    ]
+fitting_is n = grind (arith, cases_lt, fitting_below, fitting_above)
 
 pub mapped : {A B : Type 0} (P : Type 0) (f : A → B) (o : Option A) (x : A) → SomeIff o P x → SomeIff (option_map f o) P (f x)
 mapped P f None x h = h
@@ -51,15 +47,7 @@ unfolding byte
 byte_none = refl
 
 pub byte_is : (n : ℕ) → SomeIff (byte (fitting n)) (n < 256) n
-byte_is n =
-    elim (cases_lt n 256) [
-      | inl below ↦ rw (fitting_below n (omega arith), byte_below n below) (below, refl)
-      | inr above ↦
-          elim (cases_lt n (2 ^ 64)) [
-            | inl fits ↦ rw (fitting_below n fits, byte_above n above) (λ below. absurd (omega arith))
-            | inr wide ↦ rw (fitting_above n wide, byte_none) (λ below. absurd (omega arith))
-          ]
-    ]
+byte_is n = grind (arith, cases_lt, fitting_below, byte_below, byte_above, fitting_above, byte_none)
 
 pub byte_some : (o : Option ℕ) (n : ℕ) → byte o ≡ Some n → o ≡ Some n
 unfolding byte
@@ -67,11 +55,7 @@ byte_some None n e = absurd cc
 byte_some (Some m) n e = ap (λ (x : ℕ). Some x) (cond_some (ltb m 256) m n e).1
 
 pub byte_refused : (o : Option ℕ) (n : ℕ) → byte o ≡ None → o ≡ Some n → 256 ≤ n
-byte_refused o n refused e =
-    elim (cases_lt n 256) [
-      | inl below ↦ absurd (none-some n (sym refused ∙ ap byte e ∙ byte_below n below))
-      | inr above ↦ above
-    ]
+byte_refused o n refused e = grind (arith, cases_lt, none-some, byte_below)
 
 pub none_then : {X : Type 0} (o : Option X) (P Q : Type 0) → (P → IsSome o) → ((P → ⊥) → Q) → IfNone o Q
 none_then None P Q f g = g (λ p. false≢true (f p))
@@ -304,14 +288,4 @@ operands_short (Lock (WrapAdd arg datum)) fits = two_short arg datum fits
 
 pub operation_short : (op : Op) → OpFits op → length (operation op) ≤ 96
 unfolding operation
-operation_short op fits =
-    omega (
-      arith,
-      length-append (act_word op.act) (field op.line ++ (field op.word ++ act_operands op.act)),
-      length-append (field op.line) (field op.word ++ act_operands op.act),
-      length-append (field op.word) (act_operands op.act),
-      word_short op.act,
-      field_short op.line (omega (arith, fits.0)),
-      field_short op.word (omega (arith, fits.1.0)),
-      operands_short op.act fits.1.1,
-    )
+operation_short op fits = grind (arith, length-append, word_short, field_short, operands_short)

@@ -263,39 +263,13 @@ kind_short Mread = omega arith
 kind_short _ = omega arith
 
 line_of_numbers : (word : List ℕ) (a b : ℕ) → length word ≤ 7 → (a < 256) × (b < 256) → IsShort (word ++ (field a ++ (field b ++ 10 ∷ [])))
-line_of_numbers word a b short fit =
-    omega (
-      arith,
-      length-append word (field a ++ (field b ++ 10 ∷ [])),
-      length-append (field a) (field b ++ 10 ∷ []),
-      length-append (field b) (10 ∷ []),
-      field_short a (omega (arith, fit.0)),
-      field_short b (omega (arith, fit.1)),
-    )
+line_of_numbers word a b short fit = grind (arith, length-append, field_short)
 
 pub line_is_short : (event : Event) → EventFits event → IsShort (event_line event)
 unfolding event_line
-line_is_short (Issue node op) fit =
-    omega (
-      arith,
-      length-append (codes "issue") (field node ++ ((codes " " ++ operation op) ++ 10 ∷ [])),
-      length-append (field node) ((codes " " ++ operation op) ++ 10 ∷ []),
-      length-append (operation op) (10 ∷ []),
-      field_short node (omega (arith, fit.0)),
-      operation_short op fit.1,
-    )
+line_is_short (Issue node op) fit = grind (arith, length-append, field_short, operation_short)
 line_is_short (Perform node line) fit = line_of_numbers (codes "perform") node line (omega arith) fit
-line_is_short (Ask node line kind) fit =
-    omega (
-      arith,
-      length-append (codes "ask") (field node ++ ((field line ++ (codes " " ++ kind_word kind)) ++ 10 ∷ [])),
-      length-append (field node) ((field line ++ (codes " " ++ kind_word kind)) ++ 10 ∷ []),
-      length-append (field line ++ (codes " " ++ kind_word kind)) (10 ∷ []),
-      length-append (field line) (codes " " ++ kind_word kind),
-      field_short node (omega (arith, fit.0)),
-      field_short line (omega (arith, fit.1)),
-      kind_short kind,
-    )
+line_is_short (Ask node line kind) fit = grind (arith, length-append, field_short, kind_short)
 line_is_short (Serve from node) fit = line_of_numbers (codes "serve") from node (omega arith) fit
 line_is_short (Refuse from node) fit = line_of_numbers (codes "refuse") from node (omega arith) fit
 line_is_short (Reply node) fit =

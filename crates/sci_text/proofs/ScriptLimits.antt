@@ -57,14 +57,7 @@ counts_push counts node op operations counted known room =
     }
 
 size_inside : (extent : Extent) → AreWithinLimits extent.nodes extent.lines extent.slots
-size_inside extent = record {
-  has_node = extent.has_node;
-  few_nodes = extent.few_nodes;
-  has_line = extent.has_line;
-  few_lines = extent.few_lines;
-  has_slot = extent.has_slot;
-  few_slots = extent.few_slots;
-}
+size_inside extent = grind arith
 
 pub is_script_inside : (extent : Extent) (counts : List ℕ) (operations : List (ℕ × Op))
     → AreWithin extent.nodes extent.lines operations × AreCounts counts operations

@@ -89,17 +89,7 @@ size_some s = omega arith
 
 pub size_short : (s : Size) → SizeFits s → IsShort (machine_line s.0 s.1 s.2)
 unfolding machine_line
-size_short s fits =
-    omega (
-      arith,
-      length-append (codes "machine") (field s.0 ++ (field s.1 ++ (field s.2 ++ 10 ∷ []))),
-      length-append (field s.0) (field s.1 ++ (field s.2 ++ 10 ∷ [])),
-      length-append (field s.1) (field s.2 ++ 10 ∷ []),
-      length-append (field s.2) (10 ∷ []),
-      field_short s.0 (omega (arith, fits.0)),
-      field_short s.1 (omega (arith, fits.1.0)),
-      field_short s.2 (omega (arith, fits.1.1)),
-    )
+size_short s fits = grind (arith, length-append, field_short)
 
 abbrev pub machine_format : Line Size
 machine_format = record {
@@ -172,14 +162,7 @@ operation_line_found bytes o rest e =
 
 pub operation_line_short : (p : ℕ × Op) → (p.0 < 256) × OpFits p.1 → IsShort (operation_line p.0 p.1)
 unfolding operation_line
-operation_line_short p fits =
-    omega (
-      arith,
-      length-append (field p.0) (codes " " ++ (operation p.1 ++ 10 ∷ [])),
-      length-append (operation p.1) (10 ∷ []),
-      field_short p.0 (omega (arith, fits.0)),
-      operation_short p.1 fits.1,
-    )
+operation_line_short p fits = grind (arith, length-append, field_short, operation_short)
 
 pub found_operation : (bytes : List ℕ) (o : Option (ℕ × Op)) (rest : List ℕ) → operation_line_read bytes ≡ Some (o, rest)
     → (p : ℕ × Op) × (bytes ≡ operation_line p.0 p.1 ++ rest) × SomeIff o ((p.0 < 256) × OpFits p.1) p

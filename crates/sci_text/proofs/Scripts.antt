@@ -10,10 +10,7 @@ use Rattle.sci_text.proofs.ScriptReads.{operation_line_format}
 use Rattle.sci_text.proofs.Listings.{Listing}
 
 pub operation_fits : (s : ScriptValue) → IsScript s → (p : ℕ × Op) → IsWithin s.nodes s.lines p.0 p.1 → operation_line_format.Fits p
-operation_fits s good p within = (
-  omega (arith, within.known_node, good.size.few_nodes),
-  (omega (arith, within.known_line, good.size.few_lines), (omega (arith, within.known_word), within.words)),
-)
+operation_fits s good p within = grind arith
 
 count_front : (m : ℕ) (front more : List (ℕ × Op)) (p : ℕ × Op) → p.0 ≡ m → count_of m front < count_of m (front ++ p ∷ more)
 count_front m front more p same =

@@ -1,5 +1,5 @@
 -- Bytes that are a number, and nothing else.
-use Rattle.std.proofs.Common.{◌≡◌, ◌==◌, ◌↔◌, ◌<◌, ◌^◌, ℕ, true, false, List, [], ◌∷◌, Option, Some, None, length, sym, ap, ◌∙◌, arith, inl, inr}
+use Rattle.std.proofs.Common.{◌≡◌, ◌==◌, ◌↔◌, ◌<◌, ◌^◌, ℕ, true, false, List, [], ◌∷◌, Option, Some, None, length, sym, ap, ◌∙◌, arith}
 use Rattle.std.proofs.lemmas.Bool.{cases_lt, eqb-true}
 use Rattle.std.proofs.lemmas.List.{append-nil}
 use Rattle.sci_text.specs.Number.{number}
@@ -14,22 +14,13 @@ whole_of (Some (value, [])) = value
 whole_of (Some (value, b ∷ rest)) = None
 
 fits_as : (m n : ℕ) → fitting m ≡ Some n → (m ≡ n) × (n < 2 ^ 64)
-fits_as m n e = elim (cases_lt m (2 ^ 64)) [
-  | inl lt ↦ let same : m ≡ n = fitting_some m n e in (same, omega arith)
-  | inr le ↦ absurd (none_is n (sym (fitting_above m le) ∙ e))
-]
-  where
-    none_is : (b : ℕ) → None ≡ Some b → ⊥
-    none_is b e = cc
+fits_as m n e = grind (arith, cases_lt, fitting_some, fitting_above)
 
 found_whole : (bytes : List ℕ) (n : ℕ) (read : Option (Option ℕ × List ℕ)) → number_read bytes ≡ read → whole_of read ≡ Some n
     → (bytes ≡ number n) × (n < 2 ^ 64)
 found_whole bytes n None read is = absurd cc
 found_whole bytes n (Some (value, b ∷ rest)) read is = absurd cc
-found_whole bytes n (Some (value, [])) read is =
-    let found = number_found bytes value [] read in
-    let same = fits_as found.0 n (sym found.2 ∙ is) in
-    (found.1 ∙ (append-nil (number found.0) ∙ ap number same.0), same.1)
+found_whole bytes n (Some (value, [])) read is = grind (arith, number_found, fits_as, append-nil)
 
 whole_again : (bytes : List ℕ) (n : ℕ) → bytes ≡ number n → n < 2 ^ 64 → whole_of (number_read bytes) ≡ Some n
 whole_again bytes n is lt = ap (λ (bs : List ℕ). whole_of (number_read bs)) (is ∙ sym (append-nil (number n)))
