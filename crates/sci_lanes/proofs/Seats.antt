@@ -78,6 +78,12 @@ part_after how part next after t = ap (λ (k : Me (Unit {0}) View). part_of k.0)
 pub went_after : (how : List Event → Type 0) (part next : Part) (after : Me (Unit {0}) View) (t : Tells how part next after) → how (part_of after.0).schedule
 went_after how part next after t = subst how (sym (ap (λ (p : Part). p.schedule) (part_after how part next after t))) t.went
 
+-- the same of the end as contracts see it
+pub went_now : (how : Part → List Event → Type 0) (old now : EndOf) (next : Part) (after : Me (Unit {0}) View) → old ≡ now
+    → Tells (how old.part) old.part next after → how now.part (part_of after.0).schedule
+went_now how old now next after view t =
+    subst (λ (e : EndOf). how e.part (part_of after.0).schedule) view (went_after (how old.part) old.part next after t)
+
 -- what a look told
 pub look_told : (knows after : Me (Unit {0}) View) (cell : CellId) (nodes place word slots : ℕ)
     → IsNextToSend (part_of knows.0) cell ⊎ IsNextToTake (part_of knows.0) cell → IsShown (part_of knows.0) → nodes ≡ nodes_in (part_of knows.0)

@@ -1,11 +1,9 @@
-use Rattle.std.proofs.Common.{◌+◌, ◌%◌, ◌^◌, sym, ap, subst}
+use Rattle.std.proofs.Common.{◌+◌, ◌%◌, ◌^◌, sym, subst}
 use mathlib.Core.Option.{none}
 use Rattle.atomic_table.specs.Table.{step}
 use Rattle.sci_lanes.specs.Plays.{Beats}
-use Rattle.sci_lanes.specs.Ends.{EndOf}
-use Rattle.sci_lanes.specs.Telling.{part_of, IsMade}
-use Rattle.sci_lanes.specs.declared.view.Part.{Part}
-use Rattle.sci_lanes.proofs.Seats.{Asks, beat_asks, went_after}
+use Rattle.sci_lanes.specs.Telling.{IsMade}
+use Rattle.sci_lanes.proofs.Seats.{Asks, beat_asks, went_now}
 use Rattle.sci_lanes.proofs.seat.NodeSeat.beat.Goals as goal
 
 pub fetch_add-requires : goal.fetch_add-requires
@@ -18,6 +16,4 @@ fetch_add-requires g c =
 
 pub returns-clause-made : goal.returns-clause-made
 returns-clause-made g c =
-    let s = c.self.inside.seat in
-    subst (λ (p : Part). IsMade p g.B.Becomes.event (part_of c.fetch_add.new.seat.me.0).schedule) (ap (λ (e : EndOf). e.part) c.self.view_is)
-    (went_after (IsMade (part_of s.me.0) g.B.Becomes.event) (part_of s.me.0) _ c.fetch_add.new.seat.me c.fetch_add.ensures.2)
+    went_now (λ p. IsMade p g.B.Becomes.event) _ c.args.self.now _ c.fetch_add.new.seat.me c.self.view_is c.fetch_add.ensures.2

@@ -1,13 +1,10 @@
-use Rattle.std.proofs.Common.{sym, ap, subst}
+use Rattle.std.proofs.Common.{sym, subst}
 use mathlib.Core.Option.{none}
 use Rattle.atomic_table.specs.Table.{step}
 use Rattle.sci_lanes.specs.Knowing.{filled}
 use Rattle.sci_lanes.specs.Plays.{Fills}
 use Rattle.sci_lanes.specs.Shown.{IsSeen}
-use Rattle.sci_lanes.specs.Ends.{EndOf}
-use Rattle.sci_lanes.specs.Telling.{part_of}
-use Rattle.sci_lanes.specs.declared.view.Part.{Part}
-use Rattle.sci_lanes.proofs.Seats.{Asks, fill_asks, told_after, went_after}
+use Rattle.sci_lanes.proofs.Seats.{Asks, fill_asks, told_after, went_now}
 use Rattle.sci_lanes.proofs.seat.NodeSeat.fill.Goals as goal
 
 pub store-requires : goal.store-requires
@@ -26,7 +23,4 @@ returns-clause-part c =
     c.store.ensures.0 c.store.ensures.2
 
 pub returns-clause-seen : goal.returns-clause-seen
-returns-clause-seen c =
-    let s = c.self.inside.seat in
-    subst (λ (p : Part). IsSeen p (part_of c.store.new.seat.me.0).schedule) (ap (λ (e : EndOf). e.part) c.self.view_is)
-    (went_after (IsSeen (part_of s.me.0)) (part_of s.me.0) _ c.store.new.seat.me c.store.ensures.2)
+returns-clause-seen c = went_now (λ p. IsSeen p) _ c.args.self.now _ c.store.new.seat.me c.self.view_is c.store.ensures.2

@@ -1,13 +1,11 @@
-use Rattle.std.proofs.Common.{ℕ, sym, ap, subst, arith}
+use Rattle.std.proofs.Common.{ℕ, sym, subst, arith}
 use mathlib.Core.Option.{none}
 use Rattle.atomic_table.specs.Table.{step}
 use Rattle.sci_lanes.specs.Knowing.{freed}
 use Rattle.sci_lanes.specs.Plays.{Frees}
-use Rattle.sci_lanes.specs.Ends.{EndOf}
 use Rattle.sci_lanes.specs.Plays.{lane_in}
 use Rattle.sci_lanes.specs.Telling.{part_of, IsTaken}
-use Rattle.sci_lanes.specs.declared.view.Part.{Part}
-use Rattle.sci_lanes.proofs.Seats.{Asks, free_asks, lane_told, told_after, went_after}
+use Rattle.sci_lanes.proofs.Seats.{Asks, free_asks, lane_told, told_after, went_now}
 use Rattle.sci_lanes.proofs.seat.NodeSeat.free.Goals as goal
 
 pub store-requires : goal.store-requires
@@ -32,5 +30,4 @@ returns-clause-taken g c =
     let lane = lane_told _ _ _ s.id s.me c.args.cell.now c.args.nodes c.place-place.result c.self.invariant c.args.self.now c.self.view_is c.requires.nodes 0
     (omega arith) c.place-place.ensures in
     subst (λ (l : ℕ). IsTaken c.args.self.now.part l g.B.Becomes.event later) lane
-    (subst (λ (p : Part). IsTaken p (lane_in c.place-place.result) g.B.Becomes.event later) (ap (λ (e : EndOf). e.part) c.self.view_is)
-    (went_after (IsTaken (part_of s.me.0) (lane_in c.place-place.result) g.B.Becomes.event) (part_of s.me.0) _ c.store.new.seat.me c.store.ensures.2))
+    (went_now (λ p. IsTaken p (lane_in c.place-place.result) g.B.Becomes.event) _ c.args.self.now _ c.store.new.seat.me c.self.view_is c.store.ensures.2)

@@ -1,12 +1,10 @@
-use Rattle.std.proofs.Common.{sym, ap, subst, arith}
+use Rattle.std.proofs.Common.{sym, subst, arith}
 use mathlib.Core.Option.{none}
 use Rattle.atomic_table.specs.Table.{step}
 use Rattle.sci_lanes.specs.Knowing.{published}
 use Rattle.sci_lanes.specs.Plays.{Publishes}
-use Rattle.sci_lanes.specs.Ends.{EndOf}
-use Rattle.sci_lanes.specs.Telling.{part_of, IsMade}
-use Rattle.sci_lanes.specs.declared.view.Part.{Part}
-use Rattle.sci_lanes.proofs.Seats.{Asks, publish_asks, told_after, went_after}
+use Rattle.sci_lanes.specs.Telling.{IsMade}
+use Rattle.sci_lanes.proofs.Seats.{Asks, publish_asks, told_after, went_now}
 use Rattle.sci_lanes.proofs.seat.NodeSeat.publish.Goals as goal
 
 pub store-requires : goal.store-requires
@@ -27,6 +25,4 @@ returns-clause-part g c =
 
 pub returns-clause-made : goal.returns-clause-made
 returns-clause-made g c =
-    let s = c.self.inside.seat in
-    subst (λ (p : Part). IsMade p g.B.Becomes.event (part_of c.store.new.seat.me.0).schedule) (ap (λ (e : EndOf). e.part) c.self.view_is)
-    (went_after (IsMade (part_of s.me.0) g.B.Becomes.event) (part_of s.me.0) _ c.store.new.seat.me c.store.ensures.2)
+    went_now (λ p. IsMade p g.B.Becomes.event) _ c.args.self.now _ c.store.new.seat.me c.self.view_is c.store.ensures.2
