@@ -226,20 +226,20 @@ looks size slots id lane number part lt few = allows size slots id place part (�
         in_is : receiver_of (nodes_of x) lane ≡ me_of part → inbound_at part lane ≡ x.inbound lane
         in_is is = k.inbound lane lane_ok is
 
+        -- the node is at this end of the lane
+        mine : (end_of : ℕ → ℕ → ℕ) → eqb (end_of part.node.cache.nodes lane) (me_of part) ≡ true → end_of (nodes_of x) lane ≡ me_of part
+        mine end_of is = subst (λ (n : ℕ). end_of n lane ≡ me_of part) nodes (eqb-true (end_of part.node.cache.nodes lane) (me_of part) is)
+
         sends_here : b ≡ true → word ≡ word_at s.words lane (x.outbound lane).sent 0
         sends_here is =
             let both = and_parts (eqb (sender_of part.node.cache.nodes lane) (me_of part)) (eqb number ((outbound_at part lane).sent % 4)) is in
-            let sender : sender_of (nodes_of x) lane ≡ me_of part =
-            subst (λ (n : ℕ). sender_of n lane ≡ me_of part) nodes (eqb-true (sender_of part.node.cache.nodes lane) (me_of part) both.0) in
-            subst (λ (o : Outbound). word ≡ word_at s.words lane o.sent 0) (out_is sender)
+            subst (λ (o : Outbound). word ≡ word_at s.words lane o.sent 0) (out_is (mine sender_of both.0))
             (next_cell s.words lane number number (outbound_at part lane).sent both.1 refl)
 
         receives_here : c ≡ true → word ≡ word_at s.words lane (x.inbound lane).taken 0
         receives_here is =
             let both = and_parts (eqb (receiver_of part.node.cache.nodes lane) (me_of part)) (eqb number ((inbound_at part lane).taken % 4)) is in
-            let receiver : receiver_of (nodes_of x) lane ≡ me_of part =
-            subst (λ (n : ℕ). receiver_of n lane ≡ me_of part) nodes (eqb-true (receiver_of part.node.cache.nodes lane) (me_of part) both.0) in
-            subst (λ (i : Inbound). word ≡ word_at s.words lane i.taken 0) (in_is receiver)
+            subst (λ (i : Inbound). word ≡ word_at s.words lane i.taken 0) (in_is (mine receiver_of both.0))
             (next_cell s.words lane number number (inbound_at part lane).taken both.1 refl)
 
         old : ShowsLane s.words lane (lane_at x.core lane) (x.outbound lane) (x.inbound lane)
@@ -249,14 +249,10 @@ looks size slots id lane number part lt few = allows size slots id place part (�
         surely : c ≡ true → sure ≡ true → 0 < length old.packets
         surely takes more =
             let both = and_parts (eqb (receiver_of part.node.cache.nodes lane) (me_of part)) (eqb number ((inbound_at part lane).taken % 4)) takes in
-            let receiver : receiver_of (nodes_of x) lane ≡ me_of part =
-            subst (λ (n : ℕ). receiver_of n lane ≡ me_of part) nodes (eqb-true (receiver_of part.node.cache.nodes lane) (me_of part) both.0) in
             let sends = and_parts (eqb (sender_of part.node.cache.nodes lane) (me_of part))
             (not (eqb (outbound_at part lane).sent (inbound_at part lane).taken)) more in
-            let sender : sender_of (nodes_of x) lane ≡ me_of part =
-            subst (λ (n : ℕ). sender_of n lane ≡ me_of part) nodes (eqb-true (sender_of part.node.cache.nodes lane) (me_of part) sends.0) in
-            let sent = ap (λ (o : Outbound). o.sent) (out_is sender) in
-            let taken = ap (λ (i : Inbound). i.taken) (in_is receiver) in
+            let sent = ap (λ (o : Outbound). o.sent) (out_is (mine sender_of sends.0)) in
+            let taken = ap (λ (i : Inbound). i.taken) (in_is (mine receiver_of both.0)) in
             let counted = old.fits.counted in
             elim (cases_lt 0 (length old.packets)) [
               | inl packets ↦ packets
