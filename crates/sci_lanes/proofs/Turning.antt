@@ -1,6 +1,7 @@
 -- A step on one lane keeps words and views showing a state.
-use Rattle.std.proofs.Common.{◌≡◌, ◌≢◌, ℕ, ◌+◌, ◌<◌, inl, inr, List, length, get_or, set, refl, sym, ap, subst, ◌∙◌}
+use Rattle.std.proofs.Common.{◌≡◌, ◌≢◌, ℕ, ◌+◌, ◌<◌, inl, inr, List, length, get_or, set, refl, sym, ap, subst, ◌∙◌, arith}
 use Rattle.std.proofs.lemmas.Bool.{cases_eq}
+use Rattle.std.proofs.lemmas.Bool.Decides.{nat_tests}
 use Rattle.std.proofs.lemmas.List.{length-set, get_or-set_same, get_or-set_other}
 use mathlib.Core.Option.{some}
 use lib.ListN.{get_elem?}
@@ -35,6 +36,11 @@ abbrev pub turned_whole : Whole → ℕ → Core → List Event → Outbound →
 turned_whole x lane core schedule o i =
     record { core = core; schedule = schedule; outbound = changed_at x.outbound lane o; inbound = changed_at x.inbound lane i; owner = x.owner }
 
+-- what a part knows of a lane when it and the whole change one, each to what it says
+known_changed : {A : Type 0} (xs : List A) (f : ℕ → A) (lane other : ℕ) (new new' d : A) → lane < length xs → (other ≡ lane → new ≡ new')
+    → get_or xs other d ≡ f other → get_or (set xs lane new) other d ≡ changed_at f lane new' other
+known_changed xs f lane other new new' d lt here else = grind (arith, nat_tests, get_or-set_same, get_or-set_other, changed_here, changed_else)
+
 known_turned : (x : Whole) (seat : ℕ) (part : Part) (lane : ℕ) (core : Core) (schedule : List Event) (next : NodeOf) (o o' : Outbound) (i i' : Inbound)
     → IsKnown x seat part → IsTurn x part lane core schedule next o o' i i'
     → IsKnown (turned_whole x lane core schedule o' i') seat (informed schedule (with_lane_known lane next o i part))
@@ -52,22 +58,12 @@ known_turned x seat part lane core schedule next o o' i i' k t =
       inbound_long = length-set part.inbound lane i ∙ (k.inbound_long ∙ ap lane_count (sym size));
       outbound = λ other lt is.
           let is' : sender_of n other ≡ me_of part = subst (λ (m : ℕ). sender_of m other ≡ me_of part) size (is ∙ t.me) in
-          elim (cases_eq other lane) [
-            | inl e ↦ subst (λ (l : ℕ). get_or (set part.outbound lane o) l no_outbound ≡ changed_at x.outbound lane o' l) (sym e)
-                (get_or-set_same part.outbound lane o no_outbound lane_in_out
-                ∙ (t.sender (subst (λ (l : ℕ). sender_of n l ≡ me_of part) e is') ∙ sym (changed_here x.outbound lane o')))
-            | inr apart ↦ get_or-set_other part.outbound lane other o no_outbound apart
-                ∙ (k.outbound other (subst (λ (m : ℕ). other < lane_count m) size lt) is' ∙ sym (changed_else x.outbound lane o' other apart))
-          ];
+          known_changed part.outbound x.outbound lane other o o' no_outbound lane_in_out
+          (λ e. t.sender (subst (λ (l : ℕ). sender_of n l ≡ me_of part) e is')) (k.outbound other (subst (λ (m : ℕ). other < lane_count m) size lt) is');
       inbound = λ other lt is.
           let is' : receiver_of n other ≡ me_of part = subst (λ (m : ℕ). receiver_of m other ≡ me_of part) size (is ∙ t.me) in
-          elim (cases_eq other lane) [
-            | inl e ↦ subst (λ (l : ℕ). get_or (set part.inbound lane i) l no_inbound ≡ changed_at x.inbound lane i' l) (sym e)
-                (get_or-set_same part.inbound lane i no_inbound lane_in_in
-                ∙ (t.receiver (subst (λ (l : ℕ). receiver_of n l ≡ me_of part) e is') ∙ sym (changed_here x.inbound lane i')))
-            | inr apart ↦ get_or-set_other part.inbound lane other i no_inbound apart
-                ∙ (k.inbound other (subst (λ (m : ℕ). other < lane_count m) size lt) is' ∙ sym (changed_else x.inbound lane i' other apart))
-          ];
+          known_changed part.inbound x.inbound lane other i i' no_inbound lane_in_in
+          (λ e. t.receiver (subst (λ (l : ℕ). receiver_of n l ≡ me_of part) e is')) (k.inbound other (subst (λ (m : ℕ). other < lane_count m) size lt) is');
     }
 
 pub lane_step : (x : Whole) (words : List ℕ) (views : List View) (seat lane turn index value : ℕ) (part : Part) (core : Core) (schedule : List Event)
