@@ -66,12 +66,13 @@ stored_elsewhere words lane other turn index value packets o i apart few f =
 
 -- ---- what is known
 
--- what the sender knows, in place of what it knew
-sender_knows : {words : List ℕ} {lane : ℕ} {packets : List Packet} {o : Outbound} {i : Inbound} (f : Fits words lane packets o i) (vacant : Bool)
-    (filled : List ℕ) → (vacant ≡ true → length packets < 4) → (vacant ≡ false → filled ≡ []) → length filled < 11
-    → ((j : ℕ) → j < length filled → word_at words lane o.sent (suc j) ≡ get_or filled j 0)
-    → Fits words lane packets (record { sent = o.sent; vacant = vacant; filled = filled }) i
-sender_knows f vacant filled room none few same = record {
+-- what the two ends know, in place of what they knew
+ends_know : {words : List ℕ} {lane : ℕ} {packets : List Packet} {o : Outbound} {i : Inbound} (f : Fits words lane packets o i) (vacant : Bool)
+    (filled found : List ℕ) → (vacant ≡ true → length packets < 4) → (vacant ≡ false → filled ≡ []) → length filled < 11
+    → ((j : ℕ) → j < length filled → word_at words lane o.sent (suc j) ≡ get_or filled j 0) → length found ≤ 11 → (0 < length found → 0 < length packets)
+    → ((j : ℕ) → j < length found → word_at words lane i.taken j ≡ get_or found j 0)
+    → Fits words lane packets (record { sent = o.sent; vacant = vacant; filled = filled }) (record { taken = i.taken; found = found })
+ends_know f vacant filled found room none few same few_found there found_same = record {
   good = f.good;
   counted = f.counted;
   room = f.room;
@@ -81,29 +82,23 @@ sender_knows f vacant filled room none few same = record {
   unfilled = none;
   few_filled = few;
   filled = same;
-  few_found = f.few_found;
-  there = f.there;
-  found = f.found;
+  few_found = few_found;
+  there = there;
+  found = found_same;
 }
+
+-- what the sender knows
+sender_knows : {words : List ℕ} {lane : ℕ} {packets : List Packet} {o : Outbound} {i : Inbound} (f : Fits words lane packets o i) (vacant : Bool)
+    (filled : List ℕ) → (vacant ≡ true → length packets < 4) → (vacant ≡ false → filled ≡ []) → length filled < 11
+    → ((j : ℕ) → j < length filled → word_at words lane o.sent (suc j) ≡ get_or filled j 0)
+    → Fits words lane packets (record { sent = o.sent; vacant = vacant; filled = filled }) i
+sender_knows {i = i} f vacant filled room none few same = ends_know f vacant filled i.found room none few same f.few_found f.there f.found
 
 -- and the receiver
 receiver_knows : {words : List ℕ} {lane : ℕ} {packets : List Packet} {o : Outbound} {i : Inbound} (f : Fits words lane packets o i) (found : List ℕ)
     → length found ≤ 11 → (0 < length found → 0 < length packets) → ((j : ℕ) → j < length found → word_at words lane i.taken j ≡ get_or found j 0)
     → Fits words lane packets o (record { taken = i.taken; found = found })
-receiver_knows f found few there same = record {
-  good = f.good;
-  counted = f.counted;
-  room = f.room;
-  full = f.full;
-  empty = f.empty;
-  vacant = f.vacant;
-  unfilled = f.unfilled;
-  few_filled = f.few_filled;
-  filled = f.filled;
-  few_found = few;
-  there = there;
-  found = same;
-}
+receiver_knows {o = o} f found few there same = ends_know f o.vacant o.filled found f.vacant f.unfilled f.few_filled f.filled few there same
 
 -- fewer words filled
 forget_filled : (words : List ℕ) (lane n : ℕ) (packets : List Packet) (o : Outbound) (i : Inbound) → n ≤ length o.filled → Fits words lane packets o i
