@@ -5,8 +5,6 @@ use Rattle.sci_packets.specs.Spelling.{SpellsInWords}
 use Rattle.sci_cache.specs.Cache.{letter_of}
 use Rattle.sci_core.specs.Node.{NodeOf}
 use Rattle.sci_core.specs.Core.{side}
-use Rattle.sci_words.specs.declared.event.Event.{Event}
-use Rattle.sci_lanes.specs.declared.cell.CellId.{CellId}
 use Rattle.sci_lanes.specs.Ends.{EndOf, MayFree, MayBeGiven, taken_by, lane_at_cell}
 use Rattle.sci_lanes.specs.Shown.{inbound_at}
 use Rattle.sci_lanes.proofs.Seats.{takes_in}
@@ -14,53 +12,50 @@ use Rattle.sci_lanes.proofs.Inside.{freed_inside}
 use Rattle.sci_lanes.proofs.Places.{places_freed}
 use Rattle.sci_lanes.proofs.Calls.{takes_some, given, freeing, one_spelled}
 use Rattle.sci_lanes.proofs.end.LaneEnd.free.Goals as goal
+use Rattle.sci_lanes.proofs.end.LaneEnd.free.Goals.{After-self}
 
--- the end as the seat knows it
-may_inside : (inside now : EndOf) (cell : CellId) (event : Event) → inside ≡ now → MayFree now.part cell event → MayFree inside.part cell event
-may_inside inside now cell event is may = subst (λ (end : EndOf). MayFree end.part cell event) (sym is) may
+-- the packet may be taken, as the seat knows the end
+may : (c : After-self) → MayFree c.self.inside.seat.part c.args.cell c.args.event.now
+may c = subst (λ (end : EndOf). MayFree end.part c.args.cell c.args.event.now) (sym c.self.view_is) c.requires.may
 
--- the packet that is given is the one that may be taken
-same_packet : (inside now : EndOf) (cell : CellId) (event : Event) (packet : Packet) → inside ≡ now → (may : MayFree inside.part cell event)
-    → SpellsInWords packet (inbound_at now.part (lane_at_cell now.part cell)).found → packet ≡ may.packet
-same_packet inside now cell event packet is may spelled =
-    one_spelled packet may.packet _ (subst (λ (end : EndOf). SpellsInWords packet (inbound_at end.part (lane_at_cell end.part cell)).found) (sym is) spelled)
-    may.spelled
+-- and it is the one that is given
+same : (c : After-self) → c.args.packet.now ≡ (may c).packet
+same c =
+    one_spelled c.args.packet.now (may c).packet _
+    (subst (λ (end : EndOf). SpellsInWords c.args.packet.now (inbound_at end.part (lane_at_cell end.part c.args.cell)).found) (sym c.self.view_is)
+    c.requires.spelled) (may c).spelled
 
 pub make_taking-requires-clause-takable : goal.make_taking-requires-clause-takable
 make_taking-requires-clause-takable c =
     let s = c.self.inside in
     let e = c.args.event.now in
-    let may = may_inside s.seat c.args.self.now c.args.cell e c.self.view_is c.requires.may in
-    let is = same_packet s.seat c.args.self.now c.args.cell e c.args.packet.now c.self.view_is may c.requires.spelled in
-    subst (λ (p : Packet). MayBeGiven e s.node (letter_of p)) (sym is)
-    (subst (λ (node : NodeOf). MayBeGiven e node (letter_of may.packet)) (sym c.self.invariant.0.node_is)
-    (given s.seat.part c.args.cell e c.self.invariant.0.shown may))
+    let start = (goal.at.make_taking-requires-clause-takable c).After-self in
+    subst (λ (p : Packet). MayBeGiven e s.node (letter_of p)) (sym (same start))
+    (subst (λ (node : NodeOf). MayBeGiven e node (letter_of (may start).packet)) (sym c.self.invariant.0.node_is)
+    (given s.seat.part c.args.cell e c.self.invariant.0.shown (may start)))
 
 pub make_taking-requires-clause-takes : goal.make_taking-requires-clause-takes
 make_taking-requires-clause-takes c =
-    let s = c.self.inside in
+    let part = c.self.inside.seat.part in
     let e = c.args.event.now in
-    let may = may_inside s.seat c.args.self.now c.args.cell e c.self.view_is c.requires.may in
-    let is = same_packet s.seat c.args.self.now c.args.cell e c.args.packet.now c.self.view_is may c.requires.spelled in
+    let start = (goal.at.make_taking-requires-clause-takes c).After-self in
     let takes = ap (λ (node : NodeOf). taken_by (side node e) (letter_of c.args.packet.now)) c.self.invariant.0.node_is
-    ∙ (ap (λ (p : Packet). taken_by (side s.seat.part.node e) (letter_of p)) is ∙ takes_some s.seat.part c.args.cell e may) in
+    ∙ (ap (λ (p : Packet). taken_by (side part.node e) (letter_of p)) (same start) ∙ takes_some part c.args.cell e (may start)) in
     subst IsSome (sym takes) refl
 
 pub free-requires-clause-taking : goal.free-requires-clause-taking
 free-requires-clause-taking c =
-    let s = c.self.inside in
     let e = c.args.event.now in
     let packet = c.args.packet.now in
-    let may = may_inside s.seat c.args.self.now c.args.cell e c.self.view_is c.requires.may in
-    let is = same_packet s.seat c.args.self.now c.args.cell e packet c.self.view_is may c.requires.spelled in
-    freeing s.seat.part c.args.cell e packet c.make_taking.new.node may is
+    let start = (goal.at.free-requires-clause-taking c).After-self in
+    freeing c.self.inside.seat.part c.args.cell e packet c.make_taking.new.node (may start) (same start)
     (subst (λ (node : NodeOf). taken_by (side node e) (letter_of packet) ≡ Some c.make_taking.new.node) c.self.invariant.0.node_is c.make_taking.ensures)
 
 pub invariant_of-self : goal.invariant_of-self
 invariant_of-self c =
     let s = c.self.inside in
     let f = c.self.invariant.0 in
-    let may = may_inside s.seat c.args.self.now c.args.cell c.args.event.now c.self.view_is c.requires.may in
+    let may = may (goal.at.invariant_of-self c).After-self in
     rw c.inbox-place.ensures.place (
       freed_inside s.seat.part _ _ _ _ _ f c.args.cell (takes_in s.seat.part c.args.cell f.shown may.next) c.free.new.self.part c.make_taking.new.node
           c.make_taking.new.node _ may.next.mine may.next.next refl (ap (λ (end : EndOf). end.part) c.free.ensures.part) c.free.ensures.shown refl
